@@ -180,8 +180,8 @@ fn count_active(ring: &mut [u8], rows: &[(usize, usize, Content, (u64, u64))]) -
     rows.len()
 }
 
-/// Whether none is active in a ring of zeros, and how many rows hold as its slots are filled. The last answer is whether
-/// none is active once the last slot that counts is torn.
+/// Whether none is active in a ring of zeros, and how many rows hold as its slots are filled. The last answer is
+/// whether none is active once the last slot that counts is torn.
 fn fill(ring: &mut [u8]) -> (bool, usize, bool)
     requires { length ring.old ≡ ring_size }
 {

@@ -61,8 +61,8 @@ pub fn active(ring: &[u8]) -> Option<Uberblock>
     best
 }
 
-/// The position that is looked at after so many others. The slots of label 0 have the positions 0 to 127, those of label
-/// 1 have 128 to 255, and so on.
+/// The position that is looked at after so many others. The slots of label 0 have the positions 0 to 127, those of
+/// label 1 have 128 to 255, and so on.
 ///
 /// In a label groups mostly rise from slot to slot. So the last slot is looked at first: then most of the others are
 /// not above it.
