@@ -30,6 +30,9 @@ impl<'p, D: SectorDevice> Handle<'p, D> {
     /// The receipt is returned also if an unlock is refused: `Suspended` if a sync of another thread failed, or
     /// `NoSuchLock` or `LockInUse` if another handle uses the same owner.
     ///
+    /// For proofs: the only handle of a pool, if no transaction was open, leaves the locks that were held before, and
+    /// no open transaction, also after a refusal (`released`).
+    ///
     /// # Errors
     /// `NoMemory` if there is none for the plan, its ranges and the names of the locks; then no step was made. Else the
     /// first refusal of `lock`, `begin` or `commit`, in this order, and none of the operations takes place. The names
