@@ -16,12 +16,6 @@ pub const OWNER: Owner = Owner(1);
 /// The object that the steps write.
 pub const OBJECT: ObjectId = ObjectId(1);
 
-/// The bytes of a whole object.
-pub const WHOLE: Range = Range {
-    low: 0,
-    high: 338_688,
-};
-
 // Adds the steps of the sync of the open group, with so many device calls.
 fn add_sync(steps: &mut Vec<Step>, calls: usize) -> Result<(), AllocError> {
     steps.push(Step::CloseGroup)?;
@@ -44,7 +38,7 @@ fn made(alloc: Global) -> Result<Vec<Step>, AllocError> {
     let ops = four_bytes(alloc)?;
     let plan = Plan::of(alloc, &ops)?;
     Ok(vec![in alloc;
-        Step::Lock(OWNER, OBJECT, WHOLE, Mode::Writer),
+        Step::Lock(OWNER, OBJECT, Range::WHOLE, Mode::Writer),
         Step::Begin(OWNER, plan),
         Step::Commit(TxId(0), ops),
         Step::Unlock(OWNER, LockId(0)),
@@ -209,10 +203,10 @@ fn an_inspection_tells_a_damaged_root(rt: HostRuntime) {
 fn four_steps(alloc: Global) -> Result<Vec<Step>, AllocError> {
     let plan = Plan::new(vec![in alloc; Shape::Create(OBJECT)]?);
     Ok(vec![in alloc;
-        Step::Lock(OWNER, OBJECT, WHOLE, Mode::Writer),
+        Step::Lock(OWNER, OBJECT, Range::WHOLE, Mode::Writer),
         Step::Begin(OWNER, plan),
         Step::Commit(TxId(0), Ops::new(Vec::new(alloc))),
-        Step::Read(OWNER, OBJECT, WHOLE),
+        Step::Read(OWNER, OBJECT, Range::WHOLE),
     ]?)
 }
 

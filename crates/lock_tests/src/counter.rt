@@ -39,12 +39,14 @@ pub fn new_lock(alloc: Global) -> Result<(Lock, Seat<u64, Additions>), PoolError
 /// A lock over 0, with its source of seats, for threads that share both.
 #[derive(Drop)]
 pub struct Shared {
+    /// The lock.
     pub lock: Lock,
     source: SeatSource<u64, Additions>,
     ghost own: { IsSourceOf lock source },
 }
 
 impl Shared {
+    /// A lock over 0 that nobody has held yet. Refused `NoMemory`.
     pub fn new(alloc: Global) -> Result<Shared, PoolError> {
         match Lock::with_source(alloc, 0, &told_none()) {
             Ok((lock, source)) => Ok(Shared { lock, source }),

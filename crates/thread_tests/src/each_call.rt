@@ -14,11 +14,6 @@ const OWNER: Owner = Owner(1);
 
 const OBJECT: ObjectId = ObjectId(1);
 
-const WHOLE: Range = Range {
-    low: 0,
-    high: 338_688,
-};
-
 // A device of 8 MiB with a new pool.
 fn created(alloc: Global) -> Result<MemDevice, PoolError> {
     let device = MemDevice::new(alloc, 16_384)?;
@@ -51,7 +46,7 @@ fn make<D: SectorDevice, W: Wait>(
     handle: &mut Handle<'_, D>,
     object: ObjectId,
 ) -> Result<u64, PoolError> {
-    let id = handle.lock(rt, OWNER, object, WHOLE, Mode::Writer)?;
+    let id = handle.lock(rt, OWNER, object, Range::WHOLE, Mode::Writer)?;
     let ops = creates(alloc, object)?;
     let (tx, _) = handle.begin(rt, OWNER, Plan::of(alloc, &ops)?)?;
     let receipt = handle.commit(rt, tx, ops)?;
@@ -80,7 +75,7 @@ fn a_handle_reads_what_another_wrote(rt: HostRuntime) -> Result<(), Fail> {
     let mut other = handle.split();
     let read = other.read(&rt, OWNER, OBJECT, Range { low: 1, high: 9 })?;
     handle.join(other);
-    assert_eq!(rt; range, WHOLE);
+    assert_eq!(rt; range, Range::WHOLE);
     assert_eq!(rt; (receipt.ordinal.0, group), (1, Group(9)));
     assert_eq!(rt; read.as_slice(), b"ello".as_slice());
     handle.unlock(&rt, OWNER, id)?;
@@ -95,7 +90,7 @@ fn write(alloc: Global, bytes: &[u8]) -> Result<Op, PoolError> {
 fn an_aborted_transaction_is_gone(rt: HostRuntime) -> Result<(), Fail> {
     let pool = opened(rt.alloc())?;
     let mut handle = pool.handle();
-    handle.lock(&rt, OWNER, OBJECT, WHOLE, Mode::Writer)?;
+    handle.lock(&rt, OWNER, OBJECT, Range::WHOLE, Mode::Writer)?;
     let plan = Plan::of(rt.alloc(), &creates(rt.alloc(), OBJECT)?)?;
     let (tx, _) = handle.begin(&rt, OWNER, plan)?;
     handle.abort(&rt, tx)?;
@@ -108,7 +103,7 @@ fn an_aborted_transaction_is_gone(rt: HostRuntime) -> Result<(), Fail> {
 fn a_begin_that_no_sync_helps_is_throttled(rt: HostRuntime) -> Result<(), Fail> {
     let pool = shared_within(rt.alloc(), 4_096)?;
     let mut handle = pool.handle();
-    handle.lock(&rt, OWNER, OBJECT, WHOLE, Mode::Writer)?;
+    handle.lock(&rt, OWNER, OBJECT, Range::WHOLE, Mode::Writer)?;
     let plan = Plan::of(rt.alloc(), &creates(rt.alloc(), OBJECT)?)?;
     let begun = handle.begin(&rt, OWNER, plan);
     assert_eq!(rt; begun, Err(PoolError::Throttled));

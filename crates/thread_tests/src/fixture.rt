@@ -1,21 +1,18 @@
 //! A new pool, and one transaction of a handle.
 
-use base::{Group, MAX_LENGTH, Mode, ObjectId, Op, Ops, Owner, Plan, PoolError, Range, Receipt};
+use base::{Group, Mode, ObjectId, Op, Ops, Owner, Plan, PoolError, Range, Receipt};
 use device_model::MemDevice;
 use import_replay::{create, import};
 use pool_threads::{Handle, Pool};
 use std::alloc::Global;
 use std::sync::Wait;
 
-pub const WHOLE: Range = Range {
-    low: 0,
-    high: MAX_LENGTH,
-};
-
 /// What a device has, and a pool may charge: the sectors of one, and the limit of dirty bytes of the other.
 #[derive(Clone, Copy)]
 pub struct Size {
+    /// The sectors of the device, of 512 bytes each.
     pub sectors: u64,
+    /// How many bytes of the pool may be dirty.
     pub dirty_max: u64,
 }
 
@@ -45,7 +42,9 @@ pub fn open_pool(
 /// The group in which a transaction began, and what its commit answered.
 #[derive(Clone, Copy, Debug, PartialEq)]
 pub struct Committed {
+    /// The group that was open when it began.
     pub began: Group,
+    /// Its ordinal and its group.
     pub receipt: Receipt,
 }
 
@@ -71,7 +70,7 @@ pub fn make_object<W: Wait>(
     owner: Owner,
     object: ObjectId,
 ) -> Result<Committed, PoolError> {
-    let lock = handle.lock(rt, owner, object, WHOLE, Mode::Writer)?;
+    let lock = handle.lock(rt, owner, object, Range::WHOLE, Mode::Writer)?;
     let committed = commit(rt, alloc, handle, owner, Op::Create(object))?;
     handle.unlock(rt, owner, lock)?;
     Ok(committed)

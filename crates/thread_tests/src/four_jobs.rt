@@ -2,7 +2,7 @@
 
 ghost use Rattle.std.specs.Prelude.{◌<◌};
 
-use crate::fixture::{Committed, SMALL, WHOLE, commit, make_object, new_pool};
+use crate::fixture::{Committed, SMALL, commit, make_object, new_pool};
 use base::{Group, LockId, Mode, ObjectId, Op, Ordinal, Owner, PoolError, Range, Receipt};
 use device_model::MemDevice;
 use pool_threads::{Handle, Pool};

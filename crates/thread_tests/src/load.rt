@@ -1,9 +1,9 @@
 //! Four threads write, each to an object of its own and to one that all share, while a fifth closes and syncs groups.
 
-use crate::fixture::{Committed, Size, WHOLE, commit, make_object, new_pool, open_pool};
+use crate::fixture::{Committed, Size, commit, make_object, new_pool, open_pool};
 use crate::replay::{OBJECTS, Write, replay};
 use crate::syncs::sync_until;
-use base::{Bytes, Group, Mode, ObjectId, Owner, PoolError};
+use base::{Bytes, Group, Mode, ObjectId, Owner, PoolError, Range};
 use device_model::MemDevice;
 use pool_threads::{Handle, Pool};
 use std::alloc::Global;
@@ -116,8 +116,8 @@ fn contents<W: Wait>(
     let mut objects = Vec::new(alloc);
     for number in 0..OBJECTS {
         let (owner, object) = (Owner(9), ObjectId(u32::from(number)));
-        let lock = handle.lock(rt, owner, object, WHOLE, Mode::Reader)?;
-        objects.push(handle.read(rt, owner, object, WHOLE)?)?;
+        let lock = handle.lock(rt, owner, object, Range::WHOLE, Mode::Reader)?;
+        objects.push(handle.read(rt, owner, object, Range::WHOLE)?)?;
         handle.unlock(rt, owner, lock)?;
     }
     Ok(objects)

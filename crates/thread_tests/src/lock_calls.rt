@@ -1,6 +1,6 @@
 //! Locks of handles: one from the end of an object on, and one that waits.
 
-use crate::fixture::{SMALL, WHOLE, make_object, new_pool};
+use crate::fixture::{SMALL, make_object, new_pool};
 use base::{LockId, Mode, ObjectId, Owner, PoolError, Range, Reply, Step};
 use device_model::MemDevice;
 use pool_threads::{Handle, Pool};
@@ -105,7 +105,7 @@ fn an_append_lock_of_an_empty_object_has_all_of_it(rt: HostRuntime) -> Result<()
     make_object(&rt, rt.alloc(), &mut handle, HOLDER, OBJECT)?;
     assert_eq!(rt;
         handle.lock_append(&rt, ASKER, OBJECT),
-        Ok((LockId(1), WHOLE))
+        Ok((LockId(1), Range::WHOLE))
     );
     Ok(())
 }

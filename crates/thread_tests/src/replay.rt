@@ -9,9 +9,13 @@ pub const OBJECTS: u8 = 5;
 /// A write of so many equal bytes.
 #[derive(Clone, Copy, Debug, PartialEq)]
 pub struct Write {
+    /// The number of the object.
     pub object: u8,
+    /// Where it begins in the object, in bytes.
     pub place: u16,
+    /// How many bytes it writes.
     pub length: u8,
+    /// The byte that it writes.
     pub byte: u8,
 }
 
@@ -30,6 +34,7 @@ impl Write {
         }
     }
 
+    /// The object that it writes to.
     pub fn object(&self) -> ObjectId {
         ObjectId(u32::from(self.object))
     }

@@ -1,6 +1,6 @@
 //! Whole transactions, each by one call of a handle.
 
-use crate::fixture::{SMALL, WHOLE, new_pool};
+use crate::fixture::{SMALL, new_pool};
 use base::{
     Bytes, LockId, Mode, ObjectId, Op, Ops, Ordinal, Owner, PoolError, Receipt, Reply, Step,
 };
@@ -42,8 +42,8 @@ fn create_and_write<W: Wait>(
 // All bytes of the object.
 fn read_all<W: Wait>(rt: &W, handle: &mut Handle<'_, MemDevice>) -> Result<Bytes, PoolError> {
     let owner = Owner(9);
-    let lock = handle.lock(rt, owner, OBJECT, WHOLE, Mode::Reader)?;
-    let bytes = handle.read(rt, owner, OBJECT, WHOLE)?;
+    let lock = handle.lock(rt, owner, OBJECT, Range::WHOLE, Mode::Reader)?;
+    let bytes = handle.read(rt, owner, OBJECT, Range::WHOLE)?;
     handle.unlock(rt, owner, lock)?;
     Ok(bytes)
 }
@@ -132,7 +132,7 @@ fn a_refused_transaction_leaves_no_lock(rt: HostRuntime) -> Result<(), Fail> {
     let refused = handle.transact(&rt, Owner(1), ops);
     assert_eq!(rt; refused, Err(PoolError::NoObject));
     // locks are named in the order in which they are granted, from 0 on
-    let lock = Step::Lock(Owner(2), OBJECT, WHOLE, Mode::Writer);
+    let lock = Step::Lock(Owner(2), OBJECT, Range::WHOLE, Mode::Writer);
     assert_eq!(rt; handle.step(&rt, lock), Reply::Locked(LockId(1)));
     assert_eq!(rt; handle.unlock(&rt, Owner(2), LockId(1)), Ok(()));
     let receipt = create_and_write(&rt, alloc, &mut handle, Owner(1))?;
