@@ -2,7 +2,7 @@
 
 use crate::fixture::{SMALL, new_pool};
 use base::{
-    Bytes, LockId, Mode, ObjectId, Op, Ops, Ordinal, Owner, PoolError, Receipt, Reply, Step,
+    Bytes, LockId, Mode, ObjectId, Op, Ops, Ordinal, Owner, PoolError, Range, Receipt, Reply, Step,
 };
 use device_model::MemDevice;
 use pool_threads::{Handle, Pool};
