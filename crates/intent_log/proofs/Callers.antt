@@ -10,7 +10,7 @@ use Rattle.base.specs.formats.Fields.{number_at, part}
 use Rattle.base.specs.formats.Geometry.{IsBlockAddress}
 use Rattle.base.specs.formats.Records.{Record}
 use Rattle.base.specs.steps.Logs.{KeptBlock, blocks_before, total_size}
-use Rattle.intent_log.specs.Chains.{IsBlockOf, IsChainFrom}
+use Rattle.intent_log.specs.Chains.{IsChainBlock, IsChainFrom}
 use Rattle.intent_log.specs.Kept.{IsFrontGiven, KeptLog}
 use Rattle.intent_log.specs.Packing.{HoldsRecords, IsPackedFront, logged}
 use Rattle.intent_log.specs.declared.chains.ChainHeader.{ChainHeader}
@@ -22,13 +22,13 @@ none_at_0 image frame h [] at chain = refl
 none_at_0 image frame h (b ∷ bs) at (block, rest) = absurd (omega (arith, at, block.in_area.2))
 
 -- a block that stands where the chain begins is of the chain
-pub some_block : (image : List ℕ) (frame : Frame) (h : ChainHeader) (b : LogBlock) (bs : List LogBlock) → IsBlockOf image frame h b → IsChainFrom image frame h bs → 0 < length bs
+pub some_block : (image : List ℕ) (frame : Frame) (h : ChainHeader) (b : LogBlock) (bs : List LogBlock) → IsChainBlock image frame h b → IsChainFrom image frame h bs → 0 < length bs
 some_block image frame h b [] block chain = absurd (chain b block)
 some_block image frame h b (c ∷ bs) block chain = omega arith
 
 -- a packed block that stands at its place is the log block there
 pub stands_packed : (place : NewBlock) (block : List ℕ) (records : List Record) → HoldsRecords place block records → (image : List ℕ) (frame : Frame) → frame.guid ≡ place.guid
-    → IsBlockAddress frame.blocks place.header.address → part image place.header.address 4096 ≡ block → IsBlockOf image frame place.header (logged place records)
+    → IsBlockAddress frame.blocks place.header.address → part image place.header.address 4096 ≡ block → IsChainBlock image frame place.header (logged place records)
 stands_packed place block records holds image frame same in_area at = record {
   address_is = refl;
   in_area = in_area;

@@ -10,7 +10,7 @@ use Rattle.base.specs.declared.names.Receipt.{Receipt}
 use Rattle.base.specs.formats.Chain.{Header}
 use Rattle.base.specs.steps.Logs.{Committed, KeptBlock, Log, awaits_flush, blocks_before, has_record, header_at, header_for, is_flushed_in, is_same, log_after_flush, reaches_above}
 use Rattle.intent_log.specs.Kept.{IsFrontGiven, LeadUpTo, header_fields, shown_block, shown_blocks}
-use Rattle.intent_log.specs.Receipts.{committed, is_above, is_receipt}
+use Rattle.intent_log.specs.Receipts.{committed, is_in_later_group, is_same_receipt}
 use Rattle.intent_log.specs.declared.kept_block.LogHeader.{LogHeader}
 use Rattle.intent_log.specs.declared.kept_block.KeptBlock as code
 
@@ -102,7 +102,7 @@ none_before header n f first [] lead some at le = absurd (omega (arith, some))
 none_before header n f first (b ∷ bs) lead some at le = none_from header n f b bs lead (subst (λ (x : code.KeptBlock). header.number ≤ x.header.number) at le)
 
 -- a block reaches above a group if its highest group does
-any_above : (group : ℕ) (rs : List Receipt) → list_any (λ (r : Committed). nat_lt group r.group) (map committed rs) ≡ list_any (is_above group) rs
+any_above : (group : ℕ) (rs : List Receipt) → list_any (λ (r : Committed). nat_lt group r.group) (map committed rs) ≡ list_any (is_in_later_group group) rs
 any_above group [] = refl
 any_above group (r ∷ rs) = ap (λ (x : Bool). nat_lt group r.group.0 || x) (any_above group rs)
 
@@ -138,12 +138,12 @@ header_found group f bs next found is =
     ap (λ (o : Option Header). unwrap_or o next) (ap (λ (o : Option code.KeptBlock). option_map (λ (b : code.KeptBlock). header_fields b.header) o) is ∙ sym (found_in group f bs))
 
 -- a record lies in a flushed block if one of the front has its receipt
-any_same : (r : Receipt) (rs : List Receipt) → list_any (is_same (committed r)) (map committed rs) ≡ list_any (is_receipt r) rs
+any_same : (r : Receipt) (rs : List Receipt) → list_any (is_same (committed r)) (map committed rs) ≡ list_any (is_same_receipt r) rs
 any_same r [] = refl
-any_same r (s ∷ rs) = ap (λ (x : Bool). is_receipt r s || x) (any_same r rs)
+any_same r (s ∷ rs) = ap (λ (x : Bool). is_same_receipt r s || x) (any_same r rs)
 
 abbrev pub has_receipt : Receipt → code.KeptBlock → Bool
-has_receipt r b = list_any (is_receipt r) b.receipts.items
+has_receipt r b = list_any (is_same_receipt r) b.receipts.items
 
 abbrev is_in_flushed : Receipt → KeptBlock → Bool
 is_in_flushed r b = b.flushed && has_record b (committed r)

@@ -53,6 +53,3 @@ has_parts payload chain used block used_is p =
 pub none_of_zeros : (payload : List ℕ) (chain used : ℕ) → number_at payload 16 ≡ used
     → (drop (24 + used) payload ≡ replicate (length (drop (24 + used) payload)) 0 → ⊥) → HasNoPayload payload chain
 none_of_zeros payload chain used used_is other block p = other (has_parts payload chain used block used_is p).zeros
-
-pub none_of_records : (payload : List ℕ) (chain used : ℕ) → number_at payload 16 ≡ used → HasNoRecords (take used (drop 24 payload)) → HasNoPayload payload chain
-none_of_records payload chain used used_is none block p = none block.records (has_parts payload chain used block used_is p).are

@@ -14,19 +14,19 @@ abbrev pub IsChainRefusal : PoolError → Type 0
 IsChainRefusal e = (e ≡ NoMemory) ⊎ (e ≡ Read)
 
 -- the place and number of the first block
-abbrev pub place_of : ChainHeader → Header
-place_of h = record { address = h.address; number = h.number }
+abbrev pub header_of_chain : ChainHeader → Header
+header_of_chain h = record { address = h.address; number = h.number }
 
 -- the log block that a header names, and that there is none
-abbrev pub IsBlockOf : List ℕ → Frame → ChainHeader → LogBlock → Type 0
-IsBlockOf image frame h block = IsLogBlock image frame.guid frame.blocks h.import_number (place_of h) block
+abbrev pub IsChainBlock : List ℕ → Frame → ChainHeader → LogBlock → Type 0
+IsChainBlock image frame h block = IsLogBlock image frame.guid frame.blocks h.import_number (header_of_chain h) block
 
 abbrev pub HasNoBlock : List ℕ → Frame → ChainHeader → Type 0
-HasNoBlock image frame h = (block : LogBlock) → IsBlockOf image frame h block → ⊥
+HasNoBlock image frame h = (block : LogBlock) → IsChainBlock image frame h block → ⊥
 
 -- the longest chain from a header on
 abbrev pub IsChainFrom : List ℕ → Frame → ChainHeader → List LogBlock → Type 0
-IsChainFrom image frame h blocks = IsChain image frame.guid frame.blocks h.import_number (place_of h) blocks
+IsChainFrom image frame h blocks = IsChain image frame.guid frame.blocks h.import_number (header_of_chain h) blocks
 
 -- there is no payload of a log block of this chain
 abbrev pub HasNoPayload : List ℕ → ℕ → Type 0

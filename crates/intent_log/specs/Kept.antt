@@ -16,23 +16,23 @@ pub record KeptLog : Type 0 where
   pub room : ℕ
 
 -- the same as a pool's log, of which nothing is pending
-abbrev pub log_of : KeptLog → Log
-log_of k = record { pending = []; kept = k.kept; next = k.next }
+abbrev pub log_shown : KeptLog → Log
+log_shown k = record { pending = []; kept = k.kept; next = k.next }
 
 -- there is room for a block more
 abbrev pub HasRoom : KeptLog → Type 0
 HasRoom k = 0 < k.room
 
 -- the kept blocks have the numbers up to the next one, one after another
-abbrev pub AreNumbered : KeptLog → Type 0
-AreNumbered k = (i : ℕ) (b : KeptBlock) → slice_get k.kept i ≡ Some b → b.number + (length k.kept - i) ≡ k.next.number
+abbrev pub AreNumberedTo : KeptLog → Type 0
+AreNumberedTo k = (i : ℕ) (b : KeptBlock) → slice_get k.kept i ≡ Some b → b.number + (length k.kept - i) ≡ k.next.number
 
 abbrev pub header_fields : LogHeader → Header
 header_fields h = record { address = h.address; number = h.number }
 
 -- the block that is kept once records with these receipts were written to it
-abbrev pub block_at : Header → List Receipt → KeptBlock
-block_at h receipts = record { address = h.address; number = h.number; committed = map committed receipts; flushed = false }
+abbrev pub block_noted : Header → List Receipt → KeptBlock
+block_noted h receipts = record { address = h.address; number = h.number; committed = map committed receipts; flushed = false }
 
 -- the first kept block was given back, and its number is below the header's
 pub record IsFrontGiven (header : Header) (old new : List KeptBlock) (address : ℕ) : Type 0 where

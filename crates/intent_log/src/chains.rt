@@ -15,7 +15,7 @@ ghost use Rattle.base.specs.formats.Geometry.{block_address};
 ghost use Rattle.base.specs.formats.Chain.{IsLogPayload};
 ghost use Rattle.device_model.specs.Reading.{OnlyReads};
 ghost use Rattle.transactions.specs.Records.{record_fields};
-ghost use Rattle.intent_log.specs.Chains.{HasNoBlock, HasNoPayload, IsBlockOf, IsChainFrom, IsChainRefusal, IsLogExpected, IsSoundBlock};
+ghost use Rattle.intent_log.specs.Chains.{HasNoBlock, HasNoPayload, IsChainBlock, IsChainFrom, IsChainRefusal, IsLogExpected, IsSoundBlock};
 
 use crate::packing::{LOG_BLOCK_ROOM, RECORDS_AT};
 use crate::records::read_records;
@@ -121,7 +121,7 @@ fn read_block<D: SectorDevice>(
     ensures reads { OnlyReads D.SectorDevice result device.old device.new }
     ensures cause { IfErr result IsChainRefusal }
     ensures read { IsTrue D.keeps_model → IfOk result (λ found. IfSome found
-        (IsBlockOf (bytes_of (D.disk device.old).now) frame.now header.now)) }
+        (IsChainBlock (bytes_of (D.disk device.old).now) frame.now header.now)) }
     ensures none { IsTrue D.keeps_model → IfOk result (λ found. IfNone found
         (HasNoBlock (bytes_of (D.disk device.old).now) frame.now header.now)) }
     ensures address { IfOk result (λ found. IfSome found

@@ -10,7 +10,7 @@ ghost use Rattle.base.specs.formats.Limits.{last_number};
 ghost use Rattle.base.specs.steps.Logs as logs;
 ghost use Rattle.base.specs.steps.Logs.{blocks_before, is_flushed_in, log_after_flush};
 ghost use Rattle.intent_log.specs.Receipts.{committed};
-ghost use Rattle.intent_log.specs.Kept.{AreNumbered, HasRoom, IsFrontGiven, block_at, header_fields, log_of};
+ghost use Rattle.intent_log.specs.Kept.{AreNumberedTo, HasRoom, IsFrontGiven, block_noted, header_fields, log_shown};
 
 use crate::kept_block::{KeptBlock, LogHeader};
 use base::{Group, LAST_NUMBER, PoolError, Receipt};
@@ -55,7 +55,7 @@ impl Log {
     pub fn next(&self) -> LogHeader
         ensures header { header_fields result ≡ self.now.next }
         ensures fits { result.number ≤ last_number }
-        ensures numbered { AreNumbered self.now }
+        ensures numbered { AreNumberedTo self.now }
     {
         self.next
     }
@@ -69,7 +69,7 @@ impl Log {
 
     /// Whether a kept block awaits a flush. It costs a constant.
     pub fn awaits_flush(&self) -> bool
-        ensures { result ≡ logs.awaits_flush (log_of self.now) }
+        ensures { result ≡ logs.awaits_flush (log_shown self.now) }
     {
         self.flushed < self.blocks.len()
     }
@@ -96,7 +96,7 @@ impl Log {
         requires room { HasRoom self.old }
         requires number { self.old.next.number < last_number }
         ensures kept { self.new.kept
-            ≡ self.old.kept ++ block_at self.old.next receipts.items ∷ [] }
+            ≡ self.old.kept ++ block_noted self.old.next receipts.items ∷ [] }
         ensures next { self.new.next
             ≡ record { address = address; number = self.old.next.number + 1 } }
     {
@@ -112,7 +112,7 @@ impl Log {
 
     /// A flush was answered: each kept block is certain. It costs a constant, and takes no memory.
     pub fn flushed(&mut self)
-        ensures { log_of self.new ≡ log_after_flush (log_of self.old) }
+        ensures { log_shown self.new ≡ log_after_flush (log_shown self.old) }
     {
         self.flushed = self.blocks.len();
     }
@@ -120,7 +120,7 @@ impl Log {
     /// The header for the sync of a group: the first kept block with a record of a group above it, or else the next
     /// one. It looks only at that block and at those before it, which the sync gives back.
     pub fn header_for(&self, group: Group) -> LogHeader
-        ensures { header_fields result ≡ logs.header_for group.0 (log_of self.now) }
+        ensures { header_fields result ≡ logs.header_for group.0 (log_shown self.now) }
     {
         match self.blocks.iter().find(|block| block.highest.0 > group.0) {
             Some(block) => block.header,
@@ -148,7 +148,7 @@ impl Log {
     /// Whether the record of a receipt lies in a kept block that is certain. It looks at the ordinals of each such
     /// block, and at the receipts of those alone whose ordinals are on both sides.
     pub fn has_flushed(&self, receipt: Receipt) -> bool
-        ensures { result ≡ is_flushed_in (log_of self.now) (committed receipt) }
+        ensures { result ≡ is_flushed_in (log_shown self.now) (committed receipt) }
     {
         self.blocks
             .iter()

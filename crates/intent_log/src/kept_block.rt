@@ -5,7 +5,7 @@
 
 ghost use Rattle.std.specs.Prelude.{◌≡◌, ℕ, All, nat_lt};
 ghost use Rattle.std.specs.List.{list_any};
-ghost use Rattle.intent_log.specs.Receipts.{IsBetween, is_above, is_receipt};
+ghost use Rattle.intent_log.specs.Receipts.{LiesWithin, is_in_later_group, is_same_receipt};
 
 use base::{Group, Ordinal, Receipt};
 
@@ -29,8 +29,8 @@ pub(crate) struct KeptBlock {
     last: Ordinal,
     // the receipts of the records that end in it, in order
     receipts: Vec<Receipt>,
-    ghost highest_is: { (group : ℕ) → list_any (is_above group) receipts.items ≡ nat_lt group highest.0 },
-    ghost between: { All (IsBetween first.0 last.0) receipts.items },
+    ghost highest_is: { (group : ℕ) → list_any (is_in_later_group group) receipts.items ≡ nat_lt group highest.0 },
+    ghost between: { All (LiesWithin first.0 last.0) receipts.items },
 }
 
 impl KeptBlock {
@@ -51,7 +51,7 @@ impl KeptBlock {
 
     /// Whether one of its records has this receipt.
     pub(crate) fn has(&self, receipt: Receipt) -> bool
-        ensures { result ≡ list_any (is_receipt receipt) self.now.receipts.items }
+        ensures { result ≡ list_any (is_same_receipt receipt) self.now.receipts.items }
     {
         self.first.0 <= receipt.ordinal.0
             && receipt.ordinal.0 <= self.last.0
@@ -68,9 +68,9 @@ struct Reach {
 }
 
 fn reach_of(receipts: &[Receipt]) -> Reach
-    ensures highest { (group : ℕ) → list_any (is_above group) receipts.now
+    ensures highest { (group : ℕ) → list_any (is_in_later_group group) receipts.now
         ≡ nat_lt group result.highest.0 }
-    ensures between { All (IsBetween result.first.0 result.last.0) receipts.now }
+    ensures between { All (LiesWithin result.first.0 result.last.0) receipts.now }
 {
     let mut highest = 0;
     let mut first = u64::MAX;

@@ -6,7 +6,7 @@ ghost use Rattle.base.specs.formats.Chain.{LogBlock};
 ghost use Rattle.base.specs.formats.Geometry.{IsBlockAddress, block_address};
 ghost use Rattle.base.specs.formats.Records.{IsAllowed};
 ghost use Rattle.transactions.specs.Records.{record_fields};
-ghost use Rattle.intent_log.specs.Chains.{IsBlockOf};
+ghost use Rattle.intent_log.specs.Chains.{IsChainBlock};
 
 use crate::chains::{ChainHeader, LoggedBlock, chain};
 use base::PoolError;
@@ -45,7 +45,7 @@ fn a_log_block_that_stands_is_read<D: SectorDevice>(
     requires fits { block_address frame.now.blocks ≤ D.size device.old }
     requires number { header.now.number ≤ 2 ^ 60 }
     ensures { IsTrue D.keeps_model → (block : LogBlock)
-        → IsBlockOf (bytes_of (D.disk device.old).now) frame.now header.now block
+        → IsChainBlock (bytes_of (D.disk device.old).now) frame.now header.now block
         → IfOk result (λ blocks. 0 < length blocks.items) }
 {
     chain(alloc, device, frame, header)

@@ -2,7 +2,7 @@
 
 ghost use Rattle.std.specs.Prelude.{ℕ, ◌≡◌, ◌∷◌, [], IsOk, false, true};
 ghost use Rattle.base.specs.steps.Logs.{log_after_sync};
-ghost use Rattle.intent_log.specs.Kept.{HasRoom, header_fields, log_of};
+ghost use Rattle.intent_log.specs.Kept.{HasRoom, header_fields, log_shown};
 
 use crate::kept::Log;
 use crate::kept_block::LogHeader;
@@ -107,8 +107,8 @@ fn a_sync_keeps_the_blocks_above_its_group(log: &mut Log)
 
 // One call after another gives all blocks before a header back, and the log is as after that sync.
 fn a_sync_keeps_its_log_from_the_header_on(log: &mut Log, header: LogHeader)
-    ensures { (group : ℕ) → log_of log.new
-        ≡ log_after_sync group (header_fields header) (log_of log.old) }
+    ensures { (group : ℕ) → log_shown log.new
+        ≡ log_after_sync group (header_fields header) (log_shown log.old) }
 {
     while log.give_back(header).is_some() {}
 }

@@ -7,7 +7,7 @@ ghost use Rattle.base.specs.formats.Geometry.{IsBlockAddress};
 ghost use Rattle.base.specs.formats.Records.{IsAllowed};
 ghost use Rattle.base.specs.steps.Logs.{total_size};
 ghost use Rattle.transactions.specs.Records.{record_fields};
-ghost use Rattle.intent_log.specs.Chains.{IsBlockOf};
+ghost use Rattle.intent_log.specs.Chains.{IsChainBlock};
 ghost use Rattle.intent_log.specs.Packing.{logged};
 
 use crate::packing::{NewBlock, PackedBlock, pack};
@@ -92,7 +92,7 @@ fn a_packed_block_is_read_back(
     ensures { IfOk result (λ p. (image : List ℕ) (frame : Frame) → frame.guid ≡ place.now.guid
         → IsBlockAddress frame.blocks place.now.header.address
         → part image place.now.header.address 4096 ≡ p.block
-        → IsBlockOf image frame place.now.header
+        → IsChainBlock image frame place.now.header
         (logged place.now (take p.count (map record_fields pending.now)))) }
 {
     pack(alloc, place, pending)

@@ -3,7 +3,7 @@ use Rattle.std.specs.Prelude.{Some, None, option_map, find}
 use Rattle.std.proofs.lemmas.Iterator.Consumers.{YieldsList-from_deque}
 use Rattle.std.proofs.lemmas.Iterator.Search.{find_from_yields_List}
 use Rattle.base.specs.steps.Logs as logs
-use Rattle.intent_log.specs.Kept.{KeptLog, header_fields, log_of}
+use Rattle.intent_log.specs.Kept.{KeptLog, header_fields, log_shown}
 use Rattle.intent_log.proofs.KeptBlocks.{header_found, is_top_above}
 use Rattle.intent_log.proofs.kept.Log.header_for.Goals as goal
 
@@ -13,7 +13,7 @@ returns-in-Some c =
     let blocks = c.self.inside.blocks.items in
     let found : option_map (λ y. y.now) c.find.result ≡ find (is_top_above group) blocks =
     find_from_yields_List (is_top_above group) _ _ _ c.find.ensures.ran (YieldsList-from_deque blocks c.iter.ensures.rest) (λ x b q k. search (rules, tests)) in
-    subst (λ (k : KeptLog). header_fields c.in-Some.block.now.header ≡ logs.header_for group (log_of k)) c.self.view_is
+    subst (λ (k : KeptLog). header_fields c.in-Some.block.now.header ≡ logs.header_for group (log_shown k)) c.self.view_is
     (header_found group c.self.inside.flushed blocks (header_fields c.self.inside.next) (Some c.in-Some.block.now) (sym (ap (λ o. option_map (λ y. y.now) o) c.in-Some.is) ∙ found))
 
 pub returns-in-None : goal.returns-in-None
@@ -22,5 +22,5 @@ returns-in-None c =
     let blocks = c.self.inside.blocks.items in
     let found : option_map (λ y. y.now) c.find.result ≡ find (is_top_above group) blocks =
     find_from_yields_List (is_top_above group) _ _ _ c.find.ensures.ran (YieldsList-from_deque blocks c.iter.ensures.rest) (λ x b q k. search (rules, tests)) in
-    subst (λ (k : KeptLog). header_fields c.self.inside.next ≡ logs.header_for group (log_of k)) c.self.view_is
+    subst (λ (k : KeptLog). header_fields c.self.inside.next ≡ logs.header_for group (log_shown k)) c.self.view_is
     (header_found group c.self.inside.flushed blocks (header_fields c.self.inside.next) None (sym (ap (λ o. option_map (λ y. y.now) o) c.in-None.is) ∙ found))
