@@ -21,7 +21,7 @@ use Rattle.base.specs.tree.Tree.{IsRecord, OpensAt}
 use Rattle.base.specs.tree.PlacedTrees.{IsOneLevelEntry}
 use Rattle.base.specs.formats.Fields.{entry_in}
 use Rattle.base.proofs.stored.StoredRuns.{moves-keep}
-use Rattle.pool_tables.specs.Told.{Leads, SamePlaces, Told, held_with}
+use Rattle.pool_tables.specs.Told.{Leads, SamePlaces, ShownPool, held_with}
 use Rattle.pool_core.specs.Holds.{IsStepOver}
 
 module _ (image : List ℕ) (frame : Frame) (old new : Place → Pointer) (same : SamePlaces new old) (objects : FinMap nat_cmp (List ℕ)) where
@@ -60,7 +60,7 @@ stored_as now s old new past same x = record {
 }
 
 -- where no sync runs, what is kept with some pointers is kept with others that are the same at each place
-kept_as : (t : Told) (pointers : Place → Pointer) (past : Past) → SamePlaces t.pointers pointers → t.running ≡ None → IsHeld (held_with (record t { pointers = pointers }) past) → IsHeld (held_with t past)
+kept_as : (t : ShownPool) (pointers : Place → Pointer) (past : Past) → SamePlaces t.pointers pointers → t.running ≡ None → IsHeld (held_with (record t { pointers = pointers }) past) → IsHeld (held_with t past)
 kept_as t pointers past same none x = record {
   explained = x.explained;
   kept = record {
@@ -71,7 +71,7 @@ kept_as t pointers past same none x = record {
   };
 }
 
-module _ (s : declared_step.Step) (old new : Told) (past later : Past) (x : IsHeld (held_with old past)) where
+module _ (s : declared_step.Step) (old new : ShownPool) (past later : Past) (x : IsHeld (held_with old past)) where
   -- a step that leads so keeps it
   pub leads_keep : (r : declared_reply.Reply) → IsStepOver s r (held_with old past) (held_with new later) → Leads r old new → IsHeld (held_with new later)
   leads_keep (reply.Synced group) h (pointers, same, m) =

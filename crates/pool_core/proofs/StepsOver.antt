@@ -12,7 +12,7 @@ use Rattle.base.specs.steps.Stage as stage
 use Rattle.base.proofs.steps.AnyDevice.{same_over}
 use Rattle.device_model.specs.declared.device.SectorDevice.{Ghosts}
 use Rattle.pool_core.specs.declared.state.PoolState.{PoolState}
-use Rattle.pool_tables.specs.Told.{Told, start_reply, state_with}
+use Rattle.pool_tables.specs.Told.{ShownPool, start_reply, state_with}
 use Rattle.pool_core.specs.Holds.{StepsOver}
 use Rattle.pool_core.specs.States.{told}
 use Rattle.pool_core.specs.StepReplies.{StepReplies}
@@ -20,7 +20,7 @@ use Rattle.pool_tables.specs.SyncStarts.{StartsHeldOver}
 use Rattle.pool_core.proofs.RepliedSteps.{replied_with}
 
 -- each step but the start of a sync is the same over every device
-pub any_bytes : (s : declared_step.Step) (r : declared_reply.Reply) (old new : Told) → is_start s ≡ false → StepReplies s r old.shown new.shown → StepsOver s r old new
+pub any_bytes : (s : declared_step.Step) (r : declared_reply.Reply) (old new : ShownPool) → is_start s ≡ false → StepReplies s r old.shown new.shown → StepsOver s r old new
 any_bytes s r old new off replies past x =
     let one = replies past (λ rests. x.explained) in
     (one.0, same_over ⊥ (Unit {0}) [] old.now s r (state_with old past) (state_with new one.0) off one.1)

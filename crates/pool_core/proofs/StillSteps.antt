@@ -15,7 +15,7 @@ use Rattle.object_maps.specs.declared.tree.Tree.{Tree}
 use Rattle.object_maps.specs.Pointers.{pointers_of}
 use Rattle.pool_core.specs.declared.state.PoolState.{PoolState}
 use Rattle.pool_core.specs.Calls.{answer_in}
-use Rattle.pool_tables.specs.Told.{Leads, Told, new_tree_of, start_reply}
+use Rattle.pool_tables.specs.Told.{Leads, ShownPool, new_tree_of, start_reply}
 use Rattle.pool_tables.specs.KeptTrees.{IsOfNoDevice}
 use Rattle.pool_core.specs.States.{CountsRefused, MakesNoCall, MovesNothing, refused_calls, told, told_over}
 use Rattle.pool_tables.specs.SyncStarts.{StartLeads}
@@ -30,10 +30,10 @@ is_still reply.More = false
 is_still _ = true
 
 -- the bytes, the pointers and what the running sync makes are as before
-abbrev pub IsStill : Told → Told → Type 0
+abbrev pub IsStill : ShownPool → ShownPool → Type 0
 IsStill old new = (new.now ≡ old.now) × (new.pointers ≡ old.pointers) × (new.running ≡ old.running)
 
-still_leads : (r : declared_reply.Reply) (old new : Told) → is_still r ≡ true → IsStill old new → Leads r old new
+still_leads : (r : declared_reply.Reply) (old new : ShownPool) → is_still r ≡ true → IsStill old new → Leads r old new
 still_leads reply.More old new is same = absurd (false≢true is)
 still_leads (reply.Syncing group) old new is same = absurd (false≢true is)
 still_leads (reply.Synced group) old new is same = absurd (false≢true is)

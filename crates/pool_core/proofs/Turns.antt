@@ -7,7 +7,7 @@ use Rattle.base.specs.history.Past.{Past}
 use Rattle.base.specs.stored.Stored.{IsHeld}
 use Rattle.base.proofs.steps.Additions.{told_past}
 use Rattle.base.proofs.steps.KeptTables.{steps_keep_tables}
-use Rattle.pool_tables.specs.Told.{Leads, Told, held_with, state_with}
+use Rattle.pool_tables.specs.Told.{Leads, ShownPool, held_with, state_with}
 use Rattle.pool_core.specs.Holds.{IsStepOver, StepsOver}
 use Rattle.base.specs.steps.Runs.{is_start}
 use Rattle.pool_core.specs.StepReplies.{IsStep, StepReplies}
@@ -15,7 +15,7 @@ use Rattle.pool_core.specs.Turns.{TurnsTo, held_after, turned_state}
 use Rattle.pool_core.proofs.HeldSteps.{leads_keep}
 use Rattle.pool_core.proofs.StepsOver.{any_bytes}
 
-module _ (keeps : Type 0) (s : declared_step.Step) (r : declared_reply.Reply) (old new : Told) where
+module _ (keeps : Type 0) (s : declared_step.Step) (r : declared_reply.Reply) (old new : ShownPool) where
   -- the later past of a step is the one after it
   pub turns : StepReplies s r old.shown new.shown → (keeps → StepsOver s r old new) → (keeps → Leads r old new) → (past : Past) → TurnsTo keeps s r old new past
   turns replies over leads past = record {

@@ -4,7 +4,7 @@ use Rattle.base.specs.steps.ExactNow.{IsExplainedNow}
 use Rattle.base.specs.steps.Shown.{Shown}
 use Rattle.base.specs.history.Past.{Past, new_past}
 use Rattle.base.specs.stored.Stored.{IsHeld}
-use Rattle.pool_tables.specs.Told.{Told, held_with}
+use Rattle.pool_tables.specs.Told.{ShownPool, held_with}
 
 -- the past in which nothing has happened yet, of a pool that was created at this moment
 abbrev pub first_past : Shown → ℕ → Past
@@ -15,5 +15,5 @@ abbrev pub IsExplainedAtFirst : Shown → Type 0
 IsExplainedAtFirst shown = (created : ℕ) → IsExplainedNow shown (first_past shown created)
 
 -- and with it the device holds what it should
-abbrev pub IsHeldAtFirst : Told → Type 0
+abbrev pub IsHeldAtFirst : ShownPool → Type 0
 IsHeldAtFirst told = (created : ℕ) → IsHeld (held_with told (first_past told.shown created))

@@ -7,7 +7,7 @@ use Rattle.base.specs.disk.Disk.{bytes_of}
 use Rattle.base.specs.steps.Shown.{Shown}
 use Rattle.device_model.specs.declared.device.SectorDevice.{Ghosts}
 use Rattle.pool_core.specs.declared.state.PoolState.{PoolState}
-use Rattle.pool_tables.specs.Told.{Told, told_of}
+use Rattle.pool_tables.specs.Told.{ShownPool, told_of}
 use Rattle.pool_tables.specs.Shows.{shown_objects, shown_of}
 use Rattle.pool_tables.specs.KeptTrees.{IsOfNoDevice, KeepsTree}
 
@@ -24,10 +24,10 @@ module _ {Dev : Type 0} {G : Ghosts Dev} where
   refused_calls state = G.refused state.device
 
   -- what is told of it over these bytes, and over those of its device
-  abbrev pub told_over : PoolState Dev G → List ℕ → Told
+  abbrev pub told_over : PoolState Dev G → List ℕ → ShownPool
   told_over state = told_of (shown_objects state.pool) state.pool
 
-  abbrev pub told : PoolState Dev G → Told
+  abbrev pub told : PoolState Dev G → ShownPool
   told state = told_over state (bytes_of (G.disk state.device).now)
 
   -- what the device refused is counted, and nothing else

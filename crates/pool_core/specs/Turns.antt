@@ -10,24 +10,24 @@ use Rattle.base.specs.stored.Stored.{Held, IsHeld}
 use Rattle.device_model.specs.declared.device.SectorDevice.{Ghosts}
 use Rattle.pool_core.specs.declared.state.PoolState.{PoolState}
 use Rattle.pool_core.specs.Calls.{CallsDevice, answer_in}
-use Rattle.pool_tables.specs.Told.{Leads, Told, held_with, state_with}
+use Rattle.pool_tables.specs.Told.{Leads, ShownPool, held_with, state_with}
 use Rattle.pool_core.specs.Holds.{IsStepOver}
 use Rattle.pool_core.specs.KeptSafe.{KeepsSafe}
 use Rattle.pool_core.specs.States.{CountsRefused, shown, told}
 use Rattle.pool_core.specs.StepReplies.{IsStep, StepReplies}
 
 -- the state after a step with this reply: what is shown then, with the past after the step
-abbrev pub turned_state : declared_step.Step → declared_reply.Reply → Told → Told → Past → State
+abbrev pub turned_state : declared_step.Step → declared_reply.Reply → ShownPool → ShownPool → Past → State
 turned_state s r old new past = state_with new (past_after s r (state_with old past))
 
 -- the same of what the device holds
-abbrev pub held_after : declared_step.Step → declared_reply.Reply → Told → Told → Past → Held
+abbrev pub held_after : declared_step.Step → declared_reply.Reply → ShownPool → ShownPool → Past → Held
 held_after s r old new past = held_with new (past_after s r (state_with old past))
 
 -- Where this past explains what is shown, the step with its reply is one of the definitions, and the past after it
 -- explains what is shown then. Over a device that keeps the disk model, if with this past the device also holds what it
 -- should, the step is one over its bytes, and it holds what it should then.
-pub record TurnsTo (keeps : Type 0) (s : declared_step.Step) (r : declared_reply.Reply) (old new : Told) (past : Past) : Type 0 where
+pub record TurnsTo (keeps : Type 0) (s : declared_step.Step) (r : declared_reply.Reply) (old new : ShownPool) (past : Past) : Type 0 where
   pub step : IsExplainedNow old.shown past → IsStep s r (state_with old past) (turned_state s r old new past)
   pub explained : IsExplainedNow old.shown past → IsExplainedNow new.shown (past_after s r (state_with old past))
   pub over : keeps → IsHeld (held_with old past) → IsStepOver s r (held_with old past) (held_after s r old new past)

@@ -75,7 +75,3 @@ abbrev pub Leads : declared_reply.Reply → ShownPool → ShownPool → Type 0
 Leads (reply.Synced group) old new = (pointers : Place → Pointer) × SamePlaces new.pointers pointers
     × ((past later : Past) → Moves (reply.Synced group) (held_with old past) (held_with (record new { pointers = pointers }) later))
 Leads r old new = (past later : Past) → Moves r (held_with old past) (held_with new later)
-
--- its name in the crates above
-abbrev pub Told : Type 0
-Told = ShownPool

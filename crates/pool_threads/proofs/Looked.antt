@@ -6,7 +6,7 @@ use Rattle.base.specs.steps.ExactNow.{IsExplainedNow}
 use Rattle.base.specs.stored.Stored.{IsHeld}
 use Rattle.device_model.specs.declared.device.SectorDevice.{Ghosts}
 use Rattle.pool_core.specs.declared.state.PoolState.{PoolState}
-use Rattle.pool_tables.specs.Told.{Told, held_with, state_with}
+use Rattle.pool_tables.specs.Told.{ShownPool, held_with, state_with}
 use Rattle.pool_core.specs.KeptSafe.{IsKeptSafe, OnDisk, on_disk}
 use Rattle.pool_core.specs.States.{told}
 use Rattle.pool_threads.specs.declared.handle.Handle.{Handle}
@@ -19,10 +19,10 @@ use Rattle.word_lock.specs.Turns.{turn}
 module _ {Dev : Type 0} {G : Ghosts Dev} (old new : PoolState Dev G) (same : told new ≡ told old) (disk : on_disk new ≡ on_disk old) (v : SeenPool) where
   pub explained_still : Explains old v → Explains new v
   explained_still x = record {
-    state = x.state ∙ ap (λ (t : Told). state_with t v.past) (sym same);
+    state = x.state ∙ ap (λ (t : ShownPool). state_with t v.past) (sym same);
     disk_is = x.disk_is ∙ ap (λ (d : Past → OnDisk). (d v.past).disk) (sym disk);
-    explained = subst (λ (t : Told). ∥ IsExplainedNow t.shown v.past ∥₁) (sym same) x.explained;
-    held = λ keeps. subst (λ (t : Told). ∥ IsHeld (held_with t v.past) ∥₁) (sym same) (x.held keeps);
+    explained = subst (λ (t : ShownPool). ∥ IsExplainedNow t.shown v.past ∥₁) (sym same) x.explained;
+    held = λ keeps. subst (λ (t : ShownPool). ∥ IsHeld (held_with t v.past) ∥₁) (sym same) (x.held keeps);
     safe = λ keeps created follows. subst (λ (d : Past → OnDisk). ∥ IsKeptSafe (d (since created v.past)) ∥₁) (sym disk) (x.safe keeps created follows);
   }
 

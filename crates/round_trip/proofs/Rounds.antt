@@ -20,7 +20,7 @@ use Rattle.base.proofs.steps.Additions.{runs_grow}
 use Rattle.base.proofs.stored.HeldMounts.{held_mounts, steps_write_no_log}
 use Rattle.device_model.specs.declared.device.SectorDevice.{Ghosts}
 use Rattle.pool_core.specs.declared.state.PoolState.{PoolState}
-use Rattle.pool_tables.specs.Told.{Leads, Told, held_with, state_with}
+use Rattle.pool_tables.specs.Told.{Leads, ShownPool, held_with, state_with}
 use Rattle.pool_core.specs.Holds.{KeepsHeld}
 use Rattle.pool_core.specs.States.{told}
 use Rattle.pool_core.specs.Turns.{MakesStep, turned_state}
@@ -31,13 +31,13 @@ pub no_chain : (now : List ℕ) (u : Uberblock) → HasNoLogBlock now → IsChai
 no_chain now u none block is = none u.log_address is.in_area is.sealed.kind_is
 
 -- a step of a pool leaves no log block where none was
-still_none : (r : declared_reply.Reply) (old new : Told) (past : Past) → IsHeld (held_with old past) → Leads r old new → HasNoLogBlock old.now → HasNoLogBlock new.now
+still_none : (r : declared_reply.Reply) (old new : ShownPool) (past : Past) → IsHeld (held_with old past) → Leads r old new → HasNoLogBlock old.now → HasNoLogBlock new.now
 still_none (reply.Synced group) old new past held leads none =
     steps_write_no_log (reply.Synced group) (held_with old past) (held_with (record new { pointers = leads.0 }) past) held (leads.2 past past) none
 still_none r old new past held leads none = steps_write_no_log r (held_with old past) (held_with new past) held (leads past past) none
 
 -- what steps lead to from a past with which the device holds what it should, where no block is a log block
-record Led (ss : List declared_step.Step) (rs : List declared_reply.Reply) (old new : Told) (past : Past) : Type 0 where
+record Led (ss : List declared_step.Step) (rs : List declared_reply.Reply) (old new : ShownPool) (past : Past) : Type 0 where
   pub later : Past
   pub ran : Run KeepsHeld ss rs (held_with old past) (held_with new later)
   pub held : IsHeld (held_with new later)
@@ -88,8 +88,8 @@ module _ {Dev : Type 0} {G : Ghosts Dev} (keep : IsTrue G.keeps_model) where
     base = refl;
   }
   led (s ∷ ss) (r ∷ rs) old new (middle, makes, rest) past held none =
-      let before : Told = told old in
-      let after : Told = told middle in
+      let before : ShownPool = told old in
+      let after : ShownPool = told middle in
       let t = makes.turns past in
       let later : Past = past_after s r (state_with before past) in
       let held_then : IsHeld (held_with after later) = t.held keep held in
