@@ -55,6 +55,13 @@ tries_leave keeps s e (t ∷ ts) v w leaves all line =
     ∥∥₁_map {B = viewed_state w ≡ viewed_state v} (tries_leave keeps s e ts t.left w leaves (All-tail (λ (u : Turn SeenPool). IsPoolStep keeps s (reply.Refused e) u.took u.left) t ts all) line.1)
     (λ rest. rest ∙ leaves (viewed_state t.took) (viewed_state t.left) one ∙ ap (λ (u : SeenPool). viewed_state u) line.0))
 
+-- a lock and a begin leave all as it is when they are refused
+lock_leaves : (owner : Owner) (range : ObjectRange) → Leaves (lock_step owner range) error.Busy
+lock_leaves owner range old new one = lock_refused [] owner range.object range.range Writer error.Busy old new one
+
+begin_leaves : (owner : Owner) (plan : List Shape) → Leaves (step.Begin owner plan) error.Throttled
+begin_leaves owner plan old new one = begin_refused [] owner plan error.Throttled old new one
+
 module _ {Dev : Type 0} {G : Ghosts Dev} where
   -- a step of the only handle is one from what it had seen to what it has seen
   step_at_once : {s : declared_step.Step} {r : declared_reply.Reply} (old new : Handle Dev G) → kin_of old ≡ 0 → Makes s r old new → ∥ Does s r (state_seen old) (state_seen new) ∥₁
@@ -76,24 +83,17 @@ module _ {Dev : Type 0} {G : Ghosts Dev} where
         ∥∥₁_map {B = IsSound (state_seen old)} m.made.made.explained (λ x. subst IsSound same x))
 
   module _ (owner : Owner) where
-    -- a lock and a begin leave all as it is when they are refused
-    lock_leaves : (range : ObjectRange) → Leaves (lock_step owner range) error.Busy
-    lock_leaves range old new one = lock_refused [] owner range.object range.range Writer error.Busy old new one
-
-    begin_leaves : (plan : List Shape) → Leaves (step.Begin owner plan) error.Throttled
-    begin_leaves plan old new one = begin_refused [] owner plan error.Throttled old new one
-
     -- what was sound after some locks was so before them
     sound_before_locks : (rs : List ObjectRange) (ids : List LockId) (old new : Handle Dev G) → kin_of old ≡ 0 → Locks owner rs ids old new → ∥ IsSound (state_seen new) ∥₁ → ∥ IsSound (state_seen old) ∥₁
     sound_before_locks [] [] old new only same x = subst (λ (h : Handle Dev G). ∥ IsSound (state_seen h) ∥₁) same x
-    sound_before_locks (r ∷ rs) (id ∷ ids) old new only (next, one, rest) x = sound_before old next (lock_leaves r) only one
+    sound_before_locks (r ∷ rs) (id ∷ ids) old new only (next, one, rest) x = sound_before old next (lock_leaves owner r) only one
     sound_before_locks [] (id ∷ ids) old new only h x = absurd h
     sound_before_locks (r ∷ rs) [] old new only h x = absurd h
 
     has_locked : (rs : List ObjectRange) (ids : List LockId) (old new : Handle Dev G) → kin_of old ≡ 0 → IsSound (state_seen old) → Locks owner rs ids old new → ∥ HasLocked owner.0 ids (state_seen old) (state_seen new) ∥₁
     has_locked [] [] old new only x same = ∣ subst (λ (h : Handle Dev G). HasLocked owner.0 [] (state_seen old) (state_seen h)) (sym same) (none_locked owner.0 (state_seen old) x) ∣₁
     has_locked (r ∷ rs) (id ∷ ids) old new only x (next, one, rest) =
-        ∥∥₁_elim (step_at_last old next (lock_leaves r) only one) ∥∥₁_prop (λ lock.
+        ∥∥₁_elim (step_at_last old next (lock_leaves owner r) only one) ∥∥₁_prop (λ lock.
         ∥∥₁_map {B = HasLocked owner.0 (id ∷ ids) (state_seen old) (state_seen new)}
         (has_locked rs ids next new (one.made.met_none.0 ∙ only) (steps_keep_tables ⊥ [] (lock_step owner r) (reply.Locked id) (state_seen old) (state_seen next) lock x) rest)
         (λ more. one_locked [] owner r.object r.range Writer id ids (state_seen old) (state_seen next) (state_seen new) x lock more))
@@ -111,21 +111,21 @@ module _ {Dev : Type 0} {G : Ghosts Dev} where
 
     module _ (ops : List Op) where
       sound_before_ends : (result : Result Receipt PoolError) (old new : Handle Dev G) → kin_of old ≡ 0 → Ends owner (plan_of ops) ops result old new → ∥ IsSound (state_seen old) ∥₁
-      sound_before_ends (Ok r) old new only c = sound_before old c.begun (begin_leaves (plan_of ops)) only c.begins
-      sound_before_ends (Err e) old new only (inl m) = sound_before old new (begin_leaves (plan_of ops)) only m
-      sound_before_ends (Err e) old new only (inr g) = sound_before old g.begun (begin_leaves (plan_of ops)) only g.begins
+      sound_before_ends (Ok r) old new only c = sound_before old c.begun (begin_leaves owner (plan_of ops)) only c.begins
+      sound_before_ends (Err e) old new only (inl m) = sound_before old new (begin_leaves owner (plan_of ops)) only m
+      sound_before_ends (Err e) old new only (inr g) = sound_before old g.begun (begin_leaves owner (plan_of ops)) only g.begins
 
       ends_keep : (result : Result Receipt PoolError) (old new : Handle Dev G) → kin_of old ≡ 0 → IsSound (state_seen old) → (state_seen old).shown.transactions ≡ [] → Ends owner (plan_of ops) ops result old new
           → ∥ KeepsLocks (state_seen old) (state_seen new) ∥₁
       ends_keep (Ok r) old new only x none c =
-          ∥∥₁_elim (step_at_last old c.begun (begin_leaves (plan_of ops)) only c.begins) ∥∥₁_prop (λ begins.
+          ∥∥₁_elim (step_at_last old c.begun (begin_leaves owner (plan_of ops)) only c.begins) ∥∥₁_prop (λ begins.
           ∥∥₁_map {B = KeepsLocks (state_seen old) (state_seen new)} (step_at_once c.begun new (c.begins.made.met_none.0 ∙ only) c.commits)
           (λ commits. keeps_committed [] owner (plan_of ops) c.tx c.group (state_seen old) (state_seen c.begun) x none begins ops r (state_seen new) commits))
       ends_keep (Err e) old new only x none (inl m) =
-          ∥∥₁_map {B = KeepsLocks (state_seen old) (state_seen new)} (step_at_last old new (begin_leaves (plan_of ops)) only m)
+          ∥∥₁_map {B = KeepsLocks (state_seen old) (state_seen new)} (step_at_last old new (begin_leaves owner (plan_of ops)) only m)
           (λ one. keeps_same (state_seen old) (state_seen new) x none (begin_refused [] owner (plan_of ops) e (state_seen old) (state_seen new) one))
       ends_keep (Err e) old new only x none (inr g) =
-          ∥∥₁_elim (step_at_last old g.begun (begin_leaves (plan_of ops)) only g.begins) ∥∥₁_prop (λ begins.
+          ∥∥₁_elim (step_at_last old g.begun (begin_leaves owner (plan_of ops)) only g.begins) ∥∥₁_prop (λ begins.
           ∥∥₁_elim (step_at_once g.begun g.failed (g.begins.made.met_none.0 ∙ only) g.refused) ∥∥₁_prop (λ refused.
           ∥∥₁_map {B = KeepsLocks (state_seen old) (state_seen new)} (step_at_once g.failed new (g.refused.made.met_none.0 ∙ g.begins.made.met_none.0 ∙ only) g.aborts)
           (λ aborts. keeps_given_up [] owner (plan_of ops) g.tx g.group (state_seen old) (state_seen g.begun) x none begins ops e g.answer (state_seen g.failed) (state_seen new) refused aborts)))
@@ -139,7 +139,7 @@ module _ {Dev : Type 0} {G : Ghosts Dev} where
       held_under rs ids old locked ended only none locks sound ends =
           ∥∥₁_elim (sound_before_locks rs ids old locked only locks sound) ∥∥₁_prop (λ x.
           ∥∥₁_elim (has_locked rs ids old locked only x locks) ∥∥₁_prop (λ has.
-          ∥∥₁_map {B = Held ids old ended} (ends has.explained (has.transactions ∙ none)) (λ kept. (x, state_seen locked, has, kept))))
+          ∥∥₁_map {B = Held ids old ended} (ends has.explained (has.transactions ∙ none)) (λ kept. (x, (state_seen locked, has, kept)))))
 
       held_to_end : (rs : List ObjectRange) (ids : List LockId) (result : Result Receipt PoolError) (old ended : Handle Dev G) → kin_of old ≡ 0 → (state_seen old).shown.transactions ≡ []
           → LocksAndEnds owner rs (plan_of ops) ops ids result old ended → ∥ Held ids old ended ∥₁
@@ -151,13 +151,13 @@ module _ {Dev : Type 0} {G : Ghosts Dev} where
           held_under rs ids old locked ended only none locks (sound_before_ends (Err e) locked ended still ends) (λ x none. ends_keep (Err e) locked ended still x none ends)
       held_to_end rs ids (Err e) old ended only none (inl s) =
           let still : kin_of s.middle ≡ 0 = (along_locks owner s.locked ids old s.middle s.locks).met_none.0 ∙ only in
-          held_under s.locked ids old s.middle ended only none s.locks (sound_before s.middle ended (lock_leaves s.range) still s.refused)
-          (λ x none. ∥∥₁_map {B = KeepsLocks (state_seen s.middle) (state_seen ended)} (step_at_last s.middle ended (lock_leaves s.range) still s.refused)
+          held_under s.locked ids old s.middle ended only none s.locks (sound_before s.middle ended (lock_leaves owner s.range) still s.refused)
+          (λ x none. ∥∥₁_map {B = KeepsLocks (state_seen s.middle) (state_seen ended)} (step_at_last s.middle ended (lock_leaves owner s.range) still s.refused)
           (λ one. keeps_same (state_seen s.middle) (state_seen ended) x none (lock_refused [] owner s.range.object s.range.range Writer e (state_seen s.middle) (state_seen ended) one)))
 
       -- all of them are unlocked
       unlocks_all : (ids : List LockId) (old ended new : Handle Dev G) → kin_of ended ≡ 0 → (state_seen old).shown.transactions ≡ [] → Held ids old ended → Unlocks owner ids ended new → ∥ HasUnlocked ids (state_seen ended) (state_seen new) ∥₁
-      unlocks_all ids old ended new only none (x, l, has, kept) unlocks = by has.ran
+      unlocks_all ids old ended new only none (x, (l, has, kept)) unlocks = by has.ran
         where
           by : (ids ≡ []) ⊎ ((state_seen old).shown.suspended ≡ false) → ∥ HasUnlocked ids (state_seen ended) (state_seen new) ∥₁
           by (inl is) =
