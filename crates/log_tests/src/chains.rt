@@ -1,9 +1,10 @@
 //! Chains on a device: how far they reach, what ends them, and a refused read.
 
+use crate::packing::{PLACE, packed_bytes, two_records};
 use base::{BLOCK_SIZE, Group, PoolError, Version, write_u64};
 use checked_blocks::{Frame, PAYLOAD_SIZE, seal};
 use device_model::{Fault, MemDevice, SectorDevice};
-use intent_log::{ChainHeader, chain};
+use intent_log::{ChainHeader, LoggedBlock, chain};
 use std::alloc::Global;
 
 /// The create of object 1, in group 9 with ordinal 0.
@@ -25,7 +26,7 @@ struct Stored {
     /// The first byte of the record's length.
     length: u8,
     /// The byte after the record.
-    behind: u8,
+    after: u8,
 }
 
 /// The block that the header names: number 7 of chain 3.
@@ -39,7 +40,7 @@ const FIRST: Stored = Stored {
     next: 4_202_496,
     used: 27,
     length: 27,
-    behind: 0,
+    after: 0,
 };
 
 const SECOND: Stored = Stored {
@@ -69,7 +70,7 @@ enum Change {
     Next(u64),
     /// The used length, and the first byte of the record's length.
     Lengths(u64, u8),
-    Behind(u8),
+    After(u8),
 }
 
 fn changed_second(change: Change) -> Stored {
@@ -86,7 +87,7 @@ fn changed_second(change: Change) -> Stored {
             length,
             ..SECOND
         },
-        Change::Behind(behind) => Stored { behind, ..SECOND },
+        Change::After(after) => Stored { after, ..SECOND },
     }
 }
 
@@ -107,7 +108,7 @@ fn payload_of(stored: &Stored) -> [u8; PAYLOAD_SIZE] {
     write_u64(&mut payload, 16, stored.used);
     payload[24..51].copy_from_slice(&CREATE);
     payload[24] = stored.length;
-    payload[51] = stored.behind;
+    payload[51] = stored.after;
     payload
 }
 
@@ -137,21 +138,31 @@ fn store_all(device: &mut MemDevice, blocks: &[Stored]) -> Result<(), PoolError>
     Ok(())
 }
 
-/// How many blocks the chain has whose first block lies at this address. The pool has the guid 77 and 384 blocks.
-fn chain_length(alloc: Global, device: &mut MemDevice, address: u64) -> Result<usize, PoolError> {
-    if device.sectors() < 12_288 {
-        return Err(PoolError::BadGeometry);
+/// The chain from a header on, in a pool with the guid 77 and 384 blocks. Refused `BadRange` if the device is smaller,
+/// or if the header's number is above 7.
+fn read_chain(
+    alloc: Global,
+    device: &mut MemDevice,
+    header: &ChainHeader,
+) -> Result<Vec<LoggedBlock>, PoolError> {
+    if device.sectors() < 12_288 || header.number > 7 {
+        return Err(PoolError::BadRange);
     }
     let frame = Frame::new(Version::One, 77, 384, Group(9));
+    chain(alloc, device, &frame, header)
+}
+
+/// How many blocks the chain has whose first block lies at this address, with number 7 of chain 3.
+fn chain_length(alloc: Global, device: &mut MemDevice, address: u64) -> Result<usize, PoolError> {
     let header = ChainHeader {
         address,
         number: 7,
         import_number: 3,
     };
-    Ok(chain(alloc, device, &frame, &header)?.len())
+    Ok(read_chain(alloc, device, &header)?.len())
 }
 
-/// How many it has on a device of 6 MiB with these blocks.
+/// How many blocks it has on a device of 6 MiB on which these lie.
 fn length_over(alloc: Global, address: u64, blocks: &[Stored]) -> Result<usize, PoolError> {
     let mut device = MemDevice::new(alloc, 12_288)?;
     store_all(&mut device, blocks)?;
@@ -159,7 +170,7 @@ fn length_over(alloc: Global, address: u64, blocks: &[Stored]) -> Result<usize, 
 }
 
 /// How many rows hold before the first that does not: the length of the chain from an address on, if so many of its
-/// three blocks are there.
+/// three blocks lie on the device.
 fn count_lengths(alloc: Global, rows: &[(u64, usize, usize)]) -> usize {
     let blocks = [FIRST, SECOND, THIRD];
     for index in 0..rows.len() {
@@ -175,7 +186,7 @@ fn count_lengths(alloc: Global, rows: &[(u64, usize, usize)]) -> usize {
 #[test]
 fn a_chain_reaches_as_far_as_its_blocks(rt: HostRuntime) {
     let rows = [
-        // no header, and one of another number
+        // no block, and one of another number
         (0, 3, 0),
         (SECOND.address, 3, 0),
         (FIRST.address, 0, 0),
@@ -223,7 +234,7 @@ fn a_block_of_another_form_ends_the_chain(rt: HostRuntime) {
         (Change::Lengths(27, 28), 1),
         (Change::Lengths(28, 28), 1),
         // a byte after the record that is not zero
-        (Change::Behind(1), 1),
+        (Change::After(1), 1),
     ];
     assert_eq!(rt; count_changed(rt.alloc(), &rows), 17);
 }
@@ -239,7 +250,7 @@ fn count_failing(alloc: Global, device: &mut MemDevice) -> usize {
     4
 }
 
-/// How many are, of three blocks, and then the length of the chain.
+/// How many of these chains are refused, each of three blocks, and the length of the one that is not.
 fn read_about_failures(alloc: Global) -> Result<(usize, usize), PoolError> {
     let mut device = MemDevice::new(alloc, 12_288)?;
     store_all(&mut device, &[FIRST, SECOND, THIRD])?;
@@ -249,6 +260,35 @@ fn read_about_failures(alloc: Global) -> Result<(usize, usize), PoolError> {
 
 // The fourth read is that of the place at which the chain ends.
 #[test]
-fn each_refused_read_is_told(rt: HostRuntime) {
+fn each_read_may_be_refused(rt: HostRuntime) {
     assert_eq!(rt; read_about_failures(rt.alloc()), Ok((4, 3)));
+}
+
+/// Writes the block of another program to its place.
+fn write_packed(device: &mut MemDevice) -> Result<(), PoolError> {
+    let mut block = [0; BLOCK_SIZE];
+    block[..158].copy_from_slice(&packed_bytes());
+    overwrite(device, PLACE.header.address, &block)
+}
+
+/// Where the only block of a chain lies, and whether it has the two records that are packed. `None` for another chain.
+fn only_block(alloc: Global, blocks: &[LoggedBlock]) -> Result<Option<(u64, bool)>, PoolError> {
+    let [block] = blocks else {
+        return Ok(None);
+    };
+    let pending = two_records(alloc)?;
+    Ok(Some((block.address(), block.records() == pending.records())))
+}
+
+/// The same of the chain that another program wrote to a new device.
+fn read_packed(alloc: Global) -> Result<Option<(u64, bool)>, PoolError> {
+    let mut device = MemDevice::new(alloc, 12_288)?;
+    write_packed(&mut device)?;
+    let blocks = read_chain(alloc, &mut device, &PLACE.header)?;
+    only_block(alloc, &blocks)
+}
+
+#[test]
+fn a_block_of_another_program_is_read(rt: HostRuntime) {
+    assert_eq!(rt; read_packed(rt.alloc()), Ok(Some((4_194_304, true))));
 }

@@ -20,7 +20,7 @@ const THIRD: LogHeader = LogHeader {
     number: 2,
 };
 
-/// A call on a log with the answer that is wanted. Receipts are an ordinal and a group.
+/// A call on a log, with the answer that is wanted. Receipts are an ordinal and a group.
 #[derive(Clone, Copy)]
 enum Row<'a> {
     Next(LogHeader),
@@ -43,7 +43,7 @@ const fn receipt(ordinal: u64, group: u64) -> Receipt {
     }
 }
 
-/// Notes a block.
+/// Takes the room for a block, and notes it.
 fn write(
     alloc: Global,
     log: &mut Log,
@@ -63,16 +63,16 @@ fn write(
 fn holds(alloc: Global, log: &mut Log, row: Row<'_>) -> bool {
     match row {
         Row::Next(header) => log.next() == header,
-        Row::IsAtLast(told) => log.is_at_last() == told,
+        Row::IsAtLast(wanted) => log.is_at_last() == wanted,
         Row::Write(receipts, address) => write(alloc, log, receipts, address) == Ok(()),
-        Row::AwaitsFlush(told) => log.awaits_flush() == told,
+        Row::AwaitsFlush(wanted) => log.awaits_flush() == wanted,
         Row::Flush => {
             log.flushed();
             true
         }
-        Row::HasFlushed(receipt, told) => log.has_flushed(receipt) == told,
+        Row::HasFlushed(receipt, wanted) => log.has_flushed(receipt) == wanted,
         Row::HeaderFor(group, header) => log.header_for(Group(group)) == header,
-        Row::GiveBack(header, told) => log.give_back(header) == told,
+        Row::GiveBack(header, wanted) => log.give_back(header) == wanted,
     }
 }
 
@@ -155,7 +155,7 @@ fn blocks_before_the_header_come_back_in_order(rt: HostRuntime) {
     assert_eq!(rt; count_on_new(rt.alloc(), &rows), 21);
 }
 
-// The second block has a record of the group that syncs and none above it, but the first one is before it.
+// All blocks from the header on stay: the first block has a record of group 11, so the sync of group 10 keeps both.
 #[test]
 fn the_header_is_the_first_block_with_a_higher_group(rt: HostRuntime) {
     let rows = [

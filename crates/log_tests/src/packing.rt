@@ -10,7 +10,7 @@ use std::alloc::Global;
 use transactions::{Record, encode_record};
 
 /// The first block of chain 1 in pool 77, packed in group 10.
-const PLACE: NewBlock = NewBlock {
+pub const PLACE: NewBlock = NewBlock {
     guid: 77,
     group: Group(10),
     header: ChainHeader {
@@ -23,7 +23,7 @@ const PLACE: NewBlock = NewBlock {
 
 /// The front of that block with two records, as Python's hashlib and struct make it: the fields, the check, and of the
 /// payload 24 bytes and those of the records. All others are zeros.
-fn packed_bytes() -> [u8; 158] {
+pub fn packed_bytes() -> [u8; 158] {
     [
         0x06, 0x00, 0x00, 0x00, 0x00, 0x00, 0x00, 0x00, 0x4d, 0x00, 0x00, 0x00, 0x00, 0x00, 0x00,
         0x00, 0x0a, 0x00, 0x00, 0x00, 0x00, 0x00, 0x00, 0x00, 0x00, 0x00, 0x00, 0x00, 0x00, 0x00,
@@ -41,7 +41,7 @@ fn packed_bytes() -> [u8; 158] {
 
 /// Pending records, each within its limits.
 #[derive(Drop)]
-struct Pending {
+pub struct Pending {
     records: Vec<Record>,
     ghost allowed: { All IsAllowed (map record_fields records.items) },
 }
@@ -67,6 +67,11 @@ impl Pending {
         Ok(self)
     }
 
+    /// The records, in order.
+    pub fn records(&self) -> &[Record] {
+        self.records.as_slice()
+    }
+
     /// Packs as many as fit. Refused `BadRange` if there is none.
     fn pack(&self, alloc: Global) -> Result<PackedBlock, PoolError> {
         if self.records.is_empty() {
@@ -82,7 +87,7 @@ fn write(alloc: Global, offset: u64, bytes: &[u8]) -> Result<Op, PoolError> {
 }
 
 /// The create of object 1, in group 9 with ordinal 0, and the write of `wxyz` to it at 100, in group 10 with ordinal 1.
-fn two_records(alloc: Global) -> Result<Pending, PoolError> {
+pub fn two_records(alloc: Global) -> Result<Pending, PoolError> {
     let create = Op::Create(ObjectId(1));
     let one = Pending::none(alloc).add(alloc, 9, 0, create)?;
     one.add(alloc, 10, 1, write(alloc, 100, b"wxyz")?)
