@@ -37,6 +37,16 @@ fn main(rt: HostRuntime) -> Result<()> {
 // Makes a pool, and writes and syncs the note.
 fn write_note<R: Wait + Print>(rt: &R, alloc: Global, device: FileDevice) -> Result<()> {
     let pool = make_pool(alloc, device)?;
+    commit_note(rt, alloc, &pool)?;
+    // A power failure before the sync would lose the note.
+    let mut state = pool.close().context("a thread has the pool")?;
+    let group = state.sync_open_group(0)?;
+    println!(rt; "group {} is synced", group.0)?;
+    Ok(())
+}
+
+// Commits the note, and tries it once more.
+fn commit_note<R: Wait + Print>(rt: &R, alloc: Global, pool: &Pool<FileDevice>) -> Result<()> {
     let mut handle = pool.handle();
     let receipt = handle.transact(rt, OWNER, note(alloc, b"hello, pool")?)?;
     println!(rt; "the note is in group {}", receipt.group.0)?;
@@ -46,10 +56,6 @@ fn write_note<R: Wait + Print>(rt: &R, alloc: Global, device: FileDevice) -> Res
         Err(error) => return Err(error.into()),
         Ok(receipt) => println!(rt; "written twice, in group {}", receipt.group.0)?,
     }
-    // A power failure before the sync would lose the note.
-    let mut state = pool.close().context("a thread has the pool")?;
-    let group = state.sync_open_group(0)?;
-    println!(rt; "group {} is synced", group.0)?;
     Ok(())
 }
 
