@@ -503,9 +503,10 @@ class ImportStop:
         self.refusal = {"read": "refused 2 Read", "write": "refused 3 Write", "flush": "refused 4 Flush"}[kind]
 
 
-# An import flushes, reads four arrays of uberblocks, four configs and the tree (here six blocks), flushes, writes two configs,
-# flushes, writes four uberblocks of the fourth group on, flushes, writes the other two configs and flushes.
-READ_STOPS = [ImportStop("read", call) for call in range(1, 15)]
+# An import flushes, reads four arrays of uberblocks, four configs, the tree (here six blocks) and the first place of the log
+# (here no log block), flushes, writes two configs, flushes, writes four uberblocks of the fourth group on, flushes, writes the
+# other two configs and flushes.
+READ_STOPS = [ImportStop("read", call) for call in range(1, 16)]
 WRITE_STOPS = [
     ImportStop("flush", 1),
     ImportStop("flush", 2),

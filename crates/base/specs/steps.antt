@@ -5,7 +5,7 @@ pub mod Logs
 pub mod Shown
 pub mod Refusals
 pub mod Steps
-pub mod Stage
+pub mod BuiltSteps
 pub mod Effects
 pub mod Runs
 pub mod Exact

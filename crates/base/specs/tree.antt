@@ -2,5 +2,5 @@ pub mod Places
 pub mod Tree
 pub mod PlacedTrees
 pub mod PlannedTrees
-pub mod Faults
+pub mod Damages
 pub mod Syncs

@@ -1,7 +1,7 @@
 //! The steps of a pool, and what each returns.
 //!
 //! A run of a pool is a list of these steps, made one at a time. `specs/steps` defines what a step does (`Steps`, and
-//! `Stage` if less is built) and the first of its tests that refuses it (`Refusals`); `Runs` applies both to these
+//! `BuiltSteps` if less is built) and the first of its tests that refuses it (`Refusals`); `Runs` applies both to these
 //! two enums.
 //!
 //! - Locks (`zfs_rlock.c`): `Lock`, `LockAppend` from the end of an object on, `Unlock`.
@@ -11,10 +11,10 @@
 //!   groups, and what is charged and free.
 //! - Groups (`txg.c`): `CloseGroup` opens the next group. `MarkQuiesced` is refused while a transaction of the closed
 //!   group is open. `StartSync` plans what is written of it. Each `SyncStep` makes one device call, and the last
-//!   returns `Synced`.
+//!   returns `Synced`. `Durable` says whether a commit survives a crash.
 //!
 //! A refused step changes nothing, with one exception: if the device refuses the write or the flush of a `SyncStep`,
-//! the pool is suspended. It then refuses each step except `Name` and `Status`.
+//! the pool is suspended. It then refuses each step except `Name`, `Status` and `Durable`.
 
 use crate::bytes::Bytes;
 use crate::error::PoolError;
@@ -57,6 +57,8 @@ pub enum Step {
     StartSync(u64),
     /// Makes one device call of the running sync.
     SyncStep,
+    /// Returns whether a commit survives a crash, also of a suspended pool.
+    Durable(Receipt),
 }
 
 /// What a step returns.
@@ -94,4 +96,6 @@ pub enum Reply {
     More,
     /// The sync made its last device call, and this group is synced.
     Synced(Group),
+    /// Whether the commit is durable.
+    Durable(bool),
 }

@@ -1,6 +1,6 @@
--- The free blocks of a tree: those that its pointers name are taken one after another.
+-- The free blocks of a tree and a chain: those that they have are taken one after another.
 use Rattle.std.proofs.Common.{◌≡◌, ℕ, zero, suc, ◌+◌, ◌<◌, Bool, true, false, not, ◌&&◌, ◌||◌, List, [], ◌∷◌, length, take, get_or, nat_eq, Option, Some, None, ◌⊎◌, inl, inr, refl, sym, subst, ap, ◌∙◌, arith}
-use Rattle.std.specs.Prelude.{slice_get}
+use Rattle.std.specs.Prelude.{Contains, slice_get}
 use Rattle.std.specs.List.{list_any}
 use Rattle.std.specs.Option.{option_map_or}
 use Rattle.std.specs.Ordering.{nat_cmp, eq_by_cmp}
@@ -11,8 +11,9 @@ use Rattle.std.proofs.lemmas.Cmp.{nat_cmp_total}
 use Rattle.std.proofs.lemmas.Bool.{cases_eq, eq-eqb, eqb-true, ne_eqb, false≢true}
 use Rattle.std.proofs.lemmas.List.{get_or-take, length-take}
 use Rattle.std.proofs.lemmas.List.Folds.{list_any_more}
-use Rattle.std.proofs.lemmas.Option.{get_or_from_slice_get}
+use Rattle.std.proofs.lemmas.Option.{get_or_from_slice_get, slice_get-get_or}
 use Rattle.base.specs.declared.pointer.Pointer.{Pointer}
+use Rattle.base.specs.formats.Chain.{LogPiece}
 use Rattle.base.specs.formats.Fields.{no_pointer}
 use Rattle.base.specs.formats.Geometry.{block_address, IsBlockAddress}
 use Rattle.base.specs.tree.Places.{Place, IsPlace}
@@ -21,7 +22,7 @@ use Rattle.object_maps.specs.declared.tree.ObjectMap.{ObjectMap}
 use Rattle.object_maps.specs.declared.tree.Tree.{Tree}
 use Rattle.object_maps.specs.Pointers.{pointers_of}
 use Rattle.space.specs.FreeSets.{FreeSpace, HasAllOf, IsLowestFree, after_take, is_free}
-use Rattle.import_replay.specs.FreeBlocks.{AreAllNamed, IsNamed, AreUnnamed, HasTakenLowest, names_block, map_names, tree_names, BlocksTaken}
+use Rattle.import_replay.specs.FreeBlocks.{AreAllUsed, AreUnused, BlocksTaken, HasTakenLowest, IsLowestUnused, IsNamed, IsUsedBy, chain_addresses, is_block_at, logs_block, map_names, names_block, tree_names, uses_block}
 
 -- two takes one after another
 both_taken : (a b c : Bool) → ((a && not b) && not c) ≡ (a && not (b || c))
@@ -65,11 +66,11 @@ and_right : (a b : Bool) → (a && b) ≡ true → b ≡ true
 and_right true b h = h
 and_right false b h = absurd (false≢true h)
 
--- the block that a pointer names is taken
-pub pointer_taken : (pointer : Pointer) (i : ℕ) (s : FreeSpace) → block_address i ≡ pointer.address → BlocksTaken (λ k. names_block k pointer) s (after_take i s)
-pointer_taken pointer i s is = record {
+-- the block at an address is taken
+pub address_taken : (address i : ℕ) (s : FreeSpace) → block_address i ≡ address → BlocksTaken (λ k. is_block_at k address) s (after_take i s)
+address_taken address i s is = record {
   each = λ k low. contains-without s.free (block_address i) (block_address k) ∙ swapped (not (nat_eq (block_address i) (block_address k))) (is_free k s) ∙ ap (λ (a : ℕ). is_free k s && not (nat_eq a (block_address k))) is;
-  fewer = λ address h. and_right (not (nat_eq (block_address i) address)) (set.contains s.free address) (sym (contains-without s.free (block_address i) address) ∙ h);
+  fewer = λ other h. and_right (not (nat_eq (block_address i) other)) (set.contains s.free other) (sym (contains-without s.free (block_address i) other) ∙ h);
   rest = refl;
 }
 
@@ -197,46 +198,80 @@ not-false : (b : Bool) → not b ≡ false → b ≡ true
 not-false true h = refl
 not-false false h = absurd (false≢true (sym h))
 
--- where all were free, and the blocks of a tree are taken
-pub unnamed-from_taken : (t : Tree) (blocks : ℕ) (all left : FreeSpace) → length t.directories.items ≡ 84 → length t.maps.items ≡ 5292 → all.blocks ≡ blocks → HasAllOf blocks all.free
-    → BlocksTaken (λ k. tree_names k t) all left → AreUnnamed (pointers_of t) blocks left.free
-unnamed-from_taken t blocks all left directories maps count whole taken = record {
+-- a block at one of some addresses is found, and one that is found is at one
+at-found : (k : ℕ) (addresses : List ℕ) → Contains addresses (block_address k) → list_any (is_block_at k) addresses ≡ true
+at-found k addresses (i, low, is) = any_at (is_block_at k) addresses i (get_or addresses i (block_address k)) (slice_get-get_or addresses i (block_address k) low) (eq-eqb (get_or addresses i (block_address k)) (block_address k) is)
+
+found-at : (k : ℕ) (addresses : List ℕ) → list_any (is_block_at k) addresses ≡ true → Contains addresses (block_address k)
+found-at k addresses h =
+    let f = found_at (is_block_at k) addresses h in
+    (f.index, f.low, get_or_from_slice_get addresses f.index f.item (block_address k) f.found ∙ eqb-true f.item (block_address k) f.passes)
+
+any-logged : (k : ℕ) (chain : List LogPiece) → list_any (is_block_at k) (chain_addresses chain) ≡ list_any (logs_block k) chain
+any-logged k [] = refl
+any-logged k (b ∷ bs) = ap (λ (there : Bool). logs_block k b || there) (any-logged k bs)
+
+module _ (t : Tree) (directories : length t.directories.items ≡ 84) (maps : length t.maps.items ≡ 5292) (chain : List LogPiece) (k : ℕ) where
+  logs : list_any (is_block_at k) (chain_addresses chain) ≡ list_any (logs_block k) chain
+  logs = any-logged k chain
+
+  used-found : IsUsedBy (pointers_of t) (chain_addresses chain) (block_address k) → uses_block k t chain ≡ true
+  used-found (inl named) = or_left (tree_names k t) _ (is_found t directories maps k named)
+  used-found (inr there) = or_right (tree_names k t) _ (sym logs ∙ at-found k (chain_addresses chain) there)
+
+  found-used : uses_block k t chain ≡ true → IsUsedBy (pointers_of t) (chain_addresses chain) (block_address k)
+  found-used h = elim (or_cases (tree_names k t) (list_any (logs_block k) chain) h) as (λ _. IsUsedBy (pointers_of t) (chain_addresses chain) (block_address k)) [
+    | inl here ↦ inl (found-named t directories maps k here)
+    | inr there ↦ inr (found-at k (chain_addresses chain) (logs ∙ there))
+  ]
+
+-- where all were free, and the blocks of a tree and a chain are taken
+pub unused-from_taken : (t : Tree) (chain : List LogPiece) (blocks : ℕ) (all left : FreeSpace) → length t.directories.items ≡ 84 → length t.maps.items ≡ 5292 → all.blocks ≡ blocks → HasAllOf blocks all.free
+    → BlocksTaken (λ k. uses_block k t chain) all left → AreUnused (pointers_of t) (chain_addresses chain) blocks left.free
+unused-from_taken t chain blocks all left directories maps count whole taken = record {
   in_area = in_area;
-  unnamed = λ q h named.
+  unused = λ q h used.
       (let is = in_area q h in
       let free : is_free is.0 left ≡ true = ap (λ (a : ℕ). set.contains left.free a) (sym is.2) ∙ h in
-      not-true (tree_names is.0 t) (sym (each is.0 is.1) ∙ free) (is_found t directories maps is.0 (subst (λ (a : ℕ). IsNamed (pointers_of t) a) is.2 named)));
+      not-true (uses_block is.0 t chain) (sym (each is.0 is.1) ∙ free) (used-found t directories maps chain is.0 (subst (λ (a : ℕ). IsUsedBy (pointers_of t) (chain_addresses chain) a) is.2 used)));
   others = λ q h is.
       (let free : is_free is.0 left ≡ false = ap (λ (a : ℕ). set.contains left.free a) (sym is.2) ∙ h in
-      subst (λ (a : ℕ). IsNamed (pointers_of t) a) (sym is.2) (found-named t directories maps is.0 (not-false (tree_names is.0 t) (sym (each is.0 is.1) ∙ free))));
+      subst (λ (a : ℕ). IsUsedBy (pointers_of t) (chain_addresses chain) a) (sym is.2) (found-used t directories maps chain is.0 (not-false (uses_block is.0 t chain) (sym (each is.0 is.1) ∙ free))));
 }
   where
     in_area : (q : ℕ) → set.contains left.free q ≡ true → IsBlockAddress blocks q
     in_area q h = (whole q).0 (taken.fewer q h)
 
-    each : (k : ℕ) → k < blocks → is_free k left ≡ not (tree_names k t)
+    each : (k : ℕ) → k < blocks → is_free k left ≡ not (uses_block k t chain)
     each k low =
         let was : is_free k all ≡ true = (whole (block_address k)).1 (k, low, refl) in
-        taken.each k (omega (arith, low, count)) ∙ ap (λ (b : Bool). b && not (tree_names k t)) was
+        taken.each k (omega (arith, low, count)) ∙ ap (λ (b : Bool). b && not (uses_block k t chain)) was
 
 block_below : (i k : ℕ) → block_address i < block_address k → i < k
 block_below i k e = omega arith
 
--- the lowest free block is taken
-pub lowest_taken : (pointers : Place → Pointer) (blocks : ℕ) (s : FreeSpace) (b : ℕ) → AreUnnamed pointers blocks s.free → IsLowestFree s b
-    → HasTakenLowest pointers blocks (block_address b) (after_take b s).free
-lowest_taken pointers blocks s b were first = record {
+-- the lowest free block is the lowest that is not used
+pub lowest_unused : (pointers : Place → Pointer) (logged : List ℕ) (blocks : ℕ) (s : FreeSpace) (b : ℕ) → AreUnused pointers logged blocks s.free → IsLowestFree s b
+    → IsLowestUnused pointers logged blocks (block_address b)
+lowest_unused pointers logged blocks s b were first = record {
   is_block = were.in_area (block_address b) first.free;
-  is_unnamed = were.unnamed (block_address b) first.free;
+  unused = were.unused (block_address b) first.free;
   lowest = λ q below is.
       (let low : is.0 < b = block_below is.0 b (subst (λ (a : ℕ). a < block_address b) is.2 below) in
       were.others q (ap (λ (a : ℕ). set.contains s.free a) is.2 ∙ first.below is.0 (omega arith) low) is);
+}
+
+-- it is taken from the free blocks of the tree alone
+pub lowest_taken : (pointers : Place → Pointer) (logged : List ℕ) (blocks : ℕ) (s : FreeSpace) (b : ℕ) → IsLowestUnused pointers logged blocks (block_address b) → AreUnused pointers [] blocks s.free
+    → HasTakenLowest pointers logged blocks (block_address b) (after_take b s).free
+lowest_taken pointers logged blocks s b first were = record {
+  first = first;
   in_area = λ q h. were.in_area q (was_free q h);
-  unnamed = λ q h. were.unnamed q (was_free q h);
+  unnamed = λ q h named. were.unused q (was_free q h) (inl named);
   not_taken = λ q h same. not-true (nat_eq (block_address b) q) (and_left (not (nat_eq (block_address b) q)) (set.contains s.free q) (sym (contains-without s.free (block_address b) q) ∙ h)) (eq-eqb (block_address b) q (sym same));
   others = λ q h is. elim (cases_eq q (block_address b)) as (λ _. IsNamed pointers q ⊎ (q ≡ block_address b)) [
     | inl same ↦ inr same
-    | inr other ↦ inl (were.others q (stays (nat_eq (block_address b) q) (set.contains s.free q) (ne_eqb (block_address b) q (λ same. other (sym same))) (sym (contains-without s.free (block_address b) q) ∙ h)) is)
+    | inr other ↦ inl (only_named q (were.others q (stays (nat_eq (block_address b) q) (set.contains s.free q) (ne_eqb (block_address b) q (λ same. other (sym same))) (sym (contains-without s.free (block_address b) q) ∙ h)) is))
   ];
 }
   where
@@ -251,7 +286,11 @@ lowest_taken pointers blocks s b were first = record {
     stays true b is h = absurd (false≢true (sym is))
     stays false b is h = h
 
--- where no block is free, each is named
-pub all_named : (pointers : Place → Pointer) (blocks : ℕ) (s : FreeSpace) → AreUnnamed pointers blocks s.free → set.len s.free ≡ 0 → AreAllNamed pointers blocks
-all_named pointers blocks s were none address is =
-    were.others address (ap (λ (l : FinSet nat_cmp). set.contains l address) (empty_of_len s.free none) ∙ contains-empty nat_cmp address) is
+    -- without a chain
+    only_named : (q : ℕ) → IsUsedBy pointers [] q → IsNamed pointers q
+    only_named q (inl named) = named
+    only_named q (inr (i, low, is)) = absurd (omega (arith, low))
+
+-- where no block is free, each is used
+pub all_used : (pointers : Place → Pointer) (logged : List ℕ) (blocks : ℕ) (s : FreeSpace) → AreUnused pointers logged blocks s.free → set.len s.free ≡ 0 → AreAllUsed pointers logged blocks
+all_used pointers logged blocks s were none address is = were.others address (ap (λ (l : FinSet nat_cmp). set.contains l address) (empty_of_len s.free none) ∙ contains-empty nat_cmp address) is

@@ -1,34 +1,36 @@
 -- What an inspection tells is what the image mounts, and what each import of it gives.
-use Rattle.std.proofs.Common.{◌≡◌, ℕ, ◌+◌, ◌<◌, ◌≤◌, List, [], Option, Some, None, length, refl, sym, subst, ap, ◌∙◌}
+use Rattle.std.proofs.Common.{◌≡◌, ℕ, ◌+◌, ◌<◌, ◌≤◌, List, Ok, Option, Some, None, length, refl, sym, subst, ap, ◌∙◌}
 use Rattle.std.specs.Prelude.{Bool, IsTrue, IfSome}
 use Rattle.std.specs.Ordering.{nat_cmp}
 use Rattle.std.specs.FinMap as finite
 use Rattle.std.specs.FinMap.{FinMap}
 use Rattle.std.specs.FinSet.{FinSet}
-use Rattle.base.specs.crash.Imports.{IsImportOf}
-use Rattle.base.specs.crash.Mount.{IsChainOf, IsMounted, Mounts}
+use Rattle.base.specs.crash.Mount.{IsChainDamaged, IsFound, Mounts, apply_records, records_above}
 use Rattle.base.specs.declared.names.ObjectId.{ObjectId}
 use Rattle.base.specs.declared.pointer.Pointer.{Pointer}
+use Rattle.base.specs.formats.Chain.{LogPiece}
 use Rattle.base.specs.formats.Geometry.{block_count}
 use Rattle.base.specs.formats.Limits.{max_length, object_count}
 use Rattle.base.specs.formats.Names.{IsName}
-use Rattle.base.specs.formats.Uberblocks.{Uberblock, IsActive}
+use Rattle.base.specs.formats.Uberblocks.{Uberblock}
 use Rattle.base.specs.history.Contents.{Contents}
 use Rattle.base.specs.steps.Groups.{Line}
-use Rattle.base.specs.steps.Shown.{Shown}
 use Rattle.base.specs.tree.Tree.{IsTree}
 use Rattle.base.proofs.crash.OneMount.{mounts_agree}
 use Rattle.base.proofs.tree.PlacedTrees.{holds-tree}
-use Rattle.uberblocks.proofs.Stands.{actives_agree}
 use Rattle.object_maps.specs.declared.tree.Tree.{Tree}
 use Rattle.object_maps.specs.Loading.{IsLimitedObject}
 use Rattle.object_maps.specs.Pointers.{pointers_of}
 use Rattle.object_maps.specs.Sources.{AreWithin}
 use Rattle.object_maps.specs.Surveys.{ListsObjectsOf}
 use Rattle.import_replay.specs.declared.inspection.Inspected.{Inspected}
-use Rattle.import_replay.specs.FreeBlocks.{AreUnnamed}
-use Rattle.import_replay.specs.Inspections.{AgreesWithImports, IsInspectedFrom, IsInspectionOf, IsToldBefore, IsToldOf, IsToldOfBounded, mount_of}
-use Rattle.import_replay.specs.ReadPools.{HasPoolTree, IsSurveyedFor, frame_of_size}
+use Rattle.log_replay.specs.declared.outline.Outline.{Outline}
+use Rattle.import_replay.specs.FreeBlocks.{AreUnused, chain_addresses}
+use Rattle.import_replay.specs.Inspections.{AgreesWithImports, IsInspectedFrom, IsInspectionOf, IsToldOf, IsToldOfBounded}
+use Rattle.log_replay.specs.Outlines.{IsOutlineOf, ReplaysOutline}
+use Rattle.log_replay.specs.Replays.{IsRecordRefused}
+use Rattle.import_replay.specs.ReadPools.{HoldsPool, IsSurveyedFor, frame_of_size}
+use Rattle.import_replay.proofs.ChainRecords.{counted-above}
 use Rattle.import_replay.proofs.UsedBlocks.{use_count}
 
 -- objects within the limits of a pool, whatever their bytes are
@@ -39,66 +41,103 @@ are_within objects bounded n = go (finite.get objects n) (bounded n)
     go None h = tt
     go (Some bytes) h = (h.0, h.1)
 
--- what was surveyed of an image, and what is told of it
-module _ (keeps : Bool) (image : List ℕ) (size : ℕ) (u : Uberblock) (name : List ℕ) (tree : Tree) (s : IsSurveyedFor keeps image size u name tree)
-    (lengths : List (ObjectId × ℕ)) (lists : ListsObjectsOf tree lengths) (free : FinSet nat_cmp) (i : Inspected) (told : IsInspectedFrom u name lengths (block_count size) free i) where
-  abbrev contents : Contents
-  contents = record { name = name; objects = s.objects }
+-- what was surveyed of an image
+module _ (keeps : Bool) (image : List ℕ) (size : ℕ) (u : Uberblock) (name : List ℕ) (named : IsName name) (tree : Tree) (blocks : List LogPiece) (s : IsSurveyedFor keeps image size u name tree blocks) where
+  abbrev synced : Contents
+  synced = record { name = name; objects = s.objects }
 
-  tells : IsToldOf i contents
-  tells = record { name_is = told.name_is; objects_are = told.lengths_are ∙ lists s.objects (are_within s.objects s.bounded) s.lengths }
+  abbrev outline : Outline
+  outline = record { name = name; tree = tree }
 
-  pub is_told_bounded : IsName name → IsToldOfBounded i
-  is_told_bounded named = (contents, tells, record { name = named; objects = s.bounded })
+  outlined : IsOutlineOf outline synced
+  outlined = record { name_is = refl; lengths = s.lengths; bounded = record { name = named; objects = s.bounded } }
 
-  module _ (kept : IsTrue keeps) where
-    read : HasPoolTree image size u name tree s.objects
-    read = s.read kept
-
-    mounts : IsChainOf image u [] → Mounts image u [] contents
-    mounts chain = record {
-      synced = contents;
-      found = record {
+  found : IsTrue keeps → IsFound image u synced blocks
+  found kept =
+      let read : HoldsPool image size u name tree s.objects blocks = s.read kept in
+      record {
         pool = read.pool;
         tree = subst (λ (n : ℕ). IsTree image (frame_of_size u n) u.root s.objects) (sym read.long)
             (subst (λ (p : Pointer). IsTree image (frame_of_size u size) p s.objects) read.root (holds-tree image (frame_of_size u size) (pointers_of tree) s.objects read.held));
-        chain_is = chain;
-      };
-      applied = refl;
+        chain_is = read.chain_is;
+      }
+
+  -- and where a record of its chain is refused, the chain is damaged
+  pub is_chain_damaged : IsTrue keeps → (address : ℕ) → ((c : Contents) → IsOutlineOf outline c → IsRecordRefused (records_above u.group blocks) c address) → IsChainDamaged image address
+  is_chain_damaged kept address refused =
+      let r = refused synced outlined in
+      record {
+        u = u;
+        synced = synced;
+        chain = blocks;
+        found = found kept;
+        before = r.before;
+        refused = r.refused;
+        after = r.after;
+        split = r.split;
+        reached = r.reached;
+        reaches = r.reaches;
+        error = r.error;
+        refuses = r.refuses;
+        address_is = r.address_is;
+      }
+
+  -- what is told of it, where its records were replayed
+  module _ (last : Outline) (count : ℕ) (replayed : ReplaysOutline (records_above u.group blocks) outline (Ok count) last) (lengths : List (ObjectId × ℕ)) (lists : ListsObjectsOf last.tree lengths)
+      (free : FinSet nat_cmp) (i : Inspected) (told : IsInspectedFrom u last.name lengths count (block_count size) free i) where
+    abbrev after : (c : Contents) × (apply_records (records_above u.group blocks) synced ≡ Ok c) × IsOutlineOf last c
+    after = replayed.1 synced outlined
+
+    abbrev contents : Contents
+    contents = after.0
+
+    tells : IsToldOf i contents
+    tells = record {
+      name_is = told.name_is ∙ sym after.2.name_is;
+      objects_are = told.lengths_are ∙ lists contents.objects (are_within contents.objects after.2.bounded.objects) after.2.lengths;
     }
 
-    same_count : block_count (length image) ≡ i.blocks
-    same_count = ap block_count read.long ∙ sym told.blocks_are
+    pub is_told_bounded : IsToldOfBounded i
+    is_told_bounded = (contents, tells, after.2.bounded)
 
-    mounted : AreUnnamed (pointers_of tree) (block_count size) free → IsChainOf image u [] → IsMounted image (mount_of i contents)
-    mounted were chain = record {
-      u = u;
-      chain = [];
-      mounts = mounts chain;
-      guid = sym told.guid;
-      group = sym told.group;
-      import_number = sym told.import_number;
-      blocks = same_count;
-      records = sym told.records;
-      used = use_count image size u name tree s.objects read s.placed free were i.used told.used;
-    }
+    module _ (kept : IsTrue keeps) where
+      read : HoldsPool image size u name tree s.objects blocks
+      read = s.read kept
 
-    chain_of : (v : Uberblock) → IsActive image v → IsChainOf image v [] → IsChainOf image u []
-    chain_of v active chain = subst (λ (w : Uberblock). IsChainOf image w []) (actives_agree image v u active read.pool.active) chain
+      mounts : Mounts image u blocks contents
+      mounts = record { synced = synced; found = found kept; applied = after.1 }
 
-    pub is_inspection : AreUnnamed (pointers_of tree) (block_count size) free → IsInspectionOf image i
-    is_inspection were v active chain = (contents, tells, mounted were (chain_of v active chain))
+      same_count : block_count (length image) ≡ i.blocks
+      same_count = ap block_count read.long ∙ sym told.blocks_are
 
-    told_before : IsChainOf image u [] → (now : List ℕ) (dirty_max records : ℕ) (s : Shown) → IsImportOf image now dirty_max records s → IsToldBefore i s
-    told_before chain now dirty_max records shown import =
-        let (same, chains, mounted_same) = mounts_agree image import.u u import.chain [] import.contents contents import.mounts (mounts chain) in
+      records_counted : length (records_above u.group blocks) ≡ i.records
+      records_counted = sym (counted-above image u u.group blocks read.pool.geometry read.chain_is) ∙ sym replayed.0 ∙ sym told.records_are
+
+      pub is_inspection : AreUnused (pointers_of tree) (chain_addresses blocks) (block_count size) free → IsInspectionOf image i
+      is_inspection were = (
+        contents,
+        tells,
         record {
-          contents = subst (λ (c : Contents). IsToldOf i c) (sym (import.imported.contents_are ∙ mounted_same)) tells;
-          guid = import.imported.guid ∙ ap (λ (v : Uberblock). v.guid) same ∙ sym told.guid;
-          group = ap (λ (l : Line). l.synced) import.imported.line ∙ ap (λ (v : Uberblock). v.group + 4) same ∙ ap (λ (g : ℕ). g + 4) (sym told.group);
-          import_number = import.imported.import_number ∙ ap (λ (v : Uberblock). v.import_number + 1) same ∙ ap (λ (n : ℕ). n + 1) (sym told.import_number);
-          blocks = import.imported.blocks_are ∙ same_count;
-        }
+          u = u;
+          chain = blocks;
+          mounts = mounts;
+          guid = sym told.guid;
+          group = sym told.group;
+          import_number = sym told.import_number;
+          blocks = same_count;
+          records = records_counted;
+          used = use_count image size u name tree s.objects blocks read s.placed s.sound free were i.used told.used;
+        },
+      )
 
-    pub agrees_with_imports : AgreesWithImports image i
-    agrees_with_imports v active chain = told_before (chain_of v active chain)
+      pub agrees_with_imports : AgreesWithImports image i
+      agrees_with_imports now dirty_max records shown import =
+          let (same, chains, mounted_same) = mounts_agree image import.u u import.chain blocks import.contents contents import.mounts mounts in
+          record {
+            contents = subst (λ (c : Contents). IsToldOf i c) (sym (import.imported.contents_are ∙ mounted_same)) tells;
+            guid = import.imported.guid ∙ ap (λ (v : Uberblock). v.guid) same ∙ sym told.guid;
+            group = ap (λ (l : Line). l.synced) import.imported.line ∙ ap (λ (v : Uberblock). v.group + 4) same ∙ ap (λ (g : ℕ). g + 4) (sym told.group);
+            import_number = import.imported.import_number ∙ ap (λ (v : Uberblock). v.import_number + 1) same ∙ ap (λ (n : ℕ). n + 1) (sym told.import_number);
+            blocks = import.imported.blocks_are ∙ same_count;
+            records_are = sym import.records_are ∙ ap (λ (v : Uberblock). length (records_above v.group import.chain)) same ∙ ap (λ (bs : List LogPiece). length (records_above u.group bs)) chains ∙ records_counted;
+          }

@@ -18,6 +18,8 @@ pub mod ReadViews
 pub mod ImportedLabels
 pub mod WrittenImports
 pub mod MountedPools
+pub mod NextPools
+pub mod PlannedPools
 pub mod ReadPools
 pub mod StoppedImports
 pub mod OwnImports
@@ -25,5 +27,6 @@ pub mod OwnRefusals
 pub mod Refused
 pub mod ShownMounts
 pub mod UsedBlocks
+pub mod ChainRecords
 pub mod Inspections
 pub mod Promises

@@ -34,8 +34,8 @@ empty_tree image frame = record {
   directories = inl (refl, λ n. map.get-empty {X = List ℕ} nat_cmp n);
 }
 
-empty_chain : (image : List ℕ) (guid blocks chain number : ℕ) → IsChain image guid blocks chain (record { address = 0; number = number }) []
-empty_chain image guid blocks chain number block is = let at : 0 ≡ block_address is.in_area.0 = is.in_area.2 in absurd (omega arith)
+empty_chain : (image : List ℕ) (frame : Frame) (chain number : ℕ) → IsChain image frame chain (record { address = 0; number = number }) []
+empty_chain image frame chain number block is = let at : 0 ≡ block_address is.in_area.0 = is.in_area.2 in absurd (omega arith)
 
 -- the tree under no root has no block
 no_block : (image : List ℕ) (address : ℕ) → IsInTree image no_pointer address → ⊥
@@ -151,7 +151,7 @@ module _ (image name : List ℕ) (guid moment : ℕ) (is : IsGeometry (length im
       found = record {
         pool = record { geometry = is; active = active; config_group = first_group; chosen = chosen };
         tree = empty_tree image _;
-        chain_is = empty_chain image guid (block_count (length image)) 0 0;
+        chain_is = empty_chain image _ 0 0;
       };
       applied = refl;
     };

@@ -1,16 +1,20 @@
 -- What the contracts of a create, an import and an inspection say in one concrete case each.
-use Rattle.std.proofs.Common.{◌≡◌, ◌≢◌, ◌⊎◌, inl, inr, ℕ, zero, suc, ◌+◌, ◌*◌, true, false, List, [], Result, Ok, Err, refl, sym, ◌∙◌, ap, subst, arith}
+use Rattle.std.proofs.Common.{◌≡◌, ◌≢◌, ◌⊎◌, inl, inr, ⊎_elim, ℕ, zero, suc, ◌+◌, ◌*◌, true, false, List, [], length, Result, Ok, Err, refl, sym, ◌∙◌, ap, subst, arith}
 use Rattle.std.specs.Prelude.{IfErr, IfOk, IsErr, MatchResult, OnOk, slice_index}
 use Rattle.base.specs.crash.Imports.{IsImportOf}
-use Rattle.base.specs.crash.Mount.{IsChainOf, Mounts}
+use Rattle.base.specs.crash.Mount.{IsChainDamaged, IsChainOf, Mounts, records_above}
 use Rattle.base.specs.declared.error.PoolError.{PoolError}
-use Rattle.base.specs.declared.error.PoolError.TheVariants.{BadGeometry, BadRange, Flush, NoMemory, NoPool, Write}
+use Rattle.base.specs.declared.error.PoolError.TheVariants.{BadGeometry, BadRange, Damaged, Flush, NoMemory, NoPool, Write}
 use Rattle.base.specs.disk.Disk.{Disk, bytes_of, certain, certain_with}
+use Rattle.base.specs.formats.Chain.{LogPiece}
 use Rattle.base.specs.formats.Geometry.{IsGeometry}
 use Rattle.base.specs.formats.Labels.{HasNoConfig}
 use Rattle.base.specs.formats.Uberblocks.{Uberblock, IsActive}
 use Rattle.base.specs.history.Contents.{Contents}
 use Rattle.base.specs.steps.Groups.{Line}
+use Rattle.base.specs.tree.Places.{Place, kind_of}
+use Rattle.base.specs.tree.Places.Place.{Root, Directory, Indirect, Data}
+use Rattle.base.proofs.crash.LogChains.{mounted_not_damaged}
 use Rattle.base.proofs.crash.OneMount.{mounts_agree, one-active}
 use Rattle.base.proofs.disk.Moments.{latest}
 use Rattle.device_model.specs.declared.device.SectorDevice.{Ghosts}
@@ -131,15 +135,17 @@ byte_kept size old new is writes =
     last.bytes.others 524288 (λ inside. outside_pool (subst (λ (n : ℕ). IsPoolByte n 524288) is inside))
 
 -- what an inspection reports of what is mounted
-module _ (image : List ℕ) (u : Uberblock) (contents : Contents) (mounts : Mounts image u [] contents) where
-  pub told_of : (i : Inspected) → IsInspectionOf image i → (i.name ≡ contents.name) × (i.objects.items ≡ listed contents.objects) × (i.group.0 ≡ u.group) × (i.import_number ≡ u.import_number)
+module _ (image : List ℕ) (u : Uberblock) (chain : List LogPiece) (contents : Contents) (mounts : Mounts image u chain contents) where
+  pub told_of : (i : Inspected) → IsInspectionOf image i
+      → (i.name ≡ contents.name) × (i.objects.items ≡ listed contents.objects) × (i.group.0 ≡ u.group) × (i.import_number ≡ u.import_number) × (i.records ≡ length (records_above u.group chain))
   told_of i inspected =
-      let (others, told, mounted) = inspected u mounts.found.pool.active mounts.found.chain_is in
-      let (same, chains, equal) = mounts_agree image u mounted.u [] mounted.chain contents others mounts mounted.mounts in (
+      let (others, told, mounted) = inspected in
+      let (same, chains, equal) = mounts_agree image u mounted.u chain mounted.chain contents others mounts mounted.mounts in (
         told.name_is ∙ ap (λ (c : Contents). c.name) (sym equal),
         told.objects_are ∙ ap (λ (c : Contents). listed c.objects) (sym equal),
         sym mounted.group ∙ ap (λ (v : Uberblock). v.group) (sym same),
         sym mounted.import_number ∙ ap (λ (v : Uberblock). v.import_number) (sym same),
+        sym mounted.records ∙ ap (λ (v : Uberblock). length (records_above v.group mounted.chain)) (sym same) ∙ ap (λ (bs : List LogPiece). length (records_above u.group bs)) (sym chains),
       )
 
   pub mounted_found : (e : PoolError) → IsReason image e → e ≢ NoPool
@@ -152,6 +158,20 @@ module _ (image : List ℕ) (u : Uberblock) (contents : Contents) (mounts : Moun
             let same : v ≡ u = one-active image v u other active in
             subst (λ (w : Uberblock). HasNoConfig image w.guid w.group) same none chosen.label mounts.found.pool.config_group mounts.synced.name chosen.in_range chosen.not_above chosen.stands
       ]
+
+-- a refusal with kind 6 is of a record
+tree_kind : (place : Place) → kind_of place ≡ 6 → ⊥
+tree_kind Root is = omega (arith, is)
+tree_kind (Directory d) is = omega (arith, is)
+tree_kind (Indirect n) is = omega (arith, is)
+tree_kind (Data n r) is = omega (arith, is)
+
+pub record_damaged : (image : List ℕ) (e : PoolError) → IsReason image e → (address : ℕ) → e ≡ Damaged 6 address → IsChainDamaged image address
+record_damaged image e reason address is = ⊎_elim (λ tree. absurd (tree_kind tree.damage.place tree.damage.kind_is)) (λ chain. chain.1) (reason.damaged 6 address is)
+
+-- and what is inspected has none
+pub inspected_sound : (image : List ℕ) (i : Inspected) → IsInspectionOf image i → (address : ℕ) → IsChainDamaged image address → ⊥
+inspected_sound image i (contents, told, mounted) address = mounted_not_damaged image contents address (mounted.u, mounted.chain, mounted.mounts)
 
 -- it is untouched
 pub inspection_untouched : {A Dev : Type 0} (D : Ghosts Dev) (r : Result A PoolError) (old new : Dev) → D.size old ≡ 512 → OnOk r (IsGeometry (D.size old)) → IfErr r (IsInspectionRefused D old new) → new ≡ old

@@ -1,65 +1,78 @@
--- What is read of a device without a write or a flush is of its image: an active pool and the tree under its root, or
--- the first fault of that tree. A flush before it leaves that image.
+-- What is read of a device without a write or a flush is of its image: an active pool, the tree under its root and its
+-- chain, or the first damage of that tree. A flush before it leaves that image.
 use Rattle.std.proofs.Common.{◌≡◌, ℕ, List, length, Ok, sym, subst}
-use Rattle.std.specs.Prelude.{Bool, IsTrue}
+use Rattle.std.specs.Prelude.{All, Bool, IsTrue}
 use Rattle.std.specs.Ordering.{nat_cmp}
 use Rattle.std.specs.FinMap.{FinMap}
-use Rattle.base.specs.crash.Mount.{HasPool, IsTreeDamaged}
+use Rattle.base.specs.crash.Mount.{HasPool, IsChainOf, IsTreeDamaged, header_of}
 use Rattle.base.specs.disk.Calls.{Flushes}
 use Rattle.base.specs.disk.Disk.{Disk, bytes_of}
 use Rattle.base.specs.formats.Blocks.{Frame}
+use Rattle.base.specs.formats.Chain.{IsChain, LogPiece}
 use Rattle.base.specs.formats.Uberblocks.{Uberblock}
-use Rattle.base.specs.tree.Faults.{IsFirstFault}
+use Rattle.base.specs.tree.Damages.{IsFirstDamage}
 use Rattle.base.specs.tree.PlacedTrees.{ArePlaced, HoldsTree}
 use Rattle.base.proofs.disk.Regions.{flushed_clean}
+use Rattle.intent_log.specs.Chains.{IsSoundBlock}
 use Rattle.object_maps.specs.declared.contents.Slot.{Slot}
 use Rattle.object_maps.specs.declared.tree.Tree.{Tree}
 use Rattle.object_maps.specs.Pointers.{pointers_of}
 use Rattle.object_maps.specs.Surveys.{HasObjects}
 use Rattle.import_replay.specs.ImportRefusals.{HasSoundPool}
-use Rattle.import_replay.specs.ReadPools.{HasPoolTree, IsReadPool, IsSurveyedFor, frame_of_size}
+use Rattle.import_replay.specs.ReadPools.{HoldsPool, IsReadPool, IsSurveyedFor, frame_of_size}
 use Rattle.import_replay.proofs.MountedPools.{sound_pool}
 
 module _ (image : List ℕ) (found : Disk) (size : ℕ) (frame : Frame) (u : Uberblock) (name : List ℕ) (long : length image ≡ size) (same : bytes_of found.now ≡ image)
     (pool : HasPool image u name) (framed : frame ≡ frame_of_size u size) where
-  pub is_read_pool : (tree : Tree) (objects : FinMap nat_cmp (List ℕ)) → HoldsTree (bytes_of found.now) frame (pointers_of tree) objects → tree.root ≡ u.root → HasPoolTree image size u name tree objects
-  is_read_pool tree objects held root = record {
+  pub is_read_pool : (tree : Tree) (objects : FinMap nat_cmp (List ℕ)) (chain : List LogPiece) → HoldsTree (bytes_of found.now) frame (pointers_of tree) objects → tree.root ≡ u.root → IsChainOf image u chain
+      → HoldsPool image size u name tree objects chain
+  is_read_pool tree objects chain held root chain_is = record {
     long = long;
     pool = pool;
     held = subst (λ (b : List ℕ). HoldsTree b (frame_of_size u size) (pointers_of tree) objects) same
         (subst (λ (f : Frame). HoldsTree (bytes_of found.now) f (pointers_of tree) objects) framed held);
     root = root;
+    chain_is = chain_is;
   }
 
-  pub is_read_damaged : (kind address : ℕ) → IsFirstFault (bytes_of found.now) frame u.root kind address → IsTreeDamaged image kind address
-  is_read_damaged kind address fault = record {
+  pub is_read_damaged : (kind address : ℕ) → IsFirstDamage (bytes_of found.now) frame u.root kind address → IsTreeDamaged image kind address
+  is_read_damaged kind address damage = record {
     u = u;
     name = name;
     pool = pool;
-    fault = subst (λ (n : ℕ). IsFirstFault image (frame_of_size u n) u.root kind address) (sym long)
-        (subst (λ (b : List ℕ). IsFirstFault b (frame_of_size u size) u.root kind address) same
-        (subst (λ (f : Frame). IsFirstFault (bytes_of found.now) f u.root kind address) framed fault));
+    damage = subst (λ (n : ℕ). IsFirstDamage image (frame_of_size u n) u.root kind address) (sym long)
+        (subst (λ (b : List ℕ). IsFirstDamage b (frame_of_size u size) u.root kind address) same
+        (subst (λ (f : Frame). IsFirstDamage (bytes_of found.now) f u.root kind address) framed damage));
   }
 
+-- the chain that was read in this frame is the uberblock's
+pub is_read_chain : (image : List ℕ) (size : ℕ) (frame : Frame) (u : Uberblock) (chain : List LogPiece) → length image ≡ size → frame ≡ frame_of_size u size
+    → IsChain image frame u.import_number (header_of u) chain → IsChainOf image u chain
+is_read_chain image size frame u chain long framed is =
+    subst (λ (n : ℕ). IsChain image (frame_of_size u n) u.import_number (header_of u) chain) (sym long)
+    (subst (λ (f : Frame). IsChain image f u.import_number (header_of u) chain) framed is)
+
 -- what was surveyed in a frame of this uberblock
-pub is_surveyed : (keeps : Bool) (image now : List ℕ) (size : ℕ) (frame : Frame) (u : Uberblock) (name : List ℕ) (tree : Tree) → frame ≡ frame_of_size u size → ArePlaced frame.blocks (pointers_of tree)
-    → (has : HasObjects keeps now frame tree) → (IsTrue keeps → HasPoolTree image size u name tree has.objects) → IsSurveyedFor keeps image size u name tree
-is_surveyed keeps image now size frame u name tree framed placed has read = record {
+pub is_surveyed : (keeps : Bool) (image now : List ℕ) (size : ℕ) (frame : Frame) (u : Uberblock) (name : List ℕ) (tree : Tree) (chain : List LogPiece) → frame ≡ frame_of_size u size
+    → ArePlaced frame.blocks (pointers_of tree) → All (IsSoundBlock (frame_of_size u size).blocks) chain → (has : HasObjects keeps now frame tree)
+    → (IsTrue keeps → HoldsPool image size u name tree has.objects chain) → IsSurveyedFor keeps image size u name tree chain
+is_surveyed keeps image now size frame u name tree chain framed placed sound has read = record {
   placed = subst (λ (f : Frame). ArePlaced f.blocks (pointers_of tree)) framed placed;
   objects = has.objects;
   bounded = has.bounded;
   lengths = has.lengths;
+  sound = sound;
   read = read;
 }
 
 -- such a pool is sound
-pub sound_read : (image : List ℕ) (size : ℕ) (u : Uberblock) (name : List ℕ) (tree : Tree) (slots : List Slot) → IsReadPool image size u name tree slots → HasSoundPool image u name
-sound_read image size u name tree slots read = sound_pool size u name tree slots image read.long read.held read.root read.pool
+pub sound_read : (image : List ℕ) (size : ℕ) (u : Uberblock) (name : List ℕ) (tree : Tree) (slots : List Slot) (chain : List LogPiece) → IsReadPool image size u name tree slots chain → HasSoundPool image u name
+sound_read image size u name tree slots chain read = sound_pool size u name tree slots image read.long read.held read.root read.pool
 
 -- what is read after a good flush is of the image before it
 pub flushed : (old mid : Disk) → Flushes old (Ok tt) mid → bytes_of mid.now ≡ bytes_of old.now
 flushed old mid flushes = (flushed_clean old mid flushes).1
 
-pub read_behind_flush : (old mid : Disk) (size : ℕ) (u : Uberblock) (name : List ℕ) (tree : Tree) (slots : List Slot) → Flushes old (Ok tt) mid
-    → IsReadPool (bytes_of mid.now) size u name tree slots → IsReadPool (bytes_of old.now) size u name tree slots
-read_behind_flush old mid size u name tree slots flushes read = subst (λ (b : List ℕ). IsReadPool b size u name tree slots) (flushed old mid flushes) read
+pub read_behind_flush : (old mid : Disk) (size : ℕ) (u : Uberblock) (name : List ℕ) (tree : Tree) (slots : List Slot) (chain : List LogPiece) → Flushes old (Ok tt) mid
+    → IsReadPool (bytes_of mid.now) size u name tree slots chain → IsReadPool (bytes_of old.now) size u name tree slots chain
+read_behind_flush old mid size u name tree slots chain flushes read = subst (λ (b : List ℕ). IsReadPool b size u name tree slots chain) (flushed old mid flushes) read

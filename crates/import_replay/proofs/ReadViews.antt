@@ -1,39 +1,39 @@
 -- After the first flush of an import, a disk that its pool alone wrote is at rest on one view; what the import reads is
 -- of that view, and the stage that comes first spares a config of it.
-use Rattle.std.proofs.Common.{◌≡◌, ◌⊎◌, inl, inr, ⊎_elim, ℕ, zero, suc, ◌<◌, ◌↔◌, IsTrue, List, [], ◌++◌, length, map, filter, Some, None, Ok, refl, sym, ◌∙◌, ap, subst, arith}
+use Rattle.std.proofs.Common.{◌≡◌, ◌⊎◌, inl, inr, ⊎_elim, ℕ, zero, suc, ◌<◌, ◌↔◌, IsTrue, List, [], ◌∷◌, ◌++◌, length, map, filter, Some, None, refl, sym, ◌∙◌, ap, subst, arith}
+use Rattle.std.specs.Prelude.{Contains, slice_get}
+use Rattle.std.specs.List.{flat_map}
 use Rattle.base.specs.crash.CallStages.{FixedLabels, IsAtRestAt}
 use Rattle.base.specs.crash.CrashRule.{MountsAs}
 use Rattle.base.specs.crash.LogRoom.{HasImportRoom}
-use Rattle.base.specs.crash.Mount.{IsChainOf, Mounts, apply_records, records_above}
+use Rattle.base.specs.crash.LogSteps.{IsSpareOf}
+use Rattle.base.specs.crash.Mount.{HasPool, IsChainOf, IsUsed, Mounts}
 use Rattle.base.specs.crash.Own.{AreConfigsBelowImport, IsAtRest, IsOwnWith}
-use Rattle.base.specs.crash.Views.{View, Logged, IsFoundAs, IsFixed, IsView}
+use Rattle.base.specs.crash.Views.{View, Logged, IsFoundAs, IsFixed, IsView, view_frame}
+use Rattle.base.specs.declared.pointer.Pointer.{Pointer}
 use Rattle.base.specs.disk.Disk.{Disk, IsTouched, Moment, Write, bytes_after, bytes_of, disk_size, handed, holds, settled}
 use Rattle.base.specs.disk.Fairness.{HasFairBytes, passes_check}
 use Rattle.base.specs.formats.Blocks.{IsBlock}
-use Rattle.base.specs.formats.Chain.{LogBlock}
+use Rattle.base.specs.formats.Chain.{LogPiece, addresses_of}
 use Rattle.base.specs.formats.Fields.{part}
 use Rattle.base.specs.formats.Geometry.{block_count, block_size, config_place}
 use Rattle.base.specs.formats.Labels.{IsChosen, IsConfig, IsKeptInOdd}
 use Rattle.base.specs.formats.Uberblocks.{Uberblock}
 use Rattle.base.specs.history.Contents.{Contents}
-use Rattle.base.specs.tree.Tree.{IsTree}
-use Rattle.base.specs.declared.pointer.Pointer.{Pointer}
+use Rattle.base.specs.tree.Places.{IsInTree}
+use Rattle.base.specs.tree.Places.Place.{Root}
 use Rattle.base.proofs.crash.CrashRule.{take_whole}
 use Rattle.base.proofs.crash.FoundViews.{chosen_at, rest_found}
-use Rattle.base.proofs.crash.OneMount.{mounts_agree, one-active}
+use Rattle.base.proofs.crash.OneMount.{mounts_agree, one-active, one-name}
 use Rattle.base.proofs.disk.CheckedPlaces.{fair_config, marked}
 use Rattle.base.proofs.disk.Fairness.{fair_settled}
 use Rattle.base.proofs.disk.Moments.{bytes_may_be_left}
-use Rattle.base.proofs.tree.PlacedTrees.{holds-tree}
+use Rattle.base.proofs.tree.PlacedTrees.{told-in_tree}
 use Rattle.labels.specs.declared.stage.Stage.{Stage}
 use Rattle.labels.specs.declared.stage.Stage.TheVariants.{Even, Odd}
-use Rattle.object_maps.specs.declared.contents.Slot.{Slot}
-use Rattle.object_maps.specs.declared.tree.Tree.{Tree}
-use Rattle.object_maps.specs.Pointers.{objects_of, pointers_of}
 use Rattle.import_replay.specs.Found.{HasFirstStage}
 use Rattle.import_replay.specs.ImportViews.{IsReadyBehind, SparesConfig}
 use Rattle.import_replay.specs.LabelSyncs.{is_even}
-use Rattle.import_replay.specs.ReadPools.{IsReadPool, frame_of_size}
 
 -- a moment with nothing unflushed is the one that a flush of it leaves
 settled_now : (m : Moment) → m.unflushed ≡ [] → m ≡ settled (bytes_of m) m
@@ -46,8 +46,8 @@ settled_now m none =
 -- and has room for an import.
 pub record IsRestedOwn (size created guid : ℕ) (contents : Contents) (v : View) (m : Moment) : Type 0 where
   pub guid_is : v.u.guid ≡ guid
+  -- no log block is written at this stage
   pub no_log : v.logged ≡ []
-  pub synced_are : v.synced ≡ contents
   pub mounts : MountsAs v contents
   pub room : HasImportRoom (block_count size) v
   pub none : m.unflushed ≡ []
@@ -59,14 +59,12 @@ pub rested_own : (disk : Disk) (created guid : ℕ) (contents : Contents) → di
     → (v : View) × IsRestedOwn (disk_size disk) created guid contents v disk.now
 rested_own disk created guid contents none own =
     let is = own.left.each (bytes_of disk.now) (bytes_may_be_left disk.now) own.left.bytes.fair in
-    let sure : disk.now ≡ settled (bytes_of disk.now) disk.now = settled_now disk.now none in
-    let applied : Ok is.v.synced ≡ Ok contents = ap (λ (ls : List Logged). apply_records (records_above is.v.u.group (map (λ (l : Logged). l.block) ls)) is.v.synced) (sym is.no_log) ∙ is.applied in (
+    let sure : disk.now ≡ settled (bytes_of disk.now) disk.now = settled_now disk.now none in (
       is.v,
       subst (λ (m : Moment). IsRestedOwn (disk_size disk) created guid contents is.v m) (sym sure)
           (record {
             guid_is = is.guid_is;
             no_log = is.no_log;
-            synced_are = (let same : is.v.synced ≡ contents = cc in same);
             mounts = is.applied;
             room = is.room;
             none = refl;
@@ -94,6 +92,12 @@ odd_spared at even zero label there same = let is : 1 ≡ label = cc in ⊎_elim
 odd_spared at even (suc zero) label there same = let is : 3 ≡ label = cc in ⊎_elim (λ first. omega (arith, is, same, first)) (λ third. omega (arith, is, same, third)) even
 odd_spared at even (suc (suc k)) label there same = let none : None ≡ Some label = there in cc
 
+-- the address of a log block is one of its chain's
+address_logged : (ls : List Logged) (i : ℕ) (l : Logged) (address : ℕ) → slice_get ls i ≡ Some l → l.block.address ≡ address → Contains (flat_map addresses_of (map (λ (x : Logged). x.block) ls)) address
+address_logged [] i l address at there = absurd (let none : None ≡ Some l = at in cc)
+address_logged (x ∷ ls) zero l address at there = let same : x ≡ l = cc in (0, omega arith, ap (λ (y : Logged). y.block.address) same ∙ there)
+address_logged (x ∷ ls) (suc i) l address at there = let (k, low, is) = address_logged ls i l address at there in (suc k, omega (arith, low), is)
+
 -- What is read of the bytes is of the view.
 module _ (m : Moment) (created guid : ℕ) (contents : Contents) (v : View) (own : IsRestedOwn (length (bytes_of m)) created guid contents v m) where
   abbrev image : List ℕ
@@ -108,38 +112,49 @@ module _ (m : Moment) (created guid : ℕ) (contents : Contents) (v : View) (own
   found : IsFoundAs image (length v.logged) v
   found = rest_found created m image (bytes_may_be_left m) own.bytes.fair (length v.logged) v own.rest
 
-  chain : IsChainOf image v.u []
-  chain =
-      let none : length v.logged ≡ 0 = ap (λ (ls : List Logged). length ls) own.no_log in
-      let all = take_whole found.count v.logged (omega (arith, none)) ∙ own.no_log in
-      subst (λ (bs : List LogBlock). IsChainOf image v.u bs) (ap (λ (ls : List Logged). map (λ (l : Logged). l.block) ls) all) found.found.chain_is
+  -- its whole log is found
+  abbrev logged : List LogPiece
+  logged = map (λ (l : Logged). l.block) v.logged
 
-  module _ (u : Uberblock) (name : List ℕ) (tree : Tree) (slots : List Slot) (read : IsReadPool image size u name tree slots) where
+  view_mounts : Mounts image v.u logged contents
+  view_mounts = record {
+    synced = v.synced;
+    found = record {
+      pool = found.found.pool;
+      tree = found.found.tree;
+      chain_is = subst (λ (ls : List Logged). IsChainOf image v.u (map (λ (l : Logged). l.block) ls)) (take_whole found.count v.logged found.least) found.found.chain_is;
+    };
+    applied = own.mounts;
+  }
+
+  module _ (u : Uberblock) (name : List ℕ) (pool : HasPool image u name) where
     pub found_uberblock : u ≡ v.u
-    found_uberblock = one-active image u v.u read.pool.active found.found.pool.active
-
-    abbrev read_contents : Contents
-    read_contents = record { name = name; objects = objects_of slots }
-
-    read_mounts : Mounts image u [] read_contents
-    read_mounts = record {
-      synced = read_contents;
-      found = record {
-        pool = read.pool;
-        tree = subst (λ (p : Pointer). IsTree image (frame_of_size u size) p (objects_of slots)) read.root (holds-tree image (frame_of_size u size) (pointers_of tree) (objects_of slots) read.held);
-        chain_is = subst (λ (w : Uberblock). IsChainOf image w []) (sym found_uberblock) chain;
-      };
-      applied = refl;
-    }
-
-    view_mounts : Mounts image v.u [] v.synced
-    view_mounts = record { synced = v.synced; found = record { pool = found.found.pool; tree = found.found.tree; chain_is = chain }; applied = refl }
-
-    pub found_contents : v.synced ≡ read_contents
-    found_contents = sym (mounts_agree image u v.u [] [] read_contents v.synced read_mounts view_mounts).2
+    found_uberblock = one-active image u v.u pool.active found.found.pool.active
 
     pub found_name : v.name ≡ name
-    found_name = sym view.name ∙ ap (λ (c : Contents). c.name) found_contents
+    found_name =
+        sym view.name
+        ∙ one-name image v.u.guid v.u.group found.found.pool.config_group pool.config_group v.synced.name name found.found.pool.chosen
+        (subst (λ (w : Uberblock). IsChosen image w.guid w.group pool.config_group name) found_uberblock pool.chosen)
+
+    -- if the view has no log block, the chain is empty
+    pub found_empty : IsChainOf image u []
+    found_empty =
+        subst (λ (w : Uberblock). IsChainOf image w []) (sym found_uberblock)
+        (subst (λ (ls : List Logged). IsChainOf image v.u (map (λ (l : Logged). l.block) ls)) own.no_log view_mounts.found.chain_is)
+
+  -- what the image mounts is of the view
+  pub found_mounts : (u : Uberblock) (chain : List LogPiece) (read : Contents) → Mounts image u chain read → (chain ≡ logged) × (read ≡ contents)
+  found_mounts u chain read mounts = let agree = mounts_agree image u v.u chain logged read contents mounts view_mounts in (agree.1, agree.2)
+
+  -- a block at an address that is not used of it is spare for the view
+  pub unused_spare : (u : Uberblock) (chain : List LogPiece) (address : ℕ) → u ≡ v.u → chain ≡ logged → (IsUsed image u.root chain address → ⊥) → IsSpareOf v address
+  unused_spare u chain address same whole unused = record {
+    not_in_tree = λ place in_range some there.
+        unused (inl (subst (λ (r : Pointer). IsInTree image r address) (view.root ∙ ap (λ (w : Uberblock). w.root) (sym same))
+        (subst (λ (a : ℕ). IsInTree image (v.pointers Root) a) there (told-in_tree image (view_frame size v) v.pointers v.synced.objects own.rest.laid.firm.tree.holds place in_range some))));
+    not_logged = λ i l at there. unused (inr (subst (λ (bs : List LogPiece). Contains (flat_map addresses_of bs) address) (sym whole) (address_logged v.logged i l address at there)));
+  }
 
   -- a label with the view's config has it fixed
   abbrev HasConfig : ℕ → Type 0
@@ -181,7 +196,7 @@ module _ (m : Moment) (created guid : ℕ) (contents : Contents) (v : View) (own
 
   ready_at : (first : Stage) (label : ℕ) (below : label < 4) → SparesConfig first (labels_at label below) → HasConfig label → SparedAt first
   ready_at first label below spares there =
-      (labels_at label below, spares, record { no_log = own.no_log; rest = rest_at label below there; bytes = own.bytes; configs = own.configs })
+      (labels_at label below, spares, record { rest = rest_at label below there; bytes = own.bytes; configs = own.configs })
 
   pub spared_at : (u : Uberblock) (name : List ℕ) (first : Stage) → u ≡ v.u → v.name ≡ name → HasFirstStage image u.guid u.group name (is_even first) → SparedAt first
   spared_at u name first same named stage = by_stage first stage.even

@@ -1,13 +1,14 @@
 -- What a refusal says of the image.
-use Rattle.std.proofs.Common.{◌≡◌, inl, inr, ℕ, List, Result, Ok, Err, IfErr, sym, subst}
+use Rattle.std.proofs.Common.{◌≡◌, inl, inr, ℕ, List, Result, Ok, Err, IfErr, sym, subst, ◌∙◌}
 use Rattle.std.specs.Prelude.{IsErrAnd}
 use Rattle.base.specs.declared.error.PoolError.{PoolError}
-use Rattle.base.specs.declared.error.PoolError.TheVariants.{Damaged, NoPool, NoSpace, TooMany}
-use Rattle.base.specs.crash.Mount.{HasNoPool, IsTreeDamaged}
+use Rattle.base.specs.declared.error.PoolError.TheVariants.{Damaged, NoMemory, NoPool, NoSpace, Read, TooMany}
+use Rattle.base.specs.crash.Mount.{HasNoPool, IsChainDamaged, IsTreeDamaged}
 use Rattle.base.specs.formats.Uberblocks.{Uberblock, IsActive}
+use Rattle.intent_log.specs.Chains.{IsChainRefusal}
 use Rattle.object_maps.specs.Loading.{IsLoadRefusal}
 use Rattle.import_replay.specs.Found.{LacksName, LacksUberblock}
-use Rattle.import_replay.specs.ImportRefusals.{HasLastNumbers, HasNoFreeBlock, IsFindRefusal, IsOpenRefusal, IsReadingRefusal, IsReason, IsSyncRefusal}
+use Rattle.import_replay.specs.ImportRefusals.{HasLastNumbers, HasNoFreeBlock, IsDamaged, IsFindRefusal, IsOpenRefusal, IsReadingRefusal, IsReason, IsSyncRefusal}
 
 -- an error that is passed on
 pub passed_on : {A : Type 0} (r : Result A PoolError) (x : PoolError) (P : PoolError → Type 0) → IsErrAnd r (λ e. e ≡ x) → P x → IfErr r P
@@ -34,8 +35,8 @@ reason-uberblock image e refused none = find_reason image e refused (λ is. inl 
 pub reason-name : (image : List ℕ) (u : Uberblock) (e : PoolError) → IsFindRefusal e → IsActive image u → LacksName image u.guid u.group e → IsReason image e
 reason-name image u e refused active none = find_reason image e refused (λ is. inr (u, active, none is))
 
--- or the first fault
-maybe_damaged : (image : List ℕ) (e : PoolError) → (e ≡ NoPool → ⊥) → (e ≡ TooMany → ⊥) → (e ≡ NoSpace → ⊥) → ((kind address : ℕ) → e ≡ Damaged kind address → IsTreeDamaged image kind address) → IsReason image e
+-- or the first damage
+maybe_damaged : (image : List ℕ) (e : PoolError) → (e ≡ NoPool → ⊥) → (e ≡ TooMany → ⊥) → (e ≡ NoSpace → ⊥) → ((kind address : ℕ) → e ≡ Damaged kind address → IsDamaged image kind address) → IsReason image e
 maybe_damaged image e not_pool not_many not_full damaged = record {
   no_pool = λ is. absurd (not_pool is);
   too_many = λ is. absurd (not_many is);
@@ -44,9 +45,20 @@ maybe_damaged image e not_pool not_many not_full damaged = record {
 }
 
 pub reason-load : (image : List ℕ) (e : PoolError) → IsLoadRefusal e → ((kind address : ℕ) → e ≡ Damaged kind address → IsTreeDamaged image kind address) → IsReason image e
-reason-load image e (inl is) = maybe_damaged image e (λ f. cc) (λ f. cc) (λ f. cc)
-reason-load image e (inr (inl is)) = maybe_damaged image e (λ f. cc) (λ f. cc) (λ f. cc)
-reason-load image e (inr (inr (kind, address, is))) = maybe_damaged image e (λ f. cc) (λ f. cc) (λ f. cc)
+reason-load image e (inl is) damaged = maybe_damaged image e (λ f. cc) (λ f. cc) (λ f. cc) (λ kind address same. inl (damaged kind address same))
+reason-load image e (inr (inl is)) damaged = maybe_damaged image e (λ f. cc) (λ f. cc) (λ f. cc) (λ kind address same. inl (damaged kind address same))
+reason-load image e (inr (inr (k, a, is))) damaged = maybe_damaged image e (λ f. cc) (λ f. cc) (λ f. cc) (λ kind address same. inl (damaged kind address same))
+
+-- or a record that can't take place
+pub reason-replay : (image : List ℕ) (address : ℕ) → IsChainDamaged image address → IsReason image (Damaged 6 address)
+reason-replay image address damaged =
+    maybe_damaged image (Damaged 6 address) (λ f. let no : Damaged 6 address ≡ NoPool = f in cc) (λ f. let no : Damaged 6 address ≡ TooMany = f in cc) (λ f. let no : Damaged 6 address ≡ NoSpace = f in cc)
+    (λ kind other same. inr (let k : kind ≡ 6 = cc in k, subst (λ (a : ℕ). IsChainDamaged image a) (let a : address ≡ other = cc in a) damaged))
+
+-- a chain is refused for memory or by the device
+pub reason-chain : (image : List ℕ) (e : PoolError) → IsChainRefusal e → IsReason image e
+reason-chain image e (inl is) = find_reason image e (inl is) (λ f. absurd (let no : NoMemory ≡ NoPool = sym is ∙ f in cc))
+reason-chain image e (inr is) = find_reason image e (inr (inl is)) (λ f. absurd (let no : Read ≡ NoPool = sym is ∙ f in cc))
 
 -- or that no block is free
 other_than_full : (image : List ℕ) (e : PoolError) → (e ≡ NoPool → ⊥) → (e ≡ TooMany → ⊥) → ((kind address : ℕ) → e ≡ Damaged kind address → ⊥) → (e ≡ NoSpace → HasNoFreeBlock image) → IsReason image e

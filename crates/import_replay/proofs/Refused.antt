@@ -4,54 +4,18 @@ use Rattle.base.specs.declared.error.PoolError.{PoolError}
 use Rattle.base.specs.declared.error.PoolError.TheVariants.{BadGeometry, BadRange, Damaged, Flush, NoMemory, NoPool, NoSpace, Read, TooMany, Write}
 use Rattle.base.specs.disk.Calls.{Flushes}
 use Rattle.base.specs.disk.Disk.{Disk, bytes_of}
-use Rattle.base.specs.formats.Geometry.{IsGeometry, block_count}
-use Rattle.base.specs.formats.Uberblocks.{Uberblock}
+use Rattle.base.specs.formats.Geometry.{IsGeometry}
 use Rattle.device_model.specs.declared.device.SectorDevice.{Ghosts}
-use Rattle.object_maps.specs.Pointers.{pointers_of}
-use Rattle.object_maps.specs.declared.tree.Tree.{Tree}
-use Rattle.import_replay.specs.FreeBlocks.{AreAllNamed}
-use Rattle.import_replay.specs.ImportRefusals.{CanImport, HasLastNumbers, HasNoFreeBlock, IsImportRefusal, IsInspectionRefusal, IsMountRefusal, IsOpenRefusal, IsReadingRefusal, IsReason, IsSyncRefusal, IsWalkRefusal}
-use Rattle.import_replay.specs.ImportStops.{IsImportStopped, IsOpenStopped}
-use Rattle.import_replay.specs.Refused.{IsImportRefused, IsInspectionRefused, IsMountRefused, IsOpenRefused}
+use Rattle.import_replay.specs.ImportRefusals.{CanImport, HasLastNumbers, HasNoFreeBlock, IsImportRefusal, IsInspectionRefusal, IsMountRefusal, IsReadingRefusal, IsReason, IsSyncRefusal, IsWalkRefusal}
+use Rattle.import_replay.specs.ImportStops.{IsImportStopped}
+use Rattle.import_replay.specs.Refused.{IsImportRefused, IsInspectionRefused, IsMountRefused}
 use Rattle.import_replay.proofs.OwnRefusals.{finds_own}
 use Rattle.import_replay.proofs.ReadPools.{flushed}
 use Rattle.import_replay.proofs.Reasons.{not_both, reason-many, reason-open}
 
--- the labels of an import
-module _ (keeps : Bool) (size : ℕ) (u : Uberblock) (name : List ℕ) (tree : Tree) (moment : ℕ) (even_first : Bool) (old new : Disk) (e : PoolError) where
-  abbrev Refused : Type 0
-  Refused = IsOpenRefused keeps size u name tree moment even_first old new e
-
-  -- there was no memory for the free set
-  pub open_lacks_memory : e ≡ NoMemory → new ≡ old → Refused
-  open_lacks_memory is same = record {
-    kind = inl is;
-    full = λ full. let no : NoMemory ≡ NoSpace = sym is ∙ full in cc;
-    unchanged = λ keep reading. same;
-    stopped = λ keep sync. absurd (not_both e (subst IsReadingRefusal (sym is) tt) sync);
-  }
-
-  -- no block was free for the log
-  pub open_lacks_block : e ≡ NoSpace → AreAllNamed (pointers_of tree) (block_count size) → new ≡ old → Refused
-  open_lacks_block is named same = record {
-    kind = inr (inl is);
-    full = λ full. named;
-    unchanged = λ keep reading. same;
-    stopped = λ keep sync. absurd (not_both e (subst IsReadingRefusal (sym is) tt) sync);
-  }
-
-  not_full : IsSyncRefusal e → e ≡ NoSpace → ⊥
-  not_full (inl is) full = let no : Write ≡ NoSpace = sym is ∙ full in cc
-  not_full (inr is) full = let no : Flush ≡ NoSpace = sym is ∙ full in cc
-
-  -- the device refused a write or a flush
-  pub open_stopped : IsSyncRefusal e → (IsTrue keeps → IsOpenStopped size u name tree moment even_first e old new) → Refused
-  open_stopped sync stop = record {
-    kind = inr (inr sync);
-    full = λ full. absurd (not_full sync full);
-    unchanged = λ keep reading. absurd (not_both e reading sync);
-    stopped = λ keep again. stop keep;
-  }
+not_full : (e : PoolError) → IsSyncRefusal e → e ≡ NoSpace → ⊥
+not_full e (inl is) full = let no : Write ≡ NoSpace = sym is ∙ full in cc
+not_full e (inr is) full = let no : Flush ≡ NoSpace = sym is ∙ full in cc
 
 -- an import that had begun
 module _ (keeps : Bool) (moment : ℕ) (old mid new : Disk) (e : PoolError) where
@@ -93,22 +57,25 @@ module _ (keeps : Bool) (moment : ℕ) (old mid new : Disk) (e : PoolError) wher
         unwritten (subst IsMountRefusal (sym is) tt) (subst IsReadingRefusal (sym is) tt)
         (λ keep. subst (λ (x : PoolError). IsReason (bytes_of old.now) x) (sym is) (reason-many (bytes_of old.now) (last keep))) same
 
-    of_open : (x : PoolError) → IsOpenRefusal x → IsMountRefusal x
-    of_open x (inl is) = subst IsMountRefusal (sym is) tt
-    of_open x (inr (inl is)) = subst IsMountRefusal (sym is) tt
-    of_open x (inr (inr (inl is))) = subst IsMountRefusal (sym is) tt
-    of_open x (inr (inr (inr is))) = subst IsMountRefusal (sym is) tt
+    -- there was no memory for the pool to be synced, or no block was free for the log
+    pub next_refused : (e ≡ NoMemory) ⊎ (e ≡ NoSpace) → (IsTrue keeps → e ≡ NoSpace → HasNoFreeBlock (bytes_of old.now)) → (IsTrue keeps → new ≡ mid) → IsMountRefused keeps moment old new e
+    next_refused (inl is) full same =
+        unwritten (subst IsMountRefusal (sym is) tt) (subst IsReadingRefusal (sym is) tt) (λ keep. reason-open (bytes_of old.now) e (inl is) (full keep)) same
+    next_refused (inr is) full same =
+        unwritten (subst IsMountRefusal (sym is) tt) (subst IsReadingRefusal (sym is) tt) (λ keep. reason-open (bytes_of old.now) e (inr (inl is)) (full keep)) same
 
-    -- the labels were not written
-    pub open_refused : (before : Disk) (size : ℕ) (u : Uberblock) (name : List ℕ) (tree : Tree) (even_first : Bool) → IsOpenRefused keeps size u name tree moment even_first before new e
-        → (IsTrue keeps → before ≡ mid) → (IsTrue keeps → AreAllNamed (pointers_of tree) (block_count size) → HasNoFreeBlock (bytes_of old.now))
-        → (IsTrue keeps → IsOpenStopped size u name tree moment even_first e before new → IsImportStopped old new moment e) → IsMountRefused keeps moment old new e
-    open_refused before size u name tree even_first refused same all stops = record {
-      kind = of_open e refused.kind;
-      reason = λ keep. reason-open (bytes_of old.now) e refused.kind (λ is. all keep (refused.full is));
-      unchanged = λ keep reading. refused.unchanged keep reading ∙ same keep ∙ flushes keep;
-      stopped = λ keep sync. stops keep (refused.stopped keep sync);
-    }
+  of_sync : (x : PoolError) → IsSyncRefusal x → IsMountRefusal x
+  of_sync x (inl is) = subst IsMountRefusal (sym is) tt
+  of_sync x (inr is) = subst IsMountRefusal (sym is) tt
+
+  -- a call of the sync was refused
+  pub open_refused : IsSyncRefusal e → (IsTrue keeps → IsImportStopped old new moment e) → IsMountRefused keeps moment old new e
+  open_refused sync stops = record {
+    kind = of_sync e sync;
+    reason = λ keep. reason-open (bytes_of old.now) e (inr (inr sync)) (λ full. absurd (not_full e sync full));
+    unchanged = λ keep reading. absurd (not_both e reading sync);
+    stopped = λ keep again. stops keep;
+  }
 
 -- an import and an inspection, on any device
 module _ {Dev : Type 0} (D : Ghosts Dev) where

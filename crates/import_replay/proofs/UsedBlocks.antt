@@ -1,7 +1,7 @@
 -- The blocks of an area that a set does not have: a list of them, each once, as long as the area has more blocks than
 -- the set.
 use Rattle.std.proofs.Common.{◌≡◌, ◌≢◌, ◌⊎◌, inl, inr, ℕ, zero, suc, ◌+◌, ◌-◌, ◌<◌, ◌≤◌, Bool, true, false, not, ◌&&◌, cond, List, [], ◌∷◌, length, nat_eq, refl, sym, subst, ap, ◌∙◌, arith}
-use Rattle.std.specs.Prelude.{Contains}
+use Rattle.std.specs.Prelude.{All, Contains}
 use Rattle.std.specs.List.{AllByRecursion, IsDistinct}
 use Rattle.std.specs.Ordering.{nat_cmp}
 use Rattle.std.specs.FinMap.{FinMap}
@@ -11,17 +11,19 @@ use Rattle.std.proofs.lemmas.Bool.{cases_eq, eq-eqb, ne_eqb}
 use Rattle.std.proofs.lemmas.Cmp.{nat_cmp_total}
 use Rattle.base.specs.crash.Mount.{IsUseCount, IsUsed}
 use Rattle.base.specs.declared.pointer.Pointer.{Pointer}
+use Rattle.base.specs.formats.Chain.{LogPiece}
 use Rattle.base.specs.formats.Geometry.{IsBlockAddress, block_address, block_count}
 use Rattle.base.specs.formats.Uberblocks.{Uberblock}
 use Rattle.base.specs.tree.PlacedTrees.{ArePlaced, IsPlaced}
 use Rattle.base.specs.tree.Places.{IsInTree, Place}
+use Rattle.intent_log.specs.Chains.{IsSoundBlock}
 use Rattle.object_maps.specs.declared.tree.Tree.{Tree}
 use Rattle.object_maps.specs.Pointers.{pointers_of}
 use Rattle.space.proofs.Counts.{one_there}
-use Rattle.import_replay.specs.FreeBlocks.{AreUnnamed, IsNamed}
-use Rattle.import_replay.specs.ReadPools.{HasPoolTree, frame_of_size}
+use Rattle.import_replay.specs.FreeBlocks.{AreUnused, IsNamed, IsUsedBy, chain_addresses}
+use Rattle.import_replay.specs.ReadPools.{HoldsPool, frame_of_size}
 use Rattle.import_replay.proofs.FreeBlocks.{contains-without}
-use Rattle.import_replay.proofs.MountedPools.{named-of_tree, not_zero, tree-of_named}
+use Rattle.import_replay.proofs.MountedPools.{named-of_tree, used_on_image}
 
 -- the addresses of those below the n-th that the set does not have
 abbrev used_below : ℕ → FinSet nat_cmp → List ℕ
@@ -140,40 +142,49 @@ length-used (suc n) free within = by_flag (set.contains free (block_address n)) 
         omega (arith, rest, same, fewer, some)
     by_flag false is all = let rest = all free (without is) in omega (arith, rest)
 
--- the blocks of a tree that was read are those that are not free
-module _ (image : List ℕ) (size : ℕ) (u : Uberblock) (name : List ℕ) (tree : Tree) (objects : FinMap nat_cmp (List ℕ)) (read : HasPoolTree image size u name tree objects)
-    (placed : ArePlaced (block_count size) (pointers_of tree)) (free : FinSet nat_cmp) (were : AreUnnamed (pointers_of tree) (block_count size) free) where
+-- the blocks of a chain that was read lie in the area
+sound_in_area : (blocks : ℕ) (chain : List LogPiece) → All (IsSoundBlock blocks) chain → (address : ℕ) → Contains (chain_addresses chain) address → IsBlockAddress blocks address
+sound_in_area blocks [] sound address (i, low, is) = absurd (omega (arith, low))
+sound_in_area blocks (b ∷ bs) sound address (zero, low, is) = subst (λ (a : ℕ). IsBlockAddress blocks a) is ((sound 0 b (omega arith)).in_area 0 b.address (omega arith))
+sound_in_area blocks (b ∷ bs) sound address (suc i, low, is) = sound_in_area blocks bs (λ k d h. sound (suc k) d (omega (arith, h))) address (i, omega (arith, low), is)
+
+-- the blocks of a tree and a chain that were read are those that are not free
+module _ (image : List ℕ) (size : ℕ) (u : Uberblock) (name : List ℕ) (tree : Tree) (objects : FinMap nat_cmp (List ℕ)) (chain : List LogPiece) (read : HoldsPool image size u name tree objects chain)
+    (placed : ArePlaced (block_count size) (pointers_of tree)) (sound : All (IsSoundBlock (block_count size)) chain) (free : FinSet nat_cmp)
+    (were : AreUnused (pointers_of tree) (chain_addresses chain) (block_count size) free) where
   abbrev pointers : Place → Pointer
   pointers = pointers_of tree
 
-  in_tree : (address : ℕ) → IsUsedBelow (block_count size) free address → IsInTree image u.root address
-  in_tree address (is, not_free) =
-      subst (λ (p : Pointer). IsInTree image p address) read.root
-      (tree-of_named image (frame_of_size u size) pointers objects read.held address (not_zero (block_count size) address is) (were.others address not_free is))
+  is_used : (address : ℕ) → IsUsedBelow (block_count size) free address → IsUsed image u.root chain address
+  is_used address (is, not_free) = used_on_image image size u tree objects chain read.held read.root address is (were.others address not_free is)
 
   not_none : (address : ℕ) (p : Pointer) → address ≢ 0 → p.address ≡ address → IsPlaced (block_count size) p → IsBlockAddress (block_count size) address
   not_none address p some at (inl none) = absurd (some (sym at ∙ ap (λ (q : Pointer). q.address) none))
   not_none address p some at (inr is) = subst (λ (a : ℕ). IsBlockAddress (block_count size) a) at is
 
-  is_used : (address : ℕ) → IsInTree image u.root address → Contains (used_below (block_count size) free) address
-  is_used address is =
-      let named : IsNamed pointers address = named-of_tree image (frame_of_size u size) pointers objects read.held address (subst (λ (p : Pointer). IsInTree image p address) (sym read.root) is) in
-      let (k, low, at) = not_none address (pointers named.0) is.there named.2 (placed named.0 named.1) in
-      subst (λ (a : ℕ). Contains (used_below (block_count size) free) a) (sym at)
-      (used-contained (block_count size) free k low (by_flag k (set.contains free (block_address k)) refl (λ free_too. were.unnamed address (subst (λ (a : ℕ). set.contains free a ≡ true) (sym at) free_too) named)))
-    where
-      by_flag : (k : ℕ) (b : Bool) → set.contains free (block_address k) ≡ b → (set.contains free (block_address k) ≡ true → ⊥) → set.contains free (block_address k) ≡ false
-      by_flag k true is never = absurd (never is)
-      by_flag k false is never = is
+  logged_in_area : (address : ℕ) → Contains (chain_addresses chain) address → IsBlockAddress (block_count size) address
+  logged_in_area address is = sound_in_area (block_count size) chain sound address is
 
-  pub use_count : (used : ℕ) → used ≡ block_count size - set.len free → IsUseCount image u.root [] used
+  -- a block that the set does not have, since something uses it
+  not_free : (address : ℕ) → IsBlockAddress (block_count size) address → IsUsedBy pointers (chain_addresses chain) address → Contains (used_below (block_count size) free) address
+  not_free address (k, low, at) used =
+      subst (λ (a : ℕ). Contains (used_below (block_count size) free) a) (sym at)
+      (used-contained (block_count size) free k low (by_flag (set.contains free (block_address k)) refl (λ free_too. were.unused address (subst (λ (a : ℕ). set.contains free a ≡ true) (sym at) free_too) used)))
+    where
+      by_flag : (b : Bool) → set.contains free (block_address k) ≡ b → (set.contains free (block_address k) ≡ true → ⊥) → set.contains free (block_address k) ≡ false
+      by_flag true is never = absurd (never is)
+      by_flag false is never = is
+
+  pub use_count : (used : ℕ) → used ≡ block_count size - set.len free → IsUseCount image u.root chain used
   use_count used is = record {
     addresses = used_below (block_count size) free;
     distinct = used-distinct (block_count size) free;
-    each = λ address. (λ there. inl (in_tree address (contained-used (block_count size) free address there)), λ used. one_used address used);
+    each = λ address. (λ there. is_used address (contained-used (block_count size) free address there), λ used. contained address used);
     used_is = (let all = length-used (block_count size) free were.in_area in omega (arith, all, is));
   }
     where
-      one_used : (address : ℕ) → IsUsed image u.root [] address → Contains (used_below (block_count size) free) address
-      one_used address (inl is) = is_used address is
-      one_used address (inr is) = absurd (let low = is.1 in omega (arith, low))
+      contained : (address : ℕ) → IsUsed image u.root chain address → Contains (used_below (block_count size) free) address
+      contained address (inl is) =
+          let named : IsNamed pointers address = named-of_tree image (frame_of_size u size) pointers objects read.held address (subst (λ (p : Pointer). IsInTree image p address) (sym read.root) is) in
+          not_free address (not_none address (pointers named.0) is.there named.2 (placed named.0 named.1)) (inl named)
+      contained address (inr is) = not_free address (logged_in_area address is) (inr is)

@@ -1,10 +1,11 @@
--- The free blocks of a tree, and the one that an import takes for its log.
-use Rattle.std.specs.Prelude.{ℕ, ◌≡◌, ◌≢◌, ◌<◌, ◌⊎◌, ◌==◌, ◌||◌, ◌&&◌, Bool, true, false, not, take}
-use Rattle.std.specs.List.{list_any}
+-- The free blocks of a tree and a chain, and the one that an import takes for its log.
+use Rattle.std.specs.Prelude.{ℕ, ◌≡◌, ◌≢◌, ◌<◌, ◌⊎◌, ◌==◌, ◌||◌, ◌&&◌, Bool, Contains, List, true, false, not, take}
+use Rattle.std.specs.List.{flat_map, list_any}
 use Rattle.std.specs.Ordering.{nat_cmp}
 use Rattle.std.specs.FinSet as set
 use Rattle.std.specs.FinSet.{FinSet}
 use Rattle.base.specs.declared.pointer.Pointer.{Pointer}
+use Rattle.base.specs.formats.Chain.{LogPiece, addresses_of}
 use Rattle.base.specs.formats.Geometry.{block_address, IsBlockAddress}
 use Rattle.base.specs.formats.Limits.{record_count}
 use Rattle.base.specs.tree.Places.{Place, IsPlace}
@@ -16,29 +17,46 @@ use Rattle.space.specs.FreeSets.{FreeSpace, is_free}
 abbrev pub IsNamed : (Place → Pointer) → ℕ → Type 0
 IsNamed pointers address = (place : Place) × IsPlace place × ((pointers place).address ≡ address)
 
--- the free blocks are those that no pointer of the tree names
-pub record AreUnnamed (pointers : Place → Pointer) (blocks : ℕ) (free : FinSet nat_cmp) : Type 0 where
-  pub in_area : (address : ℕ) → set.contains free address ≡ true → IsBlockAddress blocks address
-  pub unnamed : (address : ℕ) → set.contains free address ≡ true → IsNamed pointers address → ⊥
-  pub others : (address : ℕ) → set.contains free address ≡ false → IsBlockAddress blocks address → IsNamed pointers address
+-- the addresses of the blocks of a chain
+abbrev pub chain_addresses : List LogPiece → List ℕ
+chain_addresses chain = flat_map addresses_of chain
 
--- the block at this address is the lowest that no pointer of the tree names, and the free blocks are the others
-pub record HasTakenLowest (pointers : Place → Pointer) (blocks address : ℕ) (free : FinSet nat_cmp) : Type 0 where
+-- the pointer at some place has this address, or it is one of these of a chain
+abbrev pub IsUsedBy : (Place → Pointer) → List ℕ → ℕ → Type 0
+IsUsedBy pointers logged address = IsNamed pointers address ⊎ Contains logged address
+
+-- the free blocks are those that neither a pointer of the tree nor the chain has
+pub record AreUnused (pointers : Place → Pointer) (logged : List ℕ) (blocks : ℕ) (free : FinSet nat_cmp) : Type 0 where
+  pub in_area : (address : ℕ) → set.contains free address ≡ true → IsBlockAddress blocks address
+  pub unused : (address : ℕ) → set.contains free address ≡ true → IsUsedBy pointers logged address → ⊥
+  pub others : (address : ℕ) → set.contains free address ≡ false → IsBlockAddress blocks address → IsUsedBy pointers logged address
+
+-- the block at this address is the lowest that neither a pointer of the tree nor the chain has
+pub record IsLowestUnused (pointers : Place → Pointer) (logged : List ℕ) (blocks address : ℕ) : Type 0 where
   pub is_block : IsBlockAddress blocks address
-  pub is_unnamed : IsNamed pointers address → ⊥
-  pub lowest : (other : ℕ) → other < address → IsBlockAddress blocks other → IsNamed pointers other
+  pub unused : IsUsedBy pointers logged address → ⊥
+  pub lowest : (other : ℕ) → other < address → IsBlockAddress blocks other → IsUsedBy pointers logged other
+
+-- The block at this address is the lowest that neither a pointer of the tree nor the chain has. The free blocks are the
+-- others that no pointer of the tree has: the chain's are given back.
+pub record HasTakenLowest (pointers : Place → Pointer) (logged : List ℕ) (blocks address : ℕ) (free : FinSet nat_cmp) : Type 0 where
+  pub first : IsLowestUnused pointers logged blocks address
   pub in_area : (other : ℕ) → set.contains free other ≡ true → IsBlockAddress blocks other
   pub unnamed : (other : ℕ) → set.contains free other ≡ true → IsNamed pointers other → ⊥
   pub not_taken : (other : ℕ) → set.contains free other ≡ true → other ≢ address
   pub others : (other : ℕ) → set.contains free other ≡ false → IsBlockAddress blocks other → IsNamed pointers other ⊎ (other ≡ address)
 
--- each block is named
-abbrev pub AreAllNamed : (Place → Pointer) → ℕ → Type 0
-AreAllNamed pointers blocks = (address : ℕ) → IsBlockAddress blocks address → IsNamed pointers address
+-- each block is in the tree or in the chain
+abbrev pub AreAllUsed : (Place → Pointer) → List ℕ → ℕ → Type 0
+AreAllUsed pointers logged blocks = (address : ℕ) → IsBlockAddress blocks address → IsUsedBy pointers logged address
+
+-- whether this is the address of the k-th block
+abbrev pub is_block_at : ℕ → ℕ → Bool
+is_block_at k address = address == block_address k
 
 -- whether a pointer names the k-th block
 abbrev pub names_block : ℕ → Pointer → Bool
-names_block k pointer = pointer.address == block_address k
+names_block k pointer = is_block_at k pointer.address
 
 -- whether one of an object's pointers does, of which the first `record_count` are to its records
 abbrev pub map_names : ℕ → ObjectMap → Bool
@@ -47,6 +65,14 @@ map_names k map = names_block k map.indirect || list_any (names_block k) (take r
 -- whether one of a tree's pointers does
 abbrev pub tree_names : ℕ → Tree → Bool
 tree_names k tree = names_block k tree.root || (list_any (names_block k) tree.directories.items || list_any (map_names k) tree.maps.items)
+
+-- whether a log block is the k-th block
+abbrev pub logs_block : ℕ → LogPiece → Bool
+logs_block k logged = is_block_at k logged.address
+
+-- whether one of a tree's pointers or of a chain's blocks is
+abbrev pub uses_block : ℕ → Tree → List LogPiece → Bool
+uses_block k tree chain = tree_names k tree || list_any (logs_block k) chain
 
 -- of a set's blocks those of these numbers are taken, and nothing else has changed
 pub record BlocksTaken (is_taken : ℕ → Bool) (old new : FreeSpace) : Type 0 where

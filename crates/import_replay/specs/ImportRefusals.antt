@@ -6,10 +6,10 @@ use Rattle.base.specs.declared.error.PoolError.{PoolError}
 use Rattle.base.specs.declared.error.PoolError.TheVariants.{NoMemory, Read, Write, Flush, NoPool, Damaged, BadGeometry, BadRange, NoSpace, TooMany}
 use Rattle.base.specs.declared.pointer.Pointer.{Pointer}
 use Rattle.base.specs.formats.Geometry.{IsBlockAddress, IsGeometry, block_count}
-use Rattle.base.specs.tree.Places.{IsInTree}
+use Rattle.base.specs.formats.Chain.{LogPiece}
 use Rattle.base.specs.formats.Uberblocks.{Uberblock}
 use Rattle.base.specs.tree.Tree.{IsTree}
-use Rattle.base.specs.crash.Mount.{HasNoPool, HasPool, IsTreeDamaged, frame_of}
+use Rattle.base.specs.crash.Mount.{HasNoPool, HasPool, IsChainDamaged, IsChainOf, IsTreeDamaged, IsUsed, frame_of}
 use Rattle.base.specs.crash.Imports.{is_dirty_max_allowed, is_past_last}
 use Rattle.base.specs.crash.CrashRule.{IsOwnOnceFlushed}
 use Rattle.base.specs.disk.Disk.{Disk}
@@ -73,11 +73,11 @@ IsImportRefusal size dirty_max BadGeometry = IsGeometry size → ⊥
 IsImportRefusal size dirty_max BadRange = IsGeometry size × (is_dirty_max_allowed dirty_max ≡ false)
 IsImportRefusal size dirty_max e = CanImport size dirty_max × IsMountRefusal e
 
--- each block of the image's area is in the tree under this root
-abbrev pub HasAllBlocks : List ℕ → Pointer → Type 0
-HasAllBlocks image root = (address : ℕ) → IsBlockAddress (block_count (length image)) address → IsInTree image root address
+-- each block of the image's area is in the tree under this root or in this chain
+abbrev pub HasAllBlocks : List ℕ → Pointer → List LogPiece → Type 0
+HasAllBlocks image root chain = (address : ℕ) → IsBlockAddress (block_count (length image)) address → IsUsed image root chain address
 
--- the image has a pool with this active uberblock and name, and its tree has no fault
+-- the image has a pool with this active uberblock and name, and its tree has no damage
 pub record HasSoundPool (image : List ℕ) (u : Uberblock) (name : List ℕ) : Type 0 where
   pub pool : HasPool image u name
   pub objects : FinMap nat_cmp (List ℕ)
@@ -87,19 +87,30 @@ pub record HasSoundPool (image : List ℕ) (u : Uberblock) (name : List ℕ) : T
 abbrev pub HasLastNumbers : List ℕ → Type 0
 HasLastNumbers image = (u : Uberblock) × (name : List ℕ) × HasSoundPool image u name × (is_past_last u.group u.import_number ≡ true)
 
--- the tree is sound and the numbers fit, but the tree has each block
-abbrev pub HasNoFreeBlock : List ℕ → Type 0
-HasNoFreeBlock image = (u : Uberblock) × (name : List ℕ) × HasSoundPool image u name × (is_past_last u.group u.import_number ≡ false) × HasAllBlocks image u.root
+-- the tree is sound and the numbers fit, but each block is in the tree or in the chain
+pub record HasNoFreeBlock (image : List ℕ) : Type 0 where
+  pub u : Uberblock
+  pub name : List ℕ
+  pub sound : HasSoundPool image u name
+  pub chain : List LogPiece
+  pub chain_is : IsChainOf image u chain
+  pub within : is_past_last u.group u.import_number ≡ false
+  pub all : HasAllBlocks image u.root chain
+
+-- the tree of the image's pool has this first damage, or a record of its chain, of the block at this address, can't
+-- take place after those before it
+abbrev pub IsDamaged : List ℕ → ℕ → ℕ → Type 0
+IsDamaged image kind address = IsTreeDamaged image kind address ⊎ ((kind ≡ 6) × IsChainDamaged image address)
 
 -- What a refusal says of the image, in the order in which they come: that there is no pool, that this is the first
--- fault of the active tree, that the numbers would pass the last one, or that no block is free.
+-- damage of the active tree or of its chain, that the numbers would pass the last one, or that no block is free.
 pub record IsReason (image : List ℕ) (e : PoolError) : Type 0 where
   pub no_pool : e ≡ NoPool → HasNoPool image
-  pub damaged : (kind address : ℕ) → e ≡ Damaged kind address → IsTreeDamaged image kind address
+  pub damaged : (kind address : ℕ) → e ≡ Damaged kind address → IsDamaged image kind address
   pub too_many : e ≡ TooMany → HasLastNumbers image
   pub no_space : e ≡ NoSpace → HasNoFreeBlock image
 
--- the refusal says neither that there is no pool, nor that a tree has a fault, nor that no block is free
+-- the refusal says neither that there is no pool, nor that a tree or a chain has a damage, nor that no block is free
 pub record IsOfSoundPool (e : PoolError) : Type 0 where
   pub not_missing : e ≢ NoPool
   pub not_full : e ≢ NoSpace

@@ -1,13 +1,14 @@
 -- What an import writes to the device, in which order, and what it leaves in the labels.
-use Rattle.std.specs.Prelude.{ℕ, ◌≡◌, ◌+◌, Bool, []}
+use Rattle.std.specs.Prelude.{ℕ, ◌≡◌, ◌+◌, Bool, List, [], length}
 use Rattle.base.specs.disk.Disk.{Disk, bytes_of, certain}
 use Rattle.base.specs.formats.Labels.{Config}
 use Rattle.base.specs.disk.SyncOrder.{import_calls}
 use Rattle.base.specs.formats.Uberblocks.{Uberblock, IsActive}
 use Rattle.base.specs.formats.Versions.{written_version}
+use Rattle.tree_plans.specs.declared.planner.PlannedBlock.{PlannedBlock}
 use Rattle.import_replay.specs.Found.{HasFirstStage}
 use Rattle.import_replay.specs.Labelled.{HoldLabels}
-use Rattle.import_replay.specs.LabelSyncs.{after_calls}
+use Rattle.import_replay.specs.LabelSyncs.{ImportWrites, after_calls}
 use Rattle.import_replay.specs.declared.mounted.Mounted.{Mounted}
 
 -- the config that an import writes
@@ -27,20 +28,26 @@ uberblock_of_import moment m = record {
   log_number = 0;
 }
 
+-- all that it writes, with these blocks
+abbrev pub writes_of_import : ℕ → List PlannedBlock → Mounted → ImportWrites
+writes_of_import moment blocks m = record { size = m.geometry; config = config_of_import m; u = uberblock_of_import moment m; blocks = blocks }
+
 -- The disk after an import is what its calls make of the disk before, each answered Ok: a flush, and then just those of
--- a sync without blocks. What was mounted, and is written, is of the active uberblock, four groups and an import later,
--- with the root and the chosen name as they are. The even labels come first exactly if an odd one has the chosen
--- config.
+-- a sync of these blocks. What was mounted, and is written, is of the active uberblock, with the chosen name, four
+-- groups and an import later. The even labels come first exactly if an odd one has the chosen config.
 pub record IsImportSynced (old new : Disk) (moment : ℕ) (m : Mounted) : Type 0 where
   pub u : Uberblock
   pub active : IsActive (bytes_of old.now) u
   pub guid : m.guid ≡ u.guid
   pub group : m.group.0 ≡ u.group + 4
   pub import_number : m.import_number ≡ u.import_number + 1
-  pub root : m.tree.root ≡ u.root
   pub even_first : Bool
   pub first : HasFirstStage (bytes_of old.now) u.guid u.group m.contents.name even_first
-  pub synced : new ≡ after_calls m.geometry (config_of_import m) (uberblock_of_import moment m) (import_calls 0 even_first) (certain (bytes_of old.now) old)
+  pub blocks : List PlannedBlock
+  -- nothing is replayed at this stage: no block is written, and the root is that of before
+  pub none : blocks ≡ []
+  pub root : m.tree.root ≡ u.root
+  pub synced : new ≡ after_calls (writes_of_import moment blocks m) (import_calls (length blocks) even_first) (certain (bytes_of old.now) old)
 
 -- the labels hold what was mounted
 abbrev pub IsImportLabelled : Disk → ℕ → Mounted → Type 0

@@ -1,79 +1,102 @@
 -- The views of an import, for crashes: the one that its disk is at rest on, and the one that it writes.
-use Rattle.std.specs.Prelude.{ℕ, ◌≡◌, ◌≢◌, ◌≤◌, ◌+◌, List, [], Some, length, slice_get}
+use Rattle.std.specs.Prelude.{ℕ, ◌≡◌, ◌≢◌, ◌≤◌, ◌+◌, All, List, [], Some, length, slice_get}
 use Rattle.base.specs.crash.CallStages.{FixedLabels, IsAtRestAt}
 use Rattle.base.specs.crash.CrashRule.{IsImportMoment}
+use Rattle.base.specs.crash.LogSteps.{IsSpareOf}
 use Rattle.base.specs.crash.Own.{AreConfigsBelowImport, IsAtRest}
-use Rattle.base.specs.crash.Views.{View}
-use Rattle.base.specs.disk.Disk.{Disk, EachMoment, Moment, handed, moments}
+use Rattle.base.specs.crash.Views.{View, view_frame}
+use Rattle.base.specs.declared.pointer.Pointer.{Pointer}
+use Rattle.base.specs.disk.Disk.{Disk, EachMoment, Moment, bytes_of, handed, moments}
 use Rattle.base.specs.disk.Fairness.{HasFairBytes}
+use Rattle.base.specs.formats.Fields.{number_at}
+use Rattle.base.specs.formats.Geometry.{block_address}
 use Rattle.base.specs.formats.Labels.{Config}
 use Rattle.base.specs.formats.Uberblocks.{Uberblock}
+use Rattle.base.specs.formats.Blocks.{Frame}
+use Rattle.base.specs.history.Contents.{Contents}
+use Rattle.base.specs.tree.PlacedTrees.{HoldsTree}
+use Rattle.base.specs.tree.Places.{Place}
+use Rattle.base.specs.tree.Places.Place.{Root}
 use Rattle.labels.specs.Configs.{config_block}
 use Rattle.labels.specs.Stages.{labels_of}
 use Rattle.labels.specs.declared.stage.Stage.{Stage}
+use Rattle.sync.specs.Made.{BlocksWritten}
+use Rattle.tree_plans.specs.declared.planner.PlannedBlock.{PlannedBlock}
 use Rattle.uberblocks.specs.Slots.{slot_bytes}
+use Rattle.import_replay.specs.LabelSyncs.{ImportWrites}
 
--- the view that an import writes after another: this config and this uberblock, the same tree, and a log that begins
--- anew
-abbrev pub view_behind : Config → Uberblock → View → View
-view_behind config u v = record v { u = u; slot = slot_bytes u; config_group = config.group; name = config.name; config = config_block config; logged = [] }
+-- the tree of a view: its pointers, and the contents that it has
+pub record ViewTree : Type 0 where
+  pub pointers : Place → Pointer
+  pub contents : Contents
+
+-- the view that an import writes: this config, this uberblock and this tree, and a log that begins anew
+abbrev pub view_behind : Config → Uberblock → ViewTree → View
+view_behind config u tree = record {
+  u = u;
+  slot = slot_bytes u;
+  config_group = config.group;
+  name = config.name;
+  config = config_block config;
+  pointers = tree.pointers;
+  synced = tree.contents;
+  logged = [];
+}
+
+-- and of what it writes
+abbrev pub view_of : ImportWrites → ViewTree → View
+view_of w tree = view_behind w.config w.u tree
 
 -- no label of this stage has the config that is needed of a view
 abbrev pub SparesConfig : Stage → FixedLabels → Type 0
 SparesConfig first at = (k label : ℕ) → slice_get (labels_of first) k ≡ Some label → label ≢ at.config
 
--- This config and this uberblock are those that an import writes after the view: four groups and an import later, of
--- its pool, with its name and its root.
-pub record ComesBehind (size : ℕ) (config : Config) (u : Uberblock) (v : View) : Type 0 where
-  pub guid : u.guid ≡ v.u.guid
-  pub group : u.group ≡ v.u.group + 4
-  pub import_number : u.import_number ≡ v.u.import_number + 1
-  pub root : u.root ≡ v.u.root
-  pub config_is : config ≡ record { guid = v.u.guid; group = v.u.group + 4; size = size; name = v.name }
+-- What is written comes after the view: four groups and an import later, of its pool, with its name. The uberblock has
+-- the root of this tree.
+pub record ComesBehind (w : ImportWrites) (tree : ViewTree) (v : View) : Type 0 where
+  pub guid : w.u.guid ≡ v.u.guid
+  pub group : w.u.group ≡ v.u.group + 4
+  pub import_number : w.u.import_number ≡ v.u.import_number + 1
+  pub root : tree.pointers Root ≡ w.u.root
+  pub name : tree.contents.name ≡ v.name
+  pub config_is : w.config ≡ record { guid = v.u.guid; group = v.u.group + 4; size = w.size; name = v.name }
+
+-- a block of a tree, at an address that the view has neither in its tree nor in its log
+pub record IsSpareFor (v : View) (b : PlannedBlock) : Type 0 where
+  pub not_config : number_at b.block 0 ≢ 1
+  pub not_log : number_at b.block 0 ≢ 6
+  pub spare : IsSpareOf v (block_address b.index)
+
+-- if just these blocks of the area are written over these bytes, the tree stands
+abbrev pub IsTreeMade : (base : List ℕ) (size : ℕ) → List PlannedBlock → Frame → ViewTree → Type 0
+IsTreeMade base size blocks frame tree =
+    (image : List ℕ) → length image ≡ length base → BlocksWritten base size blocks (length blocks) image → HoldsTree image frame tree.pointers tree.contents.objects
 
 -- An import may write after the view: the disk is at rest on it, with what these labels have, and all else is as an
 -- import leaves it.
 pub record IsReadyBehind (size created : ℕ) (at : FixedLabels) (v : View) (m : Moment) : Type 0 where
-  pub no_log : v.logged ≡ []
   pub rest : IsAtRestAt size created (length v.logged) at v m
   pub bytes : HasFairBytes size created m
   pub configs : AreConfigsBelowImport size created (handed m) v
 
--- whenever the pool was created, and for each view after which this config and this uberblock may be written, this
--- stage first
-abbrev pub ForEachView : (size : ℕ) → Config → Uberblock → Stage → Disk → (ℕ → FixedLabels → View → Type 0) → Type 0
-ForEachView size config u first start P = (created : ℕ) (at : FixedLabels) (v : View) → created ≤ moments start → IsReadyBehind size created at v start.now
-    → ComesBehind size config u v → SparesConfig first at → P created at v
+-- This may be written after the view, this stage first: it comes after the view and spares it, and it makes the tree.
+pub record MayBeWritten (w : ImportWrites) (first : Stage) (created : ℕ) (at : FixedLabels) (v : View) (tree : ViewTree) (start : Disk) : Type 0 where
+  pub began : created ≤ moments start
+  pub ready : IsReadyBehind w.size created at v start.now
+  pub behind : ComesBehind w tree v
+  pub spares : SparesConfig first at
+  pub apart : All (IsSpareFor v) w.blocks
+  pub made : IsTreeMade (bytes_of start.now) w.size w.blocks (view_frame w.size (view_of w tree)) tree
+
+-- whenever the pool was created, and for each view after which this may be written, with each tree that it makes
+abbrev pub ForEachView : ImportWrites → Stage → Disk → (ℕ → FixedLabels → View → ViewTree → Type 0) → Type 0
+ForEachView w first start P = (created : ℕ) (at : FixedLabels) (v : View) (tree : ViewTree) → MayBeWritten w first created at v tree start → P created at v tree
 
 -- each moment from the one disk to the other is one of an import, from the view that it began on to the one that it
 -- writes
-abbrev pub KeepsViews : (size : ℕ) → Config → Uberblock → Stage → Disk → Disk → Type 0
-KeepsViews size config u first start now = ForEachView size config u first start (λ created at v. EachMoment (IsImportMoment size created v (view_behind config u v)) start now)
+abbrev pub KeepsViews : ImportWrites → Stage → Disk → Disk → Type 0
+KeepsViews w first start now = ForEachView w first start (λ created at v tree. EachMoment (IsImportMoment w.size created v (view_of w tree)) start now)
 
 -- and at last the disk is at rest on that one
-abbrev pub EndsBehind : (size : ℕ) → Config → Uberblock → Stage → Disk → Disk → Type 0
-EndsBehind size config u first start now = ForEachView size config u first start (λ created at v. IsAtRest size created 0 now.now (view_behind config u v))
-
--- a view of the same pool, four groups later, with the same tree, the same contents and no log block
-pub record IsViewAfter (v later : View) : Type 0 where
-  pub guid : later.u.guid ≡ v.u.guid
-  pub group : later.u.group ≡ v.u.group + 4
-  pub pointers : later.pointers ≡ v.pointers
-  pub synced : later.synced ≡ v.synced
-  pub no_log : later.logged ≡ []
-
--- whenever the pool was created, and for each view after which an import may write and of which this uberblock and this
--- name were found
-abbrev pub ForEachFound : (size : ℕ) → Uberblock → List ℕ → Stage → Disk → (ℕ → View → Type 0) → Type 0
-ForEachFound size u name first start P = (created : ℕ) (at : FixedLabels) (v : View) → created ≤ moments start → IsReadyBehind size created at v start.now
-    → v.u ≡ u → v.name ≡ name → SparesConfig first at → P created v
-
--- each moment from the one disk to the other is one of an import from that view
-abbrev pub KeepsFound : (size : ℕ) → Uberblock → List ℕ → Stage → Disk → Disk → Type 0
-KeepsFound size u name first start now =
-    ForEachFound size u name first start (λ created v. (later : View) × IsViewAfter v later × EachMoment (IsImportMoment size created v later) start now)
-
--- and at last the disk is at rest on the view that was written
-abbrev pub EndsFound : (size : ℕ) → Uberblock → List ℕ → Stage → Config → Uberblock → Disk → Disk → Type 0
-EndsFound size u name first config next start now =
-    ForEachFound size u name first start (λ created v. IsAtRest size created 0 now.now (view_behind config next v))
+abbrev pub EndsBehind : ImportWrites → Stage → Disk → Disk → Type 0
+EndsBehind w first start now = ForEachView w first start (λ created at v tree. IsAtRest w.size created 0 now.now (view_of w tree))

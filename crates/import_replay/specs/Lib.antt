@@ -12,6 +12,7 @@ pub mod ImportRefusals
 pub mod Devices
 pub mod LabelSyncs
 pub mod ImportViews
+pub mod NextPools
 pub mod ImportSyncs
 pub mod ImportStops
 pub mod Refused

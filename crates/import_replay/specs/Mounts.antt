@@ -9,18 +9,16 @@ use Rattle.base.specs.steps.ExactNow.{IsExplainedNow}
 use Rattle.base.specs.crash.Imports.{IsImportOf, is_past_last}
 use Rattle.base.specs.crash.Mount.{IsChainOf}
 use Rattle.base.specs.history.Past.{new_past}
-use Rattle.base.specs.tree.PlacedTrees.{ArePlaced, HoldsTree}
+use Rattle.base.specs.tree.PlacedTrees.{HoldsTree}
 use Rattle.base.specs.tree.Places.{IsInTree}
 use Rattle.base.specs.steps.Shown.{Shown}
 use Rattle.base.specs.stored.Stored.{SameBlocks}
 use Rattle.base.specs.formats.Uberblocks.{Uberblock, IsActive}
-use Rattle.object_maps.specs.declared.contents.Slot.{Slot}
-use Rattle.object_maps.specs.declared.tree.Tree.{Tree}
 use Rattle.object_maps.specs.ContentsShown.{contents_of}
 use Rattle.object_maps.specs.Lengths.{lengths_of}
 use Rattle.object_maps.specs.Pointers.{pointers_of}
-use Rattle.import_replay.specs.FreeBlocks.{HasTakenLowest}
 use Rattle.import_replay.specs.ImportRefusals.{CanImport}
+use Rattle.import_replay.specs.NextPools.{PoolParts}
 use Rattle.import_replay.specs.declared.mounted.Mounted.{Mounted}
 
 -- the pool as it is shown when the import is done: the synced group is the import's, the next one is open, and nothing
@@ -42,7 +40,7 @@ shown_of_import m = record {
   dirty = finite.empty;
   reserved = finite.empty;
   free = m.free.free;
-  log = record { pending = []; kept = []; next = record { address = m.log_address; number = 0 } };
+  log = record { unsynced = []; pending = []; kept = []; next = record { address = m.log_address; number = 0 } };
   root = m.tree.root;
   synced_contents = contents_of m.contents;
   lengths = lengths_of m.tree;
@@ -53,25 +51,19 @@ shown_of_import m = record {
 abbrev pub frame_of_import : Mounted → Frame
 frame_of_import m = record { version = written_version; guid = m.guid; blocks = block_count m.geometry; group = m.group.0 }
 
--- An import may open this tree for this active uberblock, on a device of so many bytes: the numbers fit, the tree's
--- blocks lie in the area, and its root is the uberblock's.
-pub record CanOpen (size : ℕ) (u : Uberblock) (tree : Tree) : Type 0 where
-  pub within : is_past_last u.group u.import_number ≡ false
-  pub placed : ArePlaced (block_count size) (pointers_of tree)
-  pub root : tree.root ≡ u.root
+-- the parts of what was mounted
+abbrev pub parts_mounted : Mounted → PoolParts
+parts_mounted m = record { tree = m.tree; contents = m.contents; free = m.free.free; log_address = m.log_address }
 
--- what was mounted on a device of so many bytes is of this active uberblock and name, with these slots and this tree
-pub record IsMountedFrom (size : ℕ) (u : Uberblock) (name : List ℕ) (slots : List Slot) (tree : Tree) (dirty_max : ℕ) (m : Mounted) : Type 0 where
+-- what was mounted on a device of so many bytes has these parts, of this active uberblock
+pub record IsMountedFrom (size : ℕ) (u : Uberblock) (p : PoolParts) (dirty_max : ℕ) (m : Mounted) : Type 0 where
   pub geometry : m.geometry ≡ size
   pub guid : m.guid ≡ u.guid
   pub group : m.group.0 ≡ u.group + 4
   pub import_number : m.import_number ≡ u.import_number + 1
   pub within : is_past_last u.group u.import_number ≡ false
-  pub name_is : m.contents.name ≡ name
-  pub slots_are : m.contents.slots.items ≡ slots
-  pub tree_is : m.tree ≡ tree
+  pub parts : parts_mounted m ≡ p
   pub limit : m.dirty_max ≡ dirty_max
-  pub log : HasTakenLowest (pointers_of m.tree) (block_count m.geometry) m.log_address m.free.free
 
 -- What an import gives stands on a device with these bytes: the device holds its tree, its log block is a block of the
 -- area that the tree does not have, and the free blocks are all others.

@@ -1,12 +1,13 @@
 //! What callers rest on: one function for each promise of this crate's calls, proved from the contract of the call
 //! alone. So it is refused as soon as that contract says less.
 
-ghost use Rattle.std.specs.Prelude.{◌≡◌, ◌≢◌, ◌∷◌, [], ℕ, IfErr, IfOk, IsErr, IsTrue, MatchResult, slice_index, true};
+ghost use Rattle.std.specs.Prelude.{◌≡◌, ◌≢◌, ◌∷◌, [], ℕ, IfErr, IfOk, IsErr, IsTrue, List, MatchResult, length, slice_index, true};
 ghost use Rattle.std.specs.FinSet as set;
 ghost use Rattle.base.specs.disk.Disk.{bytes_of};
 ghost use Rattle.base.specs.formats.Uberblocks as image;
 ghost use Rattle.base.specs.formats.Uberblocks.{IsActive};
-ghost use Rattle.base.specs.crash.Mount.{Mounts};
+ghost use Rattle.base.specs.crash.Mount.{IsChainDamaged, Mounts, records_above};
+ghost use Rattle.base.specs.formats.Chain.{LogPiece};
 ghost use Rattle.base.specs.history.Contents.{Contents};
 ghost use Rattle.base.specs.tree.Places.{IsInTree};
 ghost use Rattle.object_maps.specs.Surveys.{listed};
@@ -127,18 +128,36 @@ fn a_pool_has_a_name<D: SectorDevice>(device: D) -> Result<D, (PoolError, D)>
     create(device, b"", 77, 0)
 }
 
-// If an image mounts contents without a log, an inspection finds the pool and reports their name and objects.
+// If an image mounts contents, an inspection finds the pool, and reports their name and objects, and how many records
+// of its chain are of groups above the active one.
 fn an_inspection_reports_what_is_mounted<D: SectorDevice>(
     alloc: Global,
     device: &mut D,
 ) -> Result<Inspected, PoolError>
     ensures reported { IsTrue D.keeps_model → IfOk result (λ i. (u : image.Uberblock)
-        → (contents : Contents) → Mounts (bytes_of (D.disk device.old).now) u [] contents
+        → (chain : List LogPiece) → (contents : Contents)
+        → Mounts (bytes_of (D.disk device.old).now) u chain contents
         → (i.name ≡ contents.name) × (i.objects.items ≡ listed contents.objects)
-        × (i.group.0 ≡ u.group) × (i.import_number ≡ u.import_number)) }
+        × (i.group.0 ≡ u.group) × (i.import_number ≡ u.import_number)
+        × (i.records ≡ length (records_above u.group chain))) }
     ensures found { IsTrue D.keeps_model → IfErr result (λ e. (u : image.Uberblock)
-        → (contents : Contents) → Mounts (bytes_of (D.disk device.old).now) u [] contents
-        → e ≢ PoolError.NoPool) }
+        → (chain : List LogPiece) → (contents : Contents)
+        → Mounts (bytes_of (D.disk device.old).now) u chain contents → e ≢ PoolError.NoPool) }
+{
+    inspect(alloc, device)
+}
+
+// If a record of the chain can't take place, an inspection is refused. If it is refused with kind 6, it names the block
+// of such a record.
+fn a_record_that_cannot_take_place_is_refused<D: SectorDevice>(
+    alloc: Global,
+    device: &mut D,
+) -> Result<Inspected, PoolError>
+    ensures sound { IsTrue D.keeps_model → IfOk result (λ _. (address : ℕ)
+        → IsChainDamaged (bytes_of (D.disk device.old).now) address → ⊥) }
+    ensures damaged { IsTrue D.keeps_model → IfErr result (λ e. (address : ℕ)
+        → e ≡ PoolError.Damaged 6 address
+        → IsChainDamaged (bytes_of (D.disk device.old).now) address) }
 {
     inspect(alloc, device)
 }

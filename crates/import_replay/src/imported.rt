@@ -32,7 +32,7 @@ impl<D: SectorDevice> Imported<D> {
         self.mounted.group
     }
 
-    /// Returns how many log records were replayed. No log is read yet, so none was.
+    /// Returns how many log records were replayed. No log is replayed yet, so none was.
     pub fn records(&self) -> u64
         ensures { result ≡ 0 }
     {

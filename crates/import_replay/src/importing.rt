@@ -8,9 +8,10 @@
 //!    read.
 //! 3. It reads the labels: the active uberblock, and the config that is chosen for it, which has the pool's name.
 //! 4. It reads the tree, each block checked against its pointer. The first block that fails is reported as `Damaged`.
-//! 5. It refuses u + 5 or i + 1 above 2^60. The lowest block that the tree doesn't name becomes the first log block. No
-//!    memory is taken after that.
-//! 6. It syncs group u + 4 with import number i + 1, the same root and the new config, and no block (`sync_labels`).
+//!    Then it reads the log chain, which it doesn't replay yet.
+//! 5. It refuses u + 5 or i + 1 above 2^60. The lowest block that neither the tree nor the chain has becomes the first
+//!    log block. No memory is taken after that.
+//! 6. It syncs group u + 4 with import number i + 1, the same root and the new config, and no block (`sync_group`).
 //!    The run before may have written for the groups u + 1 to u + 3; the jump keeps the new group apart from them.
 //! 7. If label 1 or 3 holds the chosen config, labels 0 and 2 are written first, else labels 1 and 3. So a stage that
 //!    holds the chosen config is written last, when the new uberblock is settled (rules 2, 8 and 10 of
@@ -20,30 +21,32 @@
 //! the same tree and name, so the next import mounts the same contents. If the device refuses a call, the calls
 //! before it are made, and the import can be made again.
 
-ghost use Rattle.std.specs.Prelude.{◌≡◌, ◌+◌, ℕ, IfErr, IfOk, IsTrue, MatchResult};
+ghost use Rattle.std.specs.Prelude.{◌≡◌, ℕ, false, IfErr, IfOk, IsTrue, MatchResult, OnOk};
 ghost use Rattle.base.specs.crash.CrashRule.{KeepsOwn};
 ghost use Rattle.base.specs.crash.Imports as numbers;
 ghost use Rattle.base.specs.disk.Calls.{with_refusal};
 ghost use Rattle.base.specs.disk.Disk.{bytes_of};
 ghost use Rattle.uberblocks.specs.Slots.{IsWithinLimits, fields_of};
 ghost use Rattle.import_replay.specs.Devices.{CanImportOn, IsSizedFor, KeepsDevice};
-ghost use Rattle.import_replay.specs.ImportSyncs.{IsImportWritten, config_of_import, uberblock_of_import};
-ghost use Rattle.import_replay.specs.ImportViews.{EndsFound, KeepsFound};
-ghost use Rattle.import_replay.specs.LabelSyncs.{AreLabelsSynced, is_even};
-ghost use Rattle.import_replay.specs.Mounts.{CanOpen, IsImport, IsMountedAnew, IsMountedFrom};
+ghost use Rattle.import_replay.specs.ImportStops.{writes_of_next};
+ghost use Rattle.import_replay.specs.ImportSyncs.{IsImportWritten};
+ghost use Rattle.import_replay.specs.ImportViews.{EndsBehind, KeepsViews};
+ghost use Rattle.import_replay.specs.LabelSyncs.{IsGroupSynced, is_even};
+ghost use Rattle.import_replay.specs.Mounts.{IsImport, IsMountedAnew, IsMountedFrom};
+ghost use Rattle.import_replay.specs.NextPools.{IsReadyFor, parts_of};
 ghost use Rattle.import_replay.specs.Refused.{IsImportRefused, IsMountRefused, IsOpenRefused};
 ghost use Rattle.import_replay.specs.RunStarts.{StartsRun};
 
 use crate::finding::{Found, copy_name};
-use crate::free_blocks::free_set;
 use crate::imported::Imported;
-use crate::label_sync::sync_labels;
+use crate::label_sync::sync_group;
 use crate::mounted::Mounted;
+use crate::next_pool::{NextPool, keep_loaded};
 use crate::reading::read_pool;
 use base::{GREATEST_DIRTY_MAX, Group, LAST_NUMBER, LEAST_DIRTY_MAX, PoolError, WRITTEN_VERSION};
 use device_model::SectorDevice;
+use intent_log::LoggedBlock;
 use labels::{Geometry, LabelConfig};
-use object_maps::{Contents, Loaded};
 use std::alloc::Global;
 use uberblocks::Uberblock;
 
@@ -60,8 +63,8 @@ use uberblocks::Uberblock;
 /// # Errors
 /// In this order:
 /// - `BadGeometry`, and `BadRange` if the limit is not 4,096 to 2^40 bytes. The device is as it was.
-/// - `NoPool`; `Damaged` with the first fault of the tree; `TooMany` if u + 5 or i + 1 would pass 2^60; `NoSpace` if no
-///   block is free for the log. `NoMemory` and `Read` when they happen. The device is flushed and else as it was.
+/// - `NoPool`; `Damaged` with the first damage of the tree; `TooMany` if u + 5 or i + 1 would pass 2^60; `NoSpace` if
+///   no block is free for the log. `NoMemory` and `Read` when they happen. The device is flushed and else as it was.
 /// - `Write` and `Flush`, if the device refused such a call. The calls before it are made.
 pub fn import<D: SectorDevice>(
     alloc: Global,
@@ -149,11 +152,12 @@ fn mount_pool<D: SectorDevice>(
         → IfOk result (StartsRun (D.disk device.old) dirty_max (D.disk device.new)) }
 {
     device.flush()?;
-    let (found, loaded) = read_pool(alloc, device, geometry)?;
+    let (found, loaded, logged) = read_pool(alloc, device, geometry)?;
     if is_past_last(&found.uberblock) {
         return Err(PoolError::TooMany);
     }
-    open_pool(alloc, device, geometry, found, loaded, dirty_max, moment)
+    let next = keep_loaded(alloc, geometry, &found.name, loaded, logged.as_slice())?;
+    open_pool(alloc, device, geometry, &found, next, dirty_max, moment)
 }
 
 // Returns whether an import would pass the last number.
@@ -164,62 +168,69 @@ fn is_past_last(uberblock: &Uberblock) -> bool
     uberblock.group.0 + 5 > LAST_NUMBER || uberblock.import_number + 1 > LAST_NUMBER
 }
 
-// Makes a loaded tree the run's own: takes a block for the log, and writes the labels.
+// Syncs the pool, so that it is the run's own, and mounts it. No memory is taken.
 fn open_pool<D: SectorDevice>(
     alloc: Global,
     device: &mut D,
     geometry: Geometry,
-    found: Found,
-    loaded: Loaded,
+    found: &Found,
+    next: NextPool,
     dirty_max: u64,
     moment: u64,
 ) -> Result<Mounted, PoolError>
     requires sized { IsSizedFor D.SectorDevice geometry device.old }
-    requires can { CanOpen geometry (fields_of found.uberblock) loaded.tree }
+    requires within { numbers.is_past_last found.now.uberblock.group.0
+        found.now.uberblock.import_number ≡ false }
+    requires next { IsReadyFor geometry next }
     ensures device { KeepsDevice D.SectorDevice result device.old device.new }
-    ensures mounted { IfOk result (IsMountedFrom geometry (fields_of found.uberblock) found.name
-        loaded.slots.items loaded.tree dirty_max) }
-    ensures refused { IfErr result (IsOpenRefused D.keeps_model geometry
-        (fields_of found.uberblock) found.name loaded.tree moment (is_even found.first)
-        (D.disk device.old) (D.disk device.new)) }
-    ensures written { IsTrue D.keeps_model → IfOk result (λ m. AreLabelsSynced geometry
-        (config_of_import m) (uberblock_of_import moment m) (is_even found.first)
-        (D.disk device.old) (D.disk device.new)) }
-    ensures views { IsTrue D.keeps_model
-        → KeepsFound geometry (fields_of found.uberblock) found.name found.first
+    ensures mounted { IfOk result
+        (IsMountedFrom geometry (fields_of found.now.uberblock) (parts_of next) dirty_max) }
+    ensures refused { IfErr result (IsOpenRefused D.keeps_model
+        (writes_of_next geometry (fields_of found.now.uberblock) moment next)
+        (is_even found.now.first) (D.disk device.old) (D.disk device.new)) }
+    ensures written { IsTrue D.keeps_model → OnOk result (IsGroupSynced
+        (writes_of_next geometry (fields_of found.now.uberblock) moment next)
+        (is_even found.now.first) (D.disk device.old) (D.disk device.new)) }
+    ensures views { IsTrue D.keeps_model → KeepsViews
+        (writes_of_next geometry (fields_of found.now.uberblock) moment next) found.now.first
         (D.disk device.old) (D.disk device.new) }
-    ensures behind { IsTrue D.keeps_model
-        → IfOk result (λ m. EndsFound geometry (fields_of found.uberblock) found.name found.first
-        (config_of_import m) (uberblock_of_import moment m)
+    ensures behind { IsTrue D.keeps_model → OnOk result (EndsBehind
+        (writes_of_next geometry (fields_of found.now.uberblock) moment next) found.now.first
         (D.disk device.old) (D.disk device.new)) }
 {
-    let mut free = free_set(alloc, geometry, &loaded.tree)?;
-    let log_block = free.take_lowest()?;
-    let next = Uberblock {
+    let uberblock = Uberblock {
         version: WRITTEN_VERSION,
         group: Group(found.uberblock.group.0 + 4),
+        guid: found.uberblock.guid,
         moment,
+        root: next.tree.root,
         import_number: found.uberblock.import_number + 1,
-        log_address: geometry.block_address(log_block as u64),
+        log_address: next.log_address,
         log_number: 0,
-        ..found.uberblock
     };
     let config = LabelConfig::new(
-        next.guid,
-        next.group,
+        uberblock.guid,
+        uberblock.group,
         geometry.size(),
-        copy_name(&found.name),
+        copy_name(&next.contents.name),
     );
-    sync_labels(alloc, device, geometry, &next, &config, found.first)?;
+    sync_group(
+        device,
+        geometry,
+        &uberblock,
+        &config,
+        next.blocks,
+        found.first,
+    )?;
     Ok(Mounted {
         alloc,
         geometry,
-        guid: next.guid,
-        group: next.group,
-        import_number: next.import_number,
-        contents: Contents::of(found.name, loaded.slots),
-        tree: loaded.tree,
-        free,
+        guid: uberblock.guid,
+        group: uberblock.group,
+        import_number: uberblock.import_number,
+        contents: next.contents,
+        tree: next.tree,
+        free: next.free,
         log_address: next.log_address,
         dirty_max,
     })

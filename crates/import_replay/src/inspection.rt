@@ -8,14 +8,15 @@ ghost use Rattle.uberblocks.specs.Slots.{fields_of};
 ghost use Rattle.import_replay.specs.Inspections.{AgreesWithImports, IsInspectedFrom, IsInspectionOf, IsToldOfBounded};
 ghost use Rattle.import_replay.specs.Refused.{IsInspectionRefused};
 
-use crate::finding::Found;
 use crate::free_blocks::free_set;
 use crate::reading::survey_pool;
 use base::{Group, ObjectId, PoolError, PoolName};
 use device_model::SectorDevice;
 use labels::Geometry;
+use log_replay::Outline;
 use space::FreeSet;
 use std::alloc::Global;
+use uberblocks::Uberblock;
 
 /// What an import would mount, with its numbers.
 #[derive(Debug, PartialEq, Eq, Drop)]
@@ -39,17 +40,18 @@ pub struct Inspected {
 }
 
 /// Reports what an import of the pool on a device would mount. It makes no write and no flush, also if it is refused,
-/// and sees what a read returns, flushed or not. It expects an empty log chain, as `import` does.
+/// and sees what a read returns, flushed or not. The log records that an import would apply are replayed on the name
+/// and the lengths alone.
 ///
 /// # Errors
-/// In this order: `BadGeometry`, before any device call; `NoPool`; `Damaged` with the first fault of the tree.
-/// `NoMemory` and `Read` when they happen, `Read` exactly if the device refused a read.
+/// In this order: `BadGeometry`, before any device call; `NoPool`; `Damaged` with the first damage of the tree, or with
+/// kind 6 and the address of the block of the first log record that can't take place. `NoMemory` and `Read` when they
+/// happen, `Read` exactly if the device refused a read.
 pub fn inspect<D: SectorDevice>(alloc: Global, device: &mut D) -> Result<Inspected, PoolError>
     // The disk is as it was, and the device refused no call but a read.
     ensures reads { OnlyReads D.SectorDevice result device.old device.new }
 
-    // It is what the image mounts, if the active uberblock has no log chain, and what each import of the image
-    // mounts.
+    // It is what the image mounts, and what each import of the image mounts.
     ensures mounted { IsTrue D.keeps_model
         → IfOk result (IsInspectionOf (bytes_of (D.disk device.old).now)) }
     ensures agrees { IsTrue D.keeps_model
@@ -61,32 +63,47 @@ pub fn inspect<D: SectorDevice>(alloc: Global, device: &mut D) -> Result<Inspect
         (IsInspectionRefused D.SectorDevice device.old device.new) }
 {
     let geometry = Geometry::of(device.sectors())?;
-    let (found, tree) = survey_pool(alloc, device, geometry)?;
-    let free = free_set(alloc, geometry, &tree)?;
-    let lengths = tree.list_objects(alloc)?;
-    Ok(tell(geometry, found, lengths, &free))
+    let (found, tree, logged) = survey_pool(alloc, device, geometry)?;
+    let free = free_set(alloc, geometry, &tree, &logged)?;
+    let mut outline = Outline {
+        name: found.name,
+        tree,
+    };
+    let records = outline.replay(found.uberblock.group, &logged)?;
+    let lengths = outline.tree.list_objects(alloc)?;
+    Ok(tell(
+        geometry,
+        &found.uberblock,
+        outline.name,
+        lengths,
+        records,
+        &free,
+    ))
 }
 
-// The report on a pool that was read, with the lengths of its objects and its free blocks.
+// The report on a pool that was read, with the lengths of its objects, how many records its chain has above its group,
+// and its free blocks.
 fn tell(
     geometry: Geometry,
-    found: Found,
+    uberblock: &Uberblock,
+    name: PoolName,
     lengths: Vec<(ObjectId, u64)>,
+    records: u64,
     free: &FreeSet,
 ) -> Inspected
     requires { free.now.blocks ≡ block_count geometry }
-    ensures { IsInspectedFrom (fields_of found.uberblock) found.name lengths.items
+    ensures { IsInspectedFrom (fields_of uberblock.now) name lengths.items records
         (block_count geometry) free.now.free result }
 {
     let blocks = geometry.blocks();
     Inspected {
-        guid: found.uberblock.guid,
-        group: found.uberblock.group,
-        import_number: found.uberblock.import_number,
+        guid: uberblock.guid,
+        group: uberblock.group,
+        import_number: uberblock.import_number,
         blocks,
         used: blocks - free.free(),
-        records: 0,
-        name: found.name,
+        records,
+        name,
         objects: lengths,
     }
 }

@@ -12,6 +12,7 @@ mod importing;
 mod inspection;
 mod label_sync;
 mod mounted;
+mod next_pool;
 mod reading;
 
 pub use creation::create;

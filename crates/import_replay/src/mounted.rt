@@ -1,7 +1,7 @@
 //! What an import mounts.
 
 ghost use Rattle.std.specs.Prelude.{◌≡◌, ◌<◌, ◌≤◌};
-ghost use Rattle.base.specs.formats.Geometry.{IsGeometry, block_count};
+ghost use Rattle.base.specs.formats.Geometry.{IsBlockAddress, IsGeometry, block_count};
 ghost use Rattle.base.specs.formats.Limits.{first_group, last_number};
 ghost use Rattle.base.specs.tree.PlacedTrees.{ArePlaced};
 ghost use Rattle.object_maps.specs.Pointers.{pointers_of};
@@ -28,7 +28,7 @@ pub struct Mounted {
     pub import_number: u64,
     /// The pool's name and its objects, with their bytes.
     pub contents: Contents,
-    /// The pointers of the tree that the objects were read from.
+    /// The pointers of the tree that the import synced.
     pub tree: Tree,
     /// The blocks that are neither in the tree nor the first log block.
     pub free: FreeSet,
@@ -41,5 +41,6 @@ pub struct Mounted {
     ghost free_idle: { IsIdle free },
     ghost group_fits: { (first_group ≤ group.0) × (group.0 < last_number) },
     ghost import_fits: { import_number ≤ last_number },
+    ghost log_placed: { ∥ IsBlockAddress (block_count geometry) log_address ∥₁ },
     ghost tree_placed: { ∥ ArePlaced (block_count geometry) (pointers_of tree) ∥₁ },
 }

@@ -1,11 +1,13 @@
-//! What an import and an inspection read: the pool that a device has, and the tree under its root. An import takes
-//! the bytes of the objects with it, an inspection their lengths alone.
+//! What an import and an inspection read: the pool that a device has, the tree under its root, and then the chain of
+//! log blocks. An import takes the bytes of the objects with it, an inspection their lengths alone.
 
-ghost use Rattle.std.specs.Prelude.{◌≡◌, IfErr, IfOk, IsTrue};
+ghost use Rattle.std.specs.Prelude.{◌≡◌, All, IfErr, IfOk, IsTrue};
 ghost use Rattle.base.specs.disk.Disk.{bytes_of};
 ghost use Rattle.base.specs.formats.Geometry.{block_count};
+ghost use Rattle.base.specs.crash.Mount.{IsChainOf};
 ghost use Rattle.device_model.specs.Reading.{OnlyReads};
 ghost use Rattle.uberblocks.specs.Slots.{fields_of};
+ghost use Rattle.intent_log.specs.Chains.{IsChainRefusal, IsSoundBlock};
 ghost use Rattle.import_replay.specs.Devices.{IsSizedFor};
 ghost use Rattle.import_replay.specs.Found.{HasFirstStage};
 ghost use Rattle.import_replay.specs.ImportRefusals.{IsReason, IsWalkRefusal};
@@ -16,24 +18,26 @@ use crate::finding::{Found, find_pool};
 use base::PoolError;
 use checked_blocks::Frame;
 use device_model::SectorDevice;
+use intent_log::{ChainHeader, LoggedBlock, chain};
 use labels::Geometry;
 use object_maps::{Loaded, Tree, load, survey};
 use std::alloc::Global;
 
-// The pool of a device, with its tree and the bytes of its objects. Nothing is written, and nothing is flushed.
+// The pool of a device, with its tree, the bytes of its objects, and its chain. Nothing is written, and nothing is
+// flushed.
 pub(crate) fn read_pool<D: SectorDevice>(
     alloc: Global,
     device: &mut D,
     geometry: Geometry,
-) -> Result<(Found, Loaded), PoolError>
+) -> Result<(Found, Loaded, Vec<LoggedBlock>), PoolError>
     requires sized { IsSizedFor D.SectorDevice geometry device.old }
     ensures reads { OnlyReads D.SectorDevice result device.old device.new }
     ensures refused { IfErr result IsWalkRefusal }
     ensures loaded { IfOk result (λ r. IsLoadedFor (fields_of r.0.uberblock) (block_count geometry)
-        r.1.tree r.1.slots.items) }
+        r.1.tree r.1.slots.items r.2.items) }
     ensures pool { IsTrue D.keeps_model
         → IfOk result (λ r. IsReadPool (bytes_of (D.disk device.old).now) geometry
-        (fields_of r.0.uberblock) r.0.name r.1.tree r.1.slots.items) }
+        (fields_of r.0.uberblock) r.0.name r.1.tree r.1.slots.items r.2.items) }
     ensures first { IsTrue D.keeps_model → IfOk result
         (λ r. HasFirstStage (bytes_of (D.disk device.old).now) r.0.uberblock.guid
         r.0.uberblock.group.0 r.0.name (is_even r.0.first)) }
@@ -43,28 +47,53 @@ pub(crate) fn read_pool<D: SectorDevice>(
     let found = find_pool(alloc, device, geometry)?;
     let frame = frame_of(&found, geometry);
     let loaded = load(alloc, device, &frame, found.uberblock.root)?;
-    Ok((found, loaded))
+    let logged = read_chain(alloc, device, geometry, &found)?;
+    Ok((found, loaded, logged))
 }
 
-// The pool of a device, with its tree, by the same reads; no object's bytes stay. Nothing is written, and nothing is
-// flushed.
+// The pool of a device, with its tree and its chain, by the same reads; no object's bytes stay. Nothing is written,
+// and nothing is flushed.
 pub(crate) fn survey_pool<D: SectorDevice>(
     alloc: Global,
     device: &mut D,
     geometry: Geometry,
-) -> Result<(Found, Tree), PoolError>
+) -> Result<(Found, Tree, Vec<LoggedBlock>), PoolError>
     requires sized { IsSizedFor D.SectorDevice geometry device.old }
     ensures reads { OnlyReads D.SectorDevice result device.old device.new }
     ensures refused { IfErr result IsWalkRefusal }
     ensures surveyed { IfOk result (λ r. IsSurveyedFor D.keeps_model
-        (bytes_of (D.disk device.old).now) geometry (fields_of r.0.uberblock) r.0.name r.1) }
+        (bytes_of (D.disk device.old).now) geometry (fields_of r.0.uberblock) r.0.name r.1
+        r.2.items) }
     ensures reason { IsTrue D.keeps_model
         → IfErr result (IsReason (bytes_of (D.disk device.old).now)) }
 {
     let found = find_pool(alloc, device, geometry)?;
     let frame = frame_of(&found, geometry);
     let tree = survey(alloc, device, &frame, found.uberblock.root)?;
-    Ok((found, tree))
+    let logged = read_chain(alloc, device, geometry, &found)?;
+    Ok((found, tree, logged))
+}
+
+// The chain of log blocks that the active uberblock of a pool begins.
+fn read_chain<D: SectorDevice>(
+    alloc: Global,
+    device: &mut D,
+    geometry: Geometry,
+    found: &Found,
+) -> Result<Vec<LoggedBlock>, PoolError>
+    requires sized { IsSizedFor D.SectorDevice geometry device.old }
+    ensures reads { OnlyReads D.SectorDevice result device.old device.new }
+    ensures refused { IfErr result IsChainRefusal }
+    ensures chain { IsTrue D.keeps_model → IfOk result (λ blocks. IsChainOf
+        (bytes_of (D.disk device.old).now) (fields_of found.now.uberblock) blocks.items) }
+    ensures sound { IfOk result (λ blocks. All (IsSoundBlock (block_count geometry)) blocks.items) }
+{
+    let header = ChainHeader {
+        address: found.uberblock.log_address,
+        number: found.uberblock.log_number,
+        import_number: found.uberblock.import_number,
+    };
+    chain(alloc, device, &frame_of(found, geometry), &header)
 }
 
 // The frame of the blocks of a pool that was found.

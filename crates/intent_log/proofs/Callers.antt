@@ -5,7 +5,7 @@ use Rattle.std.proofs.lemmas.Bool.{le-leb, lt-leb, ltb-false}
 use Rattle.std.specs.Int.{from_le_bytes, w64}
 use Rattle.std.proofs.lemmas.List.{drop-drop}
 use Rattle.base.specs.formats.Blocks.{Frame, IsBlock}
-use Rattle.base.specs.formats.Chain.{Header, LogBlock}
+use Rattle.base.specs.formats.Chain.{Header, LogPiece}
 use Rattle.base.specs.formats.Fields.{number_at, part}
 use Rattle.base.specs.formats.Geometry.{IsBlockAddress}
 use Rattle.base.specs.formats.Records.{Record}
@@ -17,12 +17,12 @@ use Rattle.intent_log.specs.declared.chains.ChainHeader.{ChainHeader}
 use Rattle.intent_log.specs.declared.packing.NewBlock.{NewBlock}
 
 -- no block lies at address 0
-pub none_at_0 : (image : List ℕ) (frame : Frame) (h : ChainHeader) (bs : List LogBlock) → h.address ≡ 0 → IsChainFrom image frame h bs → bs ≡ []
+pub none_at_0 : (image : List ℕ) (frame : Frame) (h : ChainHeader) (bs : List LogPiece) → h.address ≡ 0 → IsChainFrom image frame h bs → bs ≡ []
 none_at_0 image frame h [] at chain = refl
 none_at_0 image frame h (b ∷ bs) at (block, rest) = absurd (omega (arith, at, block.in_area.2))
 
 -- a block that stands where the chain begins is of the chain
-pub some_block : (image : List ℕ) (frame : Frame) (h : ChainHeader) (b : LogBlock) (bs : List LogBlock) → IsChainBlock image frame h b → IsChainFrom image frame h bs → 0 < length bs
+pub some_block : (image : List ℕ) (frame : Frame) (h : ChainHeader) (b : LogPiece) (bs : List LogPiece) → IsChainBlock image frame h b → IsChainFrom image frame h bs → 0 < length bs
 some_block image frame h b [] block chain = absurd (chain b block)
 some_block image frame h b (c ∷ bs) block chain = omega arith
 

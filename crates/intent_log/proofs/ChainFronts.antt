@@ -6,23 +6,23 @@ use Rattle.std.proofs.lemmas.Map.Steps.{length-le_from_distinct_below}
 use Rattle.base.specs.formats.Fields.{number_at, part}
 use Rattle.base.specs.formats.Geometry.{block_address, block_size}
 use Rattle.base.specs.formats.Blocks.{Frame}
-use Rattle.base.specs.formats.Chain.{Header, LogBlock, IsLogBlock, IsChain, next_header}
+use Rattle.base.specs.formats.Chain.{Header, LogPiece, IsPiece, IsChain, next_header}
 
 module _ (image : List ℕ) (frame : Frame) (chain : ℕ) where
   -- these blocks follow one another from a header up to another
-  abbrev pub IsFront : Header → List LogBlock → Header → Type 0
+  abbrev pub IsFront : Header → List LogPiece → Header → Type 0
   IsFront header [] end = header ≡ end
-  IsFront header (b ∷ bs) end = IsLogBlock image frame.guid frame.blocks chain header b × IsFront (next_header header b) bs end
+  IsFront header (b ∷ bs) end = IsPiece image frame chain header b × IsFront (next_header header b) bs end
 
-  pub front_more : (header : Header) (bs : List LogBlock) (end : Header) (b : LogBlock) → IsFront header bs end → IsLogBlock image frame.guid frame.blocks chain end b
+  pub front_more : (header : Header) (bs : List LogPiece) (end : Header) (b : LogPiece) → IsFront header bs end → IsPiece image frame chain end b
       → IsFront header (bs ++ b ∷ []) (next_header end b)
-  front_more header [] end b e block = (subst (λ (h : Header). IsLogBlock image frame.guid frame.blocks chain h b) (sym e) block, ap (λ (h : Header). next_header h b) e)
+  front_more header [] end b e block = (subst (λ (h : Header). IsPiece image frame chain h b) (sym e) block, ap (λ (h : Header). next_header h b) e)
   front_more header (c ∷ bs) end b (first, rest) block = (first, front_more (next_header header c) bs end b rest block)
 
   -- if none follows, they are the chain
-  pub front_is_chain : (header : Header) (bs : List LogBlock) (end : Header) → IsFront header bs end → ((b : LogBlock) → IsLogBlock image frame.guid frame.blocks chain end b → ⊥)
-      → IsChain image frame.guid frame.blocks chain header bs
-  front_is_chain header [] end e none = λ b block. none b (subst (λ (h : Header). IsLogBlock image frame.guid frame.blocks chain h b) e block)
+  pub front_is_chain : (header : Header) (bs : List LogPiece) (end : Header) → IsFront header bs end → ((b : LogPiece) → IsPiece image frame chain end b → ⊥)
+      → IsChain image frame chain header bs
+  front_is_chain header [] end e none = λ b block. none b (subst (λ (h : Header). IsPiece image frame chain h b) e block)
   front_is_chain header (b ∷ bs) end (first, rest) none = (first, front_is_chain (next_header header b) bs end rest none)
 
   -- the number that the block of an index has
@@ -30,16 +30,16 @@ module _ (image : List ℕ) (frame : Frame) (chain : ℕ) where
   stamp k = number_at (part image (block_address k) block_size) 24
 
   -- the indices of the blocks of a front
-  indices : (header : Header) (bs : List LogBlock) (end : Header) → IsFront header bs end → List ℕ
+  indices : (header : Header) (bs : List LogPiece) (end : Header) → IsFront header bs end → List ℕ
   indices header [] end e = []
   indices header (b ∷ bs) end (first, rest) = first.in_area.0 ∷ indices (next_header header b) bs end rest
 
-  length-indices : (header : Header) (bs : List LogBlock) (end : Header) (f : IsFront header bs end) → length (indices header bs end f) ≡ length bs
+  length-indices : (header : Header) (bs : List LogPiece) (end : Header) (f : IsFront header bs end) → length (indices header bs end f) ≡ length bs
   unfolding indices
   length-indices header [] end e = refl
   length-indices header (b ∷ bs) end (first, rest) = ap suc (length-indices (next_header header b) bs end rest)
 
-  stamp-is : (header : Header) (b : LogBlock) (block : IsLogBlock image frame.guid frame.blocks chain header b) → stamp block.in_area.0 ≡ header.number
+  stamp-is : (header : Header) (b : LogPiece) (block : IsPiece image frame chain header b) → stamp block.in_area.0 ≡ header.number
   stamp-is header b block = subst (λ (a : ℕ). number_at (part image a block_size) 24 ≡ header.number) block.in_area.2 block.sealed.number_is
 
   -- each is in the area, and has a number from the header's on
@@ -51,7 +51,7 @@ module _ (image : List ℕ) (frame : Frame) (chain : ℕ) where
   either true y h left right = left refl
   either false y h left right = right h
 
-  each_is_of : (header : Header) (bs : List LogBlock) (end : Header) (f : IsFront header bs end) (k : ℕ) → list_any (eqb k) (indices header bs end f) ≡ true → IsOf header k
+  each_is_of : (header : Header) (bs : List LogPiece) (end : Header) (f : IsFront header bs end) (k : ℕ) → list_any (eqb k) (indices header bs end f) ≡ true → IsOf header k
   unfolding indices
   each_is_of header [] end e k h = absurd (let no : false ≡ true = h in cc)
   each_is_of header (b ∷ bs) end (first, rest) k h =
@@ -61,7 +61,7 @@ module _ (image : List ℕ) (frame : Frame) (chain : ℕ) where
       (λ behind. let r = each_is_of (next_header header b) bs end rest k behind in record { within = r.within; from = omega (arith, r.from) })
 
   -- the block of a lower number is none of them
-  apart : (k : ℕ) (header : Header) (bs : List LogBlock) (end : Header) (f : IsFront header bs end) → stamp k < header.number → AllByRecursion (λ y. eqb k y ≡ false) (indices header bs end f)
+  apart : (k : ℕ) (header : Header) (bs : List LogPiece) (end : Header) (f : IsFront header bs end) → stamp k < header.number → AllByRecursion (λ y. eqb k y ≡ false) (indices header bs end f)
   unfolding indices
   apart k header [] end e lower = tt
   apart k header (b ∷ bs) end (first, rest) lower = (
@@ -69,26 +69,26 @@ module _ (image : List ℕ) (frame : Frame) (chain : ℕ) where
     apart k (next_header header b) bs end rest (omega (arith, lower)),
   )
 
-  are_distinct : (header : Header) (bs : List LogBlock) (end : Header) (f : IsFront header bs end) → IsDistinct eqb (indices header bs end f)
+  are_distinct : (header : Header) (bs : List LogPiece) (end : Header) (f : IsFront header bs end) → IsDistinct eqb (indices header bs end f)
   unfolding IsDistinct indices
   are_distinct header [] end e = tt
   are_distinct header (b ∷ bs) end (first, rest) =
       (apart first.in_area.0 (next_header header b) bs end rest (omega (arith, stamp-is header b first)), are_distinct (next_header header b) bs end rest)
 
   -- so a front has no more blocks than the area
-  pub front-short : (header : Header) (bs : List LogBlock) (end : Header) → IsFront header bs end → length bs ≤ frame.blocks
+  pub front-short : (header : Header) (bs : List LogPiece) (end : Header) → IsFront header bs end → length bs ≤ frame.blocks
   front-short header bs end f = rw (← length-indices header bs end f)
       (length-le_from_distinct_below (indices header bs end f) frame.blocks (are_distinct header bs end f) (λ k h. (each_is_of header bs end f k h).within))
 
   -- one block more
-  pub front_push : (header : Header) (bs new : List LogBlock) (end after : Header) (b : LogBlock) → IsFront header bs end → IsLogBlock image frame.guid frame.blocks chain end b → new ≡ bs ++ b ∷ []
+  pub front_push : (header : Header) (bs new : List LogPiece) (end after : Header) (b : LogPiece) → IsFront header bs end → IsPiece image frame chain end b → new ≡ bs ++ b ∷ []
       → after.address ≡ b.next → after.number ≡ end.number + 1 → IsFront header new after
   front_push header bs new end after b f block whole at number =
       let next : next_header end b ≡ after = λ i. record { address = sym at i; number = sym number i } in
-      subst (λ (h : Header). IsFront header new h) next (subst (λ (l : List LogBlock). IsFront header l (next_header end b)) (sym whole) (front_more header bs end b f block))
+      subst (λ (h : Header). IsFront header new h) next (subst (λ (l : List LogPiece). IsFront header l (next_header end b)) (sym whole) (front_more header bs end b f block))
 
   -- after as many as the area has comes none
-  pub front_full : (header : Header) (bs : List LogBlock) (end : Header) → IsFront header bs end → frame.blocks ≤ length bs → (b : LogBlock) → IsLogBlock image frame.guid frame.blocks chain end b → ⊥
+  pub front_full : (header : Header) (bs : List LogPiece) (end : Header) → IsFront header bs end → frame.blocks ≤ length bs → (b : LogPiece) → IsPiece image frame chain end b → ⊥
   front_full header bs end f full b block =
       let short = front-short header (bs ++ b ∷ []) (next_header end b) (front_more header bs end b f block) in
       omega (arith, short, full, length-append bs (b ∷ []))

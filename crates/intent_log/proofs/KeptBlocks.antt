@@ -1,5 +1,5 @@
 -- Kept blocks, as contracts see them, after a write, after a flush, and after the first one was given back.
-use Rattle.std.proofs.Common.{◌≡◌, ℕ, zero, suc, ◌+◌, ◌-◌, ◌<◌, ◌≤◌, ◌||◌, ◌&&◌, Bool, true, false, cond, List, [], ◌∷◌, ◌++◌, length, length-append, length-drop, take, drop, map, refl, sym, ap, subst, ◌∙◌, arith}
+use Rattle.std.proofs.Common.{◌≡◌, ℕ, zero, suc, ◌+◌, ◌-◌, ◌^◌, ◌<◌, ◌≤◌, ◌||◌, ◌&&◌, Bool, true, false, cond, List, [], ◌∷◌, ◌++◌, length, length-append, length-drop, take, drop, map, refl, sym, ap, subst, ◌∙◌, arith}
 use Rattle.std.specs.Prelude.{not, nat_lt, Option, Some, option_map, unwrap_or, find, slice_get, slice_index_or}
 use Rattle.std.specs.List.{list_any}
 use Rattle.std.proofs.lemmas.Bool.{le-ltb}
@@ -9,6 +9,7 @@ use Rattle.std.proofs.lemmas.List.Folds.{list_any-append}
 use Rattle.base.specs.declared.names.Receipt.{Receipt}
 use Rattle.base.specs.formats.Chain.{Header}
 use Rattle.base.specs.steps.Logs.{Committed, KeptBlock, Log, awaits_flush, blocks_before, has_record, header_at, header_for, is_flushed_in, is_same, log_after_flush, reaches_above}
+use Rattle.base.proofs.steps.KeptSyncs.{header_first}
 use Rattle.intent_log.specs.Kept.{IsFrontGiven, LeadUpTo, header_fields, shown_block, shown_blocks}
 use Rattle.intent_log.specs.Receipts.{committed, is_in_later_group, is_same_receipt}
 use Rattle.intent_log.specs.declared.kept_block.LogHeader.{LogHeader}
@@ -16,7 +17,7 @@ use Rattle.intent_log.specs.declared.kept_block.KeptBlock as code
 
 -- a log of so many flushed blocks from the front, and of which nothing is pending
 abbrev pub log_with : ℕ → List code.KeptBlock → Header → Log
-log_with f bs next = record { pending = []; kept = shown_blocks f bs; next = next }
+log_with f bs next = record { unsynced = []; pending = []; kept = shown_blocks f bs; next = next }
 
 abbrev flush : KeptBlock → KeptBlock
 flush b = record b { flushed = true }
@@ -41,7 +42,7 @@ all_flushed f bs =
 
 pub flushed_log : (f n : ℕ) (bs : List code.KeptBlock) (next : Header) → n ≡ length bs
     → log_with n bs next ≡ log_after_flush (log_with f bs next)
-flushed_log f n bs next all = λ i. record { pending = []; kept = (ap (λ (k : ℕ). shown_blocks k bs) all ∙ all_flushed f bs) i; next = next }
+flushed_log f n bs next all = λ i. record { unsynced = []; pending = []; kept = (ap (λ (k : ℕ). shown_blocks k bs) all ∙ all_flushed f bs) i; next = next }
 
 positive : (n : ℕ) → nat_lt 0 (suc n) ≡ true
 positive n = grind (arith, nat_tests)
@@ -191,3 +192,10 @@ numbered_at n (suc f) (c ∷ cs) (here, rest) (suc i) b is = omega (arith, numbe
 pub lead_on : (n : ℕ) (bs : List code.KeptBlock) (b : code.KeptBlock) → LeadUpTo n bs → b.header.number ≡ n → LeadUpTo (n + 1) (bs ++ b ∷ [])
 lead_on n [] b lead is = (omega (arith, is), tt)
 lead_on n (c ∷ cs) b (here, rest) is = (omega (arith, here, length-append cs (b ∷ [])), lead_on n cs b rest is)
+
+-- a header of the log has no number past the last one
+pub header_fits : (group f : ℕ) (bs : List code.KeptBlock) (next header : Header) → LeadUpTo next.number bs → next.number ≤ 2 ^ 60 → header ≡ header_for group (log_with f bs next) → header.number ≤ 2 ^ 60
+header_fits group f bs next header lead fits is =
+    let first = (header_first group (log_with f bs next) (numbered_at next.number f bs lead)).0 in
+    let same = ap (λ (h : Header). h.number) is in
+    omega (arith, first, same, fits)

@@ -4,15 +4,15 @@ use Rattle.std.proofs.lemmas.List.{drop-drop, take-append-drop, length-take-le, 
 use Rattle.std.proofs.Math.Seq.{drop-append_seam, take-append_seam}
 use Rattle.base.specs.formats.Limits.{log_block_room}
 use Rattle.base.specs.formats.Fields.{number_at}
-use Rattle.base.specs.formats.Chain.{LogBlock, IsLogPayload}
+use Rattle.base.specs.formats.Chain.{LogPiece, IsLogPayload}
 use Rattle.base.specs.formats.Records.{Record, bytes_of_records}
-use Rattle.intent_log.specs.Chains.{AreRecordsOf, HasNoRecords, HasNoPayload}
+use Rattle.intent_log.specs.Chains.{AreRecordsOf, HasNoPayload}
 
 -- what is left of the payload after so many bytes of records
 behind : (payload : List ℕ) (used : ℕ) → drop used (drop 24 payload) ≡ drop (24 + used) payload
 behind payload used = drop-drop used 24 payload ∙ ap (λ (n : ℕ). drop n payload) (omega arith)
 
-pub is_payload : (payload : List ℕ) (chain used : ℕ) (block : LogBlock) → length payload ≡ 4032 → used ≤ 4008 → number_at payload 0 ≡ chain → number_at payload 8 ≡ block.next
+pub is_payload : (payload : List ℕ) (chain used : ℕ) (block : LogPiece) → length payload ≡ 4032 → used ≤ 4008 → number_at payload 0 ≡ chain → number_at payload 8 ≡ block.next
     → number_at payload 16 ≡ used → AreRecordsOf (take used (drop 24 payload)) block.records
     → drop (24 + used) payload ≡ replicate (length (drop (24 + used) payload)) 0 → IsLogPayload payload chain block
 is_payload payload chain used block long fits chain_is next_is used_is are zeros =
@@ -37,7 +37,7 @@ pub record HasParts (payload : List ℕ) (used : ℕ) (records : List Record) : 
   pub are : AreRecordsOf (take used (drop 24 payload)) records
   pub zeros : drop (24 + used) payload ≡ replicate (length (drop (24 + used) payload)) 0
 
-pub has_parts : (payload : List ℕ) (chain used : ℕ) (block : LogBlock) → number_at payload 16 ≡ used → IsLogPayload payload chain block → HasParts payload used block.records
+pub has_parts : (payload : List ℕ) (chain used : ℕ) (block : LogPiece) → number_at payload 16 ≡ used → IsLogPayload payload chain block → HasParts payload used block.records
 has_parts payload chain used block used_is p =
     let size : used ≡ length (bytes_of_records block.records) = sym used_is ∙ p.used in
     let bytes : List ℕ = bytes_of_records block.records in

@@ -4,7 +4,7 @@ use Rattle.base.specs.declared.error.PoolError.{PoolError}
 use Rattle.base.specs.declared.error.PoolError.TheVariants.{NoMemory, Read}
 use Rattle.base.specs.formats.Blocks.{Frame}
 use Rattle.base.specs.formats.Geometry.{IsBlockAddress}
-use Rattle.base.specs.formats.Chain.{Header, LogBlock, IsLogBlock, IsLogPayload, IsChain}
+use Rattle.base.specs.formats.Chain.{Header, LogPiece, IsPiece, IsLogPayload, IsChain, addresses_of}
 use Rattle.base.specs.formats.Records.{Record, IsAllowed, bytes_of_records}
 use Rattle.checked_blocks.specs.declared.expected.Expected.{Expected}
 use Rattle.intent_log.specs.declared.chains.ChainHeader.{ChainHeader}
@@ -17,20 +17,20 @@ IsChainRefusal e = (e ≡ NoMemory) ⊎ (e ≡ Read)
 abbrev pub header_of_chain : ChainHeader → Header
 header_of_chain h = record { address = h.address; number = h.number }
 
--- the log block that a header names, and that there is none
-abbrev pub IsChainBlock : List ℕ → Frame → ChainHeader → LogBlock → Type 0
-IsChainBlock image frame h block = IsLogBlock image frame.guid frame.blocks h.import_number (header_of_chain h) block
+-- the log block that a header names, which in this version is a whole piece of the chain; and that there is none
+abbrev pub IsChainBlock : List ℕ → Frame → ChainHeader → LogPiece → Type 0
+IsChainBlock image frame h block = IsPiece image frame h.import_number (header_of_chain h) block
 
 abbrev pub HasNoBlock : List ℕ → Frame → ChainHeader → Type 0
-HasNoBlock image frame h = (block : LogBlock) → IsChainBlock image frame h block → ⊥
+HasNoBlock image frame h = (block : LogPiece) → IsChainBlock image frame h block → ⊥
 
 -- the longest chain from a header on
-abbrev pub IsChainFrom : List ℕ → Frame → ChainHeader → List LogBlock → Type 0
-IsChainFrom image frame h blocks = IsChain image frame.guid frame.blocks h.import_number (header_of_chain h) blocks
+abbrev pub IsChainFrom : List ℕ → Frame → ChainHeader → List LogPiece → Type 0
+IsChainFrom image frame h blocks = IsChain image frame h.import_number (header_of_chain h) blocks
 
 -- there is no payload of a log block of this chain
 abbrev pub HasNoPayload : List ℕ → ℕ → Type 0
-HasNoPayload payload chain = (block : LogBlock) → IsLogPayload payload chain block → ⊥
+HasNoPayload payload chain = (block : LogPiece) → IsLogPayload payload chain block → ⊥
 
 -- these bytes are the records, one at least, each within its limits
 pub record AreRecordsOf (bytes : List ℕ) (records : List Record) : Type 0 where
@@ -41,9 +41,9 @@ pub record AreRecordsOf (bytes : List ℕ) (records : List Record) : Type 0 wher
 abbrev pub HasNoRecords : List ℕ → Type 0
 HasNoRecords bytes = (records : List Record) → AreRecordsOf bytes records → ⊥
 
--- On each device a block that was read lies in the area, and its records are within their limits.
-pub record IsSoundBlock (blocks : ℕ) (block : LogBlock) : Type 0 where
-  pub in_area : IsBlockAddress blocks block.address
+-- On each device all that was read of a piece lies in the area, and its records are within their limits.
+pub record IsSoundBlock (blocks : ℕ) (block : LogPiece) : Type 0 where
+  pub in_area : All (IsBlockAddress blocks) (addresses_of block)
   pub allowed : All IsAllowed block.records
 
 -- what is expected of the log block that a header names: its group is any

@@ -3,7 +3,7 @@ use Rattle.std.specs.Prelude.{ℕ, ◌≡◌, ◌≤◌, ◌<◌, ◌+◌, ◌-�
 use Rattle.std.specs.VecDeque.{deque_len, deque_capacity}
 use Rattle.base.specs.declared.names.Receipt.{Receipt}
 use Rattle.base.specs.formats.Chain.{Header}
-use Rattle.base.specs.steps.Logs.{KeptBlock, Log}
+use Rattle.base.specs.steps.Logs.{KeptBlock, Log, whole_block}
 use Rattle.intent_log.specs.Receipts.{committed}
 use Rattle.intent_log.specs.declared.kept_block.LogHeader.{LogHeader}
 use Rattle.intent_log.specs.declared.kept_block.KeptBlock as code
@@ -15,9 +15,9 @@ pub record KeptLog : Type 0 where
   pub next : Header
   pub room : ℕ
 
--- the same as a pool's log, of which nothing is pending
+-- the same as a pool's log, of which no record is unsynced
 abbrev pub log_shown : KeptLog → Log
-log_shown k = record { pending = []; kept = k.kept; next = k.next }
+log_shown k = record { unsynced = []; pending = []; kept = k.kept; next = k.next }
 
 -- there is room for a block more
 abbrev pub HasRoom : KeptLog → Type 0
@@ -32,7 +32,7 @@ header_fields h = record { address = h.address; number = h.number }
 
 -- the block that is kept once records with these receipts were written to it
 abbrev pub block_noted : Header → List Receipt → KeptBlock
-block_noted h receipts = record { address = h.address; number = h.number; committed = map committed receipts; flushed = false }
+block_noted h receipts = whole_block h (map committed receipts) false
 
 -- the first kept block was given back, and its number is below the header's
 pub record IsFrontGiven (header : Header) (old new : List KeptBlock) (address : ℕ) : Type 0 where
@@ -41,9 +41,9 @@ pub record IsFrontGiven (header : Header) (old new : List KeptBlock) (address : 
   pub address_is : address ≡ block.address
   pub below : block.number < header.number
 
--- a kept block, flushed or not
+-- a kept block, flushed or not: its receipts are of the records that begin in it, and of those that end in it
 abbrev pub shown_block : Bool → code.KeptBlock → KeptBlock
-shown_block flushed b = record { address = b.header.address; number = b.header.number; committed = map committed b.receipts.items; flushed = flushed }
+shown_block flushed b = whole_block (header_fields b.header) (map committed b.receipts.items) flushed
 
 -- kept blocks, of which so many from the front are flushed
 abbrev pub shown_blocks : ℕ → List code.KeptBlock → List KeptBlock

@@ -37,7 +37,8 @@ pub struct ChainHeader {
     pub import_number: u64,
 }
 
-/// A block of a chain: where it lies, where the next one does, and its records. Contracts see it as these three.
+/// A block of a chain: where it lies, where the next one does, and its records. Contracts see it as these three: a
+/// piece of the chain, which in this version is one block.
 #[derive(Debug, Drop)]
 pub struct LoggedBlock {
     address: u64,
@@ -47,10 +48,10 @@ pub struct LoggedBlock {
 
 impl Model for LoggedBlock {
     ghost use Rattle.std.specs.Prelude.{map};
-    ghost use Rattle.base.specs.formats.Chain.{LogBlock};
+    ghost use Rattle.base.specs.formats.Chain.{LogPiece};
     ghost use Rattle.transactions.specs.Records.{record_fields};
 
-    ghost Value = { LogBlock };
+    ghost Value = { LogPiece };
 
     ghost view = { λ b. record {
       address = b.address;
@@ -75,6 +76,13 @@ impl LoggedBlock {
         ensures { map record_fields result.now ≡ self.now.records }
     {
         self.records.as_slice()
+    }
+
+    /// The `Vec` that holds its records, in order.
+    pub fn into_records(self) -> Vec<Record>
+        ensures { map record_fields result.items ≡ self.records }
+    {
+        self.records
     }
 }
 

@@ -120,7 +120,9 @@ impl Log {
     /// The header for the sync of a group: the first kept block with a record of a group above it, or else the next
     /// one. It looks only at that block and at those before it, which the sync gives back.
     pub fn header_for(&self, group: Group) -> LogHeader
-        ensures { header_fields result ≡ logs.header_for group.0 (log_shown self.now) }
+        ensures header { header_fields result ≡ logs.header_for group.0 (log_shown self.now) }
+        ensures fits { result.number ≤ last_number }
+        ensures numbered { AreNumberedTo self.now }
     {
         match self.blocks.iter().find(|block| block.highest.0 > group.0) {
             Some(block) => block.header,

@@ -1,7 +1,7 @@
 //! A log block that is kept: where it lies, and the receipts of its records.
 //!
 //! Its highest group is of the records that begin in it, and its receipts are those of the records that end in it.
-//! Today each record lies in one block, so these are the same.
+//! In this version each record lies whole in one block, so these are the same, and its receipts are kept once.
 
 ghost use Rattle.std.specs.Prelude.{◌≡◌, ℕ, All, nat_lt};
 ghost use Rattle.std.specs.List.{list_any};

@@ -14,23 +14,23 @@ const CREATE: [u8; 27] = [
 
 /// A block on the device that holds this record, as plain data.
 #[derive(Clone, Copy)]
-struct Stored {
-    address: u64,
-    kind: u64,
-    guid: u64,
-    group: u64,
-    number: u64,
-    chain: u64,
-    next: u64,
-    used: u64,
+pub(crate) struct Stored {
+    pub address: u64,
+    pub kind: u64,
+    pub guid: u64,
+    pub group: u64,
+    pub number: u64,
+    pub chain: u64,
+    pub next: u64,
+    pub used: u64,
     /// The first byte of the record's length.
-    length: u8,
+    pub length: u8,
     /// The byte after the record.
-    after: u8,
+    pub after: u8,
 }
 
 /// The block that the header names: number 7 of chain 3.
-const FIRST: Stored = Stored {
+pub(crate) const FIRST: Stored = Stored {
     address: 4_198_400,
     kind: 6,
     guid: 77,
@@ -131,7 +131,7 @@ fn overwrite(
     device.write(address, bytes)
 }
 
-fn store_all(device: &mut MemDevice, blocks: &[Stored]) -> Result<(), PoolError> {
+pub(crate) fn store_all(device: &mut MemDevice, blocks: &[Stored]) -> Result<(), PoolError> {
     for stored in blocks {
         store(device, stored)?;
     }

@@ -7,7 +7,7 @@ use Rattle.std.proofs.lemmas.List.Elements.{All-from_get_or}
 use Rattle.base.specs.declared.pointer.Pointer.{Pointer}
 use Rattle.base.specs.formats.Fields.{part, number_at, number_bytes, pointer_at, entry_in, entry_present, entry_length, entry_pointer, no_pointer}
 use Rattle.base.specs.formats.Limits.{max_length}
-use Rattle.base.specs.tree.Faults.{IsPointerForm, IsOneLevelForm}
+use Rattle.base.specs.tree.Damages.{IsPointerForm, IsOneLevelForm}
 use Rattle.checked_blocks.proofs.Placed.{number_bytes-number_at}
 use Rattle.object_maps.proofs.Records.{part-split}
 

@@ -1,4 +1,4 @@
--- An image that holds a tree has no fault in it, and its entries and records say what the objects are.
+-- An image that holds a tree has no damage in it, and its entries and records say what the objects are.
 use Rattle.std.proofs.Common.{◌≡◌, ℕ, ◌<◌, ◌≤◌, List, refl, ap, sym, subst, ◌∙◌, arith, replicate, ◌⊎◌, inl, inr}
 use Rattle.std.specs.Prelude.{Option, Some, None, IfSome, ◌≢◌, length, option_map}
 use Rattle.std.specs.Ordering.{nat_cmp}
@@ -9,7 +9,7 @@ use Rattle.base.specs.declared.error.PoolError.{PoolError}
 use Rattle.base.specs.declared.error.PoolError.TheVariants.{Damaged, NoMemory, Read}
 use Rattle.base.specs.formats.Fields.{number_at, entry_in, entry_length, entry_present, no_pointer}
 use Rattle.base.specs.formats.Blocks.{Frame, payload_at}
-use Rattle.base.specs.tree.Faults.{IsFirstFault, IsSoundAt}
+use Rattle.base.specs.tree.Damages.{IsFirstDamage, IsSoundAt}
 use Rattle.base.specs.tree.PlacedTrees.{HoldsTree, padded_record}
 use Rattle.base.specs.tree.Places.{Place, IsPlace, directory_pointer, kind_of, pointer_of, walk_index_of}
 use Rattle.base.specs.tree.Places.Place.{Root, Directory, Indirect, Data}
@@ -75,18 +75,18 @@ module _ (image : List ℕ) (frame : Frame) (pointers : Place → Pointer) (obje
       record-held image frame (pointer_of image root (Data 7 1)) (map.get objects 7) there
       (subst (λ (p : Pointer). IfSome (map.get objects 7) (λ bytes. IsRecord image frame 7 1 p bytes)) (sym told) (holds.each (Data 7 1) (omega arith, omega arith)))
 
--- if the root is not sound, it is the first fault
+-- if the root is not sound, it is the first damage
 at-root : (image : List ℕ) (frame : Frame) (root : Pointer) (place : Place) → (IsSoundAt image frame root Root → ⊥)
     → ((other : Place) → IsPlace other → walk_index_of other < walk_index_of place → IsSoundAt image frame root other)
     → (kind address : ℕ) → kind_of place ≡ kind → (pointer_of image root place).address ≡ address → (2 ≡ kind) × (root.address ≡ address)
-at-root image frame root Root faulty before kind address is_kind is_address = (is_kind, is_address)
-at-root image frame root (Directory d) faulty before kind address is_kind is_address = absurd (faulty (before Root tt (omega arith)))
-at-root image frame root (Indirect n) faulty before kind address is_kind is_address = absurd (faulty (before Root tt (omega arith)))
-at-root image frame root (Data n r) faulty before kind address is_kind is_address = absurd (faulty (before Root tt (omega arith)))
+at-root image frame root Root damaged before kind address is_kind is_address = (is_kind, is_address)
+at-root image frame root (Directory d) damaged before kind address is_kind is_address = absurd (damaged (before Root tt (omega arith)))
+at-root image frame root (Indirect n) damaged before kind address is_kind is_address = absurd (damaged (before Root tt (omega arith)))
+at-root image frame root (Data n r) damaged before kind address is_kind is_address = absurd (damaged (before Root tt (omega arith)))
 
-pub root-fault : (image : List ℕ) (frame : Frame) (root : Pointer) (kind address : ℕ) → (IsSoundAt image frame root Root → ⊥)
-    → IsFirstFault image frame root kind address → (2 ≡ kind) × (root.address ≡ address)
-root-fault image frame root kind address faulty fault = at-root image frame root fault.place faulty fault.sound_before kind address fault.kind_is fault.address_is
+pub root-damage : (image : List ℕ) (frame : Frame) (root : Pointer) (kind address : ℕ) → (IsSoundAt image frame root Root → ⊥)
+    → IsFirstDamage image frame root kind address → (2 ≡ kind) × (root.address ≡ address)
+root-damage image frame root kind address damaged damage = at-root image frame root damage.place damaged damage.sound_before kind address damage.kind_is damage.address_is
 
 -- a root that was born after the frame's group is not sound
 pub late-root : (image : List ℕ) (frame : Frame) (root : Pointer) → root.address ≢ 0 → frame.group < root.birth → IsSoundAt image frame root Root → ⊥
@@ -95,9 +95,9 @@ late-root image frame root there late (inr block) = let born : root.birth ≤ fr
 
 -- so a load is refused for it, or for memory or a read
 pub root-refusal : (image : List ℕ) (frame : Frame) (root : Pointer) (e : PoolError) → (IsSoundAt image frame root Root → ⊥) → IsLoadRefusal e
-    → ((kind address : ℕ) → e ≡ Damaged kind address → IsFirstFault image frame root kind address) → (e ≡ NoMemory) ⊎ ((e ≡ Read) ⊎ (e ≡ Damaged 2 root.address))
-root-refusal image frame root e faulty (inl h) fault = inl h
-root-refusal image frame root e faulty (inr (inl h)) fault = inr (inl h)
-root-refusal image frame root e faulty (inr (inr h)) fault =
-    let at = root-fault image frame root h.0 h.1 faulty (fault h.0 h.1 h.2) in
+    → ((kind address : ℕ) → e ≡ Damaged kind address → IsFirstDamage image frame root kind address) → (e ≡ NoMemory) ⊎ ((e ≡ Read) ⊎ (e ≡ Damaged 2 root.address))
+root-refusal image frame root e damaged (inl h) damage = inl h
+root-refusal image frame root e damaged (inr (inl h)) damage = inr (inl h)
+root-refusal image frame root e damaged (inr (inr h)) damage =
+    let at = root-damage image frame root h.0 h.1 damaged (damage h.0 h.1 h.2) in
     inr (inr (h.2 ∙ ap (λ k. Damaged k h.1) (sym at.0) ∙ ap (λ a. Damaged 2 a) (sym at.1)))

@@ -11,7 +11,7 @@ pub mod LoadedEntries
 pub mod EntryForms
 pub mod LoadedTrees
 pub mod WalkOrder
-pub mod WalkFaults
+pub mod WalkDamages
 pub mod WalkParts
 pub mod HeldTrees
 pub mod JudgedLists

@@ -6,8 +6,8 @@ use Rattle.base.specs.formats.Limits.{entry_count}
 use Rattle.base.specs.formats.Blocks.{Frame}
 use Rattle.base.specs.tree.Places.{Place, IsPlace, walk_index_of, walk_index_of_indirect}
 use Rattle.base.specs.tree.Places.Place.{Root, Directory, Indirect, Data}
-use Rattle.base.specs.tree.Faults.{IsSoundAt}
-use Rattle.object_maps.specs.Walking.{AreSound, IsFaultFrom}
+use Rattle.base.specs.tree.Damages.{IsSoundAt}
+use Rattle.object_maps.specs.Walking.{AreSound, IsDamageFrom}
 
 -- a quotient and a remainder are told by their number
 parts-told : (q k p j r s : ℕ) → k < 63 → j < 63 → r < 85 → s < 85 → 5356 * q + 85 * k + r ≡ 5356 * p + 85 * j + s → (q ≡ p) × ((k ≡ j) × (r ≡ s))
@@ -65,15 +65,15 @@ sound_one image frame root place start end there at next sound = record {
   each = λ other in_range low high. subst (λ (p : Place). IsSoundAt image frame root p) (same_place place other there in_range (omega (arith, at, next, low, high))) sound;
 }
 
--- a fault after a sound part
-pub fault_behind : (image : List ℕ) (frame : Frame) (root : Pointer) (start middle kind address : ℕ) → start ≤ middle → AreSound image frame root start middle → IsFaultFrom image frame root middle kind address
-    → IsFaultFrom image frame root start kind address
-fault_behind image frame root start middle kind address low sound f = record {
+-- a damage after a sound part
+pub damage_behind : (image : List ℕ) (frame : Frame) (root : Pointer) (start middle kind address : ℕ) → start ≤ middle → AreSound image frame root start middle → IsDamageFrom image frame root middle kind address
+    → IsDamageFrom image frame root start kind address
+damage_behind image frame root start middle kind address low sound f = record {
   place = f.place;
   in_range = f.in_range;
   kind_is = f.kind_is;
   address_is = f.address_is;
-  faulty = f.faulty;
+  damaged = f.damaged;
   reached = omega (arith, low, f.reached);
   before = sound_more image frame root start middle (walk_index_of f.place) sound f.before;
 }

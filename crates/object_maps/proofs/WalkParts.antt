@@ -10,11 +10,11 @@ use Rattle.base.specs.formats.Blocks.{Frame, payload_at}
 use Rattle.base.specs.tree.Places.{walk_index_of_indirect, pointer_of, pointer_below, directory_pointer}
 use Rattle.base.specs.tree.Places.Place.{Root, Directory, Indirect, Data}
 use Rattle.base.specs.tree.Tree.{OpensAt}
-use Rattle.base.specs.tree.Faults.{IsPointerForm, IsSoundAt, IsRecordPointerForm, IsFirstFault}
+use Rattle.base.specs.tree.Damages.{IsPointerForm, IsSoundAt, IsRecordPointerForm, IsFirstDamage}
 use Rattle.object_maps.specs.Pointers.{pointer_of_list}
-use Rattle.object_maps.specs.Walking.{AreSound, IsFaultFrom, Walks, TellsFault, IsDataOf, AreDataOf, IsIndirectOf, IsPayloadOf, AreDirectoriesOf}
-use Rattle.object_maps.proofs.WalkOrder.{index_within, sound_none, sound_more, sound_one, fault_behind}
-use Rattle.object_maps.proofs.WalkFaults.{below_block, sound_at, formless_fault, fault_at, there, same-kind, same-address}
+use Rattle.object_maps.specs.Walking.{AreSound, IsDamageFrom, Walks, TellsDamage, IsDataOf, AreDataOf, IsIndirectOf, IsPayloadOf, AreDirectoriesOf}
+use Rattle.object_maps.proofs.WalkOrder.{index_within, sound_none, sound_more, sound_one, damage_behind}
+use Rattle.object_maps.proofs.WalkDamages.{below_block, sound_at, formless_damage, damage_at, there, same-kind, same-address}
 
 -- one part after another, by equal indexes
 pub sound_then : (image : List ℕ) (frame : Frame) (root : Pointer) (start middle begin last end : ℕ) → middle ≡ begin → last ≡ end → AreSound image frame root start middle → AreSound image frame root begin last
@@ -22,14 +22,14 @@ pub sound_then : (image : List ℕ) (frame : Frame) (root : Pointer) (start midd
 sound_then image frame root start middle begin last end here there first second =
     subst (λ (k : ℕ). AreSound image frame root start k) there (sound_more image frame root start begin last (subst (λ (k : ℕ). AreSound image frame root start k) here first) second)
 
--- a fault after a sound part is told
+-- a damage after a sound part is told
 pub tells_behind : (image : List ℕ) (frame : Frame) (root : Pointer) (start middle begin : ℕ) (e : PoolError) → start ≤ middle → middle ≡ begin → AreSound image frame root start middle
-    → TellsFault image frame root begin e → TellsFault image frame root start e
+    → TellsDamage image frame root begin e → TellsDamage image frame root start e
 tells_behind image frame root start middle begin e low here sound tells = λ kind address d.
-    fault_behind image frame root start middle kind address low sound (subst (λ (k : ℕ). IsFaultFrom image frame root k kind address) (sym here) (tells kind address d))
+    damage_behind image frame root start middle kind address low sound (subst (λ (k : ℕ). IsDamageFrom image frame root k kind address) (sym here) (tells kind address d))
 
--- a refusal of a walk tells its first fault
-pub told_by : {T : Type 0} (image : List ℕ) (frame : Frame) (root : Pointer) (start end : ℕ) (r : Result T PoolError) → Walks image frame root start end r → IfErr r (TellsFault image frame root start)
+-- a refusal of a walk tells its first damage
+pub told_by : {T : Type 0} (image : List ℕ) (frame : Frame) (root : Pointer) (start end : ℕ) (r : Result T PoolError) → Walks image frame root start end r → IfErr r (TellsDamage image frame root start)
 told_by image frame root start end (Ok x) walks = tt
 told_by image frame root start end (Err e) walks = walks
 
@@ -94,12 +94,12 @@ data_linked image frame root n size indirect payload records i opens read = reco
   size_is = i.size_is;
 }
 
--- a pointer of an object that is not formed is a fault of its indirect block
-pub indirect_fault : (image : List ℕ) (frame : Frame) (root : Pointer) (n size : ℕ) (indirect : Pointer) (payload : List ℕ) (e : PoolError) → n < object_count → IsIndirectOf image root n indirect size
+-- a pointer of an object that is not formed is a damage of its indirect block
+pub indirect_damage : (image : List ℕ) (frame : Frame) (root : Pointer) (n size : ℕ) (indirect : Pointer) (payload : List ℕ) (e : PoolError) → n < object_count → IsIndirectOf image root n indirect size
     → (indirect ≡ no_pointer → ⊥) → OpensAt image frame (Indirect n) indirect payload → (((r : ℕ) → r < pointer_count → IsRecordPointerForm size (record_size * r) (pointer_in payload r)) → ⊥)
-    → e ≡ Damaged 4 indirect.address → TellsFault image frame root (walk_index_of_indirect n) e
-indirect_fault image frame root n size indirect payload e low i there opens not told =
-    formless_fault image frame root (Indirect n) (walk_index_of_indirect n) indirect payload e low refl i.at there opens
+    → e ≡ Damaged 4 indirect.address → TellsDamage image frame root (walk_index_of_indirect n) e
+indirect_damage image frame root n size indirect payload e low i there opens not told =
+    formless_damage image frame root (Indirect n) (walk_index_of_indirect n) indirect payload e low refl i.at there opens
     (λ formed. not (λ r within. subst (λ (k : ℕ). IsRecordPointerForm k (record_size * r) (pointer_in payload r)) i.size_is (formed r within))) told
 
 no_entry_pointer : entry_pointer (replicate 64 0) ≡ no_pointer
@@ -146,9 +146,9 @@ entry_skip image frame root d k payload hd hk p absent sound =
     (object_none image frame root (entry_count * d + k) (omega (arith, hd, hk))
     ((entry_linked image frame root d k payload hk p).at ∙ ap entry_pointer absent ∙ no_entry_pointer))
 
--- a fault of the object that comes next is told from the directory's objects on
+-- a damage of the object that comes next is told from the directory's objects on
 pub entry_tells : (image : List ℕ) (frame : Frame) (root : Pointer) (d k : ℕ) (e : PoolError) → k < entry_count → AreSound image frame root (2 + 5356 * d) (2 + 5356 * d + 85 * k)
-    → TellsFault image frame root (walk_index_of_indirect (entry_count * d + k)) e → TellsFault image frame root (2 + 5356 * d) e
+    → TellsDamage image frame root (walk_index_of_indirect (entry_count * d + k)) e → TellsDamage image frame root (2 + 5356 * d) e
 entry_tells image frame root d k e low sound tells =
     tells_behind image frame root (2 + 5356 * d) (2 + 5356 * d + 85 * k) (walk_index_of_indirect (entry_count * d + k)) e (omega arith) (sym (index_within d k low)) sound tells
 
@@ -173,9 +173,9 @@ directory_sound image frame root d low here below =
     let next : 2 + 5356 * d ≡ 1 + 5356 * d + 1 = omega arith in
     sound_more image frame root (1 + 5356 * d) (2 + 5356 * d) (1 + 5356 * (d + 1)) (sound_one image frame root (Directory d) (1 + 5356 * d) (2 + 5356 * d) low refl next here) below
 
--- a fault among its objects
+-- a damage among its objects
 pub directory_tells : (image : List ℕ) (frame : Frame) (root : Pointer) (d : ℕ) (e : PoolError) → d < pointer_count → IsSoundAt image frame root (Directory d)
-    → TellsFault image frame root (2 + 5356 * d) e → TellsFault image frame root (1 + 5356 * d) e
+    → TellsDamage image frame root (2 + 5356 * d) e → TellsDamage image frame root (1 + 5356 * d) e
 directory_tells image frame root d e low here tells =
     let next : 2 + 5356 * d ≡ 1 + 5356 * d + 1 = omega arith in
     tells_behind image frame root (1 + 5356 * d) (2 + 5356 * d) (2 + 5356 * d) e (omega arith) refl
@@ -202,23 +202,23 @@ directories_linked image frame root payload directories opens read = record {
   at = λ d low. below_block image frame 2 0 root payload (λ (l : List ℕ). pointer_in l d) opens ∙ sym (read d low);
 }
 
--- a root with no address that is not all zeros is a fault
-pub root_fault : (image : List ℕ) (frame : Frame) (root : Pointer) (e : PoolError) → root.address ≡ 0 → (root ≡ no_pointer → ⊥) → e ≡ Damaged 2 root.address → TellsFault image frame root 0 e
-root_fault image frame root e nowhere named is = λ kind address d.
+-- a root with no address that is not all zeros is a damage
+pub root_damage : (image : List ℕ) (frame : Frame) (root : Pointer) (e : PoolError) → root.address ≡ 0 → (root ≡ no_pointer → ⊥) → e ≡ Damaged 2 root.address → TellsDamage image frame root 0 e
+root_damage image frame root e nowhere named is = λ kind address d.
     let told : Damaged 2 root.address ≡ Damaged kind address = sym is ∙ d in
-    fault_at image frame root Root 0 kind address root (tt {0}) refl refl named (same-kind 2 root.address kind address told) (same-address 2 root.address kind address told)
+    damage_at image frame root Root 0 kind address root (tt {0}) refl refl named (same-kind 2 root.address kind address told) (same-address 2 root.address kind address told)
     (λ payload opens formed. there image frame 2 0 root payload opens nowhere)
 
--- a fault of the whole walk is the first one
-pub first_fault : (image : List ℕ) (frame : Frame) (root : Pointer) (e : PoolError) → TellsFault image frame root 0 e → (kind address : ℕ) → e ≡ Damaged kind address
-    → IsFirstFault image frame root kind address
-first_fault image frame root e tells kind address d =
+-- a damage of the whole walk is the first one
+pub first_damage : (image : List ℕ) (frame : Frame) (root : Pointer) (e : PoolError) → TellsDamage image frame root 0 e → (kind address : ℕ) → e ≡ Damaged kind address
+    → IsFirstDamage image frame root kind address
+first_damage image frame root e tells kind address d =
     let f = tells kind address d in
     record {
       place = f.place;
       in_range = f.in_range;
       kind_is = f.kind_is;
       address_is = f.address_is;
-      faulty = f.faulty;
+      damaged = f.damaged;
       sound_before = λ other in_range low. f.before.each other in_range (omega arith) low;
     }

@@ -7,7 +7,7 @@ use Rattle.base.specs.disk.Disk.{Disk, bytes_of}
 use Rattle.base.specs.formats.Blocks.{Frame}
 use Rattle.base.specs.formats.Fields.{entry_in}
 use Rattle.base.specs.formats.Limits.{entry_count, record_count, record_size}
-use Rattle.base.specs.tree.Faults.{IsEntryForm, IsRecordPointerForm}
+use Rattle.base.specs.tree.Damages.{IsEntryForm, IsRecordPointerForm}
 use Rattle.object_maps.specs.declared.tree.ObjectMap.{ObjectMap}
 use Rattle.object_maps.specs.declared.walk.Entry.{Entry}
 use Rattle.object_maps.specs.Loading.{AreEmptyFrom, Shows}

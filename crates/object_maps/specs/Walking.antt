@@ -10,30 +10,30 @@ use Rattle.base.specs.tree.Places.Place.{Directory, Indirect, Data}
 use Rattle.base.specs.formats.Limits.{pointer_count, directory_stride}
 use Rattle.base.specs.tree.Tree.{OpensAt}
 use Rattle.object_maps.specs.Pointers.{pointer_of_list}
-use Rattle.base.specs.tree.Faults.{IsSoundAt, length_in}
+use Rattle.base.specs.tree.Damages.{IsSoundAt, length_in}
 
 -- the places of the walk from one index up to another are sound
 pub record AreSound (image : List ℕ) (frame : Frame) (root : Pointer) (start end : ℕ) : Type 0 where
   pub each : (other : Place) → IsPlace other → start ≤ walk_index_of other → walk_index_of other < end → IsSoundAt image frame root other
 
--- the first fault of the walk from an index on
-pub record IsFaultFrom (image : List ℕ) (frame : Frame) (root : Pointer) (start kind address : ℕ) : Type 0 where
+-- the first damage of the walk from an index on
+pub record IsDamageFrom (image : List ℕ) (frame : Frame) (root : Pointer) (start kind address : ℕ) : Type 0 where
   pub place : Place
   pub in_range : IsPlace place
   pub kind_is : kind_of place ≡ kind
   pub address_is : (pointer_of image root place).address ≡ address
-  pub faulty : IsSoundAt image frame root place → ⊥
+  pub damaged : IsSoundAt image frame root place → ⊥
   pub reached : start ≤ walk_index_of place
   pub before : AreSound image frame root start (walk_index_of place)
 
--- a Damaged tells the first fault of the walk from an index on
-abbrev pub TellsFault : List ℕ → Frame → Pointer → ℕ → PoolError → Type 0
-TellsFault image frame root start e = (kind address : ℕ) → e ≡ Damaged kind address → IsFaultFrom image frame root start kind address
+-- a Damaged tells the first damage of the walk from an index on
+abbrev pub TellsDamage : List ℕ → Frame → Pointer → ℕ → PoolError → Type 0
+TellsDamage image frame root start e = (kind address : ℕ) → e ≡ Damaged kind address → IsDamageFrom image frame root start kind address
 
 -- an answer of a walk over the places from one index up to another: they are sound, or a Damaged tells their first
--- fault
+-- damage
 abbrev pub Walks : {T : Type 0} → List ℕ → Frame → Pointer → ℕ → ℕ → Result T PoolError → Type 0
-Walks image frame root start end result = MatchResult result (λ x. AreSound image frame root start end) (λ e. TellsFault image frame root start e)
+Walks image frame root start end result = MatchResult result (λ x. AreSound image frame root start end) (λ e. TellsDamage image frame root start e)
 
 -- where the walk comes to directory d, and to its objects
 abbrev pub directory_index : ℕ → ℕ

@@ -2,7 +2,7 @@
 //! directory, rising, and for each of its entries, rising, the indirect block and after it the records, rising.
 //!
 //! A block is taken only if it is the one that its pointer names, and what it holds is tested before anything below it
-//! is read. So the block that a load is refused for is the first fault of the walk.
+//! is read. So the block that a load is refused for is the first damage of the walk.
 
 ghost use Rattle.std.specs.Prelude.{◌≡◌, ◌≢◌, ℕ, ◌+◌, ◌*◌, ◌<◌, ◌≤◌, ◌↔◌, List, IfOk, IfErr, OnOk, IsTrue, Some, true, drop, get_or, length, replicate, vec_len};
 ghost use Rattle.base.specs.formats.Limits.{object_count, object_stride, entry_count, max_length, payload_size, pointer_count, record_count, record_size};
@@ -11,7 +11,7 @@ ghost use Rattle.base.specs.disk.Disk.{bytes_of};
 ghost use Rattle.base.specs.formats.Geometry.{block_address, IsBlockAddress};
 ghost use Rattle.base.specs.formats.Blocks.{Opens};
 ghost use Rattle.base.specs.tree.Tree.{record_bytes};
-ghost use Rattle.base.specs.tree.Faults.{IsPointerForm, IsEntryForm, IsOneLevelForm, IsRecordPointerForm, IsFirstFault};
+ghost use Rattle.base.specs.tree.Damages.{IsPointerForm, IsEntryForm, IsOneLevelForm, IsRecordPointerForm, IsFirstDamage};
 ghost use Rattle.base.specs.tree.PlacedTrees.{HoldsTree, ArePlaced};
 ghost use Rattle.device_model.specs.Reading.{OnlyReads};
 ghost use Rattle.checked_blocks.proofs.NamedBlocks.{IsNamed};
@@ -23,7 +23,7 @@ ghost use Rattle.base.specs.tree.Places.{IsPlace, pointer_of, walk_index_of, wal
 ghost use Rattle.base.specs.tree.Places.Place.{Directory, Data};
 ghost use Rattle.object_maps.specs.Loaders.{AreRecordPointers, IsEntryPayload, IsObjectOf, LoadsFrom, OnImage, OnWalk};
 ghost use Rattle.object_maps.specs.Surveys.{HasLimitedObjects, HasObjects};
-ghost use Rattle.object_maps.specs.Walking.{TellsBlock, TellsFault, Walks, IsDataOf, AreDataOf, IsIndirectOf, IsPayloadOf, AreDirectoriesOf, directory_index, objects_index};
+ghost use Rattle.object_maps.specs.Walking.{TellsBlock, TellsDamage, Walks, IsDataOf, AreDataOf, IsIndirectOf, IsPayloadOf, AreDirectoriesOf, directory_index, objects_index};
 
 use crate::contents::{Slot, empty_slots};
 use crate::objects::{Maps, ObjectSink, Objects};
@@ -217,7 +217,7 @@ fn damaged(kind: Kind, pointer: &Pointer) -> PoolError
 /// Loads the objects of the tree under a root pointer, and the tree's pointers.
 ///
 /// # Errors
-/// `Damaged` with the first fault in the order of the walk: the root, then each directory, and for its entries each
+/// `Damaged` with the first damage in the order of the walk: the root, then each directory, and for its entries each
 /// indirect block and its records, all rising. `Read` if the device refuses a read, `NoMemory`.
 pub fn load<D: SectorDevice>(
     alloc: Global,
@@ -239,10 +239,10 @@ pub fn load<D: SectorDevice>(
         HoldsTree (bytes_of (D.disk device.old).now)
         frame.now (pointers_of l.tree) (objects_of l.slots.items)) }
 
-    // And the block that is reported as damaged is the first fault of the walk.
-    ensures fault { IsTrue D.keeps_model → IfErr result (λ e.
+    // And the block that is reported as damaged is the first damage of the walk.
+    ensures damage { IsTrue D.keeps_model → IfErr result (λ e.
         (kind address : ℕ) → e ≡ PoolError.Damaged kind address
-        → IsFirstFault (bytes_of (D.disk device.old).now) frame.now root kind address) }
+        → IsFirstDamage (bytes_of (D.disk device.old).now) frame.now root kind address) }
 {
     let loader = Loader { alloc, frame };
     let slots = empty_slots(alloc)?;
@@ -264,7 +264,7 @@ pub fn load<D: SectorDevice>(
 /// lengths of its objects. No object's bytes are kept: while it walks it has those of one.
 ///
 /// # Errors
-/// As `load`: `Damaged` with the first fault in the order of the walk, `Read` if the device refuses a read, `NoMemory`.
+/// As `load`: `Damaged` with the first damage in the order of the walk, `Read` if the device refuses a read, `NoMemory`.
 pub fn survey<D: SectorDevice>(
     alloc: Global,
     device: &mut D,
@@ -283,10 +283,10 @@ pub fn survey<D: SectorDevice>(
     ensures objects { IfOk result
         (HasObjects D.keeps_model (bytes_of (D.disk device.old).now) frame.now) }
 
-    // And the block that is reported as damaged is the first fault of the walk.
-    ensures fault { IsTrue D.keeps_model → IfErr result (λ e.
+    // And the block that is reported as damaged is the first damage of the walk.
+    ensures damage { IsTrue D.keeps_model → IfErr result (λ e.
         (kind address : ℕ) → e ≡ PoolError.Damaged kind address
-        → IsFirstFault (bytes_of (D.disk device.old).now) frame.now root kind address) }
+        → IsFirstDamage (bytes_of (D.disk device.old).now) frame.now root kind address) }
 {
     let loader = Loader { alloc, frame };
     let maps = empty_maps(alloc)?;
@@ -346,9 +346,9 @@ impl Loader<'_> {
             (LoadsFrom 0 S.stands_for S.maps objects.old objects.new
             (λ _ after _. IsLoadedTree D.keeps_model image self.now.frame.now
             root.now directories.new after))) }
-        ensures fault { IsTrue D.keeps_model → (image : List ℕ)
+        ensures damage { IsTrue D.keeps_model → (image : List ℕ)
             → bytes_of (D.disk device.old).now ≡ image
-            → IfErr result (TellsFault image self.now.frame.now root.now 0) }
+            → IfErr result (TellsDamage image self.now.frame.now root.now 0) }
     {
         if root.is_none() {
             return Ok(());

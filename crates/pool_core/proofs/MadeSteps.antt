@@ -1,6 +1,6 @@
 -- A call of a pool on its device, with the reply that is made of its answer, is a step. So is a call whose answer was
 -- mapped to that reply.
-use Rattle.std.proofs.Common.{◌≡◌, ℕ, true, false, List, [], refl, ap, sym, subst, ◌∙◌}
+use Rattle.std.proofs.Common.{◌≡◌, ℕ, Bool, true, false, List, [], refl, ap, sym, subst, ◌∙◌}
 use Rattle.std.specs.Prelude.{IsOkAnd, IsTrue, MatchResult, None, OnErr, Option, Result, Ok, Err, length, option_map}
 use Rattle.base.specs.declared.error.PoolError.{PoolError}
 use Rattle.base.specs.declared.names.Group.{Group}
@@ -18,8 +18,8 @@ use Rattle.base.specs.disk.Disk.{bytes_of}
 use Rattle.base.specs.history.Past.{Past}
 use Rattle.base.specs.steps.ExactNow.{IsExplainedNow}
 use Rattle.base.specs.steps.Runs.{Replies, is_start, progress_reply, reply_of}
-use Rattle.base.specs.steps.Shown.{status_of}
-use Rattle.base.specs.steps.Stage as stage
+use Rattle.base.specs.steps.Shown.{is_durable, status_of}
+use Rattle.base.specs.steps.BuiltSteps as as_built
 use Rattle.base.specs.steps.Steps as steps
 use Rattle.base.specs.steps.Steps.{Answers, State}
 use Rattle.base.specs.stored.Stored.{is_turn}
@@ -143,7 +143,7 @@ module _ {Dev : Type 0} {G : Ghosts Dev} {old new : PoolState Dev G} where
     where
       replies : StepReplies (step.StartSync moment) (start_reply answer) (shown old) (shown new)
       replies past explained =
-          replied_with (λ answer later. stage.StartSync ⊥ [] moment answer (record { shown = shown old; past = past }) (record { shown = shown new; past = later }))
+          replied_with (λ answer later. as_built.StartSync ⊥ [] moment answer (record { shown = shown old; past = past }) (record { shown = shown new; past = later }))
           group_number (λ (g : ℕ). reply.Syncing (record { 0 = g })) answer (start_reply answer) refl (starts past (explained refl))
 
       leads : IsTrue G.keeps_model → Leads (start_reply answer) (told old) (told new)
@@ -178,6 +178,13 @@ pub name_step : {Dev : Type 0} {G : Ghosts Dev} {state : PoolState Dev G} (name 
 name_step name is =
     plain_step {s = step.Name} {Does = λ answer x y. Answers None answer x y (λ name. steps.Name name x y) steps.Never} {make = λ name. reply.Name name} {answer = Ok name}
     (λ r x y h. h) refl (λ b. refl) (λ r d. d) (λ past. (past, (is, refl))) (read_moves_nothing refl (record { device = refl; own = λ calls. refl }))
+
+-- and whether a receipt is durable
+pub durable_step : {Dev : Type 0} {G : Ghosts Dev} {state : PoolState Dev G} (receipt : Receipt) (durable : Bool) → durable ≡ is_durable (shown state) receipt.ordinal.0 receipt.group.0
+    → MakesStep (step.Durable receipt) (reply.Durable durable) state state
+durable_step receipt durable is =
+    plain_step {s = step.Durable receipt} {Does = λ answer x y. Answers None answer x y (λ durable. steps.Durable receipt.ordinal.0 receipt.group.0 durable x y) steps.Never} {make = λ durable. reply.Durable durable}
+    {answer = Ok durable} (λ r x y h. h) refl (λ b. refl) (λ r d. d) (λ past. (past, (is, refl))) (read_moves_nothing refl (record { device = refl; own = λ calls. refl }))
 
 -- and the status
 pub status_step : {Dev : Type 0} {G : Ghosts Dev} {state : PoolState Dev G} (status : Status) → status ≡ status_of (shown state) → MakesStep step.Status (reply.Status status) state state

@@ -8,7 +8,7 @@ use Rattle.base.specs.declared.step.Step.TheVariants as step
 use Rattle.base.specs.declared.step.Reply as declared_reply
 use Rattle.base.specs.declared.step.Reply.TheVariants as reply
 use Rattle.base.specs.steps.Runs.{is_start}
-use Rattle.base.specs.steps.Stage as stage
+use Rattle.base.specs.steps.BuiltSteps as as_built
 use Rattle.base.proofs.steps.AnyDevice.{same_over}
 use Rattle.device_model.specs.declared.device.SectorDevice.{Ghosts}
 use Rattle.pool_core.specs.declared.state.PoolState.{PoolState}
@@ -30,5 +30,5 @@ pub start_over : {Dev : Type 0} {G : Ghosts Dev} (old new : PoolState Dev G) (gi
     → StartsHeldOver moment answer (told old) (told new) → given ≡ start_reply answer → StepsOver (step.StartSync moment) given (told old) (told new)
 start_over old new given moment answer held is past x =
     let now : List ℕ = (told old).now in
-    replied_with (λ answer later. stage.StartSync (Unit {0}) now moment answer (state_with (told old) past) (state_with (told new) later))
+    replied_with (λ answer later. as_built.StartSync (Unit {0}) now moment answer (state_with (told old) past) (state_with (told new) later))
     (λ (g : Group). g.0) (λ (g : ℕ). reply.Syncing (record { 0 = g })) answer given is (held past x)

@@ -21,7 +21,7 @@ use Rattle.base.specs.steps.Shown.{Shown, SyncPlan}
 use Rattle.base.specs.stored.Stored.{Held, IsHeld}
 use Rattle.device_model.specs.declared.device.SectorDevice.{Ghosts}
 use Rattle.sync.specs.declared.run.SyncRun.{SyncRun}
-use Rattle.sync.specs.Phases.{HasPhasesSince, SyncViews}
+use Rattle.sync.specs.Phases.{IsUnderWay, SyncViews}
 use Rattle.sync.specs.Runs.{call_count}
 use Rattle.pool_core.specs.declared.state.PoolState.{PoolState}
 use Rattle.pool_tables.specs.Told.{held_with, state_with}
@@ -36,9 +36,9 @@ pub record OnDisk : Type 0 where
   pub disk : Disk
   pub run : Option SyncRun
 
--- While a sync runs: since it began it leads from the view of the synced group to that of its own, and each moment
--- since then was of one of its phases. Of both the log is held, and both leave room for an import. What a read gives is
--- fair, and no config of the pool above the synced group counts. (None writes label stages so far.)
+-- While a sync runs: it is under way from the view of the synced group to that of its own. Of both the log is held, and
+-- both leave room for an import. What a read gives is fair, and no config of the pool above the synced group counts.
+-- (None writes label stages so far.)
 pub record IsSyncOnDisk (run : SyncRun) (disk : Disk) (s : Shown) (past : Past) : Type 0 where
   pub no_stages : run.stages ≡ None
   pub left : run.done < call_count run
@@ -46,10 +46,10 @@ pub record IsSyncOnDisk (run : SyncRun) (disk : Disk) (s : Shown) (past : Past) 
   pub plan : SyncPlan
   pub syncing : s.line.syncing ≡ Some group
   pub running : s.sync ≡ Some plan
-  pub start : Disk
+  pub base : List ℕ
   pub views : SyncViews
   pub created : views.created ≡ past.created
-  pub since : HasPhasesSince start views run disk
+  pub way : IsUnderWay base views run disk.now
   pub old_is : IsViewOf views.flushed views.old s past s.line.synced s.root (header_now s.log)
   pub new_is : IsViewOf views.new_flushed views.new s past group plan.root plan.header
   pub old_held : IsLogHeld run.geometry past.created views.flushed s.suspended disk.now views.old

@@ -270,6 +270,25 @@ impl<D: SectorDevice> PoolCall<D> for ReadStatus {
     }
 }
 
+/// `PoolState::durable` as a value. It is never refused.
+#[derive(Clone, Copy, Debug, PartialEq, Eq)]
+pub struct Durable {
+    /// What the commit returned.
+    pub receipt: Receipt,
+}
+
+impl<D: SectorDevice> PoolCall<D> for Durable {
+    type Answer = bool;
+
+    ghost step = { λ c. step.Durable c.receipt };
+
+    ghost reply = { λ durable. reply.Durable durable };
+
+    fn make(self, state: &mut PoolState<D>) -> Result<bool, PoolError> {
+        Ok(state.durable(self.receipt))
+    }
+}
+
 /// `PoolState::close_group` as a value.
 #[derive(Clone, Copy, Debug, PartialEq, Eq)]
 pub struct CloseGroup;

@@ -9,7 +9,7 @@ ghost use Rattle.pool_core.specs.States.{shown};
 
 use crate::runs::run;
 use crate::state::PoolState;
-use base::{Group, LockId, Owner, PoolError, Reply, Step};
+use base::{Group, LockId, Ordinal, Owner, PoolError, Receipt, Reply, Step};
 use device_model::SectorDevice;
 
 // A suspended pool releases no lock.
@@ -23,6 +23,29 @@ fn a_suspended_pool_releases_no_lock<D: SectorDevice>(
     ensures unchanged { shown pool.new ≡ shown pool.old }
 {
     pool.unlock(owner, id)
+}
+
+// Group 8 is synced, so a commit to it is durable.
+fn a_synced_commit_is_durable<D: SectorDevice>(pool: &PoolState<D>) -> bool
+    requires { (shown pool.now).line.synced ≡ 8 }
+    ensures { result ≡ true }
+{
+    pool.durable(Receipt {
+        ordinal: Ordinal(3),
+        group: Group(8),
+    })
+}
+
+// No log block is kept and group 9 isn't synced, so a commit to it isn't durable.
+fn an_unsynced_commit_is_not_durable<D: SectorDevice>(pool: &PoolState<D>) -> bool
+    requires synced { (shown pool.now).line.synced ≡ 8 }
+    requires none { (shown pool.now).log.kept ≡ [] }
+    ensures { result ≡ false }
+{
+    pool.durable(Receipt {
+        ordinal: Ordinal(3),
+        group: Group(9),
+    })
 }
 
 // A run of no steps has no reply, and leaves the pool unchanged.

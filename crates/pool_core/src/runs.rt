@@ -14,8 +14,8 @@ ghost use Rattle.pool_core.specs.StepReplies.{StepReplies};
 ghost use Rattle.pool_core.specs.Turns.{MakesStep, Turns};
 
 use crate::calls::{
-    Abort, Begin, CloseGroup, Commit, Digest, Length, Lock, LockAppend, MarkQuiesced, Name,
-    PoolCall, Read, ReadStatus, StartSync, SyncStep, Unlock,
+    Abort, Begin, CloseGroup, Commit, Digest, Durable, Length, Lock, LockAppend, MarkQuiesced,
+    Name, PoolCall, Read, ReadStatus, StartSync, SyncStep, Unlock,
 };
 use crate::state::PoolState;
 use base::{PoolError, Reply, Step};
@@ -85,6 +85,7 @@ impl<D: SectorDevice> PoolCall<D> for Step {
             Step::MarkQuiesced => MarkQuiesced.make(state).map(Reply::Quiesced),
             Step::StartSync(moment) => StartSync { moment }.make(state).map(Reply::Syncing),
             Step::SyncStep => SyncStep.make(state).map(progress_reply),
+            Step::Durable(receipt) => Durable { receipt }.make(state).map(Reply::Durable),
         }
     }
 

@@ -3,7 +3,7 @@
 ghost use Rattle.std.specs.Prelude.{◌≡◌, ◌≤◌, IfErr, IfOk, IsTrue, OnErr, length, map, option_map};
 ghost use Rattle.base.specs.steps.Groups.{Admission};
 ghost use Rattle.base.specs.steps.Refusals.{transaction_of};
-ghost use Rattle.base.specs.steps.Shown.{status_of};
+ghost use Rattle.base.specs.steps.Shown.{is_durable, status_of};
 ghost use Rattle.pool_tables.specs.Shows.{geometry_of};
 
 use base::{
@@ -281,6 +281,14 @@ impl<D: SectorDevice> PoolState<D> {
         ensures { result ≡ (shown self.now).contents.name }
     {
         self.pool.name()
+    }
+
+    /// Whether a committed transaction survives a crash: its group is synced. It is never refused, also of a suspended
+    /// pool, and takes no memory. Of a receipt that this run of the pool did not give, it says nothing.
+    pub fn durable(&self, receipt: Receipt) -> bool
+        ensures { result ≡ is_durable (shown self.now) receipt.ordinal.0 receipt.group.0 }
+    {
+        self.pool.durable(receipt)
     }
 
     /// The groups of the pool, and its sums: the bytes that are charged, the free blocks, and how many of them no

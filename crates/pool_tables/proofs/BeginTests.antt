@@ -12,7 +12,7 @@ use Rattle.base.specs.history.Plans.{charge_of, is_plan_allowed, is_shape_allowe
 use Rattle.base.specs.steps.Locks.{Grant}
 use Rattle.base.specs.steps.Refusals.{Test, blocks_wanted, first_refusal, is_plan_blocked, is_plan_covered}
 use Rattle.base.specs.steps.Shown.{Shown, available, dirty_total}
-use Rattle.base.specs.steps.Stage.{is_plan_built, is_shape_built, begin_refusal, begin_tests, Begin}
+use Rattle.base.specs.steps.BuiltSteps.{is_plan_built, is_shape_built, begin_refusal, begin_tests, Begin}
 use Rattle.base.specs.steps.Steps.{State, next_admission, state_after_charged_admission}
 use Rattle.throttle.specs.Blocks.{ShowsSums, blocks_of}
 use Rattle.throttle.specs.DirtyBytes.{DirtyBytes, after_admit}

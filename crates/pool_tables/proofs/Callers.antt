@@ -21,7 +21,7 @@ use Rattle.base.specs.steps.ExactNow.{IsExplainedNow}
 use Rattle.base.specs.steps.Groups.{Admission}
 use Rattle.base.specs.steps.Refusals.{abort_refusal, append_range, append_refusal, digest_refusal, length_refusal, quiesced_group, read_refusal, start_refusal, transaction_of}
 use Rattle.base.specs.steps.Shown.{Shown, SyncPlan}
-use Rattle.base.specs.steps.Stage as stage
+use Rattle.base.specs.steps.BuiltSteps as as_built
 use Rattle.base.specs.steps.Steps as steps
 use Rattle.base.specs.steps.Steps.{Answers, IsPlanned, IsReplayUpTo, State, TakesForEach, WantsMemory, bytes_in, next_grant, state_after_abort, state_after_grant, state_after_start, transactions_without}
 use Rattle.base.proofs.common.KeptLists.{Some-injective, any_at}
@@ -118,7 +118,7 @@ module _ (s new : Shown) where
 module _ (s : Shown) where
   -- the bytes of a range that are read
   pub read_bytes : (owner : ℕ) (range : NumberRange) (all : List ℕ) (answer : Result (List ℕ) PoolError) → finite.get s.contents.objects range.number ≡ Some all
-      → Meets (stage.Read owner range) answer s s → IfOk answer (λ bytes. bytes ≡ bytes_in range all)
+      → Meets (as_built.Read owner range) answer s s → IfOk answer (λ bytes. bytes ≡ bytes_in range all)
   read_bytes owner range all (Ok bytes) at meets =
       let later : State = after s s (meets (some_past s)).0 in
       let done = ok-none (read_refusal owner range s) bytes (before s s) later
@@ -151,7 +151,7 @@ module _ (s : Shown) where
   digest_by later (Err e) passes h = absurd (never_refused (digest_refusal s) e (before s s) (after s s later) (TellsDigest later) passes h)
 
   -- the digest that is told
-  pub told_digest : (answer : Result (List ℕ) PoolError) → s.suspended ≡ false → Meets stage.DigestInMemory answer s s → answer ≡ Ok (digest_of s.contents)
+  pub told_digest : (answer : Result (List ℕ) PoolError) → s.suspended ≡ false → Meets as_built.DigestInMemory answer s s → answer ≡ Ok (digest_of s.contents)
   told_digest answer running meets = digest_by (meets (some_past s)).0 answer (rw running refl) (meets (some_past s)).1
 
 -- an address that a sync takes is free no more

@@ -58,9 +58,9 @@ pub total-behind : (limit synced : ℕ) → total_of (dirty_behind limit synced)
 total-behind limit synced = rw (get-empty nat_cmp (synced + 1), get-empty nat_cmp (synced + 1 + 1), get-empty nat_cmp (synced + 1 + 1 + 1)) refl
 
 -- how many blocks a running sync has taken
-length-taken : (address : ℕ) (tree : Tree) (contents : Contents) (sync : Option RunningSync) → length (taken_of (option_map (plan_of address tree contents) sync)) ≡ taken_count sync
-length-taken address tree contents None = refl
-length-taken address tree contents (Some r) = length-map r.run.blocks.items (λ (b : PlannedBlock). block_address b.index)
+length-taken : (tree : Tree) (contents : Contents) (sync : Option RunningSync) → length (taken_of (option_map (plan_of tree contents) sync)) ≡ taken_count sync
+length-taken tree contents None = refl
+length-taken tree contents (Some r) = length-map r.run.blocks.items (λ (b : PlannedBlock). block_address b.index)
 
 module _ (p : PoolTables) where
   pub shows_sums : ShowsSums (pool_shown p) p.dirty
@@ -71,7 +71,7 @@ module _ (p : PoolTables) where
 
   -- what is available is what the free set says
   pub available_told : available_in p.free ≡ available (pool_shown p)
-  available_told k = available_of (free_count (pool_shown p)) ((p.free_counted.reserved ∙ sym pool_totals.reserved) k) ((p.free_counted.taken ∙ sym (length-taken p.log_address p.tree (contents_after_oldest p) p.sync)) k)
+  available_told k = available_of (free_count (pool_shown p)) ((p.free_counted.reserved ∙ sym pool_totals.reserved) k) ((p.free_counted.taken ∙ sym (length-taken p.tree (contents_after_oldest p) p.sync)) k)
 
   -- where a plan's blocks are available they may be reserved
   pub enough_free : (plan : List Shape) (count : ℕ) → count ≡ estimate_of plan → nat_lt (available (pool_shown p)) (blocks_wanted (pool_shown p).contents plan) ≡ false → is_short count 0 p.free ≡ true → ⊥

@@ -12,8 +12,9 @@ use Rattle.base.specs.history.Past.{Past}
 use Rattle.base.specs.history.Plans.{shape_of}
 use Rattle.base.specs.steps.ExactNow.{IsExplainedNow}
 use Rattle.base.specs.steps.Runs.{receipt_reply}
+use Rattle.base.specs.steps.Logs.{log_after_commit}
 use Rattle.base.specs.steps.Shown.{Shown}
-use Rattle.base.specs.steps.Stage.{is_shape_built}
+use Rattle.base.specs.steps.BuiltSteps.{is_shape_built}
 use Rattle.base.specs.steps.Steps.{Commit, State, state_after_commit, transactions_without}
 use Rattle.base.proofs.history.BuiltNames.{name-apply_all}
 use Rattle.base.proofs.steps.KeptTables.{steps_keep_tables}
@@ -22,8 +23,9 @@ use Rattle.object_maps.specs.Ops.{AreOpsAllowed, IsOpAllowed}
 use Rattle.pool_tables.specs.declared.pool.PoolTables.{PoolTables}
 use Rattle.pool_tables.specs.Entries.{shown_after_entry}
 use Rattle.pool_tables.specs.Meets.{MayCommit, MeetsExplained}
-use Rattle.pool_tables.specs.Pending.{AreChangesOfPending}
-use Rattle.pool_tables.specs.Shows.{pool_shown, record_of, shown_objects}
+use Rattle.pool_tables.specs.Unsynced.{AreChangesOfUnsynced}
+use Rattle.transactions.specs.Records.{record_fields}
+use Rattle.pool_tables.specs.Shows.{pool_shown, shown_objects}
 use Rattle.pool_tables.proofs.ReadContents.{read_as_explained}
 
 -- allowed operations are of shapes that are built
@@ -59,17 +61,16 @@ pub entered : (tx : ℕ) (ops : List Op) (group : ℕ) (s : Shown) → MayCommit
 entered tx ops group s may bytes allowed pool is past explained =
     let mid : State = after tx ops group s may bytes past in
     let x : IsExplainedNow mid.shown mid.past = after_explained tx ops group s may bytes past explained in
-    let log : mid.shown.log.pending ≡ map record_of pool.pending.items = sym (ap (λ (u : Shown). u.log.pending) is) in
-    let none : mid.shown.log.kept ≡ [] = sym (ap (λ (u : Shown). u.log.kept) is) in
-    let changes : AreChangesOfPending mid.shown.line.synced pool.pending.items pool.changes =
-    subst (λ (g : ℕ). AreChangesOfPending g pool.pending.items pool.changes) (ap (λ (u : Shown). u.line.synced) is) pool.unsynced.changed in
+    let log : mid.shown.log.unsynced ≡ map record_fields pool.unsynced.items = sym (ap (λ (u : Shown). u.log.unsynced) is) in
+    let changes : AreChangesOfUnsynced mid.shown.line.synced pool.unsynced.items pool.changes =
+    subst (λ (g : ℕ). AreChangesOfUnsynced g pool.unsynced.items pool.changes) (ap (λ (u : Shown). u.line.synced) is) pool.unsynced_kept.changed in
     let objects : shown_objects pool ≡ may.after.objects = ap (λ (u : Shown). laid_all pool.changes u.synced_contents.objects) is
-    ∙ read_as_explained mid.shown mid.past x none pool.pending.items log pool.changes changes in
+    ∙ read_as_explained mid.shown mid.past x pool.unsynced.items log pool.changes changes in
     let name : s.contents.name ≡ may.after.name = sym (name-apply_all ops s.contents may.after (built_ops ops allowed) may.applied) in
     let whole : pool_shown pool ≡ mid.shown = is ∙ (λ k. record s {
       transactions = transactions_without tx s.transactions;
       contents = record { name = name k; objects = objects k };
       next_ordinal = s.next_ordinal + 1;
-      log = record s.log { pending = s.log.pending ++ record { group = group; ordinal = s.next_ordinal; ops = ops } ∷ [] };
+      log = log_after_commit (record { group = group; ordinal = s.next_ordinal; ops = ops }) s.log;
     }) in
     (mid.past, subst (λ (u : Shown). Commit tx ops (Ok (s.next_ordinal, group)) (record { shown = s; past = past }) (record { shown = u; past = mid.past })) (sym whole) (defined tx ops group s may bytes past))

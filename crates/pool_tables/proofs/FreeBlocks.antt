@@ -1,27 +1,18 @@
 -- Blocks that are taken from the free ones, or come back to them, one after another.
-use Rattle.std.proofs.Common.{◌≡◌, ℕ, ◌+◌, ◌-◌, ◌/◌, ◌%◌, ◌<◌, ◌≤◌, Bool, true, false, not, ◌&&◌, ◌||◌, List, [], ◌∷◌, ◌++◌, length, map, take, refl, sym, ◌∙◌, ap, subst, arith, nat_le, nat_lt, add-zero}
-use Rattle.std.specs.Prelude.{All, get_or, ◌==◌}
+use Rattle.std.proofs.Common.{◌≡◌, ℕ, ◌+◌, ◌<◌, Bool, true, false, not, ◌&&◌, ◌||◌, List, [], ◌∷◌, ◌++◌, length, map, take, refl, sym, ◌∙◌, ap, arith, add-zero}
+use Rattle.std.specs.Prelude.{get_or}
 use Rattle.std.specs.List.{list_any}
 use Rattle.std.specs.Ordering.{nat_cmp, eq_by_cmp}
-use Rattle.std.proofs.Math.Nat.{div-add-mod}
 use Rattle.std.proofs.lemmas.List.{length-append, length-map, length-take-le, take_more, map-append}
 use Rattle.std.proofs.lemmas.List.Folds.{list_any-append}
 use Rattle.std.proofs.lemmas.Cmp.{nat_cmp_total}
-use Rattle.std.proofs.Math.Logic.{∥∥₁_elim}
-use mathlib.Core.Bool.{Bool-set}
-use Rattle.std.proofs.lemmas.Bool.{and_from, and_parts, eq-eqb, eqb-true, le-leb, leb-true, lt-ltb, ltb-true}
 use Rattle.std.specs.FinSet as set
 use Rattle.std.specs.FinSet.{FinSet, contains-empty, contains-insert, contains-remove, contains-from_list, contains-difference, contains-union, same_set, nat_cmp-IsAntisymmetric}
-use Rattle.base.specs.formats.Geometry.{IsBlockAddress, block_address, block_area, block_size}
+use Rattle.base.specs.formats.Geometry.{block_address}
 use Rattle.space.specs.FreeSets.{FreeSpace, after_give, after_sync_take}
 use Rattle.tree_plans.specs.declared.planner.PlannedBlock.{PlannedBlock}
-use Rattle.base.specs.tree.PlacedTrees.{ArePlaced, IsPlaced}
-use Rattle.object_maps.specs.declared.tree.Tree.{Tree}
-use Rattle.object_maps.specs.Pointers as kept
-use Rattle.tree_plans.specs.Pointers as plans
 use Rattle.tree_plans.specs.Plans.{address_of}
-use Rattle.pool_tables.specs.Areas.{after_gives, after_sync_takes, is_block_of}
-use Rattle.pool_tables.proofs.syncs.PlannedPointers.{same_tree}
+use Rattle.pool_tables.specs.Areas.{after_gives, after_sync_takes}
 
 and_true : (b : Bool) → (b && true) ≡ b
 and_true true = refl
@@ -76,6 +67,39 @@ union_more s xs x = same_set nat_cmp_total nat_cmp-IsAntisymmetric _ _ (λ q.
     turned false false true = refl
     turned false false false = refl
 
+-- the first one may come back before the others
+union_first : (s : FinSet nat_cmp) (x : ℕ) (rest : List ℕ) → set.union s (set.from_list (x ∷ rest)) ≡ set.union (set.insert s x) (set.from_list rest)
+union_first s x rest = same_set nat_cmp_total nat_cmp-IsAntisymmetric _ _ (λ q.
+    contains-union nat_cmp_total s (set.from_list (x ∷ rest)) q
+    ∙ ap (λ b. set.contains s q || b) (contains-from_list nat_cmp_total (x ∷ rest) q)
+    ∙ turned (eq_by_cmp nat_cmp q x) (set.contains s q) (list_any (eq_by_cmp nat_cmp q) rest)
+    ∙ sym (contains-union nat_cmp_total (set.insert s x) (set.from_list rest) q ∙ (λ k. contains-insert nat_cmp_total s x q k || contains-from_list nat_cmp_total rest q k)))
+  where
+    turned : (e c l : Bool) → (c || (e || l)) ≡ ((e || c) || l)
+    turned true true l = refl
+    turned true false l = refl
+    turned false c l = refl
+
+pub gives_first : (s : FreeSpace) (k address : ℕ) (rest : List ℕ) → block_address k ≡ address → after_gives (address ∷ rest) s ≡ after_gives rest (after_give k s)
+gives_first s k address rest at = (λ j. record s { free = union_first s.free (sym at j) rest j })
+
+-- and the last ones before the first
+pub union_both : (s : FinSet nat_cmp) (xs ys : List ℕ) → set.union (set.union s (set.from_list ys)) (set.from_list xs) ≡ set.union s (set.from_list (xs ++ ys))
+union_both s xs ys = same_set nat_cmp_total nat_cmp-IsAntisymmetric _ _ (λ q.
+    contains-union nat_cmp_total (set.union s (set.from_list ys)) (set.from_list xs) q
+    ∙ (λ k. contains-union nat_cmp_total s (set.from_list ys) q k || contains-from_list nat_cmp_total xs q k)
+    ∙ ap (λ b. (set.contains s q || b) || list_any (eq_by_cmp nat_cmp q) xs) (contains-from_list nat_cmp_total ys q)
+    ∙ turned (set.contains s q) (list_any (eq_by_cmp nat_cmp q) xs) (list_any (eq_by_cmp nat_cmp q) ys)
+    ∙ sym (contains-union nat_cmp_total s (set.from_list (xs ++ ys)) q
+    ∙ ap (λ b. set.contains s q || b) (contains-from_list nat_cmp_total (xs ++ ys) q ∙ list_any-append (eq_by_cmp nat_cmp q) xs ys)))
+  where
+    turned : (c x y : Bool) → ((c || y) || x) ≡ (c || (x || y))
+    turned true x y = refl
+    turned false true true = refl
+    turned false true false = refl
+    turned false false true = refl
+    turned false false false = refl
+
 -- a front of a list is one longer
 pub front_more : {A : Type 0} (xs : List A) (i : ℕ) (x : A) → i < length xs → x ≡ get_or xs i x → take (i + 1) xs ≡ take i xs ++ x ∷ []
 front_more {A} xs i x low is = take_more xs i x low ∙ ap (λ (y : A). take i xs ++ y ∷ []) (sym is)
@@ -113,30 +137,3 @@ given_more first old new addresses i k low at so_far now =
     now ∙ (λ j. record (so_far j) { free = set.insert (so_far j).free (at j) })
     ∙ (λ j. record first { free = union_more first.free (take i addresses) a j })
     ∙ ap (λ (l : List ℕ). after_gives l first) (sym (take_more addresses i 0 low))
-
--- what passes the test is the address of a block
-pub block_of : (blocks address : ℕ) → is_block_of blocks address ≡ true → IsBlockAddress blocks address
-block_of blocks address h =
-    let outer = and_parts (nat_le block_area address && (((address - block_area) % block_size) == 0)) (nat_lt ((address - block_area) / block_size) blocks) h in
-    let inner = and_parts (nat_le block_area address) (((address - block_area) % block_size) == 0) outer.0 in
-    let above : block_area ≤ address = leb-true block_area address inner.0 in
-    let no_rest : (address - block_area) % block_size ≡ 0 = eqb-true ((address - block_area) % block_size) 0 inner.1 in
-    let parts = div-add-mod (address - block_area) block_size in
-    ((address - block_area) / block_size, ltb-true ((address - block_area) / block_size) blocks outer.1, omega (arith, parts, no_rest))
-
--- and the address of a block passes it
-pub block_passes : (blocks address : ℕ) → IsBlockAddress blocks address → is_block_of blocks address ≡ true
-block_passes blocks address (k, low, at) =
-    let whole : (address - block_area) % block_size ≡ 0 = omega arith in
-    let index : (address - block_area) / block_size ≡ k = omega arith in
-    let above : block_area ≤ address = omega arith in
-    let within : (address - block_area) / block_size < blocks = omega (arith, index, low) in
-    and_from (nat_le block_area address && (((address - block_area) % block_size) == 0)) (nat_lt ((address - block_area) / block_size) blocks)
-    (and_from (nat_le block_area address) (((address - block_area) % block_size) == 0) (le-leb block_area address above) (eq-eqb ((address - block_area) % block_size) 0 whole))
-    (lt-ltb ((address - block_area) / block_size) blocks within)
-
--- the addresses that come back are those of blocks, where the pointers of the tree are placed
-pub are_blocks : (blocks : ℕ) (tree : Tree) (freed : List ℕ) → ∥ ArePlaced blocks (kept.pointers_of tree) ∥₁
-    → (ArePlaced blocks (plans.pointers_before tree) → All (λ address. IsBlockAddress blocks address) freed) → All (λ address. is_block_of blocks address ≡ true) freed
-are_blocks blocks tree freed placed returned = λ k d low.
-    ∥∥₁_elim placed (Bool-set _ _) (λ at. block_passes blocks (get_or freed k d) (returned (λ p i. subst (IsPlaced blocks) (same_tree tree p) (at p i)) k d low))

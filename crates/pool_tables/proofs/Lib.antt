@@ -17,8 +17,12 @@ pub mod Opens
 pub mod HeldGroups
 pub mod StillSteps
 pub mod PendingOps
+pub mod WrittenRecords
+pub mod WholeBlocks
+pub mod LogHeaders
 pub mod UnsyncedChanges
 pub mod FreeBlocks
+pub mod GivenLogs
 pub mod Aborts
 pub mod Callers
 pub mod syncs

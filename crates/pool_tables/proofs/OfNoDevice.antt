@@ -19,7 +19,7 @@ use Rattle.base.specs.history.Plans.{NumberRange}
 use Rattle.base.specs.steps.Refusals.{Test, first_refusal, abort_tests, append_tests, digest_tests, length_tests, ops_tests, lock_tests, unlock_tests, read_tests, commit_tests, close_tests, quiesce_tests, commit_refusal}
 use Rattle.base.specs.history.Sequences.{and_then, in_turn}
 use Rattle.base.specs.steps.Shown.{Shown}
-use Rattle.base.specs.steps.Stage as stage
+use Rattle.base.specs.steps.BuiltSteps as as_built
 use Rattle.base.specs.steps.Steps as steps
 use Rattle.base.specs.steps.Steps.{State, Answers}
 use Rattle.pool_tables.specs.Meets.{Meets}
@@ -106,19 +106,19 @@ module _ (old new : Shown) where
   pub unlock_own : (owner id : ℕ) (answer : Result (Unit {0}) PoolError) → Meets (steps.Unlock owner id) answer old new → is_own_answer answer ≡ true
   unlock_own owner id answer meets = own_answer (unlock_tests owner id old) _ answer _ _ _ _ refl refl (λ e own. absurd own) (meets (some_past old)).1
 
-  pub begin_own : (owner : ℕ) (plan : List Shape) (answer : Result (ℕ × ℕ) PoolError) → Meets (stage.Begin owner plan) answer old new → is_own_answer answer ≡ true
-  begin_own owner plan answer meets = own_answer (stage.begin_tests owner plan old) _ answer _ _ _ _ refl refl (λ e own. wants_memory e own.0) (meets (some_past old)).1
+  pub begin_own : (owner : ℕ) (plan : List Shape) (answer : Result (ℕ × ℕ) PoolError) → Meets (as_built.Begin owner plan) answer old new → is_own_answer answer ≡ true
+  begin_own owner plan answer meets = own_answer (as_built.begin_tests owner plan old) _ answer _ _ _ _ refl refl (λ e own. wants_memory e own.0) (meets (some_past old)).1
 
   pub abort_own : (tx : ℕ) (answer : Result (Unit {0}) PoolError) → Meets (steps.Abort tx) answer old new → is_own_answer answer ≡ true
   abort_own tx answer meets = own_answer (abort_tests tx old) _ answer _ _ _ _ refl refl (λ e own. absurd own) (meets (some_past old)).1
 
-  pub read_own : (owner : ℕ) (range : NumberRange) (answer : Result (List ℕ) PoolError) → Meets (stage.Read owner range) answer old new → is_own_answer answer ≡ true
+  pub read_own : (owner : ℕ) (range : NumberRange) (answer : Result (List ℕ) PoolError) → Meets (as_built.Read owner range) answer old new → is_own_answer answer ≡ true
   read_own owner range answer meets = own_answer (read_tests owner range old) _ answer _ _ _ _ refl refl (λ e own. wants_memory e own.0) (meets (some_past old)).1
 
   pub length_own : (n : ℕ) (answer : Result ℕ PoolError) → Meets (steps.Length n) answer old new → is_own_answer answer ≡ true
   length_own n answer meets = own_answer (length_tests n old) _ answer _ _ _ _ refl refl (λ e own. absurd own) (meets (some_past old)).1
 
-  pub digest_own : (answer : Result (List ℕ) PoolError) → Meets stage.DigestInMemory answer old new → is_own_answer answer ≡ true
+  pub digest_own : (answer : Result (List ℕ) PoolError) → Meets as_built.DigestInMemory answer old new → is_own_answer answer ≡ true
   digest_own answer meets = own_answer (digest_tests old) _ answer _ _ _ _ refl refl (λ e own. absurd own) (meets (some_past old)).1
 
   pub close_own : (answer : Result ℕ PoolError) → Meets steps.CloseGroup answer old new → is_own_answer answer ≡ true

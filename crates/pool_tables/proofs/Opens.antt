@@ -8,7 +8,7 @@ use Rattle.std.proofs.lemmas.List.Folds.{find_at}
 use Rattle.base.specs.steps.Groups.{Admission}
 use Rattle.base.specs.formats.Limits.{last_number, max_log_record}
 use Rattle.base.specs.history.Plans.{log_record_size}
-use Rattle.base.specs.steps.Stage.{is_plan_built}
+use Rattle.base.specs.steps.BuiltSteps.{is_plan_built}
 
 -- what is found passes the test, and has what all elements have
 found_has : {X : Type 0} (P : X → Type 0) (p : X → Bool) (xs : List X) (x : X) → All P xs → find p xs ≡ Some x → (p x ≡ true) × P x

@@ -18,26 +18,26 @@ use Rattle.extents.proofs.LaidWithin.{patches_sized, sized_in}
 use Rattle.extents.proofs.SamePatches.{changes_added, changes_left}
 use Rattle.groups.specs.CountedLines.{holds_of}
 use Rattle.groups.proofs.HoldCounts.{has_hold}
-use Rattle.tree_plans.specs.declared.planner.Committed.{Committed}
+use Rattle.transactions.specs.declared.record.Record.{Record}
 use Rattle.tree_plans.specs.Marks.{pending_ops}
 use Rattle.pool_tables.specs.declared.pool.PoolTables.{PoolTables}
 use Rattle.pool_tables.specs.declared.pool.RunningSync.{RunningSync}
 use Rattle.pool_tables.specs.Entries.{IsUnsynced}
 use Rattle.pool_tables.specs.Meets.{MayCommit}
-use Rattle.pool_tables.specs.Pending.{AreChangesOfPending}
+use Rattle.pool_tables.specs.Unsynced.{AreChangesOfUnsynced}
 use Rattle.pool_tables.specs.Shows.{contents_after_oldest, log_of, plan_of, pool_shown, synced_of}
 use Rattle.pool_tables.proofs.HeldGroups.{may_hold}
 use Rattle.pool_tables.proofs.Opens.{found_index}
 
 -- the operations of a group, with a transaction more
-pending_with : (group : ℕ) (pending : List Committed) (c : Committed)
+pending_with : (group : ℕ) (pending : List Record) (c : Record)
     → pending_ops group (pending ++ c ∷ []) ≡ pending_ops group pending ++ cond (c.group.0 == group) (c.ops ++ []) []
 pending_with group pending c =
-    ap (flat_map (λ (x : Committed). x.ops)) (filter-append (λ (x : Committed). x.group.0 == group) pending (c ∷ []))
-    ∙ flat_map-append (λ (x : Committed). x.ops) (filter (λ (x : Committed). x.group.0 == group) pending) (filter (λ (x : Committed). x.group.0 == group) (c ∷ []))
+    ap (flat_map (λ (x : Record). x.ops)) (filter-append (λ (x : Record). x.group.0 == group) pending (c ∷ []))
+    ∙ flat_map-append (λ (x : Record). x.ops) (filter (λ (x : Record). x.group.0 == group) pending) (filter (λ (x : Record). x.group.0 == group) (c ∷ []))
     ∙ ap (λ (ops : List Op). pending_ops group pending ++ ops) (go (c.group.0 == group))
   where
-    go : (is : Bool) → flat_map (λ (x : Committed). x.ops) (cond is (c ∷ []) []) ≡ cond is (c.ops ++ []) []
+    go : (is : Bool) → flat_map (λ (x : Record). x.ops) (cond is (c ∷ []) []) ≡ cond is (c.ops ++ []) []
     go true = refl
     go false = refl
 
@@ -49,11 +49,11 @@ sized_at (Some e) n = patches_sized e n
 pub kept_at : (place other : ℕ) (old new : UnsyncedExtents) → KeepsOtherPlaces place old new → other ≢ place → changes_at new other ≡ changes_at old other
 kept_at place other old new others apart = ap (λ (e : Option Extents). option_map_or patches_of e (λ _. no_patch)) (others other apart)
 
-pub changes_left_at : (synced : ℕ) (pending : List Committed) (old new : UnsyncedExtents) → AreChangesOfPending synced pending old → LeavesChanges old new → AreChangesOfPending synced pending new
+pub changes_left_at : (synced : ℕ) (pending : List Record) (old new : UnsyncedExtents) → AreChangesOfUnsynced synced pending old → LeavesChanges old new → AreChangesOfUnsynced synced pending new
 changes_left_at synced pending old new are same place low = changes_left (pending_ops (synced + 1 + place) pending) (changes_at old place) (changes_at new place) (are place low) (same place)
 
-pub changes_entered : (synced place : ℕ) (pending : List Committed) (c : Committed) (old new : UnsyncedExtents) → synced + 1 + place ≡ c.group.0 → AreChangesOfPending synced pending old
-    → AppliesAt place c.ops old new → KeepsOtherPlaces place old new → AreChangesOfPending synced (pending ++ c ∷ []) new
+pub changes_entered : (synced place : ℕ) (pending : List Record) (c : Record) (old new : UnsyncedExtents) → synced + 1 + place ≡ c.group.0 → AreChangesOfUnsynced synced pending old
+    → AppliesAt place c.ops old new → KeepsOtherPlaces place old new → AreChangesOfUnsynced synced (pending ++ c ∷ []) new
 changes_entered synced place pending c old new group are applied others other low = go (cases_eq other place)
   where
     go : (other ≡ place) ⊎ (other ≢ place) → ArePatchesOf (pending_ops (synced + 1 + other) (pending ++ c ∷ [])) (changes_at new other)
@@ -88,30 +88,30 @@ module _ (pool : PoolTables) (group : ℕ) (hold : 0 < holds_of pool.groups grou
 
 -- a running sync has the same plan where the changes of its group stay
 pub same_plan : (pool : PoolTables) (new : UnsyncedExtents) → ((r : RunningSync) → pool.sync ≡ Some r → changes_at new 0 ≡ changes_at pool.changes 0)
-    → option_map (plan_of pool.log_address pool.tree (patched_contents (changes_at new 0) (synced_of pool))) pool.sync ≡ option_map (plan_of pool.log_address pool.tree (contents_after_oldest pool)) pool.sync
+    → option_map (plan_of pool.tree (patched_contents (changes_at new 0) (synced_of pool))) pool.sync ≡ option_map (plan_of pool.tree (contents_after_oldest pool)) pool.sync
 same_plan pool new same = go pool.sync (λ r is. same r is)
   where
     go : (o : Option RunningSync) → ((r : RunningSync) → o ≡ Some r → changes_at new 0 ≡ changes_at pool.changes 0)
-        → option_map (plan_of pool.log_address pool.tree (patched_contents (changes_at new 0) (synced_of pool))) o ≡ option_map (plan_of pool.log_address pool.tree (contents_after_oldest pool)) o
+        → option_map (plan_of pool.tree (patched_contents (changes_at new 0) (synced_of pool))) o ≡ option_map (plan_of pool.tree (contents_after_oldest pool)) o
     go None kept = refl
-    go (Some r) kept = ap (λ (patches : Patches). Some (plan_of pool.log_address pool.tree (patched_contents patches (synced_of pool)) r)) (kept r refl)
+    go (Some r) kept = ap (λ (patches : Patches). Some (plan_of pool.tree (patched_contents patches (synced_of pool)) r)) (kept r refl)
 
 -- changes that say the same are the same at each place
 pub same_changes : (old new : UnsyncedExtents) → LeavesChanges old new → (place : ℕ) → changes_at new place ≡ changes_at old place
 same_changes old new same place = λ k n. record { basis = (same place n).basis k; written = λ i. (same place n).written i k }
 
 -- so a pool shows the same with them, and with the same pending transactions
-pub shown_left : (pool : PoolTables) (new : UnsyncedExtents) (pending : List Committed) → LeavesChanges pool.changes new → pending ≡ pool.pending.items → record (pool_shown pool) {
+pub shown_left : (pool : PoolTables) (new : UnsyncedExtents) (pending : List Record) → LeavesChanges pool.changes new → pending ≡ pool.unsynced.items → record (pool_shown pool) {
   contents = record { name = pool.synced.name; objects = laid_all new (synced_of pool).objects };
-  log = log_of pending pool.log_address;
-  sync = option_map (plan_of pool.log_address pool.tree (patched_contents (changes_at new 0) (synced_of pool))) pool.sync;
+  log = log_of pending pool.written pool.log;
+  sync = option_map (plan_of pool.tree (patched_contents (changes_at new 0) (synced_of pool))) pool.sync;
 } ≡ pool_shown pool
 shown_left pool new pending same items =
     let at : (place : ℕ) → changes_at new place ≡ changes_at pool.changes place = same_changes pool.changes new same in
     let plan = same_plan pool new (λ r is. at 0) in
     λ k. record (pool_shown pool) {
       contents = record { name = pool.synced.name; objects = laid_over (at 2 k) (laid_over (at 1 k) (laid_over (at 0 k) (synced_of pool).objects)) };
-      log = log_of (items k) pool.log_address;
+      log = log_of (items k) pool.written pool.log;
       sync = plan k;
     }
 

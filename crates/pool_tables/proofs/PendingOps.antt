@@ -1,8 +1,8 @@
--- The pending transactions of a pool are those of its history above the synced group, so a group that waits has the
+-- The unsynced transactions of a pool are those of its history above the synced group, so a group that waits has the
 -- operations of both.
-use Rattle.std.proofs.Common.{◌≡◌, ℕ, ◌+◌, ◌<◌, Bool, true, false, not, ◌&&◌, cond, List, [], ◌∷◌, ◌++◌, map, filter, refl, ap, sym, ◌∙◌, nat_lt}
+use Rattle.std.proofs.Common.{◌≡◌, ℕ, ◌+◌, ◌<◌, Bool, true, false, cond, List, [], ◌∷◌, ◌++◌, map, filter, refl, ap, sym, ◌∙◌, nat_lt}
 use Rattle.std.specs.Prelude.{Ok, ◌==◌}
-use Rattle.std.specs.List.{list_any, enumerate_from, flat_map}
+use Rattle.std.specs.List.{enumerate_from, flat_map}
 use Rattle.std.proofs.lemmas.Bool.{eqb-true, lt-ltb, false≢true}
 use Rattle.base.specs.declared.operation.Op.{Op}
 use Rattle.base.specs.formats.Records.{Record}
@@ -11,13 +11,13 @@ use Rattle.base.specs.history.History.{Entry, apply_all, entries_in, replay, run
 use Rattle.base.specs.history.Past.{Past}
 use Rattle.base.specs.history.Sequences.{in_turn}
 use Rattle.base.specs.steps.ExactNow.{IsExplainedNow}
-use Rattle.base.specs.steps.Logs.{KeptBlock, committed_of, has_record}
+use Rattle.base.specs.steps.Logs.{record_of_entry, unsynced_records}
 use Rattle.base.specs.steps.Shown.{Shown}
 use Rattle.base.specs.steps.Steps.{ops_of_group}
 use Rattle.base.proofs.common.Sequences.{in_turn-append, parted}
-use Rattle.tree_plans.specs.declared.planner.Committed.{Committed}
+use Rattle.transactions.specs.declared.record.Record as code
 use Rattle.tree_plans.specs.Marks.{pending_ops}
-use Rattle.pool_tables.specs.Shows.{record_of as shown_record}
+use Rattle.transactions.specs.Records.{record_fields}
 
 -- transactions in order are their operations in order
 pub flat_replay : (es : List Entry) (a b : Contents) → replay es a ≡ Ok b → apply_all (flat_map (λ (e : Entry). e.ops) es) a ≡ Ok b
@@ -26,29 +26,26 @@ flat_replay (e ∷ es) a b h =
     let p = parted (run e a) (in_turn run es) b h in
     in_turn-append apply e.ops (flat_map (λ (x : Entry). x.ops) es) a p.0 b p.1 (flat_replay es p.0 b p.2)
 
--- the operations of a group among pending records
+-- the operations of a group among unsynced records
 abbrev record_ops : ℕ → List Record → List Op
 record_ops group rs = flat_map (λ (r : Record). r.ops) (filter (λ (r : Record). r.group == group) rs)
 
-told_ops : (group : ℕ) (cs : List Committed) → record_ops group (map shown_record cs) ≡ pending_ops group cs
+told_ops : (group : ℕ) (cs : List code.Record) → record_ops group (map record_fields cs) ≡ pending_ops group cs
 told_ops group [] = refl
 told_ops group (c ∷ cs) = by (c.group.0 == group) (told_ops group cs)
   where
-    by : (b : Bool) → record_ops group (map shown_record cs) ≡ pending_ops group cs
-        → flat_map (λ (r : Record). r.ops) (cond b (shown_record c ∷ filter (λ (r : Record). r.group == group) (map shown_record cs)) (filter (λ (r : Record). r.group == group) (map shown_record cs)))
-        ≡ flat_map (λ (x : Committed). x.ops) (cond b (c ∷ filter (λ (x : Committed). x.group.0 == group) cs) (filter (λ (x : Committed). x.group.0 == group) cs))
+    by : (b : Bool) → record_ops group (map record_fields cs) ≡ pending_ops group cs
+        → flat_map (λ (r : Record). r.ops) (cond b (record_fields c ∷ filter (λ (r : Record). r.group == group) (map record_fields cs)) (filter (λ (r : Record). r.group == group) (map record_fields cs)))
+        ≡ flat_map (λ (x : code.Record). x.ops) (cond b (c ∷ filter (λ (x : code.Record). x.group.0 == group) cs) (filter (λ (x : code.Record). x.group.0 == group) cs))
     by true e = ap (λ (l : List Op). c.ops ++ l) e
     by false e = e
 
-abbrev numbered : ℕ × Entry → Record
-numbered p = record { group = p.1.group; ordinal = p.0; ops = p.1.ops }
-
 module _ (synced group : ℕ) (below : synced < group) where
   abbrev is_above : Record → Bool
-  is_above r = nat_lt synced r.group && not false
+  is_above r = nat_lt synced r.group
 
   abbrev above_from : ℕ → List Entry → List Record
-  above_from n es = filter is_above (map numbered (enumerate_from n es))
+  above_from n es = filter is_above (map record_of_entry (enumerate_from n es))
 
   -- the records above the synced group have the operations of a later one
   entry_ops : (n : ℕ) (es : List Entry) → record_ops group (above_from n es) ≡ ops_of_group group es
@@ -56,7 +53,7 @@ module _ (synced group : ℕ) (below : synced < group) where
   entry_ops n (e ∷ es) = by (is_above r) refl (e.group == group) refl (entry_ops (n + 1) es)
     where
       r : Record
-      r = numbered (n, e)
+      r = record_of_entry (n, e)
 
       others : List Record
       others = above_from (n + 1) es
@@ -67,13 +64,12 @@ module _ (synced group : ℕ) (below : synced < group) where
           ap (λ (b : Bool). flat_map (λ (x : Record). x.ops) (cond b (r ∷ filter (λ (x : Record). x.group == group) others) (filter (λ (x : Record). x.group == group) others))) is ∙ ap (λ (l : List Op). e.ops ++ l) rest
       by true above false is rest =
           ap (λ (b : Bool). flat_map (λ (x : Record). x.ops) (cond b (r ∷ filter (λ (x : Record). x.group == group) others) (filter (λ (x : Record). x.group == group) others))) is ∙ rest
-      by false above true is rest = absurd (false≢true (sym above ∙ ap (λ (g : ℕ). nat_lt synced g && true) (eqb-true e.group group is) ∙ ap (λ (b : Bool). b && true) (lt-ltb synced group below)))
+      by false above true is rest = absurd (false≢true (sym above ∙ ap (λ (g : ℕ). nat_lt synced g) (eqb-true e.group group is) ∙ lt-ltb synced group below))
       by false above false is rest = rest
 
--- where no log block is kept, each group above the synced one has its operations pending
-pub pending_are : (s : Shown) (p : Past) → IsExplainedNow s p → s.log.kept ≡ [] → (pending : List Committed) → s.log.pending ≡ map shown_record pending → (group : ℕ) → s.line.synced < group
-    → ops_of_group group p.entries ≡ pending_ops group pending
-pending_are s p explained no_log pending log group below =
-    let all_above : List KeptBlock → List Record = λ k. filter (λ (r : Record). nat_lt s.line.synced r.group && not (list_any (λ b. has_record b (committed_of r)) k)) (map numbered (enumerate_from 0 p.entries)) in
-    let told : map shown_record pending ≡ all_above [] = sym log ∙ explained.exact.log.pending ∙ ap all_above no_log in
-    sym (entry_ops s.line.synced group below 0 p.entries) ∙ ap (λ (rs : List Record). record_ops group rs) (sym told) ∙ told_ops group pending
+-- each group above the synced one has its operations among the unsynced records
+pub unsynced_are : (s : Shown) (p : Past) → IsExplainedNow s p → (unsynced : List code.Record) → s.log.unsynced ≡ map record_fields unsynced → (group : ℕ) → s.line.synced < group
+    → ops_of_group group p.entries ≡ pending_ops group unsynced
+unsynced_are s p explained unsynced log group below =
+    let told : map record_fields unsynced ≡ unsynced_records s.line.synced p.entries = sym log ∙ explained.exact.log.unsynced in
+    sym (entry_ops s.line.synced group below 0 p.entries) ∙ ap (λ (rs : List Record). record_ops group rs) (sym told) ∙ told_ops group unsynced

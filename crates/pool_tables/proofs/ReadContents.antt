@@ -1,6 +1,6 @@
 -- What the changes of the unsynced groups make of the synced contents: for each past that explains a pool, the contents
 -- that are shown.
-use Rattle.std.proofs.Common.{◌≡◌, ℕ, ◌+◌, ◌<◌, ◌≤◌, List, [], map, sym, subst, arith}
+use Rattle.std.proofs.Common.{◌≡◌, ℕ, ◌+◌, ◌<◌, ◌≤◌, List, map, sym, subst, arith}
 use Rattle.std.specs.Prelude.{All}
 use Rattle.base.specs.declared.operation.Op.{Op}
 use Rattle.base.specs.history.History.{Entry}
@@ -15,13 +15,13 @@ use Rattle.extents.specs.Patches.{ArePatchesOf}
 use Rattle.extents.specs.Unsynced.{changes_at, laid_all}
 use Rattle.extents.proofs.UnsyncedGroups.{unsynced_are_read}
 use Rattle.throttle.proofs.SumLaws.{open_within}
-use Rattle.tree_plans.specs.declared.planner.Committed.{Committed}
-use Rattle.pool_tables.specs.Pending.{AreChangesOfPending}
-use Rattle.pool_tables.specs.Shows.{record_of}
-use Rattle.pool_tables.proofs.PendingOps.{pending_are}
+use Rattle.transactions.specs.declared.record.Record.{Record}
+use Rattle.pool_tables.specs.Unsynced.{AreChangesOfUnsynced}
+use Rattle.transactions.specs.Records.{record_fields}
+use Rattle.pool_tables.proofs.PendingOps.{unsynced_are}
 
-module _ (s : Shown) (p : Past) (explained : IsExplainedNow s p) (no_log : s.log.kept ≡ []) (pending : List Committed) (log : s.log.pending ≡ map record_of pending) (changes : UnsyncedExtents)
-    (of_pending : AreChangesOfPending s.line.synced pending changes) where
+module _ (s : Shown) (p : Past) (explained : IsExplainedNow s p) (unsynced : List Record) (log : s.log.unsynced ≡ map record_fields unsynced) (changes : UnsyncedExtents)
+    (of_unsynced : AreChangesOfUnsynced s.line.synced unsynced changes) where
   -- each entry is of a group up to the third after the synced one
   all_within : All (λ (e : Entry). e.group ≤ s.line.synced + 3) p.entries
   all_within = All-each (λ (e : Entry). e.group ≤ s.line.synced + 3) p.entries (λ i e at.
@@ -32,7 +32,7 @@ module _ (s : Shown) (p : Past) (explained : IsExplainedNow s p) (no_log : s.log
       omega (arith, known, same, three))
 
   of_entries : (place : ℕ) → place < 3 → ArePatchesOf (ops_of_group (s.line.synced + 1 + place) p.entries) (changes_at changes place)
-  of_entries place below = subst (λ (ops : List Op). ArePatchesOf ops (changes_at changes place)) (sym (pending_are s p explained no_log pending log (s.line.synced + 1 + place) (omega arith))) (of_pending place below)
+  of_entries place below = subst (λ (ops : List Op). ArePatchesOf ops (changes_at changes place)) (sym (unsynced_are s p explained unsynced log (s.line.synced + 1 + place) (omega arith))) (of_unsynced place below)
 
   pub read_as_explained : laid_all changes s.synced_contents.objects ≡ s.contents.objects
   read_as_explained = unsynced_are_read p.entries s.line.synced p.base s.synced_contents s.contents changes explained.history all_within explained.trees.synced.replayed of_entries

@@ -10,7 +10,7 @@ use Rattle.base.specs.steps.Locks.{is_range_allowed, is_covered}
 use Rattle.base.specs.history.Plans.{NumberRange}
 use Rattle.base.specs.steps.Refusals.{read_refusal}
 use Rattle.base.specs.steps.Shown.{Shown}
-use Rattle.base.specs.steps.Stage.{Read}
+use Rattle.base.specs.steps.BuiltSteps.{Read}
 use Rattle.base.specs.steps.Steps.{bytes_in}
 use Rattle.pool_tables.specs.Meets.{Meets}
 

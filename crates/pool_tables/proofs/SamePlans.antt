@@ -8,7 +8,7 @@ use Rattle.base.specs.declared.operation.Op.{Op}
 use Rattle.base.specs.declared.operation.Op.TheVariants as op
 use Rattle.base.specs.declared.operation.Shape.{Shape}
 use Rattle.base.specs.history.Plans.{shape_of, is_shape_allowed, is_plan_allowed}
-use Rattle.base.specs.steps.Stage.{is_shape_built, is_plan_built}
+use Rattle.base.specs.steps.BuiltSteps.{is_shape_built, is_plan_built}
 use Rattle.base.proofs.history.CommitOrder.{and-true}
 use Rattle.base.specs.tree.Syncs.{is_rename}
 use Rattle.object_maps.specs.Ops.{AreOpsAllowed}

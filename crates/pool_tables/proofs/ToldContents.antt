@@ -6,7 +6,7 @@ use Rattle.base.specs.declared.error.PoolError.TheVariants as error
 use Rattle.base.specs.formats.Digest.{digest_of}
 use Rattle.base.specs.steps.Refusals.{length_refusal}
 use Rattle.base.specs.steps.Shown.{Shown}
-use Rattle.base.specs.steps.Stage.{DigestInMemory}
+use Rattle.base.specs.steps.BuiltSteps.{DigestInMemory}
 use Rattle.base.specs.steps.Steps.{Length}
 use Rattle.pool_tables.specs.Meets.{FindsLength, Meets}
 

@@ -14,6 +14,7 @@ use Rattle.base.specs.declared.operation.Op.{Op}
 use Rattle.base.specs.formats.Limits.{max_length, object_count}
 use Rattle.base.specs.history.Contents.{Contents, object_after}
 use Rattle.base.specs.steps.Groups.{IsLine, Line}
+use Rattle.base.specs.steps.Logs.{Log, committed_above, committed_in}
 use Rattle.extents.specs.declared.unsynced.UnsyncedExtents.{UnsyncedExtents}
 use Rattle.extents.specs.Patches.{Patches, laid_over, length_over, no_patch, patched}
 use Rattle.extents.specs.Synced.{FitsPatched, HasRoomForPatches, patched_contents}
@@ -29,34 +30,39 @@ use Rattle.object_maps.specs.Judging.{with_name}
 use Rattle.object_maps.specs.Ops.{room_of}
 use Rattle.object_maps.specs.Sources.{AreWithin}
 use Rattle.throttle.proofs.SumLaws.{open_within}
-use Rattle.tree_plans.specs.declared.planner.Committed.{Committed}
+use Rattle.transactions.specs.declared.record.Record.{Record}
 use Rattle.tree_plans.specs.Marks.{pending_ops}
-use Rattle.pool_tables.specs.Pending.{AreChangesOfPending, KeepsUnsynced, pending_after}
+use Rattle.pool_tables.specs.Unsynced.{AreChangesOfUnsynced, KeepsUnsynced, unsynced_after}
 
 -- where the open group is a later one, each pending transaction is still of a group up to it
-stay_open : (before after : ℕ) (pending : List Committed) → before ≤ after → All (λ (c : Committed). c.group.0 ≤ before) pending → All (λ (c : Committed). c.group.0 ≤ after) pending
-stay_open before after pending later = All-weaker (λ (c : Committed). c.group.0 ≤ before) (λ (c : Committed). c.group.0 ≤ after) (λ c up_to. omega (arith, later, up_to)) pending
+stay_open : (before after : ℕ) (pending : List Record) → before ≤ after → All (λ (c : Record). c.group.0 ≤ before) pending → All (λ (c : Record). c.group.0 ≤ after) pending
+stay_open before after pending later = All-weaker (λ (c : Record). c.group.0 ≤ before) (λ (c : Record). c.group.0 ≤ after) (λ c up_to. omega (arith, later, up_to)) pending
 
 -- so all stays where the line moves on with the same synced group
-pub moved_on : (old new : Line) (pending : List Committed) (synced : declared.Contents) (changes : UnsyncedExtents) → (new.synced ≡ old.synced) × (old.open_group ≤ new.open_group)
-    → KeepsUnsynced old pending synced changes → KeepsUnsynced new pending synced changes
-moved_on old new pending synced changes (same, later) x = record {
+pub moved_on : (old new : Line) (unsynced : List Record) (written : ℕ) (log : Log) (synced : declared.Contents) (changes : UnsyncedExtents) → (new.synced ≡ old.synced) × (old.open_group ≤ new.open_group)
+    → KeepsUnsynced old unsynced written log synced changes → KeepsUnsynced new unsynced written log synced changes
+moved_on old new unsynced written log synced changes (same, later) x = record {
   built = x.built;
-  open_or_before = stay_open old.open_group new.open_group pending later x.open_or_before;
+  above = subst (λ (g : ℕ). All (λ (c : Record). g < c.group.0) unsynced) (sym same) x.above;
+  open_or_before = stay_open old.open_group new.open_group unsynced later x.open_or_before;
   within = x.within;
-  changed = subst (λ (g : ℕ). AreChangesOfPending g pending changes) (sym same) x.changed;
+  changed = subst (λ (g : ℕ). AreChangesOfUnsynced g unsynced changes) (sym same) x.changed;
+  allowed = x.allowed;
+  front = x.front;
+  noted = ap (λ (g : ℕ). committed_above g (committed_in log)) same ∙ x.noted;
+  whole = x.whole;
 }
 
 -- a group after those of all pending transactions has no operations pending
-none_pending : (group : ℕ) (pending : List Committed) → All (λ (c : Committed). c.group.0 < group) pending → pending_ops group pending ≡ []
+none_pending : (group : ℕ) (pending : List Record) → All (λ (c : Record). c.group.0 < group) pending → pending_ops group pending ≡ []
 none_pending group [] low = refl
-none_pending group (c ∷ cs) low = by (c.group.0 == group) refl (none_pending group cs (All-tail (λ (x : Committed). x.group.0 < group) c cs low))
+none_pending group (c ∷ cs) low = by (c.group.0 == group) refl (none_pending group cs (All-tail (λ (x : Record). x.group.0 < group) c cs low))
   where
-    others : List Committed
-    others = filter (λ (x : Committed). x.group.0 == group) cs
+    others : List Record
+    others = filter (λ (x : Record). x.group.0 == group) cs
 
-    by : (b : Bool) → (c.group.0 == group) ≡ b → pending_ops group cs ≡ [] → flat_map (λ (x : Committed). x.ops) (cond b (c ∷ others) others) ≡ []
-    by true is rest = absurd (let below = All-head (λ (x : Committed). x.group.0 < group) c cs low in let same = eqb-true c.group.0 group is in omega (arith, below, same))
+    by : (b : Bool) → (c.group.0 == group) ≡ b → pending_ops group cs ≡ [] → flat_map (λ (x : Record). x.ops) (cond b (c ∷ others) others) ≡ []
+    by true is rest = absurd (let below = All-head (λ (x : Record). x.group.0 < group) c cs low in let same = eqb-true c.group.0 group is in omega (arith, below, same))
     by false is rest = rest
 
 -- what passes a test among those that pass a weaker one
@@ -71,14 +77,14 @@ filter_inside {X} p q (x ∷ xs) inside = by (q x) refl (p x) refl (filter_insid
     by false dropped false is rest = rest
 
 -- once a group is synced, those after it have the operations that they had
-later_ops : (group later : ℕ) (pending : List Committed) → group < later → pending_ops later (pending_after group pending) ≡ pending_ops later pending
+later_ops : (group later : ℕ) (pending : List Record) → group < later → pending_ops later (unsynced_after group pending) ≡ pending_ops later pending
 later_ops group later pending below =
-    ap (flat_map (λ (c : Committed). c.ops)) (filter_inside (λ (c : Committed). c.group.0 == later) (λ (c : Committed). nat_lt group c.group.0) pending
+    ap (flat_map (λ (c : Record). c.ops)) (filter_inside (λ (c : Record). c.group.0 == later) (λ (c : Record). nat_lt group c.group.0) pending
     (λ c is. subst (λ (g : ℕ). nat_lt group g ≡ true) (sym (eqb-true c.group.0 later is)) (lt-ltb group later below)))
 
 -- the groups at the places are those after the one that is synced then, and the last place has no changes
-pub synced_changes : (synced group : ℕ) (pending : List Committed) (old new : UnsyncedExtents) → group ≡ synced + 1 → AreChangesOfPending synced pending old
-    → All (λ (c : Committed). c.group.0 ≤ synced + 3) pending → MovesUp old new → AreChangesOfPending group (pending_after group pending) new
+pub synced_changes : (synced group : ℕ) (pending : List Record) (old new : UnsyncedExtents) → group ≡ synced + 1 → AreChangesOfUnsynced synced pending old
+    → All (λ (c : Record). c.group.0 ≤ synced + 3) pending → MovesUp old new → AreChangesOfUnsynced group (unsynced_after group pending) new
 synced_changes synced group pending old new next changed within moves place low n below =
     ap (λ p. patched p below) (moves place n) ∙ at (cases_lt place 2) ∙ ap after (sym (later_ops group (group + 1 + place) pending (omega arith)))
   where
@@ -92,19 +98,19 @@ synced_changes synced group pending old new next changed within moves place low 
     at (inr last) =
         let is : place ≡ 2 = omega (arith, low, last) in
         ap (λ (k : ℕ). patched (changes_at old (k + 1) n) below) is ∙ patched_nothing below
-        ∙ sym (ap after (none_pending (group + 1 + place) pending (All-weaker (λ (c : Committed). c.group.0 ≤ synced + 3) (λ (c : Committed). c.group.0 < group + 1 + place) (λ c up_to. omega (arith, up_to, next, is)) pending within)))
+        ∙ sym (ap after (none_pending (group + 1 + place) pending (All-weaker (λ (c : Record). c.group.0 ≤ synced + 3) (λ (c : Record). c.group.0 < group + 1 + place) (λ c up_to. omega (arith, up_to, next, is)) pending within)))
 
 -- the syncing group is the one after the synced one
 pub syncing_follows : (l : Line) (group : ℕ) → IsLine l → l.syncing ≡ Some group → group ≡ l.synced + 1
 syncing_follows l group line is = subst (λ (o : Option ℕ). IfSome o (λ g. g ≡ l.synced + 1)) is line.syncing
 
 -- at most three groups are unsynced, so each pending transaction is of one with a place
-pub open_three : (l : Line) (pending : List Committed) → IsLine l → All (λ (c : Committed). c.group.0 ≤ l.open_group) pending → All (λ (c : Committed). c.group.0 ≤ l.synced + 3) pending
+pub open_three : (l : Line) (pending : List Record) → IsLine l → All (λ (c : Record). c.group.0 ≤ l.open_group) pending → All (λ (c : Record). c.group.0 ≤ l.synced + 3) pending
 open_three l pending line = stay_open l.open_group (l.synced + 3) pending (open_within l line)
 
 -- at first no group has changes, nor pending operations
 module _ (changes : UnsyncedExtents) (none : (place n : ℕ) → changes_at changes place n ≡ no_patch) where
-  pub first_changes : (synced : ℕ) → AreChangesOfPending synced [] changes
+  pub first_changes : (synced : ℕ) → AreChangesOfUnsynced synced [] changes
   first_changes synced place low n below = ap (λ p. patched p below) (none place n) ∙ patched_nothing below
 
   -- and the objects are those of the tree

@@ -7,4 +7,3 @@ pub mod StartLeads
 pub mod Starts
 pub mod StartedSyncs
 pub mod SyncSteps
-pub mod PlannedPointers

@@ -4,7 +4,7 @@ use Rattle.std.specs.Prelude.{ℕ, ◌≡◌, ◌≤◌, true, All, List}
 use Rattle.base.specs.formats.Limits.{max_log_record}
 use Rattle.base.specs.history.Plans.{log_record_size}
 use Rattle.base.specs.steps.Groups.{Admission}
-use Rattle.base.specs.steps.Stage.{is_plan_built}
+use Rattle.base.specs.steps.BuiltSteps.{is_plan_built}
 use Rattle.groups.specs.CountedLines.{CountedLine, IsCounted}
 use Rattle.groups.specs.Laws.{AreHoldsExact}
 use Rattle.space.specs.FreeSets.{FreeSpace}

@@ -7,7 +7,7 @@ use Rattle.base.specs.formats.Limits.{last_number, max_log_record, max_transacti
 use Rattle.base.specs.history.Plans.{charge_of, log_record_size}
 use Rattle.base.specs.steps.Refusals.{Test, blocks_wanted, first_refusal, refused_if, is_plan_covered, is_plan_blocked}
 use Rattle.base.specs.steps.Shown.{Shown, available, dirty_total}
-use Rattle.base.specs.steps.Stage.{is_plan_built}
+use Rattle.base.specs.steps.BuiltSteps.{is_plan_built}
 
 abbrev pub plan_tests : List Shape → List Test
 plan_tests plan =

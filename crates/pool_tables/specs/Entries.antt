@@ -1,9 +1,12 @@
 -- What a commit makes of what a pool shows, and what it needs.
-use Rattle.std.specs.Prelude.{ℕ, ◌+◌, ◌<◌, ◌≤◌, ◌++◌, List, [], ◌∷◌, vec_capacity, vec_len}
+use Rattle.std.specs.Prelude.{ℕ, ◌≡◌, ◌+◌, ◌<◌, ◌≤◌, ◌++◌, true, List, [], ◌∷◌, map, vec_capacity, vec_len}
 use Rattle.std.specs.FinMap.{FinMap}
 use Rattle.std.specs.Ordering.{nat_cmp}
 use Rattle.base.specs.declared.operation.Op.{Op}
+use Rattle.base.specs.formats.Limits.{max_log_record}
+use Rattle.base.specs.history.Plans.{is_plan_allowed, log_record_size, shape_of}
 use Rattle.base.specs.steps.Groups.{Line}
+use Rattle.base.specs.steps.Logs.{log_after_commit}
 use Rattle.base.specs.steps.Shown.{Shown}
 use Rattle.base.specs.steps.Steps.{transactions_without}
 use Rattle.extents.specs.Unsynced.{CanApplyAt}
@@ -17,7 +20,12 @@ pub record IsUnsynced (l : Line) (group : ℕ) : Type 0 where
 -- the pool has room for a commit of these operations: among the changes of its group, and for one record more
 pub record HasRoomToEnter (place : ℕ) (ops : List Op) (pool : PoolTables) : Type 0 where
   pub changes : CanApplyAt place pool.changes ops
-  pub pending : vec_len pool.pending < vec_capacity pool.pending
+  pub unsynced : vec_len pool.unsynced < vec_capacity pool.unsynced
+
+-- these operations, one at least, have shapes within the limits, and their record fits the log
+pub record FitsRecord (ops : List Op) : Type 0 where
+  pub shapes : is_plan_allowed (map shape_of ops) ≡ true
+  pub size : log_record_size (map shape_of ops) ≤ max_log_record
 
 -- what is shown once a transaction of a group has committed and left these objects
 abbrev pub shown_after_entry : ℕ → ℕ → List Op → FinMap nat_cmp (List ℕ) → Shown → Shown
@@ -25,5 +33,5 @@ shown_after_entry tx group ops objects s = record s {
   transactions = transactions_without tx s.transactions;
   contents = record s.contents { objects = objects };
   next_ordinal = s.next_ordinal + 1;
-  log = record s.log { pending = s.log.pending ++ record { group = group; ordinal = s.next_ordinal; ops = ops } ∷ [] };
+  log = log_after_commit (record { group = group; ordinal = s.next_ordinal; ops = ops }) s.log;
 }

@@ -1,5 +1,5 @@
 pub mod Numbers
-pub mod Pending
+pub mod Unsynced
 pub mod Shows
 pub mod Tables
 pub mod Targets
@@ -10,7 +10,6 @@ pub mod Lines
 pub mod BeginTests
 pub mod GroupPlans
 pub mod Areas
-pub mod Pointers
 pub mod Progresses
 pub mod RunningUberblocks
 pub mod Running

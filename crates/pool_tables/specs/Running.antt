@@ -1,8 +1,11 @@
 -- What is known of a sync while it runs.
-use Rattle.std.specs.Prelude.{ℕ, ◌≡◌, ◌<◌, List}
+use Rattle.std.specs.Prelude.{ℕ, ◌≡◌, ◌<◌, false, All, List, nat_le}
 use Rattle.base.specs.declared.pointer.Pointer.{Pointer}
+use Rattle.base.specs.crash.LogSteps.{IsHeaderIn}
+use Rattle.base.specs.formats.Chain.{Header}
 use Rattle.base.specs.formats.Geometry.{block_count}
 use Rattle.base.specs.formats.Uberblocks.{Uberblock}
+use Rattle.base.specs.steps.Logs.{KeptBlock, Log, reaches_above}
 use Rattle.base.specs.tree.PlacedTrees.{ArePlaced}
 use Rattle.base.specs.tree.Places.{Place}
 use Rattle.extents.specs.Patches.{Patches}
@@ -20,3 +23,8 @@ pub record IsRunning (size : ℕ) (u : Uberblock) (pointers : Place → Pointer)
   pub uberblock : WritesUberblock u run
   pub placed : ∥ ArePlaced (block_count size) pointers ∥₁
   pub room : ∥ HasRoomForPatches patches slots ∥₁
+
+-- Its log header is the next one, or that of a kept block. No kept block before it has a record above its group.
+pub record KeepsHeader (group : ℕ) (header : Header) (log : Log) : Type 0 where
+  pub in_log : ∥ IsHeaderIn header log ∥₁
+  pub none_before : All (λ (b : KeptBlock). nat_le header.number b.number ≡ false → reaches_above group b ≡ false) log.kept

@@ -1,22 +1,23 @@
 -- The uberblock that a running sync writes into the labels.
 use Rattle.std.specs.Prelude.{ℕ, ◌≡◌}
 use Rattle.base.specs.declared.pointer.Pointer.{Pointer}
+use Rattle.base.specs.formats.Chain.{Header}
 use Rattle.base.specs.formats.Geometry.{slot_of}
 use Rattle.base.specs.formats.Versions.{written_version}
 use Rattle.base.specs.formats.Uberblocks.{Uberblock, IsUberblock}
 use Rattle.sync.specs.declared.run.SyncRun.{SyncRun}
 
--- of a pool with this guid, import number and next log block, that of a sync of this group with this moment and root
-abbrev pub uberblock_with : (guid import_number log_address group moment : ℕ) → Pointer → Uberblock
-uberblock_with guid import_number log_address group moment root = record {
+-- of a pool with this guid and import number, that of a sync with this log header, of this group, moment and root
+abbrev pub uberblock_with : (guid import_number : ℕ) → Header → (group moment : ℕ) → Pointer → Uberblock
+uberblock_with guid import_number header group moment root = record {
   version = written_version;
   group = group;
   guid = guid;
   moment = moment;
   root = root;
   import_number = import_number;
-  log_address = log_address;
-  log_number = 0;
+  log_address = header.address;
+  log_number = header.number;
 }
 
 -- a sync writes the bytes of this uberblock, in the slot of its group

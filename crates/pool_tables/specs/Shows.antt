@@ -1,24 +1,26 @@
 -- What contracts show of a pool, read off its fields.
-use Rattle.std.specs.Prelude.{ℕ, ◌-◌, ◌+◌, List, [], length, map, Option, option_map}
+use Rattle.std.specs.Prelude.{ℕ, ◌-◌, ◌+◌, List, drop, length, map, Option, option_map}
 use Rattle.std.specs.FinMap.{FinMap}
 use Rattle.std.specs.Ordering.{nat_cmp}
 use Rattle.std.specs.FinSet as set
 use Rattle.base.specs.declared.pointer.Pointer.{Pointer}
 use Rattle.base.specs.formats.Geometry.{block_address, block_count}
-use Rattle.base.specs.formats.Records.{Record}
 use Rattle.base.specs.history.Contents.{Contents}
+use Rattle.base.specs.formats.Chain.{Header}
 use Rattle.base.specs.steps.Logs.{Log}
 use Rattle.base.specs.steps.Shown.{Shown, SyncPlan}
+use Rattle.intent_log.specs.Kept.{KeptLog, header_fields}
 use Rattle.extents.specs.Synced.{patched_contents}
 use Rattle.extents.specs.Unsynced.{changes_at, laid_all}
 use Rattle.object_maps.specs.declared.tree.Tree.{Tree}
 use Rattle.object_maps.specs.ContentsShown.{contents_of}
 use Rattle.object_maps.specs.Lengths.{lengths_of}
-use Rattle.tree_plans.specs.declared.planner.Committed.{Committed}
+use Rattle.transactions.specs.declared.record.Record.{Record}
+use Rattle.transactions.specs.Records.{record_fields}
 use Rattle.tree_plans.specs.declared.planner.PlannedBlock.{PlannedBlock}
 use Rattle.pool_tables.specs.declared.pool.RunningSync.{RunningSync}
 use Rattle.pool_tables.specs.declared.pool.PoolTables.{PoolTables}
-use Rattle.pool_tables.specs.Pointers.{lengths_after}
+use Rattle.group_plans.specs.Pointers.{lengths_after}
 use Rattle.sync.specs.Runs.{call_count}
 use Rattle.throttle.specs.Blocks.{blocks_of}
 
@@ -32,35 +34,33 @@ tree_of p = p.tree
 abbrev pub sync_of : PoolTables → Option RunningSync
 sync_of p = p.sync
 
-abbrev pub record_of : Committed → Record
-record_of c = record { group = c.group.0; ordinal = c.ordinal; ops = c.ops }
-
-abbrev pub log_of : List Committed → ℕ → Log
-log_of pending address = record { pending = map record_of pending; kept = []; next = record { address = address; number = 0 } }
+-- the records of the unsynced transactions of which so many are written, and the kept blocks
+abbrev pub log_of : List Record → ℕ → KeptLog → Log
+log_of unsynced written log = record { unsynced = map record_fields unsynced; pending = map record_fields (drop written unsynced); kept = log.kept; next = log.next }
 
 -- what is shown of a running sync, which makes this tree into that of these contents
-abbrev pub plan_of : ℕ → Tree → Contents → RunningSync → SyncPlan
-plan_of address tree contents r = record {
+abbrev pub plan_of : Tree → Contents → RunningSync → SyncPlan
+plan_of tree contents r = record {
   steps_left = call_count r.run - r.run.done;
   taken = map (λ (b : PlannedBlock). block_address b.index) r.run.blocks.items;
   freed = r.freed.items;
   moment = r.moment;
   root = r.root;
-  header = record { address = address; number = 0 };
+  header = header_fields r.header;
   contents = contents;
   lengths = lengths_after r.maps tree;
 }
 
--- the plan of a sync that starts, with the addresses that it takes and those that come back, and the contents that it
--- writes
-abbrev pub new_plan : ℕ → ℕ → List ℕ → List ℕ → Pointer → Contents → (ℕ → Option ℕ) → SyncPlan
-new_plan moment address taken freed root contents lengths = record {
+-- the plan of a sync that starts, with this log header, the addresses that it takes and those that come back, and the
+-- contents that it writes
+abbrev pub new_plan : ℕ → Header → List ℕ → List ℕ → Pointer → Contents → (ℕ → Option ℕ) → SyncPlan
+new_plan moment header taken freed root contents lengths = record {
   steps_left = length taken + 6;
   taken = taken;
   freed = freed;
   moment = moment;
   root = root;
-  header = record { address = address; number = 0 };
+  header = header;
   contents = contents;
   lengths = lengths;
 }
@@ -90,11 +90,11 @@ shown_of objects p = record {
   dirty = p.dirty.sums;
   reserved = blocks_of p.dirty.sums;
   free = p.free.free;
-  log = log_of p.pending.items p.log_address;
+  log = log_of p.unsynced.items p.written p.log;
   root = p.tree.root;
   synced_contents = synced_of p;
   lengths = lengths_of p.tree;
-  sync = option_map (plan_of p.log_address p.tree (contents_after_oldest p)) p.sync;
+  sync = option_map (plan_of p.tree (contents_after_oldest p)) p.sync;
 }
 
 -- the objects that a pool shows are those of its synced tree with the changes of its unsynced groups laid over

@@ -20,7 +20,7 @@ use Rattle.tree_plans.specs.Plans.{new_block}
 use Rattle.pool_tables.specs.declared.pool.PoolTables.{PoolTables}
 use Rattle.pool_tables.specs.declared.pool.RunningSync.{RunningSync}
 use Rattle.pool_tables.specs.declared.pool.Progress.{Progress}
-use Rattle.pool_tables.specs.Pointers.{pointers_after}
+use Rattle.group_plans.specs.Pointers.{pointers_after}
 use Rattle.pool_tables.specs.Progresses.{plain_progress}
 use Rattle.pool_tables.specs.Shows.{shown_objects, shown_of}
 

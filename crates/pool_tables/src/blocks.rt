@@ -1,14 +1,18 @@
-//! The free blocks of a pool, as its syncs take and give them, and the end of a synced group's charges.
+//! The free blocks of a pool, as its syncs and its log take and give them, and the end of a synced group's charges.
 
 ghost use Rattle.std.specs.Prelude.{◌≡◌, ◌+◌, map};
 ghost use Rattle.base.specs.formats.Geometry.{block_count};
+ghost use Rattle.base.specs.steps.Exact.{log_addresses};
+ghost use Rattle.intent_log.specs.Kept.{header_fields, log_shown};
 ghost use Rattle.space.specs.FreeSets.{after_sync_end};
 ghost use Rattle.throttle.specs.Blocks.{AreWholeBlocks, blocks_in};
 ghost use Rattle.throttle.specs.DirtyBytes.{after_synced, sum_of, total_of};
 ghost use Rattle.tree_plans.specs.Plans.{address_of};
-ghost use Rattle.pool_tables.specs.Areas.{AreBlocksOf, after_gives, after_sync_takes};
+ghost use Rattle.group_plans.specs.Areas.{AreBlocksOf};
+ghost use Rattle.pool_tables.specs.Areas.{addresses_before, after_gives, after_sync_takes, blocks_from};
 
 use base::{BLOCK_SIZE, Group};
+use intent_log::{Log, LogHeader};
 use labels::Geometry;
 use space::FreeSet;
 use throttle::Dirty;
@@ -35,6 +39,21 @@ pub fn take_all(free: &mut FreeSet, blocks: &[PlannedBlock])
 {
     for planned in blocks {
         free.take_for_sync(planned.index);
+    }
+}
+
+/// The kept log blocks before a header come back.
+pub fn give_log(free: &mut FreeSet, geometry: Geometry, log: &mut Log, header: LogHeader)
+    requires count { free.old.blocks ≡ block_count geometry }
+    requires placed { AreBlocksOf (block_count geometry) (log_addresses (log_shown log.old)) }
+    ensures free { free.new
+        ≡ after_gives (addresses_before (header_fields header) log.old.kept) free.old }
+    ensures kept { log.new.kept ≡ blocks_from (header_fields header) log.old.kept }
+    ensures next { log.new.next ≡ log.old.next }
+    ensures placed { AreBlocksOf (block_count geometry) (log_addresses (log_shown log.new)) }
+{
+    while let Some(address) = log.give_back(header) {
+        free.give(geometry.block_index(address) as usize);
     }
 }
 

@@ -1,14 +1,16 @@
 //! What callers rest on: one function for each promise of this crate's calls, proved from the contract of the call
 //! alone. So it is refused as soon as that contract says less.
 
-ghost use Rattle.std.specs.Prelude.{◌≡◌, ◌+◌, ◌∷◌, [], IfOk, None, Ok, Some, false, length, map, true};
+ghost use Rattle.std.specs.Prelude.{◌≡◌, ◌<◌, ◌+◌, ◌∷◌, [], IfOk, None, Ok, Some, false, length, map, true};
 ghost use Rattle.std.specs.FinMap as finite;
 ghost use Rattle.std.specs.FinSet as set;
 ghost use Rattle.base.specs.declared.range.Mode.TheVariants as mode;
 ghost use Rattle.base.specs.formats.Digest.{digest_of};
+ghost use Rattle.base.specs.formats.Geometry.{block_count};
 ghost use Rattle.base.specs.history.Contents.{length_of};
 ghost use Rattle.base.specs.history.Past.{Past};
 ghost use Rattle.base.specs.history.Plans.{charge_of};
+ghost use Rattle.base.specs.steps.Exact.{log_addresses};
 ghost use Rattle.base.specs.steps.ExactNow.{IsExplainedNow};
 ghost use Rattle.base.specs.steps.Groups.{hold_count};
 ghost use Rattle.base.specs.steps.Refusals.{first_refusal};
@@ -16,16 +18,20 @@ ghost use Rattle.base.specs.steps.Shown.{SyncPlan, free_count, reserved_total};
 ghost use Rattle.base.specs.steps.Steps.{IsReplayUpTo};
 ghost use Rattle.object_maps.specs.ContentsShown.{contents_of};
 ghost use Rattle.object_maps.specs.Sources.{AreWithin};
+ghost use Rattle.intent_log.specs.Kept.{log_shown};
 ghost use Rattle.tree_plans.specs.Plans.{address_of};
+ghost use Rattle.group_plans.specs.Areas.{AreBlocksOf};
 ghost use Rattle.pool_tables.specs.BeginTests.{plan_tests};
 ghost use Rattle.pool_tables.specs.Shows.{pool_shown};
 
-use crate::blocks::take_all;
+use crate::blocks::{give_log, take_all};
 use crate::pool::PoolTables;
 use base::{
     Bytes, Group, LockId, Mode, ObjectId, Owner, Plan, PoolError, PoolName, Range, Shape, TxId,
 };
 use import_replay::Mounted;
+use intent_log::{Log, LogHeader};
+use labels::Geometry;
 use range_locks::{HeldLocks, HeldPiece};
 use space::FreeSet;
 use tree_plans::PlannedBlock;
@@ -194,6 +200,24 @@ fn a_sync_writes_what_its_group_left(pool: &mut PoolTables, moment: u64) -> Resu
         × IsReplayUpTo group.0 past plan.contents) }
 {
     pool.start_sync(moment)
+}
+
+// A log block before the header of a sync is free again.
+fn a_log_block_before_the_header_is_free_again(
+    free: &mut FreeSet,
+    geometry: Geometry,
+    log: &mut Log,
+    header: LogHeader,
+)
+    requires count { free.old.blocks ≡ block_count geometry }
+    requires placed { AreBlocksOf (block_count geometry) (log_addresses (log_shown log.old)) }
+    requires kept { log.old.kept
+        ≡ record { address = 4202496; number = 3; begins = []; ends = []; flushed = true } ∷ [] }
+    requires before { 3 < header.number }
+    ensures free { set.contains free.new.free 4202496 ≡ true }
+    ensures gone { log.new.kept ≡ [] }
+{
+    give_log(free, geometry, log, header);
 }
 
 // A block that a sync takes is free no more.

@@ -4,7 +4,7 @@ ghost use Rattle.std.specs.Prelude.{◌≡◌, ◌≤◌, OnOk, true};
 ghost use Rattle.std.specs.List.{list_all};
 ghost use Rattle.base.specs.formats.Limits.{max_log_record};
 ghost use Rattle.base.specs.history.Plans.{log_record_size};
-ghost use Rattle.base.specs.steps.Stage as stage;
+ghost use Rattle.base.specs.steps.BuiltSteps as as_built;
 ghost use Rattle.pool_tables.specs.BeginTests.{plan_tests};
 ghost use Rattle.pool_tables.specs.Meets.{Passes};
 
@@ -15,7 +15,7 @@ use transactions::{is_plan_allowed, is_too_large};
 /// its limits; `TooLarge` where its log record would have more than 4,008 bytes.
 pub fn check_plan(plan: &[Shape]) -> Result<(), PoolError>
     ensures refusal { Passes (plan_tests plan.now) result }
-    ensures built { OnOk result (stage.is_plan_built plan.now ≡ true) }
+    ensures built { OnOk result (as_built.is_plan_built plan.now ≡ true) }
     ensures small { OnOk result (log_record_size plan.now ≤ max_log_record) }
 {
     if !is_plan_built(plan) {
@@ -28,19 +28,19 @@ pub fn check_plan(plan: &[Shape]) -> Result<(), PoolError>
 }
 
 fn is_plan_built(plan: &[Shape]) -> bool
-    ensures { result ≡ stage.is_plan_built plan.now }
+    ensures { result ≡ as_built.is_plan_built plan.now }
 {
     is_plan_allowed(plan) && are_built(plan)
 }
 
 fn are_built(plan: &[Shape]) -> bool
-    ensures { result ≡ list_all stage.is_shape_built plan.now }
+    ensures { result ≡ list_all as_built.is_shape_built plan.now }
 {
     plan.iter().all(|shape| is_shape_built(shape))
 }
 
 fn is_shape_built(shape: &Shape) -> bool
-    ensures { result ≡ stage.is_shape_built shape.now }
+    ensures { result ≡ as_built.is_shape_built shape.now }
 {
     !matches!(shape, Shape::SetName(_))
 }

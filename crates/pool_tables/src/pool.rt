@@ -20,6 +20,9 @@
 //! 7. After the device refused a write or a flush, no step changes the pool any more: what the disk holds is not
 //!    certain.
 //! 8. A call takes its memory and makes its tests before it changes a table, so a refused call changes nothing.
+//! 9. The transactions of the unsynced groups are kept in order of commit, and those that the log has are a front of
+//!    them. A sync fixes its log header at its start, and the log blocks before it come back with its last step
+//!    (`zil.c`).
 //!
 //! The full contract of each call stands at `PoolState` of `pool_core`, which adds the device.
 
@@ -30,19 +33,21 @@ ghost use Rattle.base.specs.formats.Geometry.{IsGeometry, block_count};
 ghost use Rattle.base.specs.formats.Limits.{last_number, max_length, pointer_count};
 ghost use Rattle.base.specs.history.Contents.{length_of};
 ghost use Rattle.base.specs.tree.PlacedTrees.{ArePlaced};
+ghost use Rattle.base.specs.steps.Exact.{log_addresses};
 ghost use Rattle.base.specs.steps.Refusals.{is_lock_in_use};
 ghost use Rattle.base.specs.steps.Shown as show;
 ghost use Rattle.extents.specs.Unsynced.{changes_at};
 ghost use Rattle.object_maps.specs.ContentsShown.{contents_of};
 ghost use Rattle.object_maps.specs.Sources.{AreWithin};
 ghost use Rattle.object_maps.specs.Pointers.{pointers_of};
+ghost use Rattle.intent_log.specs.Kept.{header_fields, log_shown};
 ghost use Rattle.throttle.specs.DirtyBytes.{total_of};
-ghost use Rattle.tree_plans.specs.declared.planner.Committed.{Committed};
+ghost use Rattle.transactions.specs.declared.record.Record.{Record};
+ghost use Rattle.group_plans.specs.Areas.{AreBlocksOf, is_block_of};
+ghost use Rattle.group_plans.specs.Pointers.{pointers_after};
 ghost use Rattle.pool_tables.specs.Accounts.{AreAccounted, IsFreeSetOf};
-ghost use Rattle.pool_tables.specs.Areas.{is_block_of};
-ghost use Rattle.pool_tables.specs.Pending.{KeepsUnsynced};
-ghost use Rattle.pool_tables.specs.Pointers.{pointers_after};
-ghost use Rattle.pool_tables.specs.Running.{IsRunning};
+ghost use Rattle.pool_tables.specs.Unsynced.{KeepsUnsynced};
+ghost use Rattle.pool_tables.specs.Running.{IsRunning, KeepsHeader};
 ghost use Rattle.pool_tables.specs.RunningUberblocks.{uberblock_with};
 ghost use Rattle.pool_tables.specs.Targets.{is_readable};
 
@@ -51,11 +56,12 @@ mod syncs;
 
 use base::{
     Bytes, Group, LockId, Mode, OBJECT_COUNT, ObjectId, ObjectRange, Owner, Pointer, PoolError,
-    PoolName, Range, Status,
+    PoolName, Range, Receipt, Status,
 };
 use extents::{Laid, UnsyncedExtents};
 use groups::Groups;
 use import_replay::Mounted;
+use intent_log::{Log, LogHeader};
 use labels::Geometry;
 use object_maps::{Contents, ObjectMap, ObjectSource, Tree, digest, read_range_below};
 use range_locks::{HeldLock, HeldLocks, HeldPiece, RangeLocks};
@@ -64,8 +70,7 @@ use std::alloc::Global;
 use std::collections::BTreeMap;
 use sync::SyncRun;
 use throttle::Dirty;
-use transactions::OpenTransactions;
-use tree_plans::Committed;
+use transactions::{OpenTransactions, Record};
 
 /// What a step of a sync answers.
 #[derive(Clone, Copy, Debug, PartialEq, Eq)]
@@ -80,8 +85,9 @@ pub enum Progress {
 #[derive(Debug, Drop)]
 struct RunningSync {
     group: Group,
-    // what its uberblocks carry
+    // what its uberblocks carry: the moment, and where the log goes on that is kept after it
     moment: u64,
+    header: LogHeader,
     run: SyncRun,
     maps: BTreeMap<ObjectId, ObjectMap>,
     directories: Vec<Pointer>,
@@ -114,9 +120,11 @@ pub struct PoolTables {
     changes: UnsyncedExtents,
     next_ordinal: u64,
     // the committed transactions of unsynced groups, in order
-    pending: Vec<Committed>,
+    unsynced: Vec<Record>,
+    // so many of them from the front are written to the log
+    written: usize,
     free: FreeSet,
-    log_address: u64,
+    log: Log,
     tree: Tree,
     sync: Option<RunningSync>,
     ghost sized: { IsGeometry geometry },
@@ -128,12 +136,15 @@ pub struct PoolTables {
     ghost next_ordinal_fits: { next_ordinal ≤ last_number + 1 },
     ghost accounted: { AreAccounted transactions.transactions groups dirty } by { Prim.hlevel props },
     ghost running: { ForSome sync (λ r. IsRunning geometry
-        (uberblock_with guid import_number log_address r.group.0 r.moment r.root)
+        (uberblock_with guid import_number (header_fields r.header) r.group.0 r.moment r.root)
         (pointers_after r.root r.directories.items r.maps tree)
         (changes_at changes 0) synced.slots.items r.run) } by { Prim.hlevel props },
     ghost sync_line: { option_map (λ r. r.group.0) sync ≡ groups.line.syncing } by { Prim.hlevel props },
     ghost tree_placed: { ∥ ArePlaced (block_count geometry) (pointers_of tree) ∥₁ },
-    ghost unsynced: { KeepsUnsynced groups.line pending.items synced changes } by { Prim.hlevel props },
+    ghost unsynced_kept: { KeepsUnsynced groups.line unsynced.items written (log_shown log) synced changes } by { Prim.hlevel props },
+    ghost log_placed: { AreBlocksOf (block_count geometry) (log_addresses (log_shown log)) },
+    ghost sync_header: { ForSome sync (λ r. KeepsHeader r.group.0 (header_fields r.header)
+        (log_shown log)) } by { Prim.hlevel props },
 }
 
 impl Drop for PoolTables {
@@ -152,9 +163,10 @@ impl Drop for PoolTables {
             synced: _,
             changes: _,
             next_ordinal: _,
-            pending: _,
+            unsynced: _,
+            written: _,
             free: _,
-            log_address: _,
+            log: _,
             tree: _,
             sync: _,
         } = self;
@@ -209,9 +221,10 @@ impl PoolTables {
             synced: contents,
             changes: UnsyncedExtents::new(alloc),
             next_ordinal: 0,
-            pending: Vec::new(alloc),
+            unsynced: Vec::new(alloc),
+            written: 0,
             free,
-            log_address,
+            log: Log::new(alloc, log_address),
             tree,
             sync: None,
         }
@@ -249,7 +262,7 @@ impl PoolTables {
     ) -> Result<LockId, PoolError>
         ensures step { Locks owner object range mode result
             (pool_shown self.old) (pool_shown self.new) }
-        ensures kept { KeepsTree self.old self.new }
+        ensures tree { KeepsTree self.old self.new }
     {
         self.check_running()?;
         self.locks.lock(owner, ObjectRange { object, range }, mode)
@@ -263,7 +276,7 @@ impl PoolTables {
         object: ObjectId,
     ) -> Result<(LockId, Range), PoolError>
         ensures step { LocksAppend owner object result (pool_shown self.old) (pool_shown self.new) }
-        ensures kept { KeepsTree self.old self.new }
+        ensures tree { KeepsTree self.old self.new }
     {
         self.check_running()?;
         let length = self.shown_length(object);
@@ -274,7 +287,7 @@ impl PoolTables {
     /// range of an open transaction lies.
     pub fn unlock(&mut self, owner: Owner, id: LockId) -> Result<(), PoolError>
         ensures step { Unlocks owner id result (pool_shown self.old) (pool_shown self.new) }
-        ensures kept { KeepsTree self.old self.new }
+        ensures tree { KeepsTree self.old self.new }
     {
         self.check_running()?;
         let Some(held) = self.locks.find(owner, id) else {
@@ -370,6 +383,14 @@ impl PoolTables {
         ensures { result ≡ (pool_shown self.now).contents.name }
     {
         self.synced.name.copy()
+    }
+
+    /// Whether a committed transaction survives a crash. It is never refused.
+    pub fn durable(&self, receipt: Receipt) -> bool
+        ensures { result
+            ≡ show.is_durable (pool_shown self.now) receipt.ordinal.0 receipt.group.0 }
+    {
+        receipt.group <= self.groups.synced() || self.log.has_flushed(receipt)
     }
 
     /// The groups, the charged bytes, and the counts of free and of available blocks. It is never refused.

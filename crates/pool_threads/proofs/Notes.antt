@@ -18,7 +18,7 @@ use Rattle.object_maps.specs.Lengths.{lengths_of}
 use Rattle.pool_tables.specs.declared.pool.RunningSync.{RunningSync}
 use Rattle.pool_core.specs.declared.state.PoolState.{PoolState}
 use Rattle.pool_tables.specs.Told.{state_with}
-use Rattle.pool_tables.specs.Pointers.{lengths_after}
+use Rattle.group_plans.specs.Pointers.{lengths_after}
 use Rattle.pool_core.specs.States.{shown, told}
 use Rattle.pool_threads.specs.Noted.{listed, listed_length, note, note_plan, plan_in, shown_in}
 use Rattle.pool_threads.specs.Views.{CrashRule, view_of, viewed_state}

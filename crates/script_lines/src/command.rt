@@ -13,7 +13,10 @@ ghost use Rattle.script_lines.specs.Shapes.{AreShapesOf, IsShapeForm, IsShapeOf,
 ghost use Rattle.script_lines.specs.Words.{ArePartsOf};
 
 use crate::number::{parse_u32, parse_u64};
-use base::{Bytes, LockId, Mode, ObjectId, Owner, Piece, Plan, Range, Shape, Step, TxId};
+use base::{
+    Bytes, Group, LockId, Mode, ObjectId, Ordinal, Owner, Piece, Plan, Range, Receipt, Shape, Step,
+    TxId,
+};
 use device_model::Fault;
 use std::alloc::{AllocError, AllocFailed, Global};
 
@@ -174,7 +177,8 @@ fn parse_ending(words: &[&str]) -> Result<Step, LineError>
     }
 }
 
-// A step that tells what the contents are, where an object ends, or what the pool's groups and sums are.
+// A step that tells what the contents are, where an object ends, what the pool's groups and sums are, or whether a
+// commit is durable.
 fn parse_telling(words: &[&str]) -> Result<Step, LineError>
     ensures step { ReadsTelling (λ s. s) words.now result }
     ensures form { IsOk result → IsTellingForm words.now }
@@ -188,6 +192,10 @@ fn parse_telling(words: &[&str]) -> Result<Step, LineError>
         ["digest"] => Ok(Step::Digest),
         ["name"] => Ok(Step::Name),
         ["status"] => Ok(Step::Status),
+        ["durable", ordinal, group] => Ok(Step::Durable(Receipt {
+            ordinal: Ordinal(wide(ordinal)?),
+            group: Group(wide(group)?),
+        })),
         _ => Err(LineError::BadCommand),
     }
 }

@@ -21,7 +21,7 @@ use Rattle.base.specs.steps.Refusals as refusal
 use Rattle.base.specs.steps.Refusals.{transaction_of}
 use Rattle.base.specs.steps.Runs.{receipt_reply, reply_of}
 use Rattle.base.specs.steps.Shown.{SyncPlan}
-use Rattle.base.specs.steps.Stage as stage
+use Rattle.base.specs.steps.BuiltSteps as as_built
 use Rattle.base.specs.steps.Steps as steps
 use Rattle.base.specs.steps.Steps.{Answers, State, SyncProgress, WantsMemory, next_admission, transactions_without}
 use Rattle.base.specs.steps.Steps.SyncProgress.{More, Synced}
@@ -90,6 +90,8 @@ other_stays step.SyncStep r old new other (answer, is, h) = by_answer old new _ 
     progress : (p : SyncProgress) → (group : ℕ) × (plan : SyncPlan) × (old.shown.line.syncing ≡ Some group) × (old.shown.sync ≡ Some plan) × steps.IsProgress group p plan old new → HasSame old new
     progress More d = ap (λ (x : State). x.shown.transactions) d.4.1
     progress (Synced g) d = ap (λ (x : State). x.shown.transactions) d.4.2
+other_stays (step.Durable receipt) r old new other (answer, is, h) =
+    by_answer old new None answer _ _ (λ durable (d : steps.Durable receipt.ordinal.0 receipt.group.0 durable old new). same_open old new d.1) (λ e never. absurd never) h
 other_stays (step.Begin owner plan) r old new other h = absurd (false≢true (sym other))
 other_stays (step.Commit tx ops) r old new other h = absurd (false≢true (sym other))
 other_stays (step.Abort tx) r old new other h = absurd (false≢true (sym other))
@@ -124,7 +126,7 @@ module _ (plans : List BegunPlan) (old new : State) (are : ArePlansIn plans old)
       go false is = value-without_other begun_name begun_plan u.0 tx.0 plans is ∙ are tx ∙ sym (value-without_other admitted_name admitted_plan u.0 tx.0 ts is)
 
   pub begin_plans : (owner : Owner) (plan : List Shape) (r : declared_reply.Reply) → IsStep (step.Begin owner plan) r old new → ArePlansIn (plans_after (change.Begins plan) r plans) new
-  begin_plans owner plan r (answer, is, h) = subst (λ (q : declared_reply.Reply). ArePlansIn (plans_after (change.Begins plan) q plans) new) (sym is) (go (stage.begin_refusal owner.0 plan old.shown) answer h)
+  begin_plans owner plan r (answer, is, h) = subst (λ (q : declared_reply.Reply). ArePlansIn (plans_after (change.Begins plan) q plans) new) (sym is) (go (as_built.begin_refusal owner.0 plan old.shown) answer h)
     where
       go : (o : Option PoolError) (a : Result (ℕ × ℕ) PoolError)
           → Answers o a old new (λ (x : ℕ × ℕ). (x ≡ (old.shown.next_tx, old.shown.line.open_group)) × (new ≡ steps.state_after_charged_admission (next_admission owner.0 plan old.shown) old)) (WantsMemory old new)

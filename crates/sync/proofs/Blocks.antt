@@ -6,7 +6,7 @@ use Rattle.std.specs.List.{AllByRecursion}
 use Rattle.std.proofs.lemmas.Bool.{cases_lt}
 use Rattle.std.proofs.lemmas.Option.{slice_get_within}
 use Rattle.base.specs.formats.Fields.{part}
-use Rattle.base.specs.disk.Disk.{Moment, Disk, IsInRange, IsTouched}
+use Rattle.base.specs.disk.Disk.{Disk, IsInRange}
 use Rattle.base.specs.formats.Geometry.{IsGeometry, block_area, block_count, block_size}
 use Rattle.base.specs.disk.SyncOrder.{DeviceCall, calls_in_order}
 use Rattle.base.specs.disk.SyncOrder.DeviceCall.{Block, Config, Uberblock, Flush}
@@ -20,7 +20,7 @@ use Rattle.sync.specs.declared.run.SyncRun.{SyncRun}
 use Rattle.sync.specs.CallOrder.{calls_behind_blocks, calls_behind_staged_blocks}
 use Rattle.sync.specs.Runs.{call_count, other_calls}
 use Rattle.sync.specs.Calls.{Target, block_target, target_of, calls_of, first_labels, last_labels, IsNextCall, MakesCall}
-use Rattle.sync.specs.Made.{BlocksWritten, IsTarget, targets_of, HasMade, HasPending}
+use Rattle.sync.specs.Made.{BlocksWritten, IsTarget, targets_of, HasMade}
 use Rattle.sync.proofs.CallPlaces.{block_stands, others_stand}
 use Rattle.sync.proofs.Targets.{IsSound, InLabels, LiesIn, each-at, call_in_labels, call_of_target, target_of_call, config_lies, uberblock_lies, block_lies}
 
@@ -102,15 +102,6 @@ blocks_written base image run sound made = record {
       out k b below at_b (subst (λ (u : Target). IsInRange u.place u.size i) (sym same) here));
 }
 
--- the flush after the blocks
-pub flush_stands : (run : SyncRun) → slice_get (calls_of run) (vec_len run.blocks) ≡ Some Flush
-flush_stands run =
-    others_stand (vec_len run.blocks) (is_some run.stages) (first_labels run.stages) (last_labels run.stages) (vec_len run.blocks) 0 (omega arith) ∙ by_cases run.stages
-  where
-    by_cases : (stages : Option LabelStages) → slice_get (calls_in_order 0 (is_some stages) (first_labels stages) (last_labels stages)) 0 ≡ Some Flush
-    by_cases None = refl
-    by_cases (Some stages) = refl
-
 -- after a flush that answers Ok nothing is unflushed
 pub flush_cleans : (run : SyncRun) (before after : Disk) → MakesCall run Flush before (Ok tt) after → after.now.unflushed ≡ []
 flush_cleans run before after makes = (flushed_clean before after makes).0
@@ -142,12 +133,3 @@ last_cleans run call before after last at makes =
     let stands : slice_get (calls_of run) run.done ≡ Some Flush = last_stands run run.done last in
     let same : call ≡ Flush = cc in
     flush_cleans run before after (subst (λ (d : DeviceCall). MakesCall run d before (Ok tt) after) same makes)
-
--- after the flush that follows the blocks no byte of the block area is unflushed
-pub blocks_settled : (run : SyncRun) (m : Moment) → IsSound run → HasPending run m → vec_len run.blocks < run.done
-    → (i : ℕ) → block_area ≤ i → i < block_area + block_size * block_count run.geometry → IsTouched m.unflushed i → ⊥
-blocks_settled run m sound pending behind i from to touched =
-    let p = pending i touched in
-    let (b, at_b, same) = target_in_area run sound p.k i p.target p.at from to p.within in
-    let below : p.k < vec_len run.blocks = omega (arith, slice_get_within run.blocks.items p.k b at_b, run.blocks.ok.0) in
-    p.unflushed (vec_len run.blocks) (omega (arith, below)) behind (target_of_call run (vec_len run.blocks) Flush (flush_stands run))

@@ -91,23 +91,40 @@ behind_turn (Some stages) p call at = by_first stages stages.first refl at
         staged_turn (Some s) 1 3 0 2 (omega arith, (0, ap (λ (l : List ℕ). slice_get l 0) labels)) (omega arith, (1, ap (λ (l : List ℕ). slice_get l 1) labels))
         (omega arith, λ same. omega (arith, same, fixed)) (omega arith, λ same. omega (arith, same, fixed)) p call there
 
--- the next call of a sync, by the calls that it has made
-pub call_turn : (run : SyncRun) (call : DeviceCall) → IsNextCall run call → IsTurn run.stages (calls_before_slots run) run.done call
-call_turn run call next = elim (cases_lt run.done (vec_len run.blocks)) as (λ _. IsTurn run.stages (calls_before_slots run) run.done call) [
+-- the call of each place of a sync
+pub turn_at : (run : SyncRun) (k : ℕ) (call : DeviceCall) → slice_get (calls_of run) k ≡ Some call → IsTurn run.stages (calls_before_slots run) k call
+turn_at run k call next = elim (cases_lt k (vec_len run.blocks)) as (λ _. IsTurn run.stages (calls_before_slots run) k call) [
   | inl below ↦
-      let stands : slice_get (calls_of run) run.done ≡ Some (Block run.done) = block_stands (vec_len run.blocks) (is_some run.stages) (first_labels run.stages) (last_labels run.stages) run.done below in
-      let same : Block run.done ≡ call = cc in
+      let stands : slice_get (calls_of run) k ≡ Some (Block k) = block_stands (vec_len run.blocks) (is_some run.stages) (first_labels run.stages) (last_labels run.stages) k below in
+      let same : Block k ≡ call = cc in
       inl (omega (arith, below), subst (IsFrontCall run.stages) same tt, λ last. absurd (omega (arith, last, below)))
   | inr behind ↦
-      let place : ℕ = run.done - vec_len run.blocks in
-      let there : vec_len run.blocks + place ≡ run.done = omega (arith, behind) in
+      let place : ℕ = k - vec_len run.blocks in
+      let there : vec_len run.blocks + place ≡ k = omega (arith, behind) in
       let at : slice_get (calls_in_order 0 (is_some run.stages) (first_labels run.stages) (last_labels run.stages)) place ≡ Some call =
-      sym (others_stand (vec_len run.blocks) (is_some run.stages) (first_labels run.stages) (last_labels run.stages) run.done place there) ∙ next in
+      sym (others_stand (vec_len run.blocks) (is_some run.stages) (first_labels run.stages) (last_labels run.stages) k place there) ∙ next in
       shifted place there (behind_turn run.stages place call at)
 ]
   where
-    shifted : (place : ℕ) → vec_len run.blocks + place ≡ run.done → IsTurn run.stages (1 + first_stage_calls run.stages) place call → IsTurn run.stages (calls_before_slots run) run.done call
+    shifted : (place : ℕ) → vec_len run.blocks + place ≡ k → IsTurn run.stages (1 + first_stage_calls run.stages) place call → IsTurn run.stages (calls_before_slots run) k call
     shifted place there (inl (below, is, last)) = inl (omega (arith, below, there), is, λ n. last (omega (arith, n, there)))
     shifted place there (inr (inl (label, below, at, is))) = inr (inl (label, below, omega (arith, at, there), is))
     shifted place there (inr (inr (inl (at, is)))) = inr (inr (inl (omega (arith, at, there), is)))
     shifted place there (inr (inr (inr (behind, is)))) = inr (inr (inr (omega (arith, behind, there), is)))
+
+-- the next call of a sync, by the calls that it has made
+pub call_turn : (run : SyncRun) (call : DeviceCall) → IsNextCall run call → IsTurn run.stages (calls_before_slots run) run.done call
+call_turn run call next = turn_at run run.done call next
+
+-- the first uberblock is written after the calls before it
+pub first_slot_stands : (run : SyncRun) → slice_get (calls_of run) (calls_before_slots run) ≡ Some (Uberblock 0)
+first_slot_stands run =
+    others_stand (vec_len run.blocks) (is_some run.stages) (first_labels run.stages) (last_labels run.stages) (calls_before_slots run) (1 + first_stage_calls run.stages) (omega arith) ∙ by_cases run.stages
+  where
+    by_cases : (stages : Option LabelStages) → slice_get (calls_in_order 0 (is_some stages) (first_labels stages) (last_labels stages)) (1 + first_stage_calls stages) ≡ Some (Uberblock 0)
+    by_cases None = refl
+    by_cases (Some stages) = by_stage stages.first
+      where
+        by_stage : (first : Stage) → slice_get (calls_behind_staged_blocks first) 4 ≡ Some (Uberblock 0)
+        by_stage Even = refl
+        by_stage Odd = refl

@@ -12,6 +12,7 @@ use Rattle.base.specs.disk.Calls.{Writes}
 use Rattle.base.specs.disk.Fairness.{HandsOnly}
 use Rattle.base.specs.disk.SyncOrder.{DeviceCall}
 use Rattle.base.specs.disk.SyncOrder.DeviceCall.{Block, Config, Uberblock, Flush}
+use Rattle.base.specs.crash.CallStages.{IsSwitching, SparesAt}
 use Rattle.base.specs.crash.Views.{View, IsLaid}
 use Rattle.base.proofs.disk.Fairness.{hands_wrote, hands_settled}
 use Rattle.base.proofs.disk.Moments.{starts, each_write, each_flush}
@@ -25,9 +26,11 @@ use Rattle.sync.proofs.CallTurns.{IsFrontCall, IsBackCall, IsTurn, call_turn}
 use Rattle.sync.proofs.CheckedWrites.{call_fair}
 use Rattle.sync.proofs.KeptWrites.{done_after}
 use Rattle.sync.proofs.LaidViews.{new_view_laid, new_label_below}
+use Rattle.sync.proofs.LoggedCalls.{call_logged}
 use Rattle.sync.proofs.PhaseSteps.{Keeps, first_write, first_flush, last_flush, behind_write, behind_flush}
 use Rattle.sync.proofs.QuietCalls.{front_quiet, back_quiet, slot_spared}
-use Rattle.sync.proofs.SlotSteps.{slot_write, slot_flush}
+use Rattle.sync.proofs.SlotSteps.{slot_write, slot_flush, switched_write}
+use Rattle.sync.proofs.SparedPlaces.{own_slot_spares}
 use Rattle.sync.proofs.Targets.{IsSound, call_in_labels, target_of_call}
 
 -- The tree of a view that is laid has its blocks in the area.
@@ -97,23 +100,36 @@ module _ (run : SyncRun) (sound : IsSound run) (call : DeviceCall) (next : IsNex
 
     -- a write of the uberblock
     slot_kept : (label : ℕ) → label < 4 → run.done ≡ calls_before_slots run + label → MakesCall run (Uberblock label) before r after → Kept
-    slot_kept label below at makes =
-        let views = laid_views in
-        let long : length run.uberblock ≡ slot_size = ap (λ (l : List ℕ). length l) leads.uberblock ∙ leads.view.uberblock.size in
-        let here : Writes before (slot_place run.geometry label (slot_of v.new.u.group)) run.uberblock r after =
-        subst (λ (s : ℕ). Writes before (slot_place run.geometry label s) run.uberblock r after) leads.slot makes in
-        slot_write v run.geometry (calls_before_slots run) (new_config_label v run.stages) leads.above leads.other_slot (slot_place run.geometry label (slot_of v.new.u.group)) run.uberblock run.done label r before after has below at
-        refl long (slot_spared base run sound v leads (laid_placed run.geometry v.created v.new_flushed before.now v.new views.1) views.0.view
-        (laid_placed run.geometry v.created v.flushed before.now v.old views.0) label (new_config_label v run.stages) below (new_label_below v run.stages)) here
+    slot_kept label below at makes = elim (cases_lt (calls_before_slots run) run.done) as (λ _. Kept) [
+      | inl later ↦ elim (has.between later (omega (arith, at, below))) as (λ _. Kept) [
+        | inl b ↦ between_kept (inr b) (b.between.old_laid, b.between.new_laid)
+        | inr s ↦
+            let new_placed = laid_placed run.geometry v.created v.new_flushed before.now v.new s.rest.rest.laid in
+            switched_write v run.geometry (calls_before_slots run) (new_config_label v run.stages) leads.above leads.other_slot place run.uberblock run.done label r before after has below at refl long here later s leads.uberblock
+            (λ labels lower. subst (λ (n : ℕ). SparesAt run.geometry v.new_flushed labels v.new place n) (sym long)
+            (own_slot_spares run.geometry sound.geometry v.new_flushed labels v.new leads.view new_placed label below (λ same. omega (arith, lower, same))))
+      ]
+      | inr first ↦ elim (has.switching (omega (arith, at, first))) as (λ _. Kept) [
+        | inl rest ↦ between_kept (inl rest) (rest.0.rest.laid, rest.1.laid)
+        | inr b ↦ between_kept (inr b) (b.between.old_laid, b.between.new_laid)
+      ]
+    ]
       where
-        laid_views : IsLaid run.geometry v.created v.flushed before.now v.old × IsLaid run.geometry v.created v.new_flushed before.now v.new
-        laid_views = elim (cases_lt (calls_before_slots run) run.done) as (λ _. IsLaid run.geometry v.created v.flushed before.now v.old × IsLaid run.geometry v.created v.new_flushed before.now v.new) [
-          | inl later ↦ let b = has.between later (omega (arith, at, below)) in (b.between.old_laid, b.between.new_laid)
-          | inr first ↦ elim (has.switching (omega (arith, at, first))) as (λ _. IsLaid run.geometry v.created v.flushed before.now v.old × IsLaid run.geometry v.created v.new_flushed before.now v.new) [
-            | inl rest ↦ (rest.0.rest.laid, rest.1.laid)
-            | inr b ↦ (b.between.old_laid, b.between.new_laid)
-          ]
-        ]
+        place : ℕ
+        place = slot_place run.geometry label (slot_of v.new.u.group)
+
+        long : length run.uberblock ≡ slot_size
+        long = ap (λ (l : List ℕ). length l) leads.uberblock ∙ leads.view.uberblock.size
+
+        here : Writes before place run.uberblock r after
+        here = subst (λ (s : ℕ). Writes before (slot_place run.geometry label s) run.uberblock r after) leads.slot makes
+
+        between_kept : IsSwitching run.geometry v.created v.flushed v.new_flushed (new_config_label v run.stages) v.fixed v.old v.new before.now
+            → IsLaid run.geometry v.created v.flushed before.now v.old × IsLaid run.geometry v.created v.new_flushed before.now v.new → Kept
+        between_kept switching views =
+            slot_write v run.geometry (calls_before_slots run) (new_config_label v run.stages) leads.above leads.other_slot place run.uberblock run.done label r before after has below at refl long here switching
+            (slot_spared base run sound v leads (laid_placed run.geometry v.created v.new_flushed before.now v.new views.1) views.0.view
+            (laid_placed run.geometry v.created v.flushed before.now v.old views.0) label (new_config_label v run.stages) below (new_label_below v run.stages))
 
     -- a call after the uberblocks
     back_kept : (c : DeviceCall) → calls_before_slots run + 4 < run.done → IsBackCall run.stages c → MakesCall run c before r after → Kept
@@ -145,4 +161,7 @@ module _ (run : SyncRun) (sound : IsSound run) (call : DeviceCall) (next : IsNex
     phases = λ base v leads made has.
         let kept = call_kept base v leads made has (call_turn run call next) in
         (kept.0, rw (same.geometry, same.blocks, same.stages, done) kept.1);
+    logs = λ base v leads made has holds.
+        let kept = call_kept base v leads made has (call_turn run call next) in
+        call_logged run new sound before after same base v leads has kept.0 (rw (same.geometry, same.blocks, same.stages, done) kept.1) holds call r next (call_in_labels run run.done call next) fits done makes;
   }

@@ -71,4 +71,4 @@ module _ (base : List ℕ) (run : SyncRun) (sound : IsSound run) (v : SyncViews)
   new_view_laid none =
       view_laid run.geometry v.created v.new_flushed (new_config_label v run.stages) v.new m none before.rest.rest.laid.firm.size_is leads.view (new_label_below v run.stages) (config_stands run.stages refl)
       (leads.tree (bytes_of m) made.size all_blocks) leads.log.0
-      (λ i l below at. let here = leads.log.1 i l below at in (before.rest.rest.laid.firm.log.1 here.0 l here.1 here.2).stands) before.configs before.logs
+      (λ i l below at. let here = leads.log.1 i l at in (before.rest.rest.laid.firm.log.1 here.0 l (here.2 below) here.1).stands) before.configs before.logs

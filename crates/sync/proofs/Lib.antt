@@ -2,7 +2,6 @@ pub mod CallPlaces
 pub mod Targets
 pub mod Written
 pub mod Steps
-pub mod Pending
 pub mod Blocks
 pub mod KeptWrites
 pub mod CheckedWrites
@@ -12,7 +11,15 @@ pub mod PhaseSteps
 pub mod SlotSteps
 pub mod QuietCalls
 pub mod LaidViews
+pub mod SpareBlocks
+pub mod MadeSlots
+pub mod HeldLogs
+pub mod RaisedPhases
+pub mod LogFlushes
+pub mod LoggedCalls
 pub mod KeptPhases
-pub mod PhasesSince
+pub mod UnderWay
+pub mod LogPhases
+pub mod LogWrites
 pub mod ConfigWrites
 pub mod Promises

@@ -1,6 +1,7 @@
 -- What one call makes of the phase of a disk: a quiet write, a flush, or a write of the new uberblock, whatever the
 -- device answers.
-use Rattle.std.proofs.Common.{◌≡◌, ◌⊎◌, inl, inr, ℕ, ◌+◌, ◌<◌, Bool, List, [], ◌∷◌, Result, Ok, Err, sym, ◌∙◌, ap, subst, arith}
+use Rattle.std.proofs.Common.{◌≡◌, ◌⊎◌, inl, inr, ℕ, ◌+◌, ◌-◌, ◌<◌, Bool, List, [], ◌∷◌, length, Result, Ok, Err, sym, ◌∙◌, ap, subst, arith}
+use Rattle.std.proofs.lemmas.Bool.{cases_lt, cases_order}
 use Rattle.base.specs.declared.error.PoolError.{PoolError}
 use Rattle.base.specs.formats.Fields.{part, number_at}
 use Rattle.base.specs.formats.Geometry.{block_address, config_place, slot_place, slot_of}
@@ -10,14 +11,15 @@ use Rattle.base.specs.disk.Calls.{Writes, Flushes}
 use Rattle.base.specs.crash.Views.{View, AreConfigsKnown, AreLogBlocksKnown}
 use Rattle.base.specs.crash.Own.{IsPhase}
 use Rattle.base.specs.crash.Spares.{IsTreeContent}
-use Rattle.base.specs.crash.SyncCalls.PoolCall.{Put, Settle}
-use Rattle.base.specs.crash.CallStages.{FixedLabels, IsBetweenAt, IsSwitching, IsQuiet, IsLaidAt}
+use Rattle.base.specs.crash.SyncCalls.DiskCall.{Put, Settle}
+use Rattle.base.specs.crash.CallStages.{FixedLabels, IsSwitching, IsQuiet, IsLaidAt}
 use Rattle.base.proofs.disk.Fairness.{handed_settled}
 use Rattle.base.proofs.disk.Moments.{starts, weaker, latest, each_write, each_flush}
 use Rattle.base.proofs.disk.Regions.{flushed_clean}
 use Rattle.base.proofs.crash.CallStages.{quiet_calls}
 use Rattle.sync.proofs.KeptWrites.{done_after}
-use Rattle.sync.specs.Phases.{SyncViews, HasPhase, IsBefore, IsBehind}
+use Rattle.sync.specs.declared.run.SyncRun.{SyncRun}
+use Rattle.sync.specs.Phases.{SyncViews, HasPhase, HasPhaseOf, IsBefore, IsBehind, IsBetweenOrSwitched, IsSyncPhase, calls_before_slots}
 
 -- a write that could pass for no other config or log block of the new view than its own: of a block of a tree, or of
 -- its config
@@ -50,7 +52,7 @@ module _ (v : SyncViews) (size : ℕ) where
     logs = logs_wrote place moment content done m new b.logs;
   }
 
-  before_settled : (m : Moment) → IsBefore v size m → IsBefore v size (settled (bytes_of m) m)
+  pub before_settled : (m : Moment) → IsBefore v size m → IsBefore v size (settled (bytes_of m) m)
   before_settled m b = record {
     rest = (quiet_calls size v.created v.flushed v.fixed v.old (Settle ∷ []) (tt, tt)).0 m b.rest;
     configs = λ label group name c below some. b.configs label group name c below (handed_settled v.created (bytes_of m) m (config_place size label) c some);
@@ -65,7 +67,7 @@ module _ (v : SyncViews) (size : ℕ) where
     rest = (quiet_calls size v.created v.new_flushed b.labels v.new (Put place content ∷ []) (quiet b.labels b.config_is, tt)).0 moment done m (omega arith) b.rest;
   }
 
-  behind_settled : (config : ℕ) (m : Moment) → IsBehind v size config m → IsBehind v size config (settled (bytes_of m) m)
+  pub behind_settled : (config : ℕ) (m : Moment) → IsBehind v size config m → IsBehind v size config (settled (bytes_of m) m)
   behind_settled config m b =
       record { labels = b.labels; config_is = b.config_is; rest = (quiet_calls size v.created v.new_flushed b.labels v.new (Settle ∷ []) (tt, tt)).0 m b.rest }
 
@@ -105,7 +107,7 @@ module _ (v : SyncViews) (size : ℕ) where
     }
 
     pub of_between : (done : ℕ) (m : Moment) → before < done → done < before + 5 → (done ≡ before + 4 → part (bytes_of m) (slot_place size 3 (slot_of v.new.u.group)) slot_size ≡ v.new.slot)
-        → IsBetweenAt size v.created v.flushed v.new_flushed config v.fixed v.old v.new m → HasPhase v size before config done m
+        → IsBetweenOrSwitched v size config (done - before) m → HasPhase v size before config done m
     of_between done m from to stands b = record {
       first = λ here. absurd (omega (arith, here, from));
       switching = λ here. absurd (omega (arith, here, from));
@@ -164,3 +166,28 @@ module _ (v : SyncViews) (size : ℕ) where
       behind_flush above flushes =
           let each : EachMoment (IsBehind v size config) old new = each_flush (IsBehind v size config) old old new r (starts (IsBehind v size config) old (has.behind above)) flushes (λ b. behind_settled config old.now b) in
           (weaker (IsBehind v size config) Phase old new (λ m b. inr (inr b.rest.rest)) each, behind_after done r new.now above (latest (IsBehind v size config) old new each))
+
+-- each phase by the calls that are made is one of the three
+pub phase_now : (v : SyncViews) (run : SyncRun) (m : Moment) → HasPhaseOf run v m → IsSyncPhase run v m
+phase_now v run m has = elim (cases_order run.done (calls_before_slots run)) as (λ _. IsSyncPhase run v m) [
+  | inl same ↦ elim (has.switching same) as (λ _. IsSyncPhase run v m) [
+    | inl rest ↦ inl rest.0.rest
+    | inr b ↦ inr (inl b.between)
+  ]
+  | inr (inl below) ↦ inl (has.first below).rest.rest
+  | inr (inr above) ↦ elim (cases_lt run.done (calls_before_slots run + 5)) as (λ _. IsSyncPhase run v m) [
+    | inl low ↦ elim (has.between above low) as (λ _. IsSyncPhase run v m) [
+      | inl b ↦ inr (inl b.between)
+      | inr s ↦ inr (inr s.rest.rest)
+    ]
+    | inr high ↦ inr (inr (has.behind (omega (arith, high))).rest.rest)
+  ]
+]
+
+-- in each of them the disk has its size
+pub sized_now : (v : SyncViews) (run : SyncRun) (m : Moment) → HasPhaseOf run v m → length (bytes_of m) ≡ run.geometry
+sized_now v run m has = elim (phase_now v run m has) as (λ _. length (bytes_of m) ≡ run.geometry) [
+  | inl rest ↦ rest.laid.firm.size_is
+  | inr (inl b) ↦ b.old_laid.firm.size_is
+  | inr (inr rest) ↦ rest.laid.firm.size_is
+]

@@ -127,6 +127,20 @@ module _ (size : ℕ) (g : IsGeometry size) where
     pub slot_blocks : (label slot : ℕ) → label < 4 → slot < 128 → (a : ℕ) → IsBlockAddress (block_count size) a → Apart (slot_place size label slot) slot_size a block_size
     slot_blocks label slot below in_array a is = turned a block_size (slot_place size label slot) slot_size (block_slot a label slot is below in_array)
 
+    -- the slot of the view's group in another label than the fixed one
+    pub own_slot_spares : (label : ℕ) → label < 4 → label ≢ at.slot → SparesAt size flushed at v (slot_place size label (slot_of v.u.group)) slot_size
+    own_slot_spares label below differ =
+        let slot : ℕ = slot_of v.u.group in
+        record {
+          whole = slot_checked label slot below (slot-below v.u.group);
+          fits = (label-apart size label (slot_place size label slot) slot_size g below (omega arith) (let in_array : slot < 128 = slot-below v.u.group in omega (arith, in_array))).0;
+          not_config = subst (λ (n : ℕ). Apart (slot_place size label slot) slot_size (config_place size at.config) n) (sym config_long) (slot-config_apart size label slot at.config g below (slot-below v.u.group) at.config_below);
+          not_slot = subst (λ (n : ℕ). Apart (slot_place size label slot) slot_size (slot_place size at.slot slot) n) (sym slot_long)
+              (slots-apart size label slot at.slot slot g below (slot-below v.u.group) at.slot_below (slot-below v.u.group) (inl differ));
+          not_tree = label_tree (slot_place size label slot) slot_size (slot_blocks label slot below (slot-below v.u.group));
+          not_log = label_log (slot_place size label slot) slot_size (slot_blocks label slot below (slot-below v.u.group));
+        }
+
     -- another slot than that of the view's group
     pub slot_spares : (label slot : ℕ) → label < 4 → slot < 128 → slot ≢ slot_of v.u.group → SparesAt size flushed at v (slot_place size label slot) slot_size
     slot_spares label slot below in_array differ = record {

@@ -1,8 +1,8 @@
 -- What a sync has written so far.
-use Rattle.std.specs.Prelude.{ℕ, ◌≡◌, ◌+◌, ◌*◌, ◌<◌, ◌≤◌, List, [], map, Option, Some, None, nat_eq, length, slice_get, slice_index}
+use Rattle.std.specs.Prelude.{ℕ, ◌≡◌, ◌+◌, ◌*◌, ◌<◌, ◌≤◌, List, [], map, Option, Some, nat_eq, length, slice_get, slice_index}
 use Rattle.std.specs.List.{IsDistinct}
 use Rattle.base.specs.formats.Fields.{part}
-use Rattle.base.specs.disk.Disk.{Moment, bytes_of, IsInRange, IsTouched}
+use Rattle.base.specs.disk.Disk.{Moment, bytes_of, IsInRange}
 use Rattle.base.specs.formats.Geometry.{block_address, block_area, block_count, block_size}
 use Rattle.tree_plans.specs.declared.planner.PlannedBlock.{PlannedBlock}
 use Rattle.sync.specs.declared.run.SyncRun.{SyncRun}
@@ -32,25 +32,10 @@ HasMade base run image = AreWritten base (targets_of run) run.done image
 abbrev pub HasDistinctBlocks : SyncRun → Type 0
 HasDistinctBlocks run = IsDistinct nat_eq (map (λ (b : PlannedBlock). b.index) run.blocks.items)
 
--- Of these targets the first so many are written. The byte lies in one of them, or in the next, and no flush came after
--- it.
-pub record IsPending (targets : List (Option Target)) (done i : ℕ) : Type 0 where
-  pub k : ℕ
-  pub target : Target
-  pub at : IsTarget targets k target
-  pub tried : k ≤ done
-  pub unflushed : (j : ℕ) → k ≤ j → j < done → slice_get targets j ≡ Some None → ⊥
-  pub within : IsInRange target.place target.size i
-
--- What is not flushed are the sync's own writes, since its last flush that was done.
-abbrev pub HasPending : SyncRun → Moment → Type 0
-HasPending run m = (i : ℕ) → IsTouched m.unflushed i → IsPending (targets_of run) run.done i
-
--- As before, what a sync has written is all that is (if no two blocks have one place), and what is unflushed is its
--- own. After the last call nothing is unflushed.
+-- As before, what a sync has written is all that is (if no two blocks have one place). After the last call nothing is
+-- unflushed.
 pub record KeepsWritten (old new : SyncRun) (before after : Moment) : Type 0 where
   pub made : HasDistinctBlocks old → (base : List ℕ) → HasMade base old (bytes_of before) → HasMade base new (bytes_of after)
-  pub pending : HasPending old before → HasPending new after
   pub settled : new.done ≡ call_count new → after.unflushed ≡ []
 
 -- Of the block area these bytes have changed: the first so many blocks stand in it, and each other byte is as in the

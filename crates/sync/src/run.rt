@@ -22,6 +22,9 @@
 //! 10. If the configs change: those of the other stage, and a flush.
 //! 11. Only after the last flush is the group synced, and only then may the blocks that it replaced be written again.
 //! 12. If the device refuses a call, that call is still the next one, and what the calls before it left stays.
+//! 13. Between two calls the pool may write the next log block, at an address that no tree, no log and no block of the
+//!     sync has, and it may flush. A flush between two writes of 9 makes the new uberblock active before the others are
+//!     written.
 
 ghost use Rattle.std.specs.Prelude.{◌≡◌, ◌<◌, ◌+◌, All, IfErr, IsTrue, if◌then◌else◌, vec_len};
 ghost use Rattle.base.specs.formats.Geometry.{IsGeometry, block_count};
@@ -124,12 +127,12 @@ impl SyncRun {
     /// refused the call, it is still the next one.
     ///
     /// After each call the sync has written just what its calls so far write (`HasMade`, if no two blocks have one
-    /// place). What is unflushed are its own writes since its last flush (`HasPending`); after the last call nothing
-    /// is.
+    /// place). After the last call nothing is unflushed.
     ///
     /// At each moment of the call, also of a refused one, the disk is at rest on the old view, between the old and
     /// the new one, or at rest on the new one (`HasPhaseOf`). `LeadsViews` has the premises on blocks, config and
-    /// uberblock.
+    /// uberblock. If no write was refused and the logs of both views are held, they are held at each moment too, and a
+    /// flush fixes all their blocks (`HoldsLogs`).
     ///
     /// # Errors
     /// `Write` or `Flush`, if the device refused such a call.

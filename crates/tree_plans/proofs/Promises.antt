@@ -25,7 +25,7 @@ use Rattle.base.specs.tree.Syncs.{GroupChanges, is_directory_touched, is_directo
 use Rattle.object_maps.specs.declared.tree.ObjectMap.{ObjectMap}
 use Rattle.object_maps.specs.Lengths.{map_length}
 use Rattle.tree_plans.specs.declared.changes.ObjectChanges.{ObjectChanges}
-use Rattle.tree_plans.specs.declared.planner.Committed.{Committed}
+use Rattle.transactions.specs.declared.record.Record.{Record}
 use Rattle.tree_plans.specs.declared.planner.TreePlan.{TreePlan}
 use Rattle.tree_plans.specs.declared.walk.PlanSource.{PlanSource}
 use Rattle.tree_plans.specs.Changes.{AreBornBefore, state_in}
@@ -49,7 +49,7 @@ ok_both (Ok x) P Q R f p q = f x p q
 ok_both (Err e) P Q R f p q = tt
 
 -- transactions of group 5 have no operation of group 6
-none_pending : (pending : List Committed) → All (λ (c : Committed). c.group.0 ≡ 5) pending → pending_ops 6 pending ≡ []
+none_pending : (pending : List Record) → All (λ (c : Record). c.group.0 ≡ 5) pending → pending_ops 6 pending ≡ []
 none_pending [] all = refl
 none_pending (c ∷ cs) all =
     let here : c.group.0 ≡ 5 = all 0 c (omega arith) in
@@ -61,7 +61,7 @@ no_entry None none = refl
 no_entry (Some x) none = cc
 
 -- so nothing is told of them
-pub left_out : (pending : List Committed) (maps : List ObjectMap) (objects : List (ObjectId × ObjectChanges)) → All (λ (c : Committed). c.group.0 ≡ 5) pending
+pub left_out : (pending : List Record) (maps : List ObjectMap) (objects : List (ObjectId × ObjectChanges)) → All (λ (c : Record). c.group.0 ≡ 5) pending
     → AreChangesOf (pending_ops 6 pending) maps objects → (n : ℕ) → entry_of objects n ≡ None
 left_out pending maps objects all told n =
     let there : is_some (entry_of objects n) ≡ false = rw (none_pending pending all) at (told.there n) in

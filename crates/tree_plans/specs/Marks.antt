@@ -16,13 +16,13 @@ use Rattle.base.specs.tree.Syncs.{is_change_of, is_on, is_record_touched, record
 use Rattle.object_maps.specs.declared.tree.ObjectMap.{ObjectMap}
 use Rattle.object_maps.specs.Lengths.{map_length}
 use Rattle.tree_plans.specs.declared.changes.ObjectChanges.{ObjectChanges}
-use Rattle.tree_plans.specs.declared.planner.Committed.{Committed}
+use Rattle.transactions.specs.declared.record.Record.{Record}
 use Rattle.tree_plans.specs.Pointers.{entry_of}
 use Rattle.tree_plans.specs.Changes.{is_changed_in, state_in}
 
 -- the operations of a group's transactions, in order
-abbrev pub pending_ops : ℕ → List Committed → List Op
-pending_ops group pending = flat_map (λ (c : Committed). c.ops) (filter (λ (c : Committed). c.group.0 == group) pending)
+abbrev pub pending_ops : ℕ → List Record → List Op
+pending_ops group pending = flat_map (λ (c : Record). c.ops) (filter (λ (c : Record). c.group.0 == group) pending)
 
 -- the length of an object by its changes so far, or as the tree before them has it
 abbrev pub length_so_far : List ObjectMap → List (ObjectId × ObjectChanges) → ℕ → ℕ

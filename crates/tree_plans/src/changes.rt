@@ -17,11 +17,11 @@ ghost use Rattle.tree_plans.specs.Changes.{is_changed_in, state_at, state_in};
 ghost use Rattle.tree_plans.specs.Marks.{AreChangesOf, AreToldSoFar, NotesOp, length_so_far, pending_ops};
 ghost use Rattle.tree_plans.specs.Pointers.{IsPut, entry_of};
 
-use crate::planner::Committed;
 use base::{Group, MAX_LENGTH, ObjectId, Op, PoolError, RECORD_SIZE, RecordState};
 use object_maps::ObjectMap;
 use std::alloc::Global;
 use std::collections::{BTreeMap, BTreeSet};
+use transactions::Record;
 
 /// What the operations of a group do to an object.
 #[derive(Debug, PartialEq, Eq, Drop)]
@@ -186,7 +186,7 @@ fn touched_end(offset: u64, count: usize) -> usize
 pub fn changed_objects(
     alloc: Global,
     maps: &[ObjectMap],
-    pending: &[Committed],
+    pending: &[Record],
     group: Group,
 ) -> Result<BTreeMap<ObjectId, ObjectChanges>, PoolError>
     ensures changes { IfOk result (λ objects.
@@ -204,7 +204,7 @@ fn note_committed(
     alloc: Global,
     objects: &mut BTreeMap<ObjectId, ObjectChanges>,
     maps: &[ObjectMap],
-    committed: &Committed,
+    committed: &Record,
     group: Group,
 ) -> Result<(), PoolError>
     ensures told { OnOk result ((done : List Op)

@@ -13,7 +13,7 @@ ghost use Rattle.base.specs.history.Contents.{Contents, length_of};
 ghost use Rattle.base.specs.history.History.{apply_all};
 ghost use Rattle.base.specs.tree.Syncs.{is_dirty};
 ghost use Rattle.object_maps.specs.Lengths.{lengths_of, map_length};
-ghost use Rattle.tree_plans.specs.declared.planner.Committed.{Committed};
+ghost use Rattle.transactions.specs.declared.record.Record.{Record};
 ghost use Rattle.tree_plans.specs.Changes.{AreBornBefore, AreInRange, is_changed_in, state_at, state_in};
 ghost use Rattle.tree_plans.specs.NewBlocks.{HasNewIndirect, HasNewRecord};
 ghost use Rattle.tree_plans.specs.Marks.{pending_ops};
@@ -23,12 +23,13 @@ ghost use Rattle.tree_plans.specs.TreePlans.{free_addresses, places_written};
 ghost use Rattle.tree_plans.specs.Walks.{is_any_touched};
 
 use crate::changes::{ObjectChanges, changed_objects};
-use crate::planner::{Committed, TreePlan};
+use crate::planner::TreePlan;
 use crate::walk::{PlanSource, plan};
 use base::{Group, ObjectId, PoolError, RecordState};
 use object_maps::{ObjectMap, ObjectSource};
 use std::alloc::Global;
 use std::collections::BTreeMap;
+use transactions::Record;
 
 // A write of one byte makes its own record dirty, and no other.
 fn a_write_makes_its_own_record_dirty(alloc: Global) -> Result<ObjectChanges, PoolError>
@@ -76,9 +77,9 @@ fn a_record_without_operations_is_unchanged(alloc: Global) {
 fn operations_of_another_group_are_left_out(
     alloc: Global,
     maps: &[ObjectMap],
-    pending: &[Committed],
+    pending: &[Record],
 ) -> Result<BTreeMap<ObjectId, ObjectChanges>, PoolError>
-    requires { All (λ (c : Committed). c.group.0 ≡ 5) pending.now }
+    requires { All (λ (c : Record). c.group.0 ≡ 5) pending.now }
     ensures { IfOk result (λ objects. (n : ℕ) → entry_of objects.entries n ≡ None) }
 {
     changed_objects(alloc, maps, pending, Group(6))
@@ -88,7 +89,7 @@ fn operations_of_another_group_are_left_out(
 fn a_length_is_cut_from_that_of_the_tree(
     alloc: Global,
     maps: &[ObjectMap],
-    pending: &[Committed],
+    pending: &[Record],
 ) -> Result<BTreeMap<ObjectId, ObjectChanges>, PoolError>
     requires ops { pending_ops 5 pending.now ≡ op.SetLength (record { 0 = 7 }) 5000 ∷ [] }
     requires length { map_length maps.now 7 ≡ Some 12096 }

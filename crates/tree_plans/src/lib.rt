@@ -10,5 +10,5 @@ mod planner;
 mod walk;
 
 pub use changes::{ObjectChanges, changed_objects};
-pub use planner::{Committed, PlannedBlock, TreePlan};
+pub use planner::{PlannedBlock, TreePlan};
 pub use walk::{PlanSource, plan};

@@ -10,24 +10,13 @@ use crate::changes::ObjectChanges;
 use crate::freed::give_back;
 use crate::payload::{empty_payload, is_indirect_written, payload_of};
 use crate::place::{BlockPlace, RecordPlace};
-use base::{Group, ObjectId, Ops, Pointer, PoolError, RecordState};
+use base::{Group, ObjectId, Pointer, PoolError, RecordState};
 use checked_blocks::{Block, seal};
 use labels::Geometry;
 use object_maps::{ObjectMap, ObjectSource, RECORD_COUNT};
 use space::FreeSet;
 use std::alloc::Global;
 use std::collections::BTreeMap;
-
-/// A committed transaction of an unsynced group.
-#[derive(Debug, Drop)]
-pub struct Committed {
-    /// The group that it is a member of.
-    pub group: Group,
-    /// Its place in the history since the import, counted from 0.
-    pub ordinal: u64,
-    /// Its operations, in order.
-    pub ops: Ops,
-}
 
 /// A block with the place that it is written to.
 #[derive(Debug, Drop)]

@@ -9,9 +9,9 @@ use Rattle.base.specs.disk.Disk.{Write, certain_with, Moment, Disk, EachMoment, 
 use Rattle.base.specs.crash.Views.{View, IsFixed}
 use Rattle.base.specs.crash.Own.{IsAtRest, IsPhase}
 use Rattle.base.specs.crash.Spares.{Spares, SparesSlot}
-use Rattle.base.specs.crash.SyncCalls.{PoolCall}
+use Rattle.base.specs.crash.SyncCalls.{DiskCall}
 use Rattle.base.specs.crash.CallStages.{MakesPoolCall, AreMade, AreBegun, KeepsCall, KeepCalls, FixedLabels, IsAtRestAt, SparesAt, IsQuiet, AreQuiet, IsSlotCall, IsBetweenAt, IsSwitching, AreSlotCalls, AreAllMade, IsLastPath, IsSyncPath}
-use Rattle.base.specs.crash.SyncCalls.PoolCall.{Put, Settle}
+use Rattle.base.specs.crash.SyncCalls.DiskCall.{Put, Settle}
 use Rattle.base.proofs.disk.Put.{part-put_same}
 use Rattle.base.proofs.disk.Moments.{starts, goes_on, joins, weaker, latest, each_write, each_flush, bytes_may_be_left}
 use Rattle.base.proofs.crash.KeptViews.{fixed_wrote, tree_block_rest, config_rest, first_slot, later_slot, fixed_settled, rest_settled, between_new}
@@ -21,17 +21,17 @@ write_fits : (size place n : ℕ) (m : Moment) → length (bytes_of m) ≡ size 
 write_fits size place n m long within = omega (arith, long, within)
 
 -- calls that are all made are begun
-pub made_of_all : (cs : List PoolCall) (disk new : Disk) → AreAllMade cs disk new → AreBegun cs disk new
+pub made_of_all : (cs : List DiskCall) (disk new : Disk) → AreAllMade cs disk new → AreBegun cs disk new
 made_of_all [] disk new all = all
 made_of_all (c ∷ cs) disk new (mid, makes, rest) = inr (inl (mid, makes, made_of_all cs mid new rest))
 
 -- what each call keeps, each moment of the calls keeps, whatever they answer and wherever they stop
 module _ (t : ℕ) (P : Moment → Type 0) where
-  pub each_call : (c : PoolCall) (old disk new : Disk) (r : Result (Unit {0}) PoolError) → t ≤ moments disk → KeepsCall t P c → EachMoment P old disk → MakesPoolCall c disk r new → EachMoment P old new
+  pub each_call : (c : DiskCall) (old disk new : Disk) (r : Result (Unit {0}) PoolError) → t ≤ moments disk → KeepsCall t P c → EachMoment P old disk → MakesPoolCall c disk r new → EachMoment P old new
   each_call (Put place content) old disk new r began keeps so_far makes = each_write P old disk new place content r so_far makes (λ done p. keeps (moments disk) done disk.now began p)
   each_call Settle old disk new r began keeps so_far makes = each_flush P old disk new r so_far makes (keeps disk.now)
 
-  later : (c : PoolCall) (disk new : Disk) → t ≤ moments disk → MakesPoolCall c disk (Ok tt) new → t ≤ moments new
+  later : (c : DiskCall) (disk new : Disk) → t ≤ moments disk → MakesPoolCall c disk (Ok tt) new → t ≤ moments new
   later (Put place content) disk new began makes = let more : moments new ≡ suc (moments disk) = ap (λ (d : Disk). moments d) makes in omega (arith, began, more)
   later Settle disk new began makes = subst (λ (d : Disk). t ≤ moments d) (sym makes) (go disk.now.unflushed)
     where
@@ -39,20 +39,20 @@ module _ (t : ℕ) (P : Moment → Type 0) where
       go [] = began
       go (w ∷ ws) = omega (arith, began)
 
-  pub each_of_calls : (cs : List PoolCall) (old disk new : Disk) → t ≤ moments disk → KeepCalls t P cs → EachMoment P old disk → AreMade cs disk new → EachMoment P old new
+  pub each_of_calls : (cs : List DiskCall) (old disk new : Disk) → t ≤ moments disk → KeepCalls t P cs → EachMoment P old disk → AreMade cs disk new → EachMoment P old new
   each_of_calls [] old disk new began keep so_far made = subst (λ (d : Disk). EachMoment P old d) (sym made) so_far
   each_of_calls (c ∷ cs) old disk new began keep so_far (inl (mid, makes, rest)) =
       each_of_calls cs old mid new (later c disk mid began makes) keep.1 (each_call c old disk mid (Ok tt) began keep.0 so_far makes) rest
   each_of_calls (c ∷ cs) old disk new began keep so_far (inr (e, makes)) = each_call c old disk new (Err e) began keep.0 so_far makes
 
-  pub each_of_begun : (cs : List PoolCall) (old disk new : Disk) → t ≤ moments disk → KeepCalls t P cs → EachMoment P old disk → AreBegun cs disk new → EachMoment P old new
+  pub each_of_begun : (cs : List DiskCall) (old disk new : Disk) → t ≤ moments disk → KeepCalls t P cs → EachMoment P old disk → AreBegun cs disk new → EachMoment P old new
   each_of_begun [] old disk new began keep so_far made = subst (λ (d : Disk). EachMoment P old d) (sym made) so_far
   each_of_begun (c ∷ cs) old disk new began keep so_far (inl same) = subst (λ (d : Disk). EachMoment P old d) (sym same) so_far
   each_of_begun (c ∷ cs) old disk new began keep so_far (inr (inl (mid, makes, rest))) =
       each_of_begun cs old mid new (later c disk mid began makes) keep.1 (each_call c old disk mid (Ok tt) began keep.0 so_far makes) rest
   each_of_begun (c ∷ cs) old disk new began keep so_far (inr (inr (e, makes))) = each_call c old disk new (Err e) began keep.0 so_far makes
 
-  pub later_all : (cs : List PoolCall) (disk new : Disk) → t ≤ moments disk → AreAllMade cs disk new → t ≤ moments new
+  pub later_all : (cs : List DiskCall) (disk new : Disk) → t ≤ moments disk → AreAllMade cs disk new → t ≤ moments new
   later_all [] disk new began all = subst (λ (d : Disk). t ≤ moments d) (sym all) began
   later_all (c ∷ cs) disk new began (mid, makes, rest) = later_all cs mid new (later c disk mid began makes) rest
 
@@ -69,7 +69,7 @@ module _ (size t flushed : ℕ) (at : FixedLabels) (v : View) where
   slot_of_label m place n fixed spares = record { slot = record { label = at.slot; in_range = at.slot_below; fixed = fixed }; apart = spares.not_slot }
 
   -- quiet calls keep a pool at rest: the blocks and the flush of a sync, both label stages, and no call at all
-  quiet_call : (c : PoolCall) → IsQuiet size flushed at v c → KeepsCall 0 (IsAtRestAt size t flushed at v) c
+  quiet_call : (c : DiskCall) → IsQuiet size flushed at v c → KeepsCall 0 (IsAtRestAt size t flushed at v) c
   quiet_call Settle is = λ m rest. record {
     rest = rest_settled m (bytes_of m) (bytes_may_be_left m) size t flushed v rest.rest;
     config = fixed_settled m (bytes_of m) (bytes_may_be_left m) (config_place size at.config) v.config rest.config;
@@ -86,7 +86,7 @@ module _ (size t flushed : ℕ) (at : FixedLabels) (v : View) where
         slot = fixed_wrote moment place content done m fits (slot_place size at.slot (slot_of v.u.group)) v.slot is.1.not_slot rest.slot;
       }
 
-  pub quiet_calls : (cs : List PoolCall) → AreQuiet size flushed at v cs → KeepCalls 0 (IsAtRestAt size t flushed at v) cs
+  pub quiet_calls : (cs : List DiskCall) → AreQuiet size flushed at v cs → KeepCalls 0 (IsAtRestAt size t flushed at v) cs
   quiet_calls [] are = tt
   quiet_calls (c ∷ cs) are = (quiet_call c are.0, quiet_calls cs are.1)
 
@@ -121,7 +121,7 @@ module _ (size t flushed new_flushed new_config : ℕ) (at : FixedLabels) (old n
   abbrev Switching : Moment → Type 0
   Switching = IsSwitching size t flushed new_flushed new_config at old new
 
-  slots_keep : (cs : List PoolCall) → AreSlotCalls size flushed new_flushed new_config at old new cs → KeepCalls 0 Switching cs
+  slots_keep : (cs : List DiskCall) → AreSlotCalls size flushed new_flushed new_config at old new cs → KeepCalls 0 Switching cs
   slots_keep [] are = tt
   slots_keep (Put place content ∷ cs) are = (λ moment done m since so_far. inr (slot_call place content are.0 moment done m so_far), slots_keep cs are.1)
   slots_keep (Settle ∷ cs) are = absurd are.0
@@ -161,7 +161,7 @@ module _ (size t flushed new_flushed new_config : ℕ) (at : FixedLabels) (old n
 
   -- Each moment of a whole sync, of a group or of an import, wherever it stops, is one of the three phases: at rest on
   -- the old view, between the two, at rest on the new one.
-  pub sync_phases : (front slots back : List PoolCall) (d0 new_disk : Disk) (path : IsSyncPath size t flushed new_flushed new_config at old new front slots back d0 new_disk) → IsAtRestAt size t flushed at old d0.now
+  pub sync_phases : (front slots back : List DiskCall) (d0 new_disk : Disk) (path : IsSyncPath size t flushed new_flushed new_config at old new front slots back d0 new_disk) → IsAtRestAt size t flushed at old d0.now
       → AreQuiet size flushed at old front → AreSlotCalls size flushed new_flushed new_config at old new slots → EachMoment Phase d0 new_disk
   sync_phases front slots back d0 dn (inl begun) rest quiet are =
       weaker (IsAtRestAt size t flushed at old) Phase d0 dn (λ m r. inl r.rest) (each_of_begun 0 (IsAtRestAt size t flushed at old) front d0 d0 dn (omega arith) (quiet_calls size t flushed at old front quiet) (starts (IsAtRestAt size t flushed at old) d0 rest) begun)
@@ -173,13 +173,13 @@ module _ (size t flushed new_flushed new_config : ℕ) (at : FixedLabels) (old n
       switching : Switching d1.now
       switching = inl (latest (IsAtRestAt size t flushed at old) d0 d1 to_d1, laid)
 
-      slots_from : (cs : List PoolCall) (d : Disk) → AreSlotCalls size flushed new_flushed new_config at old new cs → AreBegun cs d1 d → EachMoment Switching d1 d
+      slots_from : (cs : List DiskCall) (d : Disk) → AreSlotCalls size flushed new_flushed new_config at old new cs → AreBegun cs d1 d → EachMoment Switching d1 d
       slots_from cs d are begun = each_of_begun 0 Switching cs d1 d1 d (omega arith) (slots_keep cs are) (starts Switching d1 switching) begun
 
-      phases_to : (cs : List PoolCall) (d : Disk) → AreSlotCalls size flushed new_flushed new_config at old new cs → AreBegun cs d1 d → EachMoment Phase d0 d
+      phases_to : (cs : List DiskCall) (d : Disk) → AreSlotCalls size flushed new_flushed new_config at old new cs → AreBegun cs d1 d → EachMoment Phase d0 d
       phases_to cs d are begun = joins Phase d0 d1 d (weaker (IsAtRestAt size t flushed at old) Phase d0 d1 (λ m r. inl r.rest) to_d1) (weaker Switching Phase d1 d switching_phase (slots_from cs d are begun))
 
-      go : (((cs : List PoolCall) × AreSlotCalls size flushed new_flushed new_config at old new cs × AreBegun cs d1 dn) ⊎ IsLastPath size t flushed new_flushed new_config at old new slots back d1 dn) → EachMoment Phase d0 dn
+      go : (((cs : List DiskCall) × AreSlotCalls size flushed new_flushed new_config at old new cs × AreBegun cs d1 dn) ⊎ IsLastPath size t flushed new_flushed new_config at old new slots back d1 dn) → EachMoment Phase d0 dn
       go (inl (cs, are_slots, begun)) = phases_to cs dn are_slots begun
       go (inr last) =
           let before = slots_from slots last.d2 are (made_of_all slots d1 last.d2 last.all) in

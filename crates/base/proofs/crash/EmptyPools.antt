@@ -14,5 +14,5 @@ empty_tree image frame = record {
   directories = inl (refl, λ n. map.get-empty {X = List ℕ} nat_cmp n);
 }
 
-empty_chain : (image : List ℕ) (guid blocks chain number : ℕ) → IsChain image guid blocks chain (record { address = 0; number = number }) []
-empty_chain image guid blocks chain number block is = let at : 0 ≡ block_address is.in_area.0 = is.in_area.2 in absurd (omega arith)
+empty_chain : (image : List ℕ) (frame : Frame) (chain number : ℕ) → IsChain image frame chain (record { address = 0; number = number }) []
+empty_chain image frame chain number block is = let at : 0 ≡ block_address is.in_area.0 = is.in_area.2 in absurd (omega arith)

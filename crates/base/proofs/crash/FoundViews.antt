@@ -13,7 +13,7 @@ use Rattle.base.specs.formats.Uberblocks.{Uberblock, IsUberblock, StandsIn, IsAc
 use Rattle.base.specs.formats.Labels.{IsConfig, IsChosen}
 use Rattle.base.specs.tree.Places.Place.{Root}
 use Rattle.base.specs.tree.Tree.{IsTree}
-use Rattle.base.specs.formats.Chain.{Header, LogBlock, IsLogBlock, IsChain, next_header}
+use Rattle.base.specs.formats.Chain.{Header, LogPiece, IsPiece, IsChain, next_header}
 use Rattle.base.specs.crash.Mount.{frame_of, header_of}
 use Rattle.base.specs.disk.Disk.{Moment, MayLeave, HandedSince, bytes_of, handed}
 use Rattle.base.specs.disk.Fairness.{IsFair, passes_check}
@@ -139,35 +139,35 @@ module _ (t : ℕ) (m : Moment) (image : List ℕ) (left : MayLeave m image) (fa
 
   -- what counts as a log block of this chain, from a number on and up to the one after these, is one of these
   abbrev AreOnlyThese : ℕ → ℕ → ℕ → List Logged → Type 0
-  AreOnlyThese guid chain from ls = (k number : ℕ) (content : List ℕ) (block : LogBlock) → k < block_count (length image) → HandedSince t (handed m) (block_address k) content
+  AreOnlyThese guid chain from ls = (k number : ℕ) (content : List ℕ) (block : LogPiece) → k < block_count (length image) → HandedSince t (handed m) (block_address k) content
       → IsLogContent content guid chain number block → from ≤ number → number ≤ from + length ls → (i : ℕ) × (l : Logged) × (slice_get ls i ≡ Some l) × (l.number ≡ number) × (l.content ≡ content)
 
   -- the chain of the image is a front of the blocks of a line, with the first so many that stand
-  pub chain_front : (guid chain : ℕ) (header : Header) (ls : List Logged) (flushed : ℕ) → AreLinked guid (block_count (length image)) chain header ls
-      → ((i : ℕ) (l : Logged) → i < flushed → slice_get ls i ≡ Some l → part image l.block.address block_size ≡ l.content) → flushed ≤ length ls → AreOnlyThese guid chain header.number ls
-      → (n : ℕ) × (flushed ≤ n) × (n ≤ length ls) × IsChain image guid (block_count (length image)) chain header (map (λ (l : Logged). l.block) (take n ls))
-  chain_front guid chain header [] flushed linked stand short only = (0, short, omega arith, λ block is. ends block is)
+  pub chain_front : (u : Uberblock) (header : Header) (ls : List Logged) (flushed : ℕ) → AreLinked u.guid (block_count (length image)) u.import_number header ls
+      → ((i : ℕ) (l : Logged) → i < flushed → slice_get ls i ≡ Some l → part image l.block.address block_size ≡ l.content) → flushed ≤ length ls → AreOnlyThese u.guid u.import_number header.number ls
+      → (n : ℕ) × (flushed ≤ n) × (n ≤ length ls) × IsChain image (frame_of image u) u.import_number header (map (λ (l : Logged). l.block) (take n ls))
+  chain_front u header [] flushed linked stand short only = (0, short, omega arith, λ block is. ends block is)
     where
-      ends : (block : LogBlock) → IsLogBlock image guid (block_count (length image)) chain header block → ⊥
+      ends : (block : LogPiece) → IsPiece image (frame_of image u) u.import_number header block → ⊥
       ends block is =
           let k : ℕ = is.in_area.0 in
           let there : part image header.address block_size ≡ part image (block_address k) block_size = ap (λ (a : ℕ). part image a block_size) is.in_area.2 in
-          let sealed = subst (λ (bytes : List ℕ). IsBlock bytes 6 guid is.group header.number is.payload) there is.sealed in
+          let sealed = subst (λ (bytes : List ℕ). IsBlock bytes 6 u.guid is.group header.number is.payload) there is.sealed in
           let some = only k header.number (part image (block_address k) block_size) block is.in_area.1 (fair_block (length image) t (handed m) image fair k is.in_area.1 sealed.agrees (marked (part image (block_address k) block_size) 5 sealed.kind_is))
           (record { group = is.group; payload = is.payload; sealed = sealed; fields = is.fields }) (omega arith) (omega arith) in
           let no_way : None ≡ Some some.1 = some.2 in cc
-  chain_front guid chain header (x ∷ xs) flushed linked stand short only =
-      go (λ later. chain_front guid chain (next_header header x.block) xs (flushed - 1) linked.1 (λ i l below at. stand (suc i) l (omega (arith, below)) at) (omega (arith, short)) later)
+  chain_front u header (x ∷ xs) flushed linked stand short only =
+      go (λ later. chain_front u (next_header header x.block) xs (flushed - 1) linked.1 (λ i l below at. stand (suc i) l (omega (arith, below)) at) (omega (arith, short)) later)
       (bytes_eq (part image header.address block_size) x.content) refl
     where
       size_of_x : length x.content ≡ block_size
       size_of_x = linked.0.3.sealed.size
 
       Front : Type 0
-      Front = (n : ℕ) × (flushed - 1 ≤ n) × (n ≤ length xs) × IsChain image guid (block_count (length image)) chain (next_header header x.block) (map (λ (l : Logged). l.block) (take n xs))
+      Front = (n : ℕ) × (flushed - 1 ≤ n) × (n ≤ length xs) × IsChain image (frame_of image u) u.import_number (next_header header x.block) (map (λ (l : Logged). l.block) (take n xs))
 
-      go : (AreOnlyThese guid chain (header.number + 1) xs → Front) → (b : Bool) → bytes_eq (part image header.address block_size) x.content ≡ b
-          → (n : ℕ) × (flushed ≤ n) × (n ≤ length (x ∷ xs)) × IsChain image guid (block_count (length image)) chain header (map (λ (l : Logged). l.block) (take n (x ∷ xs)))
+      go : (AreOnlyThese u.guid u.import_number (header.number + 1) xs → Front) → (b : Bool) → bytes_eq (part image header.address block_size) x.content ≡ b
+          → (n : ℕ) × (flushed ≤ n) × (n ≤ length (x ∷ xs)) × IsChain image (frame_of image u) u.import_number header (map (λ (l : Logged). l.block) (take n (x ∷ xs)))
       go front true is =
           let there : part image header.address block_size ≡ x.content = (bytes_eq-Decides (part image header.address block_size) x.content).0 is in
           let r = front later in (
@@ -180,14 +180,14 @@ module _ (t : ℕ) (m : Moment) (image : List ℕ) (left : MayLeave m image) (fa
                 in_area = linked.0.2;
                 group = linked.0.3.group;
                 payload = linked.0.3.payload;
-                sealed = subst (λ (bytes : List ℕ). IsBlock bytes 6 guid linked.0.3.group header.number linked.0.3.payload) (sym there) linked.0.3.sealed;
+                sealed = subst (λ (bytes : List ℕ). IsBlock bytes 6 u.guid linked.0.3.group header.number linked.0.3.payload) (sym there) linked.0.3.sealed;
                 fields = linked.0.3.fields;
               },
               r.3,
             ),
           )
         where
-          later : AreOnlyThese guid chain (header.number + 1) xs
+          later : AreOnlyThese u.guid u.import_number (header.number + 1) xs
           later k number content block below some is from to = pick (only k number content block below some is (omega (arith, from)) (omega (arith, to)))
             where
               pick : (i : ℕ) × (l : Logged) × (slice_get (x ∷ xs) i ≡ Some l) × (l.number ≡ number) × (l.content ≡ content)
@@ -208,11 +208,11 @@ module _ (t : ℕ) (m : Moment) (image : List ℕ) (left : MayLeave m image) (fa
           none_flushed (suc f) same =
               absurd (differs (ap (λ (a : ℕ). part image a block_size) (sym linked.0.0) ∙ stand 0 x (omega (arith, same)) refl))
 
-          ends : (block : LogBlock) → IsLogBlock image guid (block_count (length image)) chain header block → ⊥
+          ends : (block : LogPiece) → IsPiece image (frame_of image u) u.import_number header block → ⊥
           ends block found =
               let k : ℕ = found.in_area.0 in
               let there : part image header.address block_size ≡ part image (block_address k) block_size = ap (λ (a : ℕ). part image a block_size) found.in_area.2 in
-              let sealed = subst (λ (bytes : List ℕ). IsBlock bytes 6 guid found.group header.number found.payload) there found.sealed in
+              let sealed = subst (λ (bytes : List ℕ). IsBlock bytes 6 u.guid found.group header.number found.payload) there found.sealed in
               pick there (only k header.number (part image (block_address k) block_size) block found.in_area.1 (fair_block (length image) t (handed m) image fair k found.in_area.1 sealed.agrees (marked (part image (block_address k) block_size) 5 sealed.kind_is))
               (record { group = found.group; payload = found.payload; sealed = sealed; fields = found.fields }) (omega arith) (omega arith))
             where
@@ -222,14 +222,14 @@ module _ (t : ℕ) (m : Moment) (image : List ℕ) (left : MayLeave m image) (fa
                   let same_l : x ≡ l = cc in
                   differs (there ∙ sym same ∙ ap (λ (y : Logged). y.content) (sym same_l))
               pick there (suc i, l, at, numbered, same) =
-                  let n : l.number ≡ header.number + suc i = linked_number guid (block_count (length image)) chain header (x ∷ xs) linked (suc i) l at in
+                  let n : l.number ≡ header.number + suc i = linked_number u.guid (block_count (length image)) u.import_number header (x ∷ xs) linked (suc i) l at in
                   absurd (omega (arith, n, numbered))
 
   -- a view that is laid and whose uberblock is active is found
   found_active : (flushed : ℕ) (v : View) → IsLaid (length image) t flushed m v → IsActive image v.u → IsFoundAs image flushed v
   found_active flushed v laid active =
       let only : AreOnlyThese v.u.guid v.u.import_number v.u.log_number v.logged = λ k number content block below some is from to. pick k content number from to (laid.logs k v.u.import_number number content block below some is) in
-      let front = chain_front v.u.guid v.u.import_number (header_of v.u) v.logged flushed laid.view.linked stand laid.firm.log.0 only in
+      let front = chain_front v.u (header_of v.u) v.logged flushed laid.view.linked stand laid.firm.log.0 only in
       record {
         count = front.0;
         least = front.1;

@@ -6,9 +6,9 @@ use Rattle.base.specs.formats.Uberblocks.{IsUberblock, slot_size}
 use Rattle.base.specs.disk.Disk.{Moment, Disk, EachMoment, bytes_of, handed, settled, wrote, written, next, moments}
 use Rattle.base.specs.disk.Fairness.{HasFairBytes}
 use Rattle.base.specs.crash.Views.{View, IsConfigContent, AreConfigsUpTo}
-use Rattle.base.specs.crash.SyncCalls.{PoolCall}
+use Rattle.base.specs.crash.SyncCalls.{DiskCall}
 use Rattle.base.specs.crash.CallStages.{KeepsCall, KeepCalls, AreWholeCalls, WriteConfigsUpTo, FixedLabels, AreQuiet, IsSlotCall, AreSlotCalls, AreBegun, IsLastPath, IsSyncPath}
-use Rattle.base.specs.crash.SyncCalls.PoolCall.{Put, Settle}
+use Rattle.base.specs.crash.SyncCalls.DiskCall.{Put, Settle}
 use Rattle.base.proofs.disk.Moments.{starts, goes_on, latest}
 use Rattle.base.proofs.disk.Fairness.{handed_settled}
 use Rattle.base.proofs.disk.FairBytes.{fair_bytes_wrote, fair_bytes_settled}
@@ -17,12 +17,12 @@ use Rattle.base.proofs.crash.CallStages.{each_of_begun, later_all, made_of_all}
 -- what the calls of each part of a sync keep, each of its moments keeps
 module _ (t : ℕ) (P : Moment → Type 0) (size flushed new_flushed new_config : ℕ) (at : FixedLabels) (old new : View) (flush : KeepsCall t P Settle)
     (slot_keeps : (place : ℕ) (content : List ℕ) → IsSlotCall size flushed new_flushed new_config at old new place content → KeepsCall t P (Put place content)) where
-  slot_calls : (cs : List PoolCall) → AreSlotCalls size flushed new_flushed new_config at old new cs → KeepCalls t P cs
+  slot_calls : (cs : List DiskCall) → AreSlotCalls size flushed new_flushed new_config at old new cs → KeepCalls t P cs
   slot_calls [] are = tt
   slot_calls (Put place content ∷ cs) are = (slot_keeps place content are.0, slot_calls cs are.1)
   slot_calls (Settle ∷ cs) are = absurd are.0
 
-  pub each_of_path : (front slots back : List PoolCall) (d0 dn : Disk) → t ≤ moments d0 → KeepCalls t P front → AreSlotCalls size flushed new_flushed new_config at old new slots → KeepCalls t P back → P d0.now
+  pub each_of_path : (front slots back : List DiskCall) (d0 dn : Disk) → t ≤ moments d0 → KeepCalls t P front → AreSlotCalls size flushed new_flushed new_config at old new slots → KeepCalls t P back → P d0.now
       → IsSyncPath size t flushed new_flushed new_config at old new front slots back d0 dn → EachMoment P d0 dn
   each_of_path front slots back d0 dn began keep_front are keep_back here (inl begun) = each_of_begun t P front d0 d0 dn began keep_front (starts P d0 here) begun
   each_of_path front slots back d0 dn began keep_front are keep_back here (inr (d1, all, laid, later)) = go later
@@ -33,7 +33,7 @@ module _ (t : ℕ) (P : Moment → Type 0) (size flushed new_flushed new_config 
       began_d1 : t ≤ moments d1
       began_d1 = later_all t P front d0 d1 began all
 
-      go : (((cs : List PoolCall) × AreSlotCalls size flushed new_flushed new_config at old new cs × AreBegun cs d1 dn) ⊎ IsLastPath size t flushed new_flushed new_config at old new slots back d1 dn) → EachMoment P d0 dn
+      go : (((cs : List DiskCall) × AreSlotCalls size flushed new_flushed new_config at old new cs × AreBegun cs d1 dn) ⊎ IsLastPath size t flushed new_flushed new_config at old new slots back d1 dn) → EachMoment P d0 dn
       go (inl (cs, are_slots, begun)) = each_of_begun t P cs d0 d1 dn began_d1 (slot_calls cs are_slots) to_d1 begun
       go (inr last) =
           let to_d2 : EachMoment P d0 last.d2 = each_of_begun t P slots d0 d1 last.d2 began_d1 (slot_calls slots are) to_d1 (made_of_all slots d1 last.d2 last.all) in
@@ -48,13 +48,13 @@ module _ (t : ℕ) (P : Moment → Type 0) (size flushed new_flushed new_config 
           ]
 
 -- quiet calls and those of an uberblock write whole places
-pub quiet_whole : (size flushed : ℕ) (at : FixedLabels) (v : View) (cs : List PoolCall) → AreQuiet size flushed at v cs → AreWholeCalls size cs
+pub quiet_whole : (size flushed : ℕ) (at : FixedLabels) (v : View) (cs : List DiskCall) → AreQuiet size flushed at v cs → AreWholeCalls size cs
 quiet_whole size flushed at v [] are = tt
 quiet_whole size flushed at v (Put place content ∷ cs) are = (are.0.1.whole, are.0.1.fits, quiet_whole size flushed at v cs are.1)
 quiet_whole size flushed at v (Settle ∷ cs) are = quiet_whole size flushed at v cs are.1
 
 -- calls that write whole places keep the bytes fair
-pub whole_calls : (size t : ℕ) → IsGeometry size → (cs : List PoolCall) → AreWholeCalls size cs → KeepCalls t (HasFairBytes size t) cs
+pub whole_calls : (size t : ℕ) → IsGeometry size → (cs : List DiskCall) → AreWholeCalls size cs → KeepCalls t (HasFairBytes size t) cs
 whole_calls size t g [] are = tt
 whole_calls size t g (Put place content ∷ cs) are = (λ moment done m since fair. fair_bytes_wrote size g t moment place content done m since are.0 are.1 fair, whole_calls size t g cs are.2)
 whole_calls size t g (Settle ∷ cs) are = (λ m fair. fair_bytes_settled size g t m fair, whole_calls size t g cs are)
@@ -75,7 +75,7 @@ module _ (size t : ℕ) (guid top : ℕ) (IsOther : ℕ → List ℕ → Type 0)
   configs_settled image m known label group name c below some is = known label group name c below (handed_settled t image m (config_place size label) c some) is
 
   -- calls that write no other config of the pool
-  pub config_calls : (cs : List PoolCall) → WriteConfigsUpTo size guid top IsOther cs → KeepCalls t Known cs
+  pub config_calls : (cs : List DiskCall) → WriteConfigsUpTo size guid top IsOther cs → KeepCalls t Known cs
   config_calls [] are = tt
   config_calls (Put place content ∷ cs) are = (configs_put place content are.0, config_calls cs are.1)
   config_calls (Settle ∷ cs) are = (λ m known. configs_settled (bytes_of m) m known, config_calls cs are)
@@ -84,7 +84,7 @@ module _ (size t : ℕ) (guid top : ℕ) (IsOther : ℕ → List ℕ → Type 0)
   no_config : (content : List ℕ) → length content ≡ slot_size → (group : ℕ) (name : List ℕ) → IsConfigContent content size guid group name → (group ≤ top) ⊎ IsOther group content
   no_config content short group name is = let long : length content ≡ block_size = is.block.size in absurd (omega (arith, short, long))
 
-module _ (size t flushed new_flushed new_config : ℕ) (at : FixedLabels) (old new : View) (front slots back : List PoolCall) (d0 dn : Disk) (began : t ≤ moments d0)
+module _ (size t flushed new_flushed new_config : ℕ) (at : FixedLabels) (old new : View) (front slots back : List DiskCall) (d0 dn : Disk) (began : t ≤ moments d0)
     (are : AreSlotCalls size flushed new_flushed new_config at old new slots) (path : IsSyncPath size t flushed new_flushed new_config at old new front slots back d0 dn) where
   pub sync_fair : IsGeometry size → AreWholeCalls size front → AreWholeCalls size back → HasFairBytes size t d0.now → EachMoment (HasFairBytes size t) d0 dn
   sync_fair g whole_front whole_back here =

@@ -13,7 +13,7 @@ use Rattle.base.specs.history.Plans.{shape_of}
 use Rattle.base.specs.history.History.{Entry, run, replay, entries_up_to}
 use Rattle.base.specs.history.Past.{Past}
 use Rattle.base.specs.steps.Shown.{Shown}
-use Rattle.base.specs.steps.Stage.{is_shape_built}
+use Rattle.base.specs.steps.BuiltSteps.{is_shape_built}
 use Rattle.base.specs.steps.ExactNow.{IsExplainedNow}
 use Rattle.base.proofs.common.Sequences.{parted}
 use Rattle.base.proofs.common.KeptLists.{at_filter}

@@ -1,5 +1,5 @@
 -- Each step of a log keeps its records in the order of the commits.
-use Rattle.std.proofs.Common.{◌≡◌, ℕ, suc, ◌+◌, ◌<◌, ◌≤◌, Bool, true, false, ◌&&◌, List, [], ◌∷◌, ◌++◌, map, length, refl, ap, sym, ◌∙◌, arith, append_assoc, ◌⊎◌, inl, inr}
+use Rattle.std.proofs.Common.{◌≡◌, ℕ, zero, suc, ◌+◌, ◌<◌, ◌≤◌, Bool, true, false, ◌&&◌, List, [], ◌∷◌, ◌++◌, map, length, refl, ap, sym, subst, ◌∙◌, arith, append_assoc, ◌⊎◌, inl, inr}
 use Rattle.std.specs.Prelude.{filter, cond, nat_lt, nat_le, All}
 use Rattle.std.specs.List.{list_any, flat_map, enumerate_from}
 use Rattle.std.proofs.lemmas.Bool.{or_parts, lt-ltb, ltb-true, cases_lt}
@@ -9,7 +9,7 @@ use Rattle.std.proofs.lemmas.Grind.{flat_map-append}
 use Rattle.base.specs.history.History.{Entry}
 use Rattle.base.specs.formats.Records.{Record}
 use Rattle.base.specs.formats.Chain.{Header}
-use Rattle.base.specs.steps.Logs.{Log, KeptBlock, Committed, committed_of, committed_above, committed_in, committed_entries, reaches_above, log_after_write, log_after_flush, log_after_sync}
+use Rattle.base.specs.steps.Logs.{Log, KeptBlock, Committed, AreWhole, committed_of, committed_above, committed_in, committed_entries, reaches_above, log_after_commit, log_after_write, log_after_flush, log_after_sync}
 use Rattle.base.proofs.common.Sieves.{filter_all, filter-filter}
 
 abbrev pub IsInOrder : ℕ → Log → List Entry → Type 0
@@ -30,7 +30,7 @@ committed_entries-push entries e =
 
 -- a commit of a group above the synced one
 pub order-commit : (synced : ℕ) (log : Log) (entries : List Entry) (e : Entry) → synced < e.group → IsInOrder synced log entries
-    → IsInOrder synced (record log { pending = log.pending ++ record { group = e.group; ordinal = length entries; ops = e.ops } ∷ [] }) (entries ++ e ∷ [])
+    → IsInOrder synced (log_after_commit (record { group = e.group; ordinal = length entries; ops = e.ops }) log) (entries ++ e ∷ [])
 order-commit synced log entries e above order =
     let c : Committed = record { ordinal = length entries; group = e.group } in
     let written : List Committed = committed_above synced (committed_in log) in
@@ -47,7 +47,7 @@ order-write synced log entries taken rest address split above order =
     let before : List Committed = committed_in log in
     let front : List Committed = map committed_of taken in
     let all_above : committed_above synced front ≡ front = filter_all (λ (r : Committed). nat_lt synced r.group) front (All-map (λ (r : Committed). nat_lt synced r.group ≡ true) committed_of taken above) in
-    let written : committed_in (log_after_write taken rest address log) ≡ before ++ front = flat_map-append (λ (b : KeptBlock). b.committed) log.kept _ ∙ ap (λ cs. before ++ cs) (append-nil front) in
+    let written : committed_in (log_after_write taken rest address log) ≡ before ++ front = flat_map-append (λ (b : KeptBlock). b.ends) log.kept _ ∙ ap (λ cs. before ++ cs) (append-nil front) in
     let kept : committed_above synced (committed_in (log_after_write taken rest address log)) ≡ committed_above synced before ++ front =
     ap (committed_above synced) written ∙ filter-append (λ (r : Committed). nat_lt synced r.group) before front ∙ ap (λ cs. committed_above synced before ++ cs) all_above in
     ap (λ cs. cs ++ map committed_of rest) kept
@@ -59,9 +59,9 @@ order-write synced log entries taken rest address split above order =
 pub order-flush : (synced : ℕ) (log : Log) (entries : List Entry) → IsInOrder synced log entries → IsInOrder synced (log_after_flush log) entries
 order-flush synced log entries order = ap (λ cs. committed_above synced cs ++ map committed_of log.pending) (same log.kept) ∙ order
   where
-    same : (bs : List KeptBlock) → flat_map (λ (b : KeptBlock). b.committed) (map (λ (b : KeptBlock). record b { flushed = true }) bs) ≡ flat_map (λ (b : KeptBlock). b.committed) bs
+    same : (bs : List KeptBlock) → flat_map (λ (b : KeptBlock). b.ends) (map (λ (b : KeptBlock). record b { flushed = true }) bs) ≡ flat_map (λ (b : KeptBlock). b.ends) bs
     same [] = refl
-    same (b ∷ bs) = ap (λ cs. b.committed ++ cs) (same bs)
+    same (b ∷ bs) = ap (λ cs. b.ends ++ cs) (same bs)
 
 -- where none is of a group above one, none is left
 none_above : (group : ℕ) (cs : List Committed) → list_any (λ (r : Committed). nat_lt group r.group) cs ≡ false → committed_above group cs ≡ []
@@ -70,25 +70,25 @@ none_above group (c ∷ cs) none =
     let p = or_parts (nat_lt group c.group) (list_any (λ (r : Committed). nat_lt group r.group) cs) none in
     ap (λ b. cond b (c ∷ committed_above group cs) (committed_above group cs)) p.0 ∙ none_above group cs p.1
 
--- the blocks that go have none of a group above
-pub dropped : (group : ℕ) (keep : KeptBlock → Bool) (bs : List KeptBlock) → All (λ (b : KeptBlock). keep b ≡ false → reaches_above group b ≡ false) bs
-    → committed_above group (flat_map (λ (b : KeptBlock). b.committed) (filter keep bs)) ≡ committed_above group (flat_map (λ (b : KeptBlock). b.committed) bs)
-dropped group keep [] all = refl
-dropped group keep (b ∷ bs) all =
-    go (keep b) refl (dropped group keep bs (All-tail (λ (x : KeptBlock). keep x ≡ false → reaches_above group x ≡ false) b bs all))
+-- where each record begins and ends in one block, the blocks that go have none of a group above
+pub dropped : (group : ℕ) (keep : KeptBlock → Bool) (bs : List KeptBlock) → AreWhole bs → All (λ (b : KeptBlock). keep b ≡ false → reaches_above group b ≡ false) bs
+    → committed_above group (flat_map (λ (b : KeptBlock). b.ends) (filter keep bs)) ≡ committed_above group (flat_map (λ (b : KeptBlock). b.ends) bs)
+dropped group keep [] whole all = refl
+dropped group keep (b ∷ bs) whole all =
+    go (keep b) refl (dropped group keep bs (λ i x at. whole (suc i) x at) (All-tail (λ (x : KeptBlock). keep x ≡ false → reaches_above group x ≡ false) b bs all))
   where
     noted : List KeptBlock → List Committed
-    noted xs = flat_map (λ (x : KeptBlock). x.committed) xs
+    noted xs = flat_map (λ (x : KeptBlock). x.ends) xs
 
-    front : (xs : List Committed) → committed_above group (b.committed ++ xs) ≡ committed_above group b.committed ++ committed_above group xs
-    front xs = filter-append (λ (r : Committed). nat_lt group r.group) b.committed xs
+    front : (xs : List Committed) → committed_above group (b.ends ++ xs) ≡ committed_above group b.ends ++ committed_above group xs
+    front xs = filter-append (λ (r : Committed). nat_lt group r.group) b.ends xs
 
-    go : (k : Bool) → keep b ≡ k → committed_above group (flat_map (λ (x : KeptBlock). x.committed) (filter keep bs)) ≡ committed_above group (flat_map (λ (x : KeptBlock). x.committed) bs)
-        → committed_above group (flat_map (λ (x : KeptBlock). x.committed) (cond k (b ∷ filter keep bs) (filter keep bs))) ≡ committed_above group (flat_map (λ (x : KeptBlock). x.committed) (b ∷ bs))
-    go true is rest = front (flat_map (λ (x : KeptBlock). x.committed) (filter keep bs)) ∙ ap (λ cs. committed_above group b.committed ++ cs) rest ∙ sym (front (flat_map (λ (x : KeptBlock). x.committed) bs))
+    go : (k : Bool) → keep b ≡ k → committed_above group (flat_map (λ (x : KeptBlock). x.ends) (filter keep bs)) ≡ committed_above group (flat_map (λ (x : KeptBlock). x.ends) bs)
+        → committed_above group (flat_map (λ (x : KeptBlock). x.ends) (cond k (b ∷ filter keep bs) (filter keep bs))) ≡ committed_above group (flat_map (λ (x : KeptBlock). x.ends) (b ∷ bs))
+    go true is rest = front (flat_map (λ (x : KeptBlock). x.ends) (filter keep bs)) ∙ ap (λ cs. committed_above group b.ends ++ cs) rest ∙ sym (front (flat_map (λ (x : KeptBlock). x.ends) bs))
     go false is rest =
-        let none : committed_above group b.committed ≡ [] = none_above group b.committed (All-head (λ (x : KeptBlock). keep x ≡ false → reaches_above group x ≡ false) b bs all is) in
-        rest ∙ sym (front (flat_map (λ (x : KeptBlock). x.committed) bs) ∙ ap (λ cs. cs ++ committed_above group (flat_map (λ (x : KeptBlock). x.committed) bs)) none)
+        let none : committed_above group b.ends ≡ [] = none_above group b.ends (subst (λ (cs : List Committed). list_any (λ (r : Committed). nat_lt group r.group) cs ≡ false) (whole zero b refl) (All-head (λ (x : KeptBlock). keep x ≡ false → reaches_above group x ≡ false) b bs all is)) in
+        rest ∙ sym (front (flat_map (λ (x : KeptBlock). x.ends) bs) ∙ ap (λ cs. cs ++ committed_above group (flat_map (λ (x : KeptBlock). x.ends) bs)) none)
 
 pub filter-noted : (group : ℕ) (rs : List Record) → map committed_of (filter (λ (r : Record). nat_lt group r.group) rs) ≡ committed_above group (map committed_of rs)
 filter-noted group [] = refl
@@ -111,13 +111,13 @@ above_again synced group no_lower cs = filter-filter (λ (r : Committed). nat_lt
         ltb_true is = let h : group < g = ltb-true group g is in omega arith
 
 -- a sync of a group, where no block that goes has a record above it
-pub order-sync : (synced group : ℕ) (header : Header) (log : Log) (entries : List Entry) → synced ≤ group
+pub order-sync : (synced group : ℕ) (header : Header) (log : Log) (entries : List Entry) → synced ≤ group → AreWhole log.kept
     → All (λ (b : KeptBlock). nat_le header.number b.number ≡ false → reaches_above group b ≡ false) log.kept
     → IsInOrder synced log entries → IsInOrder group (log_after_sync group header log) entries
-order-sync synced group header log entries no_lower none order =
+order-sync synced group header log entries no_lower whole none order =
     let written : List Committed = committed_in log in
     let pending : List Committed = map committed_of log.pending in
-    (λ k. dropped group (λ (b : KeptBlock). nat_le header.number b.number) log.kept none k ++ filter-noted group log.pending k)
+    (λ k. dropped group (λ (b : KeptBlock). nat_le header.number b.number) log.kept whole none k ++ filter-noted group log.pending k)
     ∙ ap (λ cs. cs ++ committed_above group pending) (sym (above_again synced group no_lower written))
     ∙ sym (filter-append (λ (r : Committed). nat_lt group r.group) (committed_above synced written) pending)
     ∙ ap (committed_above group) order

@@ -41,14 +41,14 @@ ordinal_held o g (c ∷ cs) only = (λ k. go (o == c.ordinal) refl k || ordinal_
     go false is = is ∙ sym (ap (λ b. b && (g == c.group)) is)
 
 abbrev awaiting_in : List KeptBlock → List ℕ
-awaiting_in bs = flat_map (λ (b : KeptBlock). map (λ (c : Committed). c.ordinal) b.committed) (filter (λ (b : KeptBlock). not b.flushed) bs)
+awaiting_in bs = flat_map (λ (b : KeptBlock). map (λ (c : Committed). c.ordinal) b.ends) (filter (λ (b : KeptBlock). not b.flushed) bs)
 
 -- flushed before or awaiting the flush is written
 settled : (o g : ℕ) (bs : List KeptBlock)
-    → ((i : ℕ) (b : KeptBlock) → slice_get bs i ≡ Some b → (j : ℕ) (c : Committed) → slice_get b.committed j ≡ Some c → (o == c.ordinal) ≡ true → (g == c.group) ≡ true)
+    → ((i : ℕ) (b : KeptBlock) → slice_get bs i ≡ Some b → (j : ℕ) (c : Committed) → slice_get b.ends j ≡ Some c → (o == c.ordinal) ≡ true → (g == c.group) ≡ true)
     → (list_any (λ (b : KeptBlock). b.flushed && has_record b (record { ordinal = o; group = g })) bs || is_in o (awaiting_in bs)) ≡ list_any (λ b. has_record b (record { ordinal = o; group = g })) bs
 settled o g [] only = refl
-settled o g (b ∷ bs) only = go b.flushed (settled o g bs (λ i c at. only (suc i) c at)) (ordinal_held o g b.committed (only zero b refl))
+settled o g (b ∷ bs) only = go b.flushed (settled o g bs (λ i c at. only (suc i) c at)) (ordinal_held o g b.ends (only zero b refl))
   where
     swap : (x y z : Bool) → (x || (y || z)) ≡ (y || (x || z))
     swap true true z = refl
@@ -60,15 +60,15 @@ settled o g (b ∷ bs) only = go b.flushed (settled o g bs (λ i c at. only (suc
     joined false y z = refl
 
     go : (f : Bool) → (list_any (λ (c : KeptBlock). c.flushed && has_record c (record { ordinal = o; group = g })) bs || is_in o (awaiting_in bs)) ≡ list_any (λ c. has_record c (record { ordinal = o; group = g })) bs
-        → is_in o (map (λ (c : Committed). c.ordinal) b.committed) ≡ has_record b (record { ordinal = o; group = g })
+        → is_in o (map (λ (c : Committed). c.ordinal) b.ends) ≡ has_record b (record { ordinal = o; group = g })
         → (((f && has_record b (record { ordinal = o; group = g })) || list_any (λ (c : KeptBlock). c.flushed && has_record c (record { ordinal = o; group = g })) bs)
-        || is_in o (flat_map (λ (c : KeptBlock). map (λ (d : Committed). d.ordinal) c.committed) (cond (not f) (b ∷ filter (λ (c : KeptBlock). not c.flushed) bs) (filter (λ (c : KeptBlock). not c.flushed) bs))))
+        || is_in o (flat_map (λ (c : KeptBlock). map (λ (d : Committed). d.ordinal) c.ends) (cond (not f) (b ∷ filter (λ (c : KeptBlock). not c.flushed) bs) (filter (λ (c : KeptBlock). not c.flushed) bs))))
         ≡ (has_record b (record { ordinal = o; group = g }) || list_any (λ c. has_record c (record { ordinal = o; group = g })) bs)
     go true rest here = joined (has_record b (record { ordinal = o; group = g })) _ (is_in o (awaiting_in bs)) ∙ ap (λ x. has_record b (record { ordinal = o; group = g }) || x) rest
     go false rest here =
         let before : Bool = list_any (λ (c : KeptBlock). c.flushed && has_record c (record { ordinal = o; group = g })) bs in
-        ap (λ x. before || x) (list_any-append (λ y. o == y) (map (λ (c : Committed). c.ordinal) b.committed) (awaiting_in bs))
-        ∙ swap before (is_in o (map (λ (c : Committed). c.ordinal) b.committed)) (is_in o (awaiting_in bs))
+        ap (λ x. before || x) (list_any-append (λ y. o == y) (map (λ (c : Committed). c.ordinal) b.ends) (awaiting_in bs))
+        ∙ swap before (is_in o (map (λ (c : Committed). c.ordinal) b.ends)) (is_in o (awaiting_in bs))
         ∙ (λ k. here k || rest k)
 
 -- an ordinal that awaits the flush is that of a record of a kept block
@@ -83,13 +83,13 @@ awaited o (b ∷ bs) is = go b.flushed is (λ h. awaited o bs h)
       | inr later ↦ let found = of_list cs later in (found.0, or_right (is_same found.0 c) (list_any (is_same found.0) cs) found.1, found.2)
     ]
 
-    go : (f : Bool) → is_in o (flat_map (λ (c : KeptBlock). map (λ (d : Committed). d.ordinal) c.committed) (cond (not f) (b ∷ filter (λ (c : KeptBlock). not c.flushed) bs) (filter (λ (c : KeptBlock). not c.flushed) bs))) ≡ true
+    go : (f : Bool) → is_in o (flat_map (λ (c : KeptBlock). map (λ (d : Committed). d.ordinal) c.ends) (cond (not f) (b ∷ filter (λ (c : KeptBlock). not c.flushed) bs) (filter (λ (c : KeptBlock). not c.flushed) bs))) ≡ true
         → (is_in o (awaiting_in bs) ≡ true → (i : ℕ) × (c : KeptBlock) × (slice_get bs i ≡ Some c) × (d : Committed) × (has_record c d ≡ true) × (d.ordinal ≡ o))
         → (i : ℕ) × (c : KeptBlock) × (slice_get (b ∷ bs) i ≡ Some c) × (d : Committed) × (has_record c d ≡ true) × (d.ordinal ≡ o)
     go true h rest = let found = rest h in (suc found.0, found.1, found.2, found.3, found.4, found.5)
-    go false h rest = elim (or_cases (is_in o (map (λ (c : Committed). c.ordinal) b.committed)) (is_in o (awaiting_in bs)) (sym (list_any-append (λ y. o == y) (map (λ (c : Committed). c.ordinal) b.committed) (awaiting_in bs)) ∙ h))
+    go false h rest = elim (or_cases (is_in o (map (λ (c : Committed). c.ordinal) b.ends)) (is_in o (awaiting_in bs)) (sym (list_any-append (λ y. o == y) (map (λ (c : Committed). c.ordinal) b.ends) (awaiting_in bs)) ∙ h))
         as (λ _. (i : ℕ) × (c : KeptBlock) × (slice_get (b ∷ bs) i ≡ Some c) × (d : Committed) × (has_record c d ≡ true) × (d.ordinal ≡ o)) [
-          | inl here ↦ let found = of_list b.committed here in (zero, b, refl, found.0, found.1, found.2)
+          | inl here ↦ let found = of_list b.ends here in (zero, b, refl, found.0, found.1, found.2)
           | inr later ↦ let found = rest later in (suc found.0, found.1, found.2, found.3, found.4, found.5)
         ]
 
@@ -101,10 +101,10 @@ module _ (s t : Shown) (p q : Past) (x : IsLogExact s p) where
   same_written r = any_map (λ b. has_record b r) flushed_block s.log.kept
 
   -- a record of an entry's ordinal is of its group
-  same_group : (o : ℕ) (e : Entry) → slice_get p.entries o ≡ Some e → (i : ℕ) (b : KeptBlock) → slice_get s.log.kept i ≡ Some b → (j : ℕ) (c : Committed) → slice_get b.committed j ≡ Some c
+  same_group : (o : ℕ) (e : Entry) → slice_get p.entries o ≡ Some e → (i : ℕ) (b : KeptBlock) → slice_get s.log.kept i ≡ Some b → (j : ℕ) (c : Committed) → slice_get b.ends j ≡ Some c
       → (o == c.ordinal) ≡ true → (e.group == c.group) ≡ true
   same_group o e at i b at_i j c at_j same =
-      let has : has_record b c ≡ true = any_at (is_same c) b.committed j c at_j (rw (eq-eqb c.ordinal c.ordinal refl, eq-eqb c.group c.group refl) refl) in
+      let has : has_record b c ≡ true = any_at (is_same c) b.ends j c at_j (rw (eq-eqb c.ordinal c.ordinal refl, eq-eqb c.group c.group refl) refl) in
       let known = x.known i b c at_i has in
       let here : slice_get p.entries o ≡ Some known.0 = ap (λ k. slice_get p.entries k) (eqb-true o c.ordinal same) ∙ known.1 in
       eq-eqb e.group c.group (ap (λ (f : Entry). f.group) (Some-injective (sym at ∙ here)) ∙ known.2)
@@ -114,10 +114,12 @@ module _ (s t : Shown) (p q : Past) (x : IsLogExact s p) where
   flush_log = record {
     next = x.next;
     allowed = x.allowed;
+    unsynced = x.unsynced;
     pending = x.pending ∙ filter_same (λ (r : Record). nat_lt s.line.synced r.group && not (is_written_in s.log (committed_of r))) (λ (r : Record). nat_lt s.line.synced r.group && not (is_written_in flushed (committed_of r)))
         (map (λ (y : ℕ × Entry). record { group = y.1.group; ordinal = y.0; ops = y.1.ops }) (enumerate_from 0 p.entries)) (λ i r at. ap (λ b. nat_lt s.line.synced r.group && not b) (sym (same_written (committed_of r))));
     in_order = order-flush s.line.synced s.log p.entries x.in_order;
     known = λ i b r at has. let old = block_before s.log.kept i b at in x.known i old.0 r old.1 (ap (λ (c : KeptBlock). has_record c r) old.2 ∙ has);
+    whole = λ i b at. let old = block_before s.log.kept i b at in subst (λ (c : KeptBlock). c.begins ≡ c.ends) old.2 (x.whole i old.0 old.1);
     numbered = λ i b at.
         let old = block_before s.log.kept i b at in
         let number : old.0.number + (length s.log.kept - i) ≡ s.log.next.number = x.numbered i old.0 old.1 in

@@ -1,7 +1,7 @@
 -- Each step keeps what is shown of the log and what is acknowledged exact.
 use Rattle.std.proofs.Common.{◌≡◌, ℕ, zero, suc, ◌+◌, ◌-◌, ◌<◌, ◌≤◌, Bool, true, false, not, ◌&&◌, ◌||◌, List, [], ◌∷◌, ◌++◌, length, map, refl, ap, sym, subst, ◌∙◌, arith, zero-add, ◌⊎◌, inl, inr}
 use Rattle.std.specs.Prelude.{Some, slice_get, filter, cond, nat_lt, nat_le, ◌==◌}
-use Rattle.std.specs.List.{enumerate_from}
+use Rattle.std.specs.List.{list_any, enumerate_from}
 use Rattle.std.proofs.lemmas.Bool.{ltb-false, leb-true, leb-false, lt-ltb, le-ltb, le-leb, lt-leb, eq-eqb, eqb-true, ne_eqb, and_from, and_left, and_right, or_from, or_cases, or_left, or_right, false_from_ne_true, false≢true, cases_lt, not_from_false}
 use Rattle.std.proofs.lemmas.List.{length_push, map-append}
 use Rattle.std.proofs.lemmas.List.Elements.{filter-append}
@@ -11,7 +11,7 @@ use Rattle.base.specs.history.History.{Entry}
 use Rattle.base.specs.steps.Locks.{is_in}
 use Rattle.base.specs.formats.Records.{Record, IsAllowed}
 use Rattle.base.specs.history.Past.{Past, ordinals_of}
-use Rattle.base.specs.steps.Logs.{Log, KeptBlock, Committed, committed_of, committed_above, committed_in, committed_entries, has_record, is_same, is_written_in, is_flushed_in, reaches_above, pending_records, log_after_sync}
+use Rattle.base.specs.steps.Logs.{Log, KeptBlock, Committed, committed_of, committed_above, committed_in, committed_entries, has_record, is_same, is_written_in, is_flushed_in, reaches_above, record_of_entry, unsynced_records, pending_records, log_after_commit, log_after_sync}
 use Rattle.base.specs.steps.Shown.{Shown, SyncPlan, is_durable}
 use Rattle.base.specs.steps.Exact.{IsLogExact, IsSyncExact}
 use Rattle.base.proofs.common.Sieves.{filter-filter, filter_all}
@@ -21,11 +21,7 @@ use Rattle.base.proofs.common.KeptLists.{none_at, at_old, at_filter, any_none, n
 -- it stays exact where nothing of it changes
 pub same_log : (s t : Shown) (p q : Past) → IsLogExact s p
     → IsLogExact (record t { log = s.log; line = record t.line { synced = s.line.synced }; next_ordinal = s.next_ordinal }) (record q { entries = p.entries; acknowledged = p.acknowledged })
-same_log s t p q x = record { next = x.next; allowed = x.allowed; pending = x.pending; in_order = x.in_order; known = x.known; numbered = x.numbered; acknowledged = x.acknowledged; no_others = x.no_others }
-
--- the record of an entry, by its ordinal
-abbrev pub record_of : ℕ × Entry → Record
-record_of p = record { group = p.1.group; ordinal = p.0; ops = p.1.ops }
+same_log s t p q x = record { next = x.next; allowed = x.allowed; unsynced = x.unsynced; pending = x.pending; in_order = x.in_order; known = x.known; whole = x.whole; numbered = x.numbered; acknowledged = x.acknowledged; no_others = x.no_others }
 
 module _ (s t : Shown) (p q : Past) (x : IsLogExact s p) (e : Entry) (above : s.line.synced < e.group) (allowed : IsAllowed (record { group = e.group; ordinal = s.next_ordinal; ops = e.ops })) where
   -- no kept block has the record of an entry to come
@@ -48,13 +44,23 @@ module _ (s t : Shown) (p q : Past) (x : IsLogExact s p) (e : Entry) (above : s.
   pending_push =
       let place : 0 + length p.entries ≡ s.next_ordinal = let n : s.next_ordinal ≡ length p.entries = x.next in omega arith in
       ap (λ rs. rs ++ next_record ∷ []) x.pending
-      ∙ sym (ap (λ (ps : List (ℕ × Entry)). filter is_pending (map record_of ps)) (enumerate_from-push 0 p.entries e ∙ ap (λ (k : ℕ). let y : ℕ × Entry = (k, e) in enumerate_from 0 p.entries ++ y ∷ []) place)
-      ∙ ap (λ rs. filter is_pending rs) (map-append record_of (enumerate_from 0 p.entries) ((s.next_ordinal, e) ∷ []))
-      ∙ filter-append is_pending (map record_of (enumerate_from 0 p.entries)) (next_record ∷ [])
-      ∙ ap (λ b. filter is_pending (map record_of (enumerate_from 0 p.entries)) ++ cond b (next_record ∷ []) []) pending_next)
+      ∙ sym (ap (λ (ps : List (ℕ × Entry)). filter is_pending (map record_of_entry ps)) (enumerate_from-push 0 p.entries e ∙ ap (λ (k : ℕ). let y : ℕ × Entry = (k, e) in enumerate_from 0 p.entries ++ y ∷ []) place)
+      ∙ ap (λ rs. filter is_pending rs) (map-append record_of_entry (enumerate_from 0 p.entries) ((s.next_ordinal, e) ∷ []))
+      ∙ filter-append is_pending (map record_of_entry (enumerate_from 0 p.entries)) (next_record ∷ [])
+      ∙ ap (λ b. filter is_pending (map record_of_entry (enumerate_from 0 p.entries)) ++ cond b (next_record ∷ []) []) pending_next)
+
+  unsynced_push : s.log.unsynced ++ next_record ∷ [] ≡ unsynced_records s.line.synced (p.entries ++ e ∷ [])
+  unsynced_push =
+      let place : 0 + length p.entries ≡ s.next_ordinal = let n : s.next_ordinal ≡ length p.entries = x.next in omega arith in
+      let is_above : Record → Bool = λ r. nat_lt s.line.synced r.group in
+      ap (λ rs. rs ++ next_record ∷ []) x.unsynced
+      ∙ sym (ap (λ (ps : List (ℕ × Entry)). filter is_above (map record_of_entry ps)) (enumerate_from-push 0 p.entries e ∙ ap (λ (k : ℕ). let y : ℕ × Entry = (k, e) in enumerate_from 0 p.entries ++ y ∷ []) place)
+      ∙ ap (λ rs. filter is_above rs) (map-append record_of_entry (enumerate_from 0 p.entries) ((s.next_ordinal, e) ∷ []))
+      ∙ filter-append is_above (map record_of_entry (enumerate_from 0 p.entries)) (next_record ∷ [])
+      ∙ ap (λ b. filter is_above (map record_of_entry (enumerate_from 0 p.entries)) ++ cond b (next_record ∷ []) []) (lt-ltb s.line.synced e.group above))
 
   -- an entry is committed
-  pub commit_log : IsLogExact (record t { log = record s.log { pending = s.log.pending ++ next_record ∷ [] }; line = record t.line { synced = s.line.synced }; next_ordinal = s.next_ordinal + 1 })
+  pub commit_log : IsLogExact (record t { log = log_after_commit next_record s.log; line = record t.line { synced = s.line.synced }; next_ordinal = s.next_ordinal + 1 })
       (record q { entries = p.entries ++ e ∷ []; acknowledged = p.acknowledged })
   commit_log = record {
     next = ap (λ n. n + 1) x.next ∙ sym (length_push p.entries e);
@@ -62,10 +68,12 @@ module _ (s t : Shown) (p q : Past) (x : IsLogExact s p) (e : Entry) (above : s.
       | inl old ↦ x.allowed o f old
       | inr is ↦ subst (λ (g : Entry). IsAllowed (record { group = g.group; ordinal = o; ops = g.ops })) is.1 (subst (λ (k : ℕ). IsAllowed (record { group = e.group; ordinal = k; ops = e.ops })) (x.next ∙ sym is.0) allowed)
     ];
+    unsynced = unsynced_push;
     pending = pending_push;
     in_order = subst (λ (k : ℕ). committed_above s.line.synced (committed_in s.log) ++ map committed_of (s.log.pending ++ record { group = e.group; ordinal = k; ops = e.ops } ∷ []) ≡ committed_above s.line.synced (committed_entries (p.entries ++ e ∷ [])))
         (sym x.next) (order-commit s.line.synced s.log p.entries e above x.in_order);
     known = λ i b r at has. let k = x.known i b r at has in (k.0, at_old p.entries e k.0 r.ordinal k.1, k.2);
+    whole = x.whole;
     numbered = x.numbered;
     acknowledged = λ o f at. elim (push-cases p.entries e f o at) as (λ _. is_in o p.acknowledged ≡ is_durable s o f.group) [
       | inl old ↦ x.acknowledged o f old
@@ -162,16 +170,16 @@ module _ (s t : Shown) (p q : Past) (x : IsLogExact s p) (z : IsSyncExact s) (gr
   goes : (i : ℕ) (b : KeptBlock) → slice_get s.log.kept i ≡ Some b → nat_le plan.header.number b.number ≡ false → reaches_above group b ≡ false
   goes i b at dropped = z.header i group b plan syncing running at (leb-false plan.header.number b.number dropped)
 
-  has_none : (r : Committed) → group < r.group → (b : KeptBlock) → reaches_above group b ≡ false → has_record b r ≡ false
-  has_none r above b none = any_none (is_same r) b.committed (λ i c at. and_right (r.ordinal == c.ordinal) (r.group == c.group) (ne_eqb r.group c.group (λ same.
-      let low : c.group ≤ group = ltb-false group c.group (none_any (λ (d : Committed). nat_lt group d.group) b.committed i c none at) in absurd (omega arith))))
+  has_none : (r : Committed) → group < r.group → (b : KeptBlock) → b.begins ≡ b.ends → reaches_above group b ≡ false → has_record b r ≡ false
+  has_none r above b whole none = any_none (is_same r) b.ends (λ i c at. and_right (r.ordinal == c.ordinal) (r.group == c.group) (ne_eqb r.group c.group (λ same.
+      let low : c.group ≤ group = ltb-false group c.group (none_any (λ (d : Committed). nat_lt group d.group) b.ends i c (subst (λ (cs : List Committed). list_any (λ (d : Committed). nat_lt group d.group) cs ≡ false) whole none) at) in absurd (omega arith))))
 
   stays_written : (r : Committed) → group < r.group → is_written_in left r ≡ is_written_in s.log r
-  stays_written r above = any_filter (λ (b : KeptBlock). nat_le plan.header.number b.number) (λ b. has_record b r) s.log.kept (λ i b at dropped. has_none r above b (goes i b at dropped))
+  stays_written r above = any_filter (λ (b : KeptBlock). nat_le plan.header.number b.number) (λ b. has_record b r) s.log.kept (λ i b at dropped. has_none r above b (x.whole i b at) (goes i b at dropped))
 
   stays_flushed : (r : Committed) → group < r.group → is_flushed_in left r ≡ is_flushed_in s.log r
   stays_flushed r above = any_filter (λ (b : KeptBlock). nat_le plan.header.number b.number) (λ (b : KeptBlock). b.flushed && has_record b r) s.log.kept
-      (λ i b at dropped. and_right b.flushed (has_record b r) (has_none r above b (goes i b at dropped)))
+      (λ i b at dropped. and_right b.flushed (has_record b r) (has_none r above b (x.whole i b at) (goes i b at dropped)))
 
   still_pending : (r : Record) → (nat_lt group r.group && not (is_written_in left (committed_of r))) ≡ (nat_lt group r.group && (nat_lt s.line.synced r.group && not (is_written_in s.log (committed_of r))))
   still_pending r = go (cases_lt group r.group)
@@ -182,6 +190,13 @@ module _ (s t : Shown) (p q : Past) (x : IsLogExact s p) (z : IsSyncExact s) (gr
           ap (λ b. nat_lt group r.group && not b) (stays_written (committed_of r) above) ∙ ap (λ b. nat_lt group r.group && (b && not (is_written_in s.log (committed_of r)))) (sym (lt-ltb s.line.synced r.group low))
       go (inr below) = and_left (nat_lt group r.group) (not (is_written_in left (committed_of r))) (le-ltb group r.group below)
           ∙ sym (and_left (nat_lt group r.group) (nat_lt s.line.synced r.group && not (is_written_in s.log (committed_of r))) (le-ltb group r.group below))
+
+  still_unsynced : (r : Record) → nat_lt group r.group ≡ (nat_lt group r.group && nat_lt s.line.synced r.group)
+  still_unsynced r = go (cases_lt group r.group)
+    where
+      go : (group < r.group) ⊎ (r.group ≤ group) → nat_lt group r.group ≡ (nat_lt group r.group && nat_lt s.line.synced r.group)
+      go (inl high) = lt-ltb group r.group high ∙ sym (and_from (nat_lt group r.group) (nat_lt s.line.synced r.group) (lt-ltb group r.group high) (lt-ltb s.line.synced r.group (omega arith)))
+      go (inr low) = le-ltb group r.group low ∙ sym (and_left (nat_lt group r.group) (nat_lt s.line.synced r.group) (le-ltb group r.group low))
 
   -- an entry is acknowledged exactly if it is durable
   acknowledged_after : (o : ℕ) (e : Entry) → slice_get p.entries o ≡ Some e
@@ -217,11 +232,14 @@ module _ (s t : Shown) (p q : Past) (x : IsLogExact s p) (z : IsSyncExact s) (gr
   sync_log = record {
     next = x.next;
     allowed = x.allowed;
+    unsynced = ap (λ rs. filter (λ (r : Record). nat_lt group r.group) rs) x.unsynced
+        ∙ filter-filter (λ (r : Record). nat_lt group r.group) (λ (r : Record). nat_lt s.line.synced r.group) (λ (r : Record). nat_lt group r.group) still_unsynced (map record_of_entry (enumerate_from 0 p.entries));
     pending = ap (λ rs. filter (λ (r : Record). nat_lt group r.group) rs) x.pending
         ∙ filter-filter (λ (r : Record). nat_lt group r.group) (λ (r : Record). nat_lt s.line.synced r.group && not (is_written_in s.log (committed_of r))) (λ (r : Record). nat_lt group r.group && not (is_written_in left (committed_of r))) still_pending
-        (map record_of (enumerate_from 0 p.entries));
-    in_order = order-sync s.line.synced group plan.header s.log p.entries (omega arith) (All-each (λ (b : KeptBlock). nat_le plan.header.number b.number ≡ false → reaches_above group b ≡ false) s.log.kept goes) x.in_order;
+        (map record_of_entry (enumerate_from 0 p.entries));
+    in_order = order-sync s.line.synced group plan.header s.log p.entries (omega arith) x.whole (All-each (λ (b : KeptBlock). nat_le plan.header.number b.number ≡ false → reaches_above group b ≡ false) s.log.kept goes) x.in_order;
     known = λ i b r at has. let found = at_filter (λ (c : KeptBlock). nat_le plan.header.number c.number) s.log.kept i b at in x.known found.0 b r found.1 has;
+    whole = λ i b at. let found = at_filter (λ (c : KeptBlock). nat_le plan.header.number c.number) s.log.kept i b at in x.whole found.0 b found.1;
     numbered = counted_after s.log.next.number plan.header.number s.log.kept x.numbered;
     acknowledged = acknowledged_after;
     no_others = λ o is. elim (or_cases (is_in o p.acknowledged) (is_in o (ordinals_of group p.entries)) (sym (list_any-append (λ y. o == y) p.acknowledged (ordinals_of group p.entries)) ∙ is)) as (λ _. o < length p.entries) [

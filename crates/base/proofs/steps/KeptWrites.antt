@@ -9,12 +9,11 @@ use Rattle.std.proofs.lemmas.Option.{slice_get-map, slice_get_within}
 use Rattle.base.specs.history.History.{Entry}
 use Rattle.base.specs.formats.Records.{Record}
 use Rattle.base.specs.history.Past.{Past}
-use Rattle.base.specs.steps.Logs.{Log, KeptBlock, Committed, committed_of, has_record, is_same, is_written_in, is_flushed_in, reaches_above, pending_records, log_after_write}
+use Rattle.base.specs.steps.Logs.{whole_block, Log, KeptBlock, Committed, committed_of, record_of_entry, has_record, is_same, is_written_in, is_flushed_in, reaches_above, pending_records, log_after_write}
 use Rattle.base.specs.steps.Shown.{Shown, SyncPlan}
 use Rattle.base.specs.steps.Exact.{IsLogExact, IsSyncExact}
 use Rattle.base.proofs.common.Sieves.{filter-filter, filter_all, filter_nothing}
 use Rattle.base.proofs.history.LogOrder.{order-write}
-use Rattle.base.proofs.steps.KeptLog.{record_of}
 use Rattle.base.proofs.common.KeptLists.{none_at, at_front, at_filter, pair_filter, any_at, any_found, any_none, any_push, filter_same, Some-injective, push-cases, All-each}
 
 enumerated_at : {A : Type 0} (n : ℕ) (xs : List A) (k : ℕ) (p : ℕ × A) → slice_get (enumerate_from n xs) k ≡ Some p → (p.0 ≡ n + k) × (slice_get xs k ≡ Some p.1)
@@ -23,20 +22,20 @@ enumerated_at n (x ∷ xs) zero p at = let same = Some-injective at in (ap (λ q
 enumerated_at n (x ∷ xs) (suc k) p at = let later = enumerated_at (n + 1) xs k p at in (let is : p.0 ≡ n + 1 + k = later.0 in omega arith, later.1)
 
 -- a record of the entries at a place is the one of the entry there
-recorded_at : (entries : List Entry) (k : ℕ) (r : Record) → slice_get (map record_of (enumerate_from 0 entries)) k ≡ Some r
+recorded_at : (entries : List Entry) (k : ℕ) (r : Record) → slice_get (map record_of_entry (enumerate_from 0 entries)) k ≡ Some r
     → (e : Entry) × (slice_get entries k ≡ Some e) × (r.ordinal ≡ k) × (e.group ≡ r.group)
-recorded_at entries k r at = go (slice_get (enumerate_from 0 entries) k) refl (sym (slice_get-map record_of (enumerate_from 0 entries) k) ∙ at)
+recorded_at entries k r at = go (slice_get (enumerate_from 0 entries) k) refl (sym (slice_get-map record_of_entry (enumerate_from 0 entries) k) ∙ at)
   where
-    go : (o : Option (ℕ × Entry)) → slice_get (enumerate_from 0 entries) k ≡ o → option_map record_of o ≡ Some r → (e : Entry) × (slice_get entries k ≡ Some e) × (r.ordinal ≡ k) × (e.group ≡ r.group)
+    go : (o : Option (ℕ × Entry)) → slice_get (enumerate_from 0 entries) k ≡ o → option_map record_of_entry o ≡ Some r → (e : Entry) × (slice_get entries k ≡ Some e) × (r.ordinal ≡ k) × (e.group ≡ r.group)
     go None is h = absurd (let no_way : None ≡ Some r = h in cc)
     go (Some p) is h =
         let place = enumerated_at 0 entries k p is in
-        let same : record_of p ≡ r = Some-injective h in
+        let same : record_of_entry p ≡ r = Some-injective h in
         (p.1, place.1, (let first : p.0 ≡ 0 + k = place.0 in ap (λ (x : Record). x.ordinal) (sym same) ∙ omega arith), ap (λ (x : Record). x.group) same)
 
 module _ (s t : Shown) (p q : Past) (x : IsLogExact s p) (taken rest : List Record) (address : ℕ) (split : s.log.pending ≡ taken ++ rest) where
   abbrev block : KeptBlock
-  block = record { address = s.log.next.address; number = s.log.next.number; committed = map committed_of taken; flushed = false }
+  block = whole_block s.log.next (map committed_of taken) false
 
   abbrev written : Log
   written = log_after_write taken rest address s.log
@@ -45,7 +44,7 @@ module _ (s t : Shown) (p q : Past) (x : IsLogExact s p) (taken rest : List Reco
   is_pending r = nat_lt s.line.synced r.group && not (is_written_in s.log (committed_of r))
 
   abbrev records : List Record
-  records = map record_of (enumerate_from 0 p.entries)
+  records = map record_of_entry (enumerate_from 0 p.entries)
 
   abbrev is_left : Record → Bool
   is_left r = not (has_record block (committed_of r))
@@ -142,11 +141,16 @@ module _ (s t : Shown) (p q : Past) (x : IsLogExact s p) (taken rest : List Reco
   write_log = record {
     next = x.next;
     allowed = x.allowed;
+    unsynced = x.unsynced;
     pending = pending_after;
     in_order = order-write s.line.synced s.log p.entries taken rest address split taken_above x.in_order;
     known = λ i b r at has. elim (push-cases s.log.kept block b i at) as (λ _. (e : Entry) × (slice_get p.entries r.ordinal ≡ Some e) × (e.group ≡ r.group)) [
       | inl old ↦ x.known i b r old has
       | inr new ↦ known_after r (ap (λ (c : KeptBlock). has_record c r) new.1 ∙ has)
+    ];
+    whole = λ i b at. elim (push-cases s.log.kept block b i at) as (λ _. b.begins ≡ b.ends) [
+      | inl old ↦ x.whole i b old
+      | inr new ↦ subst (λ (c : KeptBlock). c.begins ≡ c.ends) new.1 refl
     ];
     numbered = λ i b at. elim (push-cases s.log.kept block b i at) as (λ _. b.number + (length (s.log.kept ++ block ∷ []) - i) ≡ s.log.next.number + 1) [
       | inl old ↦

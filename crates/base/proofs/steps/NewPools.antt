@@ -56,9 +56,11 @@ module _ (u : Uberblock) (blocks : ℕ) (contents : Contents) (created dirty_max
   the_log = record {
     next = i.next_ordinal;
     allowed = λ o e at. cc;
+    unsynced = i.unsynced;
     pending = i.pending;
-    in_order = (λ k. committed_above s.line.synced (flat_map (λ (b : KeptBlock). b.committed) (i.kept k)) ++ map committed_of (i.pending k));
+    in_order = (λ k. committed_above s.line.synced (flat_map (λ (b : KeptBlock). b.ends) (i.kept k)) ++ map committed_of (i.pending k));
     known = λ j b r at has. absurd (none-kept j b at);
+    whole = λ j b at. absurd (none-kept j b at);
     numbered = λ j b at. absurd (none-kept j b at);
     acknowledged = λ o e at. cc;
     no_others = λ o is. cc;

@@ -25,7 +25,7 @@ use Rattle.base.specs.steps.Refusals.{Test, refused_if, first_refusal, object_ra
 use Rattle.base.specs.steps.Runs.{Step, refusal_of_step, reply_of, progress_reply}
 use Rattle.base.specs.steps.SeenLaws.{is_suspending, is_untested}
 use Rattle.base.specs.steps.Shown.{Shown, SyncPlan, dirty_total, available}
-use Rattle.base.specs.steps.Stage as stage
+use Rattle.base.specs.steps.BuiltSteps as as_built
 use Rattle.base.specs.steps.Steps as steps
 use Rattle.base.specs.steps.Steps.{State, Answers, SyncProgress, WantsMemory}
 use Rattle.base.specs.steps.Steps.SyncProgress.{More, Synced}
@@ -143,14 +143,14 @@ step_does keeps now (step.Unlock owner id) r old new (answer, is, h) =
     by_answer s old new _ r answer _ _ (λ a none d. does s old new _ (LetsGo owner.0 id.0) none (lock_found old.shown owner.0 id.0 none) d refl refl refl refl) (λ e none never. absurd never) is h
 step_does keeps now (step.Begin owner plan) r old new (answer, is, h) =
     let s : declared_step.Step = step.Begin owner plan in
-    let tests = stage.begin_tests owner.0 plan old.shown in
+    let tests = as_built.begin_tests owner.0 plan old.shown in
     by_answer s old new _ r answer _ _ (λ a none d.
     let wanted : ℕ = refusal.blocks_wanted old.shown.contents plan in
     let enough : wanted ≤ available old.shown = ltb-false (available old.shown) wanted (no_refusal tests none 7 _ refl) in
     does s old new _ (AddsAdmission (steps.next_admission owner.0 plan old.shown)) none (record {
       named = refl;
       in_open = refl;
-      built = not-false (stage.is_plan_built plan) (no_refusal tests none 1 _ refl);
+      built = not-false (as_built.is_plan_built plan) (no_refusal tests none 1 _ refl);
       small = ltb-false max_log_record (log_record_size plan) (no_refusal tests none 2 _ refl);
       covered = not-false (refusal.is_plan_covered owner.0 plan old.shown.locks) (no_refusal tests none 3 _ refl);
       free = no_refusal tests none 4 _ refl;
@@ -200,6 +200,9 @@ step_does keeps now step.SyncStep r old new (answer, is, h) =
     by_device : (e : PoolError) → (e ≡ error.Write) ⊎ (e ≡ error.Flush) → is_untested e ≡ true
     by_device e (inl write) = ap is_untested write
     by_device e (inr flush) = ap is_untested flush
+step_does keeps now (step.Durable receipt) r old new (answer, is, h) =
+    let s : declared_step.Step = step.Durable receipt in
+    by_answer s old new _ r answer _ _ (λ durable none d. does s old new _ Stays none tt d.1 refl refl refl refl) (λ e none never. absurd never) is h
 
 -- A write of the log has its effect also where the device refuses it, and a flush has one where the device answers it.
 pub log_step_has : (old new : State) → IsLogStep old new → HasEffect old new

@@ -11,7 +11,7 @@ use Rattle.base.specs.declared.step.Reply.{Reply}
 use Rattle.base.specs.declared.step.Reply.TheVariants as reply
 use Rattle.base.specs.steps.Refusals as refusal
 use Rattle.base.specs.steps.Runs.{Step, progress_reply, refusal_of_step, reply_of}
-use Rattle.base.specs.steps.Shown.{SyncPlan, status_of}
+use Rattle.base.specs.steps.Shown.{SyncPlan, is_durable, status_of}
 use Rattle.base.specs.steps.Steps as steps
 use Rattle.base.specs.steps.Steps.{State, Answers, SyncProgress}
 use Rattle.base.specs.steps.Steps.SyncProgress.{More, Synced}
@@ -37,11 +37,12 @@ refused_step now s r old new first h = by (step_does ⊥ now s r old new h).answ
     by (untested e told own loud none) = absurd (let no_way : None ≡ Some error.Suspended = sym none ∙ first in cc)
     by (made answers none) = absurd (let no_way : None ≡ Some error.Suspended = sym none ∙ first in cc)
 
--- the first test of each step but the two that only tell refuses it where the pool is suspended
+-- the first test of each step but the three that only tell refuses it where the pool is suspended
 suspended_step : (now : List ℕ) (s : declared_step.Step) (r : Reply) (old new : State) → old.shown.suspended ≡ true → Step ⊥ now s r old new
     → (new ≡ old) × (r ≡ suspended_reply old.shown s)
 suspended_step now step.Name r old new is (answer, told, does) = told_step (λ name. reply.Name name) old.shown.contents.name answer r old new told does
 suspended_step now step.Status r old new is (answer, told, does) = told_step (λ status. reply.Status status) (status_of old.shown) answer r old new told does
+suspended_step now (step.Durable receipt) r old new is (answer, told, does) = told_step (λ durable. reply.Durable durable) (is_durable old.shown receipt.ordinal.0 receipt.group.0) answer r old new told does
 suspended_step now s r old new is h = refused_step now s r old new (rw is refl) h
 
 suspended_run : (ss : List declared_step.Step) (rs : List Reply) (s new : State) → s.shown.suspended ≡ true → IsRun ⊥ ss rs s new

@@ -10,7 +10,7 @@ use Rattle.base.specs.history.History.{Entry, replay, entries_in}
 use Rattle.base.specs.history.Past.{Past}
 use Rattle.base.specs.steps.Groups.{Middle}
 use Rattle.base.specs.steps.Shown.{Shown}
-use Rattle.base.specs.steps.Stage.{is_shape_built}
+use Rattle.base.specs.steps.BuiltSteps.{is_shape_built}
 use Rattle.base.specs.steps.Steps.{IsReplayUpTo}
 use Rattle.base.specs.steps.ExactNow.{IsExplainedNow}
 use Rattle.base.proofs.history.Cuts.{trees_follow}

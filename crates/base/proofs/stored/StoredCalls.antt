@@ -12,8 +12,8 @@ use Rattle.base.specs.history.Past.{Past}
 use Rattle.base.specs.formats.Uberblocks.{Uberblock}
 use Rattle.base.specs.steps.Shown.{Shown, SyncPlan, uberblock_of}
 use Rattle.base.specs.steps.ExactNow.{IsExplainedNow}
-use Rattle.base.specs.crash.SyncCalls.{PoolCall, IsCallAt, bytes_made}
-use Rattle.base.specs.crash.SyncCalls.PoolCall.{Put, Settle}
+use Rattle.base.specs.crash.SyncCalls.{DiskCall, IsCallAt, bytes_made}
+use Rattle.base.specs.crash.SyncCalls.DiskCall.{Put, Settle}
 use Rattle.base.specs.stored.ShownLabels.{ShowsUberblock, ShowsSyncing, AreLabelsShown, HasNoLogBlock}
 use Rattle.base.specs.stored.Stored.{NewTree, IsKept, SameBlocks, Advances}
 use Rattle.base.proofs.disk.Put.{length-put}
@@ -141,15 +141,15 @@ module _ (now : List ℕ) (s : Shown) (pointers : Place → Pointer) (past : Pas
     }
 
   -- the call that is made next
-  module _ (group : ℕ) (syncing : s.line.syncing ≡ Some group) (call : PoolCall) (is_call : IsCallAt (length now) group old old.done call) where
+  module _ (group : ℕ) (syncing : s.line.syncing ≡ Some group) (call : DiskCall) (is_call : IsCallAt (length now) group old old.done call) where
     -- what holds after each kind of call holds after it
     by_call : (P : List ℕ → Type 0) → ((b : NewBlock) → slice_get old.blocks old.done ≡ Some b → P (put b.address b.content now))
         → ((label : ℕ) → label < 4 → old.done ≡ length old.blocks + 1 + label → P (put (slot_place (length now) label (slot_of x.sync.group)) old.slot now))
         → ((old.done ≡ length old.blocks) ⊎ (old.done ≡ length old.blocks + 5) → P now) → P (bytes_made call now)
     by_call P block slot flush = go is_call
       where
-        told : (c : PoolCall) → call ≡ c → P (bytes_made c now) → P (bytes_made call now)
-        told c is kept = subst (λ (d : PoolCall). P (bytes_made d now)) (sym is) kept
+        told : (c : DiskCall) → call ≡ c → P (bytes_made c now) → P (bytes_made call now)
+        told c is kept = subst (λ (d : DiskCall). P (bytes_made d now)) (sym is) kept
 
         of_group : x.sync.group ≡ group
         of_group = Some-injective (sym x.sync.syncing ∙ syncing)

@@ -12,7 +12,7 @@ use Rattle.base.specs.tree.Places.{Place}
 use Rattle.base.specs.steps.Steps as steps
 use Rattle.base.specs.steps.Steps.{State, SyncProgress}
 use Rattle.base.specs.steps.Steps.SyncProgress.{More, Synced}
-use Rattle.base.specs.steps.Stage as stage
+use Rattle.base.specs.steps.BuiltSteps as as_built
 use Rattle.base.specs.steps.Runs.{Step, reply_of, progress_reply}
 use Rattle.base.specs.stored.Stored.{NewTree, IsKept, Held, IsHeld, Starts, IsCallMade, Moves, is_turn, total_calls}
 use Rattle.base.proofs.steps.KeptTables.{steps_keep_tables}
@@ -23,7 +23,7 @@ use Rattle.base.proofs.stored.StoredSyncs.{finish-keeps}
 
 -- what a turn is: a sync that was started, or one that is done
 abbrev IsStart : Type 0 → List ℕ → declared_reply.Reply → State → State → Type 0
-IsStart keeps bytes r old new = (moment group : ℕ) × (r ≡ reply.Syncing (record { 0 = group })) × stage.StartSync keeps bytes moment (Ok group) old new
+IsStart keeps bytes r old new = (moment group : ℕ) × (r ≡ reply.Syncing (record { 0 = group })) × as_built.StartSync keeps bytes moment (Ok group) old new
 
 abbrev IsEnd : declared_reply.Reply → State → State → Type 0
 IsEnd r old new = (group : ℕ) × (r ≡ reply.Synced (record { 0 = group })) × steps.SyncStep (Ok (Synced group)) old new
@@ -36,7 +36,7 @@ no-turn make (Ok a) r none is = ap is_turn is ∙ none a
 no-turn make (Err e) r none is = ap is_turn is
 
 started : (keeps : Type 0) (bytes : List ℕ) (moment : ℕ) (answer : Result ℕ PoolError) (r : declared_reply.Reply) (old new : State) → r ≡ reply_of (λ (g : ℕ). reply.Syncing (record { 0 = g })) answer
-    → stage.StartSync keeps bytes moment answer old new → Turn keeps bytes r old new
+    → as_built.StartSync keeps bytes moment answer old new → Turn keeps bytes r old new
 started keeps bytes moment (Ok group) r old new is h = inr (inl (moment, group, is, h))
 started keeps bytes moment (Err e) r old new is h = inl (ap is_turn is)
 
@@ -87,7 +87,7 @@ module _ (old new : Held) (x : IsHeld old) where
     no_turn r h off m = beside r h off m
 
     -- the start of a sync
-    start : (group : ℕ) (moment : ℕ) → stage.StartSync keeps bytes moment (Ok group) old.state new.state → Starts group old new → Kept
+    start : (group : ℕ) (moment : ℕ) → as_built.StartSync keeps bytes moment (Ok group) old.state new.state → Starts group old new → Kept
     start group moment h m = told old.pointers (Some (record { pointers = m.tree; blocks = m.bs; slot = m.slot; done = 0 })) m.pointers m.running
         (subst (λ (l : List ℕ). IsKept l new.state.shown old.pointers (Some (record { pointers = m.tree; blocks = m.bs; slot = m.slot; done = 0 })) new.state.past) (sym m.same)
         (start-keeps keeps bytes old.now moment group m.plan old.state new.state old.pointers m.tree m.bs m.slot x.explained old.running x.kept h m.plan_is m.slot_is (m.planned x)))

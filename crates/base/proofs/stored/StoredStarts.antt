@@ -30,7 +30,7 @@ use Rattle.base.specs.steps.ExactNow.{IsExplainedNow}
 use Rattle.base.specs.steps.Refusals as refusal
 use Rattle.base.specs.steps.Steps as steps
 use Rattle.base.specs.steps.Steps.{State, IsPlanned}
-use Rattle.base.specs.steps.Stage as stage
+use Rattle.base.specs.steps.BuiltSteps as as_built
 use Rattle.base.specs.stored.ShownLabels.{ShowsSynced, AreLabelsShown}
 use Rattle.base.specs.stored.Stored.{NewTree, IsStored, IsPlannedSync, IsSyncing, RunsAs, IsKept, AreBlocks, LeavesTree, IsUnwritten, AreUsed, frame_at}
 use Rattle.base.proofs.history.CommitOrder.{no_refusal, ok-none}
@@ -238,7 +238,7 @@ start-state now moment group plan s pointers new bs slot explained x idle_is mid
 
 -- the start of a sync, as a step
 pub start-keeps : (keeps : Type 0) (bytes now : List ℕ) (moment group : ℕ) (plan : SyncPlan) (old new : State) (pointers made : Place → Pointer) (bs : List NewBlock) (slot : List ℕ) → IsExplainedNow old.shown old.past
-    → (running : Option NewTree) (x : IsKept now old.shown pointers running old.past) → stage.StartSync keeps bytes moment (Ok group) old new → new.shown.sync ≡ Some plan → IsUberblock slot (uberblock_of old.shown group plan)
+    → (running : Option NewTree) (x : IsKept now old.shown pointers running old.past) → as_built.StartSync keeps bytes moment (Ok group) old new → new.shown.sync ≡ Some plan → IsUberblock slot (uberblock_of old.shown group plan)
     → IsPlannedSync (frame_at old.shown group) pointers made bs x.stored.synced.objects plan.contents.objects plan
     → IsKept now new.shown pointers (Some (record { pointers = made; blocks = bs; slot = slot; done = 0 })) new.past
 start-keeps keeps bytes now moment group plan old new pointers made bs slot explained running x h runs coded y =

@@ -1,4 +1,4 @@
--- A tree without a fault: where a tree holds some objects, each of its places is sound, so no first fault is found.
+-- A tree without a damage: where a tree holds some objects, each of its places is sound, so no first damage is found.
 use Rattle.std.proofs.Common.{◌≡◌, ℕ, ◌+◌, ◌-◌, ◌*◌, ◌/◌, ◌%◌, ◌<◌, ◌≤◌, List, ◌++◌, length, length-take, length-drop, replicate, drop, min, refl, ap, sym, subst, ◌∙◌, arith, ◌⊎◌, inl, inr}
 use Rattle.std.specs.Prelude.{Option, Some, None, ◌≢◌, cond}
 use Rattle.std.proofs.Math.Nat.{div-add-mod}
@@ -16,7 +16,7 @@ use Rattle.base.specs.formats.Blocks.{Frame, Opens, payload_at}
 use Rattle.base.specs.tree.Places.{Place, IsPlace, pointer_below, directory_pointer, indirect_pointer, data_pointer}
 use Rattle.base.specs.tree.Places.Place.{Root, Directory, Indirect, Data}
 use Rattle.base.specs.tree.Tree.{IsTree, IsDirectory, IsEntry, IsObject, IsRecord, record_bytes}
-use Rattle.base.specs.tree.Faults.{IsPointerForm, IsOneLevelForm, IsRecordPointerForm, IsSoundAt, IsFirstFault, length_in}
+use Rattle.base.specs.tree.Damages.{IsPointerForm, IsOneLevelForm, IsRecordPointerForm, IsSoundAt, IsFirstDamage, length_in}
 
 -- past the length of an object the payload of its record is zeros
 zeros-past : (r : ℕ) (bytes : List ℕ) (size : ℕ) → size ≡ length bytes
@@ -155,6 +155,6 @@ module _ (image : List ℕ) (frame : Frame) where
     sound (Indirect n) in_range = sound-indirect n in_range
     sound (Data n r) in_range = sound-data n r in_range.0 in_range.1
 
-    -- so it has no first fault
-    pub no_fault : (kind address : ℕ) → IsFirstFault image frame root kind address → ⊥
-    no_fault kind address fault = fault.faulty (sound fault.place fault.in_range)
+    -- so it has no first damage
+    pub no_damage : (kind address : ℕ) → IsFirstDamage image frame root kind address → ⊥
+    no_damage kind address damage = damage.damaged (sound damage.place damage.in_range)

@@ -12,41 +12,41 @@ use Rattle.base.specs.disk.Calls.{Writes, Flushes}
 use Rattle.base.specs.crash.Views.{View, Logged, IsConfigContent, IsFixed, IsLaid}
 use Rattle.base.specs.crash.Own.{IsAtRest, IsBetween}
 use Rattle.base.specs.crash.Spares.{IsTreeContent, IsOtherConfig}
-use Rattle.base.specs.crash.SyncCalls.{PoolCall}
-use Rattle.base.specs.crash.SyncCalls.PoolCall.{Put, Settle}
+use Rattle.base.specs.crash.SyncCalls.{DiskCall}
+use Rattle.base.specs.crash.SyncCalls.DiskCall.{Put, Settle}
 
 -- what a call with its answer makes of a disk
-abbrev pub MakesPoolCall : PoolCall → Disk → Result (Unit {0}) PoolError → Disk → Type 0
+abbrev pub MakesPoolCall : DiskCall → Disk → Result (Unit {0}) PoolError → Disk → Type 0
 MakesPoolCall (Put place content) old answer new = Writes old place content answer new
 MakesPoolCall Settle old answer new = Flushes old answer new
 
 -- calls one after another, up to the first that is refused
-abbrev pub AreMade : List PoolCall → Disk → Disk → Type 0
+abbrev pub AreMade : List DiskCall → Disk → Disk → Type 0
 AreMade [] old new = new ≡ old
 AreMade (c ∷ cs) old new = ((mid : Disk) × MakesPoolCall c old (Ok tt) mid × AreMade cs mid new) ⊎ ((e : PoolError) × MakesPoolCall c old (Err e) new)
 
 -- and the same, stopped before any of them by a crash or by who makes them
-abbrev pub AreBegun : List PoolCall → Disk → Disk → Type 0
+abbrev pub AreBegun : List DiskCall → Disk → Disk → Type 0
 AreBegun [] old new = new ≡ old
 AreBegun (c ∷ cs) old new = (new ≡ old) ⊎ (((mid : Disk) × MakesPoolCall c old (Ok tt) mid × AreBegun cs mid new) ⊎ ((e : PoolError) × MakesPoolCall c old (Err e) new))
 
 -- a call keeps P, whatever it answers, at each moment from this one on
-abbrev pub KeepsCall : ℕ → (Moment → Type 0) → PoolCall → Type 0
+abbrev pub KeepsCall : ℕ → (Moment → Type 0) → DiskCall → Type 0
 KeepsCall t P (Put place content) = (moment : ℕ) (done : Bool) (m : Moment) → t ≤ moment → P m → P (wrote moment place content done m)
 KeepsCall t P Settle = (m : Moment) → P m → P (settled (bytes_of m) m)
 
-abbrev pub KeepCalls : ℕ → (Moment → Type 0) → List PoolCall → Type 0
+abbrev pub KeepCalls : ℕ → (Moment → Type 0) → List DiskCall → Type 0
 KeepCalls t P [] = ⊤
 KeepCalls t P (c ∷ cs) = KeepsCall t P c × KeepCalls t P cs
 
 -- each write is of a whole place that the format checks, on the device
-abbrev pub AreWholeCalls : ℕ → List PoolCall → Type 0
+abbrev pub AreWholeCalls : ℕ → List DiskCall → Type 0
 AreWholeCalls size [] = ⊤
 AreWholeCalls size (Put place content ∷ cs) = IsCheckedPlace size place (length content) × (place + length content ≤ size) × AreWholeCalls size cs
 AreWholeCalls size (Settle ∷ cs) = AreWholeCalls size cs
 
 -- what is written could pass for no config of the pool of a group above this one, except for one of these of its group
-abbrev pub WriteConfigsUpTo : ℕ → ℕ → ℕ → (ℕ → List ℕ → Type 0) → List PoolCall → Type 0
+abbrev pub WriteConfigsUpTo : ℕ → ℕ → ℕ → (ℕ → List ℕ → Type 0) → List DiskCall → Type 0
 WriteConfigsUpTo size guid top IsOther [] = ⊤
 WriteConfigsUpTo size guid top IsOther (Put place content ∷ cs) =
     ((group : ℕ) (name : List ℕ) → IsConfigContent content size guid group name → (group ≤ top) ⊎ IsOther group content) × WriteConfigsUpTo size guid top IsOther cs
@@ -77,11 +77,11 @@ pub record SparesAt (size flushed : ℕ) (at : FixedLabels) (v : View) (place n 
 
 -- a call that leaves a view as it lies: a flush, or a write of a block of a tree or of another config, apart from what
 -- is fixed
-abbrev pub IsQuiet : ℕ → ℕ → FixedLabels → View → PoolCall → Type 0
+abbrev pub IsQuiet : ℕ → ℕ → FixedLabels → View → DiskCall → Type 0
 IsQuiet size flushed at v (Put place content) = (IsTreeContent content ⊎ IsOtherConfig size content v) × SparesAt size flushed at v place (length content)
 IsQuiet size flushed at v Settle = ⊤
 
-abbrev pub AreQuiet : ℕ → ℕ → FixedLabels → View → List PoolCall → Type 0
+abbrev pub AreQuiet : ℕ → ℕ → FixedLabels → View → List DiskCall → Type 0
 AreQuiet size flushed at v [] = ⊤
 AreQuiet size flushed at v (c ∷ cs) = IsQuiet size flushed at v c × AreQuiet size flushed at v cs
 
@@ -112,20 +112,20 @@ IsSwitching size t flushed new_flushed new_config at old new m =
     (IsAtRestAt size t flushed at old m × IsLaidAt size t new_flushed new_config new m) ⊎ IsBetweenAt size t flushed new_flushed new_config at old new m
 
 -- calls that each write the new uberblock
-abbrev pub AreSlotCalls : ℕ → ℕ → ℕ → ℕ → FixedLabels → View → View → List PoolCall → Type 0
+abbrev pub AreSlotCalls : ℕ → ℕ → ℕ → ℕ → FixedLabels → View → View → List DiskCall → Type 0
 AreSlotCalls size flushed new_flushed new_config at old new [] = ⊤
 AreSlotCalls size flushed new_flushed new_config at old new (Put place content ∷ cs) =
     IsSlotCall size flushed new_flushed new_config at old new place content × AreSlotCalls size flushed new_flushed new_config at old new cs
 AreSlotCalls size flushed new_flushed new_config at old new (Settle ∷ cs) = ⊥ × ⊤
 
 -- calls one after another, each answered Ok
-abbrev pub AreAllMade : List PoolCall → Disk → Disk → Type 0
+abbrev pub AreAllMade : List DiskCall → Disk → Disk → Type 0
 AreAllMade [] old new = new ≡ old
 AreAllMade (c ∷ cs) old new = (mid : Disk) × MakesPoolCall c old (Ok tt) mid × AreAllMade cs mid new
 
 -- All but the last write of the new uberblock are made, and so is this one; then the flush is refused, or answers Ok
 -- and the quiet calls after it are begun.
-pub record IsLastPath (size t flushed new_flushed new_config : ℕ) (at : FixedLabels) (old new : View) (slots back : List PoolCall) (d1 dn : Disk) : Type 0 where
+pub record IsLastPath (size t flushed new_flushed new_config : ℕ) (at : FixedLabels) (old new : View) (slots back : List DiskCall) (d1 dn : Disk) : Type 0 where
   pub d2 : Disk
   pub all : AreAllMade slots d1 d2
   pub label : ℕ
@@ -140,8 +140,8 @@ pub record IsLastPath (size t flushed new_flushed new_config : ℕ) (at : FixedL
 
 -- A sync, begun: the quiet calls in front, up to a stop; or all of them, after which the new view is laid, and then the
 -- writes of its uberblock but the last, up to a stop; or all of these, and the rest.
-abbrev pub IsSyncPath : ℕ → ℕ → ℕ → ℕ → ℕ → FixedLabels → View → View → List PoolCall → List PoolCall → List PoolCall → Disk → Disk → Type 0
+abbrev pub IsSyncPath : ℕ → ℕ → ℕ → ℕ → ℕ → FixedLabels → View → View → List DiskCall → List DiskCall → List DiskCall → Disk → Disk → Type 0
 IsSyncPath size t flushed new_flushed new_config at old new front slots back d0 dn =
     AreBegun front d0 dn
     ⊎ ((d1 : Disk) × AreAllMade front d0 d1 × IsLaidAt size t new_flushed new_config new d1.now
-    × (((cs : List PoolCall) × AreSlotCalls size flushed new_flushed new_config at old new cs × AreBegun cs d1 dn) ⊎ IsLastPath size t flushed new_flushed new_config at old new slots back d1 dn))
+    × (((cs : List DiskCall) × AreSlotCalls size flushed new_flushed new_config at old new cs × AreBegun cs d1 dn) ⊎ IsLastPath size t flushed new_flushed new_config at old new slots back d1 dn))

@@ -7,7 +7,7 @@ use Rattle.base.specs.declared.pointer.Pointer.{Pointer}
 use Rattle.base.specs.formats.Geometry.{block_count, IsBlockAddress}
 use Rattle.base.specs.tree.Places.{IsInTree}
 use Rattle.base.specs.formats.Uberblocks.{Uberblock}
-use Rattle.base.specs.formats.Chain.{LogBlock}
+use Rattle.base.specs.formats.Chain.{LogPiece}
 use Rattle.base.specs.crash.Mount.{Mount, Mounts, IsUsed, records_above}
 use Rattle.base.specs.steps.Shown.{Shown}
 
@@ -35,6 +35,7 @@ pub record IsImported (u : Uberblock) (blocks : ℕ) (contents : Contents) (dirt
   pub next_ordinal : s.next_ordinal ≡ 0
   pub dirty : (g : ℕ) → finite.get s.dirty g ≡ None
   pub reserved : (g : ℕ) → finite.get s.reserved g ≡ None
+  pub unsynced : s.log.unsynced ≡ []
   pub pending : s.log.pending ≡ []
   pub kept : s.log.kept ≡ []
   pub log_number : s.log.next.number ≡ 0
@@ -43,7 +44,7 @@ pub record IsImported (u : Uberblock) (blocks : ℕ) (contents : Contents) (dirt
   pub lengths : (n : ℕ) → n < object_count → s.lengths n ≡ length_of contents n
 
 -- the first log block is the lowest that neither the old tree and chain nor the new tree has
-pub record IsFirstLogBlock (image : List ℕ) (u : Uberblock) (chain : List LogBlock) (now : List ℕ) (root : Pointer) (address : ℕ) : Type 0 where
+pub record IsFirstLogBlock (image : List ℕ) (u : Uberblock) (chain : List LogPiece) (now : List ℕ) (root : Pointer) (address : ℕ) : Type 0 where
   pub in_area : IsBlockAddress (block_count (length image)) address
   pub not_old : IsUsed image u.root chain address → ⊥
   pub not_new : IsInTree now root address → ⊥
@@ -53,7 +54,7 @@ pub record IsFirstLogBlock (image : List ℕ) (u : Uberblock) (chain : List LogB
 -- pool that it gives
 pub record IsImportOf (image now : List ℕ) (dirty_max records : ℕ) (s : Shown) : Type 0 where
   pub u : Uberblock
-  pub chain : List LogBlock
+  pub chain : List LogPiece
   pub contents : Contents
   pub mounts : Mounts image u chain contents
   pub records_are : length (records_above u.group chain) ≡ records

@@ -7,7 +7,7 @@ use Rattle.base.specs.disk.Disk.{Disk}
 use Rattle.base.specs.disk.Fairness.{LeavesFairNow}
 use Rattle.base.specs.formats.Uberblocks.{Uberblock}
 use Rattle.base.specs.formats.Records.{Record}
-use Rattle.base.specs.formats.Chain.{Header, LogBlock}
+use Rattle.base.specs.formats.Chain.{Header, LogPiece}
 use Rattle.base.specs.crash.Mount.{IsFound, header_of}
 use Rattle.base.specs.history.Past.{Past}
 use Rattle.base.specs.steps.Logs.{Log, KeptBlock, Committed, committed_of, header_at}
@@ -25,18 +25,18 @@ kept_from header log = filter (λ (b : KeptBlock). nat_le header.number b.number
 abbrev pub IsRecordOf : List Entry → Committed → Record → Type 0
 IsRecordOf entries c r = (committed_of r ≡ c) × ((e : Entry) × (slice_get entries c.ordinal ≡ Some e) × (e.group ≡ c.group) × (e.ops ≡ r.ops))
 
--- a log block of the image has what is noted of a kept one
-pub record IsBlockOf (entries : List Entry) (kept : KeptBlock) (block : LogBlock) : Type 0 where
+-- a log block of the image has what is noted of the records that end in a kept one
+pub record IsBlockOf (entries : List Entry) (kept : KeptBlock) (block : LogPiece) : Type 0 where
   pub address : block.address ≡ kept.address
-  pub noted : map committed_of block.records ≡ kept.committed
-  pub records : (i : ℕ) (c : Committed) (r : Record) → slice_get kept.committed i ≡ Some c → slice_get block.records i ≡ Some r → IsRecordOf entries c r
+  pub noted : map committed_of block.records ≡ kept.ends
+  pub records : (i : ℕ) (c : Committed) (r : Record) → slice_get kept.ends i ≡ Some c → slice_get block.records i ≡ Some r → IsRecordOf entries c r
 
 -- The image mounts the synced tree of this group, and of the kept log from this header on a front that has all that was
 -- flushed. A block whose write was refused is a kept one too: it may stand after a crash.
 pub record LiesAs (image : List ℕ) (s : Shown) (past : Past) (group : ℕ) (root : Pointer) (header : Header) : Type 0 where
   pub u : Uberblock
   pub synced : Contents
-  pub chain : List LogBlock
+  pub chain : List LogPiece
   pub found : IsFound image u synced chain
   pub guid : u.guid ≡ s.guid
   pub group_is : u.group ≡ group
@@ -45,7 +45,7 @@ pub record LiesAs (image : List ℕ) (s : Shown) (past : Past) (group : ℕ) (ro
   pub header_is : header_of u ≡ header
   pub replayed : replay (entries_up_to group past.entries) past.base ≡ Ok synced
   pub no_longer : length chain ≤ length (kept_from header s.log)
-  pub blocks : (i : ℕ) (k : KeptBlock) (b : LogBlock) → slice_get (kept_from header s.log) i ≡ Some k → slice_get chain i ≡ Some b → IsBlockOf past.entries k b
+  pub blocks : (i : ℕ) (k : KeptBlock) (b : LogPiece) → slice_get (kept_from header s.log) i ≡ Some k → slice_get chain i ≡ Some b → IsBlockOf past.entries k b
   pub flushed : (i : ℕ) (k : KeptBlock) → slice_get (kept_from header s.log) i ≡ Some k → k.flushed ≡ true → i < length chain
 
 -- as the synced group, or, while a sync runs, as its group

@@ -8,12 +8,12 @@ use Rattle.base.specs.tree.Places.{Place}
 use Rattle.base.specs.tree.PlannedTrees.{NewBlock}
 
 -- a device call: a write of these bytes at this place, or a flush
-pub data PoolCall : Type 0 where
-  Put : ℕ → List ℕ → PoolCall
-  Settle : PoolCall
+pub data DiskCall : Type 0 where
+  Put : ℕ → List ℕ → DiskCall
+  Settle : DiskCall
 
 -- what a call that was made leaves of the bytes
-abbrev pub bytes_made : PoolCall → List ℕ → List ℕ
+abbrev pub bytes_made : DiskCall → List ℕ → List ℕ
 bytes_made (Put place content) now = put place content now
 bytes_made Settle now = now
 
@@ -31,7 +31,7 @@ total_calls new = length new.blocks + 6
 
 -- The call of this number, of the sync of a group on a device of so many bytes: first each block is written, then there
 -- is a flush, then the uberblock is written into the labels 0 to 3, and last there is a flush.
-abbrev pub IsCallAt : ℕ → ℕ → NewTree → ℕ → PoolCall → Type 0
+abbrev pub IsCallAt : ℕ → ℕ → NewTree → ℕ → DiskCall → Type 0
 IsCallAt size group new number call =
     ((b : NewBlock) × (slice_get new.blocks number ≡ Some b) × (call ≡ Put b.address b.content))
     ⊎ ((label : ℕ) × (label < 4) × (number ≡ length new.blocks + 1 + label) × (call ≡ Put (slot_place size label (slot_of group)) new.slot))
@@ -40,4 +40,4 @@ IsCallAt size group new number call =
 -- the next call was made
 abbrev pub Advances : ℕ → List ℕ → List ℕ → NewTree → NewTree → Type 0
 Advances group now later old new =
-    (call : PoolCall) × IsCallAt (length now) group old old.done call × (later ≡ bytes_made call now) × (new ≡ record old { done = old.done + 1 })
+    (call : DiskCall) × IsCallAt (length now) group old old.done call × (later ≡ bytes_made call now) × (new ≡ record old { done = old.done + 1 })

@@ -14,7 +14,7 @@ use Rattle.base.specs.steps.Shown.{SyncPlan, dirty_total, available}
 use Rattle.base.specs.steps.Refusals.{lock_of, is_lock_in_use, is_plan_blocked, is_plan_covered, transaction_of, commit_refusal, quiescing_group, quiesced_group}
 use Rattle.base.specs.steps.Steps as steps
 use Rattle.base.specs.steps.Steps.{State, IsPlanned, TakesForLog}
-use Rattle.base.specs.steps.Stage.{is_plan_built}
+use Rattle.base.specs.steps.BuiltSteps.{is_plan_built}
 
 -- An effect: nothing, that the pool is suspended, or a change of the locks, the transactions, the line of groups, the
 -- running sync or the log.

@@ -14,7 +14,7 @@ use Rattle.base.specs.formats.Geometry.{IsBlockAddress}
 use Rattle.base.specs.tree.Places.{IsInTree}
 use Rattle.base.specs.formats.Records.{IsAllowed}
 use Rattle.base.specs.history.Past.{Past}
-use Rattle.base.specs.steps.Logs.{Log, KeptBlock, Committed, committed_of, committed_above, committed_in, committed_entries, pending_records, has_record, reaches_above}
+use Rattle.base.specs.steps.Logs.{Log, KeptBlock, Committed, AreWhole, committed_of, committed_above, committed_in, committed_entries, unsynced_records, pending_records, has_record, reaches_above}
 use Rattle.base.specs.steps.Shown.{Shown, SyncPlan, dirty_of, reserved_of, dirty_total, reserved_total, free_count, taken_of, is_durable}
 use Rattle.base.specs.steps.Refusals.{is_plan_covered}
 
@@ -56,18 +56,21 @@ pub record HasReservedBlocks (s : Shown) : Type 0 where
 pub record IsLogExact (s : Shown) (past : Past) : Type 0 where
   pub next : s.next_ordinal ≡ length past.entries
   pub allowed : (o : ℕ) (e : Entry) → slice_get past.entries o ≡ Some e → IsAllowed (record { group = e.group; ordinal = o; ops = e.ops })
+  pub unsynced : s.log.unsynced ≡ unsynced_records s.line.synced past.entries
   pub pending : s.log.pending ≡ pending_records s.line.synced s.log past.entries
   -- what is written and then what is pending of unsynced groups is in the order of the commits, each once and none left
   -- out
   pub in_order : committed_above s.line.synced (committed_in s.log) ++ map committed_of s.log.pending ≡ committed_above s.line.synced (committed_entries past.entries)
   pub known : (i : ℕ) (b : KeptBlock) (r : Committed) → slice_get s.log.kept i ≡ Some b → has_record b r ≡ true
       → (e : Entry) × (slice_get past.entries r.ordinal ≡ Some e) × (e.group ≡ r.group)
+  -- in this version a record begins and ends in one block
+  pub whole : AreWhole s.log.kept
   pub numbered : (i : ℕ) (b : KeptBlock) → slice_get s.log.kept i ≡ Some b → b.number + (length s.log.kept - i) ≡ s.log.next.number
   pub acknowledged : (o : ℕ) (e : Entry) → slice_get past.entries o ≡ Some e → is_in o past.acknowledged ≡ is_durable s o e.group
   pub no_others : (o : ℕ) → is_in o past.acknowledged ≡ true → o < length past.entries
 
--- a sync runs exactly while a group is syncing: it has steps left, and no log block before its header has a record
--- above its group
+-- a sync runs exactly while a group is syncing: it has steps left, and no record above its group begins in a log block
+-- before its header
 pub record IsSyncExact (s : Shown) : Type 0 where
   pub running : is_some s.sync ≡ is_some s.line.syncing
   pub steps : IfSome s.sync (λ plan. 0 < plan.steps_left)

@@ -11,7 +11,7 @@ use Rattle.base.specs.history.Past.{Past, new_past}
 use Rattle.base.specs.steps.Shown.{Shown, SyncPlan}
 use Rattle.base.specs.steps.Steps.{State, AreLengthsOf, IsReplayUpTo, LogWrite, LogFlush}
 use Rattle.base.specs.steps.Runs.{Step, Run}
-use Rattle.base.specs.steps.Stage.{AreBuilt}
+use Rattle.base.specs.steps.BuiltSteps.{AreBuilt}
 use Rattle.base.specs.steps.Exact.{IsExact, IsBounded}
 use Rattle.base.specs.crash.Imports.{IsImported}
 

@@ -1,5 +1,5 @@
 -- When each step is refused, and why first. Want of memory and what a device refuses come after these. The words with
--- whole_ are of the steps that Stage has less of.
+-- whole_ are of the steps that BuiltSteps has less of.
 use Rattle.std.specs.Prelude.{ℕ, ◌+◌, ◌==◌, ◌&&◌, ◌||◌, Bool, true, false, not, List, [], ◌∷◌, ◌++◌, map, length, nat_lt, nat_le, Option, Some, None, is_some, is_none, option_map, find, Result, Ok, Err, if◌then◌else◌}
 use Rattle.std.specs.List.{list_any, list_all}
 use Rattle.std.specs.Option.{option_map_or}

@@ -9,7 +9,7 @@ use Rattle.base.specs.steps.Shown.{Shown}
 use Rattle.base.specs.steps.Refusals as refusal
 use Rattle.base.specs.steps.Refusals.{Test, first_refusal, object_range}
 use Rattle.base.specs.steps.Steps as steps
-use Rattle.base.specs.steps.Stage as stage
+use Rattle.base.specs.steps.BuiltSteps as as_built
 use Rattle.base.specs.steps.Steps.{State, SyncProgress}
 use Rattle.base.specs.steps.Steps.SyncProgress.{More, Synced}
 
@@ -41,18 +41,18 @@ Step keeps now (step.Unlock owner id) given old new =
     Replies (λ _. reply.Done) given (λ answer. steps.Unlock owner.0 id.0 answer old new)
 Step keeps now (step.Begin owner plan) given old new =
     Replies (λ (a : ℕ × ℕ). reply.Began (record { 0 = a.0 }) (record { 0 = a.1 })) given
-    (λ answer. stage.Begin owner.0 plan answer old new)
+    (λ answer. as_built.Begin owner.0 plan answer old new)
 Step keeps now (step.Commit tx ops) given old new =
     Replies receipt_reply given (λ answer. steps.Commit tx.0 ops answer old new)
 Step keeps now (step.Abort tx) given old new =
     Replies (λ _. reply.Done) given (λ answer. steps.Abort tx.0 answer old new)
 Step keeps now (step.Read owner n range) given old new =
     Replies (λ bytes. reply.Bytes bytes) given
-    (λ answer. stage.Read owner.0 (object_range n.0 range.low range.high) answer old new)
+    (λ answer. as_built.Read owner.0 (object_range n.0 range.low range.high) answer old new)
 Step keeps now (step.Length n) given old new =
     Replies (λ length. reply.Length length) given (λ answer. steps.Length n.0 answer old new)
 Step keeps now step.Digest given old new =
-    Replies (λ digest. reply.Digest digest) given (λ answer. stage.DigestInMemory answer old new)
+    Replies (λ digest. reply.Digest digest) given (λ answer. as_built.DigestInMemory answer old new)
 Step keeps now step.Name given old new =
     Replies (λ name. reply.Name name) given (λ answer. steps.Answers None answer old new (λ name. steps.Name name old new) steps.Never)
 Step keeps now step.Status given old new =
@@ -65,16 +65,19 @@ Step keeps now step.MarkQuiesced given old new =
     (λ answer. steps.MarkQuiesced answer old new)
 Step keeps now (step.StartSync moment) given old new =
     Replies (λ group. reply.Syncing (record { 0 = group })) given
-    (λ answer. stage.StartSync keeps now moment answer old new)
+    (λ answer. as_built.StartSync keeps now moment answer old new)
 Step keeps now step.SyncStep given old new =
     Replies progress_reply given (λ answer. steps.SyncStep answer old new)
+Step keeps now (step.Durable receipt) given old new =
+    Replies (λ durable. reply.Durable durable) given
+    (λ answer. steps.Answers None answer old new (λ durable. steps.Durable receipt.ordinal.0 receipt.group.0 durable old new) steps.Never)
 
 -- the tests of each step, in order
 abbrev pub tests_of_step : declared_step.Step → Shown → List Test
 tests_of_step (step.Lock owner n range mode) s = refusal.lock_tests owner.0 (object_range n.0 range.low range.high) mode s
 tests_of_step (step.LockAppend owner n) s = refusal.append_tests owner.0 n.0 s
 tests_of_step (step.Unlock owner id) s = refusal.unlock_tests owner.0 id.0 s
-tests_of_step (step.Begin owner plan) s = stage.begin_tests owner.0 plan s
+tests_of_step (step.Begin owner plan) s = as_built.begin_tests owner.0 plan s
 tests_of_step (step.Commit tx ops) s = refusal.commit_tests tx.0 ops s
 tests_of_step (step.Abort tx) s = refusal.abort_tests tx.0 s
 tests_of_step (step.Read owner n range) s = refusal.read_tests owner.0 (object_range n.0 range.low range.high) s
@@ -86,6 +89,7 @@ tests_of_step step.CloseGroup s = refusal.close_tests s
 tests_of_step step.MarkQuiesced s = refusal.quiesce_tests s
 tests_of_step (step.StartSync moment) s = refusal.start_tests s
 tests_of_step step.SyncStep s = refusal.sync_step_tests s
+tests_of_step (step.Durable receipt) s = []
 
 -- why it is refused first, if its tests refuse it
 abbrev pub refusal_of_step : declared_step.Step → Shown → Option PoolError

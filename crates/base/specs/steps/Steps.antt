@@ -1,5 +1,5 @@
 -- What each step answers, and what it makes of a pool and of the past of its run. The words with Whole are the steps
--- that Stage has less of.
+-- that BuiltSteps has less of.
 use Rattle.std.specs.Prelude.{ℕ, ◌≡◌, ◌≤◌, ◌<◌, ◌-◌, ◌+◌, ◌==◌, ◌⊎◌, ◌++◌, Bool, true, false, not, List, [], ◌∷◌, map, filter, length, take, Option, Some, None, Result, Ok, Err, IfSome}
 use Rattle.std.specs.List.{flat_map, list_all}
 use Rattle.std.specs.FinMap as finite
@@ -23,7 +23,7 @@ use Rattle.base.specs.tree.Places.{has_block}
 use Rattle.base.specs.tree.Syncs as syncs
 use Rattle.base.specs.formats.Records.{Record, is_content_allowed}
 use Rattle.base.specs.history.Past.{Past, ordinals_of}
-use Rattle.base.specs.steps.Logs.{Log, KeptBlock, Committed, IsPacked, header_for, log_after_write, log_after_flush, log_after_sync, blocks_before}
+use Rattle.base.specs.steps.Logs.{Log, KeptBlock, Committed, IsPacked, header_for, log_after_commit, log_after_write, log_after_flush, log_after_sync, blocks_before}
 use Rattle.base.specs.formats.Digest.{digest_of}
 use Rattle.base.specs.steps.Shown.{Shown, SyncPlan, dirty_of, reserved_of, status_of, is_durable}
 use Rattle.base.specs.common.Rising.{rising}
@@ -119,7 +119,7 @@ state_after_commit tx group ops contents s = record {
     transactions = transactions_without tx s.shown.transactions;
     contents = contents;
     next_ordinal = s.shown.next_ordinal + 1;
-    log = record s.shown.log { pending = s.shown.log.pending ++ record { group = group; ordinal = s.shown.next_ordinal; ops = ops } ∷ [] };
+    log = log_after_commit (record { group = group; ordinal = s.shown.next_ordinal; ops = ops }) s.shown.log;
   };
   past = record s.past { entries = s.past.entries ++ record { group = group; tx = tx; ops = ops } ∷ [] };
 }
@@ -281,7 +281,7 @@ state_after_log_write taken rest address s = record s {
 -- what a log write takes from the front of the pending records, and the address that it takes for the block after its
 -- own
 pub record TakesForLog (s : State) (taken rest : List Record) (address : ℕ) : Type 0 where
-  pub packed : IsPacked s.shown.log.pending taken rest
+  pub packed : IsPacked 0 s.shown.log.pending taken rest
   pub next : lowest_free 1 s.shown ≡ address ∷ []
 
 -- a write that the device refused has taken the address too: its block is kept, and no flush follows
@@ -294,7 +294,7 @@ LogWrite answer old new = Answers (refusal.log_write_refusal old.shown) answer o
 
 -- the ordinals of the records of a log that await a flush
 abbrev pub ordinals_awaiting : Log → List ℕ
-ordinals_awaiting log = flat_map (λ (b : KeptBlock). map (λ (r : Committed). r.ordinal) b.committed) (filter (λ (b : KeptBlock). not b.flushed) log.kept)
+ordinals_awaiting log = flat_map (λ (b : KeptBlock). map (λ (r : Committed). r.ordinal) b.ends) (filter (λ (b : KeptBlock). not b.flushed) log.kept)
 
 abbrev pub state_after_log_flush : State → State
 state_after_log_flush s = record {

@@ -5,7 +5,7 @@ use Rattle.base.specs.declared.step.Step as declared_step
 use Rattle.base.specs.declared.step.Step.TheVariants as step
 use Rattle.base.specs.declared.step.Reply.{Reply}
 use Rattle.base.specs.declared.step.Reply.TheVariants as reply
-use Rattle.base.specs.steps.Shown.{Shown, SyncPlan, status_of}
+use Rattle.base.specs.steps.Shown.{Shown, SyncPlan, is_durable, status_of}
 use Rattle.base.specs.steps.Steps.{State}
 use Rattle.base.specs.steps.ExactNow.{IsRun, GoesOn}
 
@@ -37,14 +37,14 @@ SyncsEndOnTime = (s new : State) (group : ℕ) (plan : SyncPlan) (replies : List
 abbrev pub SuspendedPoolsStay : Type 0
 SuspendedPoolsStay = (s new : State) → s.shown.suspended ≡ true → GoesOn s new → new ≡ s
 
--- what it replies: its name, its status, and to each other step that it is suspended
+-- what it replies: its name, its status, whether a receipt is durable, and to each other step that it is suspended
 abbrev pub suspended_reply : Shown → declared_step.Step → Reply
 suspended_reply s step.Name = reply.Name s.contents.name
 suspended_reply s step.Status = reply.Status (status_of s)
+suspended_reply s (step.Durable receipt) = reply.Durable (is_durable s receipt.ordinal.0 receipt.group.0)
 suspended_reply s _ = reply.Refused error.Suspended
 
--- It refuses each step that is built but those of its name and its status. The third that only tells something of the
--- pool, whether a receipt is durable, is not among them yet.
+-- it refuses each step but the three that only tell something of the pool
 abbrev pub SuspendedPoolsRefuse : Type 0
 SuspendedPoolsRefuse = (steps : List declared_step.Step) (replies : List Reply) (s new : State) → s.shown.suspended ≡ true → IsRun ⊥ steps replies s new
     → replies ≡ map (suspended_reply s.shown) steps

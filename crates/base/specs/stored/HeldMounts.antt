@@ -3,7 +3,7 @@ use Rattle.std.specs.Prelude.{ℕ, ◌≡◌, ◌⊎◌, List, [], None, Some, O
 use Rattle.base.specs.history.Contents.{Contents}
 use Rattle.base.specs.history.History.{replay, entries_up_to}
 use Rattle.base.specs.formats.Uberblocks.{Uberblock}
-use Rattle.base.specs.formats.Chain.{LogBlock}
+use Rattle.base.specs.formats.Chain.{LogPiece}
 use Rattle.base.specs.crash.Mount.{Mounts}
 use Rattle.base.specs.history.Past.{Past}
 use Rattle.base.specs.steps.Shown.{Shown}
@@ -13,7 +13,7 @@ use Rattle.base.specs.stored.Stored.{Held, IsHeld, Moves}
 
 -- an image mounts one thing at most
 abbrev pub MountsAgree : Type 0
-MountsAgree = (image : List ℕ) (u v : Uberblock) (chain other : List LogBlock) (contents others : Contents) → Mounts image u chain contents → Mounts image v other others
+MountsAgree = (image : List ℕ) (u v : Uberblock) (chain other : List LogPiece) (contents others : Contents) → Mounts image u chain contents → Mounts image v other others
     → (u ≡ v) × (chain ≡ other) × (contents ≡ others)
 
 -- the bytes mount, without a log, what the entries up to a group leave, by an uberblock of this group and of the pool

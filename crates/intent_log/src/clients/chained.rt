@@ -2,7 +2,7 @@
 
 ghost use Rattle.std.specs.Prelude.{◌≡◌, ◌≤◌, ◌<◌, ◌^◌, ◌⊎◌, [], All, IfErr, IfOk, IfSome, IsTrue, length, map};
 ghost use Rattle.base.specs.disk.Disk.{bytes_of};
-ghost use Rattle.base.specs.formats.Chain.{LogBlock};
+ghost use Rattle.base.specs.formats.Chain.{LogPiece};
 ghost use Rattle.base.specs.formats.Geometry.{IsBlockAddress, block_address};
 ghost use Rattle.base.specs.formats.Records.{IsAllowed};
 ghost use Rattle.transactions.specs.Records.{record_fields};
@@ -44,7 +44,7 @@ fn a_log_block_that_stands_is_read<D: SectorDevice>(
 ) -> Result<Vec<LoggedBlock>, PoolError>
     requires fits { block_address frame.now.blocks ≤ D.size device.old }
     requires number { header.now.number ≤ 2 ^ 60 }
-    ensures { IsTrue D.keeps_model → (block : LogBlock)
+    ensures { IsTrue D.keeps_model → (block : LogPiece)
         → IsChainBlock (bytes_of (D.disk device.old).now) frame.now header.now block
         → IfOk result (λ blocks. 0 < length blocks.items) }
 {

@@ -1,7 +1,7 @@
 //! What callers rest on of the kept blocks of a log.
 
 ghost use Rattle.std.specs.Prelude.{ℕ, ◌≡◌, ◌∷◌, [], IsOk, false, true};
-ghost use Rattle.base.specs.steps.Logs.{log_after_sync};
+ghost use Rattle.base.specs.steps.Logs.{log_after_sync, whole_block};
 ghost use Rattle.intent_log.specs.Kept.{HasRoom, header_fields, log_shown};
 
 use crate::kept::Log;
@@ -68,8 +68,8 @@ fn a_record_is_durable_once_its_block_is_flushed(log: &mut Log, receipts: Vec<Re
 // Not only the last one.
 fn a_flush_makes_each_block_certain(log: &mut Log)
     requires { log.old.kept
-        ≡ record { address = 4194304; number = 0; committed = record { ordinal = 0; group = 5 } ∷ []; flushed = false }
-        ∷ record { address = 4198400; number = 1; committed = record { ordinal = 1; group = 6 } ∷ []; flushed = false }
+        ≡ whole_block (record { address = 4194304; number = 0 }) (record { ordinal = 0; group = 5 } ∷ []) false
+        ∷ whole_block (record { address = 4198400; number = 1 }) (record { ordinal = 1; group = 6 } ∷ []) false
         ∷ [] }
 {
     let first = Receipt {
@@ -89,8 +89,8 @@ fn a_flush_makes_each_block_certain(log: &mut Log)
 // The header of a sync is the first block with a record above its group, and the blocks before it come back.
 fn a_sync_keeps_the_blocks_above_its_group(log: &mut Log)
     requires kept { log.old.kept
-        ≡ record { address = 4194304; number = 0; committed = record { ordinal = 0; group = 5 } ∷ []; flushed = true }
-        ∷ record { address = 4198400; number = 1; committed = record { ordinal = 1; group = 6 } ∷ []; flushed = false }
+        ≡ whole_block (record { address = 4194304; number = 0 }) (record { ordinal = 0; group = 5 } ∷ []) true
+        ∷ whole_block (record { address = 4198400; number = 1 }) (record { ordinal = 1; group = 6 } ∷ []) false
         ∷ [] }
     requires next { log.old.next ≡ record { address = 4202496; number = 2 } }
 {

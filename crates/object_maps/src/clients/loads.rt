@@ -1,4 +1,4 @@
-//! What callers rest on of loads: no tree with a fault is loaded, and what is loaded is what the image has.
+//! What callers rest on of loads: no tree with a damage is loaded, and what is loaded is what the image has.
 
 ghost use Rattle.std.specs.Prelude.{◌≡◌, ◌≢◌, ◌<◌, ◌≤◌, ◌⊎◌, IfErr, IfOk, IfSome, IsTrue, None, Some, replicate};
 ghost use Rattle.std.specs.FinMap as finite;
@@ -7,7 +7,7 @@ ghost use Rattle.base.specs.disk.Disk.{bytes_of};
 ghost use Rattle.base.specs.formats.Blocks.{payload_at};
 ghost use Rattle.base.specs.formats.Fields.{entry_in, entry_length, entry_present, no_pointer};
 ghost use Rattle.base.specs.formats.Geometry.{block_address};
-ghost use Rattle.base.specs.tree.Faults.{IsSoundAt};
+ghost use Rattle.base.specs.tree.Damages.{IsSoundAt};
 ghost use Rattle.base.specs.tree.PlacedTrees.{padded_record};
 ghost use Rattle.base.specs.tree.Places.{directory_pointer, pointer_of};
 ghost use Rattle.base.specs.tree.Places.Place.{Data, Directory};
@@ -52,7 +52,7 @@ fn a_damaged_directory_is_not_loaded<D: SectorDevice>(
 ) -> PoolError
     requires fits { block_address frame.now.blocks ≤ D.size device.old }
     requires keeps { IsTrue D.keeps_model }
-    requires faulty { IsSoundAt (bytes_of (D.disk device.old).now) frame.now root (Directory 5)
+    requires damaged { IsSoundAt (bytes_of (D.disk device.old).now) frame.now root (Directory 5)
         → ⊥ }
     ensures { IsLoadRefusal result }
 {
@@ -71,7 +71,7 @@ fn a_damaged_directory_is_not_surveyed<D: SectorDevice>(
 ) -> PoolError
     requires fits { block_address frame.now.blocks ≤ D.size device.old }
     requires keeps { IsTrue D.keeps_model }
-    requires faulty { IsSoundAt (bytes_of (D.disk device.old).now) frame.now root (Directory 5)
+    requires damaged { IsSoundAt (bytes_of (D.disk device.old).now) frame.now root (Directory 5)
         → ⊥ }
     ensures { IsLoadRefusal result }
 {

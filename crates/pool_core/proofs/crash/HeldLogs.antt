@@ -11,7 +11,7 @@ use Rattle.base.specs.disk.Disk.{Moment, Write, handed}
 use Rattle.base.specs.disk.Fairness.{HandsOnly}
 use Rattle.base.specs.disk.SyncOrder.{DeviceCall}
 use Rattle.base.specs.disk.SyncOrder.DeviceCall.{Block, Config, Flush, Uberblock}
-use Rattle.base.specs.formats.Chain.{Header, LogBlock}
+use Rattle.base.specs.formats.Chain.{Header, LogPiece}
 use Rattle.base.specs.formats.Fields.{number_at}
 use Rattle.base.specs.formats.Geometry.{block_address, block_size}
 use Rattle.base.specs.formats.Uberblocks.{slot_size}
@@ -61,7 +61,7 @@ held_as size t other flushed all refused now_refused m v empty same held =
 -- A sync without label stages.
 module _ (base : List ℕ) (run : SyncRun) (views : SyncViews) (leads : LeadsViews base run views) (plain : run.stages ≡ None) where
   -- it writes blocks of a tree and an uberblock
-  not_logged : (guid chain number : ℕ) (block : LogBlock) (call : DeviceCall) (t : Target) → target_of run call ≡ Some t → IsLogContent t.content guid chain number block → ⊥
+  not_logged : (guid chain number : ℕ) (block : LogPiece) (call : DeviceCall) (t : Target) → target_of run call ≡ Some t → IsLogContent t.content guid chain number block → ⊥
   not_logged guid chain number block (Block k) t is log =
       let b = mapped block_target (slice_get run.blocks.items k) t is in
       let spare : IsSpareBlock views b.0 = All-at (IsSpareBlock views) run.blocks.items k b.0 leads.blocks b.1 in

@@ -8,7 +8,7 @@ use Rattle.base.specs.crash.LogRule.{IsLogHeld}
 use Rattle.base.specs.crash.Own.{IsAtRest, IsPhase}
 use Rattle.base.specs.crash.PoolViews.{IsPoolDisk, IsSyncConfig, IsViewOf}
 use Rattle.base.specs.crash.Views.{AreConfigsUpTo}
-use Rattle.base.specs.disk.Disk.{Disk, EachMoment, Moment, bytes_of, disk_size, handed, moments}
+use Rattle.base.specs.disk.Disk.{Disk, EachMoment, Moment, disk_size, handed, moments}
 use Rattle.base.specs.disk.Fairness.{HandsOnly, HasFairBytes}
 use Rattle.base.specs.formats.Geometry.{block_count, config_place}
 use Rattle.base.specs.history.Past.{Past}
@@ -20,10 +20,10 @@ use Rattle.base.specs.steps.Steps.{State}
 use Rattle.base.proofs.crash.OwnDisks.{configs_weaker}
 use Rattle.base.proofs.disk.Moments.{both, latest, weaker}
 use Rattle.sync.specs.declared.run.SyncRun.{SyncRun}
-use Rattle.sync.specs.Phases.{HasPhaseOf, HasPhasesSince, IsSyncPhase, IsWrittenNext}
+use Rattle.sync.specs.Phases.{IsSyncPhase, IsUnderWay, IsWrittenNext}
 use Rattle.sync.specs.Runs.{call_count}
 use Rattle.sync.proofs.ConfigWrites.{configs_staged}
-use Rattle.sync.proofs.PhasesSince.{ends_at_rest, keeps_phases}
+use Rattle.sync.proofs.UnderWay.{ends_at_rest, keeps_phases}
 use Rattle.pool_tables.specs.SyncPhases.{TriesNext}
 use Rattle.pool_core.specs.KeptSafe.{IsSyncOnDisk, LeavesOwn}
 use Rattle.pool_core.proofs.crash.HeldLogs.{held_as, held_call, none_logged}
@@ -38,11 +38,8 @@ module _ (run next : SyncRun) (before after : Disk) (s : Shown) (p : Past) (bega
   bytes_now : HasFairBytes run.geometry p.created after.now
   bytes_now = latest (HasFairBytes run.geometry p.created) before after bytes_each
 
-  call : EachMoment (IsSyncPhase run x.views) before after × HasPhaseOf next x.views after.now
-  call = tries.phases.phases (bytes_of x.start.now) x.views x.since.leads x.since.made x.since.phase
-
-  since : HasPhasesSince x.start x.views next after
-  since = keeps_phases x.start before after x.views run next tries.same tries.written tries.phases x.since
+  call : EachMoment (IsSyncPhase run x.views) before after × IsUnderWay x.base x.views next after.now
+  call = keeps_phases x.base before after x.views run next tries.same tries.written tries.phases x.way
 
   -- what counts is what counted, and the call's own write
   abbrev Hands : Moment → Type 0
@@ -76,10 +73,10 @@ module _ (run next : SyncRun) (before after : Disk) (s : Shown) (p : Past) (bega
     new_empty = none_logged x.views.new_flushed x.views.new s p x.group x.plan.root x.plan.header none x.new_is
 
     old_held : (m : Moment) → Hands m → IsLogHeld run.geometry p.created x.views.flushed s.suspended m x.views.old
-    old_held m hands = held_call (bytes_of x.start.now) run x.views x.since.leads x.no_stages run.geometry p.created x.views.flushed s.suspended before.now m x.views.old old_empty hands x.old_held
+    old_held m hands = held_call x.base run x.views x.way.leads x.no_stages run.geometry p.created x.views.flushed s.suspended before.now m x.views.old old_empty hands x.old_held
 
     new_held : (m : Moment) → Hands m → IsLogHeld run.geometry p.created x.views.new_flushed s.suspended m x.views.new
-    new_held m hands = held_call (bytes_of x.start.now) run x.views x.since.leads x.no_stages run.geometry p.created x.views.new_flushed s.suspended before.now m x.views.new new_empty hands x.new_held
+    new_held m hands = held_call x.base run x.views x.way.leads x.no_stages run.geometry p.created x.views.new_flushed s.suspended before.now m x.views.new new_empty hands x.new_held
 
     abbrev views_at : (m : Moment) → Hands m → HasSyncViews run.geometry m s p
     views_at m hands = sync_views x m (old_held m hands) (new_held m hands)
@@ -118,10 +115,10 @@ module _ (run next : SyncRun) (before after : Disk) (s : Shown) (p : Past) (bega
         plan = later.0;
         syncing = same.line ∙ x.syncing;
         running = later.1;
-        start = x.start;
+        base = x.base;
         views = x.views;
         created = x.created ∙ sym same.synced.created;
-        since = since;
+        way = call.1;
         old_is = synced_view s t p q none still x.views.flushed x.views.old same.synced x.old_is;
         new_is = syncing_view s t p q none still x.views.new_flushed x.views.new x.group x.plan later.0 same x.syncing later.2 later.3 x.new_is;
         old_held = subst (λ (n : ℕ). IsLogHeld n q.created x.views.flushed t.suspended after.now x.views.old) (sym tries.same.geometry)
@@ -144,7 +141,7 @@ module _ (run next : SyncRun) (before after : Disk) (s : Shown) (p : Past) (bega
 
     at_rest : IsAtRest run.geometry p.created x.views.new_flushed after.now x.views.new
     at_rest = subst (λ (n : ℕ). IsAtRest n p.created x.views.new_flushed after.now x.views.new) tries.same.geometry
-        (subst (λ (c : ℕ). IsAtRest next.geometry c x.views.new_flushed after.now x.views.new) x.created (ends_at_rest x.start after x.views next all since).rest.rest)
+        (subst (λ (c : ℕ). IsAtRest next.geometry c x.views.new_flushed after.now x.views.new) x.created (ends_at_rest x.base after.now x.views next all call.1).rest.rest)
 
     last_view : IsViewOf x.views.new_flushed x.views.new then.shown then.past then.shown.line.synced then.shown.root (header_now then.shown.log)
     last_view = view_as x.views.new_flushed x.views.new s then.shown p then.past x.group x.group x.plan.root x.plan.root x.plan.header (header_now then.shown.log) none still refl refl refl refl refl

@@ -19,9 +19,9 @@ use Rattle.base.proofs.crash.LaidOutMounts.{laid_out_safe}
 use Rattle.base.proofs.crash.OwnDisks.{run_own}
 use Rattle.base.proofs.crash.PoolSpares.{each_has_room}
 use Rattle.base.proofs.crash.PoolViews.{OfEachView, pool_laid_out}
-use Rattle.base.proofs.disk.Moments.{latest, starts}
+use Rattle.base.proofs.disk.Moments.{starts}
 use Rattle.sync.specs.declared.run.SyncRun.{SyncRun}
-use Rattle.sync.specs.Phases.{IsSyncPhase}
+use Rattle.sync.proofs.UnderWay.{in_phase}
 use Rattle.pool_core.specs.KeptSafe.{IsDiskKept, IsKeptSafe, IsSyncOnDisk, LeavesOwn, OnDisk}
 use Rattle.pool_core.proofs.crash.OwnMoments.{HasSyncViews, moment_laid, moment_left, sync_views, were_left}
 
@@ -49,7 +49,7 @@ module _ (run : SyncRun) (disk : Disk) (s : Shown) (past : Past) (x : IsSyncOnDi
   views = sync_views x disk.now x.old_held x.new_held
 
   phase : IsPhase run.geometry past.created x.views.flushed x.views.new_flushed disk.now x.views.old x.views.new
-  phase = subst (λ (t : ℕ). IsPhase run.geometry t x.views.flushed x.views.new_flushed disk.now x.views.old x.views.new) x.created (latest (IsSyncPhase run x.views) x.start disk x.since.each)
+  phase = subst (λ (t : ℕ). IsPhase run.geometry t x.views.flushed x.views.new_flushed disk.now x.views.old x.views.new) x.created (in_phase x.base disk.now x.views run x.way)
 
   pub sync_laid : IsPoolDisk (disk_size disk) disk.now s past
   sync_laid = subst (λ (n : ℕ). IsPoolDisk n disk.now s past) (sym x.bytes.size_is) (moment_laid run.geometry disk.now s past views phase x.bytes x.configs)

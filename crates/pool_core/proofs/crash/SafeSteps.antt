@@ -28,8 +28,8 @@ use Rattle.base.specs.steps.ExactNow.{IsExplainedNow}
 use Rattle.base.specs.steps.Refusals as refusal
 use Rattle.base.specs.steps.Runs.{reply_of, progress_reply}
 use Rattle.base.specs.steps.Shown.{Shown, SyncPlan}
-use Rattle.base.specs.steps.Stage as stage
-use Rattle.base.specs.steps.Stage.{is_shape_built}
+use Rattle.base.specs.steps.BuiltSteps as as_built
+use Rattle.base.specs.steps.BuiltSteps.{is_shape_built}
 use Rattle.base.specs.steps.Steps as steps
 use Rattle.base.specs.steps.Steps.{State, SyncProgress, ops_of_group}
 use Rattle.base.specs.steps.Steps.SyncProgress.{More, Synced}
@@ -125,10 +125,10 @@ module _ (s t : Shown) (p q : Past) (none : s.log.kept ≡ []) (explained : IsEx
         plan = later.0;
         syncing = same.line ∙ x.syncing;
         running = later.1;
-        start = x.start;
+        base = x.base;
         views = x.views;
         created = x.created ∙ sym of_synced.created;
-        since = x.since;
+        way = x.way;
         old_is = synced_view s t p q none still x.views.flushed x.views.old of_synced x.old_is;
         new_is = syncing_view s t p q none still x.views.new_flushed x.views.new x.group x.plan later.0 same x.syncing later.2 later.3 x.new_is;
         old_held = held_stays run.geometry x.views.flushed disk.now x.views.old (none_logged x.views.flushed x.views.old s p s.line.synced s.root (header_now s.log) none x.old_is) x.old_held;
@@ -152,7 +152,7 @@ header_of_sync (Some new) now s pointers p plan empty y is =
 
 -- what the start of a sync is, and its end
 start_of : (now : List ℕ) (moment : ℕ) (group : Group) (answer : Result ℕ PoolError) (old new : State) → reply.Syncing group ≡ reply_of (λ (g : ℕ). reply.Syncing (record { 0 = g })) answer
-    → stage.StartSync (Unit {0}) now moment answer old new → (old.shown.line.syncing ≡ None) × ((g : ℕ) × (plan : SyncPlan) × (new ≡ steps.state_after_start g plan old))
+    → as_built.StartSync (Unit {0}) now moment answer old new → (old.shown.line.syncing ≡ None) × ((g : ℕ) × (plan : SyncPlan) × (new ≡ steps.state_after_start g plan old))
 start_of now moment group (Ok g) old new is h =
     let d = ok-none (refusal.start_refusal old.shown) g old new _ _ h in
     (none_syncs old.shown d.0, (g, d.1.0, d.1.4))

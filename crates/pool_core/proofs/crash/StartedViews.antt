@@ -34,7 +34,7 @@ use Rattle.base.specs.tree.PlacedTrees.{HoldsTree}
 use Rattle.base.specs.tree.Places.{IsInTree, IsPlace, Place, kind_of}
 use Rattle.base.specs.tree.Places.Place.{Data, Directory, Indirect, Root}
 use Rattle.base.specs.tree.PlannedTrees.{NewBlock}
-use Rattle.base.proofs.common.KeptLists.{All-each}
+use Rattle.base.proofs.common.KeptLists.{All-each, none_at}
 use Rattle.base.proofs.crash.LogStarts.{below_of_group}
 use Rattle.base.proofs.crash.NewViews.{configs_of_old, logs_of_group}
 use Rattle.base.proofs.crash.OwnDisks.{none_from}
@@ -54,7 +54,7 @@ use Rattle.sync.specs.declared.run.SyncRun.{SyncRun}
 use Rattle.sync.specs.Made.{BlocksWritten, HasDistinctBlocks}
 use Rattle.sync.specs.Phases.{HasConfigOf, IsBefore, IsSpareBlock, LeadsViews, SyncViews}
 use Rattle.sync.specs.Runs.{call_count}
-use Rattle.sync.proofs.PhasesSince.{begins_at_rest}
+use Rattle.sync.proofs.UnderWay.{begins_at_rest}
 use Rattle.tree_plans.specs.declared.planner.PlannedBlock.{PlannedBlock}
 use Rattle.tree_plans.specs.Plans.{new_block}
 use Rattle.pool_tables.specs.Told.{made_by}
@@ -257,7 +257,7 @@ module _ (disk : Disk) (s : Shown) (p : Past) (pointers tree : Place → Pointer
         not_log = y.not_log i (new_block b) stands;
         not_in_tree = not_in_tree now s p pointers (made_by tree run) x y explained geometry (view_frame run.geometry old) old.pointers old.synced rest.laid.firm.tree.holds
             (rest.laid.view.root ∙ is.root_is) i (new_block b) stands;
-        not_logged = λ j l below there. absurd (let no_way : None ≡ Some l = ap (λ (ls : List Logged). slice_get ls j) (sym no_logged) ∙ there in cc);
+        not_logged = λ j l there. absurd (let no_way : None ≡ Some l = ap (λ (ls : List Logged). slice_get ls j) (sym no_logged) ∙ there in cc);
       })
 
   makes_tree : (image : List ℕ) → length image ≡ length now → BlocksWritten now run.geometry run.blocks.items (vec_len run.blocks) image
@@ -273,6 +273,7 @@ module _ (disk : Disk) (s : Shown) (p : Past) (pointers tree : Place → Pointer
 
   leads : LeadsViews now run views
   leads = record {
+    old_view = rest.laid.view;
     view = is_view;
     above = above;
     slot = slot;
@@ -281,7 +282,7 @@ module _ (disk : Disk) (s : Shown) (p : Past) (pointers tree : Place → Pointer
     config = subst (λ (o : Option LabelStages). HasConfigOf o views) (sym stages) refl;
     blocks = spare;
     tree = makes_tree;
-    log = (omega arith, λ i l below at. absurd (omega (arith, below)));
+    log = (omega arith, λ i l at. absurd (none_at i l at));
   }
 
   distinct : HasDistinctBlocks run
@@ -338,10 +339,10 @@ module _ (disk : Disk) (s : Shown) (p : Past) (pointers tree : Place → Pointer
     plan = y.plan;
     syncing = y.syncing;
     running = y.running;
-    start = disk;
+    base = now;
     views = views;
     created = refl;
-    since = begins_at_rest disk views run begun distinct leads before;
+    way = begins_at_rest disk.now views run begun distinct leads before bytes;
     old_is = is;
     new_is = new_is;
     old_held = held;

@@ -1,6 +1,6 @@
 -- What a sync is planned to write: its group's changes over the synced contents are what the entries up to the group
 -- leave.
-use Rattle.std.proofs.Common.{◌≡◌, ℕ, ◌+◌, ◌<◌, true, List, [], map, sym, subst, ◌∙◌, arith}
+use Rattle.std.proofs.Common.{◌≡◌, ℕ, ◌+◌, ◌<◌, true, List, map, sym, subst, ◌∙◌, arith}
 use Rattle.std.specs.Prelude.{Some, None, Ok}
 use Rattle.base.specs.declared.operation.Op.{Op}
 use Rattle.base.specs.history.Contents.{Contents}
@@ -17,28 +17,28 @@ use Rattle.base.proofs.steps.WaitingGroups.{group-follows, next-group}
 use Rattle.extents.specs.Patches.{ArePatchesOf, Patches, laid_over}
 use Rattle.extents.specs.Synced.{patched_contents}
 use Rattle.extents.proofs.LaidObjects.{group_is_read}
-use Rattle.tree_plans.specs.declared.planner.Committed.{Committed}
+use Rattle.transactions.specs.declared.record.Record.{Record}
 use Rattle.tree_plans.specs.Marks.{pending_ops}
-use Rattle.pool_tables.specs.Shows.{record_of as shown_record}
-use Rattle.pool_tables.proofs.PendingOps.{flat_replay, pending_are}
+use Rattle.transactions.specs.Records.{record_fields}
+use Rattle.pool_tables.proofs.PendingOps.{flat_replay, unsynced_are}
 
--- the pending operations of a group lead from the synced contents to these, within the limits, and the entries up to
+-- the unsynced operations of a group lead from the synced contents to these, within the limits, and the entries up to
 -- the group leave them
-pub record LeadsTo (s : Shown) (p : Past) (group : ℕ) (pending : List Committed) (after : Contents) : Type 0 where
-  pub leads : apply_all (pending_ops group pending) s.synced_contents ≡ Ok after
+pub record LeadsTo (s : Shown) (p : Past) (group : ℕ) (unsynced : List Record) (after : Contents) : Type 0 where
+  pub leads : apply_all (pending_ops group unsynced) s.synced_contents ≡ Ok after
   pub replayed : IsReplayUpTo group p after
   pub bounded : IsBounded after
 
--- a group that waits for its sync, where no log block is kept
-module _ (s : Shown) (p : Past) (explained : IsExplainedNow s p) (group : ℕ) (idle : s.line.syncing ≡ None) (middle : s.line.middle ≡ Some (record { group = group; quiesced = true })) (no_log : s.log.kept ≡ [])
-    (pending : List Committed) (log : s.log.pending ≡ map shown_record pending) where
+-- a group that waits for its sync
+module _ (s : Shown) (p : Past) (explained : IsExplainedNow s p) (group : ℕ) (idle : s.line.syncing ≡ None) (middle : s.line.middle ≡ Some (record { group = group; quiesced = true }))
+    (unsynced : List Record) (log : s.log.unsynced ≡ map record_fields unsynced) where
   pub next_above : s.line.synced < group
   next_above = let next : group ≡ s.line.synced + 1 = next-group s p explained group idle middle in omega (arith, next)
 
-  group_leads : (after : Contents) × LeadsTo s p group pending after
+  group_leads : (after : Contents) × LeadsTo s p group unsynced after
   group_leads =
       let after = group-follows s p explained group idle middle in
-      let ops = pending_are s p explained no_log pending log group next_above in
+      let ops = unsynced_are s p explained unsynced log group next_above in
       let next : IsReplayUpTo (s.line.synced + 1) p after.0 = subst (λ (g : ℕ). IsReplayUpTo g p after.0) (next-group s p explained group idle middle) after.1 in (
         after.0,
         record {
@@ -49,11 +49,11 @@ module _ (s : Shown) (p : Past) (explained : IsExplainedNow s p) (group : ℕ) (
       )
 
   -- its changes give just what it leads to
-  pub changes_lead : (patches : Patches) → ArePatchesOf (pending_ops group pending) patches → LeadsTo s p group pending (patched_contents patches s.synced_contents)
+  pub changes_lead : (patches : Patches) → ArePatchesOf (pending_ops group unsynced) patches → LeadsTo s p group unsynced (patched_contents patches s.synced_contents)
   changes_lead patches are =
       let after = group_leads in
-      let objects : laid_over patches s.synced_contents.objects ≡ after.0.objects = group_is_read (pending_ops group pending) patches s.synced_contents after.0 are after.1.leads
+      let objects : laid_over patches s.synced_contents.objects ≡ after.0.objects = group_is_read (pending_ops group unsynced) patches s.synced_contents after.0 are after.1.leads
       (bounded-no_others s.synced_contents explained.trees.synced.bounded) (bounded-no_others after.0 after.1.bounded) in
       let name = name-up_to s p explained s.line.synced s.synced_contents explained.trees.synced.replayed ∙ sym (name-up_to s p explained group after.0 after.1.replayed) in
       let same : after.0 ≡ patched_contents patches s.synced_contents = λ k. record { name = sym name k; objects = sym objects k } in
-      subst (LeadsTo s p group pending) same after.1
+      subst (LeadsTo s p group unsynced) same after.1

@@ -13,6 +13,7 @@ use Rattle.base.specs.disk.SyncOrder.{DeviceCall}
 use Rattle.base.specs.disk.SyncOrder.DeviceCall.{Block, Config, Uberblock, Flush}
 use Rattle.base.specs.formats.Uberblocks.{Uberblock as Fields, IsUberblock}
 use Rattle.base.specs.history.Contents.{Contents}
+use Rattle.intent_log.specs.Kept.{header_fields}
 use Rattle.sync.specs.Calls.{refusal_of}
 use Rattle.tree_plans.specs.declared.planner.PlannedBlock.{PlannedBlock}
 use Rattle.base.specs.tree.Places.{IsPlace, Place}
@@ -46,10 +47,10 @@ pub none_running : (sync : Option RunningSync) (r : RunningSync) → is_some syn
 none_running sync r none is = true≢false (ap (λ (o : Option RunningSync). is_some o) (sym is) ∙ none)
 
 -- nor has one a plan, on whichever tree
-pub none_planned : (address : ℕ) (old new : Tree) (contents : Contents) (sync : Option RunningSync) → is_some sync ≡ false
-    → option_map (plan_of address old contents) sync ≡ option_map (plan_of address new contents) sync
-none_planned address old new contents None none = refl
-none_planned address old new contents (Some r) none = absurd (true≢false none)
+pub none_planned : (old new : Tree) (contents : Contents) (sync : Option RunningSync) → is_some sync ≡ false
+    → option_map (plan_of old contents) sync ≡ option_map (plan_of new contents) sync
+none_planned old new contents None none = refl
+none_planned old new contents (Some r) none = absurd (true≢false none)
 
 -- pointers that are told otherwise are placed as well
 pub placed_after : (blocks : ℕ) (old new : Place → Pointer) → ((place : Place) → IsPlace place → new place ≡ old place) → ∥ ArePlaced blocks old ∥₁ → ∥ ArePlaced blocks new ∥₁
@@ -105,12 +106,12 @@ same_uberblock old new same u writes = record { slot = same.slot ∙ writes.slot
 -- the sync is one that a pool may run
 abbrev pub RunsIn : PoolTables → RunningSync → Type 0
 RunsIn pool r =
-    IsRunning pool.geometry (uberblock_with pool.guid pool.import_number pool.log_address r.group.0 r.moment r.root) (tree_after r pool.tree)
+    IsRunning pool.geometry (uberblock_with pool.guid pool.import_number (header_fields r.header) r.group.0 r.moment r.root) (tree_after r pool.tree)
     (changes_at pool.changes 0) pool.synced.slots.items r.run
 
 -- after a call with others left, a run of the same blocks and uberblock is one still
 pub runs_on : (pool : PoolTables) (r : RunningSync) (new : SyncRun) → SameSync r.run new → new.done < call_count new → RunsIn pool r
-    → IsRunning pool.geometry (uberblock_with pool.guid pool.import_number pool.log_address r.group.0 r.moment r.root) (tree_after r pool.tree)
+    → IsRunning pool.geometry (uberblock_with pool.guid pool.import_number (header_fields r.header) r.group.0 r.moment r.root) (tree_after r pool.tree)
     (changes_at pool.changes 0) pool.synced.slots.items new
 runs_on pool r new same left was = record {
   geometry = same.geometry ∙ was.geometry;

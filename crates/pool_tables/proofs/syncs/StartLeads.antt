@@ -1,6 +1,6 @@
 -- The start of a sync, with what is planned of its tree.
-use Rattle.std.proofs.Common.{◌≡◌, ◌<◌, ◌≤◌, ◌+◌, ℕ, true, false, arith, List, [], ◌∷◌, length, map, refl, ap, sym, subst, ◌∙◌}
-use Rattle.std.specs.Prelude.{Option, Some, None, is_some, option_map, slice_get}
+use Rattle.std.proofs.Common.{◌≡◌, ◌<◌, ◌≤◌, ◌+◌, ℕ, true, false, arith, List, length, map, refl, ap, sym, subst, ◌∙◌}
+use Rattle.std.specs.Prelude.{Option, Some, None, is_some, option_map}
 use Rattle.std.specs.BTreeMap.{BTreeMap}
 use Rattle.std.specs.FinMap.{FinMap}
 use Rattle.std.specs.Global.{Vec}
@@ -15,10 +15,9 @@ use Rattle.base.specs.history.Past.{Past}
 use Rattle.base.specs.history.Plans.{estimate_of, shape_of}
 use Rattle.base.specs.steps.ExactNow.{IsExplainedNow}
 use Rattle.base.specs.tree.Places.{Place, has_block}
-use Rattle.base.specs.tree.PlannedTrees.{AreFreed, NewBlock}
 use Rattle.base.specs.steps.Shown.{SyncPlan}
 use Rattle.base.specs.steps.Steps.{AreLengthsOf, TakesForEach, ops_of_group}
-use Rattle.base.specs.stored.Stored.{AreUsed, IsHeld, IsPlannedSync, frame_at}
+use Rattle.base.specs.stored.Stored.{IsHeld, IsPlannedSync, frame_at}
 use Rattle.base.specs.tree.Syncs.{written_places}
 use Rattle.base.proofs.steps.KeptGroups.{none_there, quiesced_is}
 use Rattle.base.proofs.steps.WaitingGroups.{next-group}
@@ -32,26 +31,25 @@ use Rattle.extents.specs.Unsynced.{changes_at, extents_at, laid_all}
 use Rattle.object_maps.specs.Pointers.{pointers_of}
 use Rattle.space.proofs.FreeLists.{length-rising}
 use Rattle.tree_plans.specs.declared.planner.PlannedBlock.{PlannedBlock}
-use Rattle.tree_plans.specs.Changes.{AreBornBefore}
+use Rattle.tree_plans.specs.declared.planner.TreePlan.{TreePlan}
 use Rattle.tree_plans.specs.Marks.{pending_ops}
 use Rattle.tree_plans.specs.Plans.{address_of, new_block}
+use Rattle.group_plans.specs.GroupPlans.{IsShortOfBlocks, plan_pointers}
+use Rattle.group_plans.specs.Operations.{TakesPlace}
+use Rattle.group_plans.specs.Pointers.{lengths_after, pointers_after}
+use Rattle.group_plans.proofs.GroupChanges.{lengths_told}
+use Rattle.group_plans.proofs.PlannedBlocks.{addresses_are}
 use Rattle.pool_tables.specs.declared.pool.PoolTables.{PoolTables}
 use Rattle.pool_tables.specs.declared.pool.RunningSync.{RunningSync}
-use Rattle.pool_tables.specs.GroupPlans.{HasGroupLengths, IsPlannedGroup, IsShortOfBlocks}
+use Rattle.pool_tables.specs.GroupPlans.{MakesOldestTree, begun_plan}
 use Rattle.pool_tables.specs.Told.{ShownPool, held_with, new_tree_of, pool_told}
 use Rattle.pool_tables.specs.Lines.{MayStart}
-use Rattle.pool_tables.specs.Pointers.{lengths_after, pointers_after}
-use Rattle.pool_tables.specs.Shows.{contents_after_oldest, new_plan, plan_of, pool_shown, synced_of}
+use Rattle.pool_tables.specs.Shows.{contents_after_oldest, plan_of, pool_shown, synced_of}
 use Rattle.pool_tables.proofs.Flags.{is_some-map}
 use Rattle.pool_tables.proofs.syncs.SameSyncs.{taken_count}
 use Rattle.pool_tables.proofs.syncs.PlannedContents.{LeadsTo, changes_lead, next_above}
 use Rattle.pool_tables.proofs.syncs.PlannedCounts.{enough_blocks, taken_fit, takes_for_each, takes_in_order}
-use Rattle.pool_tables.proofs.syncs.PlannedGroups.{lengths_told, planned_sync}
-
--- the addresses of blocks as they are written
-pub addresses_are : (blocks : List PlannedBlock) → map (λ (b : NewBlock). b.address) (map new_block blocks) ≡ map address_of blocks
-addresses_are [] = refl
-addresses_are (b ∷ blocks) = ap (λ (l : List ℕ). address_of b ∷ l) (addresses_are blocks)
+use Rattle.pool_tables.proofs.syncs.PlannedGroups.{group_takes_place, ops_are, planned_sync}
 
 -- a sync that has made no call yet
 pub nothing_made : (tree : Tree) (r : RunningSync) (root : Pointer) (directories : Vec Pointer) (maps : BTreeMap ObjectId ObjectMap) (blocks : Vec PlannedBlock) → r.root ≡ root → r.directories ≡ directories → r.maps ≡ maps
@@ -77,18 +75,13 @@ told_with synced pool now = record (pool_told pool now) {
   shown = record (pool_shown pool) {
     contents = record { name = synced.name; objects = laid_all pool.changes synced.objects };
     synced_contents = synced;
-    sync = option_map (plan_of pool.log_address pool.tree (patched_contents (changes_at pool.changes 0) synced)) pool.sync;
+    sync = option_map (plan_of pool.tree (patched_contents (changes_at pool.changes 0) synced)) pool.sync;
   };
 }
 
 -- with the same contents it is the same
 pub same_told : (pool : PoolTables) {synced : Contents} → synced ≡ synced_of pool → (λ (now : List ℕ). told_with synced pool now) ≡ pool_told pool
 same_told pool same = λ k now. told_with (same k) pool now
-
--- what the oldest changes, laid over the synced objects, stand for
-pub laid_oldest : (pool : PoolTables) (oldest : Extents) {objects : FinMap nat_cmp (List ℕ)} → Some oldest ≡ extents_at pool.changes 0 → objects ≡ laid_over (patches_of oldest) (synced_of pool).objects
-    → objects ≡ (contents_after_oldest pool).objects
-laid_oldest pool oldest is laid = laid ∙ ap (λ (e : Option Extents). laid_over (option_map_or patches_of e (λ _. no_patch)) (synced_of pool).objects) is
 
 -- What a past that explains a pool says of a group whose sync may start.
 module _ (past : Past) (pool : PoolTables) (group : ℕ) (may : MayStart group pool.groups.line) (explained : IsExplainedNow (pool_shown pool) past) where
@@ -99,66 +92,66 @@ module _ (past : Past) (pool : PoolTables) (group : ℕ) (may : MayStart group p
   middle = quiesced_is pool.groups.line group may.0
 
   pub group_above : pool.groups.line.synced < group
-  group_above = next_above (pool_shown pool) past explained group idle middle refl pool.pending.items refl
+  group_above = next_above (pool_shown pool) past explained group idle middle pool.unsynced.items refl
 
-  -- the oldest changes are those of its pending operations
-  oldest_changes : ArePatchesOf (pending_ops group pool.pending.items) (changes_at pool.changes 0)
+  -- the oldest changes are those of its operations
+  oldest_changes : ArePatchesOf (pending_ops group pool.unsynced.items) (changes_at pool.changes 0)
   oldest_changes =
       let next : group ≡ pool.groups.line.synced + 1 = next-group (pool_shown pool) past explained group idle middle in
       let same : pool.groups.line.synced + 1 + 0 ≡ group = omega (arith, next) in
-      subst (λ (g : ℕ). ArePatchesOf (pending_ops g pool.pending.items) (changes_at pool.changes 0)) same (pool.unsynced.changed 0 (omega arith))
+      subst (λ (g : ℕ). ArePatchesOf (pending_ops g pool.unsynced.items) (changes_at pool.changes 0)) same (pool.unsynced_kept.changed 0 (omega arith))
 
   -- so its operations lead to what they make of the synced contents
-  pub oldest_leads : LeadsTo (pool_shown pool) past group pool.pending.items (contents_after_oldest pool)
-  oldest_leads = changes_lead (pool_shown pool) past explained group idle middle refl pool.pending.items refl (changes_at pool.changes 0) oldest_changes
+  pub oldest_leads : LeadsTo (pool_shown pool) past group pool.unsynced.items (contents_after_oldest pool)
+  oldest_leads = changes_lead (pool_shown pool) past explained group idle middle pool.unsynced.items refl (changes_at pool.changes 0) oldest_changes
+
+  -- and take place; the history has the same ones
+  pub oldest_ops : ops_of_group group past.entries ≡ pending_ops group pool.unsynced.items
+  oldest_ops = ops_are (pool_shown pool) past explained group group_above pool.unsynced.items refl
+
+  pub oldest_takes_place : TakesPlace (pending_ops group pool.unsynced.items) pool.tree.maps.items (synced_of pool) (contents_after_oldest pool)
+  oldest_takes_place = group_takes_place (pool_shown pool) past explained group group_above pool.unsynced.items refl (contents_after_oldest pool) oldest_leads.leads pool.tree.maps.items (λ n. refl)
 
   -- Whatever the device holds: it takes no more blocks than its operations are estimated at.
-  pub group_fits : (blocks : List PlannedBlock) (new : Place → Pointer)
-      → IsPlannedGroup group pool.pending.items pool.tree.maps.items (frame_at (pool_shown pool) group) (pointers_of pool.tree) new (map new_block blocks) (contents_after_oldest pool).objects
-      → length (map address_of blocks) ≤ estimate_of (map shape_of (ops_of_group group past.entries))
-  group_fits blocks new planned =
-      let fits = taken_fit (pool_shown pool) past explained group group_above refl pool.pending.items refl (contents_after_oldest pool) oldest_leads.leads pool.tree.maps.items (λ n. refl) (pointers_of pool.tree)
-      new (map new_block blocks) planned in
-      subst (λ (n : ℕ). n ≤ estimate_of (map shape_of (ops_of_group group past.entries))) (length-map blocks new_block ∙ sym (length-map blocks address_of)) fits
+  pub group_fits : (p : TreePlan) → MakesOldestTree pool group p → length (map address_of p.blocks.items) ≤ estimate_of (map shape_of (ops_of_group group past.entries))
+  group_fits p makes =
+      let fits = taken_fit (pool_shown pool) past explained group pool.unsynced.items oldest_ops (contents_after_oldest pool) pool.tree.maps.items oldest_takes_place (pointers_of pool.tree)
+      (plan_pointers pool.tree p) (map new_block p.blocks.items) makes.planned in
+      subst (λ (n : ℕ). n ≤ estimate_of (map shape_of (ops_of_group group past.entries))) (length-map p.blocks.items new_block ∙ sym (length-map p.blocks.items address_of)) fits
 
   -- its lengths are those after the group
-  pub group_lengths : (new : ℕ → Option ℕ) → HasGroupLengths group pool.pending.items pool.tree.maps.items new (contents_after_oldest pool).objects → AreLengthsOf (contents_after_oldest pool) new
-  group_lengths new = lengths_told (pool_shown pool) past explained group group_above refl pool.pending.items refl (contents_after_oldest pool) oldest_leads.leads pool.tree.maps.items (λ n. refl) new
+  pub group_lengths : (p : TreePlan) → MakesOldestTree pool group p → AreLengthsOf (contents_after_oldest pool) (lengths_after p.maps pool.tree)
+  group_lengths p makes = lengths_told group pool.unsynced.items pool.tree.maps.items (synced_of pool) (contents_after_oldest pool) oldest_takes_place (lengths_after p.maps pool.tree) makes.lengths
 
   -- and its plan is not short of blocks
-  pub never_short : IsShortOfBlocks group pool.pending.items pool.tree.maps.items (pointers_of pool.tree) (contents_after_oldest pool).objects (rising pool.free.free) → ⊥
+  pub never_short : IsShortOfBlocks group pool.unsynced.items pool.tree.maps.items (pointers_of pool.tree) (contents_after_oldest pool).objects (rising pool.free.free) → ⊥
   never_short short =
-      enough_blocks (pool_shown pool) past explained group group_above refl pool.pending.items refl (contents_after_oldest pool) oldest_leads.leads pool.tree.maps.items (λ n. refl) (pointers_of pool.tree)
+      enough_blocks (pool_shown pool) past explained group pool.unsynced.items oldest_ops (contents_after_oldest pool) pool.tree.maps.items oldest_takes_place (pointers_of pool.tree)
       idle may.0 (rising pool.free.free) (length-rising pool.free.free) short
 
 -- What a device holds: a plan of the group is what a start of its sync asks, with each past.
-module _ (now : List ℕ) (past : Past) (pool : PoolTables) (group moment : ℕ) (blocks : List PlannedBlock) (freed : List ℕ) (root : Pointer) (directories : List Pointer) (maps : BTreeMap ObjectId ObjectMap)
-    (may : MayStart group pool.groups.line)
-    (planned : IsPlannedGroup group pool.pending.items pool.tree.maps.items (frame_at (pool_shown pool) group) (pointers_of pool.tree) (pointers_after root directories maps pool.tree) (map new_block blocks) (contents_after_oldest pool).objects)
-    (x : IsHeld (held_with (pool_told pool now) past)) where
+module _ (now : List ℕ) (past : Past) (pool : PoolTables) (group moment : ℕ) (p : TreePlan) (may : MayStart group pool.groups.line) (makes : MakesOldestTree pool group p) (x : IsHeld (held_with (pool_told pool now) past)) where
   abbrev pub plan : SyncPlan
-  plan = new_plan moment pool.log_address (map address_of blocks) freed root (contents_after_oldest pool) (lengths_after maps pool.tree)
+  plan = begun_plan pool group moment p
 
-  above : pool.groups.line.synced < group
-  above = group_above past pool group may x.explained
-
-  to : LeadsTo (pool_shown pool) past group pool.pending.items (contents_after_oldest pool)
+  to : LeadsTo (pool_shown pool) past group pool.unsynced.items (contents_after_oldest pool)
   to = oldest_leads past pool group may x.explained
 
-  pub group_planned : (AreBornBefore group (pointers_of pool.tree) → AreFreed (pointers_of pool.tree) (pointers_after root directories maps pool.tree) freed)
-      → AreUsed (map new_block blocks) (pointers_after root directories maps pool.tree) → ((i : ℕ) (b : NewBlock) → slice_get (map new_block blocks) i ≡ Some b → length b.content ≡ 4096)
-      → IsPlannedSync (frame_at (pool_shown pool) group) (pointers_of pool.tree) (pointers_after root directories maps pool.tree) (map new_block blocks) x.kept.stored.synced.objects (contents_after_oldest pool).objects plan
-  group_planned freed_are used whole =
-      planned_sync now (pool_shown pool) past (pointers_of pool.tree) x.kept.stored x.explained group above refl pool.pending.items refl (contents_after_oldest pool) to.leads to.bounded pool.tree.maps.items (λ n. refl)
-      (pointers_after root directories maps pool.tree) (map new_block blocks) plan planned (addresses_are blocks) whole freed_are used refl
+  takes_place : TakesPlace (pending_ops group pool.unsynced.items) pool.tree.maps.items (synced_of pool) (contents_after_oldest pool)
+  takes_place = oldest_takes_place past pool group may x.explained
+
+  pub group_planned : IsPlannedSync (frame_at (pool_shown pool) group) (pointers_of pool.tree) (plan_pointers pool.tree p) (map new_block p.blocks.items) x.kept.stored.synced.objects (contents_after_oldest pool).objects plan
+  group_planned =
+      planned_sync now (pool_shown pool) past (pointers_of pool.tree) x.kept.stored x.explained group (group_above past pool group may x.explained) pool.unsynced.items (contents_after_oldest pool) to.bounded pool.tree.maps.items takes_place
+      (plan_pointers pool.tree p) (map new_block p.blocks.items) plan makes.planned (addresses_are p.blocks.items) makes.whole makes.freed makes.used refl
 
   -- what it takes is what its tree has at the places that it writes, in order
-  pub group_takes : map (λ (place : Place). (pointers_after root directories maps pool.tree place).address) (written_places (ops_of_group group past.entries) (synced_of pool) (has_block now (pool_shown pool).root)) ≡ plan.taken
+  pub group_takes : map (λ (place : Place). (plan_pointers pool.tree p place).address) (written_places (ops_of_group group past.entries) (synced_of pool) (has_block now (pool_shown pool).root)) ≡ plan.taken
   group_takes =
-      takes_in_order now (pool_shown pool) past (pointers_of pool.tree) x.kept.stored x.explained group above refl pool.pending.items refl (contents_after_oldest pool) to.leads pool.tree.maps.items (λ n. refl)
-      (pointers_after root directories maps pool.tree) (map new_block blocks) plan planned (addresses_are blocks)
+      takes_in_order now (pool_shown pool) past (pointers_of pool.tree) x.kept.stored x.explained group pool.unsynced.items (oldest_ops past pool group may x.explained) (contents_after_oldest pool) pool.tree.maps.items takes_place
+      (plan_pointers pool.tree p) (map new_block p.blocks.items) plan makes.planned (addresses_are p.blocks.items)
 
   pub group_takes_each : TakesForEach now (record { shown = pool_shown pool; past = past }) group plan
   group_takes_each =
-      takes_for_each now (pool_shown pool) past (pointers_of pool.tree) x.kept.stored x.explained group above refl pool.pending.items refl (contents_after_oldest pool) to.leads pool.tree.maps.items (λ n. refl)
-      (pointers_after root directories maps pool.tree) (map new_block blocks) plan planned (addresses_are blocks)
+      takes_for_each now (pool_shown pool) past (pointers_of pool.tree) x.kept.stored x.explained group pool.unsynced.items (oldest_ops past pool group may x.explained) (contents_after_oldest pool) pool.tree.maps.items takes_place
+      (plan_pointers pool.tree p) (map new_block p.blocks.items) plan makes.planned (addresses_are p.blocks.items)

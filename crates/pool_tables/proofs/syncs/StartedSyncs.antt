@@ -20,18 +20,18 @@ use Rattle.space.specs.FreeSets.{FreeSpace}
 use Rattle.tree_plans.specs.declared.planner.PlannedBlock.{PlannedBlock}
 use Rattle.tree_plans.specs.declared.planner.TreePlan.{TreePlan}
 use Rattle.tree_plans.specs.Plans.{address_of, new_block}
+use Rattle.group_plans.specs.GroupPlans.{TakesLowest, plan_pointers}
 use Rattle.pool_tables.specs.declared.pool.PoolTables.{PoolTables}
 use Rattle.pool_tables.specs.declared.pool.RunningSync.{RunningSync}
 use Rattle.pool_tables.specs.Areas.{after_sync_takes}
-use Rattle.pool_tables.specs.GroupPlans.{BeginsPlan, IsRefusedShort, MakesGroupTree, TakesLowest, begun_plan, plan_pointers}
+use Rattle.pool_tables.specs.GroupPlans.{BeginsPlan, IsPoolShort, MakesOldestTree, begun_plan}
 use Rattle.pool_tables.specs.Told.{ShownPool, new_tree_of, pool_told, start_reply}
 use Rattle.pool_tables.specs.Lines.{MayNotStart, MayStart}
-use Rattle.pool_tables.specs.Pointers.{lengths_after}
 use Rattle.pool_tables.specs.Shows.{contents_after_oldest, plan_of, pool_shown, synced_of}
 use Rattle.pool_tables.specs.SyncStarts.{IsSyncStart}
 use Rattle.pool_tables.proofs.syncs.StartLeads.{blocks_kept, group_fits, group_lengths, group_planned, group_takes, group_takes_each, never_short, nothing_made, oldest_leads}
 use Rattle.pool_tables.proofs.OfNoDevice.{plan_own}
-use Rattle.pool_tables.proofs.syncs.Starts.{StartsAt, lowest_taken, pending_names, start_done, start_not_ready, start_suspended, start_wants, wants_only}
+use Rattle.pool_tables.proofs.syncs.Starts.{StartsAt, lowest_taken, start_done, start_not_ready, start_suspended, start_wants, unsynced_names, wants_only}
 use Rattle.pool_tables.proofs.StillSteps.{still_pool}
 
 -- a group whose sync may start, by what was told before
@@ -64,7 +64,7 @@ module _ (old : PoolTables) (moment : ℕ) where
       (refused_by e (plan_own e refused) (λ keeps now past x. start_wants keeps now past (pool_shown old) moment group e stands may.0 may.1 (wants past x)))
 
 -- a plan that is refused needs memory: its blocks are there
-pub plan_wants : (pool : PoolTables) (old : List ℕ → ShownPool) → pool_told pool ≡ old → (group : ℕ) → MayStart group (old []).shown.line → (e : PoolError) → (e ≡ error.NoMemory) ⊎ (e ≡ error.NoSpace) → IsRefusedShort pool group e
+pub plan_wants : (pool : PoolTables) (old : List ℕ → ShownPool) → pool_told pool ≡ old → (group : ℕ) → MayStart group (old []).shown.line → (e : PoolError) → (e ≡ error.NoMemory) ⊎ (e ≡ error.NoSpace) → IsPoolShort pool group e
     → (past : Past) → IsExplainedNow (old []).shown past → e ≡ error.NoMemory
 plan_wants pool old kept group may e refused short past x =
     let explained = subst (λ (f : List ℕ → ShownPool). IsExplainedNow (f []).shown past) (sym kept) x in
@@ -73,7 +73,7 @@ plan_wants pool old kept group may e refused short past x =
 -- A sync of this group that starts by this plan.
 module _ (pool : PoolTables) (g : Group) (moment : ℕ) (planned : TreePlan) where
   abbrev plan : SyncPlan
-  plan = begun_plan pool moment planned
+  plan = begun_plan pool g.0 moment planned
 
   -- what is shown then
   abbrev shown_started : Shown
@@ -82,23 +82,23 @@ module _ (pool : PoolTables) (g : Group) (moment : ℕ) (planned : TreePlan) whe
   -- and told, with this line, these free blocks and this sync
   abbrev told_started : CountedLine → FreeSpace → RunningSync → List ℕ → ShownPool
   told_started line free r now = record {
-    shown = record (pool_shown pool) { line = line.line; free = free.free; sync = Some (plan_of pool.log_address pool.tree (contents_after_oldest pool) r) };
+    shown = record (pool_shown pool) { line = line.line; free = free.free; sync = Some (plan_of pool.tree (contents_after_oldest pool) r) };
     now = now;
     pointers = pointers_of pool.tree;
     running = Some (new_tree_of pool.tree r);
   }
 
-  module _ (old : List ℕ → ShownPool) (kept : pool_told pool ≡ old) (stands : (old []).shown.suspended ≡ false) (may : MayStart g.0 pool.groups.line) (lowest : TakesLowest pool planned) (makes : MakesGroupTree pool g.0 planned) where
+  module _ (old : List ℕ → ShownPool) (kept : pool_told pool ≡ old) (stands : (old []).shown.suspended ≡ false) (may : MayStart g.0 pool.groups.line) (lowest : TakesLowest pool.free.free planned) (makes : MakesOldestTree pool g.0 planned) where
     starts_at : (keeps : Type 0) (now : List ℕ) (past : Past) (n : Shown) → n ≡ shown_started → IsExplainedNow (pool_shown pool) past → (keeps → TakesForEach now (record { shown = pool_shown pool; past = past }) g.0 plan)
         → StartsAt keeps now moment (Ok g.0) past (pool_shown pool) n
     starts_at keeps now past n is x takes =
         start_done keeps now past (pool_shown pool) moment n g.0 plan x takes (ap (λ (f : List ℕ → ShownPool). (f []).shown.suspended) kept ∙ stands) may.0 may.1
-        (group_fits past pool g.0 may x planned.blocks.items (plan_pointers pool planned) makes.planned) (oldest_leads past pool g.0 may x).replayed
-        (group_lengths past pool g.0 may x (lengths_after planned.maps pool.tree) makes.lengths) (pending_names pool.pending.items pool.unsynced.built) refl refl (lowest_taken planned.blocks.items (rising pool.free.free) lowest) refl refl is
+        (group_fits past pool g.0 may x planned makes) (oldest_leads past pool g.0 may x).replayed
+        (group_lengths past pool g.0 may x planned makes) (unsynced_names pool.unsynced.items pool.unsynced_kept.built) refl (lowest_taken planned.blocks.items (rising pool.free.free) lowest) refl refl is
 
     -- its blocks are in the order of the places that it writes; it moves no byte, and its tree is that of the plan
     pub plan_starts_sync : (line : CountedLine) (free : FreeSpace) (r : RunningSync) (told : List PlannedBlock) → line ≡ after_start g.0 pool.groups → free ≡ after_sync_takes (map address_of told) pool.free → told ≡ r.run.blocks.items
-        → BeginsPlan planned r → plan_of pool.log_address pool.tree (contents_after_oldest pool) r ≡ plan → IsUberblock r.run.uberblock (uberblock_of (pool_shown pool) g.0 plan) → IsSyncStart moment (Ok g) old (told_started line free r)
+        → BeginsPlan planned r → plan_of pool.tree (contents_after_oldest pool) r ≡ plan → IsUberblock r.run.uberblock (uberblock_of (pool_shown pool) g.0 plan) → IsSyncStart moment (Ok g) old (told_started line free r)
     plan_starts_sync line free r told line_is free_is told_is begins plan_is slot_is =
         let blocks = blocks_kept r planned.blocks told begins.blocks told_is in
         let taken : free ≡ after_sync_takes (map address_of planned.blocks.items) pool.free = free_is ∙ ap (λ (l : List PlannedBlock). after_sync_takes (map address_of l) pool.free) blocks in
@@ -111,7 +111,7 @@ module _ (pool : PoolTables) (g : Group) (moment : ℕ) (planned : TreePlan) whe
           held = λ now past x. (
             past,
             starts_at (Unit {0}) now past _ is x.explained
-                (λ keeps. group_takes_each now past pool g.0 moment planned.blocks.items planned.freed.items planned.root planned.directories.items planned.maps may makes.planned x),
+                (λ keeps. group_takes_each now past pool g.0 moment planned may makes x),
           );
           order = λ now past x. record {
             synced = synced_of pool;
@@ -120,19 +120,19 @@ module _ (pool : PoolTables) (g : Group) (moment : ℕ) (planned : TreePlan) whe
             running = running;
             plan = plan;
             plan_is = shows;
-            each = group_takes now past pool g.0 moment planned.blocks.items planned.freed.items planned.root planned.directories.items planned.maps may makes.planned x;
+            each = group_takes now past pool g.0 moment planned may makes x;
           };
           leads = λ now past later. record {
             same = refl;
             pointers = refl;
-            tree = plan_pointers pool planned;
+            tree = plan_pointers pool.tree planned;
             bs = map new_block planned.blocks.items;
             slot = r.run.uberblock;
             plan = plan;
             running = running;
             plan_is = shows;
             slot_is = slot_is;
-            planned = λ x. group_planned now past pool g.0 moment planned.blocks.items planned.freed.items planned.root planned.directories.items planned.maps may makes.planned x makes.freed makes.used makes.whole;
+            planned = λ x. group_planned now past pool g.0 moment planned may makes x;
           };
           own = λ calls. refl;
         })

@@ -1,6 +1,6 @@
 -- A sync that starts, step by step.
 use Rattle.std.proofs.Common.{ℕ, ◌≡◌, ◌+◌, ◌<◌, ◌≤◌, Bool, true, false, not, ◌&&◌, ◌||◌, cond, List, [], ◌∷◌, map, length, nat_lt, refl, ap, sym, subst, ◌∙◌, ◌⊎◌, inl, inr, arith, take, All}
-use Rattle.std.specs.Prelude.{Option, Some, None, Result, Ok, Err, IfErr, filter, find, ◌==◌, is_some, IfSome, option_map, unwrap_or, if◌then◌else◌}
+use Rattle.std.specs.Prelude.{Option, Some, None, Result, Ok, Err, filter, ◌==◌, is_some, IfSome, unwrap_or, if◌then◌else◌}
 use Rattle.std.specs.List.{list_any, enumerate_from, flat_map}
 use Rattle.std.specs.FinSet as set
 use Rattle.std.proofs.lemmas.Bool.{eqb-true, false≢true, lt-ltb, true≢false}
@@ -13,33 +13,28 @@ use Rattle.base.specs.steps.ExactNow.{IsExplainedNow}
 use Rattle.base.specs.steps.Groups.{Line, Middle, IsLine, before_middle}
 use Rattle.base.specs.history.History.{Entry, entries_in}
 use Rattle.base.specs.history.Plans.{estimate_of, shape_of}
-use Rattle.base.specs.steps.Logs.{KeptBlock, committed_of, has_record, header_at, header_for, reaches_above}
+use Rattle.base.specs.steps.Logs.{header_for, record_of_entry}
 use Rattle.base.specs.history.Past.{Past}
 use Rattle.base.specs.formats.Records.{Record}
 use Rattle.base.specs.steps.Refusals.{quiesced_group, start_refusal}
 use Rattle.base.specs.steps.Shown.{Shown, SyncPlan}
-use Rattle.base.specs.steps.Stage.{StartSync}
+use Rattle.base.specs.steps.BuiltSteps.{StartSync}
 use Rattle.base.specs.steps.Steps.{AreLengthsOf, IsPlanned, IsReplayUpTo, TakesForEach, lowest_free, ops_of_group, State}
 use Rattle.base.specs.tree.Syncs.{is_rename, other_step_count}
 use Rattle.base.proofs.steps.KeptGroups.{quiesced_is}
-use Rattle.tree_plans.specs.declared.planner.Committed.{Committed}
+use Rattle.transactions.specs.declared.record.Record as code
 use Rattle.tree_plans.specs.declared.planner.PlannedBlock.{PlannedBlock}
-use Rattle.tree_plans.specs.declared.planner.TreePlan.{TreePlan}
-use Rattle.tree_plans.specs.Plans.{IsWantOr}
 use Rattle.tree_plans.specs.Plans.{address_of}
 use Rattle.pool_tables.specs.Lines.{MayNotStart}
-use Rattle.pool_tables.specs.Shows.{record_of as shown_record}
+use Rattle.transactions.specs.Records.{record_fields}
 
 -- no operation of a record gives a new name
 abbrev pub HasNoName : Record → Type 0
 HasNoName r = list_any is_rename r.ops ≡ false
 
-abbrev record_of : ℕ × Entry → Record
-record_of p = record { group = p.1.group; ordinal = p.0; ops = p.1.ops }
-
 module _ (synced group : ℕ) (below : synced < group) where
   abbrev is_above : Record → Bool
-  is_above r = nat_lt synced r.group && not false
+  is_above r = nat_lt synced r.group
 
   tail_of : (b : Bool) (r : Record) (rs : List Record) → All HasNoName (cond b (r ∷ rs) rs) → All HasNoName rs
   tail_of true r rs h = All-tail HasNoName r rs h
@@ -49,14 +44,14 @@ module _ (synced group : ℕ) (below : synced < group) where
   head_of true r rs is h = All-head HasNoName r rs h
   head_of false r rs is h = absurd (false≢true is)
 
-  -- where the pending records of entries give no new name, no operation of a group above the synced one does
-  no_names : (n : ℕ) (entries : List Entry) → All HasNoName (filter is_above (map record_of (enumerate_from n entries))) → list_any is_rename (ops_of_group group entries) ≡ false
+  -- where the records of unsynced entries give no new name, no operation of a group above the synced one does
+  no_names : (n : ℕ) (entries : List Entry) → All HasNoName (filter is_above (map record_of_entry (enumerate_from n entries))) → list_any is_rename (ops_of_group group entries) ≡ false
   no_names n [] h = refl
   no_names n (e ∷ es) h =
-      let r = record_of (n, e) in
-      let others = filter is_above (map record_of (enumerate_from (n + 1) es)) in
+      let r = record_of_entry (n, e) in
+      let others = filter is_above (map record_of_entry (enumerate_from (n + 1) es)) in
       by (e.group == group) refl (no_names (n + 1) es (tail_of (is_above r) r others h))
-      (λ here. head_of (is_above r) r others (ap (λ g. nat_lt synced g && true) (eqb-true e.group group here) ∙ ap (λ b. b && true) (lt-ltb synced group below)) h)
+      (λ here. head_of (is_above r) r others (ap (λ g. nat_lt synced g) (eqb-true e.group group here) ∙ lt-ltb synced group below) h)
     where
       by : (b : Bool) → (e.group == group) ≡ b → list_any is_rename (ops_of_group group es) ≡ false → ((e.group == group) ≡ true → list_any is_rename e.ops ≡ false)
           → list_any is_rename (flat_map (λ (x : Entry). x.ops) (cond b (e ∷ entries_in group es) (entries_in group es))) ≡ false
@@ -96,26 +91,23 @@ module _ (keeps : Type 0) (now : List ℕ) (past : Past) (s : Shown) (moment : �
   pub start_done : (n : Shown) (group : ℕ) (plan : SyncPlan) → IsExplainedNow s past → (keeps → TakesForEach now (record { shown = s; past = past }) group plan)
       → s.suspended ≡ false → quiesced_group s.line ≡ Some group → is_some s.line.syncing ≡ false
       → length plan.taken ≤ estimate_of (map shape_of (ops_of_group group past.entries)) → IsReplayUpTo group past plan.contents → AreLengthsOf plan.contents plan.lengths
-      → All HasNoName s.log.pending → s.log.kept ≡ [] → plan.moment ≡ moment → plan.taken ≡ lowest_free (length plan.taken) s → plan.steps_left ≡ length plan.taken + 6 → plan.header ≡ s.log.next
+      → All HasNoName s.log.unsynced → plan.moment ≡ moment → plan.taken ≡ lowest_free (length plan.taken) s → plan.steps_left ≡ length plan.taken + 6 → plan.header ≡ header_for group s.log
       → n ≡ record s { line = record s.line { syncing = Some group; middle = None }; free = set.difference s.free (set.from_list plan.taken); sync = Some plan }
       → StartsAt keeps now moment (Ok group) past s n
-  start_done n group plan explained takes h is none fits replayed lengths built kept at_moment taken left header same =
+  start_done n group plan explained takes h is none fits replayed lengths built at_moment taken left header same =
       let above = quiesced_above s.line group explained.exact.groups.line none is in
-      let all_above : List KeptBlock → List Record = λ k. filter (λ (r : Record). nat_lt s.line.synced r.group && not (list_any (λ b. has_record b (committed_of r)) k)) (map record_of (enumerate_from 0 past.entries)) in
-      let pending : s.log.pending ≡ all_above [] = explained.exact.log.pending ∙ ap all_above kept in
-      let names = no_names s.line.synced group above 0 past.entries (subst (All HasNoName) pending built) in
+      let names = no_names s.line.synced group above 0 past.entries (subst (All HasNoName) explained.exact.log.unsynced built) in
       let steps : plan.steps_left ≡ length plan.taken + other_step_count (ops_of_group group past.entries) =
       left ∙ ap (λ b. length plan.taken + (6 + (if b then 6 else 0))) (sym names) in
-      let at : plan.header ≡ header_for group s.log = header ∙ sym (ap (λ k. unwrap_or (option_map header_at (find (reaches_above group) k)) s.log.next) kept) in
-      let planned : IsPlanned (record { shown = s; past = past }) moment group plan = record { moment_is = at_moment; taken = taken; steps = steps; fits = fits; header = at; contents = replayed; lengths = lengths } in
+      let planned : IsPlanned (record { shown = s; past = past }) moment group plan = record { moment_is = at_moment; taken = taken; steps = steps; fits = fits; header = header; contents = replayed; lengths = lengths } in
       rw (starts group h is none) (plan, is, planned, takes, ap (λ (x : Shown). let state : State = record { shown = x; past = past } in state) same)
 
--- the pending transactions of a pool give no new name
-pub pending_names : (pending : List Committed) → All (λ (c : Committed). list_any is_rename c.ops ≡ false) pending → All HasNoName (map shown_record pending)
-pending_names [] h = λ k d low. absurd (omega (arith, low))
-pending_names (c ∷ cs) h =
-    let Built : Committed → Type 0 = λ (x : Committed). list_any is_rename x.ops ≡ false in
-    All-cons HasNoName (shown_record c) (map shown_record cs) (All-head Built c cs h) (pending_names cs (All-tail Built c cs h))
+-- the unsynced transactions of a pool give no new name
+pub unsynced_names : (records : List code.Record) → All (λ (c : code.Record). list_any is_rename c.ops ≡ false) records → All HasNoName (map record_fields records)
+unsynced_names [] h = λ k d low. absurd (omega (arith, low))
+unsynced_names (c ∷ cs) h =
+    let Built : code.Record → Type 0 = λ (x : code.Record). list_any is_rename x.ops ≡ false in
+    All-cons HasNoName (record_fields c) (map record_fields cs) (All-head Built c cs h) (unsynced_names cs (All-tail Built c cs h))
 
 -- the addresses of planned blocks are the lowest free ones
 pub lowest_taken : (blocks : List PlannedBlock) (free : List ℕ) → map address_of blocks ≡ take (length blocks) free → map address_of blocks ≡ take (length (map address_of blocks)) free
@@ -125,10 +117,3 @@ lowest_taken blocks free taken = taken ∙ sym (ap (λ n. take n free) (length-m
 pub wants_only : (e : PoolError) → (e ≡ error.NoMemory) ⊎ (e ≡ error.NoSpace) → (e ≡ error.NoSpace → ⊥) → e ≡ error.NoMemory
 wants_only e (inl memory) never = memory
 wants_only e (inr space) never = absurd (never space)
-
--- a plan is refused for want of memory or of blocks
-pub turn_want : (r : Result TreePlan PoolError) → IfErr r (IsWantOr (λ e. ⊥)) → IfErr r (λ e. (e ≡ error.NoMemory) ⊎ (e ≡ error.NoSpace))
-turn_want (Ok p) h = tt
-turn_want (Err e) (inl (inl space)) = inr space
-turn_want (Err e) (inl (inr memory)) = inl memory
-turn_want (Err e) (inr never) = absurd never

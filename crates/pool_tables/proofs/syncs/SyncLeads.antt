@@ -14,7 +14,7 @@ use Rattle.base.specs.tree.Places.{Place}
 use Rattle.base.specs.tree.PlannedTrees.{NewBlock}
 use Rattle.base.specs.steps.Shown.{SyncPlan}
 use Rattle.base.specs.stored.Stored.{Advances, NewTree, total_calls}
-use Rattle.base.specs.crash.SyncCalls.PoolCall.{Put, Settle}
+use Rattle.base.specs.crash.SyncCalls.DiskCall.{Put, Settle}
 use Rattle.base.specs.disk.SyncOrder.{DeviceCall, calls_in_order}
 use Rattle.base.specs.disk.SyncOrder.DeviceCall.{Block, Config, Uberblock, Flush}
 use Rattle.base.proofs.common.KeptLists.{at_within, Some-injective}
@@ -30,7 +30,7 @@ use Rattle.object_maps.specs.Pointers.{pointers_of}
 use Rattle.pool_tables.specs.declared.pool.PoolTables.{PoolTables}
 use Rattle.pool_tables.specs.declared.pool.RunningSync.{RunningSync}
 use Rattle.pool_tables.specs.Told.{Leads, SamePlaces, ShownPool, made_by, new_tree_of, pool_told}
-use Rattle.pool_tables.specs.Pointers.{pointers_after}
+use Rattle.group_plans.specs.Pointers.{pointers_after}
 use Rattle.pool_tables.specs.Shows.{contents_after_oldest, plan_of, pool_shown}
 use Rattle.pool_tables.proofs.syncs.SameSyncs.{same_taken}
 
@@ -161,14 +161,14 @@ pub was_syncing : (pool : PoolTables) (r : RunningSync) → pool.sync ≡ Some r
 was_syncing pool r is = sym pool.sync_line ∙ ap (λ (o : Option RunningSync). option_map (λ (r : RunningSync). r.group.0) o) is
 
 -- and its plan
-pub was_planned : (pool : PoolTables) (r : RunningSync) → pool.sync ≡ Some r → (pool_shown pool).sync ≡ Some (plan_of pool.log_address pool.tree (contents_after_oldest pool) r)
-was_planned pool r is = ap (λ (o : Option RunningSync). option_map (plan_of pool.log_address pool.tree (contents_after_oldest pool)) o) is
+pub was_planned : (pool : PoolTables) (r : RunningSync) → pool.sync ≡ Some r → (pool_shown pool).sync ≡ Some (plan_of pool.tree (contents_after_oldest pool) r)
+was_planned pool r is = ap (λ (o : Option RunningSync). option_map (plan_of pool.tree (contents_after_oldest pool)) o) is
 
 -- of which the next state of its run leaves so many calls
 pub planned_still : (pool : PoolTables) (r : RunningSync) (next : SyncRun) → SameSync r.run next → (left : ℕ) → call_count next - next.done ≡ left
-    → (let plan : SyncPlan = plan_of pool.log_address pool.tree (contents_after_oldest pool) r in
+    → (let plan : SyncPlan = plan_of pool.tree (contents_after_oldest pool) r in
     (let now : SyncPlan = record plan { steps_left = call_count next - next.done; taken = map (λ (b : PlannedBlock). block_address b.index) next.blocks.items } in now) ≡ record plan { steps_left = left })
-planned_still pool r next same left is = λ k. record (plan_of pool.log_address pool.tree (contents_after_oldest pool) r) { steps_left = is k; taken = same_taken r.run next same k }
+planned_still pool r next same left is = λ k. record (plan_of pool.tree (contents_after_oldest pool) r) { steps_left = is k; taken = same_taken r.run next same k }
 
 -- after a refused call it is as before
 pub failed_running : (pool : PoolTables) (r : RunningSync) (next : SyncRun) → pool.sync ≡ Some r → SameSync r.run next → next.done ≡ r.run.done

@@ -1,14 +1,16 @@
 //! The transactions of a pool: they begin, commit and are given up. A call that is refused leaves the pool unchanged.
 
 ghost use Rattle.std.specs.Prelude.{◌≡◌, ◌<◌, ◌+◌, ◌≤◌, OnOk, nat_lt, option_map, true, vec_capacity, vec_len};
+ghost use Rattle.std.specs.List.{list_all};
 ghost use Rattle.base.specs.formats.Limits.{last_number, max_log_record};
+ghost use Rattle.base.specs.formats.Records.{is_content_allowed};
 ghost use Rattle.base.specs.history.Plans.{estimate_of, log_record_size};
 ghost use Rattle.base.specs.steps.Groups.{Admission};
 ghost use Rattle.base.specs.steps.Refusals.{blocks_wanted, transaction_of};
 ghost use Rattle.base.specs.steps.Shown as show;
-ghost use Rattle.base.specs.steps.Stage.{is_plan_built};
+ghost use Rattle.base.specs.steps.BuiltSteps.{is_plan_built};
 ghost use Rattle.object_maps.specs.Ops.{AreOpsAllowed};
-ghost use Rattle.tree_plans.specs.declared.planner.Committed.{Committed};
+ghost use Rattle.transactions.specs.declared.record.Record.{Record};
 
 use crate::plans::check_plan;
 use crate::pool::PoolTables;
@@ -16,11 +18,10 @@ use base::{
     Group, KEPT_BACK, LAST_NUMBER, Op, Ops, Ordinal, Owner, Plan, PoolError, Receipt, Shape, TxId,
 };
 use object_maps::judge;
-use transactions::{charge, estimate, is_in_plan, is_shrinking, range_of};
-use tree_plans::Committed;
+use transactions::{Record, charge, estimate, is_in_plan, is_shrinking, range_of};
 
 impl PoolTables {
-    ghost use Rattle.pool_tables.specs.Entries.{HasRoomToEnter, IsUnsynced, shown_after_entry};
+    ghost use Rattle.pool_tables.specs.Entries.{FitsRecord, HasRoomToEnter, IsUnsynced, shown_after_entry};
     ghost use Rattle.pool_tables.specs.BeginTests.{is_above_limit, range_tests, room_tests};
     ghost use Rattle.pool_tables.specs.Meets.{ChecksBegin, ChecksCommit, MayCommit, Passes};
     ghost use Rattle.pool_tables.specs.Shows.{shown_objects, pool_shown};
@@ -33,7 +34,7 @@ impl PoolTables {
     /// `TooMany`, `Throttled`, `NoSpace` or `NoMemory`.
     pub fn begin(&mut self, owner: Owner, plan: &Plan) -> Result<(TxId, Group), PoolError>
         ensures step { Begins owner plan.now result (pool_shown self.old) (pool_shown self.new) }
-        ensures kept { KeepsTree self.old self.new }
+        ensures tree { KeepsTree self.old self.new }
     {
         let shapes = plan.as_slice();
         self.check_begin(owner, shapes)?;
@@ -150,6 +151,7 @@ impl PoolTables {
     fn check_commit(&self, tx: TxId, ops: &[Op]) -> Result<Group, PoolError>
         ensures refusal { ChecksCommit tx ops.now result (pool_shown self.now) }
         ensures allowed { OnOk result (AreOpsAllowed ops.now) }
+        ensures fits { OnOk result (FitsRecord ops.now) }
         ensures named { OnOk result (self.now.next_ordinal ≤ last_number) }
     {
         self.check_running()?;
@@ -180,11 +182,11 @@ impl PoolTables {
     /// transaction stays open then.
     pub fn commit(&mut self, tx: TxId, ops: Ops) -> Result<Receipt, PoolError>
         ensures step { Commits tx ops result (pool_shown self.old) (pool_shown self.new) }
-        ensures kept { KeepsTree self.old self.new }
+        ensures tree { KeepsTree self.old self.new }
         ensures own { IsOfNoDevice result }
     {
         let group = self.check_commit(tx, ops.as_slice())?;
-        self.pending.reserve(1)?;
+        self.unsynced.reserve(1)?;
         let place = self.place_of(group);
         self.changes.reserve(place, ops.as_slice())?;
         let ordinal = self.enter(tx, group, place, ops);
@@ -197,9 +199,11 @@ impl PoolTables {
         requires allowed { AreOpsAllowed ops }
         requires place { self.old.groups.line.synced + 1 + place ≡ group.0 }
         requires named { self.old.next_ordinal ≤ last_number }
+        requires fits { FitsRecord ops }
+        requires bytes { list_all is_content_allowed ops ≡ true }
         requires room { HasRoomToEnter place ops self.old }
         ensures ordinal { result.0 ≡ self.old.next_ordinal }
-        ensures kept { KeepsTree self.old self.new }
+        ensures tree { KeepsTree self.old self.new }
         ensures shown { pool_shown self.new
             ≡ shown_after_entry tx.0 group.0 ops (shown_objects self.new) (pool_shown self.old) }
     {
@@ -208,21 +212,21 @@ impl PoolTables {
         let Ok(()) = self.groups.release(group) else {
             unreachable!();
         };
-        let ordinal = self.next_ordinal;
+        let ordinal = Ordinal(self.next_ordinal);
         self.next_ordinal += 1;
-        self.pending.push_reserved(Committed {
+        self.unsynced.push_reserved(Record {
             group,
             ordinal,
             ops,
         });
-        Ordinal(ordinal)
+        ordinal
     }
 
     /// Gives a transaction up: its hold, its charge and its reserved blocks end. Refused, in this order, `Suspended` or
     /// `NoSuchTransaction`.
     pub fn abort(&mut self, tx: TxId) -> Result<(), PoolError>
         ensures step { Aborts tx result (pool_shown self.old) (pool_shown self.new) }
-        ensures kept { KeepsTree self.old self.new }
+        ensures tree { KeepsTree self.old self.new }
     {
         self.check_running()?;
         let Some(transaction) = self.transactions.end(tx) else {

@@ -1,26 +1,30 @@
 //! The groups of a pool and their syncs. A group closes, is quiesced, and is written out call by call; after the last
 //! call the pool lays its changes into the synced objects, and what the sync replaced is free.
 
-ghost use Rattle.std.specs.Prelude.{◌≡◌, ◌⊎◌, IfErr, IfOk, IsTrue, OnErr, OnOk, false, is_some};
+ghost use Rattle.std.specs.Prelude.{◌≡◌, ◌≤◌, ◌⊎◌, count_by, length, take, IfErr, IfOk, IsTrue, OnErr, OnOk, false, is_some};
 ghost use Rattle.base.specs.formats.Geometry.{block_count};
 ghost use Rattle.base.specs.tree.PlacedTrees.{ArePlaced};
 ghost use Rattle.extents.specs.Synced.{HasRoomForPatches, patched_contents};
 ghost use Rattle.extents.specs.Unsynced.{MovesUp, changes_at};
 ghost use Rattle.object_maps.specs.ContentsShown.{contents_of};
 ghost use Rattle.object_maps.specs.Pointers.{pointers_of};
-ghost use Rattle.tree_plans.specs.declared.planner.Committed.{Committed};
+ghost use Rattle.transactions.specs.declared.record.Record.{Record};
 ghost use Rattle.pool_tables.specs.Numbers.{IsGroup};
-ghost use Rattle.pool_tables.specs.Pending.{pending_after};
+ghost use Rattle.pool_tables.specs.Unsynced.{is_after, unsynced_after};
+ghost use Rattle.intent_log.specs.Kept.{header_fields, log_shown};
+ghost use Rattle.pool_tables.specs.Running.{KeepsHeader};
 ghost use Rattle.pool_tables.specs.RunningUberblocks.{WritesUberblock};
 
-use crate::blocks::{end_charges, give_all, take_all};
+use crate::blocks::{end_charges, give_all, give_log, take_all};
 use crate::pool::{PoolTables, Progress, RunningSync};
 use base::{Group, PoolError, WRITTEN_VERSION};
 use device_model::SectorDevice;
-use extents::{Laid, UnsyncedExtents};
+use extents::UnsyncedExtents;
+use group_plans::plan_group;
 use object_maps::Contents;
 use sync::{SyncCall, SyncRun};
-use tree_plans::{Committed, PlanSource, TreePlan, changed_objects, plan};
+use transactions::Record;
+use tree_plans::{PlanSource, TreePlan};
 use uberblocks::{Uberblock, slot};
 
 impl PoolTables {
@@ -28,7 +32,8 @@ impl PoolTables {
     ghost use Rattle.base.specs.disk.Calls.{counted};
     ghost use Rattle.sync.specs.Calls.{plain_answer};
     ghost use Rattle.pool_tables.specs.NextCalls.{MakesNextOf};
-    ghost use Rattle.pool_tables.specs.GroupPlans.{BeginsPlan, FitsIn, IsRefusedShort, MakesGroupTree, TakesLowest, begun_plan, uberblock_for};
+    ghost use Rattle.group_plans.specs.GroupPlans.{FitsIn, TakesLowest};
+    ghost use Rattle.pool_tables.specs.GroupPlans.{BeginsPlan, IsPoolShort, MakesOldestTree, begun_plan, uberblock_for};
     ghost use Rattle.pool_tables.specs.Told.{Leads, SamePlaces, sync_step_reply, pool_told, tree_after};
     ghost use Rattle.pool_tables.specs.SyncPhases.{StepsPhases, run_in};
     ghost use Rattle.pool_tables.specs.Lines.{ChecksStart};
@@ -41,7 +46,7 @@ impl PoolTables {
     /// `NotReady`.
     pub fn close_group(&mut self) -> Result<Group, PoolError>
         ensures step { ClosesGroup result (pool_shown self.old) (pool_shown self.new) }
-        ensures kept { KeepsTree self.old self.new }
+        ensures tree { KeepsTree self.old self.new }
     {
         self.check_running()?;
         self.groups.close_open()
@@ -51,7 +56,7 @@ impl PoolTables {
     /// transaction of it is open.
     pub fn mark_quiesced(&mut self) -> Result<Group, PoolError>
         ensures step { MarksQuiesced result (pool_shown self.old) (pool_shown self.new) }
-        ensures kept { KeepsTree self.old self.new }
+        ensures tree { KeepsTree self.old self.new }
     {
         self.check_running()?;
         self.groups.mark_quiesced()
@@ -67,7 +72,7 @@ impl PoolTables {
         self.check_running()?;
         let group = self.check_start()?;
         self.reserve_synced()?;
-        let planned = self.plan_group(group)?;
+        let planned = self.plan_oldest(group)?;
         let running = self.running_sync(group, moment, planned);
         take_all(&mut self.free, &running.run.blocks);
         self.sync = Some(running);
@@ -99,14 +104,13 @@ impl PoolTables {
         Ok(())
     }
 
-    fn plan_group(&self, group: Group) -> Result<TreePlan, PoolError>
+    fn plan_oldest(&self, group: Group) -> Result<TreePlan, PoolError>
         ensures fits { IfOk result (FitsIn self.now.geometry) }
-        ensures taken { IfOk result (TakesLowest self.now) }
-        ensures tree { IfOk result (MakesGroupTree self.now group.0) }
-        ensures no_space { IfErr result (IsRefusedShort self.now group.0) }
+        ensures taken { IfOk result (TakesLowest self.now.free.free) }
+        ensures tree { IfOk result (MakesOldestTree self.now group.0) }
+        ensures no_space { IfErr result (IsPoolShort self.now group.0) }
         ensures refused { IfErr result (λ e. (e ≡ PoolError.NoMemory) ⊎ (e ≡ PoolError.NoSpace)) }
     {
-        let objects = changed_objects(self.alloc, &self.tree.maps, &self.pending, group)?;
         let source = PlanSource {
             alloc: self.alloc,
             geometry: self.geometry,
@@ -115,8 +119,7 @@ impl PoolTables {
             tree: &self.tree,
             free: &self.free,
         };
-        let mut after = Laid::new(self.changes.oldest(), &self.synced);
-        plan(&source, &mut after, &objects)
+        plan_group(&source, &self.unsynced, self.changes.oldest(), &self.synced)
     }
 
     fn running_sync(&self, group: Group, moment: u64, planned: TreePlan) -> RunningSync
@@ -126,8 +129,9 @@ impl PoolTables {
         ensures group { result.group ≡ group }
         ensures moment { result.moment ≡ moment }
         ensures begins { BeginsPlan planned result }
-        ensures plan { plan_of self.now.log_address self.now.tree
-            (contents_after_oldest self.now) result ≡ begun_plan self.now moment planned }
+        ensures plan { plan_of self.now.tree (contents_after_oldest self.now) result
+            ≡ begun_plan self.now group.0 moment planned }
+        ensures header { KeepsHeader group.0 (header_fields result.header) (log_shown self.now.log) }
         ensures uberblock { WritesUberblock
             (uberblock_for self.now group.0 moment planned.root) result.run }
     {
@@ -138,6 +142,7 @@ impl PoolTables {
             root,
             freed,
         } = planned;
+        let header = self.log.header_for(group);
         let uberblock = Uberblock {
             version: WRITTEN_VERSION,
             group,
@@ -145,12 +150,13 @@ impl PoolTables {
             moment,
             root,
             import_number: self.import_number,
-            log_address: self.log_address,
-            log_number: 0,
+            log_address: header.address,
+            log_number: header.number,
         };
         RunningSync {
             group,
             moment,
+            header,
             run: SyncRun::new(self.geometry, blocks, uberblock.encode(), slot(group), None),
             maps,
             directories,
@@ -189,8 +195,9 @@ impl PoolTables {
                     unreachable!();
                 };
                 end_charges(&mut self.dirty, &mut self.free, group);
-                drop_synced(&mut self.pending, group);
+                drop_synced(&mut self.unsynced, &mut self.written, group);
                 lay_oldest(&mut self.changes, &mut self.synced);
+                give_log(&mut self.free, self.geometry, &mut self.log, synced.header);
                 self.finish_tree(synced);
                 Ok(Progress::Synced(group))
             }
@@ -218,6 +225,7 @@ impl PoolTables {
         let RunningSync {
             group: _,
             moment: _,
+            header: _,
             run: _,
             maps,
             directories,
@@ -231,11 +239,26 @@ impl PoolTables {
     }
 }
 
-// The transactions of a synced group are no longer pending, nor are those of older ones.
-fn drop_synced(pending: &mut Vec<Committed>, group: Group)
-    ensures { pending.new.items ≡ pending_after group.0 pending.old.items }
+// The transactions of a synced group are no longer unsynced, nor are those of older ones. `written` counts those from
+// the front that are in the log.
+fn drop_synced(unsynced: &mut Vec<Record>, written: &mut usize, group: Group)
+    requires front { written.old ≤ length unsynced.old.items }
+    ensures left { unsynced.new.items ≡ unsynced_after group.0 unsynced.old.items }
+    ensures written { written.new
+        ≡ length (unsynced_after group.0 (take written.old unsynced.old.items)) }
 {
-    pending.retain(|committed| committed.group > group);
+    *written = count_after(&unsynced[..*written], group);
+    unsynced.retain(|committed| committed.group > group);
+}
+
+// How many records are of groups after this one.
+fn count_after(records: &[Record], group: Group) -> usize
+    ensures { result ≡ count_by (is_after group.0) records.now }
+{
+    records
+        .iter()
+        .filter(|committed| committed.group > group)
+        .count()
 }
 
 // The oldest group is synced: the synced objects are those that it left, and the groups after it move up.

@@ -1,33 +1,74 @@
-use Rattle.std.proofs.Common.{◌≡◌, ℕ, List, false, true, refl, subst, sym}
-use Rattle.base.specs.declared.error.PoolError.TheVariants.{NoMemory}
+use Rattle.std.proofs.Common.{◌≡◌, ℕ, List, Ok, Err, false, true, refl, subst, sym}
+use Rattle.std.proofs.lemmas.List.Elements.{All-weaker}
+use Rattle.base.specs.crash.Mount.{records_above}
+use Rattle.base.specs.declared.error.PoolError.TheVariants.{Damaged, NoMemory}
 use Rattle.base.specs.disk.Disk.{bytes_of}
-use Rattle.base.specs.formats.Geometry.{IsGeometry}
+use Rattle.base.specs.formats.Chain.{LogPiece}
+use Rattle.base.specs.formats.Geometry.{IsGeometry, block_count}
 use Rattle.uberblocks.specs.Slots.{fields_of}
-use Rattle.import_replay.proofs.Inspections.{agrees_with_imports, is_inspection, is_told_bounded}
-use Rattle.import_replay.proofs.Reasons.{passed_on}
+use Rattle.intent_log.specs.Chains.{IsSoundBlock}
+use Rattle.object_maps.specs.Pointers.{pointers_of}
+use Rattle.import_replay.specs.FreeBlocks.{AreUnused, chain_addresses}
+use Rattle.log_replay.specs.Outlines.{ReplaysOutline}
+use Rattle.log_replay.specs.Replays.{IsBlockAllowed, IsChainAllowed}
+use Rattle.log_replay.specs.declared.outline.Outline.{Outline}
+use Rattle.import_replay.proofs.Inspections.{agrees_with_imports, is_chain_damaged, is_inspection, is_told_bounded}
+use Rattle.import_replay.proofs.Reasons.{passed_on, reason-replay}
 use Rattle.import_replay.proofs.Refused.{memory_refused, size_refused, walk_refused}
 use Rattle.import_replay.proofs.inspection.inspect.Goals as goal
+
+pub replay-requires : goal.replay-requires
+replay-requires g c =
+    let sound = c.in_ok-found.ensures.surveyed.sound in
+    subst (λ (bs : List LogPiece). IsChainAllowed bs) (sym c.deref-2.ensures.value)
+    (All-weaker (IsSoundBlock (block_count c.in_ok-geometry.geometry)) IsBlockAllowed (λ b is. is.allowed) c.in_ok-found.logged.items sound)
 
 pub returns-clause-mounted : goal.returns-clause-mounted
 returns-clause-mounted g c = λ keeps.
     let image : List ℕ = bytes_of (g.D.SectorDevice.disk c.args.device.now).now in
     let found = c.in_ok-found.found in
-    is_inspection g.D.SectorDevice.keeps_model image c.in_ok-geometry.geometry (fields_of found.uberblock) found.name c.in_ok-found.tree c.in_ok-found.ensures.surveyed
-    c.in_ok-lengths.lengths.items c.in_ok-lengths.ensures c.in_ok-free.free.free c.tell.result c.tell.ensures keeps c.in_ok-free.ensures.free
+    let group : ℕ = found.uberblock.group.0 in
+    let first : Outline = record { name = found.name; tree = c.in_ok-found.tree } in
+    let last : Outline = c.replay.new.self in
+    let replayed = subst (λ (bs : List LogPiece). ReplaysOutline (records_above group bs) first (Ok c.in_ok-records.records) last) c.deref-2.ensures.value c.in_ok-records.ensures in
+    is_inspection g.D.SectorDevice.keeps_model image c.in_ok-geometry.geometry (fields_of found.uberblock) found.name found.named c.in_ok-found.tree c.in_ok-found.logged.items c.in_ok-found.ensures.surveyed
+    last c.in_ok-records.records replayed c.in_ok-lengths.lengths.items c.in_ok-lengths.ensures c.in_ok-free.free.free c.tell.result c.tell.ensures keeps
+    (subst (λ (bs : List LogPiece). AreUnused (pointers_of c.in_ok-found.tree) (chain_addresses bs) (block_count c.in_ok-geometry.geometry) c.in_ok-free.free.free) c.deref.ensures.value c.in_ok-free.ensures.free)
 
 pub returns-clause-agrees : goal.returns-clause-agrees
 returns-clause-agrees g c = λ keeps.
     let image : List ℕ = bytes_of (g.D.SectorDevice.disk c.args.device.now).now in
     let found = c.in_ok-found.found in
-    agrees_with_imports g.D.SectorDevice.keeps_model image c.in_ok-geometry.geometry (fields_of found.uberblock) found.name c.in_ok-found.tree c.in_ok-found.ensures.surveyed
-    c.in_ok-lengths.lengths.items c.in_ok-lengths.ensures c.in_ok-free.free.free c.tell.result c.tell.ensures keeps
+    let group : ℕ = found.uberblock.group.0 in
+    let first : Outline = record { name = found.name; tree = c.in_ok-found.tree } in
+    let last : Outline = c.replay.new.self in
+    let replayed = subst (λ (bs : List LogPiece). ReplaysOutline (records_above group bs) first (Ok c.in_ok-records.records) last) c.deref-2.ensures.value c.in_ok-records.ensures in
+    agrees_with_imports g.D.SectorDevice.keeps_model image c.in_ok-geometry.geometry (fields_of found.uberblock) found.name found.named c.in_ok-found.tree c.in_ok-found.logged.items c.in_ok-found.ensures.surveyed
+    last c.in_ok-records.records replayed c.in_ok-lengths.lengths.items c.in_ok-lengths.ensures c.in_ok-free.free.free c.tell.result c.tell.ensures keeps
 
 pub returns-clause-bounded : goal.returns-clause-bounded
 returns-clause-bounded g c =
     let image : List ℕ = bytes_of (g.D.SectorDevice.disk c.args.device.now).now in
     let found = c.in_ok-found.found in
-    is_told_bounded g.D.SectorDevice.keeps_model image c.in_ok-geometry.geometry (fields_of found.uberblock) found.name c.in_ok-found.tree c.in_ok-found.ensures.surveyed
-    c.in_ok-lengths.lengths.items c.in_ok-lengths.ensures c.in_ok-free.free.free c.tell.result c.tell.ensures found.named
+    let group : ℕ = found.uberblock.group.0 in
+    let first : Outline = record { name = found.name; tree = c.in_ok-found.tree } in
+    let last : Outline = c.replay.new.self in
+    let replayed = subst (λ (bs : List LogPiece). ReplaysOutline (records_above group bs) first (Ok c.in_ok-records.records) last) c.deref-2.ensures.value c.in_ok-records.ensures in
+    is_told_bounded g.D.SectorDevice.keeps_model image c.in_ok-geometry.geometry (fields_of found.uberblock) found.name found.named c.in_ok-found.tree c.in_ok-found.logged.items c.in_ok-found.ensures.surveyed
+    last c.in_ok-records.records replayed c.in_ok-lengths.lengths.items c.in_ok-lengths.ensures c.in_ok-free.free.free c.tell.result c.tell.ensures
+
+pub returns-in_err-records-clause-refused : goal.returns-in_err-records-clause-refused
+returns-in_err-records-clause-refused g c =
+    let image : List ℕ = bytes_of (g.D.SectorDevice.disk c.args.device.now).now in
+    let found = c.in_ok-found.found in
+    let group : ℕ = found.uberblock.group.0 in
+    let first : Outline = record { name = found.name; tree = c.in_ok-found.tree } in
+    let x = c.in_err-records.field-0.0 in
+    let (address, is, refused) = subst (λ (bs : List LogPiece). ReplaysOutline (records_above group bs) first (Err x) c.replay.new.self) c.deref-2.ensures.value c.in_err-records.ensures in
+    let sized : IsGeometry (g.D.SectorDevice.size c.args.device.now) = subst IsGeometry c.sectors.ensures.size (c.in_ok-geometry.ensures.ok.0 refl) in
+    passed_on c.from_residual-in_err-records.result (Damaged 6 address) _ (rw is at c.from_residual-in_err-records.ensures.1)
+    (walk_refused g.D.SectorDevice c.args.device.now _ (Damaged 6 address) sized tt (λ keeps. reason-replay image address
+    (is_chain_damaged g.D.SectorDevice.keeps_model image c.in_ok-geometry.geometry (fields_of found.uberblock) found.name found.named c.in_ok-found.tree c.in_ok-found.logged.items c.in_ok-found.ensures.surveyed keeps address refused)))
 
 pub returns-in_err-geometry-clause-refused : goal.returns-in_err-geometry-clause-refused
 returns-in_err-geometry-clause-refused g c =

@@ -1,7 +1,7 @@
 use Rattle.std.proofs.Common.{ℕ, ◌<◌, ◌*◌}
 use Rattle.base.specs.formats.Limits.{record_size}
 use Rattle.base.specs.formats.Fields.{pointer_in}
-use Rattle.base.specs.tree.Faults.{IsRecordPointerForm}
+use Rattle.base.specs.tree.Damages.{IsRecordPointerForm}
 use Rattle.object_maps.proofs.walk.are_records.Given as goal
 
 abbrev pub invariant-loop-index : goal.invariant-loop-index

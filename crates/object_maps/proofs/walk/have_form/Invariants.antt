@@ -1,6 +1,6 @@
 use Rattle.std.proofs.Common.{ℕ, ◌<◌}
 use Rattle.base.specs.formats.Fields.{pointer_in}
-use Rattle.base.specs.tree.Faults.{IsPointerForm}
+use Rattle.base.specs.tree.Damages.{IsPointerForm}
 use Rattle.object_maps.proofs.walk.have_form.Given as goal
 
 abbrev pub invariant-loop-index : goal.invariant-loop-index

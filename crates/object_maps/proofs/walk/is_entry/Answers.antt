@@ -2,7 +2,7 @@ use Rattle.std.proofs.Common.{◌∙◌, inl, inr, ⊎_elim, sym, subst, arith}
 use Rattle.std.proofs.lemmas.Bool.{eqb-true, leb-true}
 use Rattle.base.specs.declared.pointer.Pointer.{Pointer}
 use Rattle.base.specs.formats.Fields.{entry_in}
-use Rattle.base.specs.tree.Faults.{IsPointerForm}
+use Rattle.base.specs.tree.Damages.{IsPointerForm}
 use Rattle.object_maps.proofs.EntryForms.{absent-entry, absent_fields, present_fields, present_or_not, not_true}
 use Rattle.object_maps.proofs.walk.is_entry.Goals as goal
 

@@ -4,7 +4,7 @@ use Rattle.std.proofs.lemmas.Result.{err_from_is_err_and}
 use Rattle.base.specs.disk.Disk.{bytes_of}
 use Rattle.object_maps.specs.declared.tree.ObjectMap.{ObjectMap}
 use Rattle.object_maps.proofs.LoadedTrees.{no_lengths, no_pointers, none_there, whole_tree}
-use Rattle.object_maps.proofs.WalkParts.{first_fault}
+use Rattle.object_maps.proofs.WalkParts.{first_damage}
 use Rattle.object_maps.proofs.walk.survey.Goals as goal
 
 pub load_tree-requires-clause-no_directories : goal.load_tree-requires-clause-no_directories
@@ -29,8 +29,8 @@ returns-clause-objects g c =
     c.load_tree.new.objects.maps.items c.in_ok-directories.directories.len (c.load_tree.auto.directories ∙ c.deref_mut.ensures.len) tree objects refl in
     record { objects = objects; bounded = whole.bounded; lengths = λ n low. stands n; held = whole.held }
 
-pub returns-in_err-load_tree-clause-fault : goal.returns-in_err-load_tree-clause-fault
-returns-in_err-load_tree-clause-fault g c = λ keeps.
+pub returns-in_err-load_tree-clause-damage : goal.returns-in_err-load_tree-clause-damage
+returns-in_err-load_tree-clause-damage g c = λ keeps.
     let p = err_from_is_err_and c.from_residual-in_err-load_tree.result c.from_residual-in_err-load_tree.ensures.1 in
     let image : List ℕ = bytes_of (g.D.SectorDevice.disk c.args.device.now).now in
-    rw (p.1, p.2) (first_fault image c.args.frame.now c.args.root c.in_err-load_tree.field-0.0 (c.in_err-load_tree.ensures.fault keeps image refl))
+    rw (p.1, p.2) (first_damage image c.args.frame.now c.args.root c.in_err-load_tree.field-0.0 (c.in_err-load_tree.ensures.damage keeps image refl))

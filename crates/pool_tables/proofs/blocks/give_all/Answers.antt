@@ -1,7 +1,8 @@
 use Rattle.std.proofs.Common.{◌<◌, ap, arith}
 use Rattle.base.specs.formats.Geometry.{block_count}
 use Rattle.space.specs.FreeSets.{FreeSpace}
-use Rattle.pool_tables.proofs.FreeBlocks.{block_of, given_more, none_given}
+use Rattle.group_plans.proofs.PlannedBlocks.{block_of}
+use Rattle.pool_tables.proofs.FreeBlocks.{given_more, none_given}
 use Rattle.pool_tables.proofs.blocks.give_all.Goals as goal
 
 pub loop-address-init : goal.loop-address-init

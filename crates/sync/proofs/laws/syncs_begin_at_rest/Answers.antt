@@ -1,4 +1,4 @@
-use Rattle.sync.proofs.PhasesSince.{begins_at_rest}
+use Rattle.sync.proofs.UnderWay.{begins_at_rest}
 use Rattle.sync.proofs.laws.syncs_begin_at_rest.Goals as goal
 
 pub returns : goal.returns

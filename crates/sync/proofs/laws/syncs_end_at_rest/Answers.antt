@@ -1,4 +1,4 @@
-use Rattle.sync.proofs.PhasesSince.{ends_at_rest}
+use Rattle.sync.proofs.UnderWay.{ends_at_rest}
 use Rattle.sync.proofs.laws.syncs_end_at_rest.Goals as goal
 
 pub returns : goal.returns

@@ -1,4 +1,4 @@
-use Rattle.sync.proofs.PhasesSince.{keeps_phases}
+use Rattle.sync.proofs.UnderWay.{keeps_phases}
 use Rattle.sync.proofs.laws.syncs_keep_phases.Goals as goal
 
 pub returns : goal.returns

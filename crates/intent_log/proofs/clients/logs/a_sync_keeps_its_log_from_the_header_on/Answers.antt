@@ -26,4 +26,4 @@ returns c = λ group.
     (sym c.is_some.ensures ∙ c.loop-header-test.false) in
     let kept = left ∙ c.loop-header.invariant.same in
     let next = c.give_back.ensures.next ∙ c.loop-header.invariant.next in
-    (λ i. record { pending = []; kept = kept i; next = next i })
+    (λ i. record { unsynced = []; pending = []; kept = kept i; next = next i })

@@ -8,5 +8,5 @@ pub returns : goal.returns
 returns c =
     let n = c.len-self-inside.result in
     let all : n ≡ length c.self.inside.blocks.items = omega (arith, c.len-self-inside.ensures) in
-    subst (λ (k : KeptLog). record { pending = []; kept = shown_blocks n c.self.inside.blocks.items; next = header_fields c.self.inside.next } ≡ log_after_flush (log_shown k)) c.self.view_is
+    subst (λ (k : KeptLog). record { unsynced = []; pending = []; kept = shown_blocks n c.self.inside.blocks.items; next = header_fields c.self.inside.next } ≡ log_after_flush (log_shown k)) c.self.view_is
     (flushed_log c.self.inside.flushed n c.self.inside.blocks.items (header_fields c.self.inside.next) all)

@@ -12,4 +12,4 @@ pub returns : goal.returns
 returns g c =
     root-refusal (bytes_of (g.D.SectorDevice.disk c.args.device.now).now) c.args.frame.now c.args.root c.in-Err.e
     (late-root (bytes_of (g.D.SectorDevice.disk c.args.device.now).now) c.args.frame.now c.args.root c.requires.there c.requires.born)
-    c.in-Err.ensures.cause (c.in-Err.ensures.fault c.requires.keeps)
+    c.in-Err.ensures.cause (c.in-Err.ensures.damage c.requires.keeps)

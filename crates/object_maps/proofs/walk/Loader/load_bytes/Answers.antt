@@ -2,7 +2,7 @@ use Rattle.std.proofs.Common.{◌≡◌, ◌+◌, ◌*◌, ◌∙◌, ℕ, List,
 use Rattle.std.specs.Prelude.{IsTrue}
 use Rattle.std.proofs.lemmas.List.{take_at}
 use Rattle.base.specs.declared.pointer.Pointer.{Pointer}
-use Rattle.base.specs.tree.Faults.{IsRecordPointerForm}
+use Rattle.base.specs.tree.Damages.{IsRecordPointerForm}
 use Rattle.base.specs.tree.Places.Place.{Indirect}
 use Rattle.base.specs.tree.Tree.{OpensAt}
 use Rattle.object_maps.specs.Pointers.{pointer_of_list}
@@ -14,8 +14,8 @@ use Rattle.base.specs.formats.Limits.{record_size}
 use Rattle.base.specs.disk.Disk.{Disk, bytes_of}
 use Rattle.base.specs.tree.Places.{walk_index_of_indirect}
 use Rattle.object_maps.proofs.WalkOrder.{sound_more}
-use Rattle.object_maps.proofs.WalkFaults.{missing_fault}
-use Rattle.object_maps.proofs.WalkParts.{tells_behind, object_none, data_linked, indirect_sound, indirect_fault}
+use Rattle.object_maps.proofs.WalkDamages.{missing_damage}
+use Rattle.object_maps.proofs.WalkParts.{tells_behind, object_none, data_linked, indirect_sound, indirect_damage}
 use Rattle.object_maps.proofs.Judged.{all_bytes}
 use Rattle.object_maps.proofs.walk.Loader.load_bytes.Goals as goal
 
@@ -63,7 +63,7 @@ returns-then-is_none-clause-walked g c = λ keeps image top shows indirect.
 pub returns-in_err-read_block-clause-walked : goal.returns-in_err-read_block-clause-walked
 returns-in_err-read_block-clause-walked g c = λ keeps image top shows indirect.
     let p = err_from_is_err_and c.from_residual-in_err-read_block.result c.from_residual-in_err-read_block.ensures.1 in
-    rw (p.1, p.2) (missing_fault image c.args.self.now.frame.now top (Indirect c.args.number) (walk_index_of_indirect c.args.number) c.args.indirect.now
+    rw (p.1, p.2) (missing_damage image c.args.self.now.frame.now top (Indirect c.args.number) (walk_index_of_indirect c.args.number) c.args.indirect.now
     c.in_err-read_block.field-0.0 c.requires.in_range refl indirect.at (λ none. let no = c.if-is_none.ensures.1 none in cc) (c.in_err-read_block.ensures.refused keeps image shows))
 
 pub returns-then-not-are_records-clause-walked : goal.returns-then-not-are_records-clause-walked
@@ -72,7 +72,7 @@ returns-then-not-are_records-clause-walked g c = λ keeps image top shows indire
     let payload : List ℕ = c.payload_of-payload.result.now in
     let opens = subst (λ (l : List ℕ). OpensAt image frame (Indirect c.args.number) c.args.indirect.now l) (sym c.payload_of-payload.ensures.payload)
     (c.in_ok-read_block.ensures.opens image (λ k. shows) keeps) in
-    indirect_fault image frame top c.args.number (length c.args.bytes.now) c.args.indirect.now payload c.damaged.result c.requires.in_range indirect
+    indirect_damage image frame top c.args.number (length c.args.bytes.now) c.args.indirect.now payload c.damaged.result c.requires.in_range indirect
     (λ none. let no = c.if-is_none.ensures.1 none in cc) opens (λ formed. let no = c.if-not-are_records.ensures.1 formed in cc) c.damaged.ensures
 
 pub returns-in_err-load_records-clause-walked : goal.returns-in_err-load_records-clause-walked

@@ -5,7 +5,7 @@ use Rattle.base.specs.tree.Tree.{OpensAt}
 use Rattle.object_maps.proofs.LoadedRecords.{record_taken, records_apart}
 use Rattle.std.proofs.lemmas.Result.{err_from_is_err_and}
 use Rattle.base.specs.tree.Places.{walk_index_of}
-use Rattle.object_maps.proofs.WalkFaults.{missing_fault, record_fault, record_sound}
+use Rattle.object_maps.proofs.WalkDamages.{missing_damage, record_damage, record_sound}
 use Rattle.object_maps.proofs.walk.Loader.load_record.Goals as goal
 
 pub returns-clause-loaded : goal.returns-clause-loaded
@@ -26,7 +26,7 @@ returns-clause-others g c =
 pub returns-in_err-read_block-clause-walked : goal.returns-in_err-read_block-clause-walked
 returns-in_err-read_block-clause-walked g c = λ keeps image top shows named_by.
     let p = err_from_is_err_and c.from_residual.result c.from_residual.ensures.1 in
-    rw (p.1, p.2) (missing_fault image c.args.self.now.frame.now top (Data c.args.number c.args.index) (walk_index_of (Data c.args.number c.args.index)) c.args.pointer.now
+    rw (p.1, p.2) (missing_damage image c.args.self.now.frame.now top (Data c.args.number c.args.index) (walk_index_of (Data c.args.number c.args.index)) c.args.pointer.now
     c.in_err-read_block.field-0.0 c.requires.place refl named_by.at named_by.there (c.in_err-read_block.ensures.refused keeps image shows))
 
 pub returns-then-not-are_zeros-clause-walked : goal.returns-then-not-are_zeros-clause-walked
@@ -36,7 +36,7 @@ returns-then-not-are_zeros-clause-walked g c = λ keeps image top shows named_by
     let opens = subst (λ (l : List ℕ). OpensAt image frame (Data c.args.number c.args.index) c.args.pointer.now l) (sym c.payload_of-payload.ensures.payload)
     (c.in_ok-read_block.ensures.opens image (λ k. shows) keeps) in
     let not = rw (take_rest payload c.min-count.result) at c.if-not-are_zeros.ensures.1 in
-    record_fault image frame top c.args.number c.args.index (length c.args.bytes.now) c.min-count.result c.args.pointer.now payload c.damaged.result c.requires.place.0 c.requires.place.1
+    record_damage image frame top c.args.number c.args.index (length c.args.bytes.now) c.min-count.result c.args.pointer.now payload c.damaged.result c.requires.place.0 c.requires.place.1
     named_by opens c.payload_of-payload.ensures.length c.min-count.ensures (λ zeros. let no = not zeros in cc) c.damaged.ensures
 
 pub returns-clause-walked : goal.returns-clause-walked

@@ -3,7 +3,7 @@ use Rattle.base.specs.formats.Fields.{part}
 use Rattle.object_maps.specs.Kinds.{kind_number}
 use Rattle.std.proofs.lemmas.Result.{err_from_is_err_and}
 use Rattle.object_maps.proofs.LoadedBlocks.{block_opens}
-use Rattle.object_maps.proofs.WalkFaults.{tells_missing}
+use Rattle.object_maps.proofs.WalkDamages.{tells_missing}
 use Rattle.object_maps.proofs.walk.Loader.read_block.Goals as goal
 
 pub returns-clause-opens : goal.returns-clause-opens

@@ -47,3 +47,6 @@ returns-in-StartSync g c = rw c.in-StartSync.is (mapped _ c.make-in-StartSync.re
 
 pub returns-in-SyncStep : goal.returns-in-SyncStep
 returns-in-SyncStep g c = rw c.in-SyncStep.is (mapped _ c.make-in-SyncStep.result c.map-in-SyncStep.result c.map-in-SyncStep.ensures.cases c.make-in-SyncStep.ensures)
+
+pub returns-in-Durable : goal.returns-in-Durable
+returns-in-Durable g c = rw c.in-Durable.is (mapped _ c.make-in-Durable.result c.map-in-Durable.result c.map-in-Durable.ensures.cases c.make-in-Durable.ensures)

@@ -9,4 +9,4 @@ use Rattle.pool_core.proofs.state.PoolState.lock.Goals as goal
 pub returns-clause-unmoved : goal.returns-clause-unmoved
 returns-clause-unmoved g c =
     let own = lock_own (pool_shown c.args.self.now.pool) (pool_shown c.lock.new.self) c.args.owner.0 (object_range c.args.object.0 c.args.range.low c.args.range.high) c.args.mode (result_map lock_number c.lock.result) c.lock.ensures.step in
-    record { no_call = record { device = refl; own = map_counts lock_number c.lock.result own }; kept = c.lock.ensures.kept }
+    record { no_call = record { device = refl; own = map_counts lock_number c.lock.result own }; kept = c.lock.ensures.tree }

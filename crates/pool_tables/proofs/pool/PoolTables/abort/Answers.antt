@@ -94,13 +94,13 @@ invariant_of-self-2-clause-free_counted c =
           (others_reserved pool c.args.tx.0 (admission_of c.in-Some.transaction) (sym c.in-Some.ensures.ended) _ (rw (c.charge.ensures, c.as_slice-shapes.ensures) at c.cancel.ensures.total));
     }
 
-pub invariant_of-self-2-clause-unsynced : goal.invariant_of-self-2-clause-unsynced
-invariant_of-self-2-clause-unsynced c =
+pub invariant_of-self-2-clause-unsynced_kept : goal.invariant_of-self-2-clause-unsynced_kept
+invariant_of-self-2-clause-unsynced_kept c =
     let pool = c.args.self.now in
     let held = ended_held pool c.args.tx.0 (admission_of c.in-Some.transaction) (sym c.in-Some.ensures.ended) c.in-Some.ensures.apart in
     let released : c.release.new.self ≡ after_release c.in-Some.transaction.group.0 pool.groups = where_passed c.release.result _ _ c.release.ensures.refused
     (may_release pool.groups c.in-Some.transaction.group.0 held) c.release.ensures.released in
-    rw (released, line-after_release pool.groups pool.accounted.counted c.in-Some.transaction.group.0) pool.unsynced
+    rw (released, line-after_release pool.groups pool.accounted.counted c.in-Some.transaction.group.0) pool.unsynced_kept
 
 pub returns-clause-step : goal.returns-clause-step
 returns-clause-step c =

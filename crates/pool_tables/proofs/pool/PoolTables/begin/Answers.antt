@@ -6,7 +6,7 @@ use Rattle.std.proofs.lemmas.Result.{err_from_is_err_and}
 use Rattle.base.specs.declared.operation.Shape.{Shape}
 use Rattle.base.specs.formats.Limits.{max_log_record}
 use Rattle.base.specs.history.Plans.{is_plan_allowed, log_record_size}
-use Rattle.base.specs.steps.Stage.{begin_refusal, is_plan_built}
+use Rattle.base.specs.steps.BuiltSteps.{begin_refusal, is_plan_built}
 use Rattle.groups.specs.CountedLines.{after_hold}
 use Rattle.groups.specs.Laws.{AreHoldsExact}
 use Rattle.transactions.specs.Open.{Open}
@@ -111,13 +111,13 @@ invariant_of-self-2-clause-accounted c =
           (All-push IsSmall all _ pool.accounted.plans_small (subst (λ (l : List Shape). log_record_size l ≤ max_log_record) same may.small));
     }
 
-pub invariant_of-self-2-clause-unsynced : goal.invariant_of-self-2-clause-unsynced
-invariant_of-self-2-clause-unsynced c =
+pub invariant_of-self-2-clause-unsynced_kept : goal.invariant_of-self-2-clause-unsynced_kept
+invariant_of-self-2-clause-unsynced_kept c =
     let pool = c.args.self.now in
     let may = may_begin c.args.owner.0 c.as_slice-shapes.result.now (pool_shown pool) c.in_ok-check_begin.ensures in
     let held : c.hold.new.self ≡ after_hold pool.groups = where_passed c.hold.result _ _ c.hold.ensures.refused
     (may_begin_hold pool.groups pool.accounted.counted pool.transactions.transactions pool.accounted.holds_exact may.few) c.hold.ensures.held in
-    rw held pool.unsynced
+    rw held pool.unsynced_kept
 
 pub returns-clause-step : goal.returns-clause-step
 returns-clause-step c =

@@ -5,7 +5,7 @@ use Rattle.transactions.specs.Open.{admission_of}
 use Rattle.pool_tables.specs.Shows.{pool_shown}
 use Rattle.pool_tables.proofs.Opens.{above_last, up_to_last}
 use Rattle.pool_tables.proofs.CommitSteps.{commit_fails, commit_many, commit_none, commit_out, commit_passes}
-use Rattle.pool_tables.proofs.CommitTests.{in_plan, judged, ops_allowed}
+use Rattle.pool_tables.proofs.CommitTests.{in_plan, judged, ops_allowed, ops_fit}
 use Rattle.pool_tables.proofs.pool.PoolTables.check_commit.Goals as goal
 
 pub returns-in_default-clause-refusal : goal.returns-in_default-clause-refusal
@@ -57,3 +57,8 @@ pub returns-clause-allowed : goal.returns-clause-allowed
 returns-clause-allowed c =
     let a = admission_of c.in-Some.transaction.now in
     ops_allowed c.args.tx.0 c.args.ops.now c.args.self.now a (sym c.in-Some.ensures) c.if-not-is_in_plan.false _ c.as_slice.ensures c.is_in_plan.ensures.equal
+
+pub returns-clause-fits : goal.returns-clause-fits
+returns-clause-fits c =
+    let a = admission_of c.in-Some.transaction.now in
+    ops_fit c.args.tx.0 c.args.ops.now c.args.self.now a (sym c.in-Some.ensures) c.if-not-is_in_plan.false _ c.as_slice.ensures c.is_in_plan.ensures.equal

@@ -4,6 +4,7 @@ use Rattle.pool_tables.proofs.Closes.{accounts_move_on, close_ends, close_moves,
 use Rattle.pool_tables.proofs.HeldGroups.{close_keeps}
 use Rattle.pool_tables.proofs.UnsyncedChanges.{moved_on}
 use Rattle.pool_tables.specs.Shows.{pool_shown}
+use Rattle.intent_log.specs.Kept.{log_shown}
 use Rattle.pool_tables.proofs.pool.PoolTables.close_group.Goals as goal
 
 pub returns-in_err-check_running-clause-step : goal.returns-in_err-check_running-clause-step
@@ -20,11 +21,11 @@ invariant_of-self-clause-accounted c =
     let kept = close_keeps c.close_open.result ts pool.groups c.close_open.new.self pool.accounted.counted pool.accounted.holds_exact told.refused told.unchanged told.closed in
     accounts_move_on ts pool.groups c.close_open.new.self pool.dirty kept (close_moves c.close_open.result pool.groups c.close_open.new.self told.unchanged told.closed) pool.accounted
 
-pub invariant_of-self-clause-unsynced : goal.invariant_of-self-clause-unsynced
-invariant_of-self-clause-unsynced c =
+pub invariant_of-self-clause-unsynced_kept : goal.invariant_of-self-clause-unsynced_kept
+invariant_of-self-clause-unsynced_kept c =
     let pool = c.args.self.now in
     let told = c.close_open.ensures in
-    moved_on pool.groups.line c.close_open.new.self.line pool.pending.items pool.synced pool.changes (close_moves c.close_open.result pool.groups c.close_open.new.self told.unchanged told.closed) pool.unsynced
+    moved_on pool.groups.line c.close_open.new.self.line pool.unsynced.items pool.written (log_shown pool.log) pool.synced pool.changes (close_moves c.close_open.result pool.groups c.close_open.new.self told.unchanged told.closed) pool.unsynced_kept
 
 pub returns-clause-step : goal.returns-clause-step
 returns-clause-step c =

@@ -68,11 +68,18 @@ invariant_of-self-2 c =
       };
       sync_line = pool.sync_line;
       tree_placed = pool.tree_placed;
-      unsynced = record {
-        built = rw c.in_ok-reserve.ensures.items pool.unsynced.built;
-        open_or_before = rw c.in_ok-reserve.ensures.items pool.unsynced.open_or_before;
-        within = pool.unsynced.within;
-        changed = rw c.in_ok-reserve.ensures.items (changes_left_at pool.groups.line.synced pool.pending.items pool.changes c.reserve-2.new.self pool.unsynced.changed c.reserve-2.ensures.same);
+      log_placed = pool.log_placed;
+      sync_header = pool.sync_header;
+      unsynced_kept = record {
+        built = rw c.in_ok-reserve.ensures.items pool.unsynced_kept.built;
+        above = rw c.in_ok-reserve.ensures.items pool.unsynced_kept.above;
+        open_or_before = rw c.in_ok-reserve.ensures.items pool.unsynced_kept.open_or_before;
+        within = pool.unsynced_kept.within;
+        changed = rw c.in_ok-reserve.ensures.items (changes_left_at pool.groups.line.synced pool.unsynced.items pool.changes c.reserve-2.new.self pool.unsynced_kept.changed c.reserve-2.ensures.same);
+        allowed = rw c.in_ok-reserve.ensures.items pool.unsynced_kept.allowed;
+        front = rw c.in_ok-reserve.ensures.items pool.unsynced_kept.front;
+        noted = rw c.in_ok-reserve.ensures.items pool.unsynced_kept.noted;
+        whole = pool.unsynced_kept.whole;
       };
     }
 

@@ -15,7 +15,7 @@ returns-in_err-check_running c =
 pub digest-requires : goal.digest-requires
 digest-requires c =
     let pool = c.args.self.now in
-    record { within = subst AreWithin (sym c.objects.ensures) (laid_stay_within pool.changes (synced_of pool).objects pool.unsynced.within) }
+    record { within = subst AreWithin (sym c.objects.ensures) (laid_stay_within pool.changes (synced_of pool).objects pool.unsynced_kept.within) }
 
 pub returns : goal.returns
 returns c = digest_told c.digest.result (pool_shown c.args.self.now) c.in_ok-check_running.ensures (rw c.objects.ensures at c.digest.ensures.digest) c.digest.ensures.refused

@@ -3,7 +3,7 @@ use Rattle.std.specs.FinSet as set
 use Rattle.base.specs.formats.Geometry.{block_count}
 use Rattle.space.specs.FreeSets.{FreeSpace}
 use Rattle.pool_tables.specs.Shows.{contents_after_oldest, pool_shown}
-use Rattle.pool_tables.proofs.syncs.PlannedPointers.{lengths-set}
+use Rattle.group_plans.proofs.PlannedPointers.{lengths-set}
 use Rattle.pool_tables.proofs.syncs.SameSyncs.{none_planned, none_running, placed_after}
 use Rattle.pool_tables.proofs.pool.PoolTables.finish_tree.Goals as goal
 
@@ -21,13 +21,20 @@ invariant_of-self-3 c =
       next_ordinal_fits = pool.next_ordinal_fits;
       accounted = pool.accounted;
       running = λ x e. absurd (none_running pool.sync x c.requires.none e);
+      sync_header = λ x e. absurd (none_running pool.sync x c.requires.none e);
+      log_placed = pool.log_placed;
       sync_line = pool.sync_line;
       tree_placed = placed_after (block_count pool.geometry) _ _ c.set_all.ensures.pointers c.requires.placed;
-      unsynced = record {
-        built = pool.unsynced.built;
-        open_or_before = pool.unsynced.open_or_before;
-        within = pool.unsynced.within;
-        changed = pool.unsynced.changed;
+      unsynced_kept = record {
+        built = pool.unsynced_kept.built;
+        above = pool.unsynced_kept.above;
+        open_or_before = pool.unsynced_kept.open_or_before;
+        within = pool.unsynced_kept.within;
+        changed = pool.unsynced_kept.changed;
+        allowed = pool.unsynced_kept.allowed;
+        front = pool.unsynced_kept.front;
+        noted = pool.unsynced_kept.noted;
+        whole = pool.unsynced_kept.whole;
       };
     }
 
@@ -38,5 +45,5 @@ returns-clause-shown c =
     let rs = c.args.running in
     let free = ap (λ (f : FreeSpace). f.free) c.give_all.ensures ∙ ap (λ (l : List ℕ). set.union s.free (set.from_list l)) c.deref.ensures.value in
     let lengths = lengths-set pool.tree c.set_all.new.self rs.maps c.set_all.ensures.lengths in
-    let idle = none_planned pool.log_address c.set_all.new.self pool.tree (contents_after_oldest pool) pool.sync c.requires.none in
+    let idle = none_planned c.set_all.new.self pool.tree (contents_after_oldest pool) pool.sync c.requires.none in
     rw c.set_all.ensures.root (λ k. record s { free = free k; root = rs.root; lengths = lengths k; sync = idle k })

@@ -5,6 +5,7 @@ use Rattle.pool_tables.proofs.Closes.{accounts_move_on, quiesce_ends, quiesce_mo
 use Rattle.pool_tables.proofs.HeldGroups.{quiesce_keeps}
 use Rattle.pool_tables.proofs.UnsyncedChanges.{moved_on}
 use Rattle.pool_tables.specs.Shows.{pool_shown}
+use Rattle.intent_log.specs.Kept.{log_shown}
 use Rattle.pool_tables.proofs.pool.PoolTables.mark_quiesced.Goals as goal
 
 pub returns-in_err-check_running-clause-step : goal.returns-in_err-check_running-clause-step
@@ -21,11 +22,11 @@ invariant_of-self-clause-accounted c =
     let kept = quiesce_keeps c.mark_quiesced.result ts pool.groups c.mark_quiesced.new.self pool.accounted.counted pool.accounted.holds_exact told.refused told.unchanged told.quiesced told.group in
     accounts_move_on ts pool.groups c.mark_quiesced.new.self pool.dirty kept (quiesce_moves c.mark_quiesced.result pool.groups c.mark_quiesced.new.self told.unchanged told.quiesced) pool.accounted
 
-pub invariant_of-self-clause-unsynced : goal.invariant_of-self-clause-unsynced
-invariant_of-self-clause-unsynced c =
+pub invariant_of-self-clause-unsynced_kept : goal.invariant_of-self-clause-unsynced_kept
+invariant_of-self-clause-unsynced_kept c =
     let pool = c.args.self.now in
     let told = c.mark_quiesced.ensures in
-    moved_on pool.groups.line c.mark_quiesced.new.self.line pool.pending.items pool.synced pool.changes (quiesce_moves c.mark_quiesced.result pool.groups c.mark_quiesced.new.self told.unchanged told.quiesced) pool.unsynced
+    moved_on pool.groups.line c.mark_quiesced.new.self.line pool.unsynced.items pool.written (log_shown pool.log) pool.synced pool.changes (quiesce_moves c.mark_quiesced.result pool.groups c.mark_quiesced.new.self told.unchanged told.quiesced) pool.unsynced_kept
 
 pub returns-clause-step : goal.returns-clause-step
 returns-clause-step c =

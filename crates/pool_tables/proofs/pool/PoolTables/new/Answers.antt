@@ -1,13 +1,22 @@
-use Rattle.std.proofs.Common.{◌≡◌, ◌∙◌, ◌≤◌, ap, arith, false, refl, sym}
+use Rattle.std.proofs.Common.{◌≡◌, ◌∙◌, ◌<◌, ◌≤◌, ℕ, [], ◌∷◌, ap, arith, false, true, refl, subst, sym}
 use Rattle.std.specs.List.{list_any}
-use Rattle.std.proofs.lemmas.List.Elements.{All-nil}
+use Rattle.std.proofs.Math.Logic.{∥∥₁_elim}
+use mathlib.Core.Bool.{Bool-set}
+use Rattle.std.proofs.lemmas.List.Elements.{All-cons, All-nil}
+use Rattle.base.proofs.common.KeptLists.{none_at}
+use Rattle.base.specs.formats.Chain.{Header}
+use Rattle.base.specs.formats.Geometry.{block_count}
+use Rattle.base.specs.formats.Records.{IsAllowed}
 use Rattle.base.specs.tree.Syncs.{is_rename}
 use Rattle.groups.specs.CountedLines.{counted_behind}
-use Rattle.tree_plans.specs.declared.planner.Committed.{Committed}
+use Rattle.transactions.specs.declared.record.Record.{Record}
+use Rattle.transactions.specs.Records.{record_fields}
 use Rattle.throttle.specs.Blocks.{blocks_in}
 use Rattle.throttle.proofs.BlockSums.{blocks_of-empty}
 use Rattle.throttle.proofs.ShownSums.{new_sums_are_on_lines}
 use Rattle.object_maps.specs.ContentsShown.{contents_of}
+use Rattle.group_plans.specs.Areas.{AreBlocksOf, is_block_of}
+use Rattle.group_plans.proofs.PlannedBlocks.{block_passes}
 use Rattle.pool_tables.proofs.Charges.{total-behind}
 use Rattle.pool_tables.proofs.HeldGroups.{counted_new, exact_new}
 use Rattle.pool_tables.proofs.Opens.{IsBuilt, IsSmall}
@@ -35,15 +44,28 @@ invariant_of-result-clause-free_counted c =
       reserved = rw c.new-4.ensures (idle.reserved ∙ sym (ap blocks_in (total-behind c.args.mounted.dirty_max c.args.mounted.group.0)));
     }
 
-pub invariant_of-result-clause-unsynced : goal.invariant_of-result-clause-unsynced
-invariant_of-result-clause-unsynced c = rw (c.new-2.ensures, c.new-6.ensures.items) (record {
-  built = All-nil (λ (x : Committed). list_any is_rename x.ops ≡ false);
-  open_or_before = All-nil (λ (x : Committed). x.group.0 ≤ (counted_behind c.args.mounted.group.0).line.open_group);
+pub invariant_of-result-clause-unsynced_kept : goal.invariant_of-result-clause-unsynced_kept
+invariant_of-result-clause-unsynced_kept c = rw (c.new-2.ensures, c.new-6.ensures.items, c.new-7.ensures.none) (record {
+  built = All-nil (λ (x : Record). list_any is_rename x.ops ≡ false);
+  above = All-nil (λ (x : Record). c.args.mounted.group.0 < x.group.0);
+  open_or_before = All-nil (λ (x : Record). x.group.0 ≤ (counted_behind c.args.mounted.group.0).line.open_group);
   within = c.requires;
   changed = first_changes c.new-5.result c.new-5.ensures c.args.mounted.group.0;
+  allowed = All-nil (λ (x : Record). IsAllowed (record_fields x));
+  front = omega arith;
+  noted = refl;
+  whole = λ i b at. absurd (none_at i b at);
 })
+
+pub invariant_of-result-clause-log_placed : goal.invariant_of-result-clause-log_placed
+invariant_of-result-clause-log_placed c =
+    let blocks = block_count c.args.mounted.geometry in
+    let address = c.args.mounted.log_address in
+    let is : is_block_of blocks address ≡ true = ∥∥₁_elim c.args.mounted.log_placed (Bool-set _ _) (block_passes blocks address) in
+    rw c.new-7.ensures.none (subst (λ (a : ℕ). AreBlocksOf blocks (a ∷ [])) (sym (ap (λ (h : Header). h.address) c.new-7.ensures.next))
+    (All-cons (λ (a : ℕ). is_block_of blocks a ≡ true) address [] is (All-nil (λ (a : ℕ). is_block_of blocks a ≡ true))))
 
 pub returns-clause-shown : goal.returns-clause-shown
 returns-clause-shown c =
     let objects = first_objects c.new-5.result c.new-5.ensures (contents_of c.args.mounted.contents).objects c.requires in
-    rw (c.new.ensures.none, c.new.ensures.next, c.new-2.ensures, c.new-3.ensures.none, c.new-3.ensures.first, c.new-4.ensures, c.new-6.ensures.items, blocks_of-empty, objects) refl
+    rw (c.new.ensures.none, c.new.ensures.next, c.new-2.ensures, c.new-3.ensures.none, c.new-3.ensures.first, c.new-4.ensures, c.new-6.ensures.items, c.new-7.ensures.none, c.new-7.ensures.next, blocks_of-empty, objects) refl

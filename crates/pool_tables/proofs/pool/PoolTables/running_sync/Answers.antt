@@ -1,12 +1,14 @@
 use Rattle.std.proofs.Common.{◌≡◌, ◌+◌, ◌-◌, List, length, map, vec_len, ap, arith}
 use Rattle.std.specs.Global.{Vec}
 use Rattle.std.proofs.lemmas.List.{length-map}
+use Rattle.base.specs.steps.Logs.{header_for}
 use Rattle.base.specs.steps.Shown.{SyncPlan}
 use Rattle.sync.specs.Runs.{call_count, other_calls}
 use Rattle.tree_plans.specs.declared.planner.PlannedBlock.{PlannedBlock}
 use Rattle.tree_plans.specs.Plans.{address_of}
-use Rattle.pool_tables.specs.Pointers.{lengths_after}
-use Rattle.pool_tables.specs.Shows.{contents_after_oldest, new_plan}
+use Rattle.group_plans.specs.Pointers.{lengths_after}
+use Rattle.pool_tables.specs.Shows.{contents_after_oldest, new_plan, pool_shown}
+use Rattle.pool_tables.proofs.LogHeaders.{header_starts}
 use Rattle.pool_tables.proofs.pool.PoolTables.running_sync.Goals as goal
 
 pub returns-clause-plan : goal.returns-clause-plan
@@ -18,5 +20,8 @@ returns-clause-plan c =
     let steps : call_count run - run.done ≡ length (map address_of blocks) + 6 =
     omega (arith, ap vec_len new.blocks, ap other_calls new.stages, new.done, length-map blocks address_of, planned.blocks.ok.0) in
     let taken = ap (λ (v : Vec PlannedBlock). map address_of v.items) new.blocks in
-    let plan : SyncPlan = new_plan c.args.moment c.args.self.now.log_address (map address_of blocks) planned.freed.items planned.root (contents_after_oldest c.args.self.now) (lengths_after planned.maps c.args.self.now.tree) in
-    λ k. record plan { steps_left = steps k; taken = taken k }
+    let plan : SyncPlan = new_plan c.args.moment (header_for c.args.group.0 (pool_shown c.args.self.now).log) (map address_of blocks) planned.freed.items planned.root (contents_after_oldest c.args.self.now) (lengths_after planned.maps c.args.self.now.tree) in
+    λ k. record plan { steps_left = steps k; taken = taken k; header = c.header_for-header.ensures.header k }
+
+pub returns-clause-header : goal.returns-clause-header
+returns-clause-header c = header_starts c.args.group.0 c.args.self.now.log _ c.header_for-header.ensures.numbered c.header_for-header.ensures.header

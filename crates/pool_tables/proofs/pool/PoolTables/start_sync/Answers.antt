@@ -1,11 +1,18 @@
-use Rattle.std.proofs.Common.{◌≡◌, ◌∙◌, ap, sym, subst, refl, inl, length, List, Some, arith}
+use Rattle.std.proofs.Common.{◌≡◌, ◌∙◌, ℕ, ap, sym, subst, refl, inl, length, List, Some, arith}
 use Rattle.std.proofs.lemmas.Bool.{false≢true}
 use Rattle.std.proofs.lemmas.Result.{err_from_is_err_and}
+use Rattle.base.specs.declared.names.Group.{Group}
+use Rattle.base.specs.formats.Chain.{Header}
+use Rattle.base.specs.steps.Shown.{SyncPlan}
 use Rattle.groups.specs.CountedLines.{CountedLine, after_start}
+use Rattle.intent_log.specs.Kept.{header_fields, log_shown}
 use Rattle.space.specs.FreeSets.{FreeSpace}
 use Rattle.tree_plans.specs.declared.planner.PlannedBlock.{PlannedBlock}
 use Rattle.pool_tables.specs.Accounts.{AreAccounted}
-use Rattle.pool_tables.specs.Pending.{KeepsUnsynced}
+use Rattle.pool_tables.specs.declared.pool.RunningSync.{RunningSync}
+use Rattle.pool_tables.specs.Running.{KeepsHeader}
+use Rattle.pool_tables.specs.RunningUberblocks.{WritesUberblock, uberblock_with}
+use Rattle.pool_tables.specs.Unsynced.{KeepsUnsynced}
 use Rattle.pool_tables.proofs.Closes.{accounts_move_on}
 use Rattle.pool_tables.proofs.UnsyncedChanges.{moved_on}
 use Rattle.pool_tables.specs.Told.{pool_told}
@@ -90,14 +97,18 @@ invariant_of-self c =
       running = λ x e. subst (RunsIn pool) (kept_sync rs x e) (record {
         geometry = ens.geometry;
         left = ens.begins.left;
-        uberblock = rw (ens.group, ens.moment, ens.begins.root) ens.uberblock;
+        uberblock = subst (λ (h : Header). WritesUberblock (uberblock_with pool.guid pool.import_number h rs.group.0 rs.moment rs.root) rs.run) (sym (ap (λ (p : SyncPlan). p.header) ens.plan))
+            (rw (ens.group, ens.moment, ens.begins.root) ens.uberblock);
         placed = rw (ens.begins.root, ens.begins.directories, ens.begins.maps) c.in_ok-planned.ensures.tree.placed;
         room = ∣ c.in_ok-reserve_synced.ensures.room ∣₁;
       });
       sync_line = ap (λ (g : _). Some g.0) ens.group ∙ sym (ap (λ (l : CountedLine). l.line.syncing) now);
       tree_placed = pool.tree_placed;
-      unsynced = subst (λ (l : CountedLine). KeepsUnsynced l.line pool.pending.items pool.synced pool.changes) (sym now)
-          (moved_on pool.groups.line (after_start group pool.groups).line pool.pending.items pool.synced pool.changes (refl, omega arith) pool.unsynced);
+      log_placed = pool.log_placed;
+      sync_header = λ x e. subst (λ (r : RunningSync). KeepsHeader r.group.0 (header_fields r.header) (log_shown pool.log)) (kept_sync rs x e)
+          (subst (λ (g : ℕ). KeepsHeader g (header_fields rs.header) (log_shown pool.log)) (ap (λ (g : Group). g.0) (sym ens.group)) ens.header);
+      unsynced_kept = subst (λ (l : CountedLine). KeepsUnsynced l.line pool.unsynced.items pool.written (log_shown pool.log) pool.synced pool.changes) (sym now)
+          (moved_on pool.groups.line (after_start group pool.groups).line pool.unsynced.items pool.written (log_shown pool.log) pool.synced pool.changes (refl, omega arith) pool.unsynced_kept);
     }
 
 pub returns-clause-start : goal.returns-clause-start

@@ -1,4 +1,4 @@
-use Rattle.std.proofs.Common.{◌≡◌, ◌∙◌, ◌≤◌, ap, filter, inl, inr, map, nat_lt, sym, subst, refl, true, false, Some, None}
+use Rattle.std.proofs.Common.{◌≡◌, ◌∙◌, ◌≤◌, List, arith, drop, length, ap, filter, inl, inr, map, nat_lt, sym, subst, refl, true, false, Some, None}
 use Rattle.std.specs.Prelude.{Bool, Option, Result, option_map}
 use Rattle.std.proofs.lemmas.Result.{err_from_is_err_and}
 use Rattle.base.specs.formats.Geometry.{block_count}
@@ -6,13 +6,23 @@ use Rattle.base.specs.tree.PlacedTrees.{ArePlaced}
 use Rattle.base.specs.steps.Shown.{SyncPlan}
 use Rattle.object_maps.specs.Pointers.{pointers_of}
 use Rattle.pool_tables.specs.declared.pool.RunningSync.{RunningSync}
-use Rattle.pool_tables.specs.Shows.{pool_shown, record_of, shown_after_tree}
+use Rattle.transactions.specs.Records.{record_fields}
+use Rattle.pool_tables.specs.Areas.{addresses_before, blocks_from}
+use Rattle.pool_tables.specs.Running.{KeepsHeader}
+use Rattle.pool_tables.specs.Shows.{contents_after_oldest, plan_of, pool_shown, shown_after_tree}
+use Rattle.pool_tables.specs.Unsynced.{is_after}
+use Rattle.intent_log.specs.Kept.{header_fields, log_shown}
+use Rattle.space.specs.FreeSets.{FreeSpace}
+use Rattle.pool_tables.proofs.FreeBlocks.{union_both}
 use Rattle.pool_tables.proofs.Mapped.{filter-map}
+use Rattle.pool_tables.proofs.WholeBlocks.{whole-filter}
+use Rattle.pool_tables.proofs.WrittenRecords.{all_after, front_within, noted-synced, pending-synced}
 use Rattle.pool_tables.proofs.UnsyncedChanges.{has_room, open_three, same_contents, synced_changes, synced_within, syncing_follows}
 use Rattle.extents.specs.Unsynced.{changes_at}
-use Rattle.base.specs.formats.Records.{Record}
+use Rattle.base.specs.formats.Records.{IsAllowed, Record}
+use Rattle.base.specs.steps.Logs.{AreWhole, KeptBlock, committed_above, committed_in}
 use Rattle.base.specs.tree.Syncs.{is_rename}
-use Rattle.tree_plans.specs.declared.planner.Committed.{Committed}
+use Rattle.transactions.specs.declared.record.Record as code
 use Rattle.std.specs.List.{list_any}
 use Rattle.std.proofs.lemmas.List.Elements.{All-filter}
 use Rattle.pool_tables.proofs.syncs.SameSyncs.{RunsIn, as_many, counted_still, kept_sync, left_as_before, more_left, one_left, one_less, refused_as, runs_on}
@@ -20,6 +30,7 @@ use Rattle.base.specs.disk.Disk.{bytes_of}
 use Rattle.base.specs.declared.step.Reply.TheVariants as reply
 use Rattle.groups.specs.CountedLines.{CountedLine, after_sync, line_after_sync}
 use Rattle.std.specs.FinMap as finite
+use Rattle.std.specs.FinSet as set
 use Rattle.throttle.proofs.BlockSums.{blocks_of-remove}
 use Rattle.throttle.specs.Blocks.{AreOpenOnesCharged, AreSumsOn}
 use Rattle.pool_tables.proofs.Charges.{synced_charged, synced_open_charged, syncing_next}
@@ -29,7 +40,7 @@ use Rattle.pool_tables.specs.declared.pool.Progress.{Progress}
 use Rattle.pool_tables.specs.Told.{SamePlaces, pool_told, made_by, sync_step_reply, tree_after}
 use Rattle.pool_tables.proofs.StillSteps.{leads_as, still_pool}
 use Rattle.pool_tables.proofs.syncs.SyncLeads.{advanced, failed_call, failed_running, planned_still, synced_told, was_planned, was_running, was_syncing}
-use Rattle.pool_tables.proofs.syncs.SyncSteps.{step_failed, step_more, step_not_ready, step_suspended, step_synced}
+use Rattle.pool_tables.proofs.syncs.SyncSteps.{shown_synced, step_failed, step_more, step_not_ready, step_suspended, step_synced}
 use Rattle.pool_tables.proofs.pool.PoolTables.sync_step.Goals as goal
 
 pub returns-in_err-check_running-clause-step : goal.returns-in_err-check_running-clause-step
@@ -86,22 +97,46 @@ lay_oldest-requires g c =
     let pool = c.args.self.now in
     has_room (changes_at pool.changes 0) pool.synced.slots.items ((pool.running c.in-Some.running c.in-Some.is).room)
 
-pub invariant_of-self-in-Ok-Last-clause-unsynced : goal.invariant_of-self-in-Ok-Last-clause-unsynced
-invariant_of-self-in-Ok-Last-clause-unsynced g c =
+pub invariant_of-self-in-Ok-Last-clause-unsynced_kept : goal.invariant_of-self-in-Ok-Last-clause-unsynced_kept
+invariant_of-self-in-Ok-Last-clause-unsynced_kept g c =
     let pool = c.args.self.now in
     let group = c.in-Some-take.synced.group.0 in
     let same = kept_sync c.in-Some-take.synced _ c.in-Some-take.ensures.value in
     let syncing = was_syncing pool c.in-Some.running c.in-Some.is ∙ ap (λ (r : RunningSync). Some r.group.0) (sym same) in
     let finished : c.finish_sync.new.self ≡ after_sync group pool.groups =
     of_group (λ n. after_sync n pool.groups) pool.groups.line.syncing group _ syncing c.in-Ok.ensures.group c.in-Ok.ensures.synced in
-    let later : Committed → Bool = λ (x : Committed). nat_lt group x.group.0 in
-    rw (finished, c.drop_synced.ensures) (record {
-      built = All-filter later (λ (x : Committed). list_any is_rename x.ops ≡ false) pool.pending.items pool.unsynced.built;
-      open_or_before = All-filter later (λ (x : Committed). x.group.0 ≤ pool.groups.line.open_group) pool.pending.items pool.unsynced.open_or_before;
-      within = synced_within pool.changes pool.synced c.lay_oldest.new.synced c.lay_oldest.ensures.contents pool.unsynced.within;
-      changed = synced_changes pool.groups.line.synced group pool.pending.items pool.changes c.lay_oldest.new.changes (syncing_follows pool.groups.line group pool.accounted.counted.line syncing)
-          pool.unsynced.changed (open_three pool.groups.line pool.pending.items pool.accounted.counted.line pool.unsynced.open_or_before) c.lay_oldest.ensures.changes;
+    let header = subst (λ (r : RunningSync). KeepsHeader r.group.0 (header_fields r.header) (log_shown pool.log)) (sym same) (pool.sync_header c.in-Some.running c.in-Some.is) in
+    let next = syncing_follows pool.groups.line group pool.accounted.counted.line syncing in
+    let later : code.Record → Bool = is_after group in
+    rw (finished, c.drop_synced.ensures.left, c.drop_synced.ensures.written) (record {
+      built = All-filter later (λ (x : code.Record). list_any is_rename x.ops ≡ false) pool.unsynced.items pool.unsynced_kept.built;
+      above = all_after group pool.unsynced.items;
+      open_or_before = All-filter later (λ (x : code.Record). x.group.0 ≤ pool.groups.line.open_group) pool.unsynced.items pool.unsynced_kept.open_or_before;
+      within = synced_within pool.changes pool.synced c.lay_oldest.new.synced c.lay_oldest.ensures.contents pool.unsynced_kept.within;
+      changed = synced_changes pool.groups.line.synced group pool.unsynced.items pool.changes c.lay_oldest.new.changes next
+          pool.unsynced_kept.changed (open_three pool.groups.line pool.unsynced.items pool.accounted.counted.line pool.unsynced_kept.open_or_before) c.lay_oldest.ensures.changes;
+      allowed = All-filter later (λ (x : code.Record). IsAllowed (record_fields x)) pool.unsynced.items pool.unsynced_kept.allowed;
+      front = front_within later pool.written pool.unsynced.items;
+      noted = ap (λ (kept : List KeptBlock). committed_above group (committed_in (record (log_shown pool.log) { kept = kept }))) c.give_log.ensures.kept
+          ∙ noted-synced pool.groups.line.synced group pool.written (header_fields c.in-Some-take.synced.header) (log_shown pool.log) pool.unsynced.items (omega (arith, next)) pool.unsynced_kept.whole header.none_before pool.unsynced_kept.noted;
+      whole = subst AreWhole (sym c.give_log.ensures.kept) (whole-filter _ pool.log.kept pool.unsynced_kept.whole);
     })
+
+pub drop_synced-requires : goal.drop_synced-requires
+drop_synced-requires g c = record { front = c.args.self.now.unsynced_kept.front }
+
+pub give_log-requires-clause-count : goal.give_log-requires-clause-count
+give_log-requires-clause-count g c = ap (λ (s : FreeSpace). s.blocks) c.end_charges.ensures.free ∙ c.args.self.now.free_counted.sized
+
+pub give_log-requires-clause-placed : goal.give_log-requires-clause-placed
+give_log-requires-clause-placed g c = c.args.self.now.log_placed
+
+pub invariant_of-self-in-Ok-Last-clause-free_counted : goal.invariant_of-self-in-Ok-Last-clause-free_counted
+invariant_of-self-in-Ok-Last-clause-free_counted g c = rw c.take.ensures.after (record {
+  sized = ap (λ (s : FreeSpace). s.blocks) c.give_log.ensures.free ∙ ap (λ (s : FreeSpace). s.blocks) c.end_charges.ensures.free ∙ c.args.self.now.free_counted.sized;
+  taken = ap (λ (s : FreeSpace). s.taken) c.give_log.ensures.free ∙ ap (λ (s : FreeSpace). s.taken) c.end_charges.ensures.free;
+  reserved = ap (λ (s : FreeSpace). s.reserved) c.give_log.ensures.free ∙ c.end_charges.ensures.reserved;
+})
 
 pub invariant_of-self-in-Ok-More-clause-free_counted : goal.invariant_of-self-in-Ok-More-clause-free_counted
 invariant_of-self-in-Ok-More-clause-free_counted g c = counted_still c.args.self.now c.in-Some.running c.next.new.self c.in-Ok-More.ensures.counts.same c.in-Some.is
@@ -114,6 +149,11 @@ invariant_of-self-in-Ok-More-clause-running g c =
     let counts = c.in-Ok-More.ensures.counts in
     let left = (more_left r.run c.next.new.self counts.same counts.done was.left (λ e. let other = sym c.in-Ok-More.field-0-is ∙ counts.last.1 e in cc)).1 in
     λ x e. subst (RunsIn pool) (kept_sync _ x e) (runs_on pool r c.next.new.self counts.same left was)
+
+pub invariant_of-self-in-Ok-More-clause-sync_header : goal.invariant_of-self-in-Ok-More-clause-sync_header
+invariant_of-self-in-Ok-More-clause-sync_header g c =
+    let pool = c.args.self.now in
+    λ x e. subst (λ (r : RunningSync). KeepsHeader r.group.0 (header_fields r.header) (log_shown pool.log)) (kept_sync _ x e) (pool.sync_header c.in-Some.running c.in-Some.is)
 
 pub invariant_of-self-in-Ok-More-clause-sync_line : goal.invariant_of-self-in-Ok-More-clause-sync_line
 invariant_of-self-in-Ok-More-clause-sync_line g c = sym (was_syncing c.args.self.now c.in-Some.running c.in-Some.is)
@@ -130,6 +170,11 @@ invariant_of-self-in-Err-clause-running g c =
     let left = left_as_before r.run c.next.new.self counts.same counts.done was.left in
     λ x e. subst (RunsIn pool) (kept_sync _ x e) (runs_on pool r c.next.new.self counts.same left was)
 
+pub invariant_of-self-in-Err-clause-sync_header : goal.invariant_of-self-in-Err-clause-sync_header
+invariant_of-self-in-Err-clause-sync_header g c =
+    let pool = c.args.self.now in
+    λ x e. subst (λ (r : RunningSync). KeepsHeader r.group.0 (header_fields r.header) (log_shown pool.log)) (kept_sync _ x e) (pool.sync_header c.in-Some.running c.in-Some.is)
+
 pub invariant_of-self-in-Err-clause-sync_line : goal.invariant_of-self-in-Err-clause-sync_line
 invariant_of-self-in-Err-clause-sync_line g c = sym (was_syncing c.args.self.now c.in-Some.running c.in-Some.is)
 
@@ -143,21 +188,28 @@ returns-in-Ok-clause-step g c =
     let same = kept_sync c.in-Some-take.synced _ c.in-Some-take.ensures.value in
     let finished : c.finish_sync.new.self ≡ after_sync c.in-Some-take.synced.group.0 pool.groups =
     of_group (λ n. after_sync n pool.groups) pool.groups.line.syncing c.in-Some-take.synced.group.0 _ (syncing ∙ ap (λ (r : RunningSync). Some r.group.0) (sym same)) c.in-Ok.ensures.group c.in-Ok.ensures.synced in
-    let pending = ap (map record_of) c.drop_synced.ensures ∙ sym (filter-map (λ (x : Record). nat_lt c.in-Some-take.synced.group.0 x.group) record_of pool.pending.items)
-    ∙ (λ k. filter (λ (x : Record). nat_lt (same k).group.0 x.group) s.log.pending) in
+    let pending = (λ k. map record_fields (drop (c.drop_synced.ensures.written k) (c.drop_synced.ensures.left k)))
+    ∙ pending-synced c.in-Some-take.synced.group.0 pool.written pool.unsynced.items ∙ (λ k. filter (λ (x : Record). nat_lt (same k).group.0 x.group) s.log.pending) in
+    let unsynced = ap (map record_fields) c.drop_synced.ensures.left ∙ sym (filter-map (λ (x : Record). nat_lt c.in-Some-take.synced.group.0 x.group) record_fields pool.unsynced.items)
+    ∙ (λ k. filter (λ (x : Record). nat_lt (same k).group.0 x.group) s.log.unsynced) in
+    let kept = c.give_log.ensures.kept ∙ (λ k. blocks_from (header_fields (same k).header) pool.log.kept) in
     let contents = same_contents pool.changes pool.synced c.lay_oldest.new.synced c.lay_oldest.ensures.contents c.lay_oldest.new.changes c.lay_oldest.ensures.changes in
     step_synced s _ c.in-Some.running.group.0 c.in-Some-take.synced.group.0 _ c.in_ok-check_running.ensures syncing (was_planned pool c.in-Some.running is)
-    (one_left c.in-Some.running.run c.next.new.self told.counts.same told.counts.done (told.counts.last.0 c.in-Ok-Last.field-0-is)) (ap (λ (r : RunningSync). r.group.0) same) refl
-    (c.finish_tree.ensures.shown ∙ rw (finished, c.take.ensures.after, c.end_charges.ensures.dirty, c.end_charges.ensures.free, blocks_of-remove)
+    (one_left c.in-Some.running.run c.next.new.self told.counts.same told.counts.done (told.counts.last.0 c.in-Ok-Last.field-0-is)) (ap (λ (r : RunningSync). r.group.0) same)
+    (c.finish_tree.ensures.shown ∙ rw (finished, c.take.ensures.after, c.end_charges.ensures.dirty, c.give_log.ensures.free, c.end_charges.ensures.free, blocks_of-remove)
     (λ k. shown_after_tree (same k) pool.tree (record s {
       line = line_after_sync (same k).group.0 s.line;
       dirty = finite.remove s.dirty (same k).group.0;
       reserved = finite.remove s.reserved (same k).group.0;
+      free = set.union s.free (set.from_list (addresses_before (header_fields (same k).header) pool.log.kept));
       contents = contents k;
-      log = record s.log { pending = pending k };
+      log = record { unsynced = unsynced k; pending = pending k; kept = kept k; next = c.give_log.ensures.next k };
       synced_contents = c.lay_oldest.ensures.contents k;
       sync = None;
-    })))
+    }))
+    ∙ (λ k. record (shown_synced c.in-Some.running.group.0 (plan_of pool.tree (contents_after_oldest pool) c.in-Some.running) s) {
+      free = union_both s.free c.in-Some.running.freed.items (addresses_before (header_fields c.in-Some.running.header) pool.log.kept) k;
+    }))
 
 pub returns-in-Ok-More-clause-step : goal.returns-in-Ok-More-clause-step
 returns-in-Ok-More-clause-step g c =

@@ -1,0 +1,59 @@
+-- The blocks that a plan takes and those that come back: their addresses are those of blocks.
+use Rattle.std.proofs.Common.{◌≡◌, ℕ, ◌-◌, ◌/◌, ◌%◌, ◌<◌, ◌≤◌, ◌&&◌, true, List, [], ◌∷◌, ◌⊎◌, inl, inr, map, refl, ap, subst, arith, nat_le, nat_lt}
+use Rattle.std.specs.Prelude.{All, get_or, ◌==◌, Result, Ok, Err, IfErr}
+use Rattle.std.proofs.Math.Nat.{div-add-mod}
+use Rattle.std.proofs.Math.Logic.{∥∥₁_elim}
+use mathlib.Core.Bool.{Bool-set}
+use Rattle.std.proofs.lemmas.Bool.{and_from, and_parts, eq-eqb, eqb-true, le-leb, leb-true, lt-ltb, ltb-true}
+use Rattle.base.specs.declared.error.PoolError.{PoolError}
+use Rattle.base.specs.declared.error.PoolError.TheVariants as error
+use Rattle.base.specs.formats.Geometry.{IsBlockAddress, block_area, block_size}
+use Rattle.base.specs.tree.PlacedTrees.{ArePlaced, IsPlaced}
+use Rattle.base.specs.tree.PlannedTrees.{NewBlock}
+use Rattle.object_maps.specs.declared.tree.Tree.{Tree}
+use Rattle.object_maps.specs.Pointers as kept
+use Rattle.tree_plans.specs.declared.planner.PlannedBlock.{PlannedBlock}
+use Rattle.tree_plans.specs.declared.planner.TreePlan.{TreePlan}
+use Rattle.tree_plans.specs.Plans.{IsWantOr, address_of, new_block}
+use Rattle.tree_plans.specs.Pointers as plans
+use Rattle.group_plans.specs.Areas.{is_block_of}
+use Rattle.group_plans.proofs.PlannedPointers.{same_tree}
+
+-- the addresses of blocks as they are written
+pub addresses_are : (blocks : List PlannedBlock) → map (λ (b : NewBlock). b.address) (map new_block blocks) ≡ map address_of blocks
+addresses_are [] = refl
+addresses_are (b ∷ blocks) = ap (λ (l : List ℕ). address_of b ∷ l) (addresses_are blocks)
+
+-- a plan is refused for want of memory or of blocks
+pub turn_want : (r : Result TreePlan PoolError) → IfErr r (IsWantOr (λ e. ⊥)) → IfErr r (λ e. (e ≡ error.NoMemory) ⊎ (e ≡ error.NoSpace))
+turn_want (Ok p) h = tt
+turn_want (Err e) (inl (inl space)) = inr space
+turn_want (Err e) (inl (inr memory)) = inl memory
+turn_want (Err e) (inr never) = absurd never
+
+-- what passes the test is the address of a block
+pub block_of : (blocks address : ℕ) → is_block_of blocks address ≡ true → IsBlockAddress blocks address
+block_of blocks address h =
+    let outer = and_parts (nat_le block_area address && (((address - block_area) % block_size) == 0)) (nat_lt ((address - block_area) / block_size) blocks) h in
+    let inner = and_parts (nat_le block_area address) (((address - block_area) % block_size) == 0) outer.0 in
+    let above : block_area ≤ address = leb-true block_area address inner.0 in
+    let no_rest : (address - block_area) % block_size ≡ 0 = eqb-true ((address - block_area) % block_size) 0 inner.1 in
+    let parts = div-add-mod (address - block_area) block_size in
+    ((address - block_area) / block_size, ltb-true ((address - block_area) / block_size) blocks outer.1, omega (arith, parts, no_rest))
+
+-- and the address of a block passes it
+pub block_passes : (blocks address : ℕ) → IsBlockAddress blocks address → is_block_of blocks address ≡ true
+block_passes blocks address (k, low, at) =
+    let whole : (address - block_area) % block_size ≡ 0 = omega arith in
+    let index : (address - block_area) / block_size ≡ k = omega arith in
+    let above : block_area ≤ address = omega arith in
+    let within : (address - block_area) / block_size < blocks = omega (arith, index, low) in
+    and_from (nat_le block_area address && (((address - block_area) % block_size) == 0)) (nat_lt ((address - block_area) / block_size) blocks)
+    (and_from (nat_le block_area address) (((address - block_area) % block_size) == 0) (le-leb block_area address above) (eq-eqb ((address - block_area) % block_size) 0 whole))
+    (lt-ltb ((address - block_area) / block_size) blocks within)
+
+-- the addresses that come back are those of blocks, where the pointers of the tree are placed
+pub are_blocks : (blocks : ℕ) (tree : Tree) (freed : List ℕ) → ∥ ArePlaced blocks (kept.pointers_of tree) ∥₁
+    → (ArePlaced blocks (plans.pointers_before tree) → All (λ address. IsBlockAddress blocks address) freed) → All (λ address. is_block_of blocks address ≡ true) freed
+are_blocks blocks tree freed placed returned = λ k d low.
+    ∥∥₁_elim placed (Bool-set _ _) (λ at. block_passes blocks (get_or freed k d) (returned (λ p i. subst (IsPlaced blocks) (same_tree tree p) (at p i)) k d low))

@@ -1,0 +1,99 @@
+-- What the plan of a group says of its blocks and of the tree that they make.
+use Rattle.std.specs.Prelude.{ℕ, ◌≡◌, ◌<◌, All, List, Option, Some, is_some, length, map, option_map, slice_get, take, if◌then◌else◌}
+use Rattle.std.specs.Ordering.{nat_cmp}
+use Rattle.std.specs.FinMap as finite
+use Rattle.std.specs.FinMap.{FinMap}
+use Rattle.std.specs.FinSet.{FinSet}
+use Rattle.base.specs.common.Rising.{rising}
+use Rattle.base.specs.declared.error.PoolError.{PoolError}
+use Rattle.base.specs.declared.error.PoolError.TheVariants.{NoSpace}
+use Rattle.base.specs.declared.names.ObjectId.{ObjectId}
+use Rattle.base.specs.declared.pointer.Pointer.{Pointer}
+use Rattle.base.specs.formats.Blocks.{Frame}
+use Rattle.base.specs.formats.Geometry.{block_count, block_size}
+use Rattle.base.specs.formats.Limits.{object_count}
+use Rattle.base.specs.stored.Stored.{AreUsed}
+use Rattle.base.specs.tree.PlacedTrees.{ArePlaced}
+use Rattle.base.specs.tree.Places.{Place}
+use Rattle.base.specs.tree.PlannedTrees.{AreFreed, IsTreePlan, NewBlock}
+use Rattle.base.specs.tree.Syncs.{written_by}
+use Rattle.transactions.specs.declared.record.Record.{Record}
+use Rattle.object_maps.specs.declared.contents.Contents as slots
+use Rattle.object_maps.specs.declared.tree.ObjectMap.{ObjectMap}
+use Rattle.object_maps.specs.declared.tree.Tree.{Tree}
+use Rattle.object_maps.specs.ContentsShown.{contents_of}
+use Rattle.object_maps.specs.Lengths.{map_length}
+use Rattle.object_maps.specs.Pointers.{pointers_of}
+use Rattle.extents.specs.declared.extents.Extents.{Extents}
+use Rattle.extents.specs.Patches.{laid_over}
+use Rattle.extents.specs.Tables.{patches_of}
+use Rattle.tree_plans.specs.declared.changes.ObjectChanges.{ObjectChanges}
+use Rattle.tree_plans.specs.declared.planner.PlannedBlock.{PlannedBlock}
+use Rattle.tree_plans.specs.declared.planner.TreePlan.{TreePlan}
+use Rattle.tree_plans.specs.declared.walk.PlanSource.{PlanSource}
+use Rattle.tree_plans.specs.Changes.{AreBornBefore, AreChanges, AreInRange, AreTreePointers, IsCoveredBy, changes_of_group, written_frame}
+use Rattle.tree_plans.specs.Marks.{AreChangesOf, pending_ops}
+use Rattle.tree_plans.specs.Plans.{address_of, new_block}
+use Rattle.tree_plans.specs.Pointers.{entry_of}
+use Rattle.group_plans.specs.Areas.{AreBlocksOf}
+use Rattle.group_plans.specs.Pointers.{lengths_after, pointers_after}
+
+-- Some changes are those of the group's operations among records, on a tree with these maps. By them these blocks make
+-- the tree after the group from the old one, whatever objects were there before of which the changes cover all that
+-- differs; and they are those of the places that are written, one for each, in their order.
+pub record IsPlannedGroup (group : ℕ) (records : List Record) (maps : List ObjectMap) (frame : Frame) (old new : Place → Pointer) (bs : List NewBlock) (after : FinMap nat_cmp (List ℕ)) : Type 0 where
+  pub objects : List (ObjectId × ObjectChanges)
+  pub changes : AreChangesOf (pending_ops group records) maps objects
+  pub planned : (before : FinMap nat_cmp (List ℕ)) → IsCoveredBy objects old before after → AreChanges objects after → AreTreePointers objects old after → IsTreePlan bs frame old new before after
+  pub order : AreInRange objects → map (λ (b : NewBlock). b.address) bs ≡ map (λ (place : Place). (new place).address) (written_by (changes_of_group objects old after))
+
+-- Some changes are those of the group's operations among records, on a tree with these maps. Where they are in range,
+-- fewer of these blocks are free than there are places that are written.
+pub record IsShortOfBlocks (group : ℕ) (records : List Record) (maps : List ObjectMap) (old : Place → Pointer) (after : FinMap nat_cmp (List ℕ)) (free : List ℕ) : Type 0 where
+  pub objects : List (ObjectId × ObjectChanges)
+  pub changes : AreChangesOf (pending_ops group records) maps objects
+  pub fewer : AreInRange objects → length free < length (written_by (changes_of_group objects old after))
+
+-- Some changes are those of the group's operations among records, on a tree with these maps. An object that an
+-- operation is on has the length that it has among these objects, and any other the one that the tree has.
+pub record HasGroupLengths (group : ℕ) (records : List Record) (maps : List ObjectMap) (new : ℕ → Option ℕ) (after : FinMap nat_cmp (List ℕ)) : Type 0 where
+  pub objects : List (ObjectId × ObjectChanges)
+  pub changes : AreChangesOf (pending_ops group records) maps objects
+  pub each : (n : ℕ) → n < object_count → new n ≡ (if is_some (entry_of objects n) then option_map length (finite.get after n) else map_length maps n)
+
+-- the pointers of the tree that a plan makes of another
+abbrev pub plan_pointers : Tree → TreePlan → Place → Pointer
+plan_pointers tree p = pointers_after p.root p.directories.items p.maps tree
+
+-- what a plan writes and what comes back are blocks of a device of this size
+pub record FitsIn (size : ℕ) (p : TreePlan) : Type 0 where
+  pub within : All (λ (b : PlannedBlock). b.index < block_count size) p.blocks.items
+  pub freed : AreBlocksOf (block_count size) p.freed.items
+
+-- it takes the lowest of these free blocks, in their order
+abbrev pub TakesLowest : FinSet nat_cmp → TreePlan → Type 0
+TakesLowest free p = map address_of p.blocks.items ≡ take (length p.blocks.items) (rising free)
+
+-- It makes of a tree that of the group of the frame, whose operations are among these records and lead to these
+-- objects. Its pointers are placed, its blocks are whole and each one is used, and its lengths are those after the
+-- group. If no pointer was born in the group or later, what comes back is what the old tree has and the new one has
+-- not.
+pub record MakesGroupTree (frame : Frame) (tree : Tree) (records : List Record) (after : FinMap nat_cmp (List ℕ)) (p : TreePlan) : Type 0 where
+  pub placed : ∥ ArePlaced frame.blocks (plan_pointers tree p) ∥₁
+  pub planned : IsPlannedGroup frame.group records tree.maps.items frame (pointers_of tree) (plan_pointers tree p) (map new_block p.blocks.items) after
+  pub freed : AreBornBefore frame.group (pointers_of tree) → AreFreed (pointers_of tree) (plan_pointers tree p) p.freed.items
+  pub used : AreUsed (map new_block p.blocks.items) (plan_pointers tree p)
+  pub whole : (i : ℕ) (b : NewBlock) → slice_get (map new_block p.blocks.items) i ≡ Some b → length b.content ≡ block_size
+  pub lengths : HasGroupLengths frame.group records tree.maps.items (lengths_after p.maps tree) after
+
+-- refused NoSpace, the free blocks are too few for the tree of the group
+abbrev pub IsRefusedShort : ℕ → Tree → List Record → FinMap nat_cmp (List ℕ) → FinSet nat_cmp → PoolError → Type 0
+IsRefusedShort group tree records after free e = e ≡ NoSpace → IsShortOfBlocks group records tree.maps.items (pointers_of tree) after (rising free)
+
+-- the frame of the blocks that a source is planned for
+abbrev pub frame_of : PlanSource → Frame
+frame_of source = written_frame source.guid source.geometry source.group.0
+
+-- the objects that contents have with the changes of a group laid over them
+abbrev pub objects_with : Extents → slots.Contents → FinMap nat_cmp (List ℕ)
+objects_with extents contents = laid_over (patches_of extents) (contents_of contents).objects

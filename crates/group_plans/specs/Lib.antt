@@ -1,0 +1,5 @@
+pub mod Pointers
+pub mod Areas
+pub mod GroupPlans
+pub mod Operations
+pub mod Laws

@@ -1,0 +1,58 @@
+-- How many records a chain may have: a number of 64 bits counts them.
+use Rattle.std.proofs.Common.{◌≡◌, ℕ, suc, ◌*◌, ◌≤◌, Bool, true, false, List, [], ◌∷◌, length, map, arith, length-append}
+use Rattle.std.specs.Prelude.{cond, filter, nat_lt}
+use Rattle.std.proofs.lemmas.List.{length-map}
+use Rattle.base.specs.crash.LogChains.{ArePieces}
+use Rattle.base.specs.crash.Mount.{IsChainOf, Placed, frame_of, header_of, placed_records, records_above}
+use Rattle.base.specs.formats.Blocks.{Frame}
+use Rattle.base.specs.formats.Chain.{Header, IsChain, LogPiece, next_header}
+use Rattle.base.specs.formats.Geometry.{IsGeometry}
+use Rattle.base.specs.formats.Records as formats
+use Rattle.base.specs.formats.Records.{bytes_of_record, bytes_of_records}
+use Rattle.base.specs.formats.Uberblocks.{Uberblock}
+use Rattle.base.proofs.crash.LogChains.{chains_end}
+use Rattle.base.proofs.formats.Geometry.{IsGeometry-IsSize}
+use Rattle.base.proofs.formats.RecordSizes.{length-bytes_of_record}
+use Rattle.log_replay.specs.Outlines.{counted_up_to_last}
+
+-- each record has bytes
+records_have_bytes : (rs : List formats.Record) → length rs ≤ length (bytes_of_records rs)
+records_have_bytes [] = omega arith
+records_have_bytes (r ∷ rs) =
+    let rest = records_have_bytes rs in
+    let long = length-append (bytes_of_record r) (bytes_of_records rs) in
+    let one = length-bytes_of_record r in
+    omega (arith, rest, long, one)
+
+front_of_chain : (image : List ℕ) (frame : Frame) (chain : ℕ) (header : Header) (bs : List LogPiece) → IsChain image frame chain header bs → ArePieces image frame chain header bs
+front_of_chain image frame chain header [] is = tt
+front_of_chain image frame chain header (b ∷ bs) is = (is.0, front_of_chain image frame chain (next_header header b) bs is.1)
+
+few_in_chain : (image : List ℕ) (frame : Frame) (chain : ℕ) (header : Header) (bs : List LogPiece) → IsChain image frame chain header bs → length (placed_records bs) ≤ 4008 * length bs
+few_in_chain image frame chain header [] is = omega arith
+few_in_chain image frame chain header (b ∷ bs) is =
+    let placed : List Placed = map (λ (r : formats.Record). record { address = b.address; logged = r }) b.records in
+    let rest = few_in_chain image frame chain (next_header header b) bs is.1 in
+    let both = length-append placed (placed_records bs) in
+    let here = length-map {B = Placed} b.records (λ (r : formats.Record). record { address = b.address; logged = r }) in
+    let bytes = records_have_bytes b.records in
+    let fits = is.0.fields.fits in
+    omega (arith, rest, both, here, bytes, fits)
+
+fewer : {X : Type 0} (p : X → Bool) (xs : List X) → length (filter p xs) ≤ length xs
+fewer p [] = omega arith
+fewer p (x ∷ xs) = by_flag (p x) (fewer p xs)
+  where
+    by_flag : (b : Bool) → length (filter p xs) ≤ length xs → length (cond b (x ∷ filter p xs) (filter p xs)) ≤ suc (length xs)
+    by_flag true rest = omega (arith, rest)
+    by_flag false rest = omega (arith, rest)
+
+-- so the count of those above a group is exact
+pub counted-above : (image : List ℕ) (u : Uberblock) (group : ℕ) (bs : List LogPiece) → IsGeometry (length image) → IsChainOf image u bs → counted_up_to_last (length (records_above group bs)) ≡ length (records_above group bs)
+counted-above image u group bs sized is =
+    let frame : Frame = frame_of image u in
+    let blocks = chains_end image frame u.import_number (header_of u) bs (front_of_chain image frame u.import_number (header_of u) bs is) in
+    let few = few_in_chain image frame u.import_number (header_of u) bs is in
+    let above = fewer (λ (p : Placed). nat_lt group p.logged.group) (placed_records bs) in
+    let size = (IsGeometry-IsSize (length image) sized).greatest in
+    omega (arith, blocks, few, above, size)

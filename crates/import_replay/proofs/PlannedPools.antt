@@ -1,0 +1,131 @@
+-- What a plan makes of the tree of an image may be synced over it: the tree stands if just the plan's blocks are
+-- written, and these are blocks of a tree.
+use Rattle.std.proofs.Common.{◌≡◌, inl, inr, ℕ, ◌+◌, ◌*◌, ◌<◌, ◌≤◌, List, length, map, None, Some, refl, sym, ◌∙◌, ap, subst, arith}
+use Rattle.std.specs.Prelude.{◌≢◌, ◌⊎◌, slice_get}
+use Rattle.std.specs.Ordering.{nat_cmp}
+use Rattle.std.specs.FinMap as finite
+use Rattle.std.specs.FinMap.{FinMap}
+use Rattle.std.proofs.lemmas.Option.{slice_get_within}
+use Rattle.base.specs.crash.Mount.{IsUsed}
+use Rattle.base.specs.declared.pointer.Pointer.{Pointer}
+use Rattle.base.specs.disk.Disk.{IsInRange}
+use Rattle.base.specs.formats.Chain.{LogPiece}
+use Rattle.base.specs.formats.Fields.{no_pointer, number_at, part}
+use Rattle.base.specs.formats.Geometry.{IsBlockAddress, block_address, block_area, block_count, block_size}
+use Rattle.base.specs.formats.Limits.{object_count}
+use Rattle.base.specs.formats.Uberblocks.{Uberblock}
+use Rattle.base.specs.stored.Stored.{AreBlocks, AreUsed, LeavesTree}
+use Rattle.base.specs.tree.PlacedTrees.{HoldsTree, IsPlaced}
+use Rattle.base.specs.tree.Places.{IsInTree, IsPlace, Place, kind_of}
+use Rattle.base.specs.tree.Places.Place.{Data, Directory, Indirect, Root}
+use Rattle.base.specs.tree.PlannedTrees.{IsBlockWritten, IsTreePlan, NewBlock, SameBlock}
+use Rattle.base.proofs.common.KeptLists.{All-each}
+use Rattle.base.proofs.disk.Put.{part_same}
+use Rattle.base.proofs.disk.WrittenBlocks.{blocks-apart, new-stand, planned-written, put_blocks}
+use Rattle.base.proofs.stored.StoredSets.{at-map, map-at}
+use Rattle.base.proofs.tree.PlacedTrees.{holds-placed, opens-at, told-in_tree}
+use Rattle.base.proofs.tree.PlannedTrees.{planned-holds}
+use Rattle.object_maps.specs.ContentsShown.{contents_of}
+use Rattle.object_maps.specs.Pointers.{pointers_of}
+use Rattle.sync.specs.Made.{BlocksWritten}
+use Rattle.tree_plans.specs.Plans.{new_block}
+use Rattle.tree_plans.specs.declared.planner.PlannedBlock.{PlannedBlock}
+use Rattle.import_replay.specs.FreeBlocks.{IsNamed}
+use Rattle.import_replay.specs.ImportViews.{IsTreeMade}
+use Rattle.import_replay.specs.NextPools.{AreMadeOver, IsUnusedBlock, PoolParts, next_frame, tree_of}
+use Rattle.import_replay.specs.ReadPools.{frame_of_size}
+
+-- the block of a tree's place is neither a config nor a log block
+of_tree : (place : Place) → (kind_of place ≢ 1) × (kind_of place ≢ 6)
+of_tree Root = (λ same. omega (arith, same), λ same. omega (arith, same))
+of_tree (Directory d) = (λ same. omega (arith, same), λ same. omega (arith, same))
+of_tree (Indirect n) = (λ same. omega (arith, same), λ same. omega (arith, same))
+of_tree (Data n r) = (λ same. omega (arith, same), λ same. omega (arith, same))
+
+module _ (image : List ℕ) (size : ℕ) (u : Uberblock) (chain : List LogPiece) (blocks : List PlannedBlock) (are : AreBlocks (block_count size) (map new_block blocks))
+    (free : (i : ℕ) (b : PlannedBlock) → slice_get blocks i ≡ Some b → IsUsed image u.root chain (block_address b.index) → ⊥)
+    (old : Place → Pointer) (before : FinMap nat_cmp (List ℕ)) (root : old Root ≡ u.root) (held : HoldsTree image (frame_of_size u size) old before)
+    (p : PoolParts) (planned : IsTreePlan (map new_block blocks) (next_frame u size) old (pointers_of p.tree) before (contents_of p.contents).objects)
+    (no_others : (n : ℕ) → object_count ≤ n → finite.get (contents_of p.contents).objects n ≡ None) where
+  abbrev new : Place → Pointer
+  new = pointers_of p.tree
+
+  abbrev after : FinMap nat_cmp (List ℕ)
+  after = (contents_of p.contents).objects
+
+  placed : (i : ℕ) (b : PlannedBlock) → slice_get blocks i ≡ Some b → IsBlockAddress (block_count size) (block_address b.index)
+  placed i b at = are.in_area i (new_block b) (map-at new_block blocks i b at)
+
+  -- no block is one of the tree before
+  leaves : LeavesTree (map new_block blocks) old
+  leaves place in_range some i n at same =
+      let (b, there, is) = at-map new_block blocks i n at in
+      let address : block_address b.index ≡ (old place).address = ap (λ (x : NewBlock). x.address) is ∙ same in
+      free i b there (inl (subst (λ (a : ℕ). IsInTree image u.root a) (sym address)
+      (subst (λ (r : Pointer). IsInTree image r (old place).address) root (told-in_tree image (frame_of_size u size) old before held place in_range some))))
+
+  module _ (other : List ℕ) (long : length other ≡ length image) (written : BlocksWritten image size blocks (length blocks) other) where
+    -- a new block stands
+    stands : (i : ℕ) (n : NewBlock) → slice_get (map new_block blocks) i ≡ Some n → IsBlockWritten other (block_count size) n
+    stands i n at =
+        let (b, there, same) = at-map new_block blocks i n at in
+        subst (λ (x : NewBlock). IsBlockWritten other (block_count size) x) same
+        (record { in_area = placed i b there; stands = written.each i b (slice_get_within blocks i b there) there })
+
+    -- and a block of the tree before stays
+    stays : (place : Place) → IsPlace place → SameBlock image other (old place)
+    stays place in_range some = at_place (holds-placed image (frame_of_size u size) old before held place in_range)
+      where
+        address : ℕ
+        address = (old place).address
+
+        not_here : IsBlockAddress (block_count size) address → (i k : ℕ) (b : PlannedBlock) → slice_get blocks k ≡ Some b → address ≤ i → i < address + block_size
+            → IsInRange (block_address b.index) block_size i → ⊥
+        not_here is i k b there from to here =
+            elim (blocks-apart (block_count size) (block_address b.index) address (placed k b there) is (leaves place in_range some k (new_block b) (map-at new_block blocks k b there))) as (λ _. ⊥) [
+              | inl less ↦ omega (arith, less, from, here.1)
+              | inr more ↦ omega (arith, more, to, here.0)
+            ]
+
+        at_place : IsPlaced (block_count size) (old place) → part other address block_size ≡ part image address block_size
+        at_place (inl none) = absurd (some none)
+        at_place (inr is) = part_same other image address block_size long (λ i from to.
+            let low : is.0 < block_count size = is.1 in
+            let there : address ≡ block_address is.0 = is.2 in
+            written.others i (omega (arith, from, there)) (omega (arith, to, there, low)) (λ k b early at here. not_here is i k b at from to here))
+
+  planned_made : IsTreeMade image size blocks (next_frame u size) (tree_of p)
+  planned_made other long written =
+      planned-holds image other (frame_of_size u size) (next_frame u size) refl refl (omega arith) (map new_block blocks) (stands other long written) old new before after held planned
+      (λ place in_range same. stays other long written place in_range) no_others
+
+  module _ (used : AreUsed (map new_block blocks) new) (room : block_area + block_size * block_count size ≤ length image) where
+    -- each block is that of a place of the new tree
+    kind_is : (i : ℕ) (b : PlannedBlock) → slice_get blocks i ≡ Some b → (place : Place) × (number_at b.block 0 ≡ kind_of place)
+    kind_is i b at =
+        let bs : List NewBlock = map new_block blocks in
+        let there : slice_get bs i ≡ Some (new_block b) = map-at new_block blocks i b at in
+        let other : List ℕ = put_blocks bs image in
+        let news : HoldsTree other (next_frame u size) new after =
+        planned-written image (frame_of_size u size) (next_frame u size) bs old new before after refl refl (omega arith) held planned no_others are leaves room in
+        let (place, in_range, named) = used i (new_block b) there in
+        let some : new place ≢ no_pointer = λ none. (let zero_is : (new place).address ≡ 0 = ap (λ (q : Pointer). q.address) none in omega (arith, zero_is, named)) in
+        let o = opens-at other (next_frame u size) new after news place in_range some in
+        let stands_there : part other (block_address b.index) block_size ≡ b.block = (new-stand (block_count size) bs image are room i (new_block b) there).stands in
+        (place, ap (λ (l : List ℕ). number_at l 0) (sym stands_there) ∙ ap (λ (a : ℕ). number_at (part other a block_size) 0) (sym named) ∙ o.1.block.kind_is)
+
+    -- so the pool is made over the image, with a first log block that nothing uses
+    pub planned_over : (IsUsed image u.root chain p.log_address → ⊥)
+        → ((address : ℕ) → address < p.log_address → IsBlockAddress (block_count size) address → IsUsed image u.root chain address ⊎ IsNamed new address) → AreMadeOver image u chain size blocks p
+    planned_over log_unused lowest = record {
+      tree = planned_made;
+      unused = All-each (IsUnusedBlock image u chain) blocks (λ i b at.
+          let (place, kind) = kind_is i b at in
+          record {
+            not_config = λ same. (of_tree place).0 (sym kind ∙ same);
+            not_log = λ same. (of_tree place).1 (sym kind ∙ same);
+            unused = free i b at;
+          });
+      log_unused = log_unused;
+      lowest = lowest;
+    }

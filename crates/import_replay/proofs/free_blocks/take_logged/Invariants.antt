@@ -1,0 +1,10 @@
+use Rattle.std.proofs.Common.{◌≡◌, take}
+use Rattle.std.specs.List.{list_any}
+use Rattle.base.specs.formats.Geometry.{block_count}
+use Rattle.import_replay.specs.FreeBlocks.{BlocksTaken, logs_block}
+use Rattle.import_replay.proofs.free_blocks.take_logged.Given as goal
+
+-- the blocks of the chain so far are taken
+abbrev pub invariant-loop-block : goal.invariant-loop-block
+invariant-loop-block l = (l.free.blocks ≡ block_count l.geometry)
+    × BlocksTaken (λ k. list_any (logs_block k) (take l.block-index l.logged)) l.fn.free l.free

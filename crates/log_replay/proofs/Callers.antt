@@ -1,0 +1,81 @@
+-- What replays of two small chains come to.
+use Rattle.std.proofs.Common.{◌≡◌, ℕ, ◌⊎◌, inl, inr, [], ◌∷◌, Some, None, Ok, Err, refl, ap, sym, ◌∙◌, arith, length}
+use Rattle.std.specs.Prelude.{Result, option_map}
+use Rattle.std.specs.FinMap as finite
+use Rattle.std.proofs.lemmas.List.Elements.{All-cons, All-nil}
+use Rattle.base.specs.declared.error.PoolError.{PoolError}
+use Rattle.base.specs.declared.error.PoolError.TheVariants.{Damaged, Exists, NoMemory}
+use Rattle.base.specs.crash.Mount.{apply_records, records_above}
+use Rattle.base.specs.history.Contents.{Contents, with_object}
+use Rattle.base.proofs.history.Objects.{get-stored_same}
+use Rattle.extents.specs.Patches.{laid_over}
+use Rattle.extents.specs.Synced.{patched_contents}
+use Rattle.extents.specs.Tables.{patches_of}
+use Rattle.object_maps.specs.Lengths.{lengths_of}
+use Rattle.log_replay.specs.declared.outline.Outline.{Outline}
+use Rattle.log_replay.specs.declared.replaying.Replayed.{Replayed}
+use Rattle.log_replay.specs.Outlines.{IsOutlineOf, ReplaysOutline}
+use Rattle.log_replay.specs.Replays.{IsNameKept, IsRecordRefused, IsReplay, IsReplayRefusal, KeepsName}
+use Rattle.log_replay.specs.SmallChains.{creation_chain, growing_chain}
+use Rattle.log_replay.proofs.RefusedRecords.{none_reached, refusals_agree}
+
+Ok-same : {A : Type 0} (a b : A) → ◌≡◌ {A = Result A PoolError} (Ok a) (Ok b) → a ≡ b
+Ok-same a b e = cc
+
+module _ (c : Contents) where
+  -- an object is created if it is absent
+  module _ (absent : finite.get c.objects 7 ≡ None) where
+    created : apply_records (records_above 9 (creation_chain 10)) c ≡ Ok (with_object c 7 (Some []))
+    created = rw absent refl
+
+    pub object_created : (r : Replayed) → IsReplay 9 c (creation_chain 10) r → finite.get (laid_over (patches_of r.extents) c.objects) 7 ≡ Some []
+    object_created r is =
+        let same : with_object c 7 (Some []) ≡ patched_contents (patches_of r.extents) c = Ok-same _ _ (sym created ∙ is.applied) in
+        ap (λ (d : Contents). finite.get d.objects 7) (sym same) ∙ get-stored_same c.objects 7 (Some [])
+
+    abbrev grown : Contents
+    grown = with_object (with_object c 7 (Some [])) 7 (Some (0 ∷ 0 ∷ 0 ∷ 1 ∷ 2 ∷ 3 ∷ 4 ∷ 5 ∷ []))
+
+    grows : apply_records (records_above 9 (growing_chain 10)) c ≡ Ok grown
+    grows = rw (absent, get-stored_same c.objects 7 (Some [])) refl
+
+    pub length_grown : (old new : Outline) (r : Result ℕ PoolError) → IsOutlineOf old c → ReplaysOutline (records_above 9 (growing_chain 10)) old r new → (r ≡ Ok 2) × (lengths_of new.tree 7 ≡ Some 8)
+    length_grown old new (Ok n) is made =
+        let (d, reached, later) = made.1 c is in
+        let same : grown ≡ d = Ok-same _ _ (sym grows ∙ reached) in (
+          ap Ok made.0,
+          later.lengths 7 (omega arith) ∙ ap (λ (x : Contents). option_map length (finite.get x.objects 7)) (sym same)
+              ∙ ap (option_map length) (get-stored_same (with_object c 7 (Some [])).objects 7 (Some (0 ∷ 0 ∷ 0 ∷ 1 ∷ 2 ∷ 3 ∷ 4 ∷ 5 ∷ []))),
+        )
+    length_grown old new (Err e) is (address, damaged, refused) = absurd (none_reached (records_above 9 (growing_chain 10)) c grown address (refused c is) grows)
+
+  -- and is refused if it is there
+  module _ (there : finite.get c.objects 7 ≡ Some []) where
+    pub creation_refused : IsRecordRefused (records_above 9 (creation_chain 10)) c 4194304
+    creation_refused = record {
+      before = [];
+      refused = record { address = 4194304; logged = record { group = 10; ordinal = 0; ops = _ } };
+      after = [];
+      split = refl;
+      reached = c;
+      reaches = refl;
+      error = Exists;
+      refuses = rw there refl;
+      address_is = refl;
+    }
+
+    pub creation_reported : (e : PoolError) → IsReplayRefusal (records_above 9 (creation_chain 10)) c e → (e ≡ NoMemory) ⊎ (e ≡ Damaged 6 4194304)
+    creation_reported e (inl none) = inl none
+    creation_reported e (inr (address, damaged, refused)) =
+        inr (damaged ∙ ap (Damaged 6) ((refusals_agree (records_above 9 (creation_chain 10)) c 4194304 creation_refused).1 address refused))
+
+    pub creation_damaged : (old new : Outline) (r : Result ℕ PoolError) → IsOutlineOf old c → ReplaysOutline (records_above 9 (creation_chain 10)) old r new → r ≡ Err (Damaged 6 4194304)
+    creation_damaged old new (Ok n) is made =
+        let (d, reached, later) = made.1 c is in
+        absurd (none_reached (records_above 9 (creation_chain 10)) c d 4194304 creation_refused reached)
+    creation_damaged old new (Err e) is (address, damaged, refused) =
+        ap Err (damaged ∙ ap (Damaged 6) ((refusals_agree (records_above 9 (creation_chain 10)) c 4194304 creation_refused).1 address (refused c is)))
+
+-- neither record names the pool
+pub creation_keeps_name : IsNameKept 9 (creation_chain 10)
+creation_keeps_name = All-cons KeepsName _ [] refl (All-nil KeepsName)

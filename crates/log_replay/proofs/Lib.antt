@@ -1,0 +1,9 @@
+pub mod AppliedRecords
+pub mod BoundedReplays
+pub mod Callers
+pub mod ChainWalks
+pub mod OutlineRecords
+pub mod OutlineSteps
+pub mod RefusedRecords
+pub mod ReplayedRecords
+pub mod WalkedRecords

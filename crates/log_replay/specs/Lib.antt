@@ -1,0 +1,6 @@
+pub mod Judged
+pub mod Laws
+pub mod Outlines
+pub mod Replays
+pub mod SmallChains
+pub mod Walked

@@ -1,0 +1,108 @@
+//! What callers rest on: one function for each promise of this crate's calls, proved from the contract of the call
+//! alone. So it is refused as soon as that contract says less.
+
+ghost use Rattle.std.specs.Prelude.{◌≡◌, ◌⊎◌, ◌∷◌, [], IfErr, IfOk, Err, IsErr, None, Ok, Some, map};
+ghost use Rattle.std.specs.FinMap as finite;
+ghost use Rattle.base.specs.history.Contents as history;
+ghost use Rattle.extents.specs.Patches.{laid_over};
+ghost use Rattle.extents.specs.Tables.{patches_of};
+ghost use Rattle.object_maps.specs.ContentsShown.{contents_of};
+ghost use Rattle.object_maps.specs.Lengths.{lengths_of};
+ghost use Rattle.transactions.specs.Records.{record_fields};
+ghost use Rattle.log_replay.specs.SmallChains.{creation, creation_chain, growing_chain};
+ghost use Rattle.log_replay.specs.Outlines.{IsOutlineOf};
+ghost use Rattle.log_replay.specs.Replays.{IsChainAllowed};
+
+use crate::outline::Outline;
+use crate::replaying::{Replayed, replay};
+use base::{Group, PoolError};
+use intent_log::LoggedBlock;
+use object_maps::Contents;
+use std::alloc::Global;
+
+fn an_empty_chain_has_no_record(
+    alloc: Global,
+    contents: &Contents,
+    blocks: Vec<LoggedBlock>,
+) -> Result<Replayed, PoolError>
+    requires { blocks.items ≡ [] }
+    ensures records { IfOk result (λ r. r.records.items ≡ []) }
+    ensures objects { IfOk result (λ r. laid_over (patches_of r.extents) (contents_of contents.now).objects
+        ≡ (contents_of contents.now).objects) }
+{
+    replay(alloc, Group(9), contents, blocks)
+}
+
+// The tree of the active group has it.
+fn a_record_of_the_active_group_is_passed_over(
+    alloc: Global,
+    contents: &Contents,
+    blocks: Vec<LoggedBlock>,
+) -> Result<Replayed, PoolError>
+    requires chain { blocks.items ≡ creation_chain 9 }
+    requires allowed { IsChainAllowed blocks.items }
+    ensures records { IfOk result (λ r. r.records.items ≡ []) }
+    ensures objects { IfOk result (λ r. laid_over (patches_of r.extents) (contents_of contents.now).objects
+        ≡ (contents_of contents.now).objects) }
+{
+    replay(alloc, Group(9), contents, blocks)
+}
+
+fn a_record_of_a_group_above_takes_place_four_groups_later(
+    alloc: Global,
+    contents: &Contents,
+    blocks: Vec<LoggedBlock>,
+) -> Result<Replayed, PoolError>
+    requires chain { blocks.items ≡ creation_chain 10 }
+    requires allowed { IsChainAllowed blocks.items }
+    requires absent { finite.get (contents_of contents.now).objects 7 ≡ None }
+    ensures record { IfOk result (λ r. map record_fields r.records.items ≡ creation 13 ∷ []) }
+    ensures object { IfOk result (λ r. finite.get
+        (laid_over (patches_of r.extents) (contents_of contents.now).objects) 7 ≡ Some []) }
+{
+    replay(alloc, Group(9), contents, blocks)
+}
+
+// The only other refusal is for memory.
+fn a_record_that_is_refused_is_a_damage_of_its_block(
+    alloc: Global,
+    contents: &Contents,
+    blocks: Vec<LoggedBlock>,
+) -> Result<Replayed, PoolError>
+    requires chain { blocks.items ≡ creation_chain 10 }
+    requires allowed { IsChainAllowed blocks.items }
+    requires there { finite.get (contents_of contents.now).objects 7 ≡ Some [] }
+    ensures refused { IsErr result }
+    ensures address { IfErr result
+        (λ e. (e ≡ PoolError.NoMemory) ⊎ (e ≡ PoolError.Damaged 6 4194304)) }
+{
+    replay(alloc, Group(9), contents, blocks)
+}
+
+// It is refused so whatever the bytes of the object are.
+fn a_record_is_refused_by_lengths_alone(
+    outline: &mut Outline,
+    blocks: &[LoggedBlock],
+) -> Result<u64, PoolError>
+    requires chain { blocks.now ≡ creation_chain 10 }
+    requires allowed { IsChainAllowed blocks.now }
+    ensures { (contents : history.Contents) → IsOutlineOf outline.old contents
+        → finite.get contents.objects 7 ≡ Some []
+        → result ≡ Err (PoolError.Damaged 6 4194304) }
+{
+    outline.replay(Group(9), blocks)
+}
+
+// Object 7 is created by one record, and the next one writes 5 bytes at 3.
+fn lengths_follow_the_records(
+    outline: &mut Outline,
+    blocks: &[LoggedBlock],
+) -> Result<u64, PoolError>
+    requires chain { blocks.now ≡ growing_chain 10 }
+    requires allowed { IsChainAllowed blocks.now }
+    ensures { (contents : history.Contents) → IsOutlineOf outline.old contents
+        → finite.get contents.objects 7 ≡ None
+        → (result ≡ Ok 2) × (lengths_of outline.new.tree 7 ≡ Some 8) }
+{
+    outline.replay(Group(9), blocks)
+}

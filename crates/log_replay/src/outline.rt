@@ -1,0 +1,148 @@
+//! What an inspection keeps of a pool's contents: their name, and the length of each object. The records of a chain are
+//! replayed on these alone.
+//!
+//! Whether an operation can take place depends only on whether its object is there. So no object's bytes are needed to
+//! find the first record that can't, and to report the lengths that the others leave.
+
+use base::{Group, ObjectId, Op, PoolError, PoolName};
+use intent_log::LoggedBlock;
+use object_maps::Tree;
+use transactions::Record;
+
+/// The name of a pool, and a tree that has the length of each of its objects.
+#[derive(Debug, Drop)]
+pub struct Outline {
+    /// The name of the pool.
+    pub name: PoolName,
+    /// The tree. Its lengths are those of the objects, and its pointers mean nothing.
+    pub tree: Tree,
+}
+
+impl Outline {
+    ghost use Rattle.std.specs.Prelude.{◌≡◌, ◌≢◌, ◌<◌, ◌∷◌, [], ℕ, All, true};
+    ghost use Rattle.base.specs.crash.Mount.{records_above};
+    ghost use Rattle.base.specs.formats.Limits.{object_count};
+    ghost use Rattle.base.specs.formats.Records.{IsAllowed};
+    ghost use Rattle.base.specs.history.Contents.{apply};
+    ghost use Rattle.base.specs.history.History.{apply_all};
+    ghost use Rattle.object_maps.specs.Lengths.{lengths_of};
+    ghost use Rattle.transactions.specs.Records.{is_op_allowed, record_fields};
+    ghost use Rattle.log_replay.specs.Outlines.{LeadsOutline, ReplaysOutline};
+    ghost use Rattle.log_replay.specs.Replays.{IsBlockAllowed, IsChainAllowed};
+    ghost use Rattle.log_replay.specs.Walked.{above_at};
+
+    /// Replays the records of a chain: those of groups above the active one, in order. It makes of the name and the
+    /// lengths what `replay` makes of the contents, and takes no memory. It returns how many records it replayed.
+    ///
+    /// It replays a record that names the pool too, which `replay` refuses.
+    ///
+    /// # Errors
+    /// `Damaged` with kind 6 and the address of its block for the first record that can't take place. The name and the
+    /// lengths are then those that the operations before it left.
+    pub fn replay(&mut self, group: Group, blocks: &[LoggedBlock]) -> Result<u64, PoolError>
+        requires { IsChainAllowed blocks.now }
+        ensures { ReplaysOutline (records_above group.0 blocks.now) self.old result self.new }
+    {
+        let mut count = 0u64;
+        for block in blocks {
+            count = count.saturating_add(self.replay_block(group, block)?);
+        }
+        Ok(count)
+    }
+
+    fn replay_block(&mut self, group: Group, block: &LoggedBlock) -> Result<u64, PoolError>
+        requires { IsBlockAllowed block.now }
+        ensures { ReplaysOutline (records_above group.0 (block.now ∷ [])) self.old result self.new }
+    {
+        let address = block.address();
+        let records = block.records();
+        let mut count = 0u64;
+        for logged in records {
+            count = count.saturating_add(self.replay_record(group, address, logged)?);
+        }
+        Ok(count)
+    }
+
+    // Replays a record of the block at this address, if it is of a group above this one.
+    fn replay_record(
+        &mut self,
+        group: Group,
+        address: u64,
+        logged: &Record,
+    ) -> Result<u64, PoolError>
+        requires { IsAllowed (record_fields logged.now) }
+        ensures { ReplaysOutline (above_at group.0 address (logged.now ∷ [])) self.old result self.new }
+    {
+        if logged.group.0 <= group.0 {
+            return Ok(0);
+        }
+        match self.apply_all(logged.ops.as_slice()) {
+            Ok(()) => Ok(1),
+            Err(_) => Err(PoolError::Damaged { kind: 6, address }),
+        }
+    }
+
+    fn apply_all(&mut self, ops: &[Op]) -> Result<(), PoolError>
+        requires { All (λ op. is_op_allowed op ≡ true) ops.now }
+        ensures { LeadsOutline (apply_all ops.now) self.old result self.new }
+    {
+        for op in ops {
+            self.apply(op)?;
+        }
+        Ok(())
+    }
+
+    // What an operation makes of the name and the lengths.
+    fn apply(&mut self, op: &Op) -> Result<(), PoolError>
+        requires { is_op_allowed op.now ≡ true }
+        ensures { LeadsOutline (apply op.now) self.old result self.new }
+    {
+        match op {
+            Op::Create(id) => {
+                if self.length(*id).is_some() {
+                    return Err(PoolError::Exists);
+                }
+                self.set_length(*id, Some(0));
+            }
+            Op::Remove(id) => {
+                if self.length(*id).is_none() {
+                    return Err(PoolError::NoObject);
+                }
+                self.set_length(*id, None);
+            }
+            Op::Write(id, offset, bytes) => {
+                let Some(length) = self.length(*id) else {
+                    return Err(PoolError::NoObject);
+                };
+                let end = *offset + bytes.len() as u64;
+                self.set_length(*id, Some(length.max(end)));
+            }
+            Op::SetLength(id, length) => {
+                if self.length(*id).is_none() {
+                    return Err(PoolError::NoObject);
+                }
+                self.set_length(*id, Some(*length));
+            }
+            Op::SetName(bytes) => {
+                self.name = PoolName::new(bytes.as_slice()).unwrap();
+            }
+        }
+        Ok(())
+    }
+
+    fn length(&self, id: ObjectId) -> Option<u64>
+        requires { id.0 < object_count }
+        ensures { result ≡ lengths_of self.now.tree id.0 }
+    {
+        self.tree.maps[id.0 as usize].length
+    }
+
+    fn set_length(&mut self, id: ObjectId, length: Option<u64>)
+        requires { id.0 < object_count }
+        ensures name { self.new.name ≡ self.old.name }
+        ensures length { lengths_of self.new.tree id.0 ≡ length }
+        ensures others { (n : ℕ) → n ≢ id.0 → lengths_of self.new.tree n ≡ lengths_of self.old.tree n }
+    {
+        self.tree.maps[id.0 as usize].length = length;
+    }
+}

@@ -1,0 +1,130 @@
+//! The records of a chain, applied to the contents that the tree of the active group holds.
+
+ghost use Rattle.std.specs.Prelude.{ℕ, ◌≡◌, ◌≤◌, ◌++◌, ◌∷◌, [], List, IfErr, IfOk, IsErr, OnOk};
+ghost use Rattle.base.specs.crash.Mount.{Placed, records_above};
+ghost use Rattle.base.specs.formats.Limits.{last_number};
+ghost use Rattle.extents.specs.Patches.{laid_over};
+ghost use Rattle.extents.specs.Tables.{AppliesOps, patches_of};
+ghost use Rattle.object_maps.specs.ContentsShown.{contents_of};
+ghost use Rattle.object_maps.specs.Judging.{ApplyTo};
+ghost use Rattle.object_maps.specs.Ops.{AreOpsAllowed};
+ghost use Rattle.log_replay.specs.Judged.{AreShapesAllowed, IsRecordRefusal};
+ghost use Rattle.log_replay.specs.Walked.{HasReplayedTo};
+ghost use Rattle.log_replay.specs.Replays.{IsBlockAllowed, IsChainAllowed, IsNameKept, IsReplay, IsReplayCause, IsReplayOf, IsReplayRefusal, IsRecordRefused};
+
+use crate::judging::judge_record;
+use base::{Group, PoolError};
+use extents::{Extents, Laid};
+use intent_log::LoggedBlock;
+use object_maps::Contents;
+use std::alloc::Global;
+use transactions::Record;
+
+/// What the records of a chain make of the contents that a tree holds.
+#[derive(Debug, Drop)]
+pub struct Replayed {
+    /// What they change of its objects.
+    pub extents: Extents,
+    /// The records that were applied, in order, each as one of the group that the import syncs.
+    pub records: Vec<Record>,
+}
+
+/// Applies the records of a chain to the contents of the tree: those of groups above the active one, in order. Those of
+/// groups up to it are passed over. The operations are moved out of the blocks, and their bytes are copied once.
+///
+/// A record that names the pool isn't built, and is refused as a damage of its block. So what a refusal says of the
+/// records is said only of chains without one.
+///
+/// # Errors
+/// `Damaged` with kind 6 and the address of its block for the first record that can't take place; `NoMemory`.
+pub fn replay(
+    alloc: Global,
+    group: Group,
+    contents: &Contents,
+    blocks: Vec<LoggedBlock>,
+) -> Result<Replayed, PoolError>
+    requires group { group.0 ≤ last_number }
+    requires allowed { IsChainAllowed blocks.items }
+    ensures replayed { IfOk result (IsReplay group.0 (contents_of contents.now) blocks.items) }
+    ensures refused { IsNameKept group.0 blocks.items → IfErr result
+        (IsReplayRefusal (records_above group.0 blocks.items) (contents_of contents.now)) }
+    ensures found { (address : ℕ) → IsRecordRefused (records_above group.0 blocks.items)
+        (contents_of contents.now) address → IsErr result }
+    ensures cause { IfErr result IsReplayCause }
+{
+    let mut replayed = Replayed::new(alloc);
+    for block in blocks {
+        replayed.apply_block(contents, group, block)?;
+    }
+    Ok(replayed)
+}
+
+impl Replayed {
+    // No records. It takes no memory.
+    fn new(alloc: Global) -> Self
+        ensures { (group : ℕ) (contents : Contents) → IsReplayOf group (contents_of contents) [] result }
+    {
+        Replayed {
+            extents: Extents::new(alloc),
+            records: Vec::new(alloc),
+        }
+    }
+
+    // Applies the records of a block, after those of the blocks before it.
+    fn apply_block(
+        &mut self,
+        contents: &Contents,
+        group: Group,
+        block: LoggedBlock,
+    ) -> Result<(), PoolError>
+        requires group { group.0 ≤ last_number }
+        requires allowed { IsBlockAllowed block }
+        ensures applied { (records rest : List Placed) → HasReplayedTo group.0 (contents_of contents.now)
+            records (records_above group.0 (block ∷ []) ++ rest) self.old
+            → OnOk result (HasReplayedTo group.0 (contents_of contents.now) records rest self.new) }
+        ensures refused { (records rest : List Placed) → HasReplayedTo group.0 (contents_of contents.now)
+            records (records_above group.0 (block ∷ []) ++ rest) self.old
+            → IsNameKept group.0 (block ∷ [])
+            → IfErr result (IsReplayRefusal records (contents_of contents.now)) }
+        ensures cause { IfErr result IsReplayCause }
+    {
+        let address = block.address();
+        let next = Group(group.0 + 4);
+        for record in block.into_records() {
+            if record.group.0 > group.0 {
+                self.apply(
+                    contents,
+                    address,
+                    Record {
+                        group: next,
+                        ordinal: record.ordinal,
+                        ops: record.ops,
+                    },
+                )?;
+            }
+        }
+        Ok(())
+    }
+
+    // Applies a record of the log block at an address.
+    fn apply(&mut self, contents: &Contents, address: u64, logged: Record) -> Result<(), PoolError>
+        requires { AreShapesAllowed logged.ops }
+        ensures allowed { OnOk result (AreOpsAllowed logged.ops) }
+        ensures applies { OnOk result (ApplyTo logged.ops
+            (laid_over (patches_of self.old.extents) (contents_of contents.now).objects)) }
+        ensures extents { OnOk result (AppliesOps logged.ops self.old.extents self.new.extents) }
+        ensures records { OnOk result (self.new.records.items
+            ≡ self.old.records.items ++ logged ∷ []) }
+        ensures refused { IfErr result (IsRecordRefusal logged.ops address
+            (laid_over (patches_of self.old.extents) (contents_of contents.now).objects)) }
+    {
+        judge_record(
+            &Laid::new(&self.extents, contents),
+            address,
+            logged.ops.as_slice(),
+        )?;
+        self.extents.add(logged.ops.as_slice())?;
+        self.records.push(logged)?;
+        Ok(())
+    }
+}

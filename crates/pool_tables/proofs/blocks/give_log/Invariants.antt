@@ -1,0 +1,20 @@
+use Rattle.std.proofs.Common.{◌≡◌, length}
+use Rattle.base.specs.formats.Geometry.{block_count}
+use Rattle.base.specs.steps.Exact.{log_addresses}
+use Rattle.intent_log.specs.Kept.{header_fields, log_shown}
+use Rattle.group_plans.specs.Areas.{AreBlocksOf}
+use Rattle.pool_tables.specs.Areas.{addresses_before, after_gives, blocks_from}
+use Rattle.pool_tables.proofs.blocks.give_log.Given as goal
+
+-- what is left to come back makes of the free blocks what all of them make of the first ones
+abbrev pub invariant-loop-address : goal.invariant-loop-address
+invariant-loop-address l = record {
+  count : l.free.blocks ≡ block_count l.geometry;
+  placed : AreBlocksOf (block_count l.geometry) (log_addresses (log_shown l.log));
+  given : after_gives (addresses_before (header_fields l.header) l.log.kept) l.free ≡ after_gives (addresses_before (header_fields l.header) l.fn.log.kept) l.fn.free;
+  same : blocks_from (header_fields l.header) l.log.kept ≡ blocks_from (header_fields l.header) l.fn.log.kept;
+  next : l.log.next ≡ l.fn.log.next;
+}
+
+abbrev pub decreases-loop-address : goal.decreases-loop-address
+decreases-loop-address l = length l.log.kept
