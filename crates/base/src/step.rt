@@ -11,10 +11,12 @@
 //!   groups, and what is charged and free.
 //! - Groups (`txg.c`): `CloseGroup` opens the next group. `MarkQuiesced` is refused while a transaction of the closed
 //!   group is open. `StartSync` plans what is written of it. Each `SyncStep` makes one device call, and the last
-//!   returns `Synced`. `Durable` says whether a commit survives a crash.
+//!   returns `Synced`.
+//! - The intent log (`zil.c`): `LogWrite` writes a block with records of commits whose group is not synced yet,
+//!   `LogFlush` makes what was written durable. `Durable` says whether a commit survives a crash.
 //!
-//! A refused step changes nothing, with one exception: if the device refuses the write or the flush of a `SyncStep`,
-//! the pool is suspended. It then refuses each step except `Name`, `Status` and `Durable`.
+//! A refused step changes nothing, with one exception: if the device refuses the write or the flush of a `SyncStep`, a
+//! `LogWrite` or a `LogFlush`, the pool is suspended. It then refuses each step except `Name`, `Status` and `Durable`.
 
 use crate::bytes::Bytes;
 use crate::error::PoolError;
@@ -57,6 +59,10 @@ pub enum Step {
     StartSync(u64),
     /// Makes one device call of the running sync.
     SyncStep,
+    /// Writes the next log block, with as many pending records as fit.
+    LogWrite,
+    /// Flushes the log blocks that were written.
+    LogFlush,
     /// Returns whether a commit survives a crash, also of a suspended pool.
     Durable(Receipt),
 }
@@ -96,6 +102,10 @@ pub enum Reply {
     More,
     /// The sync made its last device call, and this group is synced.
     Synced(Group),
+    /// How many records the log block has.
+    Logged(u64),
+    /// Each log block that was written is durable.
+    Flushed,
     /// Whether the commit is durable.
     Durable(bool),
 }

@@ -3,9 +3,9 @@
 ghost use Rattle.base.specs.crash.CrashRule.{OwnDisksMount, SteadyImportsMount};
 ghost use Rattle.base.specs.steps.Additions.{PastsAreTold, PastsGrow};
 ghost use Rattle.base.specs.steps.Locks.{BusyIsUnsound};
-ghost use Rattle.base.specs.steps.ExactNow.{StepsKeepTables, RunsKeepTables, LogStepsKeepTables, NewPoolsAreExplained};
+ghost use Rattle.base.specs.steps.ExactNow.{StepsKeepTables, RunsKeepTables, NewPoolsAreExplained};
 ghost use Rattle.base.specs.steps.Readers.{ReadersAreKept};
-ghost use Rattle.base.specs.stored.HeldMounts.{MountsAgree, HeldMounts, IdleMounts, StepsWriteNoLog};
+ghost use Rattle.base.specs.stored.HeldMounts.{MountsAgree, HeldMounts, IdleMounts};
 ghost use Rattle.base.specs.steps.SyncEnds.{SuspendedPoolsRefuse, SuspendedPoolsStay, SyncsEndOnTime};
 
 /// Each step keeps what is shown of a pool exact, with what is charged and reserved and free blocks enough for it,
@@ -17,11 +17,6 @@ pub fn steps_keep_tables()
 /// So do steps one after another.
 pub fn runs_keep_tables()
     ensures { RunsKeepTables }
-{}
-
-/// And so do the steps of the log: a write, made or refused, and a flush.
-pub fn log_steps_keep_tables()
-    ensures { LogStepsKeepTables }
 {}
 
 /// A pool that was just imported is exact with the empty past.
@@ -39,8 +34,7 @@ pub fn suspended_pools_stay()
     ensures { SuspendedPoolsStay }
 {}
 
-/// It refuses each step that is built but those of its name and its status; durable, which is never refused either,
-/// is not among them yet.
+/// It refuses each step except those that only report something: its name, its status, and whether a commit is durable.
 pub fn suspended_pools_refuse()
     ensures { SuspendedPoolsRefuse }
 {}
@@ -69,11 +63,6 @@ pub fn held_pools_mount()
 /// While no sync runs it mounts the synced group.
 pub fn idle_pools_mount()
     ensures { IdleMounts }
-{}
-
-/// No step writes a log block.
-pub fn steps_write_no_log()
-    ensures { StepsWriteNoLog }
 {}
 
 /// A lock is refused as busy exactly if granting it would leave the held locks unsound (`zfs_rlock.c`).

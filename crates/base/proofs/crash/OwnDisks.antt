@@ -1,6 +1,6 @@
 -- Where a disk in one of the phases ends, it is the pool's own: an import ends on what it mounted, and a run on a cut
 -- of its entries.
-use Rattle.std.proofs.Common.{◌≡◌, ◌⊎◌, inl, inr, ⊎_elim, ℕ, ◌+◌, ◌≤◌, List, [], ◌∷◌, length, take, Ok, refl, sym, ◌∙◌, ap, subst, arith}
+use Rattle.std.proofs.Common.{◌≡◌, ◌⊎◌, inl, inr, ⊎_elim, ℕ, ◌+◌, ◌≤◌, List, [], length, take, Ok, refl, sym, ◌∙◌, ap, subst, arith}
 use Rattle.std.specs.Prelude.{Some, IfSome, filter, nat_le}
 use Rattle.base.specs.declared.pointer.Pointer.{Pointer}
 use Rattle.base.specs.history.Contents.{Contents}
@@ -16,7 +16,7 @@ use Rattle.base.specs.steps.Shown.{Shown, SyncPlan}
 use Rattle.base.specs.steps.Exact.{IsLogExact, IsSyncExact}
 use Rattle.base.specs.steps.Explains.{IsLeftBy}
 use Rattle.base.specs.crash.Layout.{LiesAs, kept_from, header_now}
-use Rattle.base.specs.crash.Views.{View, Logged, IsFoundAs, AreConfigsUpTo, config_content}
+use Rattle.base.specs.crash.Views.{View, IsFoundAs, AreConfigsUpTo, config_content}
 use Rattle.base.specs.crash.Own.{IsAtRest, AreConfigsBelowImport, IsOwnImage, IsOwnWith}
 use Rattle.base.specs.formats.Geometry.{block_count}
 use Rattle.base.specs.crash.LogRule.{AreLogBlocksBelow, with_front}

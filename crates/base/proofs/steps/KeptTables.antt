@@ -33,7 +33,7 @@ use Rattle.base.specs.steps.Space.{HasReserves}
 use Rattle.base.specs.steps.Effects.{Effect, HasEffect, MayHave, MayAddEntry, state_after}
 use Rattle.base.specs.steps.Effects.Effect.{Suspends, AddsGrant, LetsGo, AddsAdmission, AddsEntry, EndsAdmission, OpensNext, QuiescesMiddle, PlansSync, CountsStep, EndsSync, WritesLog, FlushesLog}
 use Rattle.base.specs.steps.Runs.{Step}
-use Rattle.base.specs.steps.ExactNow.{AreTreesExact, IsExplainedNow, IsRun, IsLogStep}
+use Rattle.base.specs.steps.ExactNow.{AreTreesExact, IsExplainedNow, IsRun}
 use Rattle.base.proofs.history.Cuts.{histories_grow}
 use Rattle.base.proofs.history.Projections.{plans_touch}
 use Rattle.base.proofs.history.CommitOrder.{no_refusal, found-plan}
@@ -51,7 +51,7 @@ use Rattle.base.proofs.steps.KeptSyncs.{same_sync, start_sync, step_sync, end_sy
 use Rattle.base.proofs.steps.KeptTrees.{explained-allowed, same_trees, commit_trees, next_bounded, start_trees, step_trees, sync_trees, new_trees}
 use Rattle.base.proofs.steps.KeptReserves.{same_reserves, begin_state, abort_state, close_state, start_state, step_state, end_state, log_state}
 use Rattle.base.proofs.steps.NewPools.{new_pool_is_exact}
-use Rattle.base.proofs.steps.StepEffects.{log_step_has, step_does}
+use Rattle.base.proofs.steps.StepEffects.{step_does}
 
 abbrev IsExplainedState : State → Type 0
 IsExplainedState s = IsExplainedNow s.shown s.past
@@ -290,10 +290,6 @@ runs_keep_tables keeps [] [] old new h x = subst IsExplainedState (sym h) x
 runs_keep_tables keeps (s ∷ ss) (r ∷ rs) old new (middle, (now, one), rest) x = runs_keep_tables keeps ss rs middle new rest (steps_keep_tables keeps now s r old middle one x)
 runs_keep_tables keeps [] (r ∷ rs) old new h x = absurd h
 runs_keep_tables keeps (s ∷ ss) [] old new h x = absurd h
-
--- and so do a write and a flush of the log
-pub log_steps_keep_tables : (old new : State) → IsLogStep old new → IsExplainedNow old.shown old.past → IsExplainedNow new.shown new.past
-log_steps_keep_tables old new h x = effects_keep_tables old new (log_step_has old new h) x
 
 -- a pool that was just imported
 pub new_pools_are_explained : (u : Uberblock) (blocks : ℕ) (contents : Contents) (created dirty_max : ℕ) (s : Shown) → IsImported u blocks contents dirty_max s → IsBounded contents

@@ -13,13 +13,11 @@ use Rattle.base.specs.crash.Mount.{IsChainOf, frame_of}
 use Rattle.base.specs.history.Past.{Past}
 use Rattle.base.specs.steps.Shown.{Shown, SyncPlan, uberblock_of}
 use Rattle.base.specs.stored.ShownLabels.{ShowsUberblock, ShowsSynced, ShowsSyncing, AreLabelsShown, HasNoLogBlock}
-use Rattle.base.specs.stored.Stored.{IsKept, NewTree, IsSyncing, RunsAs, Held, IsHeld, IsCallMade, frame_at}
-use Rattle.base.specs.stored.HeldMounts.{MountsUpTo, HeldMounts, IdleMounts, StepsWriteNoLog}
-use Rattle.base.specs.declared.step.Reply.TheVariants as reply
+use Rattle.base.specs.stored.Stored.{NewTree, IsSyncing, RunsAs, Held, IsHeld, frame_at}
+use Rattle.base.specs.stored.HeldMounts.{MountsUpTo, HeldMounts, IdleMounts}
 use Rattle.base.proofs.tree.PlacedTrees.{holds-tree}
 use Rattle.base.proofs.stored.StoredTrees.{stored-synced_tree}
 use Rattle.base.proofs.stored.StoredSyncs.{group-replayed, news}
-use Rattle.base.proofs.stored.StoredCalls.{advance-no_log}
 use Rattle.base.proofs.formats.Versions.{known-written}
 use Rattle.base.proofs.common.KeptLists.{Some-injective}
 
@@ -104,14 +102,3 @@ held_mounts h x none = by_sync h x none h.running x.kept.sync x.kept.labels
 
 pub idle_mounts : IdleMounts
 idle_mounts h x none idle = synced h x none (subst (λ (o : Option NewTree). AreLabelsShown h.now h.state.shown o h.state.past) idle x.kept.labels)
-
--- what a call of a sync leaves has no log block
-call-no_log : (old new : Held) (after : NewTree) → IsHeld old → IsCallMade old new after → HasNoLogBlock old.now → HasNoLogBlock new.now
-call-no_log old new after x c = advance-no_log old.now old.state.shown old.pointers old.state.past x.explained c.before
-    (subst (λ (o : Option NewTree). IsKept old.now old.state.shown old.pointers o old.state.past) c.running x.kept) c.group new.now after c.syncing c.advances
-
-pub steps_write_no_log : StepsWriteNoLog
-steps_write_no_log (reply.Syncing group) old new x m none = subst HasNoLogBlock (sym m.same) none
-steps_write_no_log reply.More old new x m none = call-no_log old new m.0 x m.1 none
-steps_write_no_log (reply.Synced group) old new x m none = call-no_log old new m.0 x m.1 none
-steps_write_no_log _ old new x m none = subst HasNoLogBlock (sym m.0) none

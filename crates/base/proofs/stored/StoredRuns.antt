@@ -14,9 +14,10 @@ use Rattle.base.specs.steps.Steps.{State, SyncProgress}
 use Rattle.base.specs.steps.Steps.SyncProgress.{More, Synced}
 use Rattle.base.specs.steps.BuiltSteps as as_built
 use Rattle.base.specs.steps.Runs.{Step, reply_of, progress_reply}
-use Rattle.base.specs.stored.Stored.{NewTree, IsKept, Held, IsHeld, Starts, IsCallMade, Moves, is_turn, total_calls}
+use Rattle.base.specs.stored.Stored.{NewTree, IsKept, Held, IsHeld, Starts, IsCallMade, IsLogWritten, Moves, is_turn, total_calls}
 use Rattle.base.proofs.steps.KeptTables.{steps_keep_tables}
 use Rattle.base.proofs.stored.StoredCalls.{advance-keeps}
+use Rattle.base.proofs.stored.StoredLogs.{log_put_keeps}
 use Rattle.base.proofs.stored.StoredSteps.{steps_keep_kept}
 use Rattle.base.proofs.stored.StoredStarts.{start-keeps}
 use Rattle.base.proofs.stored.StoredSyncs.{finish-keeps}
@@ -79,9 +80,17 @@ module _ (old new : Held) (x : IsHeld old) where
     more r h off (after, call, pointers_are, running_is) = told old.pointers (Some after) pointers_are running_is
         (steps_keep_kept new.now old.pointers (Some after) keeps bytes s r old.state new.state h off x.explained (called after call))
 
+    -- a block of the log that was written
+    logged : (count : ℕ) → Step keeps bytes s (reply.Logged count) old.state new.state → is_turn (reply.Logged count) ≡ false → IsLogWritten old new → Kept
+    logged count h off m = told old.pointers old.running m.pointers m.running
+        (steps_keep_kept new.now old.pointers old.running keeps bytes s (reply.Logged count) old.state new.state h off x.explained
+        (subst (λ (l : List ℕ). IsKept l old.state.shown old.pointers old.running old.state.past) (sym m.now_is)
+        (log_put_keeps old.now old.state.shown old.pointers old.state.past m.block.content m.packed.sealed.size old.running x.kept)))
+
     -- by the reply of a step that is no turn
     no_turn : (r : declared_reply.Reply) → Step keeps bytes s r old.state new.state → is_turn r ≡ false → Moves r old new → Kept
     no_turn reply.More h off m = more reply.More h off m
+    no_turn (reply.Logged count) h off m = logged count h off m
     no_turn (reply.Syncing group) h off m = absurd (false≢true (sym off))
     no_turn (reply.Synced group) h off m = absurd (false≢true (sym off))
     no_turn r h off m = beside r h off m

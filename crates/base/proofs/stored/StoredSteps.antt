@@ -1,4 +1,4 @@
--- Steps that start and end no sync keep what a pool keeps of its device.
+-- Steps that neither start nor end a sync keep what a pool keeps of its device, over the bytes after them.
 use Rattle.std.proofs.Common.{◌≡◌, ℕ, ◌-◌, ◌<◌, true, false, List, refl, ap, sym, subst, ◌∙◌, ◌⊎◌, inl, inr}
 use Rattle.std.specs.Prelude.{Option, Some, None, Ok, slice_get, ◌==◌}
 use Rattle.std.proofs.lemmas.Bool.{false≢true}
@@ -17,7 +17,7 @@ use Rattle.base.specs.steps.Exact.{AreFree, IsInLog}
 use Rattle.base.specs.steps.Steps as steps
 use Rattle.base.specs.steps.Steps.{State, Answers, SyncProgress}
 use Rattle.base.specs.steps.Steps.SyncProgress.{More, Synced}
-use Rattle.base.specs.steps.Effects.{Effect, MayAddEntry, MayHave, is_logging, is_turning, state_after}
+use Rattle.base.specs.steps.Effects.{Effect, MayAddEntry, MayHave, is_turning, state_after}
 use Rattle.base.specs.steps.Effects.Effect.{Suspends, AddsAdmission, AddsEntry, OpensNext, QuiescesMiddle, PlansSync, CountsStep, EndsSync, WritesLog, FlushesLog}
 use Rattle.base.specs.steps.Runs.{Step}
 use Rattle.base.specs.steps.ExactNow.{IsExplainedNow}
@@ -28,6 +28,7 @@ use Rattle.base.proofs.history.Cuts.{up_to_push}
 use Rattle.base.proofs.steps.KeptGroups.{held_above, held_above_sync}
 use Rattle.base.proofs.steps.StepEffects.{StepDoes, step_does}
 use Rattle.base.proofs.stored.StoredLabels.{AreSameUpTo, counted-state, labels-state}
+use Rattle.base.proofs.stored.StoredLogs.{log_flush_keeps, log_write_keeps}
 
 -- the free blocks are the same where a sync has taken the same
 pub free-state : (now : List ℕ) (s t : Shown) → taken_of t.sync ≡ taken_of s.sync → AreFree now s
@@ -187,23 +188,23 @@ module _ (now : List ℕ) (pointers : Place → Pointer) (running : Option NewTr
           syncing-state now old.shown t.shown pointers old.past t.past new y (plan.steps_left - 1) (ap (λ (q : SyncPlan). Some (record q { steps_left = plan.steps_left - 1 })) same)
 
   -- by the effect
-  effect_keeps : (e : Effect) (s : State) → is_turning e ≡ false → is_logging e ≡ false → IsExplainedNow s.shown s.past → IsKeptState s → MayHave e s → IsKeptState (state_after e s)
-  effect_keeps (AddsAdmission a) s off no_log explained x may =
+  effect_keeps : (e : Effect) (s : State) → is_turning e ≡ false → IsExplainedNow s.shown s.past → IsKeptState s → MayHave e s → IsKeptState (state_after e s)
+  effect_keeps (AddsAdmission a) s off explained x may =
       let t : State = state_after (AddsAdmission a) s in
       kept-state now s.shown t.shown pointers s.past t.past running (λ group is. refl) x
-  effect_keeps (AddsEntry tx a ops contents) s off no_log explained x may = entry tx a ops contents s explained x may
-  effect_keeps OpensNext s off no_log explained x may =
+  effect_keeps (AddsEntry tx a ops contents) s off explained x may = entry tx a ops contents s explained x may
+  effect_keeps OpensNext s off explained x may =
       let t : State = state_after OpensNext s in
       kept-state now s.shown t.shown pointers s.past t.past running (λ group is. refl) x
-  effect_keeps (QuiescesMiddle group) s off no_log explained x may =
+  effect_keeps (QuiescesMiddle group) s off explained x may =
       let t : State = state_after (QuiescesMiddle group) s in
       kept-state now s.shown t.shown pointers s.past t.past running (λ group is. refl) x
-  effect_keeps (CountsStep plan) s off no_log explained x may = more plan s x may.0
-  effect_keeps (PlansSync group plan) s turning no_log explained x may = absurd (false≢true (sym turning))
-  effect_keeps (EndsSync group plan) s turning no_log explained x may = absurd (false≢true (sym turning))
-  effect_keeps (WritesLog taken rest address) s off logging explained x may = absurd (false≢true (sym logging))
-  effect_keeps FlushesLog s off logging explained x may = absurd (false≢true (sym logging))
-  effect_keeps e s off no_log explained x may = let t : State = state_after e s in stays s.shown t.shown s.past t.past x
+  effect_keeps (CountsStep plan) s off explained x may = more plan s x may.0
+  effect_keeps (PlansSync group plan) s turning explained x may = absurd (false≢true (sym turning))
+  effect_keeps (EndsSync group plan) s turning explained x may = absurd (false≢true (sym turning))
+  effect_keeps (WritesLog taken rest address) s off explained x may = log_write_keeps now s pointers taken rest address may.0 running x
+  effect_keeps FlushesLog s off explained x may = log_flush_keeps now s pointers running x
+  effect_keeps e s off explained x may = let t : State = state_after e s in stays s.shown t.shown s.past t.past x
 
   -- Each step but the start of a sync and its end keeps what is kept, over the same bytes and pointers. (The bytes that
   -- the step itself names are any.)
@@ -211,7 +212,7 @@ module _ (now : List ℕ) (pointers : Place → Pointer) (running : Option NewTr
       → IsKept now old.shown pointers running old.past → IsKept now new.shown pointers running new.past
   steps_keep_kept keeps bytes s r old new h off explained x =
       let d : StepDoes s r old new = step_does keeps bytes s r old new h in
-      let kept = effect_keeps d.has.effect old (d.turns ∙ off) d.no_log explained x d.has.may in
+      let kept = effect_keeps d.has.effect old (d.turns ∙ off) explained x d.has.may in
       elim (d.has.left) as (λ _. IsKeptState new) [
         | inl is ↦ subst IsKeptState (sym is) kept
         | inr is ↦ subst IsKeptState (sym is) (let after : State = state_after d.has.effect old in let t : State = state_after Suspends after in stays after.shown t.shown after.past t.past kept)

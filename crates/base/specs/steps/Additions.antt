@@ -8,13 +8,12 @@ use Rattle.base.specs.declared.step.Reply.TheVariants as reply
 use Rattle.base.specs.history.Past.{Past, Grows, ordinals_of}
 use Rattle.base.specs.steps.Refusals.{object_range}
 use Rattle.base.specs.steps.Runs.{Step}
-use Rattle.base.specs.steps.Steps.{State}
+use Rattle.base.specs.steps.Steps.{State, ordinals_awaiting}
 use Rattle.base.specs.steps.ExactNow.{IsRun}
 
 -- The past after a step. A commit adds its entry, a lock its grant, an unlock the name that is released, a begin its
--- admission and an abort the name of its transaction; the step that answers that a group is synced, and no other of
--- these, acknowledges entries: those of that group. No refusal adds anything. A step that is not built yet will: a good
--- flush of the log adds the ordinals that await one in the log of the state before to those acknowledged.
+-- admission and an abort the name of its transaction. Two steps acknowledge entries: the one that answers that a group
+-- is synced those of that group, and a good flush of the log those whose records awaited one. No refusal adds anything.
 abbrev pub past_after : declared_step.Step → declared_reply.Reply → State → Past
 past_after (step.Lock owner n range mode) (reply.Locked id) s =
     record s.past { grants = s.past.grants ++ record { id = id.0; owner = owner.0; range = object_range n.0 range.low range.high; mode = mode } ∷ [] }
@@ -28,6 +27,7 @@ past_after (step.Commit tx ops) (reply.Committed receipt) s =
 past_after (step.Abort tx) reply.Done s = record s.past { aborted = s.past.aborted ++ tx.0 ∷ [] }
 past_after step.SyncStep (reply.Synced group) s =
     record s.past { acknowledged = s.past.acknowledged ++ ordinals_of group.0 s.past.entries }
+past_after step.LogFlush reply.Flushed s = record s.past { acknowledged = s.past.acknowledged ++ ordinals_awaiting s.shown.log }
 past_after _ _ s = s.past
 
 -- after each step, over whichever device, the past is that one

@@ -1,6 +1,5 @@
 -- What each step keeps: what is shown of a pool is exact, and its entries are a history that leads to its contents.
-use Rattle.std.specs.Prelude.{ℕ, ◌≡◌, ◌≤◌, ◌+◌, ◌⊎◌, List, Option, Some, Result}
-use Rattle.base.specs.declared.error.PoolError.{PoolError}
+use Rattle.std.specs.Prelude.{ℕ, ◌≡◌, ◌≤◌, ◌+◌, List, Option, Some}
 use Rattle.base.specs.declared.step.Step as declared_step
 use Rattle.base.specs.declared.step.Reply as declared_reply
 use Rattle.base.specs.formats.Limits.{last_number}
@@ -9,7 +8,7 @@ use Rattle.base.specs.history.History.{IsHistory}
 use Rattle.base.specs.formats.Uberblocks.{Uberblock}
 use Rattle.base.specs.history.Past.{Past, new_past}
 use Rattle.base.specs.steps.Shown.{Shown, SyncPlan}
-use Rattle.base.specs.steps.Steps.{State, AreLengthsOf, IsReplayUpTo, LogWrite, LogFlush}
+use Rattle.base.specs.steps.Steps.{State, AreLengthsOf, IsReplayUpTo}
 use Rattle.base.specs.steps.Runs.{Step, Run}
 use Rattle.base.specs.steps.BuiltSteps.{AreBuilt}
 use Rattle.base.specs.steps.Exact.{IsExact, IsBounded}
@@ -42,10 +41,6 @@ IsRun keeps = Run (λ step reply old new. (now : List ℕ) × Step keeps now ste
 abbrev pub GoesOn : State → State → Type 0
 GoesOn before after = (steps : List declared_step.Step) × (replies : List declared_reply.Reply) × IsRun ⊥ steps replies before after
 
--- a write or a flush of the log, whatever it answers
-abbrev pub IsLogStep : State → State → Type 0
-IsLogStep old new = ((answer : Result ℕ PoolError) × LogWrite answer old new) ⊎ ((answer : Result (Unit {0}) PoolError) × LogFlush answer old new)
-
 -- each step keeps this, over a device of which nothing is known: the steps over a device that keeps the disk model are
 -- among these
 abbrev pub StepsKeepTables : Type 0
@@ -56,10 +51,6 @@ StepsKeepTables = (now : List ℕ) (step : declared_step.Step) (reply : declared
 abbrev pub RunsKeepTables : Type 0
 RunsKeepTables = (steps : List declared_step.Step) (replies : List declared_reply.Reply) (old new : State) → IsRun ⊥ steps replies old new
     → IsExplainedNow old.shown old.past → IsExplainedNow new.shown new.past
-
--- and so do the steps of the log, which are not built yet: a write, answered or refused, and a flush
-abbrev pub LogStepsKeepTables : Type 0
-LogStepsKeepTables = (old new : State) → IsLogStep old new → IsExplainedNow old.shown old.past → IsExplainedNow new.shown new.past
 
 -- a pool that was just imported is so, with the empty past
 abbrev pub NewPoolsAreExplained : Type 0

@@ -68,6 +68,10 @@ Step keeps now (step.StartSync moment) given old new =
     (λ answer. as_built.StartSync keeps now moment answer old new)
 Step keeps now step.SyncStep given old new =
     Replies progress_reply given (λ answer. steps.SyncStep answer old new)
+Step keeps now step.LogWrite given old new =
+    Replies (λ count. reply.Logged count) given (λ answer. steps.LogWrite answer old new)
+Step keeps now step.LogFlush given old new =
+    Replies (λ _. reply.Flushed) given (λ answer. steps.LogFlush answer old new)
 Step keeps now (step.Durable receipt) given old new =
     Replies (λ durable. reply.Durable durable) given
     (λ answer. steps.Answers None answer old new (λ durable. steps.Durable receipt.ordinal.0 receipt.group.0 durable old new) steps.Never)
@@ -89,6 +93,8 @@ tests_of_step step.CloseGroup s = refusal.close_tests s
 tests_of_step step.MarkQuiesced s = refusal.quiesce_tests s
 tests_of_step (step.StartSync moment) s = refusal.start_tests s
 tests_of_step step.SyncStep s = refusal.sync_step_tests s
+tests_of_step step.LogWrite s = refusal.log_write_tests s
+tests_of_step step.LogFlush s = refusal.log_flush_tests s
 tests_of_step (step.Durable receipt) s = []
 
 -- why it is refused first, if its tests refuse it
@@ -99,6 +105,12 @@ refusal_of_step step s = first_refusal (tests_of_step step s)
 abbrev pub is_start : declared_step.Step → Bool
 is_start (step.StartSync moment) = true
 is_start _ = false
+
+-- whether a step writes or flushes the log
+abbrev pub is_log_step : declared_step.Step → Bool
+is_log_step step.LogWrite = true
+is_log_step step.LogFlush = true
+is_log_step _ = false
 
 -- steps one after another, each with its reply, over states of any type
 abbrev pub Run : {S : Type 0} → (declared_step.Step → declared_reply.Reply → S → S → Type 0) → List declared_step.Step → List declared_reply.Reply → S → S → Type 0

@@ -7,9 +7,8 @@ use Rattle.base.specs.formats.Chain.{LogPiece}
 use Rattle.base.specs.crash.Mount.{Mounts}
 use Rattle.base.specs.history.Past.{Past}
 use Rattle.base.specs.steps.Shown.{Shown}
-use Rattle.base.specs.declared.step.Reply.{Reply}
 use Rattle.base.specs.stored.ShownLabels.{HasNoLogBlock}
-use Rattle.base.specs.stored.Stored.{Held, IsHeld, Moves}
+use Rattle.base.specs.stored.Stored.{Held, IsHeld}
 
 -- an image mounts one thing at most
 abbrev pub MountsAgree : Type 0
@@ -36,7 +35,3 @@ HeldMounts = (h : Held) → IsHeld h → HasNoLogBlock h.now
 -- where no sync runs it is the synced group
 abbrev pub IdleMounts : Type 0
 IdleMounts = (h : Held) → IsHeld h → HasNoLogBlock h.now → h.running ≡ None → MountsUpTo h.state.shown.line.synced h.now h.state.shown h.state.past
-
--- no step writes a log block
-abbrev pub StepsWriteNoLog : Type 0
-StepsWriteNoLog = (reply : Reply) (old new : Held) → IsHeld old → Moves reply old new → HasNoLogBlock old.now → HasNoLogBlock new.now

@@ -12,6 +12,7 @@ use Rattle.base.specs.formats.Geometry.{block_size, block_count, IsGeometry, IsB
 use Rattle.base.specs.history.History.{replay, entries_up_to}
 use Rattle.base.specs.formats.Versions.{written_version}
 use Rattle.base.specs.formats.Blocks.{Frame}
+use Rattle.base.specs.formats.Records.{Record}
 use Rattle.base.specs.tree.Places.{Place, IsPlace, IsInTree}
 use Rattle.base.specs.tree.Places.Place.{Root}
 use Rattle.base.specs.tree.PlacedTrees.{HoldsTree}
@@ -22,7 +23,9 @@ use Rattle.base.specs.steps.Shown.{Shown, SyncPlan, uberblock_of}
 pub use Rattle.base.specs.crash.SyncCalls.{NewTree, Advances, total_calls}
 use Rattle.base.specs.stored.ShownLabels.{AreLabelsShown}
 use Rattle.base.specs.steps.Exact.{AreFree, IsInLog, log_addresses}
-use Rattle.base.specs.crash.LogSteps.{IsHeaderIn}
+use Rattle.base.specs.crash.LogSteps.{IsHeaderIn, IsPackedBlock}
+use Rattle.base.specs.crash.Views.{Logged}
+use Rattle.base.specs.disk.Disk.{put}
 use Rattle.base.specs.steps.ExactNow.{IsExplainedNow}
 use Rattle.base.specs.steps.Steps.{State}
 
@@ -147,9 +150,21 @@ pub record IsCallMade (old new : Held) (after : NewTree) : Type 0 where
   pub syncing : old.state.shown.line.syncing ≡ Some group
   pub advances : Advances group old.now new.now before after
 
+-- the log's next block was written, with records from the front of the pending ones, and this address is the one after
+-- its own
+pub record IsLogWritten (old new : Held) : Type 0 where
+  pub taken : List Record
+  pub address : ℕ
+  pub block : Logged
+  pub packed : IsPackedBlock old.state.shown taken address block
+  pub now_is : new.now ≡ put old.state.shown.log.next.address block.content old.now
+  pub pointers : new.pointers ≡ old.pointers
+  pub running : new.running ≡ old.running
+
 -- how a step moves the bytes, the pointers and the running sync, by its reply
 abbrev pub Moves : Reply → Held → Held → Type 0
 Moves (reply.Syncing group) old new = Starts group.0 old new
 Moves reply.More old new = (after : NewTree) × IsCallMade old new after × (new.pointers ≡ old.pointers) × (new.running ≡ Some after)
 Moves (reply.Synced group) old new = (after : NewTree) × IsCallMade old new after × (after.done ≡ total_calls after) × (new.pointers ≡ after.pointers) × (new.running ≡ None)
+Moves (reply.Logged count) old new = IsLogWritten old new
 Moves _ old new = (new.now ≡ old.now) × (new.pointers ≡ old.pointers) × (new.running ≡ old.running)
