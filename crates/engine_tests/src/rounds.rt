@@ -3,7 +3,7 @@
 use crate::steps::{OBJECT, stored};
 use base::{Group, PoolError, Reply};
 use device_model::MemDevice;
-use round_trip::play;
+use round_trip::{End, Round, play_rounds};
 use std::alloc::Global;
 
 // How many replies a round has, whether the last is that of its sync, the group that the import after it synced, and
@@ -11,8 +11,18 @@ use std::alloc::Global;
 fn play_sync(alloc: Global) -> Result<(usize, bool, Group, bool), PoolError> {
     let device = MemDevice::new(alloc, 12_288)?;
     // the object's block, its map, the directory and the root, and 6 calls more
-    let steps = stored(alloc, 10)?;
-    let (replies, imported) = play(alloc, device, b"tank", 77, 1_048_576, 5, steps)?;
+    let round = Round {
+        fault: None,
+        dirty_max: 1_048_576,
+        moment: 5,
+        steps: stored(alloc, 10)?,
+        end: End::GivenUp,
+    };
+    let rounds = vec![in alloc; round]?;
+    let (answers, imported) = play_rounds(alloc, device, b"tank", 77, 1_048_576, 5, rounds)?;
+    let Some(Ok(replies)) = answers.first() else {
+        return Err(PoolError::NotReady);
+    };
     let is_synced = matches!(replies.last(), Some(Reply::Synced(Group(9))));
     let object = imported.mounted.contents.object(OBJECT);
     let is_found = object == Some(b"abcd".as_slice());

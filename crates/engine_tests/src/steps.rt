@@ -7,7 +7,7 @@ use base::{
 };
 use device_model::{MemDevice, SectorDevice};
 use import_replay::inspect;
-use round_trip::round;
+use round_trip::import_and_run;
 use std::alloc::{AllocError, Global};
 
 /// The owner of the locks and transactions.
@@ -52,9 +52,19 @@ pub fn stored(alloc: Global, calls: usize) -> Result<Vec<Step>, AllocError> {
     Ok(steps)
 }
 
+// The replies to the steps after an import of the pool on a device, and the device.
+fn replied(
+    alloc: Global,
+    device: MemDevice,
+    steps: Vec<Step>,
+) -> Result<(Vec<Reply>, MemDevice), PoolError> {
+    let (answer, device) = import_and_run(alloc, device, 1_048_576, 6, steps);
+    Ok((answer?, device))
+}
+
 // The device of a new pool on 8 MiB after the steps.
 fn device_behind(alloc: Global, steps: Vec<Step>) -> Result<MemDevice, PoolError> {
-    let (_, device) = round(alloc, new_pool(alloc, 16_384)?, 1_048_576, 6, steps)?;
+    let (_, device) = replied(alloc, new_pool(alloc, 16_384)?, steps)?;
     Ok(device)
 }
 
@@ -226,7 +236,7 @@ fn are_four(replies: &[Reply]) -> bool {
 // It, of a new pool.
 fn four_replies(alloc: Global) -> Result<bool, PoolError> {
     let device = new_pool(alloc, 16_384)?;
-    let (replies, _) = round(alloc, device, 1_048_576, 6, four_steps(alloc)?)?;
+    let (replies, _) = replied(alloc, device, four_steps(alloc)?)?;
     Ok(are_four(replies.as_slice()))
 }
 

@@ -5,19 +5,18 @@ ghost use Rattle.std.specs.Prelude.{◌≡◌, ◌≢◌, All, IfErr, IfOk, leng
 ghost use Rattle.base.specs.disk.Crashes.{crash_image};
 ghost use Rattle.base.specs.disk.Disk.{Disk, bytes_of, certain};
 ghost use Rattle.base.specs.formats.Uberblocks.{IsActive};
-ghost use Rattle.base.specs.history.Contents.{Contents};
 ghost use Rattle.base.specs.history.Past.{Past};
 ghost use Rattle.import_replay.specs.Creations.{first_uberblock};
 ghost use Rattle.base.specs.steps.Runs.{Run};
 ghost use Rattle.pool_core.specs.KeptSafe.{IsSafeStep, OnDisk};
 ghost use Rattle.base.specs.crash.LeftDisks.{GoesOnFrom, IsLeft};
 ghost use Rattle.round_trip.specs.declared.crashes.End.TheVariants.{GivenUp};
-ghost use Rattle.round_trip.specs.Rounds.{HasMoment, HoldsContents};
+ghost use Rattle.round_trip.specs.Rounds.{HasMoment};
 
 use crate::crashes::{
     Answer, End, Round, go_round, go_rounds, import_and_run, plan_fault, play_rounds,
 };
-use crate::{make, open, play, round};
+use crate::{make, open};
 use base::{Piece, PoolError, Reply, Step};
 use device_model::{Fault, MemDevice};
 use import_replay::Imported;
@@ -36,29 +35,6 @@ fn an_imported_pool_has_its_limit(alloc: Global, device: MemDevice) -> Result<()
     let limit = imported.mounted.dirty_max;
     prove!(limit == 1_048_576);
     Ok(())
-}
-
-// A round over a device that holds contents makes all its steps.
-fn each_step_of_a_round_has_a_reply(
-    alloc: Global,
-    device: MemDevice,
-    steps: Vec<Step>,
-) -> Result<(Vec<Reply>, MemDevice), PoolError>
-    ensures { (before : Contents) → HoldsContents (bytes_of device.disk.now) before
-        → IfOk result (λ r. length r.0.items ≡ length steps.items) }
-{
-    round(alloc, device, 1_048_576, 7, steps)
-}
-
-// So does a play.
-fn each_step_of_a_play_has_a_reply(
-    alloc: Global,
-    device: MemDevice,
-    steps: Vec<Step>,
-) -> Result<(Vec<Reply>, Imported<MemDevice>), PoolError>
-    ensures { IfOk result (λ r. length r.0.items ≡ length steps.items) }
-{
-    play(alloc, device, b"tank", 77, 1_048_576, 7, steps)
 }
 
 // An import of what an earlier run left makes all steps, and finds a pool.

@@ -38,11 +38,15 @@ abbrev pub IsCommitOf : List ℕ → List (Bor (List ℕ)) → PoolCommand → T
 IsCommitOf tx words (pool.Commit t contents) = IsNumberBelow (2 ^ 64) tx × (t.0 ≡ spelled_number tx) × (vec_len contents ≡ length words) × AreContentsOf words contents.items
 IsCommitOf tx words _ = ⊥
 
--- the lines of a step that tells what the contents are, where an object ends, what the pool's groups and sums are, or
--- whether a commit is durable
+-- the lines of a step that writes or flushes the log, or reports whether a commit is durable
+abbrev pub IsLoggingForm : Words → Type 0
+IsLoggingForm words = HasForm words (codes "log-write") 1 ⊎ (HasForm words (codes "log-flush") 1 ⊎ HasForm words (codes "durable") 3)
+
+-- those of a step that reports what the contents are, where an object ends, or what the pool's groups and sums are, or
+-- of one of the log
 abbrev pub IsTellingForm : Words → Type 0
 IsTellingForm words = HasForm words (codes "append") 3 ⊎ (HasForm words (codes "length") 2 ⊎ (HasForm words (codes "digest") 1
-    ⊎ (HasForm words (codes "name") 1 ⊎ (HasForm words (codes "status") 1 ⊎ HasForm words (codes "durable") 3))))
+    ⊎ (HasForm words (codes "name") 1 ⊎ (HasForm words (codes "status") 1 ⊎ IsLoggingForm words))))
 
 -- those of a step that lets a lock go, gives a transaction up, or tells something
 abbrev pub IsEndingForm : Words → Type 0
@@ -116,6 +120,12 @@ module _ {A : Type 0} (of : Step → A) (words : Words) (r : Result A LineError)
       (IsNumberBelow (2 ^ 64) (word words 1) × IsNumberBelow (2 ^ 64) (word words 2))
       (of (step.Durable (record { ordinal = record { 0 = spelled_number (word words 1) }; group = record { 0 = spelled_number (word words 2) } })))
 
+-- what the words of a step of the log are read as
+pub record ReadsLogging {A : Type 0} (of : Step → A) (words : Words) (r : Result A LineError) : Type 0 where
+  pub log_write : HasForm words (codes "log-write") 1 → r ≡ Ok (of step.LogWrite)
+  pub log_flush : HasForm words (codes "log-flush") 1 → r ≡ Ok (of step.LogFlush)
+  pub durable : ReadsDurable of words r
+
 -- what the words of a step that tells something are read as
 pub record ReadsTelling {A : Type 0} (of : Step → A) (words : Words) (r : Result A LineError) : Type 0 where
   pub append : ReadsAppend of words r
@@ -123,7 +133,7 @@ pub record ReadsTelling {A : Type 0} (of : Step → A) (words : Words) (r : Resu
   pub digest : HasForm words (codes "digest") 1 → r ≡ Ok (of step.Digest)
   pub name : HasForm words (codes "name") 1 → r ≡ Ok (of step.Name)
   pub status : HasForm words (codes "status") 1 → r ≡ Ok (of step.Status)
-  pub durable : ReadsDurable of words r
+  pub logging : ReadsLogging of words r
 
 -- what the words of a step that ends or tells something are read as
 pub record ReadsEnding {A : Type 0} (of : Step → A) (words : Words) (r : Result A LineError) : Type 0 where

@@ -84,6 +84,8 @@ fn write_reply<W: fmt::Write>(reply: &Reply, f: &mut fmt::Formatter<W>) -> fmt::
         Reply::Syncing(group) => write!(f, "syncing {}", group.0),
         Reply::More => write!(f, "more"),
         Reply::Synced(group) => write!(f, "synced {}", group.0),
+        Reply::Logged(records) => write!(f, "logged {records}"),
+        Reply::Flushed => write!(f, "flushed"),
         Reply::Durable(true) => write!(f, "durable yes"),
         Reply::Durable(false) => write!(f, "durable no"),
     }

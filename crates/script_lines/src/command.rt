@@ -5,7 +5,7 @@
 ghost use Rattle.std.specs.Prelude.{◌≡◌, ◌↔◌, ◌^◌, ◌+◌, ◌<◌, ◌≤◌, IsOk, IfOk, IfErr, map, Some, vec_len, length, replicate, slice_index, ◌≢◌, All, IsSome};
 ghost use Rattle.std.specs.Result.{OkIff, result_ok};
 ghost use Rattle.script_lines.specs.Numbers.{IsNumberBelow, spelled_number};
-ghost use Rattle.script_lines.specs.Commands.{IsBeginOf, IsCommitOf, IsCrashOf, IsDeviceForm, IsEndingForm, IsFailOf, IsLineForm, IsPoolForm, IsStepForm, IsTellingForm, ReadsDeviceLine, ReadsEnding, ReadsLine, ReadsPool, ReadsStep, ReadsTelling, ReadsWords};
+ghost use Rattle.script_lines.specs.Commands.{IsBeginOf, IsCommitOf, IsCrashOf, IsDeviceForm, IsEndingForm, IsFailOf, IsLineForm, IsLoggingForm, IsPoolForm, IsStepForm, IsTellingForm, ReadsDeviceLine, ReadsEnding, ReadsLine, ReadsLogging, ReadsPool, ReadsStep, ReadsTelling, ReadsWords};
 ghost use Rattle.script_lines.specs.Copies.{AreContentsOf, AreCopies, IsContentOf, max_copies};
 ghost use Rattle.script_lines.specs.Letters.{call_name, mode_of, piece_of};
 ghost use Rattle.device_model.specs.declared.fault.Fault.{Fault};
@@ -177,8 +177,8 @@ fn parse_ending(words: &[&str]) -> Result<Step, LineError>
     }
 }
 
-// A step that tells what the contents are, where an object ends, what the pool's groups and sums are, or whether a
-// commit is durable.
+// A step that reports what the contents are, where an object ends, or what the pool's groups and sums are, or one of
+// the log.
 fn parse_telling(words: &[&str]) -> Result<Step, LineError>
     ensures step { ReadsTelling (λ s. s) words.now result }
     ensures form { IsOk result → IsTellingForm words.now }
@@ -192,6 +192,18 @@ fn parse_telling(words: &[&str]) -> Result<Step, LineError>
         ["digest"] => Ok(Step::Digest),
         ["name"] => Ok(Step::Name),
         ["status"] => Ok(Step::Status),
+        words => parse_logging(words),
+    }
+}
+
+// A step that writes or flushes the log, or reports whether a commit is durable.
+fn parse_logging(words: &[&str]) -> Result<Step, LineError>
+    ensures step { ReadsLogging (λ s. s) words.now result }
+    ensures form { IsOk result → IsLoggingForm words.now }
+{
+    match words {
+        ["log-write"] => Ok(Step::LogWrite),
+        ["log-flush"] => Ok(Step::LogFlush),
         ["durable", ordinal, group] => Ok(Step::Durable(Receipt {
             ordinal: Ordinal(wide(ordinal)?),
             group: Group(wide(group)?),
