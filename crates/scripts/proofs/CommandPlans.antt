@@ -63,6 +63,8 @@ module _ (in_pool : ℕ) where
   by_step step.MarkQuiesced r v w plans are made = by_other step.MarkQuiesced r v w refl made plans are
   by_step (step.StartSync moment) r v w plans are made = by_other (step.StartSync moment) r v w refl made plans are
   by_step step.SyncStep r v w plans are made = by_other step.SyncStep r v w refl made plans are
+  by_step step.LogWrite r v w plans are made = by_other step.LogWrite r v w refl made plans are
+  by_step step.LogFlush r v w plans are made = by_other step.LogFlush r v w refl made plans are
   by_step (step.Durable receipt) r v w plans are made = by_other (step.Durable receipt) r v w refl made plans are
 
   pub command_plans : (asked : PoolCommand) (moment : ℕ) (r : Reply) (v w : SeenPool) (plans : List BegunPlan) → ArePlansOf plans v → AsksNext in_pool asked moment r v w

@@ -1,5 +1,5 @@
 -- The plans that a session keeps are those of the transactions that are open, after each command as before it.
-use Rattle.std.proofs.Common.{◌≡◌, ◌∙◌, ℕ, Bool, true, false, List, [], ◌∷◌, ◌++◌, refl, ap, sym, subst}
+use Rattle.std.proofs.Common.{◌≡◌, ◌∙◌, ◌⊎◌, inl, inr, ℕ, Bool, true, false, List, [], ◌∷◌, ◌++◌, refl, ap, sym, subst}
 use Rattle.std.specs.Prelude.{◌==◌, Option, Some, None, Result, Ok, Err}
 use Rattle.std.specs.List.{list_all}
 use Rattle.std.specs.Option.{option_map}
@@ -90,6 +90,14 @@ other_stays step.SyncStep r old new other (answer, is, h) = by_answer old new _ 
     progress : (p : SyncProgress) → (group : ℕ) × (plan : SyncPlan) × (old.shown.line.syncing ≡ Some group) × (old.shown.sync ≡ Some plan) × steps.IsProgress group p plan old new → HasSame old new
     progress More d = ap (λ (x : State). x.shown.transactions) d.4.1
     progress (Synced g) d = ap (λ (x : State). x.shown.transactions) d.4.2
+other_stays step.LogWrite r old new other (answer, is, h) =
+    by_answer old new _ answer _ _ (λ count d. ap (λ (x : State). x.shown.transactions) d.5)
+    (λ e own. elim own as (λ _. HasSame old new) [
+      | inl memory ↦ wants old new e memory
+      | inr wrote ↦ ap (λ (x : State). x.shown.transactions) wrote.1.4
+    ]) h
+other_stays step.LogFlush r old new other (answer, is, h) =
+    by_answer old new _ answer _ _ (λ u d. ap (λ (x : State). x.shown.transactions) d) (λ e own. ap (λ (x : State). x.shown.transactions) own.1) h
 other_stays (step.Durable receipt) r old new other (answer, is, h) =
     by_answer old new None answer _ _ (λ durable (d : steps.Durable receipt.ordinal.0 receipt.group.0 durable old new). same_open old new d.1) (λ e never. absurd never) h
 other_stays (step.Begin owner plan) r old new other h = absurd (false≢true (sym other))
