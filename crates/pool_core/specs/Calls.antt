@@ -6,11 +6,13 @@ use Rattle.base.specs.declared.step.Step as declared_step
 use Rattle.base.specs.declared.step.Step.TheVariants as step
 use Rattle.base.specs.declared.step.Reply as declared_reply
 use Rattle.base.specs.declared.step.Reply.TheVariants as reply
-use Rattle.base.specs.disk.Calls.{counted}
+use Rattle.base.specs.disk.Calls.{Flushes, counted}
 use Rattle.base.specs.steps.Runs.{reply_of}
 use Rattle.device_model.specs.declared.device.SectorDevice.{Ghosts}
 use Rattle.pool_core.specs.declared.state.PoolState.{PoolState}
-use Rattle.pool_core.specs.States.{device_of}
+use Rattle.pool_core.specs.KeptSafe.{disk_of}
+use Rattle.pool_core.specs.States.{device_of, shown}
+use Rattle.pool_tables.specs.LogBlocks.{WritesLogBlock}
 use Rattle.pool_tables.specs.NextCalls.{MakesNextOf}
 
 -- a reply as an answer, without its value
@@ -32,7 +34,15 @@ module _ {Dev : Type 0} {G : Ghosts Dev} where
   abbrev pub CallsNext : Result (Unit {0}) PoolError → PoolState Dev G → PoolState Dev G → Type 0
   CallsNext answer old new = MakesNextOf (IsTrue G.keeps_model) G.disk old.pool answer (device_of old) (device_of new)
 
-  -- and each other step makes none
+  -- a log write hands the next log block to the device, by what it replied
+  abbrev pub WritesBlock : declared_reply.Reply → PoolState Dev G → PoolState Dev G → Type 0
+  WritesBlock (reply.Logged count) old new = WritesLogBlock (Ok count) (shown old) (shown new) (disk_of old) (disk_of new)
+  WritesBlock (reply.Refused e) old new = WritesLogBlock (Err e) (shown old) (shown new) (disk_of old) (disk_of new)
+  WritesBlock _ old new = disk_of new ≡ disk_of old
+
+  -- a log flush flushes it, and each other step makes no call
   abbrev pub CallsDevice : declared_step.Step → declared_reply.Reply → PoolState Dev G → PoolState Dev G → Type 0
   CallsDevice step.SyncStep r old new = CallsNext (answer_in r) old new
+  CallsDevice step.LogWrite r old new = IsTrue G.keeps_model → WritesBlock r old new
+  CallsDevice step.LogFlush r old new = IsTrue G.keeps_model → Flushes (disk_of old) (answer_in r) (disk_of new)
   CallsDevice _ r old new = device_of new ≡ device_of old

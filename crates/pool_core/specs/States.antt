@@ -39,7 +39,11 @@ module _ {Dev : Type 0} {G : Ghosts Dev} where
     pub device : device_of new ≡ device_of old
     pub own : IsOfNoDevice answer
 
-  -- and the tree and the running sync are as they were
+  -- the tree and the running sync are as they were
+  abbrev pub KeepsTreeOf : PoolState Dev G → PoolState Dev G → Type 0
+  KeepsTreeOf old new = KeepsTree old.pool new.pool
+
+  -- no call is made, and these are as they were
   pub record MovesNothing {A : Type 0} (answer : Result A PoolError) (old new : PoolState Dev G) : Type 0 where
     pub no_call : MakesNoCall answer old new
     pub kept : KeepsTree old.pool new.pool

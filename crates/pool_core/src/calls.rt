@@ -289,6 +289,38 @@ impl<D: SectorDevice> PoolCall<D> for Durable {
     }
 }
 
+/// `PoolState::log_write` as a value.
+#[derive(Clone, Copy, Debug, PartialEq, Eq)]
+pub struct LogWrite;
+
+impl<D: SectorDevice> PoolCall<D> for LogWrite {
+    type Answer = u64;
+
+    ghost step = { λ c. step.LogWrite };
+
+    ghost reply = { λ count. reply.Logged count };
+
+    fn make(self, state: &mut PoolState<D>) -> Result<u64, PoolError> {
+        state.log_write()
+    }
+}
+
+/// `PoolState::log_flush` as a value.
+#[derive(Clone, Copy, Debug, PartialEq, Eq)]
+pub struct LogFlush;
+
+impl<D: SectorDevice> PoolCall<D> for LogFlush {
+    type Answer = ();
+
+    ghost step = { λ c. step.LogFlush };
+
+    ghost reply = { λ _. reply.Flushed };
+
+    fn make(self, state: &mut PoolState<D>) -> Result<(), PoolError> {
+        state.log_flush()
+    }
+}
+
 /// `PoolState::close_group` as a value.
 #[derive(Clone, Copy, Debug, PartialEq, Eq)]
 pub struct CloseGroup;

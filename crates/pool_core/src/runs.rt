@@ -14,8 +14,8 @@ ghost use Rattle.pool_core.specs.StepReplies.{StepReplies};
 ghost use Rattle.pool_core.specs.Turns.{MakesStep, Turns};
 
 use crate::calls::{
-    Abort, Begin, CloseGroup, Commit, Digest, Durable, Length, Lock, LockAppend, MarkQuiesced,
-    Name, PoolCall, Read, ReadStatus, StartSync, SyncStep, Unlock,
+    Abort, Begin, CloseGroup, Commit, Digest, Durable, Length, Lock, LockAppend, LogFlush, LogWrite,
+    MarkQuiesced, Name, PoolCall, Read, ReadStatus, StartSync, SyncStep, Unlock,
 };
 use crate::state::PoolState;
 use base::{PoolError, Reply, Step};
@@ -23,7 +23,8 @@ use device_model::SectorDevice;
 use pool_tables::Progress;
 
 impl<D: SectorDevice> PoolState<D> {
-    /// Makes one step. Of the steps only that of a sync calls the device: it makes the next call of its sync.
+    /// Makes one step. Three steps make one device call: that of a sync makes the next call of its sync, a log write
+    /// writes a block, and a log flush flushes. The others make none.
     ///
     /// Over a device that keeps the model it keeps the crash rule, whatever the device answers: from each past with
     /// which a crash leaves a cut of the entries, at each moment of the step and after it a crash still does. What the
@@ -85,6 +86,8 @@ impl<D: SectorDevice> PoolCall<D> for Step {
             Step::MarkQuiesced => MarkQuiesced.make(state).map(Reply::Quiesced),
             Step::StartSync(moment) => StartSync { moment }.make(state).map(Reply::Syncing),
             Step::SyncStep => SyncStep.make(state).map(progress_reply),
+            Step::LogWrite => LogWrite.make(state).map(Reply::Logged),
+            Step::LogFlush => LogFlush.make(state).map(|()| Reply::Flushed),
             Step::Durable(receipt) => Durable { receipt }.make(state).map(Reply::Durable),
         }
     }
@@ -105,7 +108,7 @@ fn progress_reply(progress: Progress) -> Reply
 }
 
 /// Makes steps one after another, and answers each. It takes the room for all replies first, and makes no device call
-/// but those of the steps of a sync. After each step the past still explains the pool, as the law
+/// except those of its steps. After each step the past still explains the pool, as the law
 /// `kept_pools_are_explained` says.
 ///
 /// # Errors

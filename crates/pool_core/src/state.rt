@@ -283,7 +283,8 @@ impl<D: SectorDevice> PoolState<D> {
         self.pool.name()
     }
 
-    /// Whether a committed transaction survives a crash: its group is synced. It is never refused, also of a suspended
+    /// Whether a committed transaction survives a crash: its group is synced, or its record lies in a log block that was
+    /// written before a good `log_flush`. It is never refused, also of a suspended
     /// pool, and takes no memory. Of a receipt that this run of the pool did not give, it says nothing.
     pub fn durable(&self, receipt: Receipt) -> bool
         ensures { result ≡ is_durable (shown self.now) receipt.ordinal.0 receipt.group.0 }
@@ -365,6 +366,45 @@ impl<D: SectorDevice> PoolState<D> {
         ensures count { CountsRefused result self.old self.new }
     {
         self.pool.sync_step(&mut self.device)
+    }
+
+    /// Writes the next log block, with as many whole pending records from the front as fit, and returns how many these
+    /// are (`zil_lwb_write_issue` of `zil.c`). Pending are the commits of unsynced groups that no log block has. They
+    /// are durable after a flush (`log_flush`). The cost is that of the block, whatever is pending.
+    ///
+    /// # Errors
+    /// In this order:
+    /// - `Suspended`.
+    /// - `NotReady` if none is pending.
+    /// - `NoLogSpace` if fewer than 17 blocks are available, or the next log number would pass 2^60.
+    /// - `NoMemory`.
+    /// - `Write` if the device refused. Then the pool is suspended.
+    pub fn log_write(&mut self) -> Result<u64, PoolError>
+        ensures step { WritesLog result (shown self.old) (shown self.new) }
+        ensures tree { KeepsTreeOf self.old self.new }
+        ensures wrote { IsTrue D.keeps_model → WritesLogBlock result (shown self.old) (shown self.new)
+            (disk_of self.old) (disk_of self.new) }
+        ensures count { CountsRefused result self.old self.new }
+    {
+        self.pool.log_write(&mut self.device)
+    }
+
+    /// Flushes the log blocks that were written, so that all commits in them are durable (`zil_lwb_flush_vdevs_done` of
+    /// `zil.c`). It takes no memory.
+    ///
+    /// # Errors
+    /// In this order:
+    /// - `Suspended`.
+    /// - `NotReady` if no written log block awaits a flush.
+    /// - `Flush` if the device refused. Then the pool is suspended.
+    pub fn log_flush(&mut self) -> Result<(), PoolError>
+        ensures step { FlushesLog result (shown self.old) (shown self.new) }
+        ensures tree { KeepsTreeOf self.old self.new }
+        ensures flushed { IsTrue D.keeps_model
+            → Flushes (disk_of self.old) result (disk_of self.new) }
+        ensures count { CountsRefused result self.old self.new }
+    {
+        self.pool.log_flush(&mut self.device)
     }
 }
 

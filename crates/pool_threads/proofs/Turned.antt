@@ -35,6 +35,7 @@ since_after created (step.Begin owner plan) (reply.Began tx group) a = refl
 since_after created (step.Commit tx ops) (reply.Committed receipt) a = refl
 since_after created (step.Abort tx) reply.Done a = refl
 since_after created step.SyncStep (reply.Synced group) a = refl
+since_after created step.LogFlush reply.Flushed a = refl
 since_after created _ _ a = refl
 
 module _ {Dev : Type 0} {G : Ghosts Dev} (s : declared_step.Step) (r : declared_reply.Reply) (old new : PoolState Dev G) (turns : Turns s r old new)

@@ -3,7 +3,7 @@ use Rattle.std.specs.Prelude.{ℕ, ◌≡◌, ◌++◌, IsTrue, List, [], ◌∷
 use Rattle.std.proofs.Common.{refl, ◌∙◌}
 use Rattle.std.proofs.Math.Logic.{∥∥₁_map, ∥∥₁_elim, ∥∥₁_prop}
 use Rattle.base.specs.declared.step.Step as declared_step
-use Rattle.base.specs.declared.step.Step.TheVariants.{SyncStep}
+use Rattle.base.specs.declared.step.Step.TheVariants.{LogFlush, LogWrite, SyncStep}
 use Rattle.base.specs.declared.step.Reply as declared_reply
 use Rattle.base.specs.disk.Disk.{Disk, bytes_of}
 use Rattle.base.specs.history.Past.{Past, new_past}
@@ -83,9 +83,11 @@ module _ {Dev : Type 0} {G : Ghosts Dev} where
 abbrev pub IsStepOn : Disk → declared_step.Step → declared_reply.Reply → State → State → Type 0
 IsStepOn disk s r old new = Step (Unit {0}) (bytes_of disk.now) s r old new
 
--- A step of a sync may add moments to the disk, and no other step changes it.
+-- A step of a sync or of the log may add moments to the disk, and no other step changes it.
 abbrev pub MovesDisk : declared_step.Step → Disk → Disk → Type 0
 MovesDisk SyncStep old new = GoesOnFrom old new
+MovesDisk LogWrite old new = GoesOnFrom old new
+MovesDisk LogFlush old new = GoesOnFrom old new
 MovesDisk s old new = new ≡ old
 
 -- A safe step between two views, of a pool whose create began at this moment. The disks before and after it are those

@@ -48,5 +48,11 @@ returns-in-StartSync g c = rw c.in-StartSync.is (mapped _ c.make-in-StartSync.re
 pub returns-in-SyncStep : goal.returns-in-SyncStep
 returns-in-SyncStep g c = rw c.in-SyncStep.is (mapped _ c.make-in-SyncStep.result c.map-in-SyncStep.result c.map-in-SyncStep.ensures.cases c.make-in-SyncStep.ensures)
 
+pub returns-in-LogWrite : goal.returns-in-LogWrite
+returns-in-LogWrite g c = rw c.in-LogWrite.is (mapped _ c.make-in-LogWrite.result c.map-in-LogWrite.result c.map-in-LogWrite.ensures.cases c.make-in-LogWrite.ensures)
+
+pub returns-in-LogFlush : goal.returns-in-LogFlush
+returns-in-LogFlush g c = rw c.in-LogFlush.is (mapped (λ _. reply.Flushed) c.make-in-LogFlush.result c.map-in-LogFlush.result (search rules) c.make-in-LogFlush.ensures)
+
 pub returns-in-Durable : goal.returns-in-Durable
 returns-in-Durable g c = rw c.in-Durable.is (mapped _ c.make-in-Durable.result c.map-in-Durable.result c.map-in-Durable.ensures.cases c.make-in-Durable.ensures)
