@@ -41,8 +41,10 @@ impl<D: SectorDevice> PoolState<D> {
     ghost use Rattle.pool_tables.specs.SyncPhases.{StepsPhases};
     ghost use Rattle.pool_core.specs.KeptSafe.{BeginsSafe, disk_of, run_of};
     ghost use Rattle.pool_core.specs.NewStates.{IsExplainedAtFirst, IsHeldAtFirst};
-    ghost use Rattle.pool_core.specs.States.{CountsRefused, MakesNoCall, MovesNothing, device_of, shown, told, told_over};
-    ghost use Rattle.pool_tables.specs.StepAnswers.{Aborts, Begins, ClosesGroup, Commits, Locks, LocksAppend, MarksQuiesced, Reads, StartsSync, StepsSync, TellsDigest, TellsLength, Unlocks};
+    ghost use Rattle.pool_core.specs.States.{CountsRefused, KeepsTreeOf, MakesNoCall, MovesNothing, device_of, shown, told, told_over};
+    ghost use Rattle.pool_tables.specs.StepAnswers.{Aborts, Begins, ClosesGroup, Commits, FlushesLog, Locks, LocksAppend, MarksQuiesced, Reads, StartsSync, StepsSync, TellsDigest, TellsLength, Unlocks, WritesLog};
+    ghost use Rattle.base.specs.disk.Calls.{Flushes};
+    ghost use Rattle.pool_tables.specs.LogBlocks.{WritesLogBlock};
     ghost use Rattle.pool_tables.specs.SyncStarts.{StartLeads, StartsHeldOver, StartsInOrder};
 
     /// The pool that an import gave. It takes no memory.
