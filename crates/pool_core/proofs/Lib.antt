@@ -5,6 +5,7 @@ pub mod MadeRuns
 pub mod StepsOver
 pub mod StillSteps
 pub mod MadeSteps
+pub mod LogSteps
 pub mod NewStates
 pub mod Callers
 pub mod crash
