@@ -62,6 +62,8 @@ A line is a command, or empty, or begins with #. Each command prints one line:
   read OWNER OBJECT LOW HIGH   bytes LENGTH HEX
   length OBJECT                length N
   digest, name, status         the contents' SHA-256; the name; the groups
+  log-write, log-flush         logged R, the records in the block; flushed
+  durable ORDINAL GROUP        durable yes, or durable no
   close, quiesce, start        the open group, then quiesced, then syncing
   step, finish                 one step of a sync; all that are left
   sync                         close, quiesce, start and finish
