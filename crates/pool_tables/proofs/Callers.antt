@@ -1,8 +1,10 @@
 -- What a caller reads off an answer: refused by the first test that applies, all stands; else it is what the step says.
-use Rattle.std.proofs.Common.{◌≡◌, ◌∙◌, ℕ, Bool, true, false, ◌&&◌, not, List, [], ◌∷◌, nat_eq, refl, ap, sym, subst}
-use Rattle.std.proofs.lemmas.Bool.{eq-eqb}
+use Rattle.std.proofs.Common.{◌≡◌, ◌∙◌, ◌⊎◌, inl, inr, ℕ, ◌<◌, ◌+◌, Bool, true, false, ◌&&◌, ◌||◌, not, List, [], ◌∷◌, ◌++◌, length, nat_eq, nat_le, refl, ap, sym, subst, arith}
+use Rattle.std.proofs.lemmas.Bool.{eq-eqb, or_right}
 use Rattle.std.proofs.lemmas.Cmp.{nat_cmp_total}
 use Rattle.std.specs.Prelude.{Option, Some, None, Result, Ok, Err, IfOk, IfSome, find, is_some, option_map, ◌==◌}
+use Rattle.std.proofs.lemmas.List.{length-append}
+use Rattle.std.specs.List.{list_any}
 use Rattle.std.specs.Ordering.{nat_cmp}
 use Rattle.std.specs.FinMap as finite
 use Rattle.std.specs.FinSet as set
@@ -19,12 +21,14 @@ use Rattle.base.specs.history.Past.{Past}
 use Rattle.base.specs.history.Plans.{NumberRange}
 use Rattle.base.specs.steps.ExactNow.{IsExplainedNow}
 use Rattle.base.specs.steps.Groups.{Admission}
-use Rattle.base.specs.steps.Refusals.{abort_refusal, append_range, append_refusal, digest_refusal, length_refusal, quiesced_group, read_refusal, start_refusal, transaction_of}
-use Rattle.base.specs.steps.Shown.{Shown, SyncPlan}
+use Rattle.base.specs.formats.Records.{Record}
+use Rattle.base.specs.steps.Logs.{Committed, KeptBlock, has_record, log_after_write}
+use Rattle.base.specs.steps.Refusals.{abort_refusal, append_range, append_refusal, digest_refusal, length_refusal, log_flush_refusal, log_write_refusal, quiesced_group, read_refusal, start_refusal, transaction_of}
+use Rattle.base.specs.steps.Shown.{Shown, SyncPlan, is_durable}
 use Rattle.base.specs.steps.BuiltSteps as as_built
 use Rattle.base.specs.steps.Steps as steps
-use Rattle.base.specs.steps.Steps.{Answers, IsPlanned, IsReplayUpTo, State, TakesForEach, WantsMemory, bytes_in, next_grant, state_after_abort, state_after_grant, state_after_start, transactions_without}
-use Rattle.base.proofs.common.KeptLists.{Some-injective, any_at}
+use Rattle.base.specs.steps.Steps.{Answers, IsPlanned, IsReplayUpTo, State, TakesForEach, TakesForLog, WantsMemory, bytes_in, next_grant, state_after_abort, state_after_grant, state_after_log_flush, state_after_log_write, state_after_start, suspended_state, transactions_without}
+use Rattle.base.proofs.common.KeptLists.{Some-injective, any_at, any_map}
 use Rattle.base.proofs.history.CommitOrder.{ok-none}
 use Rattle.pool_tables.specs.Meets.{Meets}
 use Rattle.pool_tables.specs.StepAnswers.{StartsSync, appended_numbers}
@@ -113,6 +117,48 @@ module _ (s new : Shown) where
       (WantsMemory old later) (starts past explained).1 in
       (done.1.0, ap (λ (x : State). x.shown.sync) done.1.4, done.1.2.contents)
   started_contents moment (Err e) starts = tt
+
+  -- What a write of the log makes: nothing, or a block more.
+  abbrev Puts : Past → Result ℕ PoolError → Type 0
+  Puts later answer = (taken rest : List Record) × (address : ℕ) × TakesForLog before taken rest address × (new.log ≡ log_after_write taken rest address s.log) × (new.line ≡ s.line) × IfOk answer (λ count. count ≡ length taken)
+
+  put_or_not : (r : Option PoolError) (later : Past) (answer : Result ℕ PoolError)
+      → Answers r answer before (after later)
+      (λ count. (taken rest : List Record) × (address : ℕ) × TakesForLog before taken rest address × (count ≡ length taken) × (after later ≡ state_after_log_write taken rest address before))
+      (λ e. WantsMemory before (after later) e ⊎ ((e ≡ error.Write) × ((taken rest : List Record) × (address : ℕ) × TakesForLog before taken rest address × (after later ≡ suspended_state (state_after_log_write taken rest address before)))))
+      → ((e : PoolError) × (answer ≡ Err e) × (new ≡ s)) ⊎ Puts later answer
+  put_or_not (Some e) later answer h = inl (e, h.0, ap (λ (x : State). x.shown) h.1)
+  put_or_not None later (Ok count) (taken, rest, address, takes, is, same) = inr (taken, rest, address, takes, ap (λ (x : State). x.shown.log) same, ap (λ (x : State). x.shown.line) same, is)
+  put_or_not None later (Err e) (inl (memory, same)) = inl (e, refl, ap (λ (x : State). x.shown) same)
+  put_or_not None later (Err e) (inr (write, taken, rest, address, takes, same)) = inr (taken, rest, address, takes, ap (λ (x : State). x.shown.log) same, ap (λ (x : State). x.shown.line) same, tt)
+
+  -- of one pending record it writes one
+  pub written_one : (answer : Result ℕ PoolError) → length s.log.pending ≡ 1 → Meets steps.LogWrite answer s new → IfOk answer (λ count. count ≡ 1)
+  written_one (Err e) one meets = tt
+  written_one (Ok count) one meets = elim (put_or_not (log_write_refusal s) (meets (some_past s)).0 (Ok count) (meets (some_past s)).1) as (λ _. count ≡ 1) [
+    | inl (e, is, same) ↦ absurd (let no_way : Ok count ≡ Err e = is in cc)
+    | inr (taken, rest, address, takes, log, line, is) ↦
+        let all = ap (λ (rs : List Record). length rs) takes.packed.front ∙ length-append taken rest in
+        let some = takes.packed.some in
+        omega (arith, one, all, some, is)
+  ]
+
+  -- and none of what it writes is durable before a flush
+  pub written_not_durable : (answer : Result ℕ PoolError) (ordinal group : ℕ) → s.log.kept ≡ [] → nat_le group s.line.synced ≡ false → Meets steps.LogWrite answer s new → is_durable new ordinal group ≡ false
+  written_not_durable answer ordinal group none above meets = elim (put_or_not (log_write_refusal s) (meets (some_past s)).0 answer (meets (some_past s)).1) as (λ _. is_durable new ordinal group ≡ false) [
+    | inl (e, is, same) ↦ rw (same, none, above) refl
+    | inr (taken, rest, address, takes, log, line, is) ↦ rw (log, line, none, above) refl
+  ]
+
+  -- A flush of the log that is answered makes each kept block certain.
+  pub flushed_durable : (ordinal group : ℕ) (kept : List KeptBlock) → s.log.kept ≡ kept → list_any (λ (b : KeptBlock). has_record b (record { ordinal = ordinal; group = group })) kept ≡ true
+      → Meets steps.LogFlush (Ok tt) s new → is_durable new ordinal group ≡ true
+  flushed_durable ordinal group kept is has meets =
+      let later : State = after (meets (some_past s)).0 in
+      let done = ok-none (log_flush_refusal s) tt before later (λ _. later ≡ state_after_log_flush before) (λ e. (e ≡ error.Flush) × (later ≡ suspended_state before)) (meets (some_past s)).1 in
+      let c : Committed = record { ordinal = ordinal; group = group } in
+      ap (λ (x : State). is_durable x.shown ordinal group) done.1
+      ∙ or_right (nat_le group s.line.synced) _ (any_map (λ (b : KeptBlock). b.flushed && has_record b c) (λ (b : KeptBlock). record b { flushed = true }) s.log.kept ∙ ap (list_any (λ (b : KeptBlock). has_record b c)) is ∙ has)
 
 -- And of a step that leaves what is shown.
 module _ (s : Shown) where

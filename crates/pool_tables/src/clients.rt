@@ -14,7 +14,8 @@ ghost use Rattle.base.specs.steps.Exact.{log_addresses};
 ghost use Rattle.base.specs.steps.ExactNow.{IsExplainedNow};
 ghost use Rattle.base.specs.steps.Groups.{hold_count};
 ghost use Rattle.base.specs.steps.Refusals.{first_refusal};
-ghost use Rattle.base.specs.steps.Shown.{SyncPlan, free_count, reserved_total};
+ghost use Rattle.base.specs.steps.Logs.{whole_block};
+ghost use Rattle.base.specs.steps.Shown.{SyncPlan, available, free_count, reserved_total};
 ghost use Rattle.base.specs.steps.Steps.{IsReplayUpTo};
 ghost use Rattle.object_maps.specs.ContentsShown.{contents_of};
 ghost use Rattle.object_maps.specs.Sources.{AreWithin};
@@ -22,13 +23,15 @@ ghost use Rattle.intent_log.specs.Kept.{log_shown};
 ghost use Rattle.tree_plans.specs.Plans.{address_of};
 ghost use Rattle.group_plans.specs.Areas.{AreBlocksOf};
 ghost use Rattle.pool_tables.specs.BeginTests.{plan_tests};
-ghost use Rattle.pool_tables.specs.Shows.{pool_shown};
+ghost use Rattle.pool_tables.specs.Shows.{geometry_of, pool_shown};
 
 use crate::blocks::{give_log, take_all};
 use crate::pool::PoolTables;
 use base::{
-    Bytes, Group, LockId, Mode, ObjectId, Owner, Plan, PoolError, PoolName, Range, Shape, TxId,
+    Bytes, Group, LockId, Mode, ObjectId, Ordinal, Owner, Plan, PoolError, PoolName, Range,
+    Receipt, Shape, TxId,
 };
+use device_model::SectorDevice;
 use import_replay::Mounted;
 use intent_log::{Log, LogHeader};
 use labels::Geometry;
@@ -227,4 +230,79 @@ fn a_block_that_a_sync_takes_is_not_free(free: &mut FreeSet, blocks: &[PlannedBl
     ensures { set.contains free.new.free 4202496 ≡ false }
 {
     take_all(free, blocks);
+}
+
+// One record that is pending is written.
+fn a_pending_record_is_written<D: SectorDevice>(
+    pool: &mut PoolTables,
+    device: &mut D,
+) -> Result<u64, PoolError>
+    requires sized { D.size device.old ≡ geometry_of pool.old }
+    requires one { length (pool_shown pool.old).log.pending ≡ 1 }
+    ensures { IfOk result (λ count. count ≡ 1) }
+{
+    pool.log_write(device)
+}
+
+// Where none is pending there is none to write.
+fn nothing_pending_is_not_written<D: SectorDevice>(
+    pool: &mut PoolTables,
+    device: &mut D,
+) -> Result<u64, PoolError>
+    requires sized { D.size device.old ≡ geometry_of pool.old }
+    requires running { (pool_shown pool.old).suspended ≡ false }
+    requires none { (pool_shown pool.old).log.pending ≡ [] }
+    ensures refused { result ≡ Err PoolError.NotReady }
+    ensures unchanged { pool_shown pool.new ≡ pool_shown pool.old }
+{
+    pool.log_write(device)
+}
+
+// The 16 blocks that are kept back are not written to.
+fn no_log_block_takes_a_kept_back_one<D: SectorDevice>(
+    pool: &mut PoolTables,
+    device: &mut D,
+) -> Result<u64, PoolError>
+    requires sized { D.size device.old ≡ geometry_of pool.old }
+    requires running { (pool_shown pool.old).suspended ≡ false }
+    requires one { length (pool_shown pool.old).log.pending ≡ 1 }
+    requires few { available (pool_shown pool.old) ≡ 16 }
+    ensures refused { result ≡ Err PoolError.NoLogSpace }
+    ensures unchanged { pool_shown pool.new ≡ pool_shown pool.old }
+{
+    pool.log_write(device)
+}
+
+// A record that is written and not flushed is not durable, answered or refused.
+fn a_written_record_is_not_durable_yet<D: SectorDevice>(
+    pool: &mut PoolTables,
+    device: &mut D,
+) -> bool
+    requires sized { D.size device.old ≡ geometry_of pool.old }
+    requires synced { (pool_shown pool.old).line.synced ≡ 8 }
+    requires none { (pool_shown pool.old).log.kept ≡ [] }
+    ensures { result ≡ false }
+{
+    let _ = pool.log_write(device);
+    pool.durable(Receipt {
+        ordinal: Ordinal(7),
+        group: Group(9),
+    })
+}
+
+// It is durable after a flush that is answered.
+fn a_flushed_record_is_durable<D: SectorDevice>(
+    pool: &mut PoolTables,
+    device: &mut D,
+) -> Result<bool, PoolError>
+    requires { (pool_shown pool.old).log.kept
+        ≡ whole_block (record { address = 4202496; number = 3 }) (record { ordinal = 7; group = 9 } ∷ []) false
+        ∷ [] }
+    ensures { IfOk result (λ is. is ≡ true) }
+{
+    pool.log_flush(device)?;
+    Ok(pool.durable(Receipt {
+        ordinal: Ordinal(7),
+        group: Group(9),
+    }))
 }
