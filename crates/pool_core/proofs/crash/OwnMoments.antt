@@ -100,7 +100,7 @@ module _ (size : ℕ) (m : Moment) (s : Shown) (past : Past) (x : HasSyncViews s
     moment_left explained none = record {
       bytes = bytes;
       each = λ image left fair.
-          image_left size m s past s.contents image left moment_laid fair explained.exact.log explained.exact.sync explained.exact.groups.line explained.history none laid_with_room.1;
+          image_left size m s past s.contents image left moment_laid fair explained.exact.log explained.exact.sync explained.exact.groups.line explained.history laid_with_room.1;
     }
 
 -- what was left with a past that is the later one except for what was acknowledged

@@ -81,7 +81,7 @@ module _ (m : Moment) (s : Shown) (past : Past) (idle : s.line.syncing ≡ None)
 disk_left : (o : Option SyncRun) (disk : Disk) (s : Shown) (past : Past) (pointers : Place → Pointer) (running : Option NewTree) → past.created ≤ moments disk → IsExplainedNow s past → s.log.kept ≡ []
     → IsKept (bytes_of disk.now) s pointers running past → IsDiskKept o disk s past → IsRunLeft disk past s.guid
 disk_left None disk s past pointers running began explained none held (idle, kept) =
-    run_own (disk_size disk) disk s past s.contents began kept explained.exact.log explained.exact.sync explained.exact.groups.line explained.history none (idle_room disk.now s past idle pointers running explained held kept.laid)
+    run_own (disk_size disk) disk s past s.contents began kept explained.exact.log explained.exact.sync explained.exact.groups.line explained.history (idle_room disk.now s past idle pointers running explained held kept.laid)
 disk_left (Some run) disk s past pointers running began explained none held kept = record { began = began; left = sync_left run disk s past kept explained none }
 
 -- without a sync it is kept where it is laid so

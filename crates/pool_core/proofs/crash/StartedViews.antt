@@ -322,12 +322,12 @@ module _ (disk : Disk) (s : Shown) (p : Past) (pointers tree : Place → Pointer
   -- both views have room for an import
   old_room : HasImportRoom (block_count run.geometry) old
   old_room = subst (λ (n : ℕ). HasImportRoom n old) counted
-      (synced_room s p explained.exact.log explained.exact.sync explained.exact.charges explained.exact.blocks explained.exact.groups explained.exact.isolated now x.free places flushed old (view_frame run.geometry old)
+      (synced_room s p explained.exact.log explained.exact.sync explained.exact.charges explained.exact.blocks explained.exact.groups explained.exact.isolated explained.built now x.free places flushed old (view_frame run.geometry old)
       rest.laid.firm.tree.holds (rest.laid.view.root ∙ is.root_is) (open_above s.line explained.exact.groups.line) is)
 
   new_room : HasImportRoom (block_count run.geometry) new
   new_room = subst (λ (n : ℕ). HasImportRoom n new) counted
-      (syncing_room s p explained.exact.log explained.exact.sync explained.exact.charges explained.exact.blocks explained.exact.groups explained.exact.isolated now x.free places 0 new y.group y.plan y.syncing y.running
+      (syncing_room s p explained.exact.log explained.exact.sync explained.exact.charges explained.exact.blocks explained.exact.groups explained.exact.isolated explained.built now x.free places 0 new y.group y.plan y.syncing y.running
       (kept_or_taken now s p pointers (made_by tree run) x y explained geometry) new_is)
 
   -- So the disk is kept while the sync runs.
