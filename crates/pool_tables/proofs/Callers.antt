@@ -130,7 +130,7 @@ module _ (s new : Shown) where
   put_or_not (Some e) later answer h = inl (e, h.0, ap (λ (x : State). x.shown) h.1)
   put_or_not None later (Ok count) (taken, rest, address, takes, is, same) = inr (taken, rest, address, takes, ap (λ (x : State). x.shown.log) same, ap (λ (x : State). x.shown.line) same, is)
   put_or_not None later (Err e) (inl (memory, same)) = inl (e, refl, ap (λ (x : State). x.shown) same)
-  put_or_not None later (Err e) (inr (write, taken, rest, address, takes, same)) = inr (taken, rest, address, takes, ap (λ (x : State). x.shown.log) same, ap (λ (x : State). x.shown.line) same, tt)
+  put_or_not None later (Err e) (inr (write, (taken, rest, address, takes, same))) = inr (taken, rest, address, takes, ap (λ (x : State). x.shown.log) same, ap (λ (x : State). x.shown.line) same, tt)
 
   -- of one pending record it writes one
   pub written_one : (answer : Result ℕ PoolError) → length s.log.pending ≡ 1 → Meets steps.LogWrite answer s new → IfOk answer (λ count. count ≡ 1)
