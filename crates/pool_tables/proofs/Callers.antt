@@ -2,7 +2,7 @@
 use Rattle.std.proofs.Common.{◌≡◌, ◌∙◌, ◌⊎◌, inl, inr, ℕ, ◌<◌, ◌+◌, Bool, true, false, ◌&&◌, ◌||◌, not, List, [], ◌∷◌, ◌++◌, length, nat_eq, nat_le, refl, ap, sym, subst, arith}
 use Rattle.std.proofs.lemmas.Bool.{eq-eqb, or_right}
 use Rattle.std.proofs.lemmas.Cmp.{nat_cmp_total}
-use Rattle.std.specs.Prelude.{Option, Some, None, Result, Ok, Err, IfOk, IfSome, find, is_some, option_map, ◌==◌}
+use Rattle.std.specs.Prelude.{Option, Some, None, Result, Ok, Err, IfOk, IfSome, OnOk, find, is_some, option_map, ◌==◌}
 use Rattle.std.proofs.lemmas.List.{length-append}
 use Rattle.std.specs.List.{list_any}
 use Rattle.std.specs.Ordering.{nat_cmp}
@@ -15,7 +15,10 @@ use Rattle.base.specs.declared.names.Group.{Group}
 use Rattle.base.specs.declared.names.LockId.{LockId}
 use Rattle.base.specs.declared.range.Mode.TheVariants.{Writer}
 use Rattle.base.specs.declared.range.Range.{Range}
+use Rattle.base.specs.disk.Calls.{Flushes}
+use Rattle.base.specs.disk.Disk.{Disk, Write, bytes_of, certain_with, written}
 use Rattle.base.specs.formats.Digest.{digest_of}
+use Rattle.base.specs.formats.Fields.{number_at}
 use Rattle.base.specs.history.Contents.{length_of}
 use Rattle.base.specs.history.Past.{Past}
 use Rattle.base.specs.history.Plans.{NumberRange}
@@ -30,6 +33,7 @@ use Rattle.base.specs.steps.Steps as steps
 use Rattle.base.specs.steps.Steps.{Answers, IsPlanned, IsReplayUpTo, State, TakesForEach, TakesForLog, WantsMemory, bytes_in, next_grant, state_after_abort, state_after_grant, state_after_log_flush, state_after_log_write, state_after_start, suspended_state, transactions_without}
 use Rattle.base.proofs.common.KeptLists.{Some-injective, any_at, any_map}
 use Rattle.base.proofs.history.CommitOrder.{ok-none}
+use Rattle.pool_tables.specs.LogBlocks.{WritesLogBlock}
 use Rattle.pool_tables.specs.Meets.{Meets}
 use Rattle.pool_tables.specs.StepAnswers.{StartsSync, appended_numbers}
 use Rattle.pool_tables.specs.Tables.{result_map}
@@ -130,7 +134,7 @@ module _ (s new : Shown) where
   put_or_not (Some e) later answer h = inl (e, h.0, ap (λ (x : State). x.shown) h.1)
   put_or_not None later (Ok count) (taken, rest, address, takes, is, same) = inr (taken, rest, address, takes, ap (λ (x : State). x.shown.log) same, ap (λ (x : State). x.shown.line) same, is)
   put_or_not None later (Err e) (inl (memory, same)) = inl (e, refl, ap (λ (x : State). x.shown) same)
-  put_or_not None later (Err e) (inr (write, taken, rest, address, takes, same)) = inr (taken, rest, address, takes, ap (λ (x : State). x.shown.log) same, ap (λ (x : State). x.shown.line) same, tt)
+  put_or_not None later (Err e) (inr (write, (taken, rest, address, takes, same))) = inr (taken, rest, address, takes, ap (λ (x : State). x.shown.log) same, ap (λ (x : State). x.shown.line) same, tt)
 
   -- of one pending record it writes one
   pub written_one : (answer : Result ℕ PoolError) → length s.log.pending ≡ 1 → Meets steps.LogWrite answer s new → IfOk answer (λ count. count ≡ 1)
@@ -199,6 +203,21 @@ module _ (s : Shown) where
   -- the digest that is told
   pub told_digest : (answer : Result (List ℕ) PoolError) → s.suspended ≡ false → Meets as_built.DigestInMemory answer s s → answer ≡ Ok (digest_of s.contents)
   told_digest answer running meets = digest_by (meets (some_past s)).0 answer (rw running refl) (meets (some_past s)).1
+
+-- a log write that is answered made one write, of a log block
+pub one_write : (answer : Result ℕ PoolError) (s new : Shown) (disk later : Disk) → WritesLogBlock answer s new disk later
+    → IfOk answer (λ _. (content : List ℕ) × (number_at content 0 ≡ 6) × (later ≡ written s.log.next.address content true disk))
+one_write (Ok count) s new disk later puts = (puts.block.content, puts.packed.sealed.kind_is, puts.writes)
+one_write (Err e) s new disk later puts = tt
+
+-- a flush that is answered leaves nothing unflushed
+pub all_flushed : (answer : Result (Unit {0}) PoolError) (disk later : Disk) → Flushes disk answer later → OnOk answer (later.now.unflushed ≡ [])
+all_flushed (Err e) disk later flushed = tt
+all_flushed (Ok x) disk later flushed = ap (λ (d : Disk). d.now.unflushed) flushed ∙ go disk.now.unflushed refl
+  where
+    go : (ws : List Write) → disk.now.unflushed ≡ ws → (certain_with (bytes_of disk.now) disk ws).now.unflushed ≡ []
+    go [] none = none
+    go (w ∷ ws) some = refl
 
 -- an address that a sync takes is free no more
 pub taken_away : (free : FinSet nat_cmp) (address : ℕ) → set.contains (set.difference free (set.from_list (address ∷ []))) address ≡ false

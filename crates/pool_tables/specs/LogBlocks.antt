@@ -60,7 +60,7 @@ shown_after_block count address s = record s {
   free = set.remove s.free address;
 }
 
--- A log block was handed to the disk at the log's next address, and answered so. It holds as many pending records from
+-- A log block was handed to the disk at the log's next address, with this answer. It holds as many pending records from
 -- the front as fit, and names the lowest free block as the one after it.
 pub record PutsLogBlock (answer : Result (Unit {0}) PoolError) (done : Bool) (old new : Shown) (before after : Disk) : Type 0 where
   pub taken : List Record

@@ -1,11 +1,13 @@
 //! What callers rest on: one function for each promise of this crate's calls, proved from the contract of the call
 //! alone. So it is refused as soon as that contract says less.
 
-ghost use Rattle.std.specs.Prelude.{◌≡◌, ◌<◌, ◌+◌, ◌∷◌, [], IfOk, None, Ok, Some, false, length, map, true};
+ghost use Rattle.std.specs.Prelude.{◌≡◌, ◌<◌, ◌+◌, ◌∷◌, [], ℕ, List, IfOk, IsTrue, None, Ok, OnOk, Some, false, length, map, true};
 ghost use Rattle.std.specs.FinMap as finite;
 ghost use Rattle.std.specs.FinSet as set;
 ghost use Rattle.base.specs.declared.range.Mode.TheVariants as mode;
+ghost use Rattle.base.specs.disk.Disk.{written};
 ghost use Rattle.base.specs.formats.Digest.{digest_of};
+ghost use Rattle.base.specs.formats.Fields.{number_at};
 ghost use Rattle.base.specs.formats.Geometry.{block_count};
 ghost use Rattle.base.specs.history.Contents.{length_of};
 ghost use Rattle.base.specs.history.Past.{Past};
@@ -244,7 +246,7 @@ fn a_pending_record_is_written<D: SectorDevice>(
     pool.log_write(device)
 }
 
-// Where none is pending there is none to write.
+// Nothing is written if nothing is pending.
 fn nothing_pending_is_not_written<D: SectorDevice>(
     pool: &mut PoolTables,
     device: &mut D,
@@ -258,7 +260,7 @@ fn nothing_pending_is_not_written<D: SectorDevice>(
     pool.log_write(device)
 }
 
-// The 16 blocks that are kept back are not written to.
+// A log write leaves the 16 blocks that are kept back.
 fn no_log_block_takes_a_kept_back_one<D: SectorDevice>(
     pool: &mut PoolTables,
     device: &mut D,
@@ -269,6 +271,20 @@ fn no_log_block_takes_a_kept_back_one<D: SectorDevice>(
     requires few { available (pool_shown pool.old) ≡ 16 }
     ensures refused { result ≡ Err PoolError.NoLogSpace }
     ensures unchanged { pool_shown pool.new ≡ pool_shown pool.old }
+{
+    pool.log_write(device)
+}
+
+// A log write is one write of a block of the log's kind, at the log's next address.
+fn a_log_write_is_one_write<D: SectorDevice>(
+    pool: &mut PoolTables,
+    device: &mut D,
+) -> Result<u64, PoolError>
+    requires sized { D.size device.old ≡ geometry_of pool.old }
+    requires keeps { IsTrue D.keeps_model }
+    ensures { IfOk result (λ _. (content : List ℕ) × (number_at content 0 ≡ 6)
+        × (D.disk device.new ≡ written (pool_shown pool.old).log.next.address content true
+        (D.disk device.old))) }
 {
     pool.log_write(device)
 }
@@ -305,4 +321,15 @@ fn a_flushed_record_is_durable<D: SectorDevice>(
         ordinal: Ordinal(7),
         group: Group(9),
     }))
+}
+
+// After it the device has nothing that is not flushed.
+fn a_log_flush_leaves_nothing_unflushed<D: SectorDevice>(
+    pool: &mut PoolTables,
+    device: &mut D,
+) -> Result<(), PoolError>
+    requires { IsTrue D.keeps_model }
+    ensures { OnOk result ((D.disk device.new).now.unflushed ≡ []) }
+{
+    pool.log_flush(device)
 }

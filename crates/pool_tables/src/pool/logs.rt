@@ -36,9 +36,9 @@ impl PoolTables {
     ghost use Rattle.pool_tables.specs.StepAnswers.{FlushesLog, WritesLog};
 
     /// Writes a log block with as many whole pending records from the front as fit, and returns how many these are.
-    /// Refused, in this order, `Suspended`, `NotReady` if none is pending, `NoLogSpace` if no more than 16 blocks are
-    /// available or the log is at its last number, `NoMemory`, or `Write` as the device refused. Then the pool is
-    /// suspended, and its log has the block.
+    /// Refused, in this order, `Suspended`, `NotReady` if none is pending, `NoLogSpace`, `NoMemory`, or `Write` as the
+    /// device refused. It is `NoLogSpace` if no more than 16 blocks are available, or if the log is at its last number.
+    /// After a refused write the pool is suspended, and its log has the block.
     pub fn log_write<D: SectorDevice>(&mut self, device: &mut D) -> Result<u64, PoolError>
         requires { D.size device.old ≡ geometry_of self.old }
         ensures size { D.size device.new ≡ D.size device.old }

@@ -5,4 +5,4 @@ use Rattle.pool_tables.proofs.clients.a_flushed_record_is_durable.Goals as goal
 
 pub returns : goal.returns
 returns g c =
-    c.durable.ensures ∙ flushed_durable (pool_shown c.args.pool.now) (pool_shown c.log_flush.new.self) 7 9 _ c.requires refl c.log_flush.ensures.step
+    c.durable.ensures ∙ flushed_durable (pool_shown c.args.pool.now) (pool_shown c.log_flush.new.self) 7 9 _ c.requires refl c.in_ok-log_flush.ensures.step
