@@ -154,7 +154,7 @@ module _ {Dev : Type 0} {G : Ghosts Dev} {old new : PoolState Dev G} where
 
   -- a step of one
   pub sync_step : (answer : Result Progress PoolError) → StepsSync answer (shown old) (shown new) → (IsTrue G.keeps_model → Leads (sync_step_reply answer) (told old) (told new))
-      → (IsTrue G.keeps_model → StepsPhases answer (run_of old) (run_of new) (disk_of old) (disk_of new)) → CallsNext (plain_answer answer) old new → CountsRefused answer old new
+      → (IsTrue G.keeps_model → StepsPhases answer (shown old).suspended (run_of old) (run_of new) (disk_of old) (disk_of new)) → CallsNext (plain_answer answer) old new → CountsRefused answer old new
       → MakesStep step.SyncStep (sync_step_reply answer) old new
   sync_step answer steps_on leads_on phases called counts = record {
     replied = replies;

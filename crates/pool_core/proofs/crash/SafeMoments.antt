@@ -4,7 +4,6 @@ use Rattle.std.proofs.Common.{◌≡◌, ◌∙◌, inl, inr, ℕ, ◌≤◌, Li
 use Rattle.base.specs.declared.pointer.Pointer.{Pointer}
 use Rattle.base.specs.crash.CrashRule.{IsRunLeft}
 use Rattle.base.specs.crash.LogRoom.{HasImportRoom}
-use Rattle.base.specs.crash.Own.{IsPhase}
 use Rattle.base.specs.crash.PoolViews.{IsPoolAtRest, IsPoolDisk, IsPoolLaid}
 use Rattle.base.specs.disk.Disk.{Disk, EachMoment, Moment, bytes_of, disk_size, moments}
 use Rattle.base.specs.disk.Fairness.{LeavesFair}
@@ -23,7 +22,7 @@ use Rattle.base.proofs.disk.Moments.{starts}
 use Rattle.sync.specs.declared.run.SyncRun.{SyncRun}
 use Rattle.sync.proofs.UnderWay.{in_phase}
 use Rattle.pool_core.specs.KeptSafe.{IsDiskKept, IsKeptSafe, IsSyncOnDisk, LeavesOwn, OnDisk}
-use Rattle.pool_core.proofs.crash.OwnMoments.{HasSyncViews, moment_laid, moment_left, sync_views, were_left}
+use Rattle.pool_core.proofs.crash.OwnMoments.{HasSyncViews, PhaseOf, moment_laid, moment_left, views_of, were_left}
 
 -- a safe moment for a past, of a device of so many bytes
 abbrev pub IsSafeMoment : ℕ → Past → Moment → Type 0
@@ -46,10 +45,10 @@ module _ (s : Shown) (past : Past) (explained : IsExplainedNow s past) where
 -- While a sync has calls left its pool's disk is laid.
 module _ (run : SyncRun) (disk : Disk) (s : Shown) (past : Past) (x : IsSyncOnDisk run disk s past) where
   abbrev views : HasSyncViews run.geometry disk.now s past
-  views = sync_views x disk.now x.old_held x.new_held
+  views = record { group = x.group; plan = x.plan; syncing = x.syncing; running = x.running; views = x.views; are = views_of x; old_held = x.old_held; new_held = x.new_held }
 
-  phase : IsPhase run.geometry past.created x.views.flushed x.views.new_flushed disk.now x.views.old x.views.new
-  phase = subst (λ (t : ℕ). IsPhase run.geometry t x.views.flushed x.views.new_flushed disk.now x.views.old x.views.new) x.created (in_phase x.base disk.now x.views run x.way)
+  phase : PhaseOf views
+  phase = in_phase x.base disk.now x.views run x.way
 
   pub sync_laid : IsPoolDisk (disk_size disk) disk.now s past
   sync_laid = subst (λ (n : ℕ). IsPoolDisk n disk.now s past) (sym x.bytes.size_is) (moment_laid run.geometry disk.now s past views phase x.bytes x.configs)
@@ -64,7 +63,7 @@ disk_laid (Some run) disk s past kept = sync_laid run disk s past kept
 
 -- While no group is syncing a pool is at rest, and leaves room for an import.
 module _ (m : Moment) (s : Shown) (past : Past) (idle : s.line.syncing ≡ None) where
-  not_syncing : (group : ℕ) → s.line.syncing ≡ Some group → ⊥
+  pub not_syncing : (group : ℕ) → s.line.syncing ≡ Some group → ⊥
   not_syncing group syncing = let no_way : None ≡ Some group = sym idle ∙ syncing in cc
 
   pub idle_rest : (size : ℕ) → IsPoolLaid size m s past → IsPoolAtRest size m s past

@@ -23,7 +23,7 @@ use Rattle.pool_tables.specs.declared.pool.Progress.TheVariants.{More, Synced}
 use Rattle.pool_tables.specs.Told.{Leads, new_tree_of, start_reply, sync_step_reply, tree_after}
 use Rattle.pool_tables.specs.SyncPhases.{StepsPhases}
 use Rattle.pool_core.specs.KeptSafe.{IsSafeStep, KeepsSafe, OnDisk, disk_of, on_disk, run_of}
-use Rattle.pool_core.specs.States.{device_of, told}
+use Rattle.pool_core.specs.States.{device_of, shown, told}
 use Rattle.pool_core.specs.Turns.{Turns, held_after}
 use Rattle.pool_core.proofs.crash.SafeSteps.{last_safe, more_safe, start_safe, still_safe}
 use Rattle.pool_tables.proofs.syncs.SyncLeads.{was_syncing}
@@ -76,7 +76,7 @@ module _ {Dev : Type 0} {G : Ghosts Dev} where
     start_keeps moment (Err e) r is sized device unmoved leads turns = still_keeps (step.StartSync moment) r (ap is_turn is) device unmoved turns
 
     -- a step of one, by what its call answered
-    stepped_keeps : (answer : Result Progress PoolError) → StepsPhases answer (run_of old) (run_of new) (disk_of old) (disk_of new) → Turns step.SyncStep (sync_step_reply answer) old new
+    stepped_keeps : (answer : Result Progress PoolError) → StepsPhases answer (shown old).suspended (run_of old) (run_of new) (disk_of old) (disk_of new) → Turns step.SyncStep (sync_step_reply answer) old new
         → KeepsSafe step.SyncStep (sync_step_reply answer) old new
     stepped_keeps (Ok More) (run, next, was, is, tries) turns past x =
         let turn = turns past in
@@ -99,7 +99,7 @@ module _ {Dev : Type 0} {G : Ghosts Dev} where
         subst (λ (y : OnDisk). IsSafeStep step.SyncStep (reply.Refused e) (on_disk old past) y) (λ k. record { held = h; disk = disk_of new; run = sym is k })
         (more_safe (on_disk old past) x h (disk_of new) refl run next was tries (turn.held keeps x.held) (reply.Refused e) (turn.over keeps x.held) refl refl (left_of new.pool next is))
 
-    pub sync_keeps : (answer : Result Progress PoolError) (r : declared_reply.Reply) → r ≡ sync_step_reply answer → StepsPhases answer (run_of old) (run_of new) (disk_of old) (disk_of new)
+    pub sync_keeps : (answer : Result Progress PoolError) (r : declared_reply.Reply) → r ≡ sync_step_reply answer → StepsPhases answer (shown old).suspended (run_of old) (run_of new) (disk_of old) (disk_of new)
         → Turns step.SyncStep r old new → KeepsSafe step.SyncStep r old new
     sync_keeps answer r is phases turns =
         subst (λ (q : declared_reply.Reply). KeepsSafe step.SyncStep q old new) (sym is)
