@@ -1,6 +1,7 @@
 -- A call of a pool on its device, with the reply that is made of its answer, is a step. So is a call whose answer was
 -- mapped to that reply.
-use Rattle.std.proofs.Common.{◌≡◌, ℕ, Bool, true, false, List, [], refl, ap, sym, subst, ◌∙◌}
+use Rattle.std.proofs.Common.{◌≡◌, ℕ, Bool, true, false, not, List, [], refl, ap, sym, subst, ◌∙◌}
+use Rattle.std.proofs.lemmas.Bool.{and_parts, not-true}
 use Rattle.std.specs.Prelude.{IsOkAnd, IsTrue, MatchResult, None, OnErr, Option, Result, Ok, Err, length, option_map}
 use Rattle.base.specs.declared.error.PoolError.{PoolError}
 use Rattle.base.specs.declared.names.Group.{Group}
@@ -17,7 +18,7 @@ use Rattle.base.specs.disk.Calls.{counted}
 use Rattle.base.specs.disk.Disk.{bytes_of}
 use Rattle.base.specs.history.Past.{Past}
 use Rattle.base.specs.steps.ExactNow.{IsExplainedNow}
-use Rattle.base.specs.steps.Runs.{Replies, is_start, progress_reply, reply_of}
+use Rattle.base.specs.steps.Runs.{Replies, is_log_step, is_start, progress_reply, reply_of}
 use Rattle.base.specs.steps.Shown.{is_durable, status_of}
 use Rattle.base.specs.steps.BuiltSteps as as_built
 use Rattle.base.specs.steps.Steps as steps
@@ -38,7 +39,7 @@ use Rattle.pool_tables.specs.Meets.{Meets}
 use Rattle.pool_tables.specs.Progresses.{plain_progress}
 use Rattle.pool_core.specs.States.{CountsRefused, MakesNoCall, MovesNothing, device_of, refused_calls, shown, told, told_over}
 use Rattle.pool_tables.specs.StepAnswers.{Commits, StartsSync, StepsSync, group_number, receipt_numbers}
-use Rattle.pool_core.specs.StepReplies.{IsStep, StepReplies, rests_on_past}
+use Rattle.pool_core.specs.StepReplies.{IsStep, StepReplies, is_on_tables, rests_on_past}
 use Rattle.pool_tables.specs.SyncStarts.{StartLeads, StartsHeldOver}
 use Rattle.pool_tables.specs.Tables.{result_map}
 use Rattle.pool_core.specs.Turns.{MakesStep, Turns}
@@ -69,9 +70,9 @@ pub read_moves_nothing : {Dev : Type 0} {G : Ghosts Dev} {old new : PoolState De
 read_moves_nothing {Dev} {G} {old} {new} {answer = answer} same no_call = record { no_call = no_call; kept = subst (λ (state : PoolState Dev G). KeepsTree old.pool state.pool) (sym same) (record { geometry = refl; tree = refl; sync = refl }) }
 
 module _ {Dev : Type 0} {G : Ghosts Dev} {old new : PoolState Dev G} where
-  -- one that moves nothing: neither the start of a sync nor a step of one
+  -- one that moves nothing: neither the start of a sync, nor a step of one or of the log
   led_step : {A B : Type 0} {s : declared_step.Step} {Does : Result B PoolError → State → State → Type 0} {make : B → Reply} {answer : Result A PoolError} (f : A → B)
-      → ((r : Reply) (x y : State) → Replies make r (λ a. Does a x y) → IsStep s r x y) → is_start s ≡ false → ((b : B) → is_still (make b) ≡ true)
+      → ((r : Reply) (x y : State) → Replies make r (λ a. Does a x y) → IsStep s r x y) → is_on_tables s ≡ true → ((b : B) → is_still (make b) ≡ true)
       → ((r : Reply) → device_of new ≡ device_of old → CallsDevice s r old new)
       → ((past : Past) → (rests_on_past s ≡ true → IsExplainedNow (shown old) past) → (later : Past) × Does (result_map f answer) (record { shown = shown old; past = past }) (record { shown = shown new; past = later }))
       → MovesNothing answer old new → MakesStep s (reply_of (λ (a : A). make (f a)) answer) old new
@@ -79,11 +80,14 @@ module _ {Dev : Type 0} {G : Ghosts Dev} {old new : PoolState Dev G} where
     replied = replies;
     turns = turned;
     leads = leads;
-    safe = λ keeps. still_keeps keeps old new s (reply_of (λ (a : A). make (f a)) answer) no_turn moves.no_call.device (ap (λ (o : Option RunningSync). option_map (λ (r : RunningSync). r.run) o) moves.kept.sync) turned;
+    safe = λ keeps. still_keeps keeps old new s (reply_of (λ (a : A). make (f a)) answer) no_turn (not-true (is_log_step s) parts.1) moves.no_call.device (ap (λ (o : Option RunningSync). option_map (λ (r : RunningSync). r.run) o) moves.kept.sync) turned;
     calls = calls (reply_of (λ (a : A). make (f a)) answer) moves.no_call.device;
     count = no_call_counts old new (λ (a : A). make (f a)) answer (reply_of (λ (a : A). make (f a)) answer) (λ a. answer_in-still (make (f a)) (quiet (f a))) refl moves.no_call;
   }
     where
+      parts : (not (is_start s) ≡ true) × (not (is_log_step s) ≡ true)
+      parts = and_parts (not (is_start s)) (not (is_log_step s)) off
+
       replies : StepReplies s (reply_of (λ (a : A). make (f a)) answer) (shown old) (shown new)
       replies past explained =
           let before : State = record { shown = shown old; past = past } in
@@ -94,14 +98,14 @@ module _ {Dev : Type 0} {G : Ghosts Dev} {old new : PoolState Dev G} where
       leads keeps = still_replied old new (λ (a : A). make (f a)) answer (reply_of (λ (a : A). make (f a)) answer) (λ a. quiet (f a)) refl moves
 
       turned : Turns s (reply_of (λ (a : A). make (f a)) answer) old new
-      turned = any_turns (IsTrue G.keeps_model) s (reply_of (λ (a : A). make (f a)) answer) (told old) (told new) off replies leads
+      turned = any_turns (IsTrue G.keeps_model) s (reply_of (λ (a : A). make (f a)) answer) (told old) (told new) (not-true (is_start s) parts.0) replies leads
 
       no_turn : is_turn (reply_of (λ (a : A). make (f a)) answer) ≡ false
       no_turn = still_turn (λ (a : A). make (f a)) answer (reply_of (λ (a : A). make (f a)) answer) (λ a. quiet (f a)) refl
 
   -- whatever the past
   pub still_step : {A B : Type 0} {s : declared_step.Step} {Does : Result B PoolError → State → State → Type 0} {make : B → Reply} {answer : Result A PoolError} (f : A → B)
-      → ((r : Reply) (x y : State) → Replies make r (λ a. Does a x y) → IsStep s r x y) → is_start s ≡ false → ((b : B) → is_still (make b) ≡ true)
+      → ((r : Reply) (x y : State) → Replies make r (λ a. Does a x y) → IsStep s r x y) → is_on_tables s ≡ true → ((b : B) → is_still (make b) ≡ true)
       → ((r : Reply) → device_of new ≡ device_of old → CallsDevice s r old new)
       → Meets Does (result_map f answer) (shown old) (shown new) → MovesNothing answer old new → MakesStep s (reply_of (λ (a : A). make (f a)) answer) old new
   still_step f same off quiet calls meets moves = led_step f same off quiet calls (λ past explained. meets past) moves
@@ -114,7 +118,7 @@ module _ {Dev : Type 0} {G : Ghosts Dev} {old new : PoolState Dev G} where
 
   -- one of which the definitions speak of the answer as it is
   pub plain_step : {A : Type 0} {s : declared_step.Step} {Does : Result A PoolError → State → State → Type 0} {make : A → Reply} {answer : Result A PoolError}
-      → ((r : Reply) (x y : State) → Replies make r (λ a. Does a x y) → IsStep s r x y) → is_start s ≡ false → ((a : A) → is_still (make a) ≡ true)
+      → ((r : Reply) (x y : State) → Replies make r (λ a. Does a x y) → IsStep s r x y) → is_on_tables s ≡ true → ((a : A) → is_still (make a) ≡ true)
       → ((r : Reply) → device_of new ≡ device_of old → CallsDevice s r old new)
       → Meets Does answer (shown old) (shown new) → MovesNothing answer old new → MakesStep s (reply_of make answer) old new
   plain_step {A} {s} {Does} {make} {answer} same off quiet calls meets moves =
@@ -122,7 +126,7 @@ module _ {Dev : Type 0} {G : Ghosts Dev} {old new : PoolState Dev G} where
 
   -- one that only reads
   pub plain_read : {A : Type 0} {s : declared_step.Step} {Does : Result A PoolError → State → State → Type 0} {make : A → Reply} {answer : Result A PoolError}
-      → ((r : Reply) (x y : State) → Replies make r (λ a. Does a x y) → IsStep s r x y) → is_start s ≡ false → ((a : A) → is_still (make a) ≡ true)
+      → ((r : Reply) (x y : State) → Replies make r (λ a. Does a x y) → IsStep s r x y) → is_on_tables s ≡ true → ((a : A) → is_still (make a) ≡ true)
       → ((r : Reply) → device_of new ≡ device_of old → CallsDevice s r old new)
       → Meets Does answer (shown old) (shown old) → new ≡ old → MakesNoCall answer old new → MakesStep s (reply_of make answer) old new
   plain_read {Does} {answer} same off quiet calls meets unchanged no_call =
@@ -154,7 +158,7 @@ module _ {Dev : Type 0} {G : Ghosts Dev} {old new : PoolState Dev G} where
 
   -- a step of one
   pub sync_step : (answer : Result Progress PoolError) → StepsSync answer (shown old) (shown new) → (IsTrue G.keeps_model → Leads (sync_step_reply answer) (told old) (told new))
-      → (IsTrue G.keeps_model → StepsPhases answer (run_of old) (run_of new) (disk_of old) (disk_of new)) → CallsNext (plain_answer answer) old new → CountsRefused answer old new
+      → (IsTrue G.keeps_model → StepsPhases answer (shown old).suspended (run_of old) (run_of new) (disk_of old) (disk_of new)) → CallsNext (plain_answer answer) old new → CountsRefused answer old new
       → MakesStep step.SyncStep (sync_step_reply answer) old new
   sync_step answer steps_on leads_on phases called counts = record {
     replied = replies;

@@ -9,3 +9,4 @@ pub mod SafeStates
 pub mod StoppedSteps
 pub mod StartedViews
 pub mod LeftDisks
+pub mod ViewRooms

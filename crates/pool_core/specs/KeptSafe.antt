@@ -1,5 +1,5 @@
 -- What a pool keeps of its disk for crashes, step by step.
-use Rattle.std.specs.Prelude.{ℕ, ◌≡◌, ◌≤◌, ◌<◌, ◌++◌, ◌∷◌, List, [], Option, Some, None}
+use Rattle.std.specs.Prelude.{ℕ, ◌≡◌, ◌≢◌, ◌≤◌, ◌<◌, ◌⊎◌, ◌++◌, ◌∷◌, All, true, List, [], Option, Some, None}
 use Rattle.base.specs.declared.step.Step as declared_step
 use Rattle.base.specs.declared.step.Reply as declared_reply
 use Rattle.base.specs.crash.CrashRule.{IsRunLeft}
@@ -8,19 +8,24 @@ use Rattle.base.specs.crash.LogRoom.{HasImportRoom}
 use Rattle.base.specs.crash.LogRule.{IsLogHeld}
 use Rattle.base.specs.crash.Own.{IsOwnImage}
 use Rattle.base.specs.crash.PoolViews.{IsPoolDisk, IsViewOf}
-use Rattle.base.specs.crash.Views.{AreConfigsUpTo}
+use Rattle.base.specs.crash.Views.{AreConfigsUpTo, View, view_frame}
 use Rattle.base.specs.disk.Disk.{Disk, EachMoment, Moment, bytes_of, disk_size, handed, moments}
 use Rattle.base.specs.disk.Fairness.{HasFairBytes, LeavesFair}
-use Rattle.base.specs.formats.Geometry.{block_count}
+use Rattle.base.specs.formats.Fields.{no_pointer}
+use Rattle.base.specs.formats.Geometry.{block_address, block_count}
 use Rattle.base.specs.history.Contents.{Contents}
 use Rattle.base.specs.history.Past.{Past}
 use Rattle.base.specs.steps.Additions.{past_after}
+use Rattle.base.specs.steps.Locks.{is_in}
+use Rattle.base.specs.tree.Places.{IsPlace, Place}
+use Rattle.base.specs.tree.PlacedTrees.{HoldsTree}
 use Rattle.base.specs.steps.Explains.{AreSafe, Explains, IsLeftBy, WereSafe}
 use Rattle.base.specs.steps.Runs.{Run}
 use Rattle.base.specs.steps.Shown.{Shown, SyncPlan}
 use Rattle.base.specs.stored.Stored.{Held, IsHeld}
 use Rattle.device_model.specs.declared.device.SectorDevice.{Ghosts}
 use Rattle.sync.specs.declared.run.SyncRun.{SyncRun}
+use Rattle.tree_plans.specs.declared.planner.PlannedBlock.{PlannedBlock}
 use Rattle.sync.specs.Phases.{IsUnderWay, SyncViews}
 use Rattle.sync.specs.Runs.{call_count}
 use Rattle.pool_core.specs.declared.state.PoolState.{PoolState}
@@ -35,6 +40,17 @@ pub record OnDisk : Type 0 where
   pub held : Held
   pub disk : Disk
   pub run : Option SyncRun
+
+-- a block of a view's tree has this address
+abbrev pub IsOfTree : View → ℕ → Type 0
+IsOfTree v address = (place : Place) × IsPlace place × (v.pointers place ≢ no_pointer) × ((v.pointers place).address ≡ address)
+
+-- The trees of a sync's views: the old one's stands in the bytes that the sync writes over. Each block of the new one's
+-- is a block of that, or taken by the sync, and so is each block that the sync writes.
+pub record AreSyncTrees (base : List ℕ) (run : SyncRun) (v : SyncViews) (taken : List ℕ) : Type 0 where
+  pub old : HoldsTree base (view_frame run.geometry v.old) v.old.pointers v.old.synced.objects
+  pub new : (place : Place) → IsPlace place → v.new.pointers place ≢ no_pointer → IsOfTree v.old (v.new.pointers place).address ⊎ (is_in (v.new.pointers place).address taken ≡ true)
+  pub blocks : All (λ (b : PlannedBlock). is_in (block_address b.index) taken ≡ true) run.blocks.items
 
 -- While a sync runs: it is under way from the view of the synced group to that of its own. Of both the log is held, and
 -- both leave room for an import. What a read gives is fair, and no config of the pool above the synced group counts.
@@ -56,6 +72,7 @@ pub record IsSyncOnDisk (run : SyncRun) (disk : Disk) (s : Shown) (past : Past) 
   pub new_held : IsLogHeld run.geometry past.created views.new_flushed s.suspended disk.now views.new
   pub old_room : HasImportRoom (block_count run.geometry) views.old
   pub new_room : HasImportRoom (block_count run.geometry) views.new
+  pub trees : AreSyncTrees base run views plan.taken
   pub bytes : HasFairBytes run.geometry past.created disk.now
   pub configs : AreConfigsUpTo run.geometry past.created (handed disk.now) s.guid s.line.synced (λ above content. ⊥)
 
@@ -66,11 +83,9 @@ IsDiskKept None disk s past = (s.line.syncing ≡ None) × IsPoolDisk (disk_size
 IsDiskKept (Some run) disk s past = IsSyncOnDisk run disk s past
 
 -- The crash rule of a pool with its past: the device holds what it should, a read of its disk gives these bytes, and
--- this disk, on which the create of the pool began at a moment of the past, is kept. No log block is written at this
--- stage.
+-- this disk, on which the create of the pool began at a moment of the past, is kept.
 pub record IsKeptSafe (x : OnDisk) : Type 0 where
   pub held : IsHeld x.held
-  pub no_log : x.held.state.shown.log.kept ≡ []
   pub same_bytes : x.held.now ≡ bytes_of x.disk.now
   pub began : x.held.state.past.created ≤ moments x.disk
   pub kept : IsDiskKept x.run x.disk x.held.state.shown x.held.state.past

@@ -362,7 +362,7 @@ impl<D: SectorDevice> PoolState<D> {
         ensures step { StepsSync result (shown self.old) (shown self.new) }
         ensures leads { IsTrue D.keeps_model
             → Leads (sync_step_reply result) (told self.old) (told self.new) }
-        ensures phases { IsTrue D.keeps_model → StepsPhases result
+        ensures phases { IsTrue D.keeps_model → StepsPhases result (shown self.old).suspended
             (run_of self.old) (run_of self.new) (disk_of self.old) (disk_of self.new) }
         ensures called { CallsNext (plain_answer result) self.old self.new }
         ensures count { CountsRefused result self.old self.new }

@@ -1,45 +1,80 @@
 -- Each device call of a running sync keeps its pool's disk, and with the last it is at rest on the view of the group
--- that is synced then.
-use Rattle.std.proofs.Common.{◌≡◌, ◌∙◌, ◌⊎◌, inl, inr, ℕ, ◌+◌, ◌<◌, ◌≤◌, List, [], Option, Some, None, filter, nat_le, refl, ap, sym, subst, arith}
-use Rattle.std.specs.Prelude.{IfSome}
+-- that is synced then. The logs of both views stay held.
+use Rattle.std.proofs.Common.{◌≡◌, ◌∙◌, ◌⊎◌, inl, inr, ℕ, ◌+◌, ◌<◌, ◌≤◌, ◌&&◌, Bool, true, false, List, [], Option, Some, None, refl, ap, sym, subst, arith}
+use Rattle.std.specs.Prelude.{All, IfSome, if◌then◌else◌, nat_lt, slice_get}
 use Rattle.base.specs.crash.Layout.{header_now}
 use Rattle.base.specs.crash.LogRoom.{HasImportRoom}
 use Rattle.base.specs.crash.LogRule.{IsLogHeld}
-use Rattle.base.specs.crash.Own.{IsAtRest, IsPhase}
-use Rattle.base.specs.crash.PoolViews.{IsPoolDisk, IsSyncConfig, IsViewOf}
-use Rattle.base.specs.crash.Views.{AreConfigsUpTo}
+use Rattle.base.specs.crash.LogSteps.{IsHeaderIn}
+use Rattle.base.specs.crash.Own.{IsAtRest}
+use Rattle.base.specs.crash.PoolViews.{IsPoolDisk, IsSyncConfig}
+use Rattle.base.specs.crash.Views.{AreConfigsUpTo, view_frame}
 use Rattle.base.specs.disk.Disk.{Disk, EachMoment, Moment, disk_size, handed, moments}
 use Rattle.base.specs.disk.Fairness.{HandsOnly, HasFairBytes}
-use Rattle.base.specs.formats.Geometry.{block_count, config_place}
+use Rattle.base.specs.formats.Geometry.{block_address, block_count, config_place}
 use Rattle.base.specs.history.Past.{Past}
 use Rattle.base.specs.steps.ExactNow.{IsExplainedNow}
-use Rattle.base.specs.steps.Logs.{KeptBlock}
+use Rattle.base.specs.steps.Locks.{is_in}
 use Rattle.base.specs.steps.Shown.{Shown, SyncPlan}
 use Rattle.base.specs.steps.Steps as steps
 use Rattle.base.specs.steps.Steps.{State}
+use Rattle.base.specs.tree.PlacedTrees.{HoldsTree}
 use Rattle.base.proofs.crash.OwnDisks.{configs_weaker}
+use Rattle.base.proofs.crash.PoolLogs.{pool_synced}
 use Rattle.base.proofs.disk.Moments.{both, latest, weaker}
+use Rattle.tree_plans.specs.declared.planner.PlannedBlock.{PlannedBlock}
 use Rattle.sync.specs.declared.run.SyncRun.{SyncRun}
-use Rattle.sync.specs.Phases.{IsSyncPhase, IsUnderWay, IsWrittenNext}
-use Rattle.sync.specs.Runs.{call_count}
+use Rattle.sync.specs.Calls.{calls_of}
+use Rattle.sync.specs.Phases.{HoldsLogs, IsLoggedPhase, IsUnderWay, IsWrittenNext, SyncViews, all_flushed, is_flush, views_after}
+use Rattle.sync.specs.Runs.{SameSync, call_count}
 use Rattle.sync.proofs.ConfigWrites.{configs_staged}
-use Rattle.sync.proofs.UnderWay.{ends_at_rest, keeps_phases}
+use Rattle.sync.proofs.UnderWay.{ends_at_rest, holds_logs}
 use Rattle.pool_tables.specs.SyncPhases.{TriesNext}
-use Rattle.pool_core.specs.KeptSafe.{IsSyncOnDisk, LeavesOwn}
-use Rattle.pool_core.proofs.crash.HeldLogs.{held_as, held_call, none_logged}
-use Rattle.pool_core.proofs.crash.OwnMoments.{HasSyncViews, moment_laid, moment_left, sync_views}
+use Rattle.pool_core.specs.KeptSafe.{AreSyncTrees, IsSyncOnDisk, LeavesOwn}
+use Rattle.pool_core.proofs.crash.HeldLogs.{held_as}
+use Rattle.pool_core.proofs.crash.OwnMoments.{AreViewsOf, HasSyncViews, PhaseOf, held_of, moment_laid, moment_left, views_held, views_of, views_then}
 use Rattle.pool_core.proofs.crash.SafeMoments.{IsSafeMoment, moment_safe}
-use Rattle.pool_core.proofs.crash.ViewsKept.{SameSyncing, configs_as, header-none, synced_view, syncing_view, view_as}
+use Rattle.pool_core.proofs.crash.ViewsKept.{SameSyncing, configs_as, synced_view, syncing_view}
 
-module _ (run next : SyncRun) (before after : Disk) (s : Shown) (p : Past) (began : p.created ≤ moments before) (x : IsSyncOnDisk run before s p) (tries : TriesNext run next before after) where
+-- the trees of a sync's views are those of the same sync, with more of their log blocks fixed or not
+trees_then : (base : List ℕ) (run next : SyncRun) (v : SyncViews) (taken later : List ℕ) → SameSync run next → later ≡ taken → AreSyncTrees base run v taken → AreSyncTrees base next (views_after run next v) later
+trees_then base run next v taken later same same_taken trees = subst (λ (l : List ℕ). AreSyncTrees base next (views_after run next v) l) (sym same_taken) (go (is_flush (slice_get (calls_of run) run.done) && nat_lt run.done next.done))
+  where
+    old : HoldsTree base (view_frame next.geometry v.old) v.old.pointers v.old.synced.objects
+    old = subst (λ (n : ℕ). HoldsTree base (view_frame n v.old) v.old.pointers v.old.synced.objects) (sym same.geometry) trees.old
+
+    blocks : All (λ (b : PlannedBlock). is_in (block_address b.index) taken ≡ true) next.blocks.items
+    blocks = rw same.blocks trees.blocks
+
+    go : (b : Bool) → AreSyncTrees base next (if b then all_flushed v else v) taken
+    go true = record { old = old; new = trees.new; blocks = blocks }
+    go false = record { old = old; new = trees.new; blocks = blocks }
+
+module _ (run next : SyncRun) (before after : Disk) (s : Shown) (p : Past) (began : p.created ≤ moments before) (x : IsSyncOnDisk run before s p) (tries : TriesNext s.suspended run next before after) where
   bytes_each : EachMoment (HasFairBytes run.geometry p.created) before after
   bytes_each = tries.phases.fair p.created began x.bytes
 
   bytes_now : HasFairBytes run.geometry p.created after.now
   bytes_now = latest (HasFairBytes run.geometry p.created) before after bytes_each
 
-  call : EachMoment (IsSyncPhase run x.views) before after × IsUnderWay x.base x.views next after.now
-  call = keeps_phases x.base before after x.views run next tries.same tries.written tries.phases x.way
+  -- the views after the call
+  abbrev then_views : SyncViews
+  then_views = views_after run next x.views
+
+  are : AreViewsOf run.geometry s p x.group x.plan x.views
+  are = views_of x
+
+  then_are : AreViewsOf run.geometry s p x.group x.plan then_views
+  then_are = views_then run.geometry s p x.group x.plan run next x.views are
+
+  held : HoldsLogs run x.views false before.now
+  held = held_of x tries.running
+
+  abbrev Logged : Moment → Type 0
+  Logged m = IsLoggedPhase run x.views m ⊎ IsLoggedPhase run then_views m
+
+  call : EachMoment Logged before after × (IsUnderWay x.base then_views next after.now × HoldsLogs next then_views false after.now)
+  call = holds_logs x.base before after x.views run next tries.same tries.written tries.phases x.way held
 
   -- what counts is what counted, and the call's own write
   abbrev Hands : Moment → Type 0
@@ -64,50 +99,34 @@ module _ (run next : SyncRun) (before after : Disk) (s : Shown) (p : Past) (bega
   configs : KnowsConfigs after.now
   configs = configs_known after.now hands_now
 
-  -- no log block is written
-  module _ (none : s.log.kept ≡ []) where
-    old_empty : x.views.old.logged ≡ []
-    old_empty = none_logged x.views.flushed x.views.old s p s.line.synced s.root (header_now s.log) none x.old_is
+  -- the views of a moment of the call, with its phase
+  views_at : (m : Moment) → Logged m → (v : HasSyncViews run.geometry m s p) × PhaseOf v
+  views_at m (inl h) = (views_held run m s p x.group x.plan x.syncing x.running x.views are h.1, h.0)
+  views_at m (inr h) = (views_held run m s p x.group x.plan x.syncing x.running then_views then_are h.1, h.0)
 
-    new_empty : x.views.new.logged ≡ []
-    new_empty = none_logged x.views.new_flushed x.views.new s p x.group x.plan.root x.plan.header none x.new_is
+  -- So each moment of the call is safe, and what a crash leaves then is the pool's own.
+  module _ (explained : IsExplainedNow s p) where
+    abbrev Known : Moment → Type 0
+    Known m = (HasFairBytes run.geometry p.created m × Hands m) × Logged m
 
-    old_held : (m : Moment) → Hands m → IsLogHeld run.geometry p.created x.views.flushed s.suspended m x.views.old
-    old_held m hands = held_call x.base run x.views x.way.leads x.no_stages run.geometry p.created x.views.flushed s.suspended before.now m x.views.old old_empty hands x.old_held
+    known_each : EachMoment Known before after
+    known_each = both (λ m. HasFairBytes run.geometry p.created m × Hands m) Logged before after
+        (both (HasFairBytes run.geometry p.created) Hands before after bytes_each hands_each) call.0
 
-    new_held : (m : Moment) → Hands m → IsLogHeld run.geometry p.created x.views.new_flushed s.suspended m x.views.new
-    new_held m hands = held_call x.base run x.views x.way.leads x.no_stages run.geometry p.created x.views.new_flushed s.suspended before.now m x.views.new new_empty hands x.new_held
+    pub call_safe : EachMoment (IsSafeMoment (disk_size before) p) before after
+    call_safe = subst (λ (n : ℕ). EachMoment (IsSafeMoment n p) before after) (sym x.bytes.size_is)
+        (weaker Known (IsSafeMoment run.geometry p) before after
+        (λ m here. let v = views_at m here.1 in moment_safe s p explained run.geometry m (moment_laid run.geometry m s p v.0 v.1 here.0.0 (configs_known m here.0.1))) known_each)
 
-    abbrev views_at : (m : Moment) → Hands m → HasSyncViews run.geometry m s p
-    views_at m hands = sync_views x m (old_held m hands) (new_held m hands)
-
-    -- So each moment of the call is safe, and what a crash leaves then is the pool's own.
-    module _ (explained : IsExplainedNow s p) where
-      abbrev Known : Moment → Type 0
-      Known m = (HasFairBytes run.geometry p.created m × Hands m) × IsSyncPhase run x.views m
-
-      known_each : EachMoment Known before after
-      known_each = both (λ m. HasFairBytes run.geometry p.created m × Hands m) (IsSyncPhase run x.views) before after
-          (both (HasFairBytes run.geometry p.created) Hands before after bytes_each hands_each) call.0
-
-      phase_at : (m : Moment) → IsSyncPhase run x.views m → IsPhase run.geometry p.created x.views.flushed x.views.new_flushed m x.views.old x.views.new
-      phase_at m phase = subst (λ (t : ℕ). IsPhase run.geometry t x.views.flushed x.views.new_flushed m x.views.old x.views.new) x.created phase
-
-      pub call_safe : EachMoment (IsSafeMoment (disk_size before) p) before after
-      call_safe = subst (λ (n : ℕ). EachMoment (IsSafeMoment n p) before after) (sym x.bytes.size_is)
-          (weaker Known (IsSafeMoment run.geometry p) before after
-          (λ m here. moment_safe s p explained run.geometry m (moment_laid run.geometry m s p (views_at m here.0.1) (phase_at m here.1) here.0.0 (configs_known m here.0.1))) known_each)
-
-      pub call_own : EachMoment (LeavesOwn (disk_size before) p s.guid) before after
-      call_own = subst (λ (n : ℕ). EachMoment (LeavesOwn n p s.guid) before after) (sym x.bytes.size_is)
-          (weaker Known (LeavesOwn run.geometry p s.guid) before after
-          (λ m here. moment_left run.geometry m s p (views_at m here.0.1) (phase_at m here.1) here.0.0 (configs_known m here.0.1) explained none) known_each)
+    pub call_own : EachMoment (LeavesOwn (disk_size before) p s.guid) before after
+    call_own = subst (λ (n : ℕ). EachMoment (LeavesOwn n p s.guid) before after) (sym x.bytes.size_is)
+        (weaker Known (LeavesOwn run.geometry p s.guid) before after
+        (λ m here. let v = views_at m here.1 in moment_left run.geometry m s p v.0 v.1 here.0.0 (configs_known m here.0.1) explained) known_each)
 
   -- After a call with more after it, or a refused one, the disk is kept with what is shown then.
-  pub call_kept : (t : Shown) (q : Past) → s.log.kept ≡ [] → SameSyncing s t p q → next.done < call_count next → IsSyncOnDisk next after t q
-  call_kept t q none same left =
+  pub call_kept : (t : Shown) (q : Past) → SameSyncing s t p q → next.done < call_count next → IsSyncOnDisk next after t q
+  call_kept t q same left =
       let later = same.plans x.plan x.running in
-      let still : t.log.kept ≡ [] = same.synced.kept ∙ none in
       record {
         no_stages = tries.same.stages ∙ x.no_stages;
         left = left;
@@ -116,36 +135,32 @@ module _ (run next : SyncRun) (before after : Disk) (s : Shown) (p : Past) (bega
         syncing = same.line ∙ x.syncing;
         running = later.1;
         base = x.base;
-        views = x.views;
-        created = x.created ∙ sym same.synced.created;
-        way = call.1;
-        old_is = synced_view s t p q none still x.views.flushed x.views.old same.synced x.old_is;
-        new_is = syncing_view s t p q none still x.views.new_flushed x.views.new x.group x.plan later.0 same x.syncing later.2 later.3 x.new_is;
-        old_held = subst (λ (n : ℕ). IsLogHeld n q.created x.views.flushed t.suspended after.now x.views.old) (sym tries.same.geometry)
-            (held_as run.geometry p.created q.created x.views.flushed x.views.flushed s.suspended t.suspended after.now x.views.old (old_empty none) same.synced.created (old_held none after.now hands_now));
-        new_held = subst (λ (n : ℕ). IsLogHeld n q.created x.views.new_flushed t.suspended after.now x.views.new) (sym tries.same.geometry)
-            (held_as run.geometry p.created q.created x.views.new_flushed x.views.new_flushed s.suspended t.suspended after.now x.views.new (new_empty none) same.synced.created (new_held none after.now hands_now));
-        old_room = subst (λ (n : ℕ). HasImportRoom (block_count n) x.views.old) (sym tries.same.geometry) x.old_room;
-        new_room = subst (λ (n : ℕ). HasImportRoom (block_count n) x.views.new) (sym tries.same.geometry) x.new_room;
+        views = then_views;
+        created = then_are.created ∙ sym same.synced.created;
+        way = call.1.0;
+        old_is = synced_view s t p q then_views.flushed then_views.old same.synced then_are.old_is;
+        new_is = syncing_view s t p q then_views.new_flushed then_views.new x.group x.plan later.0 same x.syncing later.2 then_are.new_is;
+        old_held = held_as next.geometry then_views.created q.created then_views.flushed false t.suspended after.now then_views.old (same.synced.created ∙ sym then_are.created) (λ off. refl) call.1.1.old;
+        new_held = held_as next.geometry then_views.created q.created then_views.new_flushed false t.suspended after.now then_views.new (same.synced.created ∙ sym then_are.created) (λ off. refl) call.1.1.new;
+        old_room = subst (λ (n : ℕ). HasImportRoom (block_count n) then_views.old) (sym tries.same.geometry) then_are.old_room;
+        new_room = subst (λ (n : ℕ). HasImportRoom (block_count n) then_views.new) (sym tries.same.geometry) then_are.new_room;
+        trees = trees_then x.base run next x.views x.plan.taken later.0.taken tries.same later.2.taken x.trees;
         bytes = subst (λ (n : ℕ). HasFairBytes n q.created after.now) (sym tries.same.geometry) (subst (λ (c : ℕ). HasFairBytes run.geometry c after.now) (sym same.synced.created) bytes_now);
         configs = configs_as (handed after.now) run.geometry next.geometry p.created q.created s.guid t.guid s.line.synced t.line.synced tries.same.geometry same.synced.created same.synced.guid same.synced.synced configs;
       }
 
   -- After the last one it is at rest on the view of the sync's group.
-  module _ (none : s.log.kept ≡ []) (header : x.plan.header ≡ s.log.next) (explained : IsExplainedNow s p) (all : next.done ≡ call_count next) where
+  module _ (header : IsHeaderIn x.plan.header s.log) (explained : IsExplainedNow s p) (all : next.done ≡ call_count next) where
     abbrev then : State
     then = steps.state_after_sync x.group x.plan (record { shown = s; past = p })
 
-    still : then.shown.log.kept ≡ []
-    still = ap (λ (ks : List KeptBlock). filter (λ (b : KeptBlock). nat_le x.plan.header.number b.number) ks) none
+    at_rest : IsAtRest run.geometry p.created then_views.new_flushed after.now then_views.new
+    at_rest = subst (λ (n : ℕ). IsAtRest n p.created then_views.new_flushed after.now then_views.new) tries.same.geometry
+        (subst (λ (c : ℕ). IsAtRest next.geometry c then_views.new_flushed after.now then_views.new) then_are.created (ends_at_rest x.base after.now then_views next all call.1.0).rest.rest)
 
-    at_rest : IsAtRest run.geometry p.created x.views.new_flushed after.now x.views.new
-    at_rest = subst (λ (n : ℕ). IsAtRest n p.created x.views.new_flushed after.now x.views.new) tries.same.geometry
-        (subst (λ (c : ℕ). IsAtRest next.geometry c x.views.new_flushed after.now x.views.new) x.created (ends_at_rest x.base after.now x.views next all call.1).rest.rest)
-
-    last_view : IsViewOf x.views.new_flushed x.views.new then.shown then.past then.shown.line.synced then.shown.root (header_now then.shown.log)
-    last_view = view_as x.views.new_flushed x.views.new s then.shown p then.past x.group x.group x.plan.root x.plan.root x.plan.header (header_now then.shown.log) none still refl refl refl refl refl
-        (header-none then.shown.log still ∙ sym header) refl x.new_is
+    last_held : IsLogHeld run.geometry p.created then_views.new_flushed s.suspended after.now then_views.new
+    last_held = subst (λ (n : ℕ). IsLogHeld n p.created then_views.new_flushed s.suspended after.now then_views.new) tries.same.geometry
+        (held_as next.geometry then_views.created p.created then_views.new_flushed false s.suspended after.now then_views.new (sym then_are.created) (λ off. refl) call.1.1.new)
 
     above : s.line.synced ≤ x.group
     above = let next_one : x.group ≡ s.line.synced + 1 = subst (λ (o : Option ℕ). IfSome o (λ g. g ≡ s.line.synced + 1)) x.syncing explained.exact.groups.line.syncing in omega (arith, next_one)
@@ -154,15 +169,15 @@ module _ (run next : SyncRun) (before after : Disk) (s : Shown) (p : Past) (bega
     last_kept = subst (λ (n : ℕ). IsPoolDisk n after.now then.shown then.past) (sym bytes_now.size_is) (record {
       bytes = bytes_now;
       configs = configs_weaker run.geometry p.created (handed after.now) s.guid s.line.synced x.group (λ group content. ⊥) (IsSyncConfig run.geometry then.shown then.past) above (λ group content no_way. absurd no_way) configs;
-      laid = inl (record { v = x.views.new; flushed = x.views.new_flushed; rest = at_rest; is = last_view; held = new_held none after.now hands_now });
+      laid = inl (pool_synced run.geometry after.now s p x.group x.plan explained.exact.log header then_views.new_flushed then_views.new at_rest then_are.new_is last_held);
     })
 
-  pub last_call_kept : (group : ℕ) (plan : SyncPlan) → s.line.syncing ≡ Some group → s.sync ≡ Some plan → s.log.kept ≡ [] → plan.header ≡ s.log.next → IsExplainedNow s p → next.done ≡ call_count next
+  pub last_call_kept : (group : ℕ) (plan : SyncPlan) → s.line.syncing ≡ Some group → s.sync ≡ Some plan → IsHeaderIn plan.header s.log → IsExplainedNow s p → next.done ≡ call_count next
       → IsPoolDisk (disk_size after) after.now (steps.state_after_sync group plan (record { shown = s; past = p })).shown (steps.state_after_sync group plan (record { shown = s; past = p })).past
-  last_call_kept group plan syncing running none header explained all =
+  last_call_kept group plan syncing running header explained all =
       let st : State = record { shown = s; past = p } in
       let of_group : x.group ≡ group = let same : Some x.group ≡ Some group = sym x.syncing ∙ syncing in cc in
       let of_plan : x.plan ≡ plan = let same : Some x.plan ≡ Some plan = sym x.running ∙ running in cc in
       subst (λ (g : ℕ). IsPoolDisk (disk_size after) after.now (steps.state_after_sync g plan st).shown (steps.state_after_sync g plan st).past) of_group
       (subst (λ (q : SyncPlan). IsPoolDisk (disk_size after) after.now (steps.state_after_sync x.group q st).shown (steps.state_after_sync x.group q st).past) of_plan
-      (last_kept none (ap (λ (q : SyncPlan). q.header) of_plan ∙ header) explained all))
+      (last_kept (subst (λ (q : SyncPlan). IsHeaderIn q.header s.log) (sym of_plan) header) explained all))

@@ -4,7 +4,6 @@ use Rattle.std.proofs.Common.{◌≡◌, ◌∙◌, inl, inr, ℕ, ◌≤◌, Li
 use Rattle.base.specs.declared.pointer.Pointer.{Pointer}
 use Rattle.base.specs.crash.CrashRule.{IsRunLeft}
 use Rattle.base.specs.crash.LogRoom.{HasImportRoom}
-use Rattle.base.specs.crash.Own.{IsPhase}
 use Rattle.base.specs.crash.PoolViews.{IsPoolAtRest, IsPoolDisk, IsPoolLaid}
 use Rattle.base.specs.disk.Disk.{Disk, EachMoment, Moment, bytes_of, disk_size, moments}
 use Rattle.base.specs.disk.Fairness.{LeavesFair}
@@ -23,7 +22,7 @@ use Rattle.base.proofs.disk.Moments.{starts}
 use Rattle.sync.specs.declared.run.SyncRun.{SyncRun}
 use Rattle.sync.proofs.UnderWay.{in_phase}
 use Rattle.pool_core.specs.KeptSafe.{IsDiskKept, IsKeptSafe, IsSyncOnDisk, LeavesOwn, OnDisk}
-use Rattle.pool_core.proofs.crash.OwnMoments.{HasSyncViews, moment_laid, moment_left, sync_views, were_left}
+use Rattle.pool_core.proofs.crash.OwnMoments.{HasSyncViews, PhaseOf, moment_laid, moment_left, views_of, were_left}
 
 -- a safe moment for a past, of a device of so many bytes
 abbrev pub IsSafeMoment : ℕ → Past → Moment → Type 0
@@ -46,17 +45,17 @@ module _ (s : Shown) (past : Past) (explained : IsExplainedNow s past) where
 -- While a sync has calls left its pool's disk is laid.
 module _ (run : SyncRun) (disk : Disk) (s : Shown) (past : Past) (x : IsSyncOnDisk run disk s past) where
   abbrev views : HasSyncViews run.geometry disk.now s past
-  views = sync_views x disk.now x.old_held x.new_held
+  views = record { group = x.group; plan = x.plan; syncing = x.syncing; running = x.running; views = x.views; are = views_of x; old_held = x.old_held; new_held = x.new_held }
 
-  phase : IsPhase run.geometry past.created x.views.flushed x.views.new_flushed disk.now x.views.old x.views.new
-  phase = subst (λ (t : ℕ). IsPhase run.geometry t x.views.flushed x.views.new_flushed disk.now x.views.old x.views.new) x.created (in_phase x.base disk.now x.views run x.way)
+  phase : PhaseOf views
+  phase = in_phase x.base disk.now x.views run x.way
 
   pub sync_laid : IsPoolDisk (disk_size disk) disk.now s past
   sync_laid = subst (λ (n : ℕ). IsPoolDisk n disk.now s past) (sym x.bytes.size_is) (moment_laid run.geometry disk.now s past views phase x.bytes x.configs)
 
   -- what a crash leaves of it is the pool's own
-  pub sync_left : IsExplainedNow s past → s.log.kept ≡ [] → LeavesOwn (disk_size disk) past s.guid disk.now
-  sync_left explained none = subst (λ (n : ℕ). LeavesOwn n past s.guid disk.now) (sym x.bytes.size_is) (moment_left run.geometry disk.now s past views phase x.bytes x.configs explained none)
+  pub sync_left : IsExplainedNow s past → LeavesOwn (disk_size disk) past s.guid disk.now
+  sync_left explained = subst (λ (n : ℕ). LeavesOwn n past s.guid disk.now) (sym x.bytes.size_is) (moment_left run.geometry disk.now s past views phase x.bytes x.configs explained)
 
 disk_laid : (o : Option SyncRun) (disk : Disk) (s : Shown) (past : Past) → IsDiskKept o disk s past → IsPoolDisk (disk_size disk) disk.now s past
 disk_laid None disk s past kept = kept.1
@@ -64,7 +63,7 @@ disk_laid (Some run) disk s past kept = sync_laid run disk s past kept
 
 -- While no group is syncing a pool is at rest, and leaves room for an import.
 module _ (m : Moment) (s : Shown) (past : Past) (idle : s.line.syncing ≡ None) where
-  not_syncing : (group : ℕ) → s.line.syncing ≡ Some group → ⊥
+  pub not_syncing : (group : ℕ) → s.line.syncing ≡ Some group → ⊥
   not_syncing group syncing = let no_way : None ≡ Some group = sym idle ∙ syncing in cc
 
   pub idle_rest : (size : ℕ) → IsPoolLaid size m s past → IsPoolAtRest size m s past
@@ -78,11 +77,11 @@ module _ (m : Moment) (s : Shown) (past : Past) (idle : s.line.syncing ≡ None)
   idle_room pointers running explained kept (inr (inl between)) = absurd (not_syncing between.group between.syncing)
   idle_room pointers running explained kept (inr (inr switched)) = absurd (not_syncing switched.group switched.syncing)
 
-disk_left : (o : Option SyncRun) (disk : Disk) (s : Shown) (past : Past) (pointers : Place → Pointer) (running : Option NewTree) → past.created ≤ moments disk → IsExplainedNow s past → s.log.kept ≡ []
+disk_left : (o : Option SyncRun) (disk : Disk) (s : Shown) (past : Past) (pointers : Place → Pointer) (running : Option NewTree) → past.created ≤ moments disk → IsExplainedNow s past
     → IsKept (bytes_of disk.now) s pointers running past → IsDiskKept o disk s past → IsRunLeft disk past s.guid
-disk_left None disk s past pointers running began explained none held (idle, kept) =
+disk_left None disk s past pointers running began explained held (idle, kept) =
     run_own (disk_size disk) disk s past s.contents began kept explained.exact.log explained.exact.sync explained.exact.groups.line explained.history (idle_room disk.now s past idle pointers running explained held kept.laid)
-disk_left (Some run) disk s past pointers running began explained none held kept = record { began = began; left = sync_left run disk s past kept explained none }
+disk_left (Some run) disk s past pointers running began explained held kept = record { began = began; left = sync_left run disk s past kept explained }
 
 -- without a sync it is kept where it is laid so
 pub idle_kept : (o : Option SyncRun) (disk : Disk) (s : Shown) (past : Past) → o ≡ None → s.line.syncing ≡ None → IsPoolDisk (disk_size disk) disk.now s past → IsDiskKept o disk s past
@@ -99,7 +98,7 @@ kept_safe x safe = pool_safe x.held.state.shown x.held.state.past safe.held.expl
 -- and what a crash leaves of it is its own
 pub kept_own : (x : OnDisk) → IsKeptSafe x → IsRunLeft x.disk x.held.state.past x.held.state.shown.guid
 kept_own x safe =
-    disk_left x.run x.disk x.held.state.shown x.held.state.past x.held.pointers x.held.running safe.began safe.held.explained safe.no_log
+    disk_left x.run x.disk x.held.state.shown x.held.state.past x.held.pointers x.held.running safe.began safe.held.explained
     (subst (λ (l : List ℕ). IsKept l x.held.state.shown x.held.pointers x.held.running x.held.state.past) safe.same_bytes safe.held.kept) safe.kept
 
 -- where no call is made, what is safe then was so

@@ -9,6 +9,7 @@ use Rattle.base.specs.declared.step.Reply as declared_reply
 use Rattle.base.specs.declared.step.Reply.TheVariants as reply
 use Rattle.base.specs.disk.Disk.{Disk, bytes_of}
 use Rattle.base.specs.formats.Geometry.{slot_of}
+use Rattle.base.specs.steps.Runs.{is_log_step}
 use Rattle.base.specs.stored.Stored.{Held, NewTree, is_turn}
 use Rattle.base.proofs.common.KeptLists.{Some-injective}
 use Rattle.base.proofs.steps.KeptGroups.{none_there}
@@ -23,7 +24,7 @@ use Rattle.pool_tables.specs.declared.pool.Progress.TheVariants.{More, Synced}
 use Rattle.pool_tables.specs.Told.{Leads, new_tree_of, start_reply, sync_step_reply, tree_after}
 use Rattle.pool_tables.specs.SyncPhases.{StepsPhases}
 use Rattle.pool_core.specs.KeptSafe.{IsSafeStep, KeepsSafe, OnDisk, disk_of, on_disk, run_of}
-use Rattle.pool_core.specs.States.{device_of, told}
+use Rattle.pool_core.specs.States.{device_of, shown, told}
 use Rattle.pool_core.specs.Turns.{Turns, held_after}
 use Rattle.pool_core.proofs.crash.SafeSteps.{last_safe, more_safe, start_safe, still_safe}
 use Rattle.pool_tables.proofs.syncs.SyncLeads.{was_syncing}
@@ -42,12 +43,12 @@ left_of pool run is =
 module _ {Dev : Type 0} {G : Ghosts Dev} where
   module _ (keeps : IsTrue G.keeps_model) (old new : PoolState Dev G) where
     -- a step without a call that neither starts a sync nor ends one
-    pub still_keeps : (s : declared_step.Step) (r : declared_reply.Reply) → is_turn r ≡ false → device_of new ≡ device_of old → run_of new ≡ run_of old → Turns s r old new → KeepsSafe s r old new
-    still_keeps s r off device run turns past x =
+    pub still_keeps : (s : declared_step.Step) (r : declared_reply.Reply) → is_turn r ≡ false → is_log_step s ≡ false → device_of new ≡ device_of old → run_of new ≡ run_of old → Turns s r old new → KeepsSafe s r old new
+    still_keeps s r off no_log device run turns past x =
         let turn = turns past in
         let h : Held = held_after s r (told old) (told new) past in
         subst (λ (y : OnDisk). IsSafeStep s r (on_disk old past) y) (λ k. record { held = h; disk = G.disk (sym device k); run = sym run k })
-        (still_safe (on_disk old past) x s r h (ap (λ (d : Dev). bytes_of (G.disk d).now) device) (turn.over keeps x.held) off (turn.held keeps x.held))
+        (still_safe (on_disk old past) x s r h (ap (λ (d : Dev). bytes_of (G.disk d).now) device) (turn.over keeps x.held) off no_log (turn.held keeps x.held))
 
     -- the start of a sync
     started_keeps : (moment : ℕ) (group : Group) → ((d : Dev) → length (bytes_of (G.disk d).now) ≡ G.size d) → device_of new ≡ device_of old → Leads (reply.Syncing group) (told old) (told new)
@@ -73,10 +74,10 @@ module _ {Dev : Type 0} {G : Ghosts Dev} where
         subst (λ (q : declared_reply.Reply). KeepsSafe (step.StartSync moment) q old new) (sym is)
         (started_keeps moment group sized device (subst (λ (q : declared_reply.Reply). Leads q (told old) (told new)) is leads)
         (subst (λ (q : declared_reply.Reply). Turns (step.StartSync moment) q old new) is turns))
-    start_keeps moment (Err e) r is sized device unmoved leads turns = still_keeps (step.StartSync moment) r (ap is_turn is) device unmoved turns
+    start_keeps moment (Err e) r is sized device unmoved leads turns = still_keeps (step.StartSync moment) r (ap is_turn is) refl device unmoved turns
 
     -- a step of one, by what its call answered
-    stepped_keeps : (answer : Result Progress PoolError) → StepsPhases answer (run_of old) (run_of new) (disk_of old) (disk_of new) → Turns step.SyncStep (sync_step_reply answer) old new
+    stepped_keeps : (answer : Result Progress PoolError) → StepsPhases answer (shown old).suspended (run_of old) (run_of new) (disk_of old) (disk_of new) → Turns step.SyncStep (sync_step_reply answer) old new
         → KeepsSafe step.SyncStep (sync_step_reply answer) old new
     stepped_keeps (Ok More) (run, next, was, is, tries) turns past x =
         let turn = turns past in
@@ -92,14 +93,14 @@ module _ {Dev : Type 0} {G : Ghosts Dev} where
         let turn = turns past in
         let h : Held = held_after step.SyncStep (reply.Refused e) (told old) (told new) past in
         subst (λ (y : OnDisk). IsSafeStep step.SyncStep (reply.Refused e) (on_disk old past) y) (λ k. record { held = h; disk = sym disk k; run = sym run k })
-        (still_safe (on_disk old past) x step.SyncStep (reply.Refused e) h (ap (λ (d : Disk). bytes_of d.now) disk) (turn.over keeps x.held) refl (turn.held keeps x.held))
+        (still_safe (on_disk old past) x step.SyncStep (reply.Refused e) h (ap (λ (d : Disk). bytes_of d.now) disk) (turn.over keeps x.held) refl refl (turn.held keeps x.held))
     stepped_keeps (Err e) (inr (run, next, was, is, tries)) turns past x =
         let turn = turns past in
         let h : Held = held_after step.SyncStep (reply.Refused e) (told old) (told new) past in
         subst (λ (y : OnDisk). IsSafeStep step.SyncStep (reply.Refused e) (on_disk old past) y) (λ k. record { held = h; disk = disk_of new; run = sym is k })
         (more_safe (on_disk old past) x h (disk_of new) refl run next was tries (turn.held keeps x.held) (reply.Refused e) (turn.over keeps x.held) refl refl (left_of new.pool next is))
 
-    pub sync_keeps : (answer : Result Progress PoolError) (r : declared_reply.Reply) → r ≡ sync_step_reply answer → StepsPhases answer (run_of old) (run_of new) (disk_of old) (disk_of new)
+    pub sync_keeps : (answer : Result Progress PoolError) (r : declared_reply.Reply) → r ≡ sync_step_reply answer → StepsPhases answer (shown old).suspended (run_of old) (run_of new) (disk_of old) (disk_of new)
         → Turns step.SyncStep r old new → KeepsSafe step.SyncStep r old new
     sync_keeps answer r is phases turns =
         subst (λ (q : declared_reply.Reply). KeepsSafe step.SyncStep q old new) (sym is)

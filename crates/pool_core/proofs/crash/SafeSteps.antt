@@ -12,8 +12,8 @@ use Rattle.base.specs.declared.step.Step as declared_step
 use Rattle.base.specs.declared.step.Step.TheVariants as step
 use Rattle.base.specs.declared.step.Reply as declared_reply
 use Rattle.base.specs.declared.step.Reply.TheVariants as reply
-use Rattle.base.specs.crash.Layout.{header_now}
 use Rattle.base.specs.crash.LogRule.{IsLogHeld}
+use Rattle.base.specs.crash.LogSteps.{IsHeaderIn}
 use Rattle.base.specs.crash.Own.{IsAtRest}
 use Rattle.base.specs.crash.PoolViews.{IsPoolDisk, IsSyncConfig}
 use Rattle.base.specs.crash.Views.{AreConfigsUpTo, View}
@@ -26,7 +26,7 @@ use Rattle.base.specs.history.Plans.{shape_of}
 use Rattle.base.specs.steps.Exact.{AreDistinctPlaces}
 use Rattle.base.specs.steps.ExactNow.{IsExplainedNow}
 use Rattle.base.specs.steps.Refusals as refusal
-use Rattle.base.specs.steps.Runs.{reply_of, progress_reply}
+use Rattle.base.specs.steps.Runs.{is_log_step, progress_reply, reply_of}
 use Rattle.base.specs.steps.Shown.{Shown, SyncPlan}
 use Rattle.base.specs.steps.BuiltSteps as as_built
 use Rattle.base.specs.steps.BuiltSteps.{is_shape_built}
@@ -36,7 +36,7 @@ use Rattle.base.specs.steps.Steps.SyncProgress.{More, Synced}
 use Rattle.base.specs.stored.Stored.{Held, IsHeld, IsStored, IsSyncing, NewTree, RunsAs, is_turn}
 use Rattle.base.specs.tree.Places.{Place}
 use Rattle.base.specs.tree.Syncs.{is_rename}
-use Rattle.base.proofs.crash.OwnDisks.{configs_weaker, none_from}
+use Rattle.base.proofs.crash.OwnDisks.{configs_weaker}
 use Rattle.base.proofs.disk.Moments.{moments_grow}
 use Rattle.base.proofs.history.CommitOrder.{ok-none}
 use Rattle.base.proofs.steps.StepEffects.{none_syncs}
@@ -46,8 +46,8 @@ use Rattle.sync.specs.Runs.{call_count}
 use Rattle.pool_tables.specs.Told.{made_by}
 use Rattle.pool_core.specs.Holds.{IsStepOver}
 use Rattle.pool_tables.specs.SyncPhases.{TriesNext}
-use Rattle.pool_core.specs.KeptSafe.{IsDiskKept, IsKeptSafe, IsSafeStep, IsSyncOnDisk, LeavesOwn, OnDisk}
-use Rattle.pool_core.proofs.crash.HeldLogs.{header_next, held_as, none_logged}
+use Rattle.pool_core.specs.KeptSafe.{AreSyncTrees, IsDiskKept, IsKeptSafe, IsSafeStep, IsSyncOnDisk, LeavesOwn, OnDisk}
+use Rattle.pool_core.proofs.crash.HeldLogs.{held_as}
 use Rattle.pool_core.proofs.crash.OwnMoments.{were_left}
 use Rattle.pool_core.proofs.crash.SafeCalls.{call_kept, call_own, call_safe, last_call_kept}
 use Rattle.pool_core.proofs.crash.SafeMoments.{IsSafeMoment, idle_rest, kept_laid, kept_safe, stood_own, stood_safe, were_safe}
@@ -85,16 +85,13 @@ module _ (s : Shown) (p : Past) (explained : IsExplainedNow s p) where
       configs_weaker size t ws guid top top (IsSyncConfig size s p) (λ above content. ⊥) (omega arith) (λ group content config. absurd (no_sync_config size group content config)) known
 
 -- What a step leaves that makes no device call, and neither starts a sync nor ends one.
-module _ (s t : Shown) (p q : Past) (none : s.log.kept ≡ []) (explained : IsExplainedNow s p) (same : SameSyncing s t p q) where
+module _ (s t : Shown) (p q : Past) (explained : IsExplainedNow s p) (same : SameSyncing s t p q) where
   abbrev of_synced : SameSynced s t p q
   of_synced = same.synced
 
-  still : t.log.kept ≡ []
-  still = of_synced.kept ∙ none
-
   -- what is known of the log of a view
-  held_stays : (size flushed : ℕ) (m : Moment) (v : View) → v.logged ≡ [] → IsLogHeld size p.created flushed s.suspended m v → IsLogHeld size q.created flushed t.suspended m v
-  held_stays size flushed m v empty held = held_as size p.created q.created flushed flushed s.suspended t.suspended m v empty of_synced.created held
+  held_stays : (size flushed : ℕ) (m : Moment) (v : View) → IsLogHeld size p.created flushed s.suspended m v → IsLogHeld size q.created flushed t.suspended m v
+  held_stays size flushed m v held = held_as size p.created q.created flushed s.suspended t.suspended m v of_synced.created of_synced.suspended held
 
   -- the disk of a pool without a sync
   pool_stays : (size : ℕ) (m : Moment) → s.line.syncing ≡ None → IsPoolDisk size m s p → IsPoolDisk size m t q
@@ -109,8 +106,8 @@ module _ (s t : Shown) (p q : Past) (none : s.log.kept ≡ []) (explained : IsEx
           v = rest.v;
           flushed = rest.flushed;
           rest = subst (λ (c : ℕ). IsAtRest size c rest.flushed m rest.v) (sym of_synced.created) rest.rest;
-          is = synced_view s t p q none still rest.flushed rest.v of_synced rest.is;
-          held = held_stays size rest.flushed m rest.v (none_logged rest.flushed rest.v s p s.line.synced s.root (header_now s.log) none rest.is) rest.held;
+          is = synced_view s t p q rest.flushed rest.v of_synced rest.is;
+          held = held_stays size rest.flushed m rest.v rest.held;
         });
       }
 
@@ -129,12 +126,13 @@ module _ (s t : Shown) (p q : Past) (none : s.log.kept ≡ []) (explained : IsEx
         views = x.views;
         created = x.created ∙ sym of_synced.created;
         way = x.way;
-        old_is = synced_view s t p q none still x.views.flushed x.views.old of_synced x.old_is;
-        new_is = syncing_view s t p q none still x.views.new_flushed x.views.new x.group x.plan later.0 same x.syncing later.2 later.3 x.new_is;
-        old_held = held_stays run.geometry x.views.flushed disk.now x.views.old (none_logged x.views.flushed x.views.old s p s.line.synced s.root (header_now s.log) none x.old_is) x.old_held;
-        new_held = held_stays run.geometry x.views.new_flushed disk.now x.views.new (none_logged x.views.new_flushed x.views.new s p x.group x.plan.root x.plan.header none x.new_is) x.new_held;
+        old_is = synced_view s t p q x.views.flushed x.views.old of_synced x.old_is;
+        new_is = syncing_view s t p q x.views.new_flushed x.views.new x.group x.plan later.0 same x.syncing later.2 x.new_is;
+        old_held = held_stays run.geometry x.views.flushed disk.now x.views.old x.old_held;
+        new_held = held_stays run.geometry x.views.new_flushed disk.now x.views.new x.new_held;
         old_room = x.old_room;
         new_room = x.new_room;
+        trees = subst (λ (taken : List ℕ). AreSyncTrees x.base run x.views taken) (sym later.2.taken) x.trees;
         bytes = subst (λ (c : ℕ). HasFairBytes run.geometry c disk.now) (sym of_synced.created) x.bytes;
         configs = configs_as (handed disk.now) run.geometry run.geometry p.created q.created s.guid t.guid s.line.synced t.line.synced refl of_synced.created of_synced.guid of_synced.synced x.configs;
       }
@@ -143,12 +141,12 @@ module _ (s t : Shown) (p q : Past) (none : s.log.kept ≡ []) (explained : IsEx
   disk_stays None disk (idle, kept) = (same.line ∙ idle, pool_stays (disk_size disk) disk.now idle kept)
   disk_stays (Some run) disk kept = sync_stays run disk kept
 
--- in a log without blocks the next one stands in the header of a running sync
-header_of_sync : (o : Option NewTree) (now : List ℕ) (s : Shown) (pointers : Place → Pointer) (p : Past) (plan : SyncPlan) → s.log.kept ≡ [] → RunsAs now s pointers o p → s.sync ≡ Some plan → plan.header ≡ s.log.next
-header_of_sync None now s pointers p plan empty none is = absurd (let no_way : None ≡ Some plan = sym none ∙ is in cc)
-header_of_sync (Some new) now s pointers p plan empty y is =
-    let same : plan ≡ y.plan = let both : Some plan ≡ Some y.plan = sym is ∙ y.running in cc in
-    ap (λ (x : SyncPlan). x.header) same ∙ header_next y.plan.header s.log empty y.header
+-- the header of a running sync is one of the log
+header_of_sync : (o : Option NewTree) (now : List ℕ) (s : Shown) (pointers : Place → Pointer) (p : Past) (plan : SyncPlan) → RunsAs now s pointers o p → s.sync ≡ Some plan → IsHeaderIn plan.header s.log
+header_of_sync None now s pointers p plan none is = absurd (let no_way : None ≡ Some plan = sym none ∙ is in cc)
+header_of_sync (Some new) now s pointers p plan y is =
+    let same : y.plan ≡ plan = let both : Some plan ≡ Some y.plan = sym is ∙ y.running in cc in
+    subst (λ (x : SyncPlan). IsHeaderIn x.header s.log) same y.header
 
 -- what the start of a sync is, and its end
 start_of : (now : List ℕ) (moment : ℕ) (group : Group) (answer : Result ℕ PoolError) (old new : State) → reply.Syncing group ≡ reply_of (λ (g : ℕ). reply.Syncing (record { 0 = g })) answer
@@ -167,7 +165,7 @@ end_of group (Ok More) old new is h = absurd (let no_way : reply.Synced group �
 end_of group (Err e) old new is h = absurd (let no_way : reply.Synced group ≡ reply.Refused e = is in cc)
 
 started_same : (g : ℕ) (plan : SyncPlan) (s : State) → SameSynced s.shown (steps.state_after_start g plan s).shown s.past (steps.state_after_start g plan s).past
-started_same g plan s = record { guid = refl; import_is = refl; synced = refl; root = refl; log = refl; kept = refl; base = refl; created = refl; acknowledged = refl; entries = refl }
+started_same g plan s = record { guid = refl; import_is = refl; synced = refl; root = refl; log = refl; kept = refl; base = refl; created = refl; acknowledged = refl; entries = refl; grown = λ i e at. at; suspended = λ off. off }
 
 module _ (x : OnDisk) (safe : IsKeptSafe x) where
   abbrev s : Shown
@@ -177,16 +175,15 @@ module _ (x : OnDisk) (safe : IsKeptSafe x) where
   p = x.held.state.past
 
   -- a step that makes no call, and neither starts a sync nor ends one
-  pub still_safe : (st : declared_step.Step) (r : declared_reply.Reply) (h : Held) → h.now ≡ bytes_of x.disk.now → IsStepOver st r x.held h → is_turn r ≡ false → IsHeld h
+  pub still_safe : (st : declared_step.Step) (r : declared_reply.Reply) (h : Held) → h.now ≡ bytes_of x.disk.now → IsStepOver st r x.held h → is_turn r ≡ false → is_log_step st ≡ false → IsHeld h
       → IsSafeStep st r x (record x { held = h })
-  still_safe st r h same_bytes step off held =
-      let same : SameSyncing s h.state.shown p h.state.past = step_leaves (Unit {0}) x.held.now st r x.held.state h.state step off safe.held.explained in
+  still_safe st r h same_bytes step off no_log held =
+      let same : SameSyncing s h.state.shown p h.state.past = step_leaves (Unit {0}) x.held.now st r x.held.state h.state step off no_log safe.held.explained in
       let kept : IsKeptSafe (record x { held = h }) = record {
         held = held;
-        no_log = same.synced.kept ∙ safe.no_log;
         same_bytes = same_bytes;
         began = subst (λ (c : ℕ). c ≤ moments x.disk) (sym same.synced.created) safe.began;
-        kept = disk_stays s h.state.shown p h.state.past safe.no_log safe.held.explained same x.run x.disk safe.kept;
+        kept = disk_stays s h.state.shown p h.state.past safe.held.explained same x.run x.disk safe.kept;
       } in
       record { step = step; kept = kept; were = stood_safe x.disk p h.state.past same.synced.acknowledged (kept_safe (record x { held = h }) kept); own = stood_own (record x { held = h }) p same.synced.acknowledged kept }
 
@@ -206,9 +203,6 @@ module _ (x : OnDisk) (safe : IsKeptSafe x) where
     same : SameSynced s t p q
     same = subst (λ (u : State). SameSynced s u.shown p u.past) (sym begun.1.2) (started_same begun.1.0 begun.1.1 x.held.state)
 
-    empty : t.log.kept ≡ []
-    empty = same.kept ∙ safe.no_log
-
     stored : IsStored (bytes_of x.disk.now) t h.pointers q
     stored = subst (λ (l : List ℕ). IsStored l t h.pointers q) same_bytes held.kept.stored
 
@@ -224,11 +218,10 @@ module _ (x : OnDisk) (safe : IsKeptSafe x) where
     sync_kept : IsSyncOnDisk run x.disk t q
     sync_kept =
         let rest = idle_rest x.disk.now s p begun.0 run.geometry pool.laid in
-        started_kept x.disk t q h.pointers tree run stored syncing held.explained empty places run.sized (sym size) (slot syncing.group syncing.syncing) stages rest.flushed rest.v
+        started_kept x.disk t q h.pointers tree run stored syncing held.explained places run.sized (sym size) (slot syncing.group syncing.syncing) stages rest.flushed rest.v
         (subst (λ (c : ℕ). IsAtRest run.geometry c rest.flushed x.disk.now rest.v) (sym same.created) rest.rest)
-        (synced_view s t p q safe.no_log empty rest.flushed rest.v same rest.is)
-        (held_as run.geometry p.created q.created rest.flushed rest.flushed s.suspended t.suspended x.disk.now rest.v (none_logged rest.flushed rest.v s p s.line.synced s.root (header_now s.log) safe.no_log rest.is)
-        same.created rest.held)
+        (synced_view s t p q rest.flushed rest.v same rest.is)
+        (held_as run.geometry p.created q.created rest.flushed s.suspended t.suspended x.disk.now rest.v same.created same.suspended rest.held)
         (configs_as (handed x.disk.now) run.geometry run.geometry p.created q.created s.guid t.guid s.line.synced t.line.synced refl same.created same.guid same.synced
         (plain_configs s p safe.held.explained run.geometry p.created (handed x.disk.now) s.guid s.line.synced pool.configs))
         none left (subst (λ (c : ℕ). HasFairBytes run.geometry c x.disk.now) (sym same.created) pool.bytes)
@@ -237,7 +230,6 @@ module _ (x : OnDisk) (safe : IsKeptSafe x) where
     start_safe =
         let kept : IsKeptSafe (record { held = h; disk = x.disk; run = Some run }) = record {
           held = held;
-          no_log = empty;
           same_bytes = same_bytes;
           began = subst (λ (c : ℕ). c ≤ moments x.disk) (sym same.created) safe.began;
           kept = sync_kept;
@@ -245,15 +237,15 @@ module _ (x : OnDisk) (safe : IsKeptSafe x) where
         record { step = made; kept = kept; were = stood_safe x.disk p q same.acknowledged (kept_safe (record { held = h; disk = x.disk; run = Some run }) kept); own = stood_own (record { held = h; disk = x.disk; run = Some run }) p same.acknowledged kept }
 
   -- a call of a sync
-  module _ (h : Held) (after : Disk) (same_bytes : h.now ≡ bytes_of after.now) (run next : SyncRun) (is : x.run ≡ Some run) (tries : TriesNext run next x.disk after) (held : IsHeld h) where
+  module _ (h : Held) (after : Disk) (same_bytes : h.now ≡ bytes_of after.now) (run next : SyncRun) (is : x.run ≡ Some run) (tries : TriesNext s.suspended run next x.disk after) (held : IsHeld h) where
     before : IsSyncOnDisk run x.disk s p
     before = subst (λ (o : Option SyncRun). IsDiskKept o x.disk s p) is safe.kept
 
     each : EachMoment (IsSafeMoment (disk_size x.disk) p) x.disk after
-    each = call_safe run next x.disk after s p safe.began before tries safe.no_log safe.held.explained
+    each = call_safe run next x.disk after s p safe.began before tries safe.held.explained
 
     owns : EachMoment (LeavesOwn (disk_size x.disk) p s.guid) x.disk after
-    owns = call_own run next x.disk after s p safe.began before tries safe.no_log safe.held.explained
+    owns = call_own run next x.disk after s p safe.began before tries safe.held.explained
 
     later : moments x.disk ≤ moments after
     later = moments_grow (IsSafeMoment (disk_size x.disk) p) x.disk after each
@@ -262,16 +254,15 @@ module _ (x : OnDisk) (safe : IsKeptSafe x) where
     pub more_safe : (r : declared_reply.Reply) → IsStepOver step.SyncStep r x.held h → is_turn r ≡ false → h.state.past ≡ p → next.done < call_count next
         → IsSafeStep step.SyncStep r x (record { held = h; disk = after; run = Some next })
     more_safe r made off same_past left =
-        let same : SameSyncing s h.state.shown p h.state.past = step_leaves (Unit {0}) x.held.now step.SyncStep r x.held.state h.state made off safe.held.explained in
+        let same : SameSyncing s h.state.shown p h.state.past = step_leaves (Unit {0}) x.held.now step.SyncStep r x.held.state h.state made off refl safe.held.explained in
         let created : h.state.past.created ≡ p.created = same.synced.created in
         record {
           step = made;
           kept = record {
             held = held;
-            no_log = same.synced.kept ∙ safe.no_log;
             same_bytes = same_bytes;
             began = omega (arith, created, safe.began, later);
-            kept = call_kept run next x.disk after s p safe.began before tries h.state.shown h.state.past safe.no_log same left;
+            kept = call_kept run next x.disk after s p safe.began before tries h.state.shown h.state.past same left;
           };
           were = were_safe x.disk after p h.state.past p (λ k. record (same_past k) { acknowledged = p.acknowledged }) each;
           own = were_left x.disk after p h.state.past p s.guid h.state.shown.guid (λ k. record (same_past k) { acknowledged = p.acknowledged }) same.synced.guid owns;
@@ -282,19 +273,18 @@ module _ (x : OnDisk) (safe : IsKeptSafe x) where
         → IsSafeStep step.SyncStep (reply.Synced group) x (record { held = h; disk = after; run = None })
     last_safe group made all =
         let over = end_of group made.0 x.held.state h.state made.1 made.2 in
-        let header : over.1.header ≡ s.log.next = header_of_sync x.held.running x.held.now s x.held.pointers p over.1 safe.no_log safe.held.kept.sync over.3 in
+        let header : IsHeaderIn over.1.header s.log = header_of_sync x.held.running x.held.now s x.held.pointers p over.1 safe.held.kept.sync over.3 in
         let created : h.state.past.created ≡ p.created = ap (λ (u : State). u.past.created) over.4 in
         record {
           step = made;
           kept = record {
             held = held;
-            no_log = ap (λ (u : State). u.shown.log.kept) over.4 ∙ none_from over.1.header s.log safe.no_log;
             same_bytes = same_bytes;
             began = omega (arith, created, safe.began, later);
             kept = (
               ap (λ (u : State). u.shown.line.syncing) over.4,
               subst (λ (u : State). IsPoolDisk (disk_size after) after.now u.shown u.past) (sym over.4)
-                  (last_call_kept run next x.disk after s p safe.began before tries over.0 over.1 over.2 over.3 safe.no_log header safe.held.explained all),
+                  (last_call_kept run next x.disk after s p safe.began before tries over.0 over.1 over.2 over.3 header safe.held.explained all),
             );
           };
           were = were_safe x.disk after p h.state.past p (λ k. record (over.4 k).past { acknowledged = p.acknowledged }) each;

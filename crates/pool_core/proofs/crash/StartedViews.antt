@@ -1,22 +1,21 @@
 -- The start of a sync leads from the view of the synced group to that of its own: its blocks are those of a tree, apart
 -- from the one of before, and once they stand its tree does.
-use Rattle.std.proofs.Common.{◌≡◌, ◌∙◌, ◌⊎◌, inl, inr, ℕ, zero, suc, ◌+◌, ◌-◌, ◌*◌, ◌/◌, ◌<◌, ◌≤◌, All, true, false, List, [], ◌∷◌, length, map, Option, Some, None, refl, ap, sym, subst, arith, vec_len, nat_eq}
-use Rattle.std.specs.Prelude.{◌≢◌, IfSome, Ok, slice_get}
+use Rattle.std.proofs.Common.{◌≡◌, ◌∙◌, ◌⊎◌, inl, inr, ℕ, zero, suc, ◌+◌, ◌-◌, ◌*◌, ◌/◌, ◌<◌, ◌≤◌, All, true, false, List, [], ◌∷◌, drop, length, length-drop, map, Option, Some, None, refl, ap, sym, subst, arith, vec_len, nat_eq}
+use Rattle.std.specs.Prelude.{◌≢◌, IfSome, Ok, nat_le, slice_get}
 use Rattle.std.specs.FinMap as finite
 use Rattle.std.specs.List.{AllByRecursion, IsDistinct}
 use Rattle.std.proofs.lemmas.Bool.{ne_eqb}
 use Rattle.std.proofs.lemmas.Option.{slice_get_within}
 use Rattle.base.specs.declared.pointer.Pointer.{Pointer}
-use Rattle.base.specs.crash.Layout.{header_now}
+use Rattle.base.specs.crash.Layout.{header_now, kept_from}
 use Rattle.base.specs.crash.LogRoom.{HasImportRoom}
 use Rattle.base.specs.crash.LogRule.{IsLogHeld}
 use Rattle.base.specs.crash.Own.{IsAtRest}
 use Rattle.base.specs.crash.PoolViews.{IsViewOf}
-use Rattle.base.specs.crash.Views.{AreConfigsUpTo, IsConfigContent, IsView, Logged, View, view_frame}
+use Rattle.base.specs.crash.Views.{AreConfigsUpTo, AreLinked, IsConfigContent, IsView, Logged, View, view_frame}
 use Rattle.base.specs.disk.Disk.{Disk, bytes_of, handed}
 use Rattle.base.specs.disk.Fairness.{HasFairBytes}
 use Rattle.base.specs.formats.Blocks.{Frame}
-use Rattle.base.specs.formats.Chain.{Header}
 use Rattle.base.specs.formats.Fields.{no_pointer, number_at, part}
 use Rattle.base.specs.formats.Geometry.{IsBlockAddress, IsGeometry, block_address, block_area, block_count, block_size, slot_of}
 use Rattle.base.specs.formats.Limits.{object_count}
@@ -24,7 +23,7 @@ use Rattle.base.specs.formats.Versions.{written_version}
 use Rattle.base.specs.history.Contents.{Contents}
 use Rattle.base.specs.history.History.{entries_up_to, replay}
 use Rattle.base.specs.history.Past.{Past}
-use Rattle.base.specs.steps.Exact.{AreDistinctPlaces}
+use Rattle.base.specs.steps.Exact.{AreDistinctPlaces, IsInLog}
 use Rattle.base.specs.steps.ExactNow.{IsExplainedNow}
 use Rattle.base.specs.steps.Locks.{is_in}
 use Rattle.base.specs.steps.Logs.{KeptBlock}
@@ -34,11 +33,9 @@ use Rattle.base.specs.tree.PlacedTrees.{HoldsTree}
 use Rattle.base.specs.tree.Places.{IsInTree, IsPlace, Place, kind_of}
 use Rattle.base.specs.tree.Places.Place.{Data, Directory, Indirect, Root}
 use Rattle.base.specs.tree.PlannedTrees.{NewBlock}
-use Rattle.base.proofs.common.KeptLists.{All-each, none_at}
-use Rattle.base.proofs.crash.LogStarts.{below_of_group}
+use Rattle.base.proofs.common.KeptLists.{All-each, at_filter, at_within}
+use Rattle.base.proofs.crash.LogStarts.{IsCutAt, cut_at, drop-at}
 use Rattle.base.proofs.crash.NewViews.{configs_of_old, logs_of_group}
-use Rattle.base.proofs.crash.OwnDisks.{none_from}
-use Rattle.base.proofs.crash.PoolRoom.{open_above, synced_room, syncing_room}
 use Rattle.base.proofs.disk.Put.{part_same}
 use Rattle.base.proofs.disk.WrittenBlocks.{blocks-apart, planned-written, put_blocks, new-stand}
 use Rattle.base.proofs.formats.Geometry.{IsGeometry-IsSize}
@@ -58,9 +55,9 @@ use Rattle.sync.proofs.UnderWay.{begins_at_rest}
 use Rattle.tree_plans.specs.declared.planner.PlannedBlock.{PlannedBlock}
 use Rattle.tree_plans.specs.Plans.{new_block}
 use Rattle.pool_tables.specs.Told.{made_by}
-use Rattle.pool_core.specs.KeptSafe.{IsSyncOnDisk}
-use Rattle.pool_core.proofs.crash.HeldLogs.{header_next, held_without, none_counts, none_logged}
-use Rattle.pool_core.proofs.crash.ViewsKept.{header-none, no_block}
+use Rattle.pool_core.specs.KeptSafe.{AreSyncTrees, IsOfTree, IsSyncOnDisk}
+use Rattle.pool_core.proofs.crash.HeldLogs.{held_from}
+use Rattle.pool_core.proofs.crash.ViewRooms.{synced_has_room, syncing_has_room}
 
 -- blocks that are written stand
 pub written_stand : (base image : List ℕ) (size : ℕ) (blocks : List PlannedBlock) (n : ℕ) → length blocks ≤ n → BlocksWritten base size blocks n image
@@ -184,7 +181,7 @@ module _ (now : List ℕ) (s : Shown) (p : Past) (pointers : Place → Pointer) 
 
 -- A sync without label stages that has made no call yet, on a disk at rest on the view of the synced group.
 module _ (disk : Disk) (s : Shown) (p : Past) (pointers tree : Place → Pointer) (run : SyncRun) (x : IsStored (bytes_of disk.now) s pointers p) (y : IsSyncing (bytes_of disk.now) s pointers (made_by tree run) p)
-    (explained : IsExplainedNow s p) (none : s.log.kept ≡ []) (places : AreDistinctPlaces (bytes_of disk.now) s) (sized : IsGeometry run.geometry) (long : length (bytes_of disk.now) ≡ run.geometry) (slot : run.slot ≡ slot_of y.group) (stages : run.stages ≡ None)
+    (explained : IsExplainedNow s p) (places : AreDistinctPlaces (bytes_of disk.now) s) (sized : IsGeometry run.geometry) (long : length (bytes_of disk.now) ≡ run.geometry) (slot : run.slot ≡ slot_of y.group) (stages : run.stages ≡ None)
     (flushed : ℕ) (old : View) (rest : IsAtRest run.geometry p.created flushed disk.now old) (is : IsViewOf flushed old s p s.line.synced s.root (header_now s.log))
     (held : IsLogHeld run.geometry p.created flushed s.suspended disk.now old)
     (configs : AreConfigsUpTo run.geometry p.created (handed disk.now) s.guid s.line.synced (λ above content. ⊥)) where
@@ -197,6 +194,10 @@ module _ (disk : Disk) (s : Shown) (p : Past) (pointers tree : Place → Pointer
   next : y.group ≡ s.line.synced + 1
   next = next_group now s p pointers (made_by tree run) x y explained geometry
 
+  -- how many blocks of the log lie before the header of the sync
+  cut : IsCutAt run.geometry flushed old s p y.plan.header
+  cut = cut_at run.geometry flushed old s p s.line.synced s.root y.plan.header explained.exact.log.numbered rest.laid.view is y.header
+
   abbrev new : View
   new = record {
     u = uberblock_of s y.group y.plan;
@@ -206,7 +207,7 @@ module _ (disk : Disk) (s : Shown) (p : Past) (pointers tree : Place → Pointer
     config = old.config;
     pointers = tree;
     synced = y.plan.contents;
-    logged = [];
+    logged = drop cut.before old.logged;
   }
 
   abbrev views : SyncViews
@@ -216,7 +217,7 @@ module _ (disk : Disk) (s : Shown) (p : Past) (pointers tree : Place → Pointer
     old = old;
     flushed = flushed;
     new = new;
-    new_flushed = 0;
+    new_flushed = flushed - cut.before;
   }
 
   replayed : replay (entries_up_to y.group p.entries) p.base ≡ Ok y.plan.contents
@@ -230,18 +231,17 @@ module _ (disk : Disk) (s : Shown) (p : Past) (pointers tree : Place → Pointer
     not_above = omega (arith, rest.laid.view.not_above, is.group_is, next);
     name = name-up_to s p explained y.group y.plan.contents replayed ∙ sym (name-up_to s p explained s.line.synced old.synced is.replayed) ∙ rest.laid.view.name;
     root = y.planned.root;
-    linked = tt;
+    linked = subst (λ (guid : ℕ). AreLinked guid (block_count run.geometry) s.import_number y.plan.header (drop cut.before old.logged)) is.guid
+        (subst (λ (chain : ℕ). AreLinked old.u.guid (block_count run.geometry) chain y.plan.header (drop cut.before old.logged)) is.import_is cut.linked);
   }
 
-  no_logged : old.logged ≡ []
-  no_logged = none_logged flushed old s p s.line.synced s.root (header_now s.log) none is
-
-  -- the header is that of the next log block, with which the old view's log would begin, too
-  header_is : y.plan.header ≡ s.log.next
-  header_is = header_next y.plan.header s.log none y.header
-
-  same_number : y.plan.header.number ≡ old.u.log_number
-  same_number = ap (λ (h : Header). h.number) (header_is ∙ sym (header-none s.log none) ∙ sym is.header_is)
+  -- a log block of the old view is one of the kept log
+  logged_in : (j : ℕ) (l : Logged) → slice_get old.logged j ≡ Some l → IsInLog s.log l.block.address
+  logged_in j l at =
+      let within : j < length old.logged = slice_get_within old.logged j l at in
+      let k = at_within (kept_from (header_now s.log) s.log) j (omega (arith, within, is.as_many)) in
+      let i = at_filter (λ (b : KeptBlock). nat_le (header_now s.log).number b.number) s.log.kept j k.0 k.1 in
+      inr (i.0, k.0, i.1, sym (is.blocks j k.0 l k.1 at).address)
 
   counted : s.blocks ≡ block_count run.geometry
   counted = x.blocks ∙ ap (λ (n : ℕ). block_count n) long
@@ -257,7 +257,7 @@ module _ (disk : Disk) (s : Shown) (p : Past) (pointers tree : Place → Pointer
         not_log = y.not_log i (new_block b) stands;
         not_in_tree = not_in_tree now s p pointers (made_by tree run) x y explained geometry (view_frame run.geometry old) old.pointers old.synced rest.laid.firm.tree.holds
             (rest.laid.view.root ∙ is.root_is) i (new_block b) stands;
-        not_logged = λ j l there. absurd (let no_way : None ≡ Some l = ap (λ (ls : List Logged). slice_get ls j) (sym no_logged) ∙ there in cc);
+        not_logged = λ j l there. y.log_apart l.block.address (logged_in j l there) i (new_block b) stands;
       })
 
   makes_tree : (image : List ℕ) → length image ≡ length now → BlocksWritten now run.geometry run.blocks.items (vec_len run.blocks) image
@@ -282,7 +282,10 @@ module _ (disk : Disk) (s : Shown) (p : Past) (pointers tree : Place → Pointer
     config = subst (λ (o : Option LabelStages). HasConfigOf o views) (sym stages) refl;
     blocks = spare;
     tree = makes_tree;
-    log = (omega arith, λ i l at. absurd (none_at i l at));
+    log = (
+      (let fixed : flushed ≤ length old.logged = rest.laid.firm.log.0 in let long = length-drop cut.before old.logged in omega (arith, fixed, long)),
+      λ i l at. (cut.before + i, drop-at cut.before old.logged i l at, λ below. omega (arith, below)),
+    );
   }
 
   distinct : HasDistinctBlocks run
@@ -295,12 +298,10 @@ module _ (disk : Disk) (s : Shown) (p : Past) (pointers tree : Place → Pointer
     configs = configs_of_old run.geometry p.created (handed disk.now) old new (sym is.guid) refl refl
         (subst (λ (g : ℕ). AreConfigsUpTo run.geometry p.created (handed disk.now) g old.u.group (λ above content. ⊥)) (sym is.guid)
         (subst (λ (g : ℕ). AreConfigsUpTo run.geometry p.created (handed disk.now) s.guid g (λ above content. ⊥)) (sym is.group_is) configs)) rest.laid.configs;
-    logs = logs_of_group run.geometry p.created 0 (handed disk.now) old new rest.laid.view (sym is.guid) (sym is.import_is)
-        (omega (arith, same_number)) (omega arith)
-        (sym no_logged) rest.laid.logs;
+    logs = logs_of_group run.geometry p.created cut.before (handed disk.now) old new rest.laid.view (sym is.guid) (sym is.import_is) cut.number_is cut.short refl rest.laid.logs;
   }
 
-  new_is : IsViewOf 0 new s p y.group y.plan.root y.plan.header
+  new_is : IsViewOf (flushed - cut.before) new s p y.group y.plan.root y.plan.header
   new_is = record {
     guid = refl;
     group_is = refl;
@@ -308,27 +309,39 @@ module _ (disk : Disk) (s : Shown) (p : Past) (pointers tree : Place → Pointer
     import_is = refl;
     header_is = refl;
     replayed = replayed;
-    as_many = ap (λ (ks : List KeptBlock). length ks) (sym (none_from y.plan.header s.log none));
-    blocks = λ i k l at there. absurd (no_block y.plan.header s.log i k none at);
-    flushed_are = λ i k at flushed. absurd (no_block y.plan.header s.log i k none at);
-    goes_on = header_is;
+    as_many = cut.as_many;
+    blocks = cut.blocks;
+    flushed_are = λ i k at marked. let low : cut.before + i < flushed = cut.flushed_are i k at marked in omega (arith, low);
+    goes_on = cut.goes_on;
   }
 
-  new_held : IsLogHeld run.geometry p.created 0 s.suspended disk.now new
-  new_held = held_without run.geometry p.created disk.now new refl 0 s.suspended
-      (below_of_group run.geometry p.created 0 old new (sym is.guid) (sym is.import_is) (omega (arith, same_number)) (omega arith) (sym no_logged) (handed disk.now) 0 (omega arith)
-      (none_counts run.geometry p.created disk.now old no_logged flushed s.suspended held))
+  new_held : IsLogHeld run.geometry p.created (flushed - cut.before) s.suspended disk.now new
+  new_held = held_from run.geometry p.created cut.before flushed old new (sym is.guid) (sym is.import_is) cut.number_is cut.short refl s.suspended disk.now held
+
+  -- each block of the new tree is one of the old one or taken, and so is each that is written
+  trees : AreSyncTrees now run views y.plan.taken
+  trees = record {
+    old = rest.laid.firm.tree.holds;
+    new = λ place in_range some. elim (kept_or_taken now s p pointers (made_by tree run) x y explained geometry place in_range some) as (λ _. IsOfTree old (tree place).address ⊎ (is_in (tree place).address y.plan.taken ≡ true)) [
+      | inl there ↦
+          let t = in-tree now (view_frame run.geometry old) old.pointers old.synced.objects rest.laid.firm.tree.holds (tree place).address
+          (subst (λ (r : Pointer). IsInTree now r (tree place).address) (sym (rest.laid.view.root ∙ is.root_is)) there) in
+          inl (t.0, t.1, t.3, t.2)
+      | inr taken ↦ inr (sym (ap (λ (o : Option SyncPlan). is_in (tree place).address (taken_of o)) y.running) ∙ taken)
+    ];
+    blocks = All-each (λ (b : PlannedBlock). is_in (block_address b.index) y.plan.taken ≡ true) run.blocks.items (λ i b at.
+        at-in (block_address b.index) y.plan.taken
+        (i, ap (λ (l : List ℕ). slice_get l i) (sym y.planned.taken) ∙ map-at (λ (c : NewBlock). c.address) (map new_block run.blocks.items) i (new_block b) (map-at new_block run.blocks.items i b at)));
+  }
 
   -- both views have room for an import
   old_room : HasImportRoom (block_count run.geometry) old
   old_room = subst (λ (n : ℕ). HasImportRoom n old) counted
-      (synced_room s p explained.exact.log explained.exact.sync explained.exact.charges explained.exact.blocks explained.exact.groups explained.exact.isolated explained.built now x.free places flushed old (view_frame run.geometry old)
-      rest.laid.firm.tree.holds (rest.laid.view.root ∙ is.root_is) (open_above s.line explained.exact.groups.line) is)
+      (synced_has_room s p explained now x.free places flushed old (view_frame run.geometry old) rest.laid.firm.tree.holds (rest.laid.view.root ∙ is.root_is) is)
 
   new_room : HasImportRoom (block_count run.geometry) new
   new_room = subst (λ (n : ℕ). HasImportRoom n new) counted
-      (syncing_room s p explained.exact.log explained.exact.sync explained.exact.charges explained.exact.blocks explained.exact.groups explained.exact.isolated explained.built now x.free places 0 new y.group y.plan y.syncing y.running
-      (kept_or_taken now s p pointers (made_by tree run) x y explained geometry) new_is)
+      (syncing_has_room s p explained now x.free places (flushed - cut.before) new y.group y.plan y.syncing y.running (kept_or_taken now s p pointers (made_by tree run) x y explained geometry) new_is)
 
   -- So the disk is kept while the sync runs.
   pub started_kept : run.done ≡ 0 → run.done < call_count run → HasFairBytes run.geometry p.created disk.now → IsSyncOnDisk run disk s p
@@ -349,6 +362,7 @@ module _ (disk : Disk) (s : Shown) (p : Past) (pointers tree : Place → Pointer
     new_held = new_held;
     old_room = old_room;
     new_room = new_room;
+    trees = trees;
     bytes = bytes;
     configs = configs;
   }

@@ -1,34 +1,37 @@
 -- Views of a pool stay those of its groups while steps go on.
-use Rattle.std.proofs.Common.{◌≡◌, ◌∙◌, inl, inr, ℕ, false, List, [], length, Some, None, refl, ap, sym, subst}
-use Rattle.std.specs.Prelude.{slice_get, unwrap_or, option_map, ◌==◌, ◌-◌}
+use Rattle.std.proofs.Common.{◌≡◌, ◌∙◌, inl, inr, ℕ, false, List, filter, length, Some, refl, ap, sym, subst}
+use Rattle.std.specs.Prelude.{slice_get, unwrap_or, option_map, nat_le, ◌==◌, ◌-◌}
 use Rattle.std.proofs.lemmas.Bool.{false≢true}
 use Rattle.base.specs.declared.operation.Op.{Op}
 use Rattle.base.specs.declared.pointer.Pointer.{Pointer}
 use Rattle.base.specs.declared.step.Step as declared_step
 use Rattle.base.specs.declared.step.Reply as declared_reply
-use Rattle.base.specs.crash.Layout.{header_now, kept_from}
+use Rattle.base.specs.crash.Layout.{IsBlockOf, header_now, kept_from}
 use Rattle.base.specs.crash.PoolViews.{IsViewOf}
 use Rattle.base.specs.crash.Views.{AreConfigsUpTo, View}
 use Rattle.base.specs.disk.Disk.{Write}
-use Rattle.base.specs.formats.Chain.{Header}
+use Rattle.base.specs.formats.Chain.{Header, LogPiece}
 use Rattle.base.specs.history.Contents.{Contents}
 use Rattle.base.specs.history.History.{Entry, replay, entries_up_to}
 use Rattle.base.specs.history.Past.{Past}
 use Rattle.base.specs.steps.Effects.{Effect, MayAddEntry, MayHave, is_logging, is_turning, state_after}
-use Rattle.base.specs.steps.Effects.Effect.{AddsEntry, PlansSync, CountsStep, EndsSync, WritesLog, FlushesLog}
+use Rattle.base.specs.steps.Effects.Effect.{AddsEntry, PlansSync, CountsStep, EndsSync, Suspends, WritesLog, FlushesLog}
 use Rattle.base.specs.steps.ExactNow.{IsExplainedNow}
 use Rattle.base.specs.steps.Groups.{Admission, open_transactions}
 use Rattle.base.specs.steps.Logs.{KeptBlock, Log, header_at}
-use Rattle.base.specs.steps.Runs.{Step}
+use Rattle.base.specs.steps.Runs.{Step, is_log_step}
 use Rattle.base.specs.steps.Shown.{Shown, SyncPlan}
 use Rattle.base.specs.steps.Steps as steps
 use Rattle.base.specs.steps.Steps.{State}
 use Rattle.base.specs.stored.Stored.{is_turn}
-use Rattle.base.proofs.common.KeptLists.{Some-injective, found_at}
-use Rattle.base.proofs.crash.OwnDisks.{none_from}
+use Rattle.base.proofs.common.KeptLists.{Some-injective, at_old, found_at}
 use Rattle.base.proofs.history.Cuts.{up_to_push}
 use Rattle.base.proofs.steps.KeptGroups.{held_above, held_above_sync}
 use Rattle.base.proofs.steps.StepEffects.{StepDoes, step_does}
+
+-- each entry of the one history is one of the other, at the same place
+abbrev pub Grows : List Entry → List Entry → Type 0
+Grows before after = (i : ℕ) (e : Entry) → slice_get before i ≡ Some e → slice_get after i ≡ Some e
 
 -- what the view of the synced group rests on is as before
 pub record SameSynced (s t : Shown) (p q : Past) : Type 0 where
@@ -42,50 +45,71 @@ pub record SameSynced (s t : Shown) (p q : Past) : Type 0 where
   pub created : q.created ≡ p.created
   pub acknowledged : q.acknowledged ≡ p.acknowledged
   pub entries : entries_up_to s.line.synced q.entries ≡ entries_up_to s.line.synced p.entries
+  -- and each entry that was there is
+  pub grown : Grows p.entries q.entries
+  -- a suspended pool stays so
+  pub suspended : t.suspended ≡ false → s.suspended ≡ false
+
+-- but for the steps that are left a plan is the same
+pub record SamePlan (plan later : SyncPlan) : Type 0 where
+  pub root : later.root ≡ plan.root
+  pub header : later.header ≡ plan.header
+  pub taken : later.taken ≡ plan.taken
 
 -- and so is what the view of the running sync's group rests on
 pub record SameSyncing (s t : Shown) (p q : Past) : Type 0 where
   pub synced : SameSynced s t p q
   pub line : t.line.syncing ≡ s.line.syncing
-  pub plans : (plan : SyncPlan) → s.sync ≡ Some plan → (later : SyncPlan) × (t.sync ≡ Some later) × (later.root ≡ plan.root) × (later.header ≡ plan.header)
+  pub plans : (plan : SyncPlan) → s.sync ≡ Some plan → (later : SyncPlan) × (t.sync ≡ Some later) × SamePlan plan later
   pub entries : (group : ℕ) → s.line.syncing ≡ Some group → entries_up_to group q.entries ≡ entries_up_to group p.entries
 
--- where no log block is kept, none is from a header on
-pub no_block : (header : Header) (log : Log) (i : ℕ) (k : KeptBlock) → log.kept ≡ [] → slice_get (kept_from header log) i ≡ Some k → ⊥
-no_block header log i k none at = let no_way : None ≡ Some k = ap (λ (ks : List KeptBlock). slice_get ks i) (sym (none_from header log none)) ∙ at in cc
+-- the log begins as before
+pub header_same : (log other : Log) → other.kept ≡ log.kept → other.next ≡ log.next → header_now other ≡ header_now log
+header_same log other kept next = λ k. unwrap_or (option_map header_at (slice_get (kept k) 0)) (next k)
 
--- a log without blocks begins with its next one
-pub header-none : (log : Log) → log.kept ≡ [] → header_now log ≡ log.next
-header-none log none = ap (λ (ks : List KeptBlock). unwrap_or (option_map header_at (slice_get ks 0)) log.next) none
+-- a kept block has what is noted of its records, also in a history that went on
+block_grown : (before after : List Entry) (k : KeptBlock) (b : LogPiece) → Grows before after → IsBlockOf before k b → IsBlockOf after k b
+block_grown before after k b grows is = record {
+  address = is.address;
+  noted = is.noted;
+  records = λ i c r at_c at_r. let of = is.records i c r at_c at_r in (of.0, (of.1.0, grows c.ordinal of.1.0 of.1.1, of.1.2, of.1.3));
+}
 
--- A view of a group is that of a group of another state, where no log block is kept and what it says is as before.
-pub view_as : (flushed : ℕ) (v : View) (s t : Shown) (p q : Past) (group other : ℕ) (root under : Pointer) (header first : Header) → s.log.kept ≡ [] → t.log.kept ≡ [] → t.log.next ≡ s.log.next → t.guid ≡ s.guid → t.import_number ≡ s.import_number
-    → other ≡ group → under ≡ root → first ≡ header → replay (entries_up_to other q.entries) q.base ≡ replay (entries_up_to group p.entries) p.base
+-- A view of a group is that of a group of another state, where what it says is as before, and so is the kept log.
+pub view_as : (flushed : ℕ) (v : View) (s t : Shown) (p q : Past) (group other : ℕ) (root under : Pointer) (header first : Header) → t.log.kept ≡ s.log.kept → t.log.next ≡ s.log.next → Grows p.entries q.entries → t.guid ≡ s.guid
+    → t.import_number ≡ s.import_number → other ≡ group → under ≡ root → first ≡ header → replay (entries_up_to other q.entries) q.base ≡ replay (entries_up_to group p.entries) p.base
     → IsViewOf flushed v s p group root header → IsViewOf flushed v t q other under first
-view_as flushed v s t p q group other root under header first none still next guid import_is same_group same_root same_header replays is = record {
+view_as flushed v s t p q group other root under header first kept next grown guid import_is same_group same_root same_header replays is = record {
   guid = is.guid ∙ sym guid;
   group_is = is.group_is ∙ sym same_group;
   root_is = is.root_is ∙ sym same_root;
   import_is = is.import_is ∙ sym import_is;
   header_is = is.header_is ∙ sym same_header;
   replayed = replays ∙ is.replayed;
-  as_many = is.as_many ∙ ap (λ (ks : List KeptBlock). length ks) (none_from header s.log none ∙ sym (none_from first t.log still));
-  blocks = λ i k l at there. absurd (no_block first t.log i k still at);
-  flushed_are = λ i k at flushed. absurd (no_block first t.log i k still at);
+  as_many = is.as_many ∙ ap (λ (ks : List KeptBlock). length ks) (sym blocks);
+  blocks = λ i k l at there. block_grown p.entries q.entries k l.block grown (is.blocks i k l (at_before i k at) there);
+  flushed_are = λ i k at flushed. is.flushed_are i k (at_before i k at) flushed;
   goes_on = is.goes_on ∙ sym next;
 }
+  where
+    blocks : kept_from first t.log ≡ kept_from header s.log
+    blocks = λ k. filter (λ (b : KeptBlock). nat_le (same_header k).number b.number) (kept k)
 
-module _ (s t : Shown) (p q : Past) (none : s.log.kept ≡ []) (still : t.log.kept ≡ []) (flushed : ℕ) (v : View) where
+    at_before : (i : ℕ) (k : KeptBlock) → slice_get (kept_from first t.log) i ≡ Some k → slice_get (kept_from header s.log) i ≡ Some k
+    at_before i k at = subst (λ (ks : List KeptBlock). slice_get ks i ≡ Some k) blocks at
+
+module _ (s t : Shown) (p q : Past) (flushed : ℕ) (v : View) where
   -- the view of the synced group stays its view
   pub synced_view : SameSynced s t p q → IsViewOf flushed v s p s.line.synced s.root (header_now s.log) → IsViewOf flushed v t q t.line.synced t.root (header_now t.log)
-  synced_view same is = view_as flushed v s t p q s.line.synced t.line.synced s.root t.root (header_now s.log) (header_now t.log) none still same.log same.guid same.import_is same.synced same.root
-      (header-none t.log still ∙ same.log ∙ sym (header-none s.log none))
+  synced_view same is = view_as flushed v s t p q s.line.synced t.line.synced s.root t.root (header_now s.log) (header_now t.log) same.kept same.log same.grown same.guid same.import_is same.synced same.root
+      (header_same s.log t.log same.kept same.log)
       ((λ k. replay (entries_up_to (same.synced k) q.entries) (same.base k)) ∙ ap (λ (es : List Entry). replay es p.base) same.entries) is
 
   -- and that of the running sync's group its own
-  pub syncing_view : (group : ℕ) (plan later : SyncPlan) → SameSyncing s t p q → s.line.syncing ≡ Some group → later.root ≡ plan.root → later.header ≡ plan.header
+  pub syncing_view : (group : ℕ) (plan later : SyncPlan) → SameSyncing s t p q → s.line.syncing ≡ Some group → SamePlan plan later
       → IsViewOf flushed v s p group plan.root plan.header → IsViewOf flushed v t q group later.root later.header
-  syncing_view group plan later same syncing root header is = view_as flushed v s t p q group group plan.root later.root plan.header later.header none still same.synced.log same.synced.guid same.synced.import_is refl root header
+  syncing_view group plan later same syncing planned is = view_as flushed v s t p q group group plan.root later.root plan.header later.header same.synced.kept same.synced.log same.synced.grown same.synced.guid same.synced.import_is
+      refl planned.root planned.header
       ((λ k. replay (entries_up_to group q.entries) (same.synced.base k)) ∙ ap (λ (es : List Entry). replay es p.base) (same.entries group syncing)) is
 
 -- no config above a group counts, told by the same numbers
@@ -98,16 +122,19 @@ configs_as ws size n t c guid g top u of_size of_created of_guid of_top known =
 abbrev Same : State → State → Type 0
 Same old new = SameSyncing old.shown new.shown old.past new.past
 
-same_plan : (plan : SyncPlan) → (later : SyncPlan) × (Some plan ≡ Some later) × (later.root ≡ plan.root) × (later.header ≡ plan.header)
-same_plan plan = (plan, refl, refl, refl)
+same_plan : (plan : SyncPlan) → (later : SyncPlan) × (Some plan ≡ Some later) × SamePlan plan later
+same_plan plan = (plan, refl, record { root = refl; header = refl; taken = refl })
 
 -- only the steps of the running sync are counted
 counted : (plan : SyncPlan) (s : State) → s.shown.sync ≡ Some plan → Same s (steps.state_after_step plan s)
 counted plan s is = record {
-  synced = record { guid = refl; import_is = refl; synced = refl; root = refl; log = refl; kept = refl; base = refl; created = refl; acknowledged = refl; entries = refl };
+  synced = record { guid = refl; import_is = refl; synced = refl; root = refl; log = refl; kept = refl; base = refl; created = refl; acknowledged = refl; entries = refl; grown = λ i e at. at; suspended = λ off. off };
   line = refl;
-  plans = λ other was. let same : plan ≡ other = Some-injective (sym is ∙ was) in
-      (record plan { steps_left = plan.steps_left - 1 }, refl, ap (λ (x : SyncPlan). x.root) same, ap (λ (x : SyncPlan). x.header) same);
+  plans = λ other was. let same : plan ≡ other = Some-injective (sym is ∙ was) in (
+    record plan { steps_left = plan.steps_left - 1 },
+    refl,
+    record { root = ap (λ (x : SyncPlan). x.root) same; header = ap (λ (x : SyncPlan). x.header) same; taken = ap (λ (x : SyncPlan). x.taken) same },
+  );
   entries = λ group syncing. refl;
 }
 
@@ -131,27 +158,24 @@ entered tx a ops contents s explained may =
         created = refl;
         acknowledged = refl;
         entries = up_to_push s.shown.line.synced s.past.entries e (held_above s.shown.line a.group line holds).0;
+        grown = λ i x at. at_old s.past.entries e x i at;
+        suspended = λ off. off;
       };
       line = refl;
-      plans = λ plan is. (plan, is, refl, refl);
+      plans = λ plan is. (plan, is, record { root = refl; header = refl; taken = refl });
       entries = λ group syncing. up_to_push group s.past.entries e (held_above_sync s.shown.line a.group group line holds syncing);
     }
 
--- an effect that neither starts nor ends a sync, and writes no log
-effect_leaves : (e : Effect) (s : State) → is_turning e ≡ false → is_logging e ≡ false → IsExplainedNow s.shown s.past → MayHave e s → Same s (state_after e s)
-effect_leaves (AddsEntry tx a ops contents) s off no_log explained may = entered tx a ops contents s explained may
-effect_leaves (CountsStep plan) s off no_log explained may = counted plan s may.0
-effect_leaves (PlansSync group plan) s turning no_log explained may = absurd (false≢true (sym turning))
-effect_leaves (EndsSync group plan) s turning no_log explained may = absurd (false≢true (sym turning))
-effect_leaves (WritesLog taken rest address) s off logging explained may = absurd (false≢true (sym logging))
-effect_leaves FlushesLog s off logging explained may = absurd (false≢true (sym logging))
-effect_leaves e s off no_log explained may = record {
-  synced = record { guid = refl; import_is = refl; synced = refl; root = refl; log = refl; kept = refl; base = refl; created = refl; acknowledged = refl; entries = refl };
+-- all stays
+still : (s : State) → Same s s
+still s = record {
+  synced = record { guid = refl; import_is = refl; synced = refl; root = refl; log = refl; kept = refl; base = refl; created = refl; acknowledged = refl; entries = refl; grown = λ i e at. at; suspended = λ off. off };
   line = refl;
-  plans = λ plan is. (plan, is, refl, refl);
+  plans = λ plan is. (plan, is, record { root = refl; header = refl; taken = refl });
   entries = λ group syncing. refl;
 }
 
+-- a pool that is suspended then
 suspended : (s t : State) → Same s t → Same s (steps.suspended_state t)
 suspended s t same = record {
   synced = record {
@@ -165,18 +189,40 @@ suspended s t same = record {
     created = same.synced.created;
     acknowledged = same.synced.acknowledged;
     entries = same.synced.entries;
+    grown = same.synced.grown;
+    suspended = λ off. absurd (false≢true (sym off));
   };
   line = same.line;
   plans = same.plans;
   entries = same.entries;
 }
 
--- Each step but the start of a sync and its end leaves what the views rest on.
-pub step_leaves : (keeps : Type 0) (bytes : List ℕ) (s : declared_step.Step) (r : declared_reply.Reply) (old new : State) → Step keeps bytes s r old new → is_turn r ≡ false → IsExplainedNow old.shown old.past
+-- where no more than that happens
+pub suspended_stays : (s : State) → Same s (steps.suspended_state s)
+suspended_stays s = suspended s s (still s)
+
+-- an effect that neither starts nor ends a sync, and writes no log
+effect_leaves : (e : Effect) (s : State) → is_turning e ≡ false → is_logging e ≡ false → IsExplainedNow s.shown s.past → MayHave e s → Same s (state_after e s)
+effect_leaves (AddsEntry tx a ops contents) s off no_log explained may = entered tx a ops contents s explained may
+effect_leaves (CountsStep plan) s off no_log explained may = counted plan s may.0
+effect_leaves (PlansSync group plan) s turning no_log explained may = absurd (false≢true (sym turning))
+effect_leaves (EndsSync group plan) s turning no_log explained may = absurd (false≢true (sym turning))
+effect_leaves (WritesLog taken rest address) s off logging explained may = absurd (false≢true (sym logging))
+effect_leaves FlushesLog s off logging explained may = absurd (false≢true (sym logging))
+effect_leaves Suspends s off no_log explained may = suspended s s (still s)
+effect_leaves e s off no_log explained may = record {
+  synced = record { guid = refl; import_is = refl; synced = refl; root = refl; log = refl; kept = refl; base = refl; created = refl; acknowledged = refl; entries = refl; grown = λ i e at. at; suspended = λ off. off };
+  line = refl;
+  plans = λ plan is. (plan, is, record { root = refl; header = refl; taken = refl });
+  entries = λ group syncing. refl;
+}
+
+-- Each step but the start of a sync, its end, and those of the log leaves what the views rest on.
+pub step_leaves : (keeps : Type 0) (bytes : List ℕ) (s : declared_step.Step) (r : declared_reply.Reply) (old new : State) → Step keeps bytes s r old new → is_turn r ≡ false → is_log_step s ≡ false → IsExplainedNow old.shown old.past
     → SameSyncing old.shown new.shown old.past new.past
-step_leaves keeps bytes s r old new h off explained =
+step_leaves keeps bytes s r old new h off no_log explained =
     let d : StepDoes s r old new = step_does keeps bytes s r old new h in
-    let same = effect_leaves d.has.effect old (d.turns ∙ off) d.no_log explained d.has.may in
+    let same = effect_leaves d.has.effect old (d.turns ∙ off) (d.logs no_log) explained d.has.may in
     elim (d.has.left) as (λ _. Same old new) [
       | inl is ↦ subst (Same old) (sym is) same
       | inr is ↦ subst (Same old) (sym is) (suspended old (state_after d.has.effect old) same)

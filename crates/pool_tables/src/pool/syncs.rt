@@ -178,7 +178,7 @@ impl PoolTables {
         ensures leads { IsTrue D.keeps_model → Leads (sync_step_reply result)
             (pool_told self.old (bytes_of (D.disk device.old).now))
             (pool_told self.new (bytes_of (D.disk device.new).now)) }
-        ensures phases { IsTrue D.keeps_model → StepsPhases result
+        ensures phases { IsTrue D.keeps_model → StepsPhases result self.old.suspended
             (run_in self.old) (run_in self.new) (D.disk device.old) (D.disk device.new) }
     {
         self.check_running()?;

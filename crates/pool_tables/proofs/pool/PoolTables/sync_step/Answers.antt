@@ -290,7 +290,7 @@ returns-in-Ok-clause-phases g c = λ keeps.
       ap (λ (o : Option RunningSync). option_map (λ (r : RunningSync). r.run) o) c.in-Some.is,
       ap (λ (o : Option RunningSync). option_map (λ (r : RunningSync). r.run) o) (c.finish_tree.ensures.sync ∙ c.take.ensures.after),
       told.counts.last.0 c.in-Ok-Last.field-0-is,
-      record { same = told.counts.same; written = told.written keeps; phases = told.phases keeps },
+      record { running = c.in_ok-check_running.ensures; same = told.counts.same; written = told.written keeps; phases = told.phases keeps },
     )
 
 pub returns-in-Ok-More-clause-phases : goal.returns-in-Ok-More-clause-phases
@@ -300,7 +300,7 @@ returns-in-Ok-More-clause-phases g c = λ keeps.
       c.next.new.self,
       ap (λ (o : Option RunningSync). option_map (λ (r : RunningSync). r.run) o) c.in-Some.is,
       refl,
-      record { same = told.counts.same; written = told.written keeps; phases = told.phases keeps },
+      record { running = c.in_ok-check_running.ensures; same = told.counts.same; written = told.written keeps; phases = told.phases keeps },
     )
 
 pub returns-in-Err-clause-phases : goal.returns-in-Err-clause-phases
@@ -311,7 +311,7 @@ returns-in-Err-clause-phases g c = λ keeps.
       c.next.new.self,
       ap (λ (o : Option RunningSync). option_map (λ (r : RunningSync). r.run) o) c.in-Some.is,
       refl,
-      record { same = told.counts.same; written = told.written keeps; phases = told.phases keeps },
+      record { running = c.in_ok-check_running.ensures; same = told.counts.same; written = told.written keeps; phases = told.phases keeps },
     )
 
 pub returns-in_err-check_running-clause-called : goal.returns-in_err-check_running-clause-called
