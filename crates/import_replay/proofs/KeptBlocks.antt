@@ -1,12 +1,15 @@
--- The blocks that an import writes are none of the image's tree or chain, so each block of these stays.
-use Rattle.std.proofs.Common.{◌≡◌, ◌≢◌, inl, inr, ℕ, ◌<◌, List, length, Some, refl, sym, ◌∙◌, ap, subst, arith}
+-- The blocks that an import writes are none of the image's tree or chain, so each block of these stays; and none of
+-- them is a log block.
+use Rattle.std.proofs.Common.{◌≡◌, ◌≢◌, inl, inr, ℕ, ◌<◌, Bool, true, false, List, length, Some, refl, sym, ◌∙◌, ap, subst, arith}
 use Rattle.std.specs.Prelude.{All, slice_get}
 use Rattle.std.specs.Ordering.{nat_cmp}
 use Rattle.std.specs.FinMap.{FinMap}
+use Rattle.std.proofs.lemmas.Bool.{false≢true}
+use Rattle.std.proofs.lemmas.Option.{slice_get_within}
 use Rattle.base.specs.crash.Mount.{IsChainOf, IsUsed, frame_of, header_of}
 use Rattle.base.specs.declared.pointer.Pointer.{Pointer}
 use Rattle.base.specs.formats.Chain.{LogPiece}
-use Rattle.base.specs.formats.Fields.{no_pointer, part}
+use Rattle.base.specs.formats.Fields.{no_pointer, number_at, part}
 use Rattle.base.specs.formats.Geometry.{IsBlockAddress, block_address, block_count, block_size}
 use Rattle.base.specs.formats.Uberblocks.{Uberblock}
 use Rattle.base.specs.tree.PlacedTrees.{IsPlaced}
@@ -22,9 +25,11 @@ use Rattle.object_maps.specs.declared.tree.Tree.{Tree}
 use Rattle.sync.specs.Made.{BlocksWritten}
 use Rattle.tree_plans.specs.declared.planner.PlannedBlock.{PlannedBlock}
 use Rattle.import_replay.specs.LabelSyncs.{AreApartIn}
-use Rattle.import_replay.specs.Mounts.{KeepsUsedBlocks}
+use Rattle.import_replay.specs.FreeBlocks.{is_planned}
+use Rattle.import_replay.specs.Mounts.{KeepsUsedBlocks, WritesNoLogBlock}
 use Rattle.import_replay.specs.NextPools.{IsUnusedBlock}
 use Rattle.import_replay.specs.ReadPools.{HoldsPool, frame_of_size}
+use Rattle.import_replay.proofs.FreeBlocks.{at_planned, planned_at}
 use Rattle.import_replay.proofs.UsedBlocks.{sound_in_area}
 
 -- what was read of an image, and blocks that are none of it
@@ -51,6 +56,31 @@ module _ (size : ℕ) (u : Uberblock) (name : List ℕ) (tree : Tree) (objects :
         | inl before ↦ omega (arith, before, from, here.1)
         | inr behind ↦ omega (arith, behind, to, here.0)
       ]))
+
+  -- a block that is not written stays
+  unwritten_stays : (k : ℕ) → k < block_count size → is_planned k blocks ≡ false → part now (block_address k) block_size ≡ part image (block_address k) block_size
+  unwritten_stays k low left = part_same now image (block_address k) block_size long (λ i from to.
+      written.others i (omega (arith, from)) (omega (arith, to, low)) (λ j b early at here.
+      let other : block_address b.index ≢ block_address k = λ same. false≢true (sym left ∙ at_planned k blocks j b at same) in
+      let index : b.index < block_count size = All-at (λ (x : PlannedBlock). x.index < block_count size) blocks j b apart.in_area at in
+      elim (blocks-apart (block_count size) (block_address b.index) (block_address k) (b.index, index, refl) (k, low, refl) other) as (λ _. ⊥) [
+        | inl before ↦ omega (arith, before, from, here.1)
+        | inr behind ↦ omega (arith, behind, to, here.0)
+      ]))
+
+  -- and one that is written is no log block
+  pub no_log_written : WritesNoLogBlock image now
+  no_log_written address is kind =
+      let (k, low, at) = subst (λ (n : ℕ). IsBlockAddress (block_count n) address) read.long is in
+      subst (λ (a : ℕ). part now a block_size ≡ part image a block_size) (sym at) (by_flag k low (is_planned k blocks) refl (subst (λ (a : ℕ). number_at (part now a block_size) 0 ≡ 6) at kind))
+    where
+      by_flag : (k : ℕ) → k < block_count size → (b : Bool) → is_planned k blocks ≡ b → number_at (part now (block_address k) block_size) 0 ≡ 6 → part now (block_address k) block_size ≡ part image (block_address k) block_size
+      by_flag k low true planned kind =
+          let (i, b, there, same) = planned_at k blocks planned in
+          let stands : part now (block_address b.index) block_size ≡ b.block = written.each i b (slice_get_within blocks i b there) there in
+          absurd ((All-at (IsUnusedBlock image u chain) blocks i b unused there).not_log
+          (ap (λ (l : List ℕ). number_at l 0) (sym stands) ∙ ap (λ (a : ℕ). number_at (part now a block_size) 0) same ∙ kind))
+      by_flag k low false left kind = unwritten_stays k low left
 
   pub used_kept : KeepsUsedBlocks image now
   used_kept v others active is_chain address used =

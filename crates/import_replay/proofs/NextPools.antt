@@ -67,7 +67,7 @@ use Rattle.import_replay.specs.declared.next_pool.NextPool.{NextPool}
 use Rattle.import_replay.specs.declared.next_pool.ReplayedPool.{ReplayedPool}
 use Rattle.import_replay.proofs.FreeBlocks.{at_planned, planned_at}
 use Rattle.import_replay.proofs.MountedPools.{import_of, mounts_read, named-of_tree, not_zero, stands_on, used_on_image}
-use Rattle.import_replay.proofs.KeptBlocks.{used_kept}
+use Rattle.import_replay.proofs.KeptBlocks.{no_log_written, used_kept}
 use Rattle.import_replay.proofs.PlannedPools.{planned_over}
 use Rattle.import_replay.proofs.Reasons.{reason-record}
 use Rattle.import_replay.proofs.ReplayedPools as replays
@@ -362,6 +362,8 @@ module _ (size : ℕ) (u : Uberblock) (name : List ℕ) (tree : Tree) (slots : L
       imported = import_of size u name (parts_of next) dirty_max m from prepared_parts image now chain next.blocks.items read.long prepared_over long written limit
           (subst (λ (p : PoolParts). Mounts image u chain (contents_of p.contents)) (sym from.parts) prepared_mounts);
       stands = stands_on size u name (parts_of next) dirty_max m from prepared_parts image now chain next.blocks.items read.long prepared_over long written;
+      size = long;
+      no_log = no_log_written size u name pool.tree (objects_of pool.synced.slots.items) chain image now next.blocks.items is.loaded.sound mine prepared_over.unused prepared_ready.apart long written;
       kept = used_kept size u name pool.tree (objects_of pool.synced.slots.items) chain image now next.blocks.items is.loaded.sound mine prepared_over.unused prepared_ready.apart long written;
     }
       where

@@ -1,10 +1,10 @@
 -- What an import mounts, as contracts see the pool that it gives.
-use Rattle.std.specs.Prelude.{ℕ, ◌≡◌, ◌+◌, ◌<◌, ◌≤◌, ◌^◌, false, List, [], None}
+use Rattle.std.specs.Prelude.{ℕ, ◌≡◌, ◌+◌, ◌<◌, ◌≤◌, ◌^◌, false, List, [], length, None}
 use Rattle.std.specs.FinMap as finite
 use Rattle.base.specs.formats.Versions.{written_version}
 use Rattle.base.specs.formats.Blocks.{Frame}
 use Rattle.base.specs.formats.Chain.{LogPiece}
-use Rattle.base.specs.formats.Fields.{part}
+use Rattle.base.specs.formats.Fields.{number_at, part}
 use Rattle.base.specs.formats.Geometry.{IsBlockAddress, block_count, block_size}
 use Rattle.base.specs.steps.Exact.{AreFree, IsBounded}
 use Rattle.base.specs.steps.ExactNow.{IsExplainedNow}
@@ -83,12 +83,19 @@ abbrev pub KeepsUsedBlocks : List ℕ → List ℕ → Type 0
 KeepsUsedBlocks image now = (u : Uberblock) (chain : List LogPiece) → IsActive image u → IsChainOf image u chain → (address : ℕ) → IsUsed image u.root chain address
     → part now address block_size ≡ part image address block_size
 
+-- each log block of the area stood in the image
+abbrev pub WritesNoLogBlock : List ℕ → List ℕ → Type 0
+WritesNoLogBlock image now = (address : ℕ) → IsBlockAddress (block_count (length image)) address → number_at (part now address block_size) 0 ≡ 6
+    → part now address block_size ≡ part image address block_size
+
 -- An import of an image that leaves these bytes: the pool that it gives is the one that the image mounts, with so many
--- records replayed, and it stands on the device. No block that the image's pool has was written.
+-- records replayed, and it stands on the device. No block that the image's pool has was written, and no log block.
 pub record IsImport (image now : List ℕ) (dirty_max : ℕ) (m : Mounted) : Type 0 where
   pub imported : IsImportOf image now dirty_max m.records (shown_of_import m)
   pub stands : StandsOn now m
+  pub size : length now ≡ length image
   pub kept : KeepsUsedBlocks image now
+  pub no_log : WritesNoLogBlock image now
 
 -- An import gives this on each device: a pool of this size and limit, both allowed, whose contents are within limits,
 -- and which a past in which nothing happened explains, whenever it was created.
