@@ -9,12 +9,10 @@ use Rattle.base.specs.steps.Additions.{past_after}
 use Rattle.base.specs.history.Contents.{Contents}
 use Rattle.base.specs.history.History.{Entry, entries_up_to, replay}
 use Rattle.base.specs.stored.HeldMounts.{MountsUpTo}
-use Rattle.base.specs.crash.Mount.{IsChainOf}
 use Rattle.base.specs.history.Past.{Past, new_past}
 use Rattle.base.specs.steps.Runs.{Run}
 use Rattle.base.specs.stored.ShownLabels.{HasNoLogBlock}
 use Rattle.base.specs.stored.Stored.{Held, IsHeld}
-use Rattle.base.specs.formats.Uberblocks.{Uberblock}
 use Rattle.base.proofs.common.Sieves.{filter_all}
 use Rattle.base.proofs.steps.Additions.{runs_grow}
 use Rattle.base.proofs.stored.HeldMounts.{held_mounts, steps_write_no_log}

@@ -25,9 +25,9 @@ pub record HoldsContents (now : List ℕ) (contents : Contents) : Type 0 where
   pub mounts : MountsTo now contents
   pub no_log : HasNoLogBlock now
 
--- an import of these bytes shows the contents that they hold
-abbrev pub ShowsHeld : List ℕ → Contents → Type 0
-ShowsHeld now shown = (contents : Contents) → HoldsContents now contents → shown ≡ contents
+-- an import of these bytes shows the contents that they mount, with a log or without one
+abbrev pub ShowsMounted : List ℕ → Contents → Type 0
+ShowsMounted now shown = (contents : Contents) → MountsTo now contents → shown ≡ contents
 
 -- where the one image has no log block, the other has none
 abbrev pub KeepsNoLog : List ℕ → List ℕ → Type 0

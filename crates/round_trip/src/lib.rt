@@ -18,7 +18,7 @@ ghost use Rattle.import_replay.specs.OwnCreations.{first_contents};
 ghost use Rattle.import_replay.specs.RunStarts.{StartsRun};
 ghost use Rattle.object_maps.specs.ContentsShown.{contents_of};
 ghost use Rattle.base.specs.crash.LeftDisks.{GoesOnFrom};
-ghost use Rattle.round_trip.specs.Rounds.{GoesRound, HoldsNew, IsFoundAfter, IsOpened, IsPlayRefusal, KeepsNoLog, ShowsHeld};
+ghost use Rattle.round_trip.specs.Rounds.{GoesRound, HoldsNew, IsFoundAfter, IsOpened, IsPlayRefusal, KeepsNoLog, ShowsMounted};
 
 mod clients;
 mod crashes;
@@ -69,7 +69,7 @@ pub fn open<D: SectorDevice + Drop>(
     moment: u64,
 ) -> Result<Imported<D>, PoolError>
     ensures found { IsTrue D.keeps_model → IfOk result
-        (λ i. ShowsHeld (bytes_of (D.disk device).now) (contents_of i.mounted.contents)) }
+        (λ i. ShowsMounted (bytes_of (D.disk device).now) (contents_of i.mounted.contents)) }
     ensures no_log { IsTrue D.keeps_model → IfOk result
         (λ i. KeepsNoLog (bytes_of (D.disk device).now) (bytes_of (D.disk i.device).now)) }
     ensures opened { IsTrue D.keeps_model → IfOk result

@@ -7,10 +7,10 @@ use Rattle.import_replay.specs.ImportSyncs.{uberblock_of_import}
 use Rattle.round_trip.proofs.open.Goals as goal
 
 pub returns-in-Ok-clause-found : goal.returns-in-Ok-clause-found
-returns-in-Ok-clause-found g c = λ keeps contents holds.
+returns-in-Ok-clause-found g c = λ keeps contents mounts.
     let image : List ℕ = bytes_of (g.D.SectorDevice.disk c.args.device).now in
     let of = (c.in-Ok.ensures.imported keeps).imported in
-    of.imported.contents_are ∙ (mounts_agree image of.u u of.chain holds.mounts.1 of.contents contents of.mounts holds.mounts.2).2
+    of.imported.contents_are ∙ (mounts_agree image of.u mounts.0 of.chain mounts.1 of.contents contents of.mounts mounts.2).2
 
 pub returns-in-Ok-clause-no_log : goal.returns-in-Ok-clause-no_log
 returns-in-Ok-clause-no_log g c = λ keeps none address is kind.

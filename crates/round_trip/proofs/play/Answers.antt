@@ -18,6 +18,6 @@ returns-clause-found g c = λ keeps.
       before = new.0;
       new = new.1;
       now = now;
-      round = subst (λ (found : Contents). IsCleanRound image new.0 c.args.dirty_max c.args.moment ss rs now found) (sym (c.in_ok-imported.ensures.found keeps left.0 left.1.holds)) left.1;
+      round = subst (λ (found : Contents). IsCleanRound image new.0 c.args.dirty_max c.args.moment ss rs now found) (sym (c.in_ok-imported.ensures.found keeps left.0 left.1.holds.mounts)) left.1;
       opened = c.in_ok-imported.ensures.opened keeps;
     })

@@ -19,7 +19,7 @@ returns-clause-went g c = λ keeps before holds.
     let state = c.new-state.result in
     let ss = c.args.steps.items in
     let rs = c.in_ok-replies.replies.items in
-    let shows : (shown state).contents ≡ before = ap (λ (s : Shown). s.contents) c.new-state.ensures.shown ∙ c.in_ok-imported.ensures.found keeps before holds in
+    let shows : (shown state).contents ≡ before = ap (λ (s : Shown). s.contents) c.new-state.ensures.shown ∙ c.in_ok-imported.ensures.found keeps before holds.mounts in
     let at_first : IsJustMounted (shown state) = record { mounted = c.in_ok-imported.imported.mounted; shown_is = c.new-state.ensures.shown } in
     let none : HasNoLogBlock (told state).now = subst (λ d. HasNoLogBlock (bytes_of (disk d).now)) (sym c.new-state.ensures.device) (c.in_ok-imported.ensures.no_log keeps holds.no_log) in
     let image : List ℕ = bytes_of (disk c.args.device).now in
