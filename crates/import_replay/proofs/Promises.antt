@@ -1,8 +1,8 @@
 -- What the contracts of a create, an import and an inspection say in one concrete case each.
-use Rattle.std.proofs.Common.{◌≡◌, ◌≢◌, ◌⊎◌, inl, inr, ⊎_elim, ℕ, zero, suc, ◌+◌, ◌*◌, true, false, List, [], length, Result, Ok, Err, refl, sym, ◌∙◌, ap, subst, arith}
+use Rattle.std.proofs.Common.{◌≡◌, ◌≢◌, ◌⊎◌, inl, inr, ⊎_elim, ℕ, zero, suc, ◌+◌, true, false, List, [], length, Result, Ok, Err, refl, sym, ◌∙◌, ap, subst, arith}
 use Rattle.std.specs.Prelude.{IfErr, IfOk, IsErr, MatchResult, OnOk, slice_index}
 use Rattle.base.specs.crash.Imports.{IsImportOf}
-use Rattle.base.specs.crash.Mount.{IsChainDamaged, IsChainOf, Mounts, records_above}
+use Rattle.base.specs.crash.Mount.{IsChainDamaged, Mounts, records_above}
 use Rattle.base.specs.declared.error.PoolError.{PoolError}
 use Rattle.base.specs.declared.error.PoolError.TheVariants.{BadGeometry, BadRange, Damaged, Flush, NoMemory, NoPool, Write}
 use Rattle.base.specs.disk.Disk.{Disk, bytes_of, certain, certain_with}

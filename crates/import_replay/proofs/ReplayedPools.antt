@@ -1,6 +1,6 @@
 -- The records of a chain, as the operations of the group that an import syncs: they take place on the tree that was
 -- loaded, keep within the limits, and are estimated at what the records are.
-use Rattle.std.proofs.Common.{◌≡◌, ℕ, suc, ◌+◌, ◌<◌, ◌≤◌, true, List, [], ◌∷◌, ◌++◌, length, map, Ok, None, Some, refl, ap, sym, subst, ◌∙◌, nat_lt}
+use Rattle.std.proofs.Common.{◌≡◌, ℕ, ◌+◌, ◌<◌, ◌≤◌, true, List, [], ◌∷◌, ◌++◌, length, map, Ok, None, Some, refl, ap, sym, subst, ◌∙◌, nat_lt}
 use Rattle.std.specs.Prelude.{All, IfSome, Option, sum_by}
 use Rattle.std.specs.FinMap as finite
 use Rattle.std.specs.List.{flat_map, list_all}

@@ -1,5 +1,5 @@
 -- What an import has left whose sync stopped, from what it found, replayed and planned.
-use Rattle.std.proofs.Common.{◌≡◌, inr, ℕ, Bool, false, List, Ok, ap, sym, subst, ◌∙◌}
+use Rattle.std.proofs.Common.{◌≡◌, inr, ℕ, Bool, false, List, Ok, sym, subst, ◌∙◌}
 use Rattle.base.specs.declared.error.PoolError.{PoolError}
 use Rattle.base.specs.disk.Calls.{Flushes}
 use Rattle.base.specs.disk.Disk.{Disk, bytes_of, certain}

@@ -1,9 +1,15 @@
--- The moment of an import, and a pool as an import left it.
+-- What an import shows and its moment, and a pool as an import left it.
 use Rattle.std.specs.Prelude.{ℕ, ◌≡◌, ◌+◌, List}
+use Rattle.base.specs.crash.Mount.{MountsTo}
 use Rattle.base.specs.formats.Uberblocks.{Uberblock, IsActive}
+use Rattle.base.specs.history.Contents.{Contents}
 use Rattle.base.specs.steps.Shown.{Shown}
 use Rattle.import_replay.specs.Mounts.{shown_of_import}
 use Rattle.import_replay.specs.declared.mounted.Mounted.{Mounted}
+
+-- an import of these bytes shows the contents that they mount
+abbrev pub ShowsMounted : List ℕ → Contents → Type 0
+ShowsMounted now shown = (contents : Contents) → MountsTo now contents → shown ≡ contents
 
 -- the active uberblock of these bytes has this moment
 pub record HasMoment (now : List ℕ) (moment : ℕ) : Type 0 where

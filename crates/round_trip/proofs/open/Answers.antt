@@ -1,6 +1,14 @@
-use Rattle.std.proofs.Common.{refl}
+use Rattle.std.proofs.Common.{ℕ, List, ◌∙◌, refl}
+use Rattle.base.specs.disk.Disk.{bytes_of}
+use Rattle.base.proofs.crash.OneMount.{mounts_agree}
 use Rattle.import_replay.specs.ImportSyncs.{uberblock_of_import}
 use Rattle.round_trip.proofs.open.Goals as goal
+
+pub returns-in-Ok-clause-found : goal.returns-in-Ok-clause-found
+returns-in-Ok-clause-found g c = λ keeps contents mounts.
+    let image : List ℕ = bytes_of (g.D.SectorDevice.disk c.args.device).now in
+    let of = (c.in-Ok.ensures.imported keeps).imported in
+    of.imported.contents_are ∙ (mounts_agree image of.u mounts.0 of.chain mounts.1 of.contents contents of.mounts mounts.2).2
 
 pub returns-in-Ok-clause-opened : goal.returns-in-Ok-clause-opened
 returns-in-Ok-clause-opened g c = λ keeps.
