@@ -1,8 +1,7 @@
 -- What the tables know of the log, through a write and a flush of it: which records are written, where its blocks lie,
 -- and the header of a running sync.
-use Rattle.std.proofs.Common.{◌≡◌, ℕ, ◌+◌, ◌-◌, ◌<◌, ◌≤◌, true, false, List, [], ◌∷◌, ◌++◌, ◌⊎◌, inl, inr, map, length, take, drop, refl, ap, sym, subst, ◌∙◌, arith}
-use Rattle.std.specs.Prelude.{All, nat_le, nat_lt, slice_get, Some}
-use Rattle.std.specs.List.{flat_map}
+use Rattle.std.proofs.Common.{◌≡◌, ℕ, ◌+◌, ◌<◌, ◌≤◌, true, false, List, [], ◌∷◌, ◌++◌, inl, inr, map, length, take, drop, ap, sym, subst, ◌∙◌, arith}
+use Rattle.std.specs.Prelude.{All, nat_le, nat_lt}
 use Rattle.std.proofs.Math.Logic.{∥∥₁_elim, ∥∥₁_map}
 use Rattle.std.proofs.Math.Seq.{take-add}
 use mathlib.Core.Bool.{Bool-set}
@@ -11,7 +10,6 @@ use Rattle.std.proofs.lemmas.Grind.{flat_map-append}
 use Rattle.std.proofs.lemmas.List.{append-nil, drop-drop, drop-map, length-drop, length-map, length-take-le, map-append, take-map}
 use Rattle.std.proofs.lemmas.List.Elements.{All-drop, All-map, All-push, All-take, filter-append}
 use Rattle.std.proofs.lemmas.List.Folds.{flat_map-map}
-use Rattle.std.proofs.lemmas.Option.{slice_get_within}
 use Rattle.std.proofs.lemmas.Simd.{map-map}
 use Rattle.base.specs.crash.LogSteps.{IsHeaderIn}
 use Rattle.base.specs.formats.Chain.{Header}
@@ -20,10 +18,9 @@ use Rattle.base.specs.steps.Exact.{log_addresses}
 use Rattle.base.specs.steps.Groups.{Line}
 use Rattle.base.specs.steps.Logs.{Committed, KeptBlock, Log, committed_above, committed_in, committed_of, log_after_flush, log_after_write, reaches_above}
 use Rattle.base.specs.declared.names.Receipt.{Receipt}
-use Rattle.base.proofs.common.KeptLists.{All-at, All-each, push-cases}
+use Rattle.base.proofs.common.KeptLists.{All-at, All-each}
 use Rattle.base.proofs.common.Sieves.{filter_all}
 use Rattle.base.proofs.crash.LogHeaders.{header_in-flush, header_in-write, kept_block}
-use Rattle.base.proofs.stored.StoredSets.{at-map}
 use Rattle.extents.specs.declared.unsynced.UnsyncedExtents.{UnsyncedExtents}
 use Rattle.group_plans.specs.Areas.{AreBlocksOf, is_block_of}
 use Rattle.intent_log.specs.Kept.{AreNumberedTo, KeptLog, block_noted, log_shown}

@@ -1,11 +1,10 @@
-use Rattle.std.proofs.Common.{◌≡◌, ◌∙◌, ℕ, ◌+◌, ◌≤◌, [], length, ap, sym, subst, arith}
+use Rattle.std.proofs.Common.{◌≡◌, ◌∙◌, ℕ, ◌+◌, [], length, ap, sym, subst, arith}
 use Rattle.base.specs.formats.Geometry.{block_address, block_count}
 use Rattle.base.specs.steps.Exact.{log_addresses}
 use Rattle.base.specs.steps.Logs.{Log, log_after_write}
 use Rattle.group_plans.specs.Areas.{AreBlocksOf}
 use Rattle.group_plans.proofs.PlannedBlocks.{block_passes}
 use Rattle.intent_log.specs.Kept.{header_fields, log_shown}
-use Rattle.space.specs.FreeSets.{FreeSpace}
 use Rattle.pool_tables.specs.LogBlocks.{front_of}
 use Rattle.pool_tables.specs.Running.{KeepsHeader}
 use Rattle.pool_tables.specs.Shows.{pool_shown}

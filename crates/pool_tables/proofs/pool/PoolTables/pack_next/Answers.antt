@@ -1,4 +1,4 @@
-use Rattle.std.proofs.Common.{◌≡◌, ℕ, map, take, drop, subst}
+use Rattle.std.proofs.Common.{◌≡◌, map, take, drop, subst}
 use Rattle.std.proofs.lemmas.List.{take_rest}
 use Rattle.std.proofs.lemmas.List.Elements.{All-drop, All-map}
 use Rattle.base.specs.formats.Geometry.{block_address}
