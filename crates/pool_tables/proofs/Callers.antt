@@ -1,5 +1,5 @@
 -- What a caller reads off an answer: refused by the first test that applies, all stands; else it is what the step says.
-use Rattle.std.proofs.Common.{◌≡◌, ◌∙◌, ◌⊎◌, inl, inr, ℕ, ◌<◌, ◌+◌, Bool, true, false, ◌&&◌, ◌||◌, not, List, [], ◌∷◌, ◌++◌, length, nat_eq, nat_le, refl, ap, sym, subst, arith}
+use Rattle.std.proofs.Common.{◌≡◌, ◌∙◌, ◌⊎◌, inl, inr, ℕ, Bool, true, false, ◌&&◌, not, List, [], ◌∷◌, length, nat_eq, nat_le, refl, ap, sym, subst, arith}
 use Rattle.std.proofs.lemmas.Bool.{eq-eqb, or_right}
 use Rattle.std.proofs.lemmas.Cmp.{nat_cmp_total}
 use Rattle.std.specs.Prelude.{Option, Some, None, Result, Ok, Err, IfOk, IfSome, OnOk, find, is_some, option_map, ◌==◌}
@@ -25,7 +25,7 @@ use Rattle.base.specs.history.Plans.{NumberRange}
 use Rattle.base.specs.steps.ExactNow.{IsExplainedNow}
 use Rattle.base.specs.steps.Groups.{Admission}
 use Rattle.base.specs.formats.Records.{Record}
-use Rattle.base.specs.steps.Logs.{Committed, KeptBlock, has_record, log_after_write}
+use Rattle.base.specs.steps.Logs.{Committed, KeptBlock, Log, has_record, log_after_write}
 use Rattle.base.specs.steps.Refusals.{abort_refusal, append_range, append_refusal, digest_refusal, length_refusal, log_flush_refusal, log_write_refusal, quiesced_group, read_refusal, start_refusal, transaction_of}
 use Rattle.base.specs.steps.Shown.{Shown, SyncPlan, is_durable}
 use Rattle.base.specs.steps.BuiltSteps as as_built
@@ -136,16 +136,29 @@ module _ (s new : Shown) where
   put_or_not None later (Err e) (inl (memory, same)) = inl (e, refl, ap (λ (x : State). x.shown) same)
   put_or_not None later (Err e) (inr (write, (taken, rest, address, takes, same))) = inr (taken, rest, address, takes, ap (λ (x : State). x.shown.log) same, ap (λ (x : State). x.shown.line) same, tt)
 
-  -- of one pending record it writes one
-  pub written_one : (answer : Result ℕ PoolError) → length s.log.pending ≡ 1 → Meets steps.LogWrite answer s new → IfOk answer (λ count. count ≡ 1)
-  written_one (Err e) one meets = tt
-  written_one (Ok count) one meets = elim (put_or_not (log_write_refusal s) (meets (some_past s)).0 (Ok count) (meets (some_past s)).1) as (λ _. count ≡ 1) [
+  -- of one pending record it writes one, and leaves none
+  pub written_one : (answer : Result ℕ PoolError) → length s.log.pending ≡ 1 → Meets steps.LogWrite answer s new → IfOk answer (λ count. count ≡ 1) × OnOk answer (new.log.pending ≡ [])
+  written_one (Err e) one meets = (tt, tt)
+  written_one (Ok count) one meets = elim (put_or_not (log_write_refusal s) (meets (some_past s)).0 (Ok count) (meets (some_past s)).1) as (λ _. (count ≡ 1) × (new.log.pending ≡ [])) [
     | inl (e, is, same) ↦ absurd (let no_way : Ok count ≡ Err e = is in cc)
     | inr (taken, rest, address, takes, log, line, is) ↦
         let all = ap (λ (rs : List Record). length rs) takes.packed.front ∙ length-append taken rest in
         let some = takes.packed.some in
-        omega (arith, one, all, some, is)
+        (omega (arith, one, all, some, is), ap (λ (l : Log). l.pending) log ∙ none_of rest (omega (arith, one, all, some)))
   ]
+    where
+      none_of : (rs : List Record) → length rs ≡ 0 → rs ≡ []
+      none_of [] none = refl
+      none_of (r ∷ rs) none = absurd (omega (arith, none))
+
+  -- a device that refuses it suspends the pool
+  pub write_suspends : (answer : Result ℕ PoolError) → log_write_refusal s ≡ None → Meets steps.LogWrite answer s new → answer ≡ Err error.Write → new.suspended ≡ true
+  write_suspends (Ok count) none meets is = absurd (let no_way : Ok count ≡ Err error.Write = is in cc)
+  write_suspends (Err e) none meets is =
+      elim (rw none at (meets (some_past s)).1) as (λ _. new.suspended ≡ true) [
+        | inl (memory, same) ↦ absurd (let no_way : Err e ≡ Err error.Write = is in cc)
+        | inr (write, (taken, rest, address, takes, same)) ↦ ap (λ (x : State). x.shown.suspended) same
+      ]
 
   -- and none of what it writes is durable before a flush
   pub written_not_durable : (answer : Result ℕ PoolError) (ordinal group : ℕ) → s.log.kept ≡ [] → nat_le group s.line.synced ≡ false → Meets steps.LogWrite answer s new → is_durable new ordinal group ≡ false

@@ -1,5 +1,5 @@
 -- A write and a flush of the log, step by step.
-use Rattle.std.proofs.Common.{◌≡◌, ◌∙◌, ◌⊎◌, inl, inr, ℕ, ◌+◌, ◌<◌, ◌≤◌, ◌==◌, ◌||◌, Bool, true, false, List, [], ◌∷◌, ◌++◌, ◌-◌, map, length, take, drop, nat_le, nat_lt, refl, ap, sym, subst, arith}
+use Rattle.std.proofs.Common.{◌≡◌, ◌∙◌, inl, inr, ℕ, ◌+◌, ◌<◌, ◌≤◌, ◌==◌, ◌||◌, Bool, true, false, [], ◌∷◌, ◌++◌, map, length, take, drop, nat_le, nat_lt, refl, ap, sym, subst, arith}
 use Rattle.std.specs.Prelude.{Some, None, Result, Ok, Err, not}
 use Rattle.std.proofs.Math.Bool.{or-false}
 use Rattle.std.proofs.lemmas.Bool.{or_parts}
@@ -13,7 +13,6 @@ use Rattle.base.specs.disk.Calls.{IsOnDevice, Writes}
 use Rattle.base.specs.disk.Disk.{Disk}
 use Rattle.base.specs.formats.Geometry.{IsBlockAddress, block_address, block_count, block_size}
 use Rattle.base.specs.formats.Limits.{kept_back, last_number}
-use Rattle.base.specs.formats.Records.{Record}
 use Rattle.base.specs.history.Past.{Past}
 use Rattle.base.specs.steps.Exact.{log_addresses}
 use Rattle.base.specs.steps.Logs.{KeptBlock, awaits_flush, log_after_flush}

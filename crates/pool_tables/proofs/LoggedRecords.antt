@@ -1,8 +1,7 @@
 -- What the tables know of the log, through a write and a flush of it: which records are written, where its blocks lie,
 -- and the header of a running sync.
-use Rattle.std.proofs.Common.{◌≡◌, ℕ, ◌+◌, ◌-◌, ◌<◌, ◌≤◌, true, false, List, [], ◌∷◌, ◌++◌, ◌⊎◌, inl, inr, map, length, take, drop, refl, ap, sym, subst, ◌∙◌, arith}
-use Rattle.std.specs.Prelude.{All, nat_le, nat_lt, slice_get, Some}
-use Rattle.std.specs.List.{flat_map}
+use Rattle.std.proofs.Common.{◌≡◌, ℕ, ◌+◌, ◌<◌, ◌≤◌, true, false, List, [], ◌∷◌, ◌++◌, inl, inr, map, length, take, drop, ap, sym, subst, ◌∙◌, arith}
+use Rattle.std.specs.Prelude.{All, nat_le, nat_lt}
 use Rattle.std.proofs.Math.Logic.{∥∥₁_elim, ∥∥₁_map}
 use Rattle.std.proofs.Math.Seq.{take-add}
 use mathlib.Core.Bool.{Bool-set}
@@ -11,7 +10,6 @@ use Rattle.std.proofs.lemmas.Grind.{flat_map-append}
 use Rattle.std.proofs.lemmas.List.{append-nil, drop-drop, drop-map, length-drop, length-map, length-take-le, map-append, take-map}
 use Rattle.std.proofs.lemmas.List.Elements.{All-drop, All-map, All-push, All-take, filter-append}
 use Rattle.std.proofs.lemmas.List.Folds.{flat_map-map}
-use Rattle.std.proofs.lemmas.Option.{slice_get_within}
 use Rattle.std.proofs.lemmas.Simd.{map-map}
 use Rattle.base.specs.crash.LogSteps.{IsHeaderIn}
 use Rattle.base.specs.formats.Chain.{Header}
@@ -19,21 +17,22 @@ use Rattle.base.specs.formats.Records.{Record}
 use Rattle.base.specs.steps.Exact.{log_addresses}
 use Rattle.base.specs.steps.Groups.{Line}
 use Rattle.base.specs.steps.Logs.{Committed, KeptBlock, Log, committed_above, committed_in, committed_of, log_after_flush, log_after_write, reaches_above}
+use Rattle.base.specs.declared.names.Group.{Group}
 use Rattle.base.specs.declared.names.Receipt.{Receipt}
-use Rattle.base.proofs.common.KeptLists.{All-at, All-each, push-cases}
+use Rattle.base.proofs.common.KeptLists.{All-at, All-each}
 use Rattle.base.proofs.common.Sieves.{filter_all}
 use Rattle.base.proofs.crash.LogHeaders.{header_in-flush, header_in-write, kept_block}
-use Rattle.base.proofs.stored.StoredSets.{at-map}
 use Rattle.extents.specs.declared.unsynced.UnsyncedExtents.{UnsyncedExtents}
 use Rattle.group_plans.specs.Areas.{AreBlocksOf, is_block_of}
-use Rattle.intent_log.specs.Kept.{AreNumberedTo, KeptLog, block_noted, log_shown}
+use Rattle.intent_log.specs.Kept.{AreNumberedTo, KeptLog, block_noted, header_fields, log_shown}
+use Rattle.intent_log.specs.declared.kept_block.LogHeader.{LogHeader}
 use Rattle.intent_log.specs.Packing.{IsPackedFront}
 use Rattle.intent_log.specs.Receipts.{committed}
 use Rattle.object_maps.specs.declared.contents.Contents.{Contents}
 use Rattle.transactions.specs.declared.record.Record as code
 use Rattle.transactions.specs.Records.{record_fields}
 use Rattle.pool_tables.specs.declared.pool.PoolTables.{PoolTables}
-use Rattle.pool_tables.specs.LogBlocks.{AreNextReceipts, front_of, pending_of, receipt_of}
+use Rattle.pool_tables.specs.LogBlocks.{AreNextReceipts, front_of, next_place, pending_of, receipt_of}
 use Rattle.pool_tables.specs.Running.{KeepsHeader}
 use Rattle.pool_tables.specs.Shows.{log_of}
 use Rattle.pool_tables.specs.Unsynced.{KeepsUnsynced}
@@ -42,16 +41,6 @@ use Rattle.pool_tables.proofs.WholeBlocks.{whole-flushed, whole-push}
 -- room for a block more changes nothing
 pub same_log : (old new : KeptLog) → new.kept ≡ old.kept → new.next ≡ old.next → log_shown old ≡ log_shown new
 same_log old new kept next = λ k. record { unsynced = []; pending = []; kept = sym kept k; next = sym next k }
-
--- a kept block with these receipts is the one of the records that they name
-pub log-noted : (old new : KeptLog) (receipts : List Receipt) (taken : List Record) (address : ℕ) → map committed receipts ≡ map committed_of taken → new.kept ≡ old.kept ++ block_noted old.next receipts ∷ []
-    → new.next ≡ record { address = address; number = old.next.number + 1 } → log_shown new ≡ log_after_write taken [] address (log_shown old)
-log-noted old new receipts taken address same kept next = λ k. record {
-  unsynced = [];
-  pending = [];
-  kept = (kept ∙ ap (λ (rs : List Committed). old.kept ++ record { address = old.next.address; number = old.next.number; begins = rs; ends = rs; flushed = false } ∷ []) same) k;
-  next = next k;
-}
 
 -- Of the pending records so many more are written.
 module _ (written count : ℕ) (records : List code.Record) where
@@ -124,6 +113,26 @@ module _ (pool : PoolTables) (count : ℕ) (receipts : List Receipt) (front : Is
       of_records = ap (map committed) are ∙ map-map committed receipt_of (take count pending) ∙ sym (map-map committed_of record_fields (take count pending))
           ∙ ap (map committed_of) (sym (take-map record_fields count pending)) ∙ ap (λ (n : ℕ). map committed_of (front_of n pool)) as_many;
     }
+
+-- a kept block with such receipts is the one of their records
+pub log-noted : (pool : PoolTables) (new : KeptLog) (receipts : List Receipt) (address : ℕ) → AreNextReceipts pool receipts → new.kept ≡ pool.log.kept ++ block_noted pool.log.next receipts ∷ []
+    → new.next ≡ record { address = address; number = pool.log.next.number + 1 } → log_shown new ≡ log_after_write (front_of (length receipts) pool) [] address (log_shown pool.log)
+log-noted pool new receipts address are kept next = λ k. record {
+  unsynced = [];
+  pending = [];
+  kept = (kept ∙ ap (λ (rs : List Committed). pool.log.kept ++ record { address = pool.log.next.address; number = pool.log.next.number; begins = rs; ends = rs; flushed = false } ∷ []) are.of_records) k;
+  next = next k;
+}
+
+-- the place of the next log block, by its parts
+pub same_place : (pool : PoolTables) (group : Group) (header : LogHeader) (next address : ℕ) → group.0 ≡ pool.groups.line.open_group → header_fields header ≡ pool.log.next → next ≡ address
+    → (record { guid = pool.guid; group = group; header = record { address = header.address; number = header.number; import_number = pool.import_number }; next = next }) ≡ next_place address pool
+same_place pool group header next address same at is = λ k. record {
+  guid = pool.guid;
+  group = record { 0 = same k };
+  header = record { address = (at k).address; number = (at k).number; import_number = pool.import_number };
+  next = is k;
+}
 
 -- Where the log's blocks lie.
 pub placed_logged : (blocks address : ℕ) (taken : List Record) (log : Log) → is_block_of blocks address ≡ true → AreBlocksOf blocks (log_addresses log) → AreBlocksOf blocks (log_addresses (log_after_write taken [] address log))

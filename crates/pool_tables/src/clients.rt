@@ -15,7 +15,7 @@ ghost use Rattle.base.specs.history.Plans.{charge_of};
 ghost use Rattle.base.specs.steps.Exact.{log_addresses};
 ghost use Rattle.base.specs.steps.ExactNow.{IsExplainedNow};
 ghost use Rattle.base.specs.steps.Groups.{hold_count};
-ghost use Rattle.base.specs.steps.Refusals.{first_refusal};
+ghost use Rattle.base.specs.steps.Refusals.{first_refusal, log_write_refusal};
 ghost use Rattle.base.specs.steps.Logs.{whole_block};
 ghost use Rattle.base.specs.steps.Shown.{SyncPlan, available, free_count, reserved_total};
 ghost use Rattle.base.specs.steps.Steps.{IsReplayUpTo};
@@ -234,14 +234,15 @@ fn a_block_that_a_sync_takes_is_not_free(free: &mut FreeSet, blocks: &[PlannedBl
     take_all(free, blocks);
 }
 
-// One record that is pending is written.
+// One record that is pending is written, and pending no more.
 fn a_pending_record_is_written<D: SectorDevice>(
     pool: &mut PoolTables,
     device: &mut D,
 ) -> Result<u64, PoolError>
     requires sized { D.size device.old ≡ geometry_of pool.old }
     requires one { length (pool_shown pool.old).log.pending ≡ 1 }
-    ensures { IfOk result (λ count. count ≡ 1) }
+    ensures count { IfOk result (λ count. count ≡ 1) }
+    ensures left { OnOk result ((pool_shown pool.new).log.pending ≡ []) }
 {
     pool.log_write(device)
 }
@@ -271,6 +272,18 @@ fn no_log_block_takes_a_kept_back_one<D: SectorDevice>(
     requires few { available (pool_shown pool.old) ≡ 16 }
     ensures refused { result ≡ Err PoolError.NoLogSpace }
     ensures unchanged { pool_shown pool.new ≡ pool_shown pool.old }
+{
+    pool.log_write(device)
+}
+
+// If the device refuses it, the pool is suspended.
+fn a_refused_log_write_suspends_the_pool<D: SectorDevice>(
+    pool: &mut PoolTables,
+    device: &mut D,
+) -> Result<u64, PoolError>
+    requires sized { D.size device.old ≡ geometry_of pool.old }
+    requires passes { log_write_refusal (pool_shown pool.old) ≡ None }
+    ensures { result ≡ Err PoolError.Write → (pool_shown pool.new).suspended ≡ true }
 {
     pool.log_write(device)
 }

@@ -1,4 +1,4 @@
-use Rattle.std.proofs.Common.{◌≡◌, ◌∙◌, ℕ, true, refl, sym, subst}
+use Rattle.std.proofs.Common.{◌∙◌, true, refl, sym, subst}
 use Rattle.std.proofs.lemmas.Result.{err_from_is_err_and}
 use Rattle.base.specs.formats.Geometry.{block_count}
 use Rattle.base.specs.steps.Exact.{log_addresses}

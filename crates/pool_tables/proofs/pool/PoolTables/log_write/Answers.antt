@@ -1,4 +1,4 @@
-use Rattle.std.proofs.Common.{◌≡◌, ◌∙◌, inr, ℕ, true, List, length, ap, sym}
+use Rattle.std.proofs.Common.{◌∙◌, inr, ℕ, true, List, length, ap, sym}
 use Rattle.std.proofs.lemmas.Result.{err_from_is_err_and}
 use Rattle.base.specs.formats.Chain.{Header}
 use Rattle.base.specs.steps.Refusals.{log_write_refusal}

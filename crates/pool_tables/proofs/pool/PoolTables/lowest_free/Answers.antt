@@ -1,4 +1,4 @@
-use Rattle.std.proofs.Common.{◌≡◌, ◌∙◌, ◌<◌, ap, sym, take, length, arith}
+use Rattle.std.proofs.Common.{◌∙◌, ap, sym, take, length, arith}
 use Rattle.space.proofs.FreeLists.{free_from-0, length-rising}
 use Rattle.pool_tables.specs.Shows.{pool_shown}
 use Rattle.pool_tables.proofs.Charges.{available_told}

@@ -1,4 +1,4 @@
-use Rattle.std.proofs.Common.{◌≡◌, ℕ, map, take, drop, subst}
+use Rattle.std.proofs.Common.{◌≡◌, map, take, drop, subst}
 use Rattle.std.proofs.lemmas.List.{take_rest}
 use Rattle.std.proofs.lemmas.List.Elements.{All-drop, All-map}
 use Rattle.base.specs.formats.Geometry.{block_address}
@@ -7,8 +7,8 @@ use Rattle.intent_log.specs.Packing.{HoldsRecords, IsPackedFront}
 use Rattle.intent_log.specs.declared.packing.NewBlock.{NewBlock}
 use Rattle.transactions.specs.declared.record.Record as code
 use Rattle.transactions.specs.Records.{record_fields}
-use Rattle.pool_tables.specs.LogBlocks.{front_of, next_place, pending_of, receipt_of}
-use Rattle.pool_tables.proofs.LoggedRecords.{as_many, next_receipts}
+use Rattle.pool_tables.specs.LogBlocks.{front_of, pending_of, receipt_of}
+use Rattle.pool_tables.proofs.LoggedRecords.{as_many, next_receipts, same_place}
 use Rattle.pool_tables.proofs.pool.PoolTables.pack_next.Goals as goal
 
 pub pack-requires-clause-allowed : goal.pack-requires-clause-allowed
@@ -22,9 +22,7 @@ returns-clause-packs c =
     let pool = c.args.self.now in
     let count = c.in_ok-packed.packed.count in
     let rest = take_rest pool.unsynced.items pool.written in
-    let header = c.next-header.ensures.header in
-    let place : (record { guid = pool.guid; group = c.open_group.result; header = record { address = c.next-header.result.address; number = c.next-header.result.number; import_number = pool.import_number }; next = c.block_address.result }) ≡ next_place (block_address c.lowest_free-next.result) pool =
-    λ k. record { guid = pool.guid; group = record { 0 = c.open_group.ensures.open_group k }; header = record { address = (header k).address; number = (header k).number; import_number = pool.import_number }; next = c.block_address.ensures.address k } in
+    let place = same_place pool c.open_group.result c.next-header.result c.block_address.result (block_address c.lowest_free-next.result) c.open_group.ensures.open_group c.next-header.ensures.header c.block_address.ensures.address in
     let front : IsPackedFront (pending_of pool) count = rw (c.deref.ensures.value, rest) at c.in_ok-packed.ensures.packed in
     let are : c.in_ok-receipts.receipts.items ≡ map receipt_of (take count (drop pool.written pool.unsynced.items)) = rw (c.deref.ensures.value, rest) at c.in_ok-receipts.ensures.receipts in
     record {

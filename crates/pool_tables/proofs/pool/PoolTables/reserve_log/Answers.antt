@@ -1,4 +1,4 @@
-use Rattle.std.proofs.Common.{◌≡◌, ℕ, [], sym, subst}
+use Rattle.std.proofs.Common.{subst}
 use Rattle.base.specs.formats.Geometry.{block_count}
 use Rattle.base.specs.steps.Exact.{log_addresses}
 use Rattle.base.specs.steps.Logs.{Log}
