@@ -211,3 +211,129 @@ def stopped_imports():
                     book.mount()
             book.mount()
             yield book
+
+
+class LogBook(Book):
+    """A row in which the log is used. A round is a text of moves, one character each:
+
+        1, 2, 3    a transaction that writes to object 1, sets the length of object 2, or makes object 3 or removes it
+        h, H       one as `3` begins, and is committed
+        c, q       the open group is closed, and is quiesced
+        s, .       a sync starts, and makes a step
+        w, f       a log write, and a log flush
+        d          the questions whether the first commit and the last one are durable
+        i          the status
+    """
+
+    def __init__(self, title):
+        super().__init__(title)
+        self.held, self.played = None, 0
+        self.transact("c", 1)
+        self.transact("c", 2)
+        self.play("1cqs")
+        self.finish()
+
+    def operation(self, move):
+        """The operation of a transaction that isn't refused."""
+        if move == "1":
+            return "w", 1, self.played % 7, b"%04d" % (self.played % 10_000)
+        if move == "2":
+            return "l", 2, self.played % 11
+        return "d" if 3 in self.run.contents() else "c", 3
+
+    def play(self, moves):
+        for move in moves:
+            self.played += 1
+            if move in "123":
+                self.transact(*self.operation(move))
+            elif move == "h":
+                self.held = self.begin(*self.operation(move))
+            elif move == "H":
+                self.commit(*self.held)
+            elif move == "c":
+                self.run.open += 1
+                self.say("close", f"open {self.run.open}")
+            elif move == "q":
+                self.say("quiesce", f"quiesced {self.run.open - 1}")
+            elif move == "d":
+                self.durable(0)
+                self.durable(len(self.run.entries) - 1)
+            elif move == "i":
+                self.say("status", self.run.status())
+            else:
+                {"s": self.start, ".": lambda: self.step(1), "w": self.log_write, "f": self.log_flush}[move]()
+
+    def crash_after(self, moves):
+        """A round of these moves for each string: the crash, and an import."""
+        self.play(moves)
+        for number, letters in enumerate(strings(len(self.run.unflushed))):
+            if number > 0:
+                self.play(moves)
+            self.crash(letters)
+            self.mount()
+
+
+def lost_log_blocks():
+    """A crash with up to six log blocks that are not flushed. Two commits before them are durable."""
+    for count in range(7):
+        book = LogBook(f"crashes with {count} log blocks that are not flushed")
+        writes = ["1w", "3w", "2w", "1w", "2w", "3w"][:count]
+        book.crash_after("".join(["13wf", *writes[: count // 2], "cq", *writes[count // 2 :], "d"]))
+        yield book
+
+
+# Crashes beside a sync: what comes before, and the moves after each of which there is a crash. The sync of a group that makes
+# object 3 or removes it has two blocks, a flush, four uberblocks and a flush.
+BESIDE_SYNCS = [
+    # The first log block has the record of the syncing group, which no import replays once the group is mounted. After the log
+    # flush between two uberblocks that group is always mounted.
+    ("the log is written between the calls of a sync, and flushed between its uberblocks", "3cqs", ".w.1w..2wf...."),
+    # The first block is before the sync's header: the older uberblock names it, and the newer ones the block after it.
+    ("the log is written between the uberblocks of a sync that names the next log block", "3wc1qs...", ".w.2w"),
+    # The first block comes back with the last step, and what is written next takes its place.
+    ("log blocks come back with the last step of a sync", "3wcq1wfs", "........id1wfcqs......"),
+    # The record of the next group stands before that of the syncing one.
+    ("a log whose first record is of the next group, beside a sync", "hc1wfHwfqs", "........d"),
+]
+
+
+def syncs_beside_log():
+    """A crash after each device call of a sync, and of the log beside it."""
+    for title, before, moves in BESIDE_SYNCS:
+        book = LogBook(f"crashes: {title}")
+        book.crash_after(before)
+        for at, move in enumerate(moves, 1):
+            if move in ".wf":
+                book.crash_after(before + moves[:at])
+        yield book
+
+
+def stopped_replays():
+    """An import that replays two records, with the record of a synced group between them, is stopped at each of its calls.
+    One that ends comes after it, and shows the same."""
+
+    def crashed(book):
+        """The image: a synced group, and two flushed log blocks."""
+        book.play("3cqs.1w.......3wf")
+        book.crash("")
+        return book.image
+
+    def stop_each(book, stop):
+        """A round for each string: the image, the import that is stopped, and the one after it."""
+        for letters in strings(len(stop.unflushed)):
+            assert crashed(book).calls() == calls
+            book.stop_import(stop, letters)
+            book.mount()
+
+    image = crashed(LogBook(""))
+    calls, stops = image.calls(), image.stops()
+    book = LogBook("imports that replay, stopped at each of their reads")
+    for stop in stops:
+        if stop.kind == "read":
+            stop_each(book, stop)
+    yield book
+    for stop in stops:
+        if stop.kind != "read":
+            book = LogBook(f"imports that replay, stopped at {stop.kind} {stop.number}")
+            stop_each(book, stop)
+            yield book

@@ -32,7 +32,6 @@ import time
 sys.dont_write_bytecode = True
 
 from serial_pool import (  # noqa: E402
-    CHARGE,
     LOG_AVAILABLE,
     LOG_ROOM,
     PART,
@@ -193,12 +192,8 @@ class Pool:
         self.step_beside_log(self.chance.randint(0, len(self.run.sync.calls) - 1))
         while not self.run.step():
             pass
-        run = self.run
-        self.say("finish", f"synced {run.tree.group}")
-        middle = "-" if run.open == run.tree.group + 1 else run.tree.group + 1
-        groups = f"synced {run.tree.group} syncing - middle {middle} open {run.open}"
-        blocks = f"dirty {CHARGE * run.reserved()} free {run.free()} available {run.available()}"
-        self.say("status", f"{groups} {blocks}")
+        self.say("finish", f"synced {self.run.tree.group}")
+        self.say("status", self.run.status())
 
     def letters(self, count):
         return "".join(self.chance.choice("klt") for _ in range(count))

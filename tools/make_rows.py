@@ -27,7 +27,7 @@ import sys
 
 sys.dont_write_bytecode = True
 
-from crash_rows import stopped_imports, stopped_syncs  # noqa: E402
+from crash_rows import lost_log_blocks, stopped_imports, stopped_replays, stopped_syncs, syncs_beside_log  # noqa: E402
 from script_row import BAD_COMMAND, MIB, Row, read_rows  # noqa: E402
 from serial_pool import TOP  # noqa: E402
 
@@ -419,6 +419,9 @@ def all_rows():
         many_shapes,
         stopped_syncs,
         stopped_imports,
+        lost_log_blocks,
+        syncs_beside_log,
+        stopped_replays,
         ten_crashes,
         lost_imports,
     ]:

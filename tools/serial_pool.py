@@ -296,6 +296,13 @@ class Run:
         taken = self.sync.blocks if self.sync else 0
         return self.free() - (self.reserved() - taken)
 
+    def status(self):
+        """The groups, the charges and the blocks, as a script prints them."""
+        group, synced = self.sync and self.sync.tree.group, self.tree.group
+        middle = self.open - 1 if self.open - 1 > (group or synced) else None
+        groups = f"synced {synced} syncing {group or '-'} middle {middle or '-'} open {self.open}"
+        return f"{groups} dirty {CHARGE * self.reserved()} free {self.free()} available {self.available()}"
+
     def crash(self, letters=""):
         """The image that a crash with these letters leaves; a missing one is `k`.
 
@@ -307,8 +314,8 @@ class Run:
         tree, header = self.tree, self.header
         if self.sync and (self.sync.is_mounted or UBERBLOCK in standing):
             tree, header = self.sync.tree, self.sync.header
-        stands = lambda block: block.number < self.certain or block in standing
-        chain = list(itertools.takewhile(stands, self.log[header:]))
+        lost = [block.number for block in self.log[max(header, self.certain) :] if block not in standing]
+        chain = self.log[header : min(lost, default=None)]
         ordinals = [at for block in chain for at in block.ordinals if self.entries[at].group > tree.group]
         image = Image(tree, len(chain) + 1, [self.entries[at] for at in ordinals])
         is_left = [entry.group <= tree.group or at in ordinals for at, entry in enumerate(self.entries)]
@@ -349,14 +356,18 @@ class Image:
         return Image(self.synced, 1) if stop.is_mounted or UBERBLOCK in standing else self
 
 
+def kind_of(call):
+    """The kind of a call, as a script names it."""
+    return call if call in ("read", "flush") else "write"
+
+
 class ImportStop:
     """An import that made some calls, and whose next call is refused."""
 
     def __init__(self, made, call):
         # The kind of the refused call, and its number among the calls of its kind.
-        self.kind = call if call in ("read", "flush") else "write"
-        is_alike = lambda other: other == call if call in ("read", "flush") else other in (PART, UBERBLOCK)
-        self.number = 1 + sum(map(is_alike, made))
+        self.kind = kind_of(call)
+        self.number = [kind_of(other) for other in [*made, call]].count(self.kind)
         self.refusal = {"read": "refused 2 Read", "write": "refused 3 Write", "flush": "refused 4 Flush"}[self.kind]
         # The writes after the last flush, a refused one among them; and whether an uberblock came before that flush.
         flushes = [at for at, other in enumerate(made) if other == "flush"]
