@@ -8,16 +8,18 @@ all answers with those that it worked out before. The answers come from a list o
 and the rules of what is written when; nothing is taken from the program.
 
 - A pool of 6 MiB gets rounds, one upon the other. A round is an import, transactions in up to three groups at once, of which
-  one may be committed behind entries of a newer group, and a sync that is stopped behind any of its device calls: by a
-  crash, or by a call that fails and then a crash or an import.
+  one may be committed after entries of a newer group, and a sync. Log writes, log flushes and the question whether a commit
+  is durable come between all of them, also between the device calls of a sync.
+- The run is stopped after any of the device calls: by a crash, or by a call that fails and then a crash or an import. The
+  failing call is one of the sync, a log write or a log flush.
 - A crash has a string of letters, which keep, lose or tear each unflushed write.
 - Then up to three imports are stopped, each at one of its device calls that fails, and then by a crash or the next import.
-- The import behind all that mounts a group that the letters tell. What it shows, by its digest and its lengths, has to be the
-  replay of the entries up to that group. All entries of synced groups are among them, and none that is left out conflicts
-  with a later one of them.
+- The import after all that mounts a group that the letters tell, and replays the records that they leave in the log. What it
+  shows, by its digest and its lengths, has to be the replay of the entries that are left. All acknowledged entries are among
+  them, and none that is left out conflicts with a later one of them.
 
 The first difference ends it with status 1, and prints the script up to there. The end prints how much was compared, and how
-many of the strings over up to six unflushed writes of a sync came.
+many strings over up to six unflushed writes of a run came.
 """
 
 import collections
@@ -29,25 +31,36 @@ import time
 
 sys.dont_write_bytecode = True
 
-from serial_pool import TOP, Entry, apply, count_blocks, digest, is_cut, replay, tree_blocks, up_to  # noqa: E402
+from serial_pool import (  # noqa: E402
+    LOG_AVAILABLE,
+    LOG_ROOM,
+    PART,
+    TOP,
+    UBERBLOCK,
+    Entry,
+    Image,
+    Run,
+    Tree,
+    apply,
+    digest,
+    record_size,
+)
 
 SIZE = 6 * 2**20
 DIRTY_MAX = 2**40
 OBJECTS = [0, 1, 2, 62, 63, 5_291]
 FEW = 6
-POINTS = sum(3**writes for writes in range(FEW + 1)) + sum(3**writes for writes in range(5)) + 1
 ROUNDS = 40
 
 
 class Pool:
-    """A script with its answers, and the serial pool behind it: what was mounted, the entries since, and the groups."""
+    """A script with its answers, and a plain serial pool beside it: a run, and the image that it left."""
 
     def __init__(self, chance):
         self.chance = chance
         self.script, self.answers = [], []
-        self.objects, self.records = {}, {}
-        self.active = 4
-        self.seen, self.stops = set(), collections.Counter()
+        self.image, self.run = Image(Tree(4, {}, {})), None
+        self.seen, self.counts = set(), collections.Counter()
         self.say("create tank 77", "ok")
         self.start_run()
 
@@ -57,11 +70,11 @@ class Pool:
 
     def start_run(self):
         """An import that ends, and what it shows."""
-        self.active += 4
-        self.open = self.active + 1
-        self.entries, self.transactions = [], 0
-        self.say(f"import {DIRTY_MAX}", f"synced {self.active} open {self.open} records 0")
-        self.show(self.objects)
+        self.run, self.transactions = Run(self.image.synced), 0
+        records = len(self.image.entries)
+        self.say(f"import {DIRTY_MAX}", f"synced {self.run.tree.group} open {self.run.open} records {records}")
+        self.counts["records"] += records
+        self.show(self.run.mounted)
         for at, number in enumerate(OBJECTS):
             self.say(f"lock 1 {number} w 0 {TOP}", f"lock {at}")
 
@@ -70,9 +83,6 @@ class Pool:
         for number in OBJECTS:
             shown = f"length {len(objects[number])}" if number in objects else "refused 9 NoObject"
             self.say(f"length {number}", shown)
-
-    def contents(self):
-        return replay(self.objects, self.entries)
 
     def some_op(self, objects):
         """An operation on one of these objects that isn't refused."""
@@ -86,144 +96,173 @@ class Pool:
         if kind == "l":
             return ("l", number, self.chance.choice([0, 5, 4_031, 4_032, 4_033, 9_000]), b"")
         letter = self.chance.choice("abcdefghijklmnopqrstuvwxyz")
-        return ("w", number, place, letter.encode() * self.chance.randint(1, 40))
+        length = self.chance.choice([self.chance.randint(1, 40)] * 9 + [self.chance.randint(1_000, 3_969)])
+        return ("w", number, place, letter.encode() * length)
+
+    def some_ops(self):
+        """The operations of a transaction that isn't refused."""
+        objects, ops = self.run.contents(), []
+        for _ in range(self.chance.randint(1, 3)):
+            op = self.some_op(objects)
+            if record_size(Entry(0, [*ops, op])) <= LOG_ROOM:
+                ops.append(op)
+                objects = apply(objects, [op])
+        return ops
 
     def begin(self, ops):
-        """Begins a transaction with these operations: its number, its group and the words of its commit."""
-        shapes, words = [], []
+        """Begins a transaction with these operations: its number and its entry."""
+        shapes = []
         for kind, number, place, content in ops:
             rest = {"w": f":{place}:{len(content)}", "l": f":{place}"}.get(kind, "")
             shapes.append(f"{kind}:{number}{rest}")
-            words += [content.decode()] if kind == "w" else []
         tx, self.transactions = self.transactions, self.transactions + 1
-        self.say(f"begin 1 {' '.join(shapes)}", f"tx {tx} group {self.open}")
-        return tx, self.open, words
+        entry = self.run.begin(ops)
+        self.say(f"begin 1 {' '.join(shapes)}", f"tx {tx} group {entry.group}")
+        return tx, entry
 
-    def commit(self, tx, group, words, ops):
-        self.say(" ".join(["commit", str(tx), *words]), f"entry {len(self.entries)} group {group}")
-        self.entries.append(Entry(group, ops))
+    def commit(self, tx, entry):
+        words = [content.decode() for kind, _, _, content in entry.ops if kind == "w"]
+        ordinal = self.run.commit(entry)
+        self.say(" ".join(["commit", str(tx), *words]), f"entry {ordinal} group {entry.group}")
 
     def transact(self):
-        objects, ops = self.contents(), []
-        for _ in range(self.chance.randint(1, 3)):
-            ops.append(self.some_op(objects))
-            objects = apply(objects, ops[-1:])
-        self.commit(*self.begin(ops), ops)
+        """A transaction, and perhaps the log after it."""
+        self.commit(*self.begin(self.some_ops()))
+        self.use_log(0.4)
+
+    def use_log(self, share):
+        """By chance a log write, a log flush, and whether a commit is durable."""
+        run = self.run
+        if self.chance.random() < share and run.available() >= LOG_AVAILABLE:
+            records = run.log_write()
+            self.say("log-write", f"logged {records}" if records else "refused 20 NotReady")
+            self.counts["log writes"] += records > 0
+        if self.chance.random() < share / 2:
+            self.say("log-flush", "flushed" if run.log_flush() else "refused 20 NotReady")
+        if self.chance.random() < share / 2:
+            self.ask_durable()
+
+    def ask_durable(self):
+        """Whether a commit is durable, or a number that none has."""
+        ordinal = self.chance.randint(0, len(self.run.entries))
+        group = self.run.entries[ordinal].group if ordinal < len(self.run.entries) else self.run.open
+        answer = "yes" if self.run.is_durable(ordinal, group) else "no"
+        self.say(f"durable {ordinal} {group}", f"durable {answer}")
 
     def close(self):
-        """The open group gets entries, is closed and is quiesced. One entry may come behind one of the next group."""
+        """The open group gets entries, is closed and is quiesced. One entry may come after one of the next group."""
         for _ in range(self.chance.randint(0, 3)):
             self.transact()
-        old, self.open = self.open, self.open + 1
-        objects = self.contents()
+        old, objects = self.run.open, self.run.contents()
         if self.chance.random() < 0.4 and len(objects) > 1:
             late, other = self.chance.sample(sorted(objects), 2)
-            early_ops, late_ops = [("w", other, 3, b"newer")], [("w", late, 3, b"older")]
-            self.open = old
-            held = self.begin(late_ops)
-            self.open = old + 1
-            self.say("close", f"open {self.open}")
-            self.commit(*self.begin(early_ops), early_ops)
+            held = self.begin([("w", late, 3, b"older")])
+            self.run.open += 1
+            self.say("close", f"open {self.run.open}")
+            self.commit(*self.begin([("w", other, 3, b"newer")]))
+            self.use_log(0.4)
             self.say("quiesce", "refused 20 NotReady")
-            self.commit(*held, late_ops)
+            self.commit(*held)
         else:
-            self.say("close", f"open {self.open}")
+            self.run.open += 1
+            self.say("close", f"open {self.run.open}")
+        self.use_log(0.3)
         self.say("quiesce", f"quiesced {old}")
 
     def start(self):
-        """The sync of the oldest group starts: the number of its blocks, and the records behind it."""
-        group = self.active + 1
-        self.say("start", f"syncing {group}")
-        before = replay(self.objects, up_to(self.entries, group - 1))
-        return count_blocks(before, self.records, [entry for entry in self.entries if entry.group == group])
+        """The sync of the oldest group starts."""
+        self.run.start()
+        self.say("start", f"syncing {self.run.sync.tree.group}")
 
-    def finish(self, records):
-        self.active, self.records = self.active + 1, records
-        self.say("finish", f"synced {self.active}")
+    def step(self):
+        is_last = self.run.step()
+        self.say("step", f"synced {self.run.tree.group}" if is_last else "more")
+
+    def step_beside_log(self, calls):
+        """So many steps of the sync, and the log and transactions of the open group between them."""
+        share = self.chance.choice([0, 0, 0.1, 0.4])
+        for _ in range(calls):
+            self.step()
+            if self.chance.random() < share:
+                self.commit(*self.begin(self.some_ops()))
+            self.use_log(share)
+
+    def finish(self):
+        """The running sync up to its end, and what the pool shows of its blocks."""
+        self.step_beside_log(self.chance.randint(0, len(self.run.sync.calls) - 1))
+        while not self.run.step():
+            pass
+        self.say("finish", f"synced {self.run.tree.group}")
+        self.say("status", self.run.status())
 
     def letters(self, count):
         return "".join(self.chance.choice("klt") for _ in range(count))
 
-    def crash(self, letters):
+    def crash(self, unflushed):
+        """A crash with these unflushed writes: its letters."""
+        letters = self.letters(len(unflushed))
         self.say(f"crash {letters}".rstrip(), f"crashed {len(letters)}")
+        if len(letters) <= FEW:
+            self.seen.add(("".join("l" if write not in (PART, UBERBLOCK) else write[0] for write in unflushed), letters))
+        return letters
 
-    def end_run(self, group, records):
-        """What is left of a run is what was committed up to a group."""
-        assert group >= self.active and is_cut(self.entries, group)
-        self.objects = replay(self.objects, up_to(self.entries, group))
-        self.active, self.records, self.entries = group, records, []
+    def fail_call(self):
+        """The next call of the sync, or a log write or a log flush, is refused, if there is one: whether it is."""
+        run = self.run
+        kind = self.chance.choice(["step", "step", "log-write", "log-flush"])
+        if kind == "step" and run.sync:
+            is_flush = run.refuse_step()
+        elif kind == "log-write" and run.pending() and run.available() >= LOG_AVAILABLE:
+            is_flush = run.log_write(is_refused=True) == 0
+        elif kind == "log-flush" and run.awaits_flush():
+            is_flush = True
+        else:
+            return False
+        self.say("fail flush 1" if is_flush else "fail write 1", "ok")
+        self.say(kind, "refused 4 Flush" if is_flush else "refused 3 Write")
+        self.say(self.chance.choice(["length 1", "log-write", "log-flush", "step"]), "refused 5 Suspended")
+        return True
 
-    def stop_sync(self, blocks, records):
-        """A started sync is stopped behind a device call."""
-        call = self.chance.randint(0, blocks + 6)
-        fails = self.chance.random() < 0.3 and call < blocks + 6
-        group = self.active + 1
-        for done in range(1, call + 1):
-            self.say("step", f"synced {group}" if done == blocks + 6 else "more")
-        if call <= blocks:
-            unflushed, uberblocks = call, 0
-        else:
-            unflushed = uberblocks = (call - blocks - 1) % 5
-        is_flush = call in (blocks, blocks + 5)
-        if fails:
-            word, refusal = ("flush", "4 Flush") if is_flush else ("write", "3 Write")
-            self.say(f"fail {word} 1", "ok")
-            self.say("step", f"refused {refusal}")
-            self.say("length 1", "refused 5 Suspended")
-        whole = call == blocks + 6
-        if fails and self.chance.random() < 0.5:
-            whole = whole or uberblocks > 0
-        else:
-            letters = self.letters(unflushed + (fails and not is_flush))
-            self.crash(letters)
-            whole = whole or "k" in letters[:uberblocks]
-            if not fails and unflushed <= FEW:
-                self.seen.add((call - blocks if call > blocks else -1 - call, letters))
-        self.stops["syncs"] += 1
-        self.end_run(group if whole else self.active, records if whole else self.records)
+    def stop_run(self):
+        """The run is stopped after some device call of its sync, by a crash or by a call that fails."""
+        self.step_beside_log(self.chance.randint(0, len(self.run.sync.calls)))
+        self.use_log(0.3)
+        fails = self.chance.random() < 0.3 and self.fail_call()
+        self.ask_durable()
+        is_crashed = not fails or self.chance.random() < 0.5
+        self.image = self.run.crash(self.crash(self.run.unflushed) if is_crashed else "")
+        self.run = None
+        self.counts["runs"] += 1
 
     def stop_import(self):
         """An import is stopped at a device call that fails."""
-        writes = {1: (1, 0), 2: (2, 0), 3: (1, 0), 4: (2, 1), 5: (3, 2), 6: (4, 3), 7: (1, 0), 8: (2, 0)}
-        flushes = {1: (0, 0), 2: (0, 0), 3: (2, 0), 4: (4, 4), 5: (2, 0)}
+        stops = self.image.stops()
         kind = self.chance.choice(["read", "write", "write", "write", "flush", "flush"])
-        if kind == "read":
-            call, refusal = self.chance.randint(1, 8 + tree_blocks(self.objects, self.records)), "2 Read"
-            unflushed, uberblocks, is_behind = 0, 0, False
-        elif kind == "write":
-            call, refusal = self.chance.randint(1, 8), "3 Write"
-            (unflushed, uberblocks), is_behind = writes[call], call > 6
-        else:
-            call, refusal = self.chance.randint(1, 5), "4 Flush"
-            (unflushed, uberblocks), is_behind = flushes[call], call > 4
-        self.say(f"fail {kind} {call}", "ok")
-        self.say(f"import {DIRTY_MAX}", f"refused {refusal}")
-        if self.chance.random() < 0.7 and not (kind == "flush" and call == 1):
-            letters = self.letters(unflushed)
-            self.crash(letters)
-            whole = "k" in letters[:uberblocks]
-        else:
-            whole = uberblocks > 0
-        self.active += 4 if is_behind or whole else 0
-        self.stops["imports"] += 1
+        stop = self.chance.choice([stop for stop in stops if stop.kind == kind])
+        self.say(f"fail {stop.kind} {stop.number}", "ok")
+        self.say(f"import {DIRTY_MAX}", stop.refusal)
+        # Writes of the call before may be unflushed until the first flush.
+        is_crashed = self.chance.random() < 0.7 and not (kind == "flush" and stop.number == 1)
+        self.image = self.image.stop(stop, self.crash(stop.unflushed) if is_crashed else "")
+        self.counts["imports"] += 1
 
     def round(self):
-        """A run of up to three groups at once that is stopped in a sync, imports that are stopped, and one that ends."""
+        """A run of up to three groups at once that is stopped, imports that are stopped, and one that ends."""
         self.close()
-        blocks, records = self.start()
+        self.start()
         for _ in range(self.chance.randint(0, 2)):
             if self.chance.random() < 0.6:
                 self.close()
                 for _ in range(self.chance.randint(0, 2)):
                     self.transact()
-                self.show(self.contents())
-                self.finish(records)
-                blocks, records = self.start()
+                self.show(self.run.contents())
+                self.finish()
+                self.start()
         if self.chance.random() < 0.5:
             self.close()
             self.transact()
-        self.show(self.contents())
-        self.stop_sync(blocks, records)
+        self.show(self.run.contents())
+        self.stop_run()
         for _ in range(self.chance.choice([0, 0, 1, 2, 3])):
             self.stop_import()
         self.start_run()
@@ -258,7 +297,7 @@ def main():
     seconds = float(sys.argv[2]) if len(sys.argv) > 2 else 60
     seed = int(sys.argv[3]) if len(sys.argv) > 3 else 0
     chance = random.Random(seed)
-    stops, seen, scripts, answers = collections.Counter(), set(), 0, 0
+    counts, seen, scripts, answers = collections.Counter(), set(), 0, 0
     end = time.monotonic() + seconds
     while time.monotonic() < end:
         pool = Pool(chance)
@@ -266,10 +305,11 @@ def main():
             pool.round()
         compare(program, pool)
         scripts, answers = scripts + 1, answers + len(pool.answers)
-        stops += pool.stops
+        counts += pool.counts
         seen |= pool.seen
-    print(f"{scripts} scripts, {answers} answers, {stops['syncs']} stopped syncs, {stops['imports']} stopped imports")
-    print(f"{len(seen)} of the {POINTS} strings of up to {FEW} letters at a point of a sync")
+    print(f"{scripts} scripts, {answers} answers, {counts['runs']} stopped runs, {counts['imports']} stopped imports")
+    print(f"{counts['log writes']} log writes, {counts['records']} replayed records")
+    print(f"{len(seen)} strings of letters over lists of up to {FEW} unflushed writes")
 
 
 main()

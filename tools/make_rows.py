@@ -8,8 +8,8 @@ A row is a script with a title, the size of its device and the moment of its ube
 
 - those of the files `tools/rows/*.rows`, written by hand, each line beside its answer ("read_rows" has the form);
 - lines that are no commands, and comments, which some bytes make hard to write in a file (`bad_lines`, `silent_lines`);
-- rows with many lines of one kind (`whole_uberblocks`, `eighth_steps`, `many_groups`, `many_objects`, `many_locks`,
-  `many_shapes`);
+- rows with many lines of one kind (`whole_uberblocks`, `eighth_steps`, `many_groups`, `many_objects`, `many_records`,
+  `full_log`, `many_locks`, `many_shapes`);
 - crashes of whole pools: rounds of transactions, a sync or an import that is stopped after each of its device calls, each
   string of kept, lost and torn writes, and the next import (`stopped_syncs`, `stopped_imports`); and the same of one sync on
   the least device, where each unflushed write meets the same (`ten_crashes`, `lost_imports`).
@@ -27,70 +27,12 @@ import sys
 
 sys.dont_write_bytecode = True
 
-from serial_pool import TOP, Entry, is_cut, replay, up_to  # noqa: E402
+from crash_rows import lost_log_blocks, stopped_imports, stopped_replays, stopped_syncs, syncs_beside_log  # noqa: E402
+from script_row import BAD_COMMAND, MIB, Row, read_rows  # noqa: E402
+from serial_pool import TOP  # noqa: E402
 
 TOOLS = pathlib.Path(__file__).parent
 CRATE = TOOLS.parent / "crates" / "script_rows"
-MIB = 2**20
-OBJECTS = range(4)
-BAD_COMMAND = "bad command"
-
-
-class Row:
-    """A script, line by line, each line with its answer."""
-
-    def __init__(self, title, size=8 * MIB, moment=0):
-        self.head = f"== {size} {moment} {title}"
-        self.lines = []
-
-    def say(self, line, answer=None):
-        """A line, and what it prints: nothing if it is empty, a comment, or after a bad command."""
-        line = line if isinstance(line, bytes) else line.encode()
-        is_silent = line == b"" or line.startswith(b"#") or self.is_ended()
-        assert (answer is None) == is_silent and not line.startswith(b"== ") and b"\n" not in line, (self.head, line)
-        self.lines.append((line, answer))
-
-    def say_all(self, text):
-        """Lines of the form `LINE -> ANSWER`."""
-        for line in text.strip().splitlines():
-            self.say(*split_line(line))
-
-    def is_ended(self):
-        return any(BAD_COMMAND in (answer or "") for _, answer in self.lines)
-
-    def script(self):
-        return b"".join(line + b"\n" for line in [self.head.encode(), *(line for line, _ in self.lines)])
-
-    def answers(self):
-        answers = [answer for _, answer in self.lines if answer is not None]
-        status = 2 if self.is_ended() else 0
-        return "".join(f"{line}\n" for line in [self.head, *answers, f"== status {status}"]).encode()
-
-
-def split_line(text):
-    """The line and the answer of `LINE -> ANSWER`, or a line without an answer."""
-    line, arrow, answer = text.partition(" -> ")
-    return (line.rstrip(), answer) if arrow else (text, None)
-
-
-def read_rows(path):
-    """The rows of a file. Its lines are
-
-        == SIZE MOMENT TITLE       a row begins
-        ## TEXT                    for who reads the file
-        LINE -> ANSWER             a line of the script, and what it prints
-        LINE                       a line of the script that prints nothing
-
-    and empty ones, which are no lines of the script.
-    """
-    rows = []
-    for text in path.read_text().splitlines():
-        if text.startswith("== "):
-            _, size, moment, title = text.split(" ", 3)
-            rows.append(Row(title, int(size), int(moment)))
-        elif text and not text.startswith("##"):
-            rows[-1].say(*split_line(text))
-    return rows
 
 
 # Lines that are no commands. Each follows lines after which a line of the right form would be answered: there is a pool, a
@@ -137,6 +79,12 @@ BAD_LINES = [
     b"length x",
     b"name tank",
     b"status 9",
+    b"log-write 1",
+    b"log-flush x",
+    b"log",
+    b"durable 1",
+    b"durable 1 9 9",
+    b"durable 1 x",
 ]
 
 
@@ -240,6 +188,8 @@ def eighth_steps():
             "close",
             "quiesce",
             "start",
+            "log-write",
+            "log-flush",
         ]:
             row.say(line, "refused 5 Suspended")
         yield crash_seven_steps(row, letters)
@@ -299,6 +249,65 @@ unlock 1 1000 -> refused 21 NoSuchLock
     yield row
 
 
+def many_records():
+    """150 creations have records of 27 bytes, of which 148 fit into the 4,008 bytes of a log block."""
+    row = Row("a hundred and fifty objects are made, and their records fill more than one log block")
+    row.say("create tank 77", "ok")
+    row.say(f"import {4 * MIB}", "synced 8 open 9 records 0")
+    for number in range(150):
+        row.say(f"lock 1 {number} w 0 {TOP}", f"lock {number}")
+        row.say(f"begin 1 c:{number}", f"tx {number} group 9")
+        row.say(f"commit {number}", f"entry {number} group 9")
+        row.say(f"unlock 1 {number}", "ok")
+    row.say_all("""
+log-write -> logged 148
+log-write -> logged 2
+log-write -> refused 20 NotReady
+log-flush -> flushed
+crash -> crashed 0
+import 1048576 -> synced 12 open 13 records 150
+length 0 -> length 0
+length 149 -> length 0
+length 150 -> refused 9 NoObject
+""")
+    yield row
+
+
+def full_log():
+    """On 6 MiB 383 blocks are free. A creation is charged two blocks, a write four. A log write takes a block, and needs 17
+    that are available; a plan that only removes needs no more than its own."""
+    row = Row("a log write and a plan need blocks that stay available, and a plan that only removes does not", 6 * MIB)
+    row.say_all("""
+create tank 77 -> ok
+import 4194304 -> synced 8 open 9 records 0
+status -> synced 8 syncing - middle - open 9 dirty 0 free 383 available 383
+lock 1 0 w 0 338688 -> lock 0
+lock 1 1 w 0 338688 -> lock 1
+begin 1 c:0 -> tx 0 group 9
+commit 0 -> entry 0 group 9
+status -> synced 8 syncing - middle - open 9 dirty 8192 free 383 available 381
+""")
+    for number in range(1, 92):
+        row.say("begin 1 w:0:0:4", f"tx {number} group 9")
+        row.say(f"commit {number} abcd", f"entry {number} group 9")
+    row.say_all("""
+status -> synced 8 syncing - middle - open 9 dirty 1499136 free 383 available 17
+begin 1 w:0:0:4 -> refused 16 NoSpace
+log-write -> logged 92
+status -> synced 8 syncing - middle - open 9 dirty 1499136 free 382 available 16
+begin 1 c:1 -> refused 16 NoSpace
+begin 1 d:0 -> tx 92 group 9
+commit 92 -> entry 92 group 9
+status -> synced 8 syncing - middle - open 9 dirty 1507328 free 382 available 14
+log-write -> refused 23 NoLogSpace
+log-flush -> flushed
+crash -> crashed 0
+import 4194304 -> synced 12 open 13 records 92
+length 0 -> length 4
+""")
+    yield row
+
+
 def many_locks():
     """256 locks of an object are the most."""
     row = Row("the most locks of an object")
@@ -331,221 +340,6 @@ def many_shapes():
         row.say(f"lock 1 1 w 0 {TOP}", "lock 0")
         row.say("begin 1 " + " ".join(["c:1 d:1"] * (shapes // 2) + ["c:1"] * (shapes % 2)), refusal)
         yield row
-
-
-class Book(Row):
-    """A row that is written with a plain serial pool beside it: what was mounted, and the entries since.
-
-    An import of group u syncs u + 4 and opens the next one. Locks, transactions and entries are numbered from 0 on after
-    each import.
-    """
-
-    def __init__(self, title):
-        super().__init__(title, 6 * MIB)
-        self.objects, self.entries, self.active = {}, [], 4
-        self.say("create tank 77", "ok")
-        self.mount()
-
-    def mount(self):
-        """An import. After it owner 1 locks all objects, and reads what the serial pool has of them."""
-        self.active += 4
-        self.open = self.active + 1
-        self.say(f"import {MIB}", f"synced {self.active} open {self.open} records 0")
-        for number in OBJECTS:
-            self.say(f"lock 1 {number} w 0 {TOP}", f"lock {number}")
-            self.read(number)
-
-    def read(self, number):
-        if number in self.objects:
-            content = self.objects[number]
-            self.say(f"read 1 {number} 0 {TOP}", f"bytes {len(content)} {content.hex()}".rstrip())
-        else:
-            self.say(f"read 1 {number} 0 {TOP}", "refused 9 NoObject")
-
-    def transact(self, kind, number, place=0, content=b""):
-        """A transaction of one operation, which begins and is committed in the open group."""
-        entry = len(self.entries)
-        rest = {"w": f":{place}:{len(content)}", "l": f":{place}"}.get(kind, "")
-        self.say(f"begin 1 {kind}:{number}{rest}", f"tx {entry} group {self.open}")
-        self.say(f"commit {entry} {content.decode()}".rstrip(), f"entry {entry} group {self.open}")
-        self.entries.append(Entry(self.open, [(kind, number, place, content)]))
-
-    def close(self):
-        """The open group is closed and quiesced."""
-        closed, self.open = self.open, self.open + 1
-        self.say("close", f"open {self.open}")
-        self.say("quiesce", f"quiesced {closed}")
-
-    def start(self):
-        """The sync of the group after the active one starts."""
-        self.say("start", f"syncing {self.active + 1}")
-
-    def step(self, count):
-        """So many steps of the sync, which do not end it."""
-        for _ in range(count):
-            self.say("step", "more")
-
-    def finish(self):
-        """The steps of the sync up to its end."""
-        self.active += 1
-        self.say("finish", f"synced {self.active}")
-
-    def crash(self, letters, active):
-        """A crash, with a letter for each unflushed write, that leaves this group as the active one."""
-        self.say(f"crash {letters}".rstrip(), f"crashed {len(letters)}")
-        assert active >= self.active and is_cut(self.entries, active)
-        self.objects = replay(self.objects, up_to(self.entries, active))
-        self.entries, self.active = [], active
-
-
-def strings(count):
-    """Each string of kept, lost and torn writes over so many unflushed writes."""
-    return ["".join(letters) for letters in itertools.product("klt", repeat=count)]
-
-
-# Where a sync is stopped: after so many of its writes of blocks; after the flush of its blocks and so many writes of
-# uberblocks; or after its last flush.
-BLOCKS, UBERBLOCKS, ENDED = "blocks", "uberblocks", "its last flush"
-
-
-def begun(title):
-    """A pool with objects 1 and 2, in its first group."""
-    book = Book(title)
-    book.transact("c", 1)
-    book.transact("c", 2)
-    book.close()
-    book.start()
-    book.finish()
-    return book
-
-
-def fill(book, number):
-    """Three groups. The oldest writes to both objects, and its sync starts. The next one writes to the first object again.
-    The open one removes it, cuts the other one and makes a third."""
-    digits = b"%04d" % number
-    book.transact("w", 1, 0, digits)
-    book.transact("w", 2, 4, digits)
-    book.close()
-    book.start()
-    book.transact("w", 1, 2, digits)
-    book.close()
-    book.transact("d", 1)
-    book.transact("l", 2, number % 11)
-    book.transact("c", 3)
-
-
-def crash_in_sync(book, blocks, stop, count, letters):
-    """The sync of so many blocks is stopped. It writes its blocks, flushes, writes four uberblocks and flushes. So a crash
-    before the uberblocks leaves the group of before, a crash after the last flush leaves the synced one, and a crash
-    between them leaves the synced one if one of the uberblocks was kept."""
-    before = book.active
-    if stop == BLOCKS:
-        book.step(count)
-        book.crash(letters, before)
-    elif stop == UBERBLOCKS:
-        book.step(blocks + 1 + count)
-        book.crash(letters, before + ("k" in letters))
-    else:
-        book.finish()
-        book.crash(letters, before + 1)
-
-
-def first_sync(book, number, stop, count, letters):
-    """The sync of the oldest of three groups is stopped. It has two records, each with its map, the directory and the root:
-    six blocks."""
-    fill(book, number)
-    crash_in_sync(book, 6, stop, count, letters)
-
-
-def second_sync(book, number, stop, count, letters):
-    """The oldest of three groups is synced, and the sync of the next one is stopped. It has a record with its map, the
-    directory and the root: four blocks."""
-    fill(book, number)
-    book.finish()
-    book.start()
-    crash_in_sync(book, 4, stop, count, letters)
-
-
-def small_sync(book, number, stop, count, letters):
-    """The sync of a group that makes an object or removes it is stopped. It has the directory and the root: two blocks."""
-    book.transact("d" if 3 in book.objects else "c", 3)
-    book.close()
-    book.start()
-    crash_in_sync(book, 2, stop, count, letters)
-
-
-def stopped_syncs():
-    """Rounds upon each other in one pool. A round is a sync that is stopped, with one of the strings, and an import."""
-    for name, blocks, stop_one in [
-        ("the first of three groups", 6, first_sync),
-        ("the second of three groups", 4, second_sync),
-        ("a small group", 2, small_sync),
-    ]:
-        stops = [(BLOCKS, count) for count in range(blocks + 1)] + [(UBERBLOCKS, count) for count in range(5)]
-        for stop, count in [*stops, (ENDED, 0)]:
-            where = stop if stop == ENDED else f"{count} {stop}"
-            book = begun(f"crashes in the sync of {name}, after {where}")
-            for number, letters in enumerate(strings(count)):
-                stop_one(book, number, stop, count, letters)
-                book.mount()
-            yield book
-
-
-class ImportStop:
-    """A device call of an import that fails: the call, and what is unflushed then, the failed write among it."""
-
-    def __init__(self, kind, call, unflushed=0, uberblocks=0, is_after=False):
-        self.kind, self.call = kind, call
-        # How many writes came after the last flush, and how many of them are uberblocks that were written.
-        self.unflushed, self.uberblocks = unflushed, uberblocks
-        # Whether a flush came after the uberblocks.
-        self.is_after = is_after
-        self.refusal = {"read": "refused 2 Read", "write": "refused 3 Write", "flush": "refused 4 Flush"}[kind]
-
-
-# An import flushes, reads four arrays of uberblocks, four configs, the tree (here six blocks) and the first place of the log
-# (here no log block), flushes, writes two configs, flushes, writes four uberblocks of the fourth group on, flushes, writes the
-# other two configs and flushes.
-READ_STOPS = [ImportStop("read", call) for call in range(1, 16)]
-WRITE_STOPS = [
-    ImportStop("flush", 1),
-    ImportStop("flush", 2),
-    ImportStop("write", 1, unflushed=1),
-    ImportStop("write", 2, unflushed=2),
-    ImportStop("flush", 3, unflushed=2),
-    ImportStop("write", 3, unflushed=1),
-    ImportStop("write", 4, unflushed=2, uberblocks=1),
-    ImportStop("write", 5, unflushed=3, uberblocks=2),
-    ImportStop("write", 6, unflushed=4, uberblocks=3),
-    ImportStop("flush", 4, unflushed=4, uberblocks=4),
-    ImportStop("write", 7, unflushed=1, is_after=True),
-    ImportStop("write", 8, unflushed=2, is_after=True),
-    ImportStop("flush", 5, unflushed=2, is_after=True),
-]
-
-
-def stop_import(book, stop, letters):
-    """An import is stopped by a call that fails, and a crash."""
-    book.say(f"fail {stop.kind} {stop.call}", "ok")
-    book.say(f"import {MIB}", stop.refusal)
-    is_written = stop.is_after or "k" in letters[: stop.uberblocks]
-    book.crash(letters, book.active + (4 if is_written else 0))
-
-
-def stopped_imports():
-    """Imports that are stopped, with each string, of a pool that has one whole uberblock of its last sync, the third. An
-    import that ends comes after each of them, or only after the last one."""
-    for stop, is_each in [(stop, False) for stop in READ_STOPS] + list(itertools.product(WRITE_STOPS, [True, False])):
-        after = "and one that ends after each" if is_each else "and one that ends after them"
-        book = begun(f"imports that are stopped at {stop.kind} {stop.call}, {after}")
-        fill(book, 1234)
-        crash_in_sync(book, 6, UBERBLOCKS, 4, "ttkt")
-        for letters in strings(stop.unflushed):
-            stop_import(book, stop, letters)
-            if is_each:
-                book.mount()
-        book.mount()
-        yield book
 
 
 # On 6 MiB a transaction makes object 1, of four bytes, and its group is synced by its block, its map, the directory, the root,
@@ -592,17 +386,21 @@ def ten_crashes():
         yield row
 
 
+# The writes of an import of this pool: two configs, four uberblocks, two configs, with a flush after each of the three. Each
+# has the number of unflushed writes then.
+IMPORT_WRITES = [1, 2, 1, 2, 3, 4, 1, 2]
+
+
 def lost_imports():
     """A synced pool is given up, and an import is stopped at each of its writes. What is unflushed is lost, and the next
     import finds the object."""
-    for stop in WRITE_STOPS:
-        if stop.kind == "write":
-            row = ten_steps(f"an import that is stopped at write {stop.call}, and each unflushed write is lost", 10)
-            row.say(f"fail write {stop.call}", "ok")
-            row.say(f"import {MIB}", stop.refusal)
-            crash_with(row, "l", stop.unflushed)
-            import_behind(row, 13 if stop.is_after else 9)
-            yield row
+    for write, unflushed in enumerate(IMPORT_WRITES, 1):
+        row = ten_steps(f"an import that is stopped at write {write}, and each unflushed write is lost", 10)
+        row.say(f"fail write {write}", "ok")
+        row.say(f"import {MIB}", "refused 3 Write")
+        crash_with(row, "l", unflushed)
+        import_behind(row, 13 if write > 6 else 9)
+        yield row
 
 
 def all_rows():
@@ -615,10 +413,15 @@ def all_rows():
         eighth_steps,
         many_groups,
         many_objects,
+        many_records,
+        full_log,
         many_locks,
         many_shapes,
         stopped_syncs,
         stopped_imports,
+        lost_log_blocks,
+        syncs_beside_log,
+        stopped_replays,
         ten_crashes,
         lost_imports,
     ]:

@@ -1,8 +1,10 @@
 """A plain serial pool: a list of entries and a map of objects.
 
 An entry is a committed transaction with the group that it was committed in. What a crash leaves of a run is the replay of the
-entries up to a group, in their order. `crashes.py` and `make_rows.py` take from here what they expect of an engine; nothing is
-taken from a program.
+entries up to a group, and after them of those whose records stand in the log, in their order. `crashes.py` and `make_rows.py`
+take from here what they expect of an engine; nothing is taken from a program.
+
+`Run` is a pool from an import to a crash, `Image` what the crash leaves, up to the next import that ends.
 """
 
 import collections
@@ -13,6 +15,13 @@ import struct
 TOP = 338_688
 RECORD = 4_032
 IN_DIRECTORY = 63
+
+# The pools here have 6 MiB.
+BLOCKS = 384
+CHARGE = 4_096
+# A log block has so many bytes of records. A log write needs so many available blocks.
+LOG_ROOM = 4_008
+LOG_AVAILABLE = 17
 
 # An entry is a committed transaction: its group, and its operations as (kind, object, place or length, bytes). The kinds are
 # the letters of a script: `c` creates the object, `d` removes it, `w` writes bytes at a place, `l` sets the length.
@@ -45,10 +54,6 @@ def replay(objects, entries):
     return objects
 
 
-def up_to(entries, group):
-    """The entries of a group and of those before it."""
-    return [entry for entry in entries if entry.group <= group]
-
 
 def digest(objects):
     """The digest of a pool that is named tank: its name and its objects, by rising number, each with its length."""
@@ -70,12 +75,29 @@ def conflict(one, other):
     return False
 
 
-def is_cut(entries, group):
-    """Whether the entries up to a group leave out none that conflicts with a later one of them."""
+def is_cut(entries, is_left):
+    """Whether no entry that is left conflicts with an earlier one that is not."""
     return not any(
-        early.group > group >= late.group and conflict(early, late)
-        for early, late in itertools.combinations(entries, 2)
+        is_left[at] and not is_left[before] and conflict(entries[before], entries[at])
+        for before, at in itertools.combinations(range(len(entries)), 2)
     )
+
+
+def record_size(entry):
+    """The bytes of an entry's record in the log."""
+    sizes = {"c": 5, "d": 5, "l": 13, "w": 17}
+    return 22 + sum(sizes[kind] + len(content) for kind, _, _, content in entry.ops)
+
+
+def estimate(entry):
+    """The blocks that an entry is charged."""
+    blocks = 0
+    for kind, _, place, content in entry.ops:
+        if kind == "w":
+            blocks += (place + len(content) - 1) // RECORD - place // RECORD + 1 + 3
+        else:
+            blocks += 4 if kind == "l" else 2
+    return blocks
 
 
 def count_blocks(objects, records, entries):
@@ -120,3 +142,235 @@ def tree_blocks(objects, records):
     data = sum(map(len, records.values()))
     indirect = sum(map(bool, records.values()))
     return data + indirect + len({n // IN_DIRECTORY for n in objects}) + bool(objects)
+
+
+# The tree of a synced group: its objects, and of each the records that are no holes.
+Tree = collections.namedtuple("Tree", "group objects records")
+
+# A log block: its number in the chain, and the ordinals of the entries whose records it has.
+LogBlock = collections.namedtuple("LogBlock", "number ordinals")
+
+# A write of a sync or an import: of a block of the tree or a label's config, which tells nothing until an uberblock names it;
+# or of an uberblock.
+PART, UBERBLOCK = "part", "uberblock"
+
+
+class Sync:
+    """A sync that runs: the tree that it writes, how many blocks it writes for it, and the log's number in its uberblocks.
+
+    Its calls are the writes of its blocks, a flush, four uberblocks and a flush.
+    """
+
+    def __init__(self, tree, blocks, header):
+        self.tree, self.blocks, self.header = tree, blocks, header
+        self.calls = [PART] * blocks + ["flush"] + [UBERBLOCK] * 4 + ["flush"]
+        self.made = 0
+        # Whether one of its uberblocks is flushed.
+        self.is_mounted = False
+
+
+class Run:
+    """A pool from the import that mounted it to a crash.
+
+    It has the tree of the synced group, the entries since the import, the log blocks, and the writes that are not flushed. A
+    flush makes each write certain that came before it, whether a sync or the log made it. A commit is acknowledged by a log
+    flush after its record's write, and by the end of its group's sync.
+    """
+
+    def __init__(self, tree):
+        self.mounted, self.tree, self.open = tree.objects, tree, tree.group + 1
+        self.entries, self.begun = [], []
+        self.sync = None
+        # The log blocks by their numbers; the one that the synced uberblock names, or the next one; and the entry from which on
+        # none is written.
+        self.log, self.header, self.written = [], 0, 0
+        # The log blocks before these numbers are flushed by a log flush, and by any flush.
+        self.flushed, self.certain = 0, 0
+        self.unflushed = []
+
+    def contents(self):
+        return replay(self.mounted, self.entries)
+
+    def begin(self, ops):
+        """A transaction in the open group, until it is committed."""
+        self.begun.append(Entry(self.open, ops))
+        return self.begun[-1]
+
+    def commit(self, entry):
+        """The ordinal of a transaction that was begun."""
+        self.begun.remove(entry)
+        self.entries.append(entry)
+        return len(self.entries) - 1
+
+    def of_group(self, group):
+        return [entry for entry in self.entries if entry.group == group]
+
+    def pending(self):
+        """The ordinals of the entries of unsynced groups whose records are not written."""
+        return [at for at in range(self.written, len(self.entries)) if self.entries[at].group > self.tree.group]
+
+    def log_write(self, is_refused=False):
+        """The number of records that a log write packs: as many whole ones as fit. It is 0 if none is pending."""
+        room, ordinals = LOG_ROOM, []
+        for ordinal in self.pending():
+            room -= record_size(self.entries[ordinal])
+            if room < 0:
+                break
+            ordinals.append(ordinal)
+        if ordinals:
+            assert self.available() >= LOG_AVAILABLE
+            self.log.append(LogBlock(len(self.log), ordinals))
+            self.written = ordinals[-1] + 1
+            self.unflushed.append(PART if is_refused else self.log[-1])
+        return len(ordinals)
+
+    def awaits_flush(self):
+        """Whether a log block that is kept was not flushed by a log flush."""
+        return len(self.log) > max(self.flushed, self.header)
+
+    def log_flush(self):
+        """Whether there was a log block to be flushed."""
+        if not self.awaits_flush():
+            return False
+        self.flush()
+        self.flushed = len(self.log)
+        return True
+
+    def is_acknowledged(self, ordinal):
+        in_log = any(ordinal in block.ordinals for block in self.log[: self.flushed])
+        return in_log or self.entries[ordinal].group <= self.tree.group
+
+    def is_durable(self, ordinal, group):
+        is_receipt = ordinal < len(self.entries) and self.entries[ordinal].group == group
+        return group <= self.tree.group or (is_receipt and self.is_acknowledged(ordinal))
+
+    def start(self):
+        """The sync of the group after the synced one starts. Its header is the first kept log block with a record of a group
+        after its own, or else the next one."""
+        group, (_, objects, records) = self.tree.group + 1, self.tree
+        entries = self.of_group(group)
+        blocks, records = count_blocks(objects, records, entries)
+        reaching = [
+            block.number
+            for block in self.log[self.header :]
+            if any(self.entries[ordinal].group > group for ordinal in block.ordinals)
+        ]
+        self.sync = Sync(Tree(group, replay(objects, entries), records), blocks, [*reaching, len(self.log)][0])
+
+    def flush(self):
+        """A flush of the device."""
+        if UBERBLOCK in self.unflushed:
+            self.sync.is_mounted = True
+        self.certain, self.unflushed = len(self.log), []
+
+    def step(self):
+        """The next call of the sync: whether it was the last. Then the group is synced, and the log blocks before its header
+        come back."""
+        call = self.sync.calls[self.sync.made]
+        self.sync.made += 1
+        if call == "flush":
+            self.flush()
+        else:
+            self.unflushed.append(call)
+        if self.sync.made < len(self.sync.calls):
+            return False
+        self.tree, self.header, self.sync = self.sync.tree, self.sync.header, None
+        return True
+
+    def refuse_step(self):
+        """The next call of the sync is refused: whether it is a flush."""
+        is_flush = self.sync.calls[self.sync.made] == "flush"
+        if not is_flush:
+            self.unflushed.append(PART)
+        return is_flush
+
+    def free(self):
+        """The number of blocks in neither the tree nor the kept log nor its next address, and not taken by the sync."""
+        taken = self.sync.blocks if self.sync else 0
+        return BLOCKS - tree_blocks(*self.tree[1:]) - (len(self.log) - self.header) - 1 - taken
+
+    def reserved(self):
+        return sum(estimate(entry) for entry in [*self.entries, *self.begun] if entry.group > self.tree.group)
+
+    def available(self):
+        taken = self.sync.blocks if self.sync else 0
+        return self.free() - (self.reserved() - taken)
+
+    def status(self):
+        """The groups, the charges and the blocks, as a script prints them."""
+        group, synced = self.sync and self.sync.tree.group, self.tree.group
+        middle = self.open - 1 if self.open - 1 > (group or synced) else None
+        groups = f"synced {synced} syncing {group or '-'} middle {middle or '-'} open {self.open}"
+        return f"{groups} dirty {CHARGE * self.reserved()} free {self.free()} available {self.available()}"
+
+    def crash(self, letters=""):
+        """The image that a crash with these letters leaves; a missing one is `k`.
+
+        The synced group's tree is mounted, or that of the running sync if an uberblock of it stands. The chain goes from the
+        tree's header on as long as log blocks stand, and its records of later groups are replayed.
+        """
+        letters = letters.ljust(len(self.unflushed), "k")
+        standing = [write for write, letter in zip(self.unflushed, letters) if letter == "k"]
+        tree, header = self.tree, self.header
+        if self.sync and (self.sync.is_mounted or UBERBLOCK in standing):
+            tree, header = self.sync.tree, self.sync.header
+        lost = [block.number for block in self.log[max(header, self.certain) :] if block not in standing]
+        chain = self.log[header : min(lost, default=None)]
+        ordinals = [at for block in chain for at in block.ordinals if self.entries[at].group > tree.group]
+        image = Image(tree, len(chain) + 1, [self.entries[at] for at in ordinals])
+        is_left = [entry.group <= tree.group or at in ordinals for at, entry in enumerate(self.entries)]
+        assert all(is_left[at] for at in range(len(is_left)) if self.is_acknowledged(at))
+        assert is_cut(self.entries, is_left)
+        left = [entry for entry, stays in zip(self.entries, is_left) if stays]
+        assert replay(self.mounted, left) == image.objects
+        return image
+
+
+class Image:
+    """What an import finds: the tree of the active group, the places of the log that it reads, and the entries whose records
+    it replays. An import of group u syncs u + 4."""
+
+    def __init__(self, tree, places=0, entries=()):
+        self.tree, self.places, self.entries = tree, places, entries
+        self.objects = replay(tree.objects, entries)
+        self.blocks, records = count_blocks(*tree[1:], entries)
+        self.synced = Tree(tree.group + 4, self.objects, records)
+
+    def calls(self):
+        """The device calls of an import: a flush; the reads of four arrays of uberblocks, four configs, the tree and the log;
+        the blocks of the replayed entries, a flush; two configs, a flush; four uberblocks, a flush; two configs, a flush."""
+        reads = 8 + tree_blocks(*self.tree[1:]) + self.places
+        labels = [PART] * 2 + ["flush"]
+        blocks = [PART] * self.blocks + ["flush"]
+        return ["flush"] + ["read"] * reads + blocks + labels + [UBERBLOCK] * 4 + ["flush"] + labels
+
+    def stops(self):
+        """Each call of an import that may be refused."""
+        calls = self.calls()
+        return [ImportStop(calls[:at], call) for at, call in enumerate(calls)]
+
+    def stop(self, stop, letters=""):
+        """The image after an import that was stopped and a crash with these letters; a missing one is `k`. The import's group
+        is mounted if one of its uberblocks stands. It names a log without a block."""
+        standing = [write for write, letter in zip(stop.unflushed, letters.ljust(len(stop.unflushed), "k")) if letter == "k"]
+        return Image(self.synced, 1) if stop.is_mounted or UBERBLOCK in standing else self
+
+
+def kind_of(call):
+    """The kind of a call, as a script names it."""
+    return call if call in ("read", "flush") else "write"
+
+
+class ImportStop:
+    """An import that made some calls, and whose next call is refused."""
+
+    def __init__(self, made, call):
+        # The kind of the refused call, and its number among the calls of its kind.
+        self.kind = kind_of(call)
+        self.number = [kind_of(other) for other in [*made, call]].count(self.kind)
+        self.refusal = {"read": "refused 2 Read", "write": "refused 3 Write", "flush": "refused 4 Flush"}[self.kind]
+        # The writes after the last flush, a refused one among them; and whether an uberblock came before that flush.
+        flushes = [at for at, other in enumerate(made) if other == "flush"]
+        before = flushes[-1] + 1 if flushes else 0
+        self.unflushed = [other for other in made[before:] if other != "read"] + [PART] * (self.kind == "write")
+        self.is_mounted = UBERBLOCK in made[:before]
