@@ -15,9 +15,12 @@ names have it.
 - Unsynced groups: as these, with 100 writes in each group; with three, the oldest one is being synced and the next one waits.
 - Reads: of 100 bytes of an object that each unsynced group has written to.
 - Syncs of a group of one write, while the open group has so many.
+- Log writes of ten records, with so many records pending. Log flushes of one block, and the question whether a commit is
+  durable, with so many log blocks kept.
+- The last step of a sync, with so many log blocks that come back and so many that stay.
 
 The rows of a pair differ in one number. Their sums have to be within 10 percent of one another. The status is 1 where those
-of a pair are not, and 2 where a script can't be counted. The pool of 1 GiB takes some minutes.
+of a pair are not, and 2 where a script can't be counted. Other rows are printed alone. The pool of 1 GiB takes some minutes.
 """
 
 import collections
@@ -27,13 +30,17 @@ import sys
 import tempfile
 
 # Callgrind counts inside of the one function, and starts a part of its file at each call of the other, one for a line.
-STEP = "pool_core::state::PoolState::try_step*"
+STEP = "pool_core::state::PoolState::step*"
 LINE = "scripts::session::Session+R+MemDevice+P::run*"
 
 COMMITS = 1000
 GROUP = 50
 ROUNDS = 5
 ROUND = 20
+# Ten records of a write of so many bytes fill a log block: 4,008 bytes are 10 records of 400, of which 39 are no content.
+LOG_RECORDS = 10
+LOG_BYTES = 361
+LOGGED_WRITES = 100
 MOST_APART = 0.10
 
 MIB = 2**20
@@ -43,13 +50,17 @@ TOP = 338_688
 
 
 class Script:
-    """The lines of a script, which of them count and as what, and the names of its next lock and its next transaction."""
+    """The lines of a script, which of them count and as what, and the names of its next lock and its next transaction.
+
+    Each transaction is committed before the next one begins, so its name is the ordinal of its commit.
+    """
 
     def __init__(self):
         self.lines = ["create tank 77", f"import {DIRTY_MAX}"]
         self.counted = {}
         self.next_lock = 0
         self.next_tx = 0
+        self.open = 9
         self.others = collections.deque()
 
     def count(self, *kinds):
@@ -87,13 +98,20 @@ class Script:
             self.transact(1, " ".join(f"c:{number}" for number in some))
             for lock in locks:
                 self.unlock(1, lock)
-            self.lines.append("sync")
+            self.finish()
 
     def write(self, number):
         """A transaction that writes the first 100 bytes of an object."""
         lock = self.lock(2, number, 100)
         self.transact(2, f"w:{number}:0:100", "@100:x")
         self.unlock(2, lock)
+
+    def write_logged(self, count, blocks):
+        """So many writes to object 0. A log write comes after each of the first ones, as many as there are to be blocks."""
+        for at in range(count):
+            self.write(0)
+            if at < blocks:
+                self.lines.append("log-write")
 
     def write_many(self, count):
         """So many writes, each to an object of its own."""
@@ -109,10 +127,12 @@ class Script:
 
     def close(self):
         self.lines += ["close", "quiesce"]
+        self.open += 1
 
     def finish(self):
         """The open group is closed, and all groups that are unsynced then are synced, the oldest first."""
         self.lines.append("sync")
+        self.open += 1
 
 
 Commits = collections.namedtuple("Commits", "MiB locks objects")
@@ -120,6 +140,9 @@ Writes = collections.namedtuple("Writes", "writes")
 Groups = collections.namedtuple("Groups", "groups")
 Reads = collections.namedtuple("Reads", "groups")
 Syncs = collections.namedtuple("Syncs", "writes")
+LogWrites = collections.namedtuple("LogWrites", "pending")
+LogFlushes = collections.namedtuple("LogFlushes", "kept")
+LogEnds = collections.namedtuple("LogEnds", "back kept")
 
 
 def commits(row):
@@ -204,10 +227,60 @@ def syncs(row):
     return script
 
 
-# A table has its name, what makes the script of a row, the bytes of its pools, its kinds of lines, and its pairs of rows.
-Table = collections.namedtuple("Table", "name script size kinds pairs")
+def log_writes(row):
+    """Each log write packs ten records, which fill a block."""
+    script = Script()
+    script.create(1)
+    script.lock(2, 0, LOG_BYTES)
+    shape, content = f"w:0:0:{LOG_BYTES}", f"@{LOG_BYTES}:x"
+    for _ in range(row.pending - LOG_RECORDS):
+        script.transact(2, shape, content)
+    for _ in range(ROUNDS):
+        for _ in range(LOG_RECORDS):
+            script.transact(2, shape, content)
+        script.lines.append("log-write")
+        script.count("log-write")
+    return script
+
+
+def log_flushes(row):
+    """Each log flush is of one block, and the question is of its commit and of the first one."""
+    script = Script()
+    script.create(1)
+    for _ in range(ROUNDS):
+        first = script.next_tx
+        script.write_logged(row.kept, row.kept)
+        script.lines.append("log-flush")
+        script.write_logged(1, 1)
+        script.lines.append("log-flush")
+        script.count("log-flush")
+        for transaction in (first, script.next_tx - 1):
+            script.lines.append(f"durable {transaction} {script.open}")
+            script.count("durable")
+        script.finish()
+    return script
+
+
+def log_ends(row):
+    """A sync of one object has four blocks, a flush, four uberblocks and the flush that ends it."""
+    script = Script()
+    script.create(1)
+    for _ in range(ROUNDS):
+        script.write_logged(LOGGED_WRITES, row.back)
+        script.close()
+        script.write_logged(LOGGED_WRITES, row.kept)
+        script.lines += ["start"] + ["step"] * 10
+        script.count("end")
+        script.finish()
+    return script
+
+
+# A table has its name, what makes the script of a row, the bytes of its pools, its kinds of lines, its pairs of rows, and rows
+# that are no pair.
+Table = collections.namedtuple("Table", "name script size kinds pairs rows", defaults=[()])
 SMALL = Commits(MiB=8, locks=1, objects=1)
 LINES = ["lock", "begin", "commit", "unlock"]
+KEPT_BLOCKS = {"1 or 100 kept log blocks": (LogFlushes(1), LogFlushes(100))}
 TABLES = [
     Table(
         "Commits",
@@ -221,7 +294,7 @@ TABLES = [
         },
     ),
     Table(
-        "Commits behind writes of their group",
+        "Commits after writes of their group",
         writes,
         64 * MIB,
         LINES,
@@ -237,6 +310,23 @@ TABLES = [
         64 * MIB,
         ["close", "quiesce", "start", "finish"],
         {"none or 1000 writes": (Syncs(0), Syncs(1000))},
+    ),
+    Table(
+        "Log writes of ten records",
+        log_writes,
+        256 * MIB,
+        ["log-write"],
+        {"10 or 10000 pending": (LogWrites(10), LogWrites(10_000))},
+    ),
+    Table("Log flushes of a block", log_flushes, 64 * MIB, ["log-flush"], KEPT_BLOCKS),
+    Table("Whether a commit is durable", log_flushes, 64 * MIB, ["durable"], KEPT_BLOCKS),
+    Table(
+        "Ends of syncs beside a log",
+        log_ends,
+        64 * MIB,
+        ["end"],
+        {"none or 100 that stay": (LogEnds(100, 0), LogEnds(100, 100))},
+        [LogEnds(1, 0), LogEnds(10, 0)],
     ),
 ]
 
@@ -273,7 +363,7 @@ def count(program, size, made, folder):
 
 def head(row, kinds):
     """The head of a table."""
-    return "".join(f"{word:>9}" for word in [*row._fields, *kinds])
+    return "".join(f"{word:>10}" for word in [*row._fields, *kinds])
 
 
 def judge(name, one, other):
@@ -287,14 +377,14 @@ def judge(name, one, other):
 
 def run_table(program, table, folder):
     """Prints a table and its verdicts, and tells whether a pair is too far apart."""
-    rows = list(dict.fromkeys(row for pair in table.pairs.values() for row in pair))
+    rows = list(dict.fromkeys([*(row for pair in table.pairs.values() for row in pair), *table.rows]))
     print(f"{table.name}\n{head(rows[0], table.kinds + ['all', 'sync'])}")
     sums = {}
     for row in rows:
         costs = count(program, table.size or row.MiB * MIB, table.script(row), folder)
         sums[row] = sum(costs[kind] for kind in table.kinds)
         numbers = [*(costs[kind] for kind in table.kinds), sums[row], costs.get("sync", 0)]
-        print("".join(f"{number:9.0f}" for number in [*row, *numbers]), flush=True)
+        print("".join(f"{number:10.0f}" for number in [*row, *numbers]), flush=True)
     return any([judge(name, sums[one], sums[other]) for name, (one, other) in table.pairs.items()])
 
 
