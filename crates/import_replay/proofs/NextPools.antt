@@ -56,7 +56,7 @@ use Rattle.tree_plans.specs.Plans.{address_of, new_block}
 use Rattle.tree_plans.specs.declared.planner.PlannedBlock.{PlannedBlock}
 use Rattle.tree_plans.specs.declared.planner.TreePlan.{TreePlan}
 use Rattle.import_replay.specs.FreeBlocks.{AreAllPlanned}
-use Rattle.import_replay.specs.ImportRefusals.{HasNoRoom, HasSoundPool, IsReason}
+use Rattle.import_replay.specs.ImportRefusals.{HasLastNumbers, IsReason, LacksImportRoom}
 use Rattle.import_replay.specs.ImportStops.{writes_of_next}
 use Rattle.import_replay.specs.LabelSyncs.{AreApartIn, IsGroupSynced}
 use Rattle.import_replay.specs.Mounts.{IsImport, IsMountedFrom}
@@ -186,6 +186,10 @@ module _ (size : ℕ) (u : Uberblock) (name : List ℕ) (tree : Tree) (slots : L
   pub replay_mounts : Mounts image u chain (replays.after size u name tree slots chain pool named loaded r)
   replay_mounts = mounts_read image size u name pool.tree pool.synced.slots.items chain mine_read pool.synced r.name_is refl (replays.after size u name tree slots chain pool named loaded r) r.replayed.applied
 
+  -- so the numbers are those of an image that mounts contents
+  pub last_numbers : is_past_last u.group u.import_number ≡ true → HasLastNumbers image
+  last_numbers past_last = record { u = u; chain = chain; contents = replays.after size u name tree slots chain pool named loaded r; mounts = replay_mounts; past_last = past_last }
+
   -- no more blocks are spare than a plan that takes all of them has
   all_taken : (plan : TreePlan) → AreAllPlanned pool.spare plan.blocks.items → set.len pool.spare.free ≤ length plan.blocks.items
   all_taken plan all =
@@ -199,13 +203,12 @@ module _ (size : ℕ) (u : Uberblock) (name : List ℕ) (tree : Tree) (slots : L
       omega (arith, within, short, long)
 
   -- where blocks lack, there is no room
-  pub lacks_room : HasSoundPool image u name → is_past_last u.group u.import_number ≡ false → LacksBlocks size u pool → HasNoRoom image
-  lacks_room sound within lacks = record {
+  pub lacks_room : is_past_last u.group u.import_number ≡ false → LacksBlocks size u pool → LacksImportRoom image
+  lacks_room within lacks = record {
     u = u;
-    name = name;
-    sound = sound;
     chain = chain;
-    chain_is = read.chain_is;
+    contents = replays.after size u name tree slots chain pool named loaded r;
+    mounts = replay_mounts;
     within = within;
     spare = pool.spare.free;
     all = λ address is unused. ⊎_elim (λ spare. spare) (λ used. absurd (unused used)) (spare-or_used address (subst (λ (n : ℕ). IsBlockAddress (block_count n) address) read.long is));

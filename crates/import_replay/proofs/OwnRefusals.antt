@@ -29,7 +29,7 @@ use Rattle.base.proofs.disk.Regions.{flushed_clean}
 use Rattle.base.proofs.tree.PlacedTrees.{in-tree}
 use Rattle.base.proofs.tree.SoundTrees.{no_damage}
 use Rattle.log_replay.specs.Replays.{IsNameKept}
-use Rattle.import_replay.specs.ImportRefusals.{FindsOwn, HasNoRoom, IsNameKeptIn, IsReason}
+use Rattle.import_replay.specs.ImportRefusals.{FindsOwn, LacksImportRoom, IsNameKeptIn, IsReason}
 
 module _ (image : List ℕ) (u : Uberblock) (chain : List LogPiece) (contents : Contents) (mounts : Mounts image u chain contents) where
   has_pool : HasNoPool image → ⊥
@@ -79,12 +79,12 @@ module _ (disk : Disk) (created guid : ℕ) (contents : Contents) (own : IsOwnWi
   not_logged (l ∷ ls) address none (zero, low, is) = none 0 l refl is
   not_logged (l ∷ ls) address none (suc k, low, is) = not_logged ls address (λ i x at. none (suc i) x at) (k, omega (arith, low), is)
 
-  has_room : HasNoRoom image → ⊥
+  has_room : LacksImportRoom image → ⊥
   has_room full =
       let laid = here.rest.laid in
-      let same : full.u ≡ here.v.u = uberblock_is full.u full.sound.pool.active in
+      let same : full.u ≡ here.v.u = uberblock_is full.u full.mounts.found.pool.active in
       let root : full.u.root ≡ here.v.pointers Root = ap (λ (w : Uberblock). w.root) same ∙ sym laid.view.root in
-      let chains : full.chain ≡ logged = chain_is full.u full.chain full.sound.pool.active full.chain_is in
+      let chains : full.chain ≡ logged = chain_is full.u full.chain full.mounts.found.pool.active full.mounts.found.chain_is in
       let few : records_estimate (records_above full.u.group full.chain) ≡ records_estimate (records_to_apply here.v) =
       (λ i. records_estimate (records_above (same i).group (chains i))) in
       let within = subset_len here.room.spare full.spare (λ address is.
@@ -109,7 +109,7 @@ finds_own disk e reason created guid contents own =
     let (u, chain, mounts) = subst (λ (image : List ℕ). MountsTo image contents) same (own_mounts flushed created guid contents own) in
     record {
       not_missing = λ is. has_pool (bytes_of disk.now) u chain contents mounts (reason.no_pool is);
-      not_full = λ is. has_room flushed created guid contents own (subst (λ (image : List ℕ). HasNoRoom image) (sym same) (reason.no_space is));
+      not_full = λ is. has_room flushed created guid contents own (subst (λ (image : List ℕ). LacksImportRoom image) (sym same) (reason.no_space is));
       not_damaged = λ kind address is. ⊎_elim (is_sound (bytes_of disk.now) u chain contents mounts kind address)
           (λ refused. mounted_not_damaged (bytes_of disk.now) contents address (u, chain, mounts)
           (refused.1 (subst IsNameKeptIn same (name_kept flushed created guid contents own)))) (reason.damaged kind address is);

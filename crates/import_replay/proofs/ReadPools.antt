@@ -18,9 +18,7 @@ use Rattle.object_maps.specs.declared.contents.Slot.{Slot}
 use Rattle.object_maps.specs.declared.tree.Tree.{Tree}
 use Rattle.object_maps.specs.Pointers.{pointers_of}
 use Rattle.object_maps.specs.Surveys.{HasObjects}
-use Rattle.import_replay.specs.ImportRefusals.{HasSoundPool}
 use Rattle.import_replay.specs.ReadPools.{HoldsPool, IsReadPool, IsSurveyedFor, frame_of_size}
-use Rattle.import_replay.proofs.MountedPools.{sound_pool}
 
 module _ (image : List ℕ) (found : Disk) (size : ℕ) (frame : Frame) (u : Uberblock) (name : List ℕ) (long : length image ≡ size) (same : bytes_of found.now ≡ image)
     (pool : HasPool image u name) (framed : frame ≡ frame_of_size u size) where
@@ -64,10 +62,6 @@ is_surveyed keeps image now size frame u name tree chain framed placed sound has
   sound = sound;
   read = read;
 }
-
--- such a pool is sound
-pub sound_read : (image : List ℕ) (size : ℕ) (u : Uberblock) (name : List ℕ) (tree : Tree) (slots : List Slot) (chain : List LogPiece) → IsReadPool image size u name tree slots chain → HasSoundPool image u name
-sound_read image size u name tree slots chain read = sound_pool size u name tree slots image read.long read.held read.root read.pool
 
 -- what is read after a good flush is of the image before it
 pub flushed : (old mid : Disk) → Flushes old (Ok tt) mid → bytes_of mid.now ≡ bytes_of old.now

@@ -9,7 +9,7 @@ use Rattle.intent_log.specs.Chains.{IsChainRefusal}
 use Rattle.log_replay.specs.Replays.{IsReplayCause}
 use Rattle.object_maps.specs.Loading.{IsLoadRefusal}
 use Rattle.import_replay.specs.Found.{LacksName, LacksUberblock}
-use Rattle.import_replay.specs.ImportRefusals.{HasLastNumbers, HasNoRoom, IsDamagedWith, IsFindRefusal, IsInspectionReason, IsNameKeptIn, IsOpenRefusal, IsReadingRefusal, IsReason, IsSyncRefusal}
+use Rattle.import_replay.specs.ImportRefusals.{HasLastNumbers, LacksImportRoom, IsDamagedWith, IsFindRefusal, IsInspectionReason, IsNameKeptIn, IsOpenRefusal, IsReadingRefusal, IsReason, IsSyncRefusal}
 
 -- an error that is passed on
 pub passed_on : {A : Type 0} (r : Result A PoolError) (x : PoolError) (P : PoolError → Type 0) → IsErrAnd r (λ e. e ≡ x) → P x → IfErr r P
@@ -62,7 +62,7 @@ reason-chain image e (inl is) = find_reason image e (inl is) (λ f. absurd (let 
 reason-chain image e (inr is) = find_reason image e (inr (inl is)) (λ f. absurd (let no : Read ≡ NoPool = sym is ∙ f in cc))
 
 -- or that there is no room
-other_than_full : (image : List ℕ) (e : PoolError) → (e ≡ NoPool → ⊥) → (e ≡ TooMany → ⊥) → ((kind address : ℕ) → e ≡ Damaged kind address → ⊥) → (e ≡ NoSpace → HasNoRoom image) → IsInspectionReason image e
+other_than_full : (image : List ℕ) (e : PoolError) → (e ≡ NoPool → ⊥) → (e ≡ TooMany → ⊥) → ((kind address : ℕ) → e ≡ Damaged kind address → ⊥) → (e ≡ NoSpace → LacksImportRoom image) → IsInspectionReason image e
 other_than_full image e not_pool not_many not_damaged full = record {
   no_pool = λ is. absurd (not_pool is);
   too_many = λ is. absurd (not_many is);
@@ -70,7 +70,7 @@ other_than_full image e not_pool not_many not_damaged full = record {
   no_space = full;
 }
 
-pub reason-open : (image : List ℕ) (e : PoolError) → IsOpenRefusal e → (e ≡ NoSpace → HasNoRoom image) → IsInspectionReason image e
+pub reason-open : (image : List ℕ) (e : PoolError) → IsOpenRefusal e → (e ≡ NoSpace → LacksImportRoom image) → IsInspectionReason image e
 reason-open image e (inl is) = other_than_full image e (λ f. cc) (λ f. cc) (λ k a f. cc)
 reason-open image e (inr (inl is)) = other_than_full image e (λ f. cc) (λ f. cc) (λ k a f. cc)
 reason-open image e (inr (inr (inl is))) = other_than_full image e (λ f. cc) (λ f. cc) (λ k a f. cc)

@@ -7,7 +7,7 @@ use Rattle.base.specs.disk.Disk.{Disk, bytes_of}
 use Rattle.base.specs.formats.Geometry.{IsGeometry}
 use Rattle.device_model.specs.declared.device.SectorDevice.{Ghosts}
 use Rattle.log_replay.specs.Replays.{IsReplayCause}
-use Rattle.import_replay.specs.ImportRefusals.{CanImport, HasLastNumbers, HasNoRoom, IsImportRefusal, IsInspectionReason, IsInspectionRefusal, IsMountRefusal, IsReadingRefusal, IsReason, IsSyncRefusal, IsWalkRefusal}
+use Rattle.import_replay.specs.ImportRefusals.{CanImport, HasLastNumbers, LacksImportRoom, IsImportRefusal, IsInspectionReason, IsInspectionRefusal, IsMountRefusal, IsReadingRefusal, IsReason, IsSyncRefusal, IsWalkRefusal}
 use Rattle.import_replay.specs.ImportStops.{IsImportStopped}
 use Rattle.import_replay.specs.Refused.{IsImportRefused, IsInspectionRefused, IsMountRefused}
 use Rattle.import_replay.proofs.OwnRefusals.{finds_own}
@@ -64,7 +64,7 @@ module _ (keeps : Bool) (moment : ℕ) (old mid new : Disk) (e : PoolError) wher
         (λ keep. of_import (bytes_of old.now) e (subst (λ (x : PoolError). IsInspectionReason (bytes_of old.now) x) (sym is) (reason-many (bytes_of old.now) (last keep)))) same
 
     -- there was no memory for the pool to be synced, or no room
-    pub next_refused : (e ≡ NoMemory) ⊎ (e ≡ NoSpace) → (IsTrue keeps → e ≡ NoSpace → HasNoRoom (bytes_of old.now)) → (IsTrue keeps → new ≡ mid) → IsMountRefused keeps moment old new e
+    pub next_refused : (e ≡ NoMemory) ⊎ (e ≡ NoSpace) → (IsTrue keeps → e ≡ NoSpace → LacksImportRoom (bytes_of old.now)) → (IsTrue keeps → new ≡ mid) → IsMountRefused keeps moment old new e
     next_refused (inl is) full same =
         unwritten (subst IsMountRefusal (sym is) tt) (subst IsReadingRefusal (sym is) tt) (λ keep. of_import (bytes_of old.now) e (reason-open (bytes_of old.now) e (inl is) (full keep))) same
     next_refused (inr is) full same =

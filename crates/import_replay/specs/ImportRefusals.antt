@@ -10,7 +10,7 @@ use Rattle.base.specs.formats.Geometry.{IsBlockAddress, IsGeometry, block_count}
 use Rattle.base.specs.formats.Chain.{LogPiece}
 use Rattle.base.specs.formats.Uberblocks.{IsActive, Uberblock}
 use Rattle.base.specs.tree.Tree.{IsTree}
-use Rattle.base.specs.crash.Mount.{HasNoPool, HasPool, IsChainDamaged, IsChainOf, IsTreeDamaged, IsUsed, frame_of, records_above}
+use Rattle.base.specs.crash.Mount.{HasNoPool, HasPool, IsChainDamaged, IsChainOf, IsTreeDamaged, IsUsed, Mounts, frame_of, records_above}
 use Rattle.base.specs.crash.Imports.{is_dirty_max_allowed, is_past_last}
 use Rattle.base.specs.crash.CrashRule.{IsOwnOnceFlushed}
 use Rattle.base.specs.crash.LogRoom.{records_estimate}
@@ -82,18 +82,21 @@ pub record HasSoundPool (image : List ℕ) (u : Uberblock) (name : List ℕ) : T
   pub objects : FinMap nat_cmp (List ℕ)
   pub tree : IsTree image (frame_of image u) u.root objects
 
--- the tree is sound, but the numbers of the active uberblock would pass the last one
-abbrev pub HasLastNumbers : List ℕ → Type 0
-HasLastNumbers image = (u : Uberblock) × (name : List ℕ) × HasSoundPool image u name × (is_past_last u.group u.import_number ≡ true)
-
--- The tree is sound and the numbers fit, but the blocks that neither the tree nor the chain has are no more than the
--- chain's records above the group are estimated at. Where it has none, each block is in the tree or in the chain.
-pub record HasNoRoom (image : List ℕ) : Type 0 where
+-- the image mounts contents, but the numbers of the active uberblock would pass the last one
+pub record HasLastNumbers (image : List ℕ) : Type 0 where
   pub u : Uberblock
-  pub name : List ℕ
-  pub sound : HasSoundPool image u name
   pub chain : List LogPiece
-  pub chain_is : IsChainOf image u chain
+  pub contents : Contents
+  pub mounts : Mounts image u chain contents
+  pub past_last : is_past_last u.group u.import_number ≡ true
+
+-- The image mounts contents and the numbers fit, but the blocks that neither the tree nor the chain has are no more than
+-- the chain's records above the group are estimated at. Where it has none, each block is in the tree or in the chain.
+pub record LacksImportRoom (image : List ℕ) : Type 0 where
+  pub u : Uberblock
+  pub chain : List LogPiece
+  pub contents : Contents
+  pub mounts : Mounts image u chain contents
   pub within : is_past_last u.group u.import_number ≡ false
   pub spare : FinSet nat_cmp
   pub all : (address : ℕ) → IsBlockAddress (block_count (length image)) address → (IsUsed image u.root chain address → ⊥) → set.contains spare address ≡ true
@@ -114,7 +117,7 @@ pub record IsReasonWith (IsBlockRefused : ℕ → Type 0) (image : List ℕ) (e 
   pub no_pool : e ≡ NoPool → HasNoPool image
   pub damaged : (kind address : ℕ) → e ≡ Damaged kind address → IsDamagedWith IsBlockRefused image kind address
   pub too_many : e ≡ TooMany → HasLastNumbers image
-  pub no_space : e ≡ NoSpace → HasNoRoom image
+  pub no_space : e ≡ NoSpace → LacksImportRoom image
 
 -- of an inspection: a record of a log block can't take place after those before it
 abbrev pub IsInspectionReason : List ℕ → PoolError → Type 0

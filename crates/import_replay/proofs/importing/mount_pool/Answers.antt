@@ -18,9 +18,9 @@ use Rattle.import_replay.specs.declared.next_pool.NextPool.{NextPool}
 use Rattle.import_replay.specs.declared.next_pool.ReplayedPool.{ReplayedPool}
 use Rattle.import_replay.proofs.Configs.{err_weaker, ok_weaker, ok_both}
 use Rattle.import_replay.proofs.MountedPools.{mounted_anew}
-use Rattle.import_replay.proofs.NextPools.{IsPrepared, chain_allowed, is_import, lacks_room, loaded_placed, prepared_mounts, prepared_over, prepared_parts, prepared_ready, reason_of_replay}
+use Rattle.import_replay.proofs.NextPools.{IsPrepared, chain_allowed, is_import, lacks_room, last_numbers, loaded_placed, prepared_mounts, prepared_over, prepared_parts, prepared_ready, reason_of_replay}
 use Rattle.import_replay.proofs.OwnImports.{kept_before, kept_own, kept_unwritten, starts_run}
-use Rattle.import_replay.proofs.ReadPools.{flushed, read_behind_flush, sound_read}
+use Rattle.import_replay.proofs.ReadPools.{flushed, read_behind_flush}
 use Rattle.import_replay.proofs.Reasons.{passed_on}
 use Rattle.import_replay.proofs.Refused.{flush_refused, next_refused, numbers_refused, open_refused, reading_refused, replay_refused}
 use Rattle.import_replay.proofs.StoppedImports.{stopped_import}
@@ -149,7 +149,7 @@ returns-then-is_past_last-clause-refused g c =
     numbers_refused g.D.SectorDevice.keeps_model c.args.moment old mid new TooMany c.in_ok-flush.ensures.disk refl
     (λ keeps.
     let read = read_behind_flush old mid c.args.geometry u name tree slots chain (c.in_ok-flush.ensures.disk keeps) (c.in_ok-found.ensures.pool keeps) in
-    (u, name, sound_read image c.args.geometry u name tree slots chain read, sym c.if-is_past_last.ensures))
+    last_numbers c.args.geometry u name tree slots chain c.in_ok-replayed.replayed c.in_ok-found.found.named c.in_ok-found.ensures.loaded c.in_ok-replayed.ensures.replayed image read (sym c.if-is_past_last.ensures))
     c.read_pool.ensures.reads.disk
 
 pub returns-in_err-next-clause-refused : goal.returns-in_err-next-clause-refused
@@ -170,7 +170,7 @@ returns-in_err-next-clause-refused g c =
     (λ keeps is.
     let read = read_behind_flush old mid size u name tree slots chain (c.in_ok-flush.ensures.disk keeps) (c.in_ok-found.ensures.pool keeps) in
     lacks_room size u name tree slots chain c.in_ok-replayed.replayed c.in_ok-found.found.named c.in_ok-found.ensures.loaded c.in_ok-replayed.ensures.replayed image read
-    (sound_read image size u name tree slots chain read) (sym c.if-is_past_last.ensures) (c.in_err-next.ensures.full is))
+    (sym c.if-is_past_last.ensures) (c.in_err-next.ensures.full is))
     c.read_pool.ensures.reads.disk)
 
 pub returns-clause-refused : goal.returns-clause-refused
