@@ -291,7 +291,7 @@ BESIDE_SYNCS = [
     # The first block is before the sync's header: the older uberblock names it, and the newer ones the block after it.
     ("the log is written between the uberblocks of a sync that names the next log block", "3wc1qs...", ".w.2w"),
     # The first block comes back with the last step, and what is written next takes its place.
-    ("log blocks come back with the last step of a sync", "3wcq1wfs", "........id1wfcqs..."),
+    ("log blocks come back with the last step of a sync", "3wcq1wfs", "........id1w1wfcqs..."),
     # The record of the next group stands before that of the syncing one.
     ("a log whose first record is of the next group, beside a sync", "hc1wfHwfqs", "........d"),
 ]
