@@ -1,7 +1,7 @@
-"""Rows of crashes: a sync, the log or an import is stopped, with each string of kept, lost and torn writes, and imported.
+"""Rows of crashes: a sync, the log or an import is stopped, with each string of kept, lost and torn writes.
 
-A row goes on in one pool. A round is a run that is stopped, the crash, imports that are stopped, and one that ends and shows what
-it mounts. All answers are those of `serial_pool.py`.
+A row goes on in one pool. A round is a run that is stopped, the crash, imports that are stopped, and one that ends and
+shows what it mounts. All answers are those of `serial_pool.py`.
 """
 
 import itertools
@@ -128,8 +128,8 @@ def begun(title):
 
 
 def fill(book, number):
-    """Three groups. The oldest writes to both objects, and its sync starts. The next one writes to the first object again.
-    The open one removes it, cuts the other one and makes a third."""
+    """Three groups. The oldest writes to both objects, and its sync starts. The next one writes to the first object
+    again. The open one removes it, cuts the other one and makes a third."""
     digits = b"%04d" % number
     book.transact("w", 1, 0, digits)
     book.transact("w", 2, 4, digits)
@@ -143,13 +143,14 @@ def fill(book, number):
 
 
 def first_sync(book, number):
-    """The sync of the oldest of three groups has two records, each with its map, the directory and the root: six blocks."""
+    """The sync of the oldest of three groups has two records, each with its map, the directory and the root: six
+    blocks."""
     fill(book, number)
 
 
 def second_sync(book, number):
-    """The oldest of three groups is synced. The sync of the next one has a record with its map, the directory and the root:
-    four blocks."""
+    """The oldest of three groups is synced. The sync of the next one has a record with its map, the directory and the
+    root: four blocks."""
     fill(book, number)
     book.finish()
     book.start()
@@ -191,8 +192,8 @@ def stopped_syncs():
 
 
 def stopped_imports():
-    """Imports that are stopped, with each string, of a pool that has one whole uberblock of its last sync, the third. An
-    import that ends comes after each of them, or only after the last one."""
+    """Imports that are stopped, with each string, of a pool that has one whole uberblock of its last sync, the third.
+    An import that ends comes after each of them, or only after the last one."""
 
     def begun_image(title):
         book = begun(title)
@@ -282,11 +283,11 @@ def lost_log_blocks():
         yield book
 
 
-# Crashes beside a sync: what comes before, and the moves after each of which there is a crash. The sync of a group that makes
-# object 3 or removes it has two blocks, a flush, four uberblocks and a flush.
+# Crashes beside a sync: what comes before, and the moves after each of which there is a crash. The sync of a group that
+# makes object 3 or removes it has two blocks, a flush, four uberblocks and a flush.
 BESIDE_SYNCS = [
-    # The first log block has the record of the syncing group, which no import replays once the group is mounted. After the log
-    # flush between two uberblocks that group is always mounted.
+    # The first log block has the record of the syncing group, which no import replays once the group is mounted. After
+    # the log flush between two uberblocks that group is always mounted.
     ("the log is written between the calls of a sync, and flushed between its uberblocks", "3cqs", ".w.1w..2wf...."),
     # The first block is before the sync's header: the older uberblock names it, and the newer ones the block after it.
     ("the log is written between the uberblocks of a sync that names the next log block", "3wc1qs...", ".w.2w"),
@@ -309,8 +310,8 @@ def syncs_beside_log():
 
 
 def stopped_replays():
-    """An import that replays two records, with the record of a synced group between them, is stopped at each of its calls.
-    One that ends comes after it, and shows the same."""
+    """An import that replays two records, with the record of a synced group between them, is stopped at each of its
+    calls. One that ends comes after it, and shows the same."""
 
     def crashed(book):
         """The image: a synced group, and two flushed log blocks."""
