@@ -62,11 +62,17 @@ class Book(Row):
         """A transaction of one operation, which begins and is committed in the open group."""
         self.commit(*self.begin(*op))
 
-    def close(self):
-        """The open group is closed and quiesced."""
+    def close_group(self):
         self.run.open += 1
         self.say("close", f"open {self.run.open}")
+
+    def quiesce(self):
         self.say("quiesce", f"quiesced {self.run.open - 1}")
+
+    def close(self):
+        """The open group is closed and quiesced."""
+        self.close_group()
+        self.quiesce()
 
     def start(self):
         """The sync of the group after the synced one starts."""
@@ -84,6 +90,9 @@ class Book(Row):
         while not self.run.step():
             pass
         self.say("finish", f"synced {self.run.tree.group}")
+
+    def status(self):
+        self.say("status", self.run.status())
 
     def log_write(self):
         records = self.run.log_write()
@@ -243,6 +252,15 @@ class LogBook(Book):
         return "d" if 3 in self.run.contents() else "c", 3
 
     def play(self, moves):
+        calls = {
+            "c": self.close_group,
+            "q": self.quiesce,
+            "s": self.start,
+            ".": lambda: self.step(1),
+            "w": self.log_write,
+            "f": self.log_flush,
+            "i": self.status,
+        }
         for move in moves:
             self.played += 1
             if move in "123":
@@ -251,18 +269,11 @@ class LogBook(Book):
                 self.held = self.begin(*self.operation(move))
             elif move == "H":
                 self.commit(*self.held)
-            elif move == "c":
-                self.run.open += 1
-                self.say("close", f"open {self.run.open}")
-            elif move == "q":
-                self.say("quiesce", f"quiesced {self.run.open - 1}")
             elif move == "d":
                 self.durable(0)
                 self.durable(len(self.run.entries) - 1)
-            elif move == "i":
-                self.say("status", self.run.status())
             else:
-                {"s": self.start, ".": lambda: self.step(1), "w": self.log_write, "f": self.log_flush}[move]()
+                calls[move]()
 
     def crash_after(self, moves):
         """A round of these moves for each string: the crash, and an import."""
@@ -291,7 +302,7 @@ BESIDE_SYNCS = [
     ("the log is written between the calls of a sync, and flushed between its uberblocks", "3cqs", ".w.1w..2wf...."),
     # The first block is before the sync's header: the older uberblock names it, and the newer ones the block after it.
     ("the log is written between the uberblocks of a sync that names the next log block", "3wc1qs...", ".w.2w"),
-    # The first block comes back with the last step, and what is written next takes its place.
+    # The first block comes back with the last step. Its place is free for what is written next.
     ("log blocks come back with the last step of a sync", "3wcq1wfs", "........id1w1wfcqs..."),
     # The record of the next group stands before that of the syncing one.
     ("a log whose first record is of the next group, beside a sync", "hc1wfHwfqs", "........d"),
