@@ -3,24 +3,27 @@
 
     python3 tools/costs.py PROGRAM [WORD]
 
-PROGRAM is a built `ztxg`. Each row of a table is a pool on which a script runs (docs/FORMATS.md, "The script"). A number is
-the mean of the instructions that the pool spends on a counted line, and `all` is the sum of those of a row. The reading of
-lines and the printing of answers don't count, nor do the lines that make a pool ready. With a WORD only the tables run whose
-names have it.
+PROGRAM is a built `ztxg`. Each row of a table is a pool on which a script runs (docs/FORMATS.md, "The script"). A
+number is the mean of the instructions that the pool spends on a counted line, and `all` is the sum of those of a row.
+The reading of lines and the printing of answers don't count, nor do the lines that make a pool ready. With a WORD only
+the tables run whose names have it.
 
-- Commits: 1,000 small transactions, 50 in a group, each by four lines: lock, begin, commit, unlock. Before each, the lock of
-  another owner that was granted first is let go and granted anew. `sync` is the mean of the lines that sync a group.
+- Commits: 1,000 small transactions, 50 in a group, each by four lines: lock, begin, commit, unlock. Before each, the
+  lock of another owner that was granted first is let go and granted anew. `sync` is the mean of the lines that sync a
+  group.
 - Writes in the group: as these, but before 20 transactions that are counted the open group has so many writes, each a
   transaction on an object of its own.
-- Unsynced groups: as these, with 100 writes in each group; with three, the oldest one is being synced and the next one waits.
+- Unsynced groups: as these, with 100 writes in each group; with three, the oldest one is being synced and the next one
+  waits.
 - Reads: of 100 bytes of an object that each unsynced group has written to.
 - Syncs of a group of one write, while the open group has so many.
-- Log writes of ten records, with so many records pending. Log flushes of one block, and the question whether a commit is
-  durable, with so many log blocks kept.
+- Log writes of ten records, with so many records pending. Log flushes of one block, and the question whether a commit
+  is durable, with so many log blocks kept.
 - The last step of a sync, with so many log blocks that come back and so many that stay.
 
-The rows of a pair differ in one number. Their sums have to be within 10 percent of one another. The status is 1 where those
-of a pair are not, and 2 where a script can't be counted. Other rows are printed alone. The pool of 1 GiB takes some minutes.
+The rows of a pair differ in one number. Their sums have to be within 10 percent of one another. The status is 1 where
+those of a pair are not, and 2 where a script can't be counted. Other rows are printed alone. The pool of 1 GiB takes
+some minutes.
 """
 
 import collections
@@ -37,7 +40,8 @@ COMMITS = 1000
 GROUP = 50
 ROUNDS = 5
 ROUND = 20
-# Ten records of a write of so many bytes fill a log block: 4,008 bytes are 10 records of 400, of which 39 are no content.
+# Ten records of a write of so many bytes fill a log block: 4,008 bytes are 10 records of 400, of which 39 are no
+# content.
 LOG_RECORDS = 10
 LOG_BYTES = 361
 LOGGED_WRITES = 100
@@ -107,7 +111,8 @@ class Script:
         self.unlock(2, lock)
 
     def write_logged(self, count, blocks):
-        """So many writes to object 0. A log write comes after each of the first ones, as many as there are to be blocks."""
+        """So many writes to object 0. A log write comes after each of the first ones, as many as there are to be
+        blocks."""
         for at in range(count):
             self.write(0)
             if at < blocks:
@@ -275,8 +280,8 @@ def log_ends(row):
     return script
 
 
-# A table has its name, what makes the script of a row, the bytes of its pools, its kinds of lines, its pairs of rows, and rows
-# that are no pair.
+# A table has its name, what makes the script of a row, the bytes of its pools, its kinds of lines, its pairs of rows,
+# and rows that are no pair.
 Table = collections.namedtuple("Table", "name script size kinds pairs rows", defaults=[()])
 SMALL = Commits(MiB=8, locks=1, objects=1)
 LINES = ["lock", "begin", "commit", "unlock"]

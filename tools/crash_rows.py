@@ -1,7 +1,7 @@
-"""Rows of crashes: a sync, the log or an import is stopped, with each string of kept, lost and torn writes, and imported.
+"""Rows of crashes: a sync, the log or an import is stopped, with each string of kept, lost and torn writes.
 
-A row goes on in one pool. A round is a run that is stopped, the crash, imports that are stopped, and one that ends and shows what
-it mounts. All answers are those of `serial_pool.py`.
+A row goes on in one pool. A round is a run that is stopped, the crash, imports that are stopped, and one that ends and
+shows what it mounts. All answers are those of `serial_pool.py`.
 """
 
 import itertools
@@ -62,11 +62,17 @@ class Book(Row):
         """A transaction of one operation, which begins and is committed in the open group."""
         self.commit(*self.begin(*op))
 
-    def close(self):
-        """The open group is closed and quiesced."""
+    def close_group(self):
         self.run.open += 1
         self.say("close", f"open {self.run.open}")
+
+    def quiesce(self):
         self.say("quiesce", f"quiesced {self.run.open - 1}")
+
+    def close(self):
+        """The open group is closed and quiesced."""
+        self.close_group()
+        self.quiesce()
 
     def start(self):
         """The sync of the group after the synced one starts."""
@@ -84,6 +90,9 @@ class Book(Row):
         while not self.run.step():
             pass
         self.say("finish", f"synced {self.run.tree.group}")
+
+    def status(self):
+        self.say("status", self.run.status())
 
     def log_write(self):
         records = self.run.log_write()
@@ -128,8 +137,8 @@ def begun(title):
 
 
 def fill(book, number):
-    """Three groups. The oldest writes to both objects, and its sync starts. The next one writes to the first object again.
-    The open one removes it, cuts the other one and makes a third."""
+    """Three groups. The oldest writes to both objects, and its sync starts. The next one writes to the first object
+    again. The open one removes it, cuts the other one and makes a third."""
     digits = b"%04d" % number
     book.transact("w", 1, 0, digits)
     book.transact("w", 2, 4, digits)
@@ -143,13 +152,14 @@ def fill(book, number):
 
 
 def first_sync(book, number):
-    """The sync of the oldest of three groups has two records, each with its map, the directory and the root: six blocks."""
+    """The sync of the oldest of three groups has two records, each with its map, the directory and the root: six
+    blocks."""
     fill(book, number)
 
 
 def second_sync(book, number):
-    """The oldest of three groups is synced. The sync of the next one has a record with its map, the directory and the root:
-    four blocks."""
+    """The oldest of three groups is synced. The sync of the next one has a record with its map, the directory and the
+    root: four blocks."""
     fill(book, number)
     book.finish()
     book.start()
@@ -191,8 +201,8 @@ def stopped_syncs():
 
 
 def stopped_imports():
-    """Imports that are stopped, with each string, of a pool that has one whole uberblock of its last sync, the third. An
-    import that ends comes after each of them, or only after the last one."""
+    """Imports that are stopped, with each string, of a pool that has one whole uberblock of its last sync, the third.
+    An import that ends comes after each of them, or only after the last one."""
 
     def begun_image(title):
         book = begun(title)
@@ -242,6 +252,15 @@ class LogBook(Book):
         return "d" if 3 in self.run.contents() else "c", 3
 
     def play(self, moves):
+        calls = {
+            "c": self.close_group,
+            "q": self.quiesce,
+            "s": self.start,
+            ".": lambda: self.step(1),
+            "w": self.log_write,
+            "f": self.log_flush,
+            "i": self.status,
+        }
         for move in moves:
             self.played += 1
             if move in "123":
@@ -250,18 +269,11 @@ class LogBook(Book):
                 self.held = self.begin(*self.operation(move))
             elif move == "H":
                 self.commit(*self.held)
-            elif move == "c":
-                self.run.open += 1
-                self.say("close", f"open {self.run.open}")
-            elif move == "q":
-                self.say("quiesce", f"quiesced {self.run.open - 1}")
             elif move == "d":
                 self.durable(0)
                 self.durable(len(self.run.entries) - 1)
-            elif move == "i":
-                self.say("status", self.run.status())
             else:
-                {"s": self.start, ".": lambda: self.step(1), "w": self.log_write, "f": self.log_flush}[move]()
+                calls[move]()
 
     def crash_after(self, moves):
         """A round of these moves for each string: the crash, and an import."""
@@ -282,16 +294,16 @@ def lost_log_blocks():
         yield book
 
 
-# Crashes beside a sync: what comes before, and the moves after each of which there is a crash. The sync of a group that makes
-# object 3 or removes it has two blocks, a flush, four uberblocks and a flush.
+# Crashes beside a sync: what comes before, and the moves after each of which there is a crash. The sync of a group that
+# makes object 3 or removes it has two blocks, a flush, four uberblocks and a flush.
 BESIDE_SYNCS = [
-    # The first log block has the record of the syncing group, which no import replays once the group is mounted. After the log
-    # flush between two uberblocks that group is always mounted.
+    # The first log block has the record of the syncing group, which no import replays once the group is mounted. After
+    # the log flush between two uberblocks that group is always mounted.
     ("the log is written between the calls of a sync, and flushed between its uberblocks", "3cqs", ".w.1w..2wf...."),
     # The first block is before the sync's header: the older uberblock names it, and the newer ones the block after it.
     ("the log is written between the uberblocks of a sync that names the next log block", "3wc1qs...", ".w.2w"),
-    # The first block comes back with the last step, and what is written next takes its place.
-    ("log blocks come back with the last step of a sync", "3wcq1wfs", "........id1wfcqs..."),
+    # The first block comes back with the last step. Its place is free for what is written next.
+    ("log blocks come back with the last step of a sync", "3wcq1wfs", "........id1w1wfcqs..."),
     # The record of the next group stands before that of the syncing one.
     ("a log whose first record is of the next group, beside a sync", "hc1wfHwfqs", "........d"),
 ]
@@ -309,8 +321,8 @@ def syncs_beside_log():
 
 
 def stopped_replays():
-    """An import that replays two records, with the record of a synced group between them, is stopped at each of its calls.
-    One that ends comes after it, and shows the same."""
+    """An import that replays two records, with the record of a synced group between them, is stopped at each of its
+    calls. One that ends comes after it, and shows the same."""
 
     def crashed(book):
         """The image: a synced group, and two flushed log blocks."""

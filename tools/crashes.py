@@ -3,23 +3,24 @@
 
     python3 tools/crashes.py PROGRAM [SECONDS [SEED]]
 
-PROGRAM is a built `ztxg`. For SECONDS (60) it makes scripts by chance (docs/FORMATS.md, "The script"), runs each, and compares
-all answers with those that it worked out before. The answers come from a list of entries, a map of objects (`serial_pool.py`)
-and the rules of what is written when; nothing is taken from the program.
+PROGRAM is a built `ztxg`. For SECONDS (60) it makes scripts by chance (docs/FORMATS.md, "The script"), runs each, and
+compares all answers with those that it worked out before. The answers come from a list of entries, a map of objects
+(`serial_pool.py`) and the rules of what is written when; nothing is taken from the program.
 
-- A pool of 6 MiB gets rounds, one upon the other. A round is an import, transactions in up to three groups at once, of which
-  one may be committed after entries of a newer group, and a sync. Log writes, log flushes and the question whether a commit
-  is durable come between all of them, also between the device calls of a sync.
-- The run is stopped after any of the device calls: by a crash, or by a call that fails and then a crash or an import. The
-  failing call is one of the sync, a log write or a log flush.
+- A pool of 6 MiB gets rounds, one upon the other. A round is an import, transactions in up to three groups at once, of
+  which one may be committed after entries of a newer group, and a sync. Log writes, log flushes and the question
+  whether a commit is durable come between all of them, also between the device calls of a sync.
+- The run is stopped after any of the device calls: by a crash, or by a call that fails and then a crash or an import.
+  The failing call is one of the sync, a log write or a log flush.
 - A crash has a string of letters, which keep, lose or tear each unflushed write.
-- Then up to three imports are stopped, each at one of its device calls that fails, and then by a crash or the next import.
-- The import after all that mounts a group that the letters tell, and replays the records that they leave in the log. What it
-  shows, by its digest and its lengths, has to be the replay of the entries that are left. All acknowledged entries are among
-  them, and none that is left out conflicts with a later one of them.
+- Then up to three imports are stopped, each at one of its device calls that fails, and then by a crash or the next
+  import.
+- The import after all that mounts a group that the letters tell, and replays the records that they leave in the log.
+  What it shows, by its digest and its lengths, has to be the replay of the entries that are left. All acknowledged
+  entries are among them, and none that is left out conflicts with a later one of them.
 
-The first difference ends it with status 1, and prints the script up to there. The end prints how much was compared, and how
-many strings over up to six unflushed writes of a run came.
+The first difference ends it with status 1, and prints the script up to there. The end prints how much was compared, and
+how many strings over up to six unflushed writes of a run came.
 """
 
 import collections
@@ -34,11 +35,10 @@ sys.dont_write_bytecode = True
 from serial_pool import (  # noqa: E402
     LOG_AVAILABLE,
     LOG_ROOM,
-    PART,
     TOP,
-    UBERBLOCK,
     Entry,
     Image,
+    LogBlock,
     Run,
     Tree,
     apply,
@@ -203,7 +203,8 @@ class Pool:
         letters = self.letters(len(unflushed))
         self.say(f"crash {letters}".rstrip(), f"crashed {len(letters)}")
         if len(letters) <= FEW:
-            self.seen.add(("".join("l" if write not in (PART, UBERBLOCK) else write[0] for write in unflushed), letters))
+            kinds = ["log block" if isinstance(write, LogBlock) else write for write in unflushed]
+            self.seen.add((*kinds, letters))
         return letters
 
     def fail_call(self):

@@ -6,19 +6,20 @@
 
 A row is a script with a title, the size of its device and the moment of its uberblocks. The rows are
 
-- those of the files `tools/rows/*.rows`, written by hand, each line beside its answer ("read_rows" has the form);
+- those of the files `tools/rows/*.rows`, written by hand, each line beside its answer (`read_rows` has the form);
 - lines that are no commands, and comments, which some bytes make hard to write in a file (`bad_lines`, `silent_lines`);
 - rows with many lines of one kind (`whole_uberblocks`, `eighth_steps`, `many_groups`, `many_objects`, `many_records`,
   `full_log`, `many_locks`, `many_shapes`);
-- crashes of whole pools: rounds of transactions, a sync or an import that is stopped after each of its device calls, each
-  string of kept, lost and torn writes, and the next import (`stopped_syncs`, `stopped_imports`); and the same of one sync on
-  the least device, where each unflushed write meets the same (`ten_crashes`, `lost_imports`).
+- crashes of whole pools (`crash_rows.py`): rounds of transactions, a sync, the log or an import that is stopped after
+  each of its device calls, each string of kept, lost and torn writes, and the next import (`stopped_syncs`,
+  `stopped_imports`, `lost_log_blocks`, `syncs_beside_log`, `stopped_replays`);
+- the same of one sync on the least device, where each unflushed write meets the same (`ten_crashes`, `lost_imports`).
 
-The answers to the crashes come from a plain serial pool (`serial_pool.py`) and from the rules of what is written when. Nothing
-is taken from the program.
+The answers to the crashes come from a plain serial pool (`serial_pool.py`) and from the rules of what is written when.
+Nothing is taken from the program.
 
-In `stdin` a row begins with `== SIZE MOMENT TITLE`, and its script follows. In `stdout` that line stands again, then the
-answers, then `== status S`: 2 if the last answer tells of a bad command, else 0.
+In `stdin` a row begins with `== SIZE MOMENT TITLE`, and its script follows. In `stdout` that line stands again, then
+the answers, then `== status S`: 2 if the last answer tells of a bad command, else 0.
 """
 
 import itertools
@@ -35,8 +36,8 @@ TOOLS = pathlib.Path(__file__).parent
 CRATE = TOOLS.parent / "crates" / "script_rows"
 
 
-# Lines that are no commands. Each follows lines after which a line of the right form would be answered: there is a pool, a
-# group is being synced, and one write is unflushed.
+# Lines that are no commands. Each follows lines after which a line of the right form would be answered: there is a
+# pool, a group is being synced, and one write is unflushed.
 BAD_LINES = [
     b"create tank +7",
     b"create tank 18446744073709551616",
@@ -124,8 +125,8 @@ def silent_lines():
     yield row
 
 
-# An import of group u syncs u + 4, and the next one is open. An object's creation is synced by two blocks, a flush, four
-# uberblocks and a flush.
+# An import of group u syncs u + 4, and the next one is open. An object's creation is synced by two blocks, a flush,
+# four uberblocks and a flush.
 SEVEN_CALLS = """
 create tank 77 -> ok
 import 1048576 -> synced 8 open 9 records 0
@@ -196,8 +197,8 @@ def eighth_steps():
 
 
 def many_groups():
-    """An empty group has no block: its sync is a flush, four uberblocks and a flush. The uberblock of group g lies in slot
-    g mod 128, so 200 groups go round."""
+    """An empty group has no block: its sync is a flush, four uberblocks and a flush. The uberblock of group g lies in
+    slot g mod 128, so 200 groups go round."""
     for letters, group, is_stepped in [
         ("tttt", 212, False),
         ("ttkt", 213, False),
@@ -274,8 +275,8 @@ length 150 -> refused 9 NoObject
 
 
 def full_log():
-    """On 6 MiB 383 blocks are free. A creation is charged two blocks, a write four. A log write takes a block, and needs 17
-    that are available; a plan that only removes needs no more than its own."""
+    """On 6 MiB 383 blocks are free. A creation is charged two blocks, a write four. A log write takes a block, and
+    needs 17 that are available; a plan that only removes needs no more than its own."""
     row = Row("a log write and a plan need blocks that stay available, and a plan that only removes does not", 6 * MIB)
     row.say_all("""
 create tank 77 -> ok
@@ -327,8 +328,8 @@ lock 1 1 r 0 4 -> lock 256
 
 
 def many_shapes():
-    """A transaction has at most so many bytes: 797 creations and removals fit, and one more does not. They are charged more
-    blocks than a pool of 8 MiB has, and more than a limit of 1 MiB of dirty bytes allows."""
+    """A transaction has at most so many bytes: 797 creations and removals fit, and one more does not. They are charged
+    more blocks than a pool of 8 MiB has, and more than a limit of 1 MiB of dirty bytes allows."""
     for shapes, limit, refusal in [
         (797, 16 * MIB, "refused 16 NoSpace"),
         (797, MIB, "refused 17 Throttled"),
@@ -342,8 +343,8 @@ def many_shapes():
         yield row
 
 
-# On 6 MiB a transaction makes object 1, of four bytes, and its group is synced by its block, its map, the directory, the root,
-# a flush, four uberblocks and a flush.
+# On 6 MiB a transaction makes object 1, of four bytes, and its group is synced by its block, its map, the directory,
+# the root, a flush, four uberblocks and a flush.
 TEN_CALLS = """
 create tank 77 -> ok
 import 1048576 -> synced 8 open 9 records 0
@@ -386,14 +387,14 @@ def ten_crashes():
         yield row
 
 
-# The writes of an import of this pool: two configs, four uberblocks, two configs, with a flush after each of the three. Each
-# has the number of unflushed writes then.
+# The writes of an import of this pool: two configs, four uberblocks, two configs, with a flush after each of the three.
+# Each has the number of unflushed writes then.
 IMPORT_WRITES = [1, 2, 1, 2, 3, 4, 1, 2]
 
 
 def lost_imports():
-    """A synced pool is given up, and an import is stopped at each of its writes. What is unflushed is lost, and the next
-    import finds the object."""
+    """A synced pool is given up, and an import is stopped at each of its writes. What is unflushed is lost, and the
+    next import finds the object."""
     for write, unflushed in enumerate(IMPORT_WRITES, 1):
         row = ten_steps(f"an import that is stopped at write {write}, and each unflushed write is lost", 10)
         row.say(f"fail write {write}", "ok")

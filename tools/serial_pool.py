@@ -1,8 +1,8 @@
 """A plain serial pool: a list of entries and a map of objects.
 
-An entry is a committed transaction with the group that it was committed in. What a crash leaves of a run is the replay of the
-entries up to a group, and after them of those whose records stand in the log, in their order. `crashes.py` and `make_rows.py`
-take from here what they expect of an engine; nothing is taken from a program.
+An entry is a committed transaction with the group that it was committed in. What a crash leaves of a run is the replay
+of the entries up to a group, and after them of those whose records stand in the log, in their order. `crashes.py` and
+`make_rows.py` take from here what they expect of an engine; nothing is taken from a program.
 
 `Run` is a pool from an import to a crash, `Image` what the crash leaves, up to the next import that ends.
 """
@@ -23,8 +23,9 @@ CHARGE = 4_096
 LOG_ROOM = 4_008
 LOG_AVAILABLE = 17
 
-# An entry is a committed transaction: its group, and its operations as (kind, object, place or length, bytes). The kinds are
-# the letters of a script: `c` creates the object, `d` removes it, `w` writes bytes at a place, `l` sets the length.
+# An entry is a committed transaction: its group, and its operations as (kind, object, place or length, bytes). The
+# kinds are the letters of a script: `c` creates the object, `d` removes it, `w` writes bytes at a place, `l` sets the
+# length.
 Entry = collections.namedtuple("Entry", "group ops")
 
 
@@ -101,8 +102,8 @@ def estimate(entry):
 
 
 def count_blocks(objects, records, entries):
-    """The number of blocks that a sync of these entries writes, over objects and the records of each that are no holes, and
-    the records that are no holes after it."""
+    """The number of blocks that a sync of these entries writes, over objects and the records of each that are no holes,
+    and the records that are no holes after it."""
     objects, records = dict(objects), {number: set(some) for number, some in records.items()}
     dirty, moved, touched = {}, set(), set()
     for entry in entries:
@@ -150,13 +151,19 @@ Tree = collections.namedtuple("Tree", "group objects records")
 # A log block: its number in the chain, and the ordinals of the entries whose records it has.
 LogBlock = collections.namedtuple("LogBlock", "number ordinals")
 
-# A write of a sync or an import: of a block of the tree or a label's config, which tells nothing until an uberblock names it;
-# or of an uberblock.
+# A write of a sync or an import: of a block of the tree or a label's config, which tells nothing until an uberblock
+# names it; or of an uberblock.
 PART, UBERBLOCK = "part", "uberblock"
 
 
+def standing(writes, letters):
+    """The writes that stand after a crash with these letters; a missing letter is `k`."""
+    return [write for write, letter in zip(writes, letters.ljust(len(writes), "k")) if letter == "k"]
+
+
 class Sync:
-    """A sync that runs: the tree that it writes, how many blocks it writes for it, and the log's number in its uberblocks.
+    """A sync that runs: the tree that it writes, how many blocks it writes for it, and the log's number in its
+    uberblocks.
 
     Its calls are the writes of its blocks, a flush, four uberblocks and a flush.
     """
@@ -172,17 +179,17 @@ class Sync:
 class Run:
     """A pool from the import that mounted it to a crash.
 
-    It has the tree of the synced group, the entries since the import, the log blocks, and the writes that are not flushed. A
-    flush makes each write certain that came before it, whether a sync or the log made it. A commit is acknowledged by a log
-    flush after its record's write, and by the end of its group's sync.
+    It has the tree of the synced group, the entries since the import, the log blocks, and the writes that are not
+    flushed. A flush makes each write certain that came before it, whether a sync or the log made it. A commit is
+    acknowledged by a log flush after its record's write, and by the end of its group's sync.
     """
 
     def __init__(self, tree):
         self.mounted, self.tree, self.open = tree.objects, tree, tree.group + 1
         self.entries, self.begun = [], []
         self.sync = None
-        # The log blocks by their numbers; the one that the synced uberblock names, or the next one; and the entry from which on
-        # none is written.
+        # The log blocks by their numbers; the one that the synced uberblock names, or the next one; and the entry from
+        # which on none is written.
         self.log, self.header, self.written = [], 0, 0
         # The log blocks before these numbers are flushed by a log flush, and by any flush.
         self.flushed, self.certain = 0, 0
@@ -245,8 +252,8 @@ class Run:
         return group <= self.tree.group or (is_receipt and self.is_acknowledged(ordinal))
 
     def start(self):
-        """The sync of the group after the synced one starts. Its header is the first kept log block with a record of a group
-        after its own, or else the next one."""
+        """The sync of the group after the synced one starts. Its header is the first kept log block with a record of a
+        group after its own, or else the next one."""
         group, (_, objects, records) = self.tree.group + 1, self.tree
         entries = self.of_group(group)
         blocks, records = count_blocks(objects, records, entries)
@@ -264,8 +271,8 @@ class Run:
         self.certain, self.unflushed = len(self.log), []
 
     def step(self):
-        """The next call of the sync: whether it was the last. Then the group is synced, and the log blocks before its header
-        come back."""
+        """The next call of the sync: whether it was the last. Then the group is synced, and the log blocks before its
+        header come back."""
         call = self.sync.calls[self.sync.made]
         self.sync.made += 1
         if call == "flush":
@@ -306,15 +313,13 @@ class Run:
     def crash(self, letters=""):
         """The image that a crash with these letters leaves; a missing one is `k`.
 
-        The synced group's tree is mounted, or that of the running sync if an uberblock of it stands. The chain goes from the
-        tree's header on as long as log blocks stand, and its records of later groups are replayed.
+        The synced group's tree is mounted, or that of the running sync if an uberblock of it stands. The chain goes
+        from the tree's header on as long as log blocks stand, and its records of later groups are replayed.
         """
-        letters = letters.ljust(len(self.unflushed), "k")
-        standing = [write for write, letter in zip(self.unflushed, letters) if letter == "k"]
-        tree, header = self.tree, self.header
-        if self.sync and (self.sync.is_mounted or UBERBLOCK in standing):
+        writes, tree, header = standing(self.unflushed, letters), self.tree, self.header
+        if self.sync and (self.sync.is_mounted or UBERBLOCK in writes):
             tree, header = self.sync.tree, self.sync.header
-        lost = [block.number for block in self.log[max(header, self.certain) :] if block not in standing]
+        lost = [block.number for block in self.log[max(header, self.certain) :] if block not in writes]
         chain = self.log[header : min(lost, default=None)]
         ordinals = [at for block in chain for at in block.ordinals if self.entries[at].group > tree.group]
         image = Image(tree, len(chain) + 1, [self.entries[at] for at in ordinals])
@@ -327,8 +332,8 @@ class Run:
 
 
 class Image:
-    """What an import finds: the tree of the active group, the places of the log that it reads, and the entries whose records
-    it replays. An import of group u syncs u + 4."""
+    """What an import finds: the tree of the active group, the places of the log that it reads, and the entries whose
+    records it replays. An import of group u syncs u + 4."""
 
     def __init__(self, tree, places=0, entries=()):
         self.tree, self.places, self.entries = tree, places, entries
@@ -337,8 +342,9 @@ class Image:
         self.synced = Tree(tree.group + 4, self.objects, records)
 
     def calls(self):
-        """The device calls of an import: a flush; the reads of four arrays of uberblocks, four configs, the tree and the log;
-        the blocks of the replayed entries, a flush; two configs, a flush; four uberblocks, a flush; two configs, a flush."""
+        """The device calls of an import: a flush; the reads of four arrays of uberblocks, four configs, the tree and
+        the log; the blocks of the replayed entries, a flush; two configs, a flush; four uberblocks, a flush; two
+        configs, a flush."""
         reads = 8 + tree_blocks(*self.tree[1:]) + self.places
         labels = [PART] * 2 + ["flush"]
         blocks = [PART] * self.blocks + ["flush"]
@@ -350,10 +356,10 @@ class Image:
         return [ImportStop(calls[:at], call) for at, call in enumerate(calls)]
 
     def stop(self, stop, letters=""):
-        """The image after an import that was stopped and a crash with these letters; a missing one is `k`. The import's group
-        is mounted if one of its uberblocks stands. It names a log without a block."""
-        standing = [write for write, letter in zip(stop.unflushed, letters.ljust(len(stop.unflushed), "k")) if letter == "k"]
-        return Image(self.synced, 1) if stop.is_mounted or UBERBLOCK in standing else self
+        """The image after an import that was stopped and a crash with these letters; a missing one is `k`. The import's
+        group is mounted if one of its uberblocks stands. It names a log without a block."""
+        is_synced = stop.is_mounted or UBERBLOCK in standing(stop.unflushed, letters)
+        return Image(self.synced, 1) if is_synced else self
 
 
 def kind_of(call):
