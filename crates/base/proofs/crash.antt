@@ -19,6 +19,7 @@ pub mod LogCalls
 pub mod LogHeaders
 pub mod LogSpares
 pub mod PoolLogs
+pub mod LogNames
 pub mod LogRoom
 pub mod PoolRoom
 pub mod LogUnwritten

@@ -7,3 +7,4 @@ pub mod WrittenPlaces
 pub mod OneTree
 pub mod Sums
 pub mod Estimates
+pub mod SamePlaces

@@ -103,7 +103,7 @@ abbrev record_estimate : Record → ℕ
 record_estimate r = estimate_of (map shape_of r.ops)
 
 -- if all records are of the group, its operations are theirs
-all_pending : (group : ℕ) (records : List Record) → All (λ (r : Record). r.group.0 ≡ group) records → pending_ops group records ≡ flat_map (λ (r : Record). r.ops) records
+pub all_pending : (group : ℕ) (records : List Record) → All (λ (r : Record). r.group.0 ≡ group) records → pending_ops group records ≡ flat_map (λ (r : Record). r.ops) records
 all_pending group [] all = refl
 all_pending group (r ∷ rs) all =
     let others : List Record = filter (λ (x : Record). x.group.0 == group) rs in

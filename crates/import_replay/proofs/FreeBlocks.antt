@@ -1,6 +1,7 @@
--- The free blocks of a tree and a chain: those that they have are taken one after another.
+-- The free blocks of a tree and a chain: those that they have are taken one after another. And those that a plan
+-- leaves.
 use Rattle.std.proofs.Common.{◌≡◌, ℕ, zero, suc, ◌+◌, ◌<◌, Bool, true, false, not, ◌&&◌, ◌||◌, List, [], ◌∷◌, length, take, get_or, nat_eq, Option, Some, None, ◌⊎◌, inl, inr, refl, sym, subst, ap, ◌∙◌, arith}
-use Rattle.std.specs.Prelude.{Contains, slice_get}
+use Rattle.std.specs.Prelude.{Contains, Err, IfErr, IsErr, Ok, Result, slice_get}
 use Rattle.std.specs.List.{list_any}
 use Rattle.std.specs.Option.{option_map_or}
 use Rattle.std.specs.Ordering.{nat_cmp, eq_by_cmp}
@@ -12,6 +13,7 @@ use Rattle.std.proofs.lemmas.Bool.{cases_eq, eq-eqb, eqb-true, ne_eqb, false≢t
 use Rattle.std.proofs.lemmas.List.{get_or-take, length-take}
 use Rattle.std.proofs.lemmas.List.Folds.{list_any_more}
 use Rattle.std.proofs.lemmas.Option.{get_or_from_slice_get, slice_get-get_or}
+use Rattle.base.specs.declared.error.PoolError.{PoolError}
 use Rattle.base.specs.declared.pointer.Pointer.{Pointer}
 use Rattle.base.specs.formats.Chain.{LogPiece}
 use Rattle.base.specs.formats.Fields.{no_pointer}
@@ -22,7 +24,8 @@ use Rattle.object_maps.specs.declared.tree.ObjectMap.{ObjectMap}
 use Rattle.object_maps.specs.declared.tree.Tree.{Tree}
 use Rattle.object_maps.specs.Pointers.{pointers_of}
 use Rattle.space.specs.FreeSets.{FreeSpace, HasAllOf, IsLowestFree, after_take, is_free}
-use Rattle.import_replay.specs.FreeBlocks.{AreAllUsed, AreUnused, BlocksTaken, HasTakenLowest, IsLowestUnused, IsNamed, IsUsedBy, chain_addresses, is_block_at, logs_block, map_names, names_block, tree_names, uses_block}
+use Rattle.tree_plans.specs.declared.planner.PlannedBlock.{PlannedBlock}
+use Rattle.import_replay.specs.FreeBlocks.{AreAllOthers, AreAllPlanned, AreUnused, BlocksTaken, IsLowestLeft, IsNamed, IsUsedBy, chain_addresses, is_block_at, is_planned, logs_block, map_names, names_block, plans_block, tree_names, uses_block}
 
 -- two takes one after another
 both_taken : (a b c : Bool) → ((a && not b) && not c) ≡ (a && not (b || c))
@@ -250,22 +253,9 @@ unused-from_taken t chain blocks all left directories maps count whole taken = r
 block_below : (i k : ℕ) → block_address i < block_address k → i < k
 block_below i k e = omega arith
 
--- the lowest free block is the lowest that is not used
-pub lowest_unused : (pointers : Place → Pointer) (logged : List ℕ) (blocks : ℕ) (s : FreeSpace) (b : ℕ) → AreUnused pointers logged blocks s.free → IsLowestFree s b
-    → IsLowestUnused pointers logged blocks (block_address b)
-lowest_unused pointers logged blocks s b were first = record {
-  is_block = were.in_area (block_address b) first.free;
-  unused = were.unused (block_address b) first.free;
-  lowest = λ q below is.
-      (let low : is.0 < b = block_below is.0 b (subst (λ (a : ℕ). a < block_address b) is.2 below) in
-      were.others q (ap (λ (a : ℕ). set.contains s.free a) is.2 ∙ first.below is.0 (omega arith) low) is);
-}
-
--- it is taken from the free blocks of the tree alone
-pub lowest_taken : (pointers : Place → Pointer) (logged : List ℕ) (blocks : ℕ) (s : FreeSpace) (b : ℕ) → IsLowestUnused pointers logged blocks (block_address b) → AreUnused pointers [] blocks s.free
-    → HasTakenLowest pointers logged blocks (block_address b) (after_take b s).free
-lowest_taken pointers logged blocks s b first were = record {
-  first = first;
+-- the blocks that no place names, without one of them
+pub others_free : (pointers : Place → Pointer) (blocks : ℕ) (s : FreeSpace) (b : ℕ) → AreUnused pointers [] blocks s.free → AreAllOthers pointers blocks (block_address b) (after_take b s).free
+others_free pointers blocks s b were = record {
   in_area = λ q h. were.in_area q (was_free q h);
   unnamed = λ q h named. were.unused q (was_free q h) (inl named);
   not_taken = λ q h same. not-true (nat_eq (block_address b) q) (and_left (not (nat_eq (block_address b) q)) (set.contains s.free q) (sym (contains-without s.free (block_address b) q) ∙ h)) (eq-eqb (block_address b) q (sym same));
@@ -291,6 +281,53 @@ lowest_taken pointers logged blocks s b first were = record {
     only_named q (inl named) = named
     only_named q (inr (i, low, is)) = absurd (omega (arith, low))
 
--- where no block is free, each is used
-pub all_used : (pointers : Place → Pointer) (logged : List ℕ) (blocks : ℕ) (s : FreeSpace) → AreUnused pointers logged blocks s.free → set.len s.free ≡ 0 → AreAllUsed pointers logged blocks
-all_used pointers logged blocks s were none address is = were.others address (ap (λ (l : FinSet nat_cmp). set.contains l address) (empty_of_len s.free none) ∙ contains-empty nat_cmp address) is
+-- the block of a number is taken
+pub number_taken : (i : ℕ) (s : FreeSpace) → BlocksTaken (λ k. is_block_at k (block_address i)) s (after_take i s)
+number_taken i s = address_taken (block_address i) i s refl
+
+-- what two tests say together
+both_are : (a b : Bool) → (a && not b) ≡ true → (a ≡ true) × (b ≡ false)
+both_are true true h = absurd (false≢true h)
+both_are true false h = (refl, refl)
+both_are false b h = absurd (false≢true h)
+
+not_both : (a b : Bool) → (a && not b) ≡ false → a ≡ true → b ≡ true
+not_both true true h is = refl
+not_both true false h is = absurd (false≢true (sym h))
+not_both false b h is = absurd (false≢true is)
+
+-- of a set whose planned blocks were taken
+module _ (planned : List PlannedBlock) (s left : FreeSpace) (taken : BlocksTaken (λ k. is_planned k planned) s left) where
+  -- the lowest free block is the lowest that the plan leaves
+  pub lowest_is_left : (b : ℕ) → IsLowestFree left b → IsLowestLeft s planned b
+  lowest_is_left b first =
+      let count = blocks_kept (λ k. is_planned k planned) s left taken in
+      let within : b < s.blocks = (let low = first.within in omega (arith, low, count)) in
+      let here = both_are (is_free b s) (is_planned b planned) (sym (taken.each b within) ∙ first.free) in
+      record {
+        within = within;
+        free = here.0;
+        left = here.1;
+        below = λ k low. not_both (is_free k s) (is_planned k planned) (sym (taken.each k (omega (arith, low, within))) ∙ first.below k (omega arith) low);
+      }
+
+  -- where no block is free, each was planned
+  pub all_planned : set.len left.free ≡ 0 → AreAllPlanned s planned
+  all_planned none k low =
+      let gone : is_free k left ≡ false = ap (λ (l : FinSet nat_cmp). set.contains l (block_address k)) (empty_of_len left.free none) ∙ contains-empty nat_cmp (block_address k) in
+      not_both (is_free k s) (is_planned k planned) (sym (taken.each k low) ∙ gone)
+
+-- what is so if an answer is a refusal
+pub if_refused : {A : Type 0} (r : Result A PoolError) (P : Type 0) → (IsErr r → P) → IfErr r (λ e. P)
+if_refused (Ok x) P is = tt
+if_refused (Err e) P is = is refl
+
+-- a block that is planned is one of the plan's
+pub planned_at : (k : ℕ) (planned : List PlannedBlock) → is_planned k planned ≡ true → (i : ℕ) × (b : PlannedBlock) × (slice_get planned i ≡ Some b) × (block_address b.index ≡ block_address k)
+planned_at k planned h =
+    let f = found_at (plans_block k) planned h in
+    (f.index, f.item, f.found, eqb-true (block_address f.item.index) (block_address k) f.passes)
+
+-- and the other way round
+pub at_planned : (k : ℕ) (planned : List PlannedBlock) (i : ℕ) (b : PlannedBlock) → slice_get planned i ≡ Some b → block_address b.index ≡ block_address k → is_planned k planned ≡ true
+at_planned k planned i b at same = any_at (plans_block k) planned i b at (eq-eqb (block_address b.index) (block_address k) same)

@@ -18,6 +18,8 @@ pub mod ReadViews
 pub mod ImportedLabels
 pub mod WrittenImports
 pub mod MountedPools
+pub mod KeptBlocks
+pub mod ReplayedPools
 pub mod NextPools
 pub mod PlannedPools
 pub mod ReadPools

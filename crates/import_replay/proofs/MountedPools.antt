@@ -31,8 +31,8 @@ use Rattle.object_maps.specs.ContentsShown.{contents_of}
 use Rattle.object_maps.specs.Pointers.{objects_of, pointers_of}
 use Rattle.sync.specs.Made.{BlocksWritten}
 use Rattle.tree_plans.specs.declared.planner.PlannedBlock.{PlannedBlock}
-use Rattle.import_replay.specs.FreeBlocks.{AreAllUsed, IsLowestUnused, IsNamed, IsUsedBy, chain_addresses}
-use Rattle.import_replay.specs.ImportRefusals.{CanImport, HasAllBlocks, HasSoundPool}
+use Rattle.import_replay.specs.FreeBlocks.{IsNamed, IsUsedBy, chain_addresses}
+use Rattle.import_replay.specs.ImportRefusals.{CanImport, HasSoundPool}
 use Rattle.import_replay.specs.Mounts.{IsMountedAnew, IsMountedFrom, StandsOn, frame_of_import, parts_mounted, shown_of_import}
 use Rattle.import_replay.specs.NextPools.{AreMadeOver, ArePartsFor, PoolParts, next_frame}
 use Rattle.import_replay.specs.ReadPools.{IsReadPool, frame_of_size}
@@ -58,13 +58,6 @@ used_on_image image size u tree objects chain held root address block (inl named
     inl (subst (λ (p : Pointer). IsInTree image p address) root (tree-of_named image (frame_of_size u size) (pointers_of tree) objects held address (not_zero (block_count size) address block) named))
 used_on_image image size u tree objects chain held root address block (inr logged) = inr logged
 
--- where each block of the area is used, the tree or the chain has each
-pub all_blocks : (size : ℕ) (u : Uberblock) (tree : Tree) (slots : List Slot) (chain : List LogPiece) (image : List ℕ) → length image ≡ size → HoldsTree image (frame_of_size u size) (pointers_of tree) (objects_of slots)
-    → tree.root ≡ u.root → AreAllUsed (pointers_of tree) (chain_addresses chain) (block_count size) → HasAllBlocks image u.root chain
-all_blocks size u tree slots chain image long held root used address is =
-    let block : IsBlockAddress (block_count size) address = subst (λ n. IsBlockAddress (block_count n) address) long is in
-    used_on_image image size u tree (objects_of slots) chain held root address block (used address block)
-
 -- the tree that was loaded is that of a pool without a damage
 pub sound_pool : (size : ℕ) (u : Uberblock) (name : List ℕ) (tree : Tree) (slots : List Slot) (image : List ℕ) → length image ≡ size → HoldsTree image (frame_of_size u size) (pointers_of tree) (objects_of slots)
     → tree.root ≡ u.root → HasPool image u name → HasSoundPool image u name
@@ -89,24 +82,6 @@ mounts_read image size u name tree slots chain read c named same contents applie
   };
   applied = applied;
 }
-
--- the lowest block that neither its pointers nor the chain have is the first log block
-pub log_block_found : (size : ℕ) (u : Uberblock) (tree : Tree) (slots : List Slot) (chain : List LogPiece) (image : List ℕ) → length image ≡ size
-    → HoldsTree image (frame_of_size u size) (pointers_of tree) (objects_of slots) → tree.root ≡ u.root → (address : ℕ) → IsLowestUnused (pointers_of tree) (chain_addresses chain) (block_count size) address
-    → IsFirstLogBlock image u chain image u.root address
-log_block_found size u tree slots chain image long held root address first = record {
-  in_area = subst (λ (n : ℕ). IsBlockAddress (block_count n) address) (sym long) first.is_block;
-  not_old = not_used;
-  not_new = λ is. not_used (inl is);
-  lowest = λ other below is.
-      (let block : IsBlockAddress (block_count size) other = subst (λ (n : ℕ). IsBlockAddress (block_count n) other) long is in
-      inl (used_on_image image size u tree (objects_of slots) chain held root other block (first.lowest other below block)));
-}
-  where
-    not_used : IsUsed image u.root chain address → ⊥
-    not_used (inl is) =
-        first.unused (inl (named-of_tree image (frame_of_size u size) (pointers_of tree) (objects_of slots) held address (subst (λ (p : Pointer). IsInTree image p address) (sym root) is)))
-    not_used (inr is) = first.unused (inr is)
 
 -- the numbers of an import that is not past the last
 pub group-within : (group import_number : ℕ) → is_past_last group import_number ≡ false → group + 5 ≤ last_number
@@ -191,7 +166,7 @@ module _ (size : ℕ) (u : Uberblock) (name : List ℕ) (p : PoolParts) (dirty_m
     first_log_block = record {
       in_area = subst (λ (n : ℕ). IsBlockAddress (block_count n) m.log_address) (from.geometry ∙ sym long) mine.log_block;
       not_old = made.log_unused;
-      not_new = λ is. mine.log_unnamed (now_named m.log_address is);
+      not_new = λ is. made.log_unnamed (now_named m.log_address is);
       lowest = λ other below is.
           (let block : IsBlockAddress (block_count size) other = subst (λ (n : ℕ). IsBlockAddress (block_count n) other) long is in
           ⊎_elim (λ used. inl used) (λ named. inr (in_now other (not_zero (block_count size) other block) named)) (made.lowest other below block));
@@ -200,15 +175,15 @@ module _ (size : ℕ) (u : Uberblock) (name : List ℕ) (p : PoolParts) (dirty_m
     -- and the free blocks are those in neither the tree nor the log
     are_free : AreFree now shown
     are_free = record {
-      in_area = mine.in_area;
-      not_in_tree = λ address free is. mine.unnamed address free (now_named address is);
+      in_area = mine.free.in_area;
+      not_in_tree = λ address free is. mine.free.unnamed address free (now_named address is);
       not_in_log = λ address free is. not_logged address free is;
       not_taken = λ address free. refl;
-      all_others = λ address used block. other address block (mine.others address used block);
+      all_others = λ address used block. other address block (mine.free.others address used block);
     }
       where
         not_logged : (address : ℕ) → set.contains shown.free address ≡ true → IsInLog shown.log address → ⊥
-        not_logged address free (inl is) = mine.not_taken address free is
+        not_logged address free (inl is) = mine.free.not_taken address free is
         not_logged address free (inr is) = let none : None ≡ Some is.1 = is.2 in cc
 
         other : (address : ℕ) → IsBlockAddress (block_count m.geometry) address → IsNamed pointers address ⊎ (address ≡ m.log_address)
@@ -220,18 +195,18 @@ module _ (size : ℕ) (u : Uberblock) (name : List ℕ) (p : PoolParts) (dirty_m
     stands_on = record {
       tree = holds_now;
       log_block = mine.log_block;
-      log_apart = λ is. mine.log_unnamed (now_named m.log_address is);
+      log_apart = λ is. made.log_unnamed (now_named m.log_address is);
       free = are_free;
     }
 
     -- if the image mounts its contents, the import is one of the image
-    pub import_of : is_dirty_max_allowed dirty_max ≡ true → Mounts image u chain (contents_of m.contents) → IsImportOf image now dirty_max (length (records_above u.group chain)) shown
+    pub import_of : is_dirty_max_allowed dirty_max ≡ true → Mounts image u chain (contents_of m.contents) → IsImportOf image now dirty_max m.records shown
     import_of limit mounts = record {
       u = u;
       chain = chain;
       contents = contents_of m.contents;
       mounts = mounts;
-      records_are = refl;
+      records_are = sym made.records;
       limit_allowed = limit;
       within = from.within;
       log_block = first_log_block;

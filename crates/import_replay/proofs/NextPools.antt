@@ -1,160 +1,377 @@
--- The pool that was loaded may be synced as it is, and what is mounted of it is an import of the image.
-use Rattle.std.proofs.Common.{◌≡◌, ◌⊎◌, inl, inr, ℕ, Bool, true, List, [], length, nat_eq, map, None, Some, refl, sym, ◌∙◌, ap, subst, arith}
-use Rattle.std.specs.Prelude.{◌<◌, All, IfSome, slice_get}
+-- The pool that an import replayed and planned may be synced, and what is mounted of it is an import of the image.
+use Rattle.std.proofs.Common.{◌≡◌, ◌⊎◌, inl, inr, ⊎_elim, ℕ, zero, suc, ◌+◌, ◌*◌, ◌<◌, ◌≤◌, Bool, true, false, ◌||◌, cond, List, [], ◌∷◌, length, nat_eq, map, None, Some, Ok, refl, sym, ◌∙◌, ap, subst, arith}
+use Rattle.std.specs.Prelude.{◌≢◌, All, IfSome, slice_get}
 use Rattle.std.specs.FinMap as finite
-use Rattle.std.specs.List.{IsDistinct}
-use Rattle.std.proofs.lemmas.List.Elements.{All-nil}
-use Rattle.base.specs.crash.Imports.{IsImportOf, is_dirty_max_allowed}
-use Rattle.base.specs.crash.Mount.{IsChainOf, IsUsed, Mounts, apply_records, frame_of, header_of, records_above}
+use Rattle.std.specs.FinSet as set
+use Rattle.std.specs.FinSet.{FinSet, contains-insert, len-empty, len-insert}
+use Rattle.std.specs.List.{AllByRecursion, IsDistinct}
+use Rattle.std.specs.Ordering.{nat_cmp, eq_by_cmp}
+use Rattle.std.specs.Cmp.{unsigned_tied}
+use Rattle.std.proofs.lemmas.Bool.{cases_lt, eq-eqb, false≢true, ne_eqb}
+use Rattle.std.proofs.lemmas.Cmp.{nat_cmp_total}
+use Rattle.std.proofs.lemmas.List.{length-map}
+use Rattle.std.proofs.lemmas.List.Elements.{All-weaker}
+use Rattle.std.proofs.Math.Logic.{∥∥₁_map}
+use Rattle.base.specs.common.Rising.{rising}
+use Rattle.base.specs.crash.Imports.{is_dirty_max_allowed, is_past_last}
+use Rattle.base.specs.crash.LogRoom.{records_estimate}
+use Rattle.base.specs.crash.Mount.{IsChainDamaged, IsUsed, Mounts, records_above}
+use Rattle.base.specs.declared.error.PoolError.{PoolError}
+use Rattle.base.specs.declared.error.PoolError.TheVariants.{Damaged, NoMemory}
 use Rattle.base.specs.declared.pointer.Pointer.{Pointer}
 use Rattle.base.specs.disk.Disk.{Disk, bytes_of}
 use Rattle.base.specs.formats.Chain.{LogPiece}
-use Rattle.base.specs.formats.Fields.{part}
-use Rattle.base.specs.formats.Geometry.{IsBlockAddress, block_count, block_size}
+use Rattle.base.specs.formats.Geometry.{IsBlockAddress, block_address, block_area, block_count, block_size}
+use Rattle.base.specs.formats.Limits.{object_count}
+use Rattle.base.specs.formats.Names.{IsName}
 use Rattle.base.specs.formats.Uberblocks.{Uberblock}
-use Rattle.base.specs.tree.PlacedTrees.{ArePlaced, HoldsTree, IsPlaced}
-use Rattle.base.specs.tree.Places.{IsInTree, Place}
-use Rattle.base.specs.tree.PlannedTrees.{SameBlock}
-use Rattle.base.proofs.crash.OneMount.{one-chain}
-use Rattle.base.proofs.disk.Put.{part_same}
-use Rattle.base.proofs.tree.PlacedTrees.{holds-placed}
-use Rattle.base.proofs.tree.PlannedTrees.{holds-elsewhere}
+use Rattle.base.specs.history.Contents.{Contents, length_of}
+use Rattle.base.specs.stored.Stored.{AreBlocks}
+use Rattle.base.specs.tree.PlacedTrees.{ArePlaced, IsPlaced}
+use Rattle.base.specs.tree.Places.{IsInTree}
+use Rattle.base.specs.tree.PlannedTrees.{IsTreePlan, NewBlock}
+use Rattle.base.specs.tree.Tree.{IsTree}
+use Rattle.base.proofs.common.KeptLists.{at_take}
+use Rattle.base.proofs.crash.LogRoom.{subset_len, with_all}
+use Rattle.base.proofs.formats.Geometry.{IsGeometry-IsSize}
+use Rattle.base.proofs.history.KeptContents.{bounded-no_others}
+use Rattle.base.proofs.tree.FreedBlocks.{IsNewAddress}
+use Rattle.base.proofs.tree.PlacedTrees.{holds-tree}
+use Rattle.base.proofs.stored.StoredSets.{IsAt, at-map, map-at, rising-in, rising-rises}
+use Rattle.group_plans.specs.GroupPlans.{plan_pointers}
+use Rattle.group_plans.specs.Pointers.{lengths_after}
+use Rattle.group_plans.proofs.GroupChanges.{lengths_told}
+use Rattle.group_plans.proofs.GroupCounts.{plans_fit_estimates, short_plans_lack_blocks}
+use Rattle.group_plans.proofs.GroupTrees.{plans_make_trees}
+use Rattle.intent_log.specs.Chains.{IsSoundBlock}
+use Rattle.log_replay.specs.Replays.{IsBlockAllowed, IsChainAllowed, IsNameKept, IsReplayCause, IsReplayRefusal}
 use Rattle.object_maps.specs.ContentsShown.{contents_of}
-use Rattle.object_maps.specs.Lengths.{HasLengthsOf}
 use Rattle.object_maps.specs.Loading.{IsLimitedObject}
 use Rattle.object_maps.specs.Pointers.{objects_of, pointers_of}
 use Rattle.object_maps.specs.declared.contents.Slot.{Slot}
 use Rattle.object_maps.specs.declared.tree.Tree.{Tree}
+use Rattle.space.proofs.FreeLists.{length-rising}
 use Rattle.sync.specs.Made.{BlocksWritten}
+use Rattle.tree_plans.specs.Plans.{address_of, new_block}
 use Rattle.tree_plans.specs.declared.planner.PlannedBlock.{PlannedBlock}
-use Rattle.uberblocks.proofs.Stands.{actives_agree}
-use Rattle.import_replay.specs.FreeBlocks.{IsNamed, IsUsedBy, chain_addresses}
+use Rattle.tree_plans.specs.declared.planner.TreePlan.{TreePlan}
+use Rattle.import_replay.specs.FreeBlocks.{AreAllPlanned}
+use Rattle.import_replay.specs.ImportRefusals.{HasNoRoom, HasSoundPool, IsReason}
 use Rattle.import_replay.specs.ImportStops.{writes_of_next}
-use Rattle.import_replay.specs.LabelSyncs.{IsGroupSynced}
-use Rattle.import_replay.specs.Mounts.{IsImport, IsMountedFrom, shown_of_import}
-use Rattle.import_replay.specs.NextPools.{AreMadeOver, ArePartsFor, IsReadyFor, IsUnusedBlock, KeepsLoaded, PoolParts, next_frame, parts_of}
+use Rattle.import_replay.specs.LabelSyncs.{AreApartIn, IsGroupSynced}
+use Rattle.import_replay.specs.Mounts.{IsImport, IsMountedFrom}
+use Rattle.import_replay.specs.NextPools.{AreMadeOver, ArePartsFor, IsPlannedFrom, IsReadyFor, IsReplayedPool, LacksBlocks, PoolParts, next_frame, parts_of, synced_with}
 use Rattle.import_replay.specs.ReadPools.{IsLoadedFor, IsReadPool, frame_of_size}
 use Rattle.import_replay.specs.declared.mounted.Mounted.{Mounted}
 use Rattle.import_replay.specs.declared.next_pool.NextPool.{NextPool}
-use Rattle.import_replay.proofs.MountedPools.{import_of, mounts_read, named-of_tree, stands_on}
+use Rattle.import_replay.specs.declared.next_pool.ReplayedPool.{ReplayedPool}
+use Rattle.import_replay.proofs.FreeBlocks.{at_planned, planned_at}
+use Rattle.import_replay.proofs.MountedPools.{import_of, mounts_read, named-of_tree, not_zero, stands_on, used_on_image}
+use Rattle.import_replay.proofs.KeptBlocks.{no_log_written, used_kept}
+use Rattle.import_replay.proofs.PlannedPools.{planned_over}
+use Rattle.import_replay.proofs.Reasons.{reason-record}
+use Rattle.import_replay.proofs.ReplayedPools as replays
 
-none_there : {A : Type 0} (blocks : List A) (k : ℕ) (b : A) → blocks ≡ [] → slice_get blocks k ≡ Some b → ⊥
-none_there {A} blocks k b none at = let n : None ≡ Some b = subst (λ (bs : List A). slice_get bs k ≡ Some b) none at in cc
+-- blocks at different addresses have different indices
+differ_all : (b : PlannedBlock) (bs : List PlannedBlock) → ((i : ℕ) (c : PlannedBlock) → slice_get bs i ≡ Some c → b.index ≢ c.index)
+    → AllByRecursion (λ y. nat_eq b.index y ≡ false) (map (λ (c : PlannedBlock). c.index) bs)
+differ_all b [] differ = tt
+differ_all b (c ∷ bs) differ = (ne_eqb b.index c.index (differ zero c refl), differ_all b bs (λ i d at. differ (suc i) d at))
 
-each_of_none : {A : Type 0} (P : A → Type 0) (blocks : List A) → blocks ≡ [] → All P blocks
-each_of_none {A} P blocks none = subst (λ (bs : List A). All P bs) (sym none) (All-nil P)
-
-none_distinct : IsDistinct nat_eq []
+distinct_blocks : (bs : List PlannedBlock) → ((i j : ℕ) (b c : PlannedBlock) → slice_get bs i ≡ Some b → slice_get bs j ≡ Some c → b.index ≡ c.index → i ≡ j)
+    → IsDistinct nat_eq (map (λ (b : PlannedBlock). b.index) bs)
 unfolding IsDistinct
-none_distinct = tt
+distinct_blocks [] apart = tt
+distinct_blocks (b ∷ bs) apart = (
+  differ_all b bs (λ i c at same. let e = apart zero (suc i) b c refl at same in omega (arith, e)),
+  distinct_blocks bs (λ i j c d at_i at_j same. let e = apart (suc i) (suc j) c d at_i at_j same in omega (arith, e)),
+)
 
--- if no block was written, each block of the area is as before
-block_stays : (image now : List ℕ) (size : ℕ) (blocks : List PlannedBlock) (n : ℕ) → blocks ≡ [] → length now ≡ length image → BlocksWritten image size blocks n now
-    → (address : ℕ) → IsBlockAddress (block_count size) address → part now address block_size ≡ part image address block_size
-block_stays image now size blocks n none long written address (k, low, there) =
-    part_same now image address block_size long (λ i from to. written.others i (omega (arith, from, there)) (omega (arith, to, there, low)) (λ j b below at here. none_there blocks j b none at))
+or_left : (a b : Bool) → a ≡ true → (a || b) ≡ true
+or_left true b is = refl
+or_left false b is = absurd (false≢true is)
 
-module _ (size : ℕ) (u : Uberblock) (name : List ℕ) (slots : List Slot) (tree : Tree) (chain : List LogPiece) (next : NextPool) (kept : KeepsLoaded size name slots tree (chain_addresses chain) next) where
-  -- it is ready to be synced
-  pub kept_ready : ArePlaced (block_count size) (pointers_of tree) → IsReadyFor size next
-  kept_ready placed = record {
-    apart = record {
-      in_area = each_of_none (λ (b : PlannedBlock). b.index < block_count size) next.blocks.items kept.none;
-      distinct = subst (λ (bs : List PlannedBlock). IsDistinct nat_eq (map (λ (b : PlannedBlock). b.index) bs)) (sym kept.none) none_distinct;
-    };
-    placed = subst (λ (t : Tree). ArePlaced (block_count size) (pointers_of t)) (sym kept.tree_is) placed;
-    log_placed = kept.log.first.is_block;
-    sized = kept.sized;
-    idle = kept.idle;
+or_right : (a b : Bool) → b ≡ true → (a || b) ≡ true
+or_right true b is = refl
+or_right false b is = is
+
+-- an element of a list is in the set with its elements, which has no more than the list
+at-with_all : (xs : List ℕ) (q : ℕ) → IsAt xs q → set.contains (with_all xs set.empty) q ≡ true
+at-with_all [] q (i, at) = absurd (let no_way : None ≡ Some q = at in cc)
+at-with_all (x ∷ xs) q (zero, at) =
+    let same : x ≡ q = cc in
+    contains-insert nat_cmp_total (with_all xs set.empty) x q ∙ or_left (eq_by_cmp nat_cmp q x) (set.contains (with_all xs set.empty) q) (unsigned_tied q x ∙ eq-eqb q x (sym same))
+at-with_all (x ∷ xs) q (suc i, at) =
+    contains-insert nat_cmp_total (with_all xs set.empty) x q ∙ or_right (eq_by_cmp nat_cmp q x) (set.contains (with_all xs set.empty) q) (at-with_all xs q (i, at))
+
+with_all-short : (xs : List ℕ) → set.len (with_all xs set.empty) ≤ length xs
+with_all-short [] = omega (arith, len-empty nat_cmp)
+with_all-short (x ∷ xs) = by_flag (set.contains (with_all xs set.empty) x) (len-insert nat_cmp_total (with_all xs set.empty) x) (with_all-short xs)
+  where
+    by_flag : (b : Bool) → set.len (with_all (x ∷ xs) set.empty) ≡ cond b (set.len (with_all xs set.empty)) (set.len (with_all xs set.empty) + 1) → set.len (with_all xs set.empty) ≤ length xs
+        → set.len (with_all (x ∷ xs) set.empty) ≤ suc (length xs)
+    by_flag true step rest = omega (arith, step, rest)
+    by_flag false step rest = omega (arith, step, rest)
+
+-- the records of a chain that was loaded are within their limits
+pub chain_allowed : (size : ℕ) (chain : List LogPiece) → All (IsSoundBlock (block_count size)) chain → IsChainAllowed chain
+chain_allowed size chain sound = All-weaker (IsSoundBlock (block_count size)) IsBlockAllowed (λ b is. is.allowed) chain sound
+
+-- and the pointers of the tree that was loaded are placed
+pub loaded_placed : (size : ℕ) (u : Uberblock) (name : List ℕ) (tree : Tree) (slots : List Slot) (chain : List LogPiece) (pool : ReplayedPool) → IsLoadedFor u (block_count size) tree slots chain
+    → IsReplayedPool size u.group name tree slots chain pool → ∥ ArePlaced (block_count size) (pointers_of pool.tree) ∥₁
+loaded_placed size u name tree slots chain pool loaded r = ∣ subst (λ (t : Tree). ArePlaced (block_count size) (pointers_of t)) (sym r.tree_is) loaded.placed ∣₁
+
+-- if a record is refused and none names the pool, the chain is damaged
+pub reason_of_replay : (image : List ℕ) (size : ℕ) (u : Uberblock) (name : List ℕ) (tree : Tree) (slots : List Slot) (chain : List LogPiece) → IsReadPool image size u name tree slots chain → (e : PoolError)
+    → IsReplayCause e → (IsNameKept u.group chain → IsReplayRefusal (records_above u.group chain) (synced_with name slots) e) → IsReason image e
+reason_of_replay image size u name tree slots chain read e cause refused = reason-record image e cause (λ address is kept.
+    by_refusal address is (refused (kept u chain read.pool.active read.chain_is)))
+  where
+    by_refusal : (address : ℕ) → e ≡ Damaged 6 address → IsReplayRefusal (records_above u.group chain) (synced_with name slots) e → IsChainDamaged image address
+    by_refusal address is (inl memory) = absurd (let no_way : Damaged 6 address ≡ NoMemory = sym is ∙ memory in cc)
+    by_refusal address is (inr (there, same, r)) =
+        let both : Damaged 6 there ≡ Damaged 6 address = sym same ∙ is in
+        let place : there ≡ address = cc in
+        record {
+          u = u;
+          synced = synced_with name slots;
+          chain = chain;
+          found = record {
+            pool = read.pool;
+            tree = subst (λ (n : ℕ). IsTree image (frame_of_size u n) u.root (objects_of slots)) (sym read.long)
+                (subst (λ (p : Pointer). IsTree image (frame_of_size u size) p (objects_of slots)) read.root (holds-tree image (frame_of_size u size) (pointers_of tree) (objects_of slots) read.held));
+            chain_is = read.chain_is;
+          };
+          before = r.before;
+          refused = r.refused;
+          after = r.after;
+          split = r.split;
+          reached = r.reached;
+          reaches = r.reaches;
+          error = r.error;
+          refuses = r.refuses;
+          address_is = r.address_is ∙ place;
+        }
+
+-- what was found, loaded, replayed and planned
+pub record IsPrepared (size : ℕ) (u : Uberblock) (name : List ℕ) (tree : Tree) (slots : List Slot) (chain : List LogPiece) (pool : ReplayedPool) (next : NextPool) : Type 0 where
+  pub named : IsName name
+  pub loaded : IsLoadedFor u (block_count size) tree slots chain
+  pub replayed : IsReplayedPool size u.group name tree slots chain pool
+  pub planned : IsPlannedFrom size u pool next
+
+-- A pool whose records were replayed, over an image that was read.
+module _ (size : ℕ) (u : Uberblock) (name : List ℕ) (tree : Tree) (slots : List Slot) (chain : List LogPiece) (pool : ReplayedPool) (named : IsName name) (loaded : IsLoadedFor u (block_count size) tree slots chain)
+    (r : IsReplayedPool size u.group name tree slots chain pool) (image : List ℕ) (read : IsReadPool image size u name tree slots chain) where
+  mine_read : IsReadPool image size u name pool.tree pool.synced.slots.items chain
+  mine_read = subst (λ (t : Tree). IsReadPool image size u name t pool.synced.slots.items chain) (sym r.tree_is)
+      (subst (λ (l : List Slot). IsReadPool image size u name tree l chain) (sym r.slots_are) read)
+
+  -- a spare block is not used, and a block that is not used is spare
+  spare-unused : (address : ℕ) → set.contains pool.spare.free address ≡ true → IsUsed image u.root chain address → ⊥
+  spare-unused address spare (inl is) =
+      r.spare.unused address spare (inl (named-of_tree image (frame_of_size u size) (pointers_of pool.tree) (objects_of pool.synced.slots.items) mine_read.held address
+      (subst (λ (p : Pointer). IsInTree image p address) (sym mine_read.root) is)))
+  spare-unused address spare (inr is) = r.spare.unused address spare (inr is)
+
+  spare-or_used : (address : ℕ) → IsBlockAddress (block_count size) address → (set.contains pool.spare.free address ≡ true) ⊎ IsUsed image u.root chain address
+  spare-or_used address is = by_flag (set.contains pool.spare.free address) refl
+    where
+      by_flag : (b : Bool) → set.contains pool.spare.free address ≡ b → (set.contains pool.spare.free address ≡ true) ⊎ IsUsed image u.root chain address
+      by_flag true free = inl free
+      by_flag false used = inr (used_on_image image size u pool.tree (objects_of pool.synced.slots.items) chain mine_read.held mine_read.root address is (r.spare.others address used is))
+
+  -- the image mounts what the records leave
+  pub replay_mounts : Mounts image u chain (replays.after size u name tree slots chain pool named loaded r)
+  replay_mounts = mounts_read image size u name pool.tree pool.synced.slots.items chain mine_read pool.synced r.name_is refl (replays.after size u name tree slots chain pool named loaded r) r.replayed.applied
+
+  -- no more blocks are spare than a plan that takes all of them has
+  all_taken : (plan : TreePlan) → AreAllPlanned pool.spare plan.blocks.items → set.len pool.spare.free ≤ length plan.blocks.items
+  all_taken plan all =
+      let addresses : List ℕ = map address_of plan.blocks.items in
+      let within = subset_len pool.spare.free (with_all addresses set.empty) (λ q is.
+      let (k, low, at) = r.spare.in_area q is in
+      let (i, b, there, same) = planned_at k plan.blocks.items (all k (let count = r.sized in omega (arith, low, count)) (ap (λ (a : ℕ). set.contains pool.spare.free a) (sym at) ∙ is)) in
+      at-with_all addresses q (i, map-at address_of plan.blocks.items i b there ∙ ap (λ (a : ℕ). Some a) (same ∙ sym at))) in
+      let short = with_all-short addresses in
+      let long = length-map plan.blocks.items address_of in
+      omega (arith, within, short, long)
+
+  -- where blocks lack, there is no room
+  pub lacks_room : HasSoundPool image u name → is_past_last u.group u.import_number ≡ false → LacksBlocks size u pool → HasNoRoom image
+  lacks_room sound within lacks = record {
+    u = u;
+    name = name;
+    sound = sound;
+    chain = chain;
+    chain_is = read.chain_is;
+    within = within;
+    spare = pool.spare.free;
+    all = λ address is unused. ⊎_elim (λ spare. spare) (λ used. absurd (unused used)) (spare-or_used address (subst (λ (n : ℕ). IsBlockAddress (block_count n) address) read.long is));
+    few = ⊎_elim
+        (λ short.
+        let fewer = short_plans_lack_blocks (u.group + 4) pool.tree pool.replayed.records.items (contents_of pool.synced) (replays.after size u name tree slots chain pool named loaded r) pool.spare.free short (replays.takes_place size u name tree slots chain pool named loaded r) in
+        let count = length-rising pool.spare.free in
+        let same = replays.estimate size u name tree slots chain pool named loaded r in
+        omega (arith, fewer, count, same))
+        (λ takes.
+        let fits = plans_fit_estimates (next_frame u size) pool.tree pool.replayed.records.items (contents_of pool.synced) (replays.after size u name tree slots chain pool named loaded r) takes.0 takes.1 (replays.takes_place size u name tree slots chain pool named loaded r) in
+        let all = all_taken takes.0 takes.2 in
+        let same = replays.estimate size u name tree slots chain pool named loaded r in
+        omega (arith, fits, all, same)) lacks;
   }
+
+module _ (size : ℕ) (u : Uberblock) (name : List ℕ) (tree : Tree) (slots : List Slot) (chain : List LogPiece) (pool : ReplayedPool) (next : NextPool) (is : IsPrepared size u name tree slots chain pool next) where
+  abbrev plan : TreePlan
+  plan = is.planned.plan
+
+  abbrev blocks : List PlannedBlock
+  blocks = plan.blocks.items
+
+  abbrev spare : FinSet nat_cmp
+  spare = pool.spare.free
+
+  -- the contents that are synced are those that the records leave
+  abbrev left : Contents
+  left = replays.after size u name tree slots chain pool is.named is.loaded is.replayed
+
+  -- each block was spare, and is taken once
+  in_order : (i : ℕ) (b : PlannedBlock) → slice_get blocks i ≡ Some b → slice_get (rising spare) i ≡ Some (block_address b.index)
+  in_order i b at = at_take (length blocks) (rising spare) i (block_address b.index) (ap (λ (l : List ℕ). slice_get l i) (sym is.planned.taken) ∙ map-at address_of blocks i b at)
+
+  was_spare : (i : ℕ) (b : PlannedBlock) → slice_get blocks i ≡ Some b → set.contains spare (block_address b.index) ≡ true
+  was_spare i b at = rising-in spare i (block_address b.index) (in_order i b at)
+
+  one_place : (i j : ℕ) (b c : PlannedBlock) → slice_get blocks i ≡ Some b → slice_get blocks j ≡ Some c → block_address b.index ≡ block_address c.index → i ≡ j
+  one_place i j b c at_i at_j same = elim (cases_lt i j) as (λ _. i ≡ j) [
+    | inl before ↦ absurd (let less = rising-rises spare i j (block_address b.index) (block_address c.index) before (in_order i b at_i) (in_order j c at_j) in omega (arith, less, same))
+    | inr from ↦ elim (cases_lt j i) as (λ _. i ≡ j) [
+      | inl after ↦ absurd (let less = rising-rises spare j i (block_address c.index) (block_address b.index) after (in_order j c at_j) (in_order i b at_i) in omega (arith, less, same))
+      | inr to ↦ omega (arith, from, to)
+    ]
+  ]
+
+  are_blocks : AreBlocks (block_count size) (map new_block blocks)
+  are_blocks = record {
+    in_area = λ i n at. let (b, there, same) = at-map new_block blocks i n at in
+        subst (λ (x : NewBlock). IsBlockAddress (block_count size) x.address) same (is.replayed.spare.in_area (block_address b.index) (was_spare i b there));
+    whole = λ i n at. is.planned.made.whole i n at;
+    apart = λ i j n m at_i at_j same.
+        let (b, there_i, same_i) = at-map new_block blocks i n at_i in
+        let (c, there_j, same_j) = at-map new_block blocks j m at_j in
+        one_place i j b c there_i there_j (ap (λ (x : NewBlock). x.address) same_i ∙ same ∙ ap (λ (x : NewBlock). x.address) (sym same_j));
+  }
+
+  log_spare : set.contains spare next.log_address ≡ true
+  log_spare = ap (λ (a : ℕ). set.contains spare a) is.planned.log_is ∙ is.planned.lowest.free
+
+  log_placed : IsBlockAddress (block_count size) next.log_address
+  log_placed = is.replayed.spare.in_area next.log_address log_spare
+
+  -- it is ready to be synced
+  pub prepared_ready : IsReadyFor size next
+  prepared_ready = record {
+    apart = subst (λ (bs : List PlannedBlock). AreApartIn size bs) (sym is.planned.blocks_are) (record {
+      in_area = is.planned.fits.within;
+      distinct = distinct_blocks blocks (λ i j b c at_i at_j same. one_place i j b c at_i at_j (ap block_address same));
+    });
+    placed = ∥∥₁_map {A = ArePlaced (block_count size) (plan_pointers pool.tree plan)} {B = ArePlaced (block_count size) (pointers_of next.tree)} is.planned.made.placed
+        (λ placed place in_range. subst (IsPlaced (block_count size)) (sym (is.planned.pointers place in_range)) (placed place in_range));
+    log_placed = log_placed;
+    sized = is.planned.sized;
+    idle = is.planned.idle;
+  }
+
+  contents_left : contents_of next.contents ≡ left
+  contents_left = is.planned.contents_are
 
   -- its parts are those of a pool
-  pub kept_parts : IsLoadedFor u (block_count size) tree slots chain → ArePartsFor size name (parts_of next)
-  kept_parts loaded = record {
-    name_is = kept.name_is;
-    bounded = subst (λ (l : List Slot). (n : ℕ) → IfSome (finite.get (objects_of l) n) (IsLimitedObject n)) (sym kept.slots_are) loaded.bounded;
-    lengths = subst (λ (l : List Slot). HasLengthsOf next.tree (objects_of l)) (sym kept.slots_are) (subst (λ (t : Tree). HasLengthsOf t (objects_of slots)) (sym kept.tree_is) loaded.lengths);
-    log_block = kept.log.first.is_block;
-    log_unnamed = λ named. kept.log.first.unused (inl named);
-    in_area = kept.log.in_area;
-    unnamed = kept.log.unnamed;
-    not_taken = kept.log.not_taken;
-    others = kept.log.others;
+  pub prepared_parts : ArePartsFor size name (parts_of next)
+  prepared_parts = record {
+    name_is = ap (λ (c : Contents). c.name) contents_left ∙ is.replayed.name_is;
+    bounded = subst (λ (c : Contents). (n : ℕ) → IfSome (finite.get c.objects n) (IsLimitedObject n)) (sym contents_left) (replays.bounded size u name tree slots chain pool is.named is.loaded is.replayed).objects;
+    lengths = λ n below.
+        is.planned.lengths n below
+        ∙ lengths_told (u.group + 4) pool.replayed.records.items pool.tree.maps.items (contents_of pool.synced) left (replays.takes_place size u name tree slots chain pool is.named is.loaded is.replayed)
+        (lengths_after plan.maps pool.tree) is.planned.made.lengths n below
+        ∙ ap (λ (c : Contents). length_of c n) (sym contents_left);
+    log_block = log_placed;
+    free = is.planned.free;
   }
 
+  -- so many records were replayed
+  records_counted : next.records ≡ length (records_above u.group chain)
+  records_counted = is.planned.records_are ∙ replays.count size u name tree slots chain pool is.named is.loaded is.replayed
+
   module _ (image : List ℕ) (read : IsReadPool image size u name tree slots chain) where
-    abbrev pointers : Place → Pointer
-    pointers = pointers_of next.tree
+    mine : IsReadPool image size u name pool.tree pool.synced.slots.items chain
+    mine = mine_read size u name tree slots chain pool is.named is.loaded is.replayed image read
 
-    held : HoldsTree image (frame_of_size u size) pointers (contents_of next.contents).objects
-    held =
-        subst (λ (t : Tree). HoldsTree image (frame_of_size u size) (pointers_of t) (contents_of next.contents).objects) (sym kept.tree_is)
-        (subst (λ (l : List Slot). HoldsTree image (frame_of_size u size) (pointers_of tree) (objects_of l)) (sym kept.slots_are) read.held)
+    room : block_area + block_size * block_count size ≤ length image
+    room =
+        let large = (IsGeometry-IsSize (length image) read.pool.geometry).least in
+        let long : length image ≡ size = read.long in
+        omega (arith, large, long)
 
-    root_is : next.tree.root ≡ u.root
-    root_is = ap (λ (t : Tree). t.root) kept.tree_is ∙ read.root
+    planned : IsTreePlan (map new_block blocks) (next_frame u size) (pointers_of pool.tree) (plan_pointers pool.tree plan) (contents_of pool.synced).objects left.objects
+    planned = plans_make_trees (next_frame u size) (frame_of_size u size) pool.tree pool.replayed.records.items (contents_of pool.synced) left plan is.planned.made
+        (replays.takes_place size u name tree slots chain pool is.named is.loaded is.replayed) (replays.sized size u name tree slots chain pool is.named is.loaded is.replayed) image mine.held
 
-    -- and it stands in the image as it is
-    pub kept_over : AreMadeOver image u chain size next.blocks.items (parts_of next)
-    kept_over = record {
-      tree = λ other long written.
-          holds-elsewhere image other (frame_of_size u size) (next_frame u size) refl refl (omega arith) pointers (contents_of next.contents).objects held
-          (λ place in_range. stays other long written (pointers place) (holds-placed image (frame_of_size u size) pointers (contents_of next.contents).objects held place in_range));
-      unused = each_of_none (IsUnusedBlock image u chain) next.blocks.items kept.none;
-      log_unused = λ used. not_used used;
-      lowest = λ other below is. used (kept.log.first.lowest other below is);
-    }
+    -- it is made over the image
+    pub prepared_over : AreMadeOver image u chain size next.blocks.items (parts_of next)
+    prepared_over =
+        subst (λ (bs : List PlannedBlock). AreMadeOver image u chain size bs (parts_of next)) (sym is.planned.blocks_are)
+        (planned_over image size u chain blocks are_blocks
+        (λ i b at. spare-unused size u name tree slots chain pool is.named is.loaded is.replayed image read (block_address b.index) (was_spare i b at))
+        (pointers_of pool.tree) (contents_of pool.synced).objects mine.root mine.held (parts_of next) (plan_pointers pool.tree plan) is.planned.pointers
+        (subst (λ (c : Contents). IsTreePlan (map new_block blocks) (next_frame u size) (pointers_of pool.tree) (plan_pointers pool.tree plan) (contents_of pool.synced).objects c.objects) (sym contents_left) planned)
+        (subst (λ (c : Contents). (n : ℕ) → object_count ≤ n → finite.get c.objects n ≡ None) (sym contents_left)
+        (bounded-no_others left (replays.bounded size u name tree slots chain pool is.named is.loaded is.replayed)))
+        is.planned.made.used room few records_counted (not_zero (block_count size) next.log_address log_placed)
+        (spare-unused size u name tree slots chain pool is.named is.loaded is.replayed image read next.log_address log_spare) log_left lowest)
       where
-        stays : (other : List ℕ) → length other ≡ length image → BlocksWritten image size next.blocks.items (length next.blocks.items) other → (p : Pointer) → IsPlaced (block_count size) p → SameBlock image other p
-        stays other long written p (inl none) some = absurd (some none)
-        stays other long written p (inr is) some = block_stays image other size next.blocks.items (length next.blocks.items) kept.none long written p.address is
+        few : length blocks ≤ records_estimate (records_above u.group chain)
+        few =
+            let fits = plans_fit_estimates (next_frame u size) pool.tree pool.replayed.records.items (contents_of pool.synced) left plan is.planned.made (replays.takes_place size u name tree slots chain pool is.named is.loaded is.replayed) in
+            let same = replays.estimate size u name tree slots chain pool is.named is.loaded is.replayed in
+            omega (arith, fits, same)
 
-        not_used : IsUsed image u.root chain next.log_address → ⊥
-        not_used (inl is) =
-            kept.log.first.unused (inl (named-of_tree image (frame_of_size u size) pointers (contents_of next.contents).objects held next.log_address
-            (subst (λ (p : Pointer). IsInTree image p next.log_address) (sym root_is) is)))
-        not_used (inr is) = kept.log.first.unused (inr is)
+        log_left : IsNewAddress (map new_block blocks) next.log_address → ⊥
+        log_left (i, n, at, same) =
+            let (b, there, is_b) = at-map new_block blocks i n at in
+            false≢true (sym is.planned.lowest.left ∙ at_planned is.planned.log_block blocks i b there (ap (λ (x : NewBlock). x.address) is_b ∙ same ∙ is.planned.log_is))
 
-        used : {other : ℕ} → IsUsedBy pointers (chain_addresses chain) other → IsUsed image u.root chain other ⊎ IsNamed pointers other
-        used (inl named) = inr named
-        used (inr logged) = inl (inr logged)
+        lowest : (address : ℕ) → address < next.log_address → IsBlockAddress (block_count size) address
+            → IsUsed image u.root chain address ⊎ ((i : ℕ) × (b : PlannedBlock) × (slice_get blocks i ≡ Some b) × (block_address b.index ≡ address))
+        lowest address below (k, low, at) = ⊎_elim
+            (λ spare_there.
+            let before : k < is.planned.log_block = (let log : next.log_address ≡ block_address is.planned.log_block = is.planned.log_is in omega (arith, below, at, log)) in
+            let p = planned_at k blocks (is.planned.lowest.below k before (ap (λ (a : ℕ). set.contains spare a) (sym at) ∙ spare_there)) in
+            inr (p.0, p.1, p.2, p.3 ∙ sym at))
+            (λ used. inl used) (spare-or_used size u name tree slots chain pool is.named is.loaded is.replayed image read address (k, low, at))
 
-    -- if the active uberblock has no chain, none was read
-    chain_empty : IsChainOf image u [] → chain ≡ []
-    chain_empty none = one-chain image (frame_of image u) u.import_number (header_of u) chain [] read.chain_is none
-
-    -- and the image mounts it
-    pub kept_mounts : IsChainOf image u [] → Mounts image u chain (contents_of next.contents)
-    kept_mounts none =
-        mounts_read image size u name tree slots chain read next.contents kept.name_is kept.slots_are (contents_of next.contents)
-        (ap (λ (bs : List LogPiece). apply_records (records_above u.group bs) (contents_of next.contents)) (chain_empty none))
+    -- and the image mounts its contents
+    pub prepared_mounts : Mounts image u chain (contents_of next.contents)
+    prepared_mounts = subst (λ (c : Contents). Mounts image u chain c) (sym contents_left) (replay_mounts size u name tree slots chain pool is.named is.loaded is.replayed image read)
 
     -- what was mounted is an import of the image
-    pub is_import : IsLoadedFor u (block_count size) tree slots chain → (dirty_max moment : ℕ) (m : Mounted) → IsMountedFrom size u (parts_of next) dirty_max m → is_dirty_max_allowed dirty_max ≡ true
+    pub is_import : (dirty_max moment : ℕ) (m : Mounted) → IsMountedFrom size u (parts_of next) dirty_max m → is_dirty_max_allowed dirty_max ≡ true
         → (even_first : Bool) (before after : Disk) → bytes_of before.now ≡ image → IsGroupSynced (writes_of_next size u moment next) even_first before after → IsImport image (bytes_of after.now) dirty_max m
-    is_import loaded dirty_max moment m from limit even_first before after same done = record {
-      imported = λ v active none. empty_import (subst (λ (w : Uberblock). IsChainOf image w []) (actives_agree image v u active read.pool.active) none);
-      stands = stands_on size u name (parts_of next) dirty_max m from (kept_parts loaded) image now chain blocks read.long kept_over long written;
-      blocks = record {
-        size = long;
-        each = λ address is. block_stays image now size blocks (length blocks) kept.none long written address (subst (λ (n : ℕ). IsBlockAddress (block_count n) address) read.long is);
-      };
+    is_import dirty_max moment m from limit even_first before after same done = record {
+      imported = import_of size u name (parts_of next) dirty_max m from prepared_parts image now chain next.blocks.items read.long prepared_over long written limit
+          (subst (λ (p : PoolParts). Mounts image u chain (contents_of p.contents)) (sym from.parts) prepared_mounts);
+      stands = stands_on size u name (parts_of next) dirty_max m from prepared_parts image now chain next.blocks.items read.long prepared_over long written;
+      size = long;
+      no_log = no_log_written size u name pool.tree (objects_of pool.synced.slots.items) chain image now next.blocks.items is.loaded.sound mine prepared_over.unused prepared_ready.apart long written;
+      kept = used_kept size u name pool.tree (objects_of pool.synced.slots.items) chain image now next.blocks.items is.loaded.sound mine prepared_over.unused prepared_ready.apart long written;
     }
       where
         now : List ℕ
         now = bytes_of after.now
 
-        blocks : List PlannedBlock
-        blocks = next.blocks.items
-
         long : length now ≡ length image
         long = done.length_is ∙ ap (λ (b : List ℕ). length b) same
 
-        written : BlocksWritten image size blocks (length blocks) now
-        written = subst (λ (b : List ℕ). BlocksWritten b size blocks (length blocks) now) same done.blocks_written
-
-        empty_import : IsChainOf image u [] → IsImportOf image now dirty_max 0 (shown_of_import m)
-        empty_import none =
-            subst (λ (bs : List LogPiece). IsImportOf image now dirty_max (length (records_above u.group bs)) (shown_of_import m)) (chain_empty none)
-            (import_of size u name (parts_of next) dirty_max m from (kept_parts loaded) image now chain blocks read.long kept_over long written limit
-            (subst (λ (p : PoolParts). Mounts image u chain (contents_of p.contents)) (sym from.parts) (kept_mounts none)))
+        written : BlocksWritten image size next.blocks.items (length next.blocks.items) now
+        written = subst (λ (b : List ℕ). BlocksWritten b size next.blocks.items (length next.blocks.items) now) same done.blocks_written

@@ -1,6 +1,7 @@
 -- What a create leaves is a disk that its pool alone wrote, with no objects.
-use Rattle.std.proofs.Common.{◌≡◌, ◌≢◌, ◌⊎◌, inl, inr, ⊎_elim, ℕ, ◌+◌, ◌<◌, ◌≤◌, true, List, [], length, drop, Option, Some, None, refl, sym, ◌∙◌, ap, subst, arith}
+use Rattle.std.proofs.Common.{◌≡◌, ◌≢◌, ◌⊎◌, inl, inr, ⊎_elim, ℕ, ◌+◌, ◌<◌, ◌≤◌, true, false, List, [], length, drop, Option, Some, None, refl, sym, ◌∙◌, ap, subst, arith}
 use Rattle.std.specs.Prelude.{IfSome, cond}
+use Rattle.std.specs.List.{list_any}
 use Rattle.std.specs.Cmp.{unsigned_tied}
 use Rattle.std.specs.Ordering.{nat_cmp, eq_by_cmp}
 use Rattle.std.specs.FinMap as map
@@ -8,8 +9,10 @@ use Rattle.std.specs.FinSet as set
 use Rattle.std.specs.FinSet.{FinSet, contains-empty, contains-insert, len-empty, len-insert}
 use Rattle.std.proofs.lemmas.Bool.{cases_eq, eqb-true, false≢true, or_cases}
 use Rattle.std.proofs.lemmas.Cmp.{nat_cmp_total}
+use Rattle.std.proofs.lemmas.List.Elements.{All-nil}
 use Rattle.base.specs.crash.LeftDisks.{IsLeft}
 use Rattle.base.specs.crash.LogRoom.{HasImportRoom}
+use Rattle.base.specs.crash.Mount.{Placed}
 use Rattle.base.specs.crash.Own.{AreHandedOrZero, IsCreatedDisk, IsOwnWith}
 use Rattle.base.specs.crash.Views.{View, IsFixed, IsView}
 use Rattle.base.specs.disk.Disk.{Disk, HandedSince, IsTouched, Write, bytes_of, disk_size, handed, moments}
@@ -22,6 +25,7 @@ use Rattle.base.specs.history.Contents.{Contents}
 use Rattle.base.specs.history.Past.{new_past}
 use Rattle.base.specs.steps.Explains.{IsLeftBy}
 use Rattle.base.specs.tree.Places.{Place}
+use Rattle.base.specs.tree.Syncs.{is_rename}
 use Rattle.base.specs.tree.Places.Place.{Root, Directory, Indirect, Data}
 use Rattle.base.specs.tree.PlacedTrees.{HoldsTree, StandsAt}
 use Rattle.base.specs.tree.Tree.{IsRecord}
@@ -103,6 +107,7 @@ module _ (size t guid moment : ℕ) (name : List ℕ) (disk : Disk) (g : IsGeome
       record { not_in_tree = λ p in_range some. absurd (some refl); not_logged = λ i l at. absurd (let no_way : None ≡ Some l = at in cc) },
     );
     enough = omega (arith, one_spare);
+    name_kept = All-nil (λ (p : Placed). list_any is_rename p.logged.ops ≡ false);
   }
 
   fixed : (place n : ℕ) (content : List ℕ) → length content ≡ n → part image place n ≡ content → IsFixed disk.now place content

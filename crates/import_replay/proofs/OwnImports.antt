@@ -2,16 +2,18 @@
 -- run a disk with the views of the pool that it shows.
 use Rattle.std.proofs.Common.{◌≡◌, inl, inr, ⊎_elim, ℕ, zero, suc, ◌+◌, ◌<◌, true, false, List, [], ◌∷◌, length, map, None, Some, Ok, refl, sym, ◌∙◌, ap, subst, arith}
 use Rattle.std.specs.Prelude.{slice_get}
+use Rattle.std.specs.List.{list_any}
 use Rattle.std.specs.Ordering.{nat_cmp}
 use Rattle.std.specs.FinSet as set
 use Rattle.std.specs.FinSet.{FinSet, contains-empty, len-empty}
 use Rattle.std.proofs.lemmas.Bool.{false≢true}
+use Rattle.std.proofs.lemmas.List.Elements.{All-nil}
 use Rattle.base.specs.crash.CallStages.{FixedLabels}
 use Rattle.base.specs.crash.CrashRule.{AreImportViews, HasSteadyPhases, IsImportMoment, IsOwnOnceFlushed, KeepsOwn}
-use Rattle.base.specs.crash.LogRoom.{HasImportRoom, records_estimate}
+use Rattle.base.specs.crash.LogRoom.{AreNoRenames, HasImportRoom, records_estimate}
 use Rattle.base.specs.crash.LogRule.{AreChainsUpTo, IsLogHeld}
 use Rattle.base.specs.crash.LogSteps.{IsSpareOf}
-use Rattle.base.specs.crash.Mount.{HasPool, IsChainOf, Mounts, apply_records, records_above}
+use Rattle.base.specs.crash.Mount.{HasPool, Mounts, Placed, apply_records, records_above}
 use Rattle.base.specs.crash.Own.{AreConfigsBelowImport, IsAtRest, IsOwnWith}
 use Rattle.base.specs.crash.PoolViews.{IsPoolDisk, IsSyncConfig, IsViewOf}
 use Rattle.base.specs.crash.Layout.{header_now}
@@ -25,6 +27,7 @@ use Rattle.base.specs.formats.Uberblocks.{Uberblock}
 use Rattle.base.specs.history.Contents.{Contents}
 use Rattle.base.specs.history.Past.{Past, new_past}
 use Rattle.base.specs.steps.Shown.{Shown}
+use Rattle.base.specs.tree.Syncs.{is_rename}
 use Rattle.base.proofs.common.KeptLists.{All-at, All-each}
 use Rattle.base.proofs.crash.LogImports.{begun_held, chains_of_view}
 use Rattle.base.proofs.crash.LogRoom.{in-with_all, len-with_all, with_all}
@@ -44,7 +47,7 @@ use Rattle.import_replay.specs.RunStarts.{IsRunStart, StartsRun}
 use Rattle.import_replay.specs.declared.mounted.Mounted.{Mounted}
 use Rattle.import_replay.specs.declared.next_pool.NextPool.{NextPool}
 use Rattle.import_replay.proofs.WrittenImports.{written_same}
-use Rattle.import_replay.proofs.ReadViews.{IsRestedOwn, found_empty, found_mounts, found_name, found_uberblock, rested_own, spared_at, unused_spare}
+use Rattle.import_replay.proofs.ReadViews.{IsRestedOwn, found_mounts, found_name, found_uberblock, rested_own, spared_at, unused_spare}
 
 -- the view that an import writes after another: of the same pool, four groups later, with no log block, the contents
 -- that the other mounts, and room for an import
@@ -69,6 +72,7 @@ after_unwritten blocks contents v room = record {
     spare = room.spare;
     each = λ address is. let old = room.each address is in (old.0, record { not_in_tree = old.1.not_in_tree; not_logged = λ i l at. absurd (let no_way : None ≡ Some l = at in cc) });
     enough = omega (arith, room.enough);
+    name_kept = All-nil (λ (p : Placed). list_any is_rename p.logged.ops ≡ false);
   };
 }
 
@@ -86,6 +90,7 @@ room_of_one blocks address v none block is = record {
   spare = one;
   each = λ other there. ⊎_elim (λ at. same other (one_at address at.0 other at.1).1) (λ no. absurd (nothing other no)) (in-with_all (address ∷ []) set.empty other there);
   enough = subst (λ (ls : List Logged). records_estimate (records_above v.u.group (map (λ (l : Logged). l.block) ls)) < set.len one) (sym none) (omega (arith, long, len-empty nat_cmp));
+  name_kept = subst (λ (ls : List Logged). AreNoRenames (records_above v.u.group (map (λ (l : Logged). l.block) ls))) (sym none) (All-nil (λ (p : Placed). list_any is_rename p.logged.ops ≡ false));
 }
   where
     one : FinSet nat_cmp
@@ -109,7 +114,6 @@ import_views size created guid contents v later m own after = record {
   next_group = after.group;
   old_mounts = own.mounts;
   new_mounts = ap (λ (ls : List Logged). apply_records (records_above later.u.group (map (λ (l : Logged). l.block) ls)) later.synced) after.no_log ∙ ap (λ (c : Contents). Ok c) after.synced;
-  old_log = own.no_log;
   new_log = after.no_log;
   old_room = own.room;
   new_room = after.room;
@@ -149,13 +153,9 @@ module _ (old mid : Disk) (flushes : Flushes old (Ok tt) mid) where
 
   module _ (size : ℕ) (u : Uberblock) (name : List ℕ) (first : Stage) (sized : length (bytes_of mid.now) ≡ size) (pool : HasPool (bytes_of mid.now) u name)
       (stage : HasFirstStage (bytes_of mid.now) u.guid u.group name (is_even first)) where
-    -- if the pool's own disk has no log block, the active uberblock begins an empty chain
-    pub own_empty : (created guid : ℕ) (contents : Contents) → IsOwnOnceFlushed old created guid contents → IsChainOf (bytes_of mid.now) u []
-    own_empty created guid contents own = let r = rested created guid contents own in found_empty mid.now created guid contents r.0 r.1 u name pool
-
     -- A pool that is synced, made over this image and chain, of which the image mounts its contents.
     module _ (next : NextPool) (moment : ℕ) (chain : List LogPiece) (parts : ArePartsFor size name (parts_of next)) (over : AreMadeOver (bytes_of mid.now) u chain size next.blocks.items (parts_of next))
-        (mounts : (created guid : ℕ) (contents : Contents) → IsOwnOnceFlushed old created guid contents → Mounts (bytes_of mid.now) u chain (contents_of next.contents)) where
+        (mounts : Mounts (bytes_of mid.now) u chain (contents_of next.contents)) where
       abbrev w : ImportWrites
       w = writes_of_next size u moment next
 
@@ -176,7 +176,7 @@ module _ (old mid : Disk) (flushes : Flushes old (Ok tt) mid) where
           let v : View = r.0 in
           let same : u ≡ v.u = found_uberblock mid.now created guid contents v r.1 u name pool in
           let named : v.name ≡ name = found_name mid.now created guid contents v r.1 u name pool in
-          let whole = found_mounts mid.now created guid contents v r.1 u chain (contents_of next.contents) (mounts created guid contents own) in
+          let whole = found_mounts mid.now created guid contents v r.1 u chain (contents_of next.contents) mounts in
           let spared = spared_at mid.now created guid contents v r.1 u name first same named stage in
           let of_u : v.u ≡ u = sym same in (
             v,
@@ -214,7 +214,7 @@ module _ (old mid : Disk) (flushes : Flushes old (Ok tt) mid) where
           synced = f.contents_are;
           no_log = refl;
           room = room_of_one (block_count size) next.log_address (view_of w tree) refl parts.log_block (record {
-            not_in_tree = λ place in_range some there. parts.log_unnamed (place, in_range, there);
+            not_in_tree = λ place in_range some there. over.log_unnamed (place, in_range, there);
             not_logged = λ i l at. absurd (let no_way : None ≡ Some l = at in cc);
           });
         }

@@ -1,26 +1,24 @@
--- Of a disk that its pool alone wrote the pool is found, and its tree and its chain have no damage.
-use Rattle.std.proofs.Common.{◌≡◌, ◌≢◌, inl, inr, ⊎_elim, ℕ, zero, suc, ◌<◌, true, List, [], ◌∷◌, Some, length, map, take, refl, sym, ◌∙◌, ap, subst, arith}
+-- Of a disk that its pool alone wrote the pool is found, its tree and its chain have no damage, and there is room for
+-- its import.
+use Rattle.std.proofs.Common.{◌≡◌, ◌≢◌, inl, inr, ⊎_elim, ℕ, zero, suc, List, [], ◌∷◌, Some, length, map, take, refl, sym, ◌∙◌, ap, subst, arith}
 use Rattle.std.specs.Prelude.{Contains, slice_get}
 use Rattle.std.specs.List.{flat_map}
-use Rattle.std.specs.Ordering.{nat_cmp}
-use Rattle.std.specs.FinSet as set
-use Rattle.std.specs.FinSet.{FinSet, len-empty}
 use Rattle.base.specs.declared.error.PoolError.{PoolError}
-use Rattle.base.specs.crash.Mount.{HasNoPool, IsChainOf, IsTreeDamaged, Mounts, MountsTo, frame_of, header_of}
+use Rattle.base.specs.crash.LogRoom.{records_estimate, records_to_apply}
+use Rattle.base.specs.crash.Mount.{HasNoPool, IsChainOf, IsTreeDamaged, Mounts, MountsTo, frame_of, header_of, records_above}
 use Rattle.base.specs.crash.Own.{IsOwnImage, IsOwnWith}
 use Rattle.base.specs.crash.Views.{IsFoundAs, Logged, view_frame}
 use Rattle.base.specs.declared.pointer.Pointer.{Pointer}
 use Rattle.base.specs.disk.Fairness.{passes_check}
 use Rattle.base.specs.disk.Disk.{Disk, Moment, bytes_of, certain, disk_size, settled}
 use Rattle.base.specs.formats.Chain.{LogPiece, addresses_of}
-use Rattle.base.specs.formats.Geometry.{block_count}
 use Rattle.base.specs.formats.Labels.{HasNoConfig}
-use Rattle.base.specs.formats.Uberblocks.{Uberblock}
+use Rattle.base.specs.formats.Uberblocks.{IsActive, Uberblock}
 use Rattle.base.specs.history.Contents.{Contents}
 use Rattle.base.specs.tree.Damages.{IsFirstDamage}
 use Rattle.base.specs.tree.Places.{IsInTree}
 use Rattle.base.specs.tree.Places.Place.{Root}
-use Rattle.base.proofs.crash.CrashRule.{own_mounts}
+use Rattle.base.proofs.crash.CrashRule.{own_mounts, take_whole}
 use Rattle.base.proofs.crash.FoundViews.{rest_found}
 use Rattle.base.proofs.crash.LogChains.{mounted_not_damaged}
 use Rattle.base.proofs.crash.LogRoom.{subset_len}
@@ -30,7 +28,8 @@ use Rattle.base.proofs.disk.Moments.{bytes_may_be_left}
 use Rattle.base.proofs.disk.Regions.{flushed_clean}
 use Rattle.base.proofs.tree.PlacedTrees.{in-tree}
 use Rattle.base.proofs.tree.SoundTrees.{no_damage}
-use Rattle.import_replay.specs.ImportRefusals.{FindsOwn, HasNoFreeBlock, IsReason}
+use Rattle.log_replay.specs.Replays.{IsNameKept}
+use Rattle.import_replay.specs.ImportRefusals.{FindsOwn, HasNoRoom, IsNameKeptIn, IsReason}
 
 module _ (image : List ℕ) (u : Uberblock) (chain : List LogPiece) (contents : Contents) (mounts : Mounts image u chain contents) where
   has_pool : HasNoPool image → ⊥
@@ -46,14 +45,7 @@ module _ (image : List ℕ) (u : Uberblock) (chain : List LogPiece) (contents : 
       no_damage image (frame_of image u) u.root mounts.synced.objects mounts.found.tree kind address
       (subst (λ (w : Uberblock). IsFirstDamage image (frame_of image w) w.root kind address) same damaged.damage)
 
--- not every number lies outside a set that has one
-some_inside : (s : FinSet nat_cmp) → 0 < set.len s → ((q : ℕ) → set.contains s q ≡ true → ⊥) → ⊥
-some_inside s some none =
-    let within = subset_len s set.empty (λ q is. absurd (none q is)) in
-    let empty = len-empty nat_cmp in
-    omega (arith, within, empty, some)
-
--- a disk that its pool alone wrote has a block that neither its tree nor its chain has
+-- a disk that its pool alone wrote has room for an import, whose records don't name the pool
 module _ (disk : Disk) (created guid : ℕ) (contents : Contents) (own : IsOwnWith disk created guid contents) where
   abbrev image : List ℕ
   image = bytes_of disk.now
@@ -67,35 +59,48 @@ module _ (disk : Disk) (created guid : ℕ) (contents : Contents) (own : IsOwnWi
   found : IsFoundAs image (length here.v.logged) here.v
   found = rest_found created still image (bytes_may_be_left still) (fair_settled (passes_check (disk_size disk)) created image disk.now own.left.bytes.fair) (length here.v.logged) here.v here.rest
 
-  -- no block of the chain that is found is spare
-  not_logged : (count address : ℕ) → ((i : ℕ) (l : Logged) → slice_get here.v.logged i ≡ Some l → l.block.address ≢ address)
-      → Contains (flat_map addresses_of (map (λ (l : Logged). l.block) (take count here.v.logged))) address → ⊥
-  not_logged count address none there = none_in here.v.logged count none there
-    where
-      none_in : (ls : List Logged) (n : ℕ) → ((i : ℕ) (l : Logged) → slice_get ls i ≡ Some l → l.block.address ≢ address)
-          → Contains (flat_map addresses_of (map (λ (l : Logged). l.block) (take n ls))) address → ⊥
-      none_in ls zero none (k, low, is) = absurd (omega (arith, low))
-      none_in [] (suc n) none (k, low, is) = absurd (omega (arith, low))
-      none_in (l ∷ ls) (suc n) none (zero, low, is) = none 0 l refl is
-      none_in (l ∷ ls) (suc n) none (suc k, low, is) = none_in ls n (λ i x at. none (suc i) x at) (k, omega (arith, low), is)
+  abbrev logged : List LogPiece
+  logged = map (λ (l : Logged). l.block) here.v.logged
 
-  has_spare : HasNoFreeBlock image → ⊥
-  has_spare full =
+  -- an active uberblock is the view's, and its chain is the whole log
+  uberblock_is : (u : Uberblock) → IsActive image u → u ≡ here.v.u
+  uberblock_is u active = one-active image u here.v.u active found.found.pool.active
+
+  chain_is : (u : Uberblock) (chain : List LogPiece) → IsActive image u → IsChainOf image u chain → chain ≡ logged
+  chain_is u chain active is =
+      let of_view : IsChainOf image here.v.u chain = subst (λ (w : Uberblock). IsChainOf image w chain) (uberblock_is u active) is in
+      one-chain image (frame_of image here.v.u) here.v.u.import_number (header_of here.v.u) chain (map (λ (l : Logged). l.block) (take found.count here.v.logged)) of_view found.found.chain_is
+      ∙ ap (λ (ls : List Logged). map (λ (l : Logged). l.block) ls) (take_whole found.count here.v.logged found.least)
+
+  -- no block of it is spare
+  not_logged : (ls : List Logged) (address : ℕ) → ((i : ℕ) (l : Logged) → slice_get ls i ≡ Some l → l.block.address ≢ address)
+      → Contains (flat_map addresses_of (map (λ (l : Logged). l.block) ls)) address → ⊥
+  not_logged [] address none (k, low, is) = absurd (omega (arith, low))
+  not_logged (l ∷ ls) address none (zero, low, is) = none 0 l refl is
+  not_logged (l ∷ ls) address none (suc k, low, is) = not_logged ls address (λ i x at. none (suc i) x at) (k, omega (arith, low), is)
+
+  has_room : HasNoRoom image → ⊥
+  has_room full =
       let laid = here.rest.laid in
-      let same : full.u ≡ here.v.u = one-active image full.u here.v.u full.sound.pool.active found.found.pool.active in
+      let same : full.u ≡ here.v.u = uberblock_is full.u full.sound.pool.active in
       let root : full.u.root ≡ here.v.pointers Root = ap (λ (w : Uberblock). w.root) same ∙ sym laid.view.root in
-      let chain_is : IsChainOf image here.v.u full.chain = subst (λ (w : Uberblock). IsChainOf image w full.chain) same full.chain_is in
-      let chains : full.chain ≡ map (λ (l : Logged). l.block) (take found.count here.v.logged) =
-      one-chain image (frame_of image here.v.u) here.v.u.import_number (header_of here.v.u) full.chain (map (λ (l : Logged). l.block) (take found.count here.v.logged)) chain_is found.found.chain_is in
-      some_inside here.room.spare (omega (arith, here.room.enough)) (λ address is.
+      let chains : full.chain ≡ logged = chain_is full.u full.chain full.sound.pool.active full.chain_is in
+      let few : records_estimate (records_above full.u.group full.chain) ≡ records_estimate (records_to_apply here.v) =
+      (λ i. records_estimate (records_above (same i).group (chains i))) in
+      let within = subset_len here.room.spare full.spare (λ address is.
       let spare = here.room.each address is in
-      ⊎_elim
+      full.all address spare.0 (λ used. ⊎_elim
       (λ in_tree.
       let there : IsInTree image (here.v.pointers Root) address = subst (λ (r : Pointer). IsInTree image r address) root in_tree in
       let (place, in_range, names, some) = in-tree image (view_frame (disk_size disk) here.v) here.v.pointers here.v.synced.objects laid.firm.tree.holds address there in
       spare.1.not_in_tree place in_range some names)
-      (λ logged. not_logged found.count address spare.1.not_logged (subst (λ (bs : List LogPiece). Contains (flat_map addresses_of bs) address) chains logged))
-      (full.all address spare.0))
+      (λ is_logged. not_logged here.v.logged address spare.1.not_logged (subst (λ (bs : List LogPiece). Contains (flat_map addresses_of bs) address) chains is_logged)) used)) in
+      omega (arith, within, few, full.few, here.room.enough)
+
+  name_kept : IsNameKeptIn image
+  name_kept u chain active is =
+      subst (λ (bs : List LogPiece). IsNameKept u.group bs) (sym (chain_is u chain active is))
+      (subst (λ (w : Uberblock). IsNameKept w.group logged) (sym (uberblock_is u active)) here.room.name_kept)
 
 pub finds_own : (disk : Disk) (e : PoolError) → IsReason (bytes_of disk.now) e → FindsOwn disk e
 finds_own disk e reason created guid contents own =
@@ -104,7 +109,8 @@ finds_own disk e reason created guid contents own =
     let (u, chain, mounts) = subst (λ (image : List ℕ). MountsTo image contents) same (own_mounts flushed created guid contents own) in
     record {
       not_missing = λ is. has_pool (bytes_of disk.now) u chain contents mounts (reason.no_pool is);
-      not_full = λ is. has_spare flushed created guid contents own (subst (λ (image : List ℕ). HasNoFreeBlock image) (sym same) (reason.no_space is));
+      not_full = λ is. has_room flushed created guid contents own (subst (λ (image : List ℕ). HasNoRoom image) (sym same) (reason.no_space is));
       not_damaged = λ kind address is. ⊎_elim (is_sound (bytes_of disk.now) u chain contents mounts kind address)
-          (λ refused. mounted_not_damaged (bytes_of disk.now) contents address (u, chain, mounts) refused.1) (reason.damaged kind address is);
+          (λ refused. mounted_not_damaged (bytes_of disk.now) contents address (u, chain, mounts)
+          (refused.1 (subst IsNameKeptIn same (name_kept flushed created guid contents own)))) (reason.damaged kind address is);
     }

@@ -1,12 +1,13 @@
 -- What a plan makes of the tree of an image may be synced over it: the tree stands if just the plan's blocks are
--- written, and these are blocks of a tree.
-use Rattle.std.proofs.Common.{◌≡◌, inl, inr, ℕ, ◌+◌, ◌*◌, ◌<◌, ◌≤◌, List, length, map, None, Some, refl, sym, ◌∙◌, ap, subst, arith}
+-- written, and these are blocks of a tree. The first log block is none of it.
+use Rattle.std.proofs.Common.{◌≡◌, ⊎_elim, inl, inr, ℕ, ◌+◌, ◌*◌, ◌<◌, ◌≤◌, List, length, map, None, Some, refl, sym, ◌∙◌, ap, subst, arith}
 use Rattle.std.specs.Prelude.{◌≢◌, ◌⊎◌, slice_get}
 use Rattle.std.specs.Ordering.{nat_cmp}
 use Rattle.std.specs.FinMap as finite
 use Rattle.std.specs.FinMap.{FinMap}
 use Rattle.std.proofs.lemmas.Option.{slice_get_within}
-use Rattle.base.specs.crash.Mount.{IsUsed}
+use Rattle.base.specs.crash.LogRoom.{records_estimate}
+use Rattle.base.specs.crash.Mount.{IsUsed, records_above}
 use Rattle.base.specs.declared.pointer.Pointer.{Pointer}
 use Rattle.base.specs.disk.Disk.{IsInRange}
 use Rattle.base.specs.formats.Chain.{LogPiece}
@@ -24,7 +25,9 @@ use Rattle.base.proofs.disk.Put.{part_same}
 use Rattle.base.proofs.disk.WrittenBlocks.{blocks-apart, new-stand, planned-written, put_blocks}
 use Rattle.base.proofs.stored.StoredSets.{at-map, map-at}
 use Rattle.base.proofs.tree.PlacedTrees.{holds-placed, opens-at, told-in_tree}
+use Rattle.base.proofs.tree.FreedBlocks.{IsNewAddress, in-new_tree}
 use Rattle.base.proofs.tree.PlannedTrees.{planned-holds}
+use Rattle.base.proofs.tree.SamePlaces.{holds_as}
 use Rattle.object_maps.specs.ContentsShown.{contents_of}
 use Rattle.object_maps.specs.Pointers.{pointers_of}
 use Rattle.sync.specs.Made.{BlocksWritten}
@@ -45,11 +48,9 @@ of_tree (Data n r) = (λ same. omega (arith, same), λ same. omega (arith, same)
 module _ (image : List ℕ) (size : ℕ) (u : Uberblock) (chain : List LogPiece) (blocks : List PlannedBlock) (are : AreBlocks (block_count size) (map new_block blocks))
     (free : (i : ℕ) (b : PlannedBlock) → slice_get blocks i ≡ Some b → IsUsed image u.root chain (block_address b.index) → ⊥)
     (old : Place → Pointer) (before : FinMap nat_cmp (List ℕ)) (root : old Root ≡ u.root) (held : HoldsTree image (frame_of_size u size) old before)
-    (p : PoolParts) (planned : IsTreePlan (map new_block blocks) (next_frame u size) old (pointers_of p.tree) before (contents_of p.contents).objects)
+    (p : PoolParts) (new : Place → Pointer) (same : (place : Place) → IsPlace place → pointers_of p.tree place ≡ new place)
+    (planned : IsTreePlan (map new_block blocks) (next_frame u size) old new before (contents_of p.contents).objects)
     (no_others : (n : ℕ) → object_count ≤ n → finite.get (contents_of p.contents).objects n ≡ None) where
-  abbrev new : Place → Pointer
-  new = pointers_of p.tree
-
   abbrev after : FinMap nat_cmp (List ℕ)
   after = (contents_of p.contents).objects
 
@@ -96,28 +97,51 @@ module _ (image : List ℕ) (size : ℕ) (u : Uberblock) (chain : List LogPiece)
 
   planned_made : IsTreeMade image size blocks (next_frame u size) (tree_of p)
   planned_made other long written =
-      planned-holds image other (frame_of_size u size) (next_frame u size) refl refl (omega arith) (map new_block blocks) (stands other long written) old new before after held planned
-      (λ place in_range same. stays other long written place in_range) no_others
+      holds_as other (next_frame u size) new (pointers_of p.tree) same after
+      (planned-holds image other (frame_of_size u size) (next_frame u size) refl refl (omega arith) (map new_block blocks) (stands other long written) old new before after held planned
+      (λ place in_range same. stays other long written place in_range) no_others)
 
   module _ (used : AreUsed (map new_block blocks) new) (room : block_area + block_size * block_count size ≤ length image) where
+    abbrev bs : List NewBlock
+    bs = map new_block blocks
+
+    -- an image with the blocks
+    abbrev other : List ℕ
+    other = put_blocks bs image
+
+    news : HoldsTree other (next_frame u size) new after
+    news = planned-written image (frame_of_size u size) (next_frame u size) bs old new before after refl refl (omega arith) held planned no_others are leaves room
+
+    -- a block of the new tree is one of the old tree or of the plan
+    named_from : (address : ℕ) → address ≢ 0 → IsNamed (pointers_of p.tree) address → IsInTree image u.root address ⊎ IsNewAddress bs address
+    named_from address some (place, in_range, at) =
+        let named : (new place).address ≡ address = ap (λ (q : Pointer). q.address) (sym (same place in_range)) ∙ at in
+        let there : IsInTree other (new Root) address = subst (λ (a : ℕ). IsInTree other (new Root) a) named
+        (told-in_tree other (next_frame u size) new after news place in_range (λ none. some (sym named ∙ ap (λ (q : Pointer). q.address) none))) in
+        subst (λ (r : Pointer). IsInTree image r address ⊎ IsNewAddress bs address) root
+        (in-new_tree image other (frame_of_size u size) (next_frame u size) bs old new before after held news planned leaves address there)
+
+    -- and each block of the plan is one of the new tree
+    new_named : (i : ℕ) (b : PlannedBlock) → slice_get blocks i ≡ Some b → IsNamed (pointers_of p.tree) (block_address b.index)
+    new_named i b at =
+        let (place, in_range, named) = used i (new_block b) (map-at new_block blocks i b at) in
+        (place, in_range, ap (λ (q : Pointer). q.address) (same place in_range) ∙ named)
+
     -- each block is that of a place of the new tree
     kind_is : (i : ℕ) (b : PlannedBlock) → slice_get blocks i ≡ Some b → (place : Place) × (number_at b.block 0 ≡ kind_of place)
     kind_is i b at =
-        let bs : List NewBlock = map new_block blocks in
         let there : slice_get bs i ≡ Some (new_block b) = map-at new_block blocks i b at in
-        let other : List ℕ = put_blocks bs image in
-        let news : HoldsTree other (next_frame u size) new after =
-        planned-written image (frame_of_size u size) (next_frame u size) bs old new before after refl refl (omega arith) held planned no_others are leaves room in
         let (place, in_range, named) = used i (new_block b) there in
         let some : new place ≢ no_pointer = λ none. (let zero_is : (new place).address ≡ 0 = ap (λ (q : Pointer). q.address) none in omega (arith, zero_is, named)) in
         let o = opens-at other (next_frame u size) new after news place in_range some in
         let stands_there : part other (block_address b.index) block_size ≡ b.block = (new-stand (block_count size) bs image are room i (new_block b) there).stands in
         (place, ap (λ (l : List ℕ). number_at l 0) (sym stands_there) ∙ ap (λ (a : ℕ). number_at (part other a block_size) 0) (sym named) ∙ o.1.block.kind_is)
 
-    -- so the pool is made over the image, with a first log block that nothing uses
-    pub planned_over : (IsUsed image u.root chain p.log_address → ⊥)
-        → ((address : ℕ) → address < p.log_address → IsBlockAddress (block_count size) address → IsUsed image u.root chain address ⊎ IsNamed new address) → AreMadeOver image u chain size blocks p
-    planned_over log_unused lowest = record {
+    -- So the pool is made over the image, with the first log block that is neither used nor one of the plan.
+    pub planned_over : (length blocks ≤ records_estimate (records_above u.group chain)) → p.records ≡ length (records_above u.group chain) → p.log_address ≢ 0 → (IsUsed image u.root chain p.log_address → ⊥) → (IsNewAddress bs p.log_address → ⊥)
+        → ((address : ℕ) → address < p.log_address → IsBlockAddress (block_count size) address → IsUsed image u.root chain address ⊎ ((i : ℕ) × (b : PlannedBlock) × (slice_get blocks i ≡ Some b) × (block_address b.index ≡ address)))
+        → AreMadeOver image u chain size blocks p
+    planned_over few records some log_unused log_left lowest = record {
       tree = planned_made;
       unused = All-each (IsUnusedBlock image u chain) blocks (λ i b at.
           let (place, kind) = kind_is i b at in
@@ -126,6 +150,9 @@ module _ (image : List ℕ) (size : ℕ) (u : Uberblock) (chain : List LogPiece)
             not_log = λ same. (of_tree place).1 (sym kind ∙ same);
             unused = free i b at;
           });
+      few = few;
+      records = records;
       log_unused = log_unused;
-      lowest = lowest;
+      log_unnamed = λ named. ⊎_elim (λ old_tree. log_unused (inl old_tree)) log_left (named_from p.log_address some named);
+      lowest = λ address below is. ⊎_elim (λ is_used. inl is_used) (λ planned. inr (subst (λ (a : ℕ). IsNamed (pointers_of p.tree) a) planned.3 (new_named planned.0 planned.1 planned.2))) (lowest address below is);
     }

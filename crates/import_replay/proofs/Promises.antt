@@ -18,10 +18,11 @@ use Rattle.base.proofs.crash.LogChains.{mounted_not_damaged}
 use Rattle.base.proofs.crash.OneMount.{mounts_agree, one-active}
 use Rattle.base.proofs.disk.Moments.{latest}
 use Rattle.device_model.specs.declared.device.SectorDevice.{Ghosts}
+use Rattle.object_maps.specs.ContentsShown.{contents_of}
 use Rattle.object_maps.specs.Surveys.{listed}
 use Rattle.import_replay.specs.CreateRefusals.{IsCreateRefusal}
 use Rattle.import_replay.specs.Creations.{IsCreatedOn, IsNewPool, first_uberblock}
-use Rattle.import_replay.specs.ImportRefusals.{CanImport, IsImportRefusal, IsInspectionRefusal, IsReadingRefusal, IsReason}
+use Rattle.import_replay.specs.ImportRefusals.{CanImport, IsImportRefusal, IsInspectionReason, IsInspectionRefusal, IsReadingRefusal, IsReason}
 use Rattle.import_replay.specs.ImportSyncs.{IsImportSynced, uberblock_of_import}
 use Rattle.import_replay.specs.Inspections.{IsInspectionOf}
 use Rattle.import_replay.specs.Mounts.{shown_of_import}
@@ -53,14 +54,10 @@ module _ (image name : List ℕ) (guid moment : ℕ) (created : IsCreatedOn imag
   abbrev first : Uberblock
   first = first_uberblock guid moment
 
-  no_log : IsChainOf image first []
-  no_log block is = let at : 0 ≡ 4194304 + 4096 * is.in_area.0 = is.in_area.2 in absurd (omega (arith, at))
-
   -- each import of it
-  pub import_of_new : (now : List ℕ) (dirty_max : ℕ) (m : Mounted) → ((u : Uberblock) → IsActive image u → IsChainOf image u [] → IsImportOf image now dirty_max 0 (shown_of_import m))
+  pub import_of_new : (now : List ℕ) (dirty_max : ℕ) (m : Mounted) → IsImportOf image now dirty_max m.records (shown_of_import m)
       → (m.contents.name ≡ name) × (m.guid ≡ guid) × (m.group.0 ≡ 8) × (m.import_number ≡ 1)
-  import_of_new now dirty_max m told =
-      let import = told first new.active no_log in
+  import_of_new now dirty_max m import =
       let mounted = created.1 in
       let is = created.2 in
       let (same, chains, contents) = mounts_agree image import.u mounted.u import.chain mounted.chain import.contents created.0.contents import.mounts mounted.mounts in (
@@ -148,7 +145,16 @@ module _ (image : List ℕ) (u : Uberblock) (chain : List LogPiece) (contents : 
         sym mounted.records ∙ ap (λ (v : Uberblock). length (records_above v.group mounted.chain)) (sym same) ∙ ap (λ (bs : List LogPiece). length (records_above u.group bs)) (sym chains),
       )
 
-  pub mounted_found : (e : PoolError) → IsReason image e → e ≢ NoPool
+  -- an import of it
+  pub mounted_replayed : (now : List ℕ) (dirty_max : ℕ) (m : Mounted) → IsImportOf image now dirty_max m.records (shown_of_import m)
+      → (contents_of m.contents ≡ contents) × (m.records ≡ length (records_above u.group chain))
+  mounted_replayed now dirty_max m import =
+      let (same, chains, equal) = mounts_agree image import.u u import.chain chain import.contents contents import.mounts mounts in (
+        import.imported.contents_are ∙ equal,
+        sym import.records_are ∙ (λ i. length (records_above (same i).group (chains i))),
+      )
+
+  pub mounted_found : (e : PoolError) → IsInspectionReason image e → e ≢ NoPool
   mounted_found e reason is =
       let active = mounts.found.pool.active in
       let chosen = mounts.found.pool.chosen in
@@ -166,7 +172,7 @@ tree_kind (Directory d) is = omega (arith, is)
 tree_kind (Indirect n) is = omega (arith, is)
 tree_kind (Data n r) is = omega (arith, is)
 
-pub record_damaged : (image : List ℕ) (e : PoolError) → IsReason image e → (address : ℕ) → e ≡ Damaged 6 address → IsChainDamaged image address
+pub record_damaged : (image : List ℕ) (e : PoolError) → IsInspectionReason image e → (address : ℕ) → e ≡ Damaged 6 address → IsChainDamaged image address
 record_damaged image e reason address is = ⊎_elim (λ tree. absurd (tree_kind tree.damage.place tree.damage.kind_is)) (λ chain. chain.1) (reason.damaged 6 address is)
 
 -- and what is inspected has none

@@ -46,8 +46,6 @@ settled_now m none =
 -- and has room for an import.
 pub record IsRestedOwn (size created guid : ℕ) (contents : Contents) (v : View) (m : Moment) : Type 0 where
   pub guid_is : v.u.guid ≡ guid
-  -- no log block is written at this stage
-  pub no_log : v.logged ≡ []
   pub mounts : MountsAs v contents
   pub room : HasImportRoom (block_count size) v
   pub none : m.unflushed ≡ []
@@ -64,7 +62,6 @@ rested_own disk created guid contents none own =
       subst (λ (m : Moment). IsRestedOwn (disk_size disk) created guid contents is.v m) (sym sure)
           (record {
             guid_is = is.guid_is;
-            no_log = is.no_log;
             mounts = is.applied;
             room = is.room;
             none = refl;
@@ -136,12 +133,6 @@ module _ (m : Moment) (created guid : ℕ) (contents : Contents) (v : View) (own
         sym view.name
         ∙ one-name image v.u.guid v.u.group found.found.pool.config_group pool.config_group v.synced.name name found.found.pool.chosen
         (subst (λ (w : Uberblock). IsChosen image w.guid w.group pool.config_group name) found_uberblock pool.chosen)
-
-    -- if the view has no log block, the chain is empty
-    pub found_empty : IsChainOf image u []
-    found_empty =
-        subst (λ (w : Uberblock). IsChainOf image w []) (sym found_uberblock)
-        (subst (λ (ls : List Logged). IsChainOf image v.u (map (λ (l : Logged). l.block) ls)) own.no_log view_mounts.found.chain_is)
 
   -- what the image mounts is of the view
   pub found_mounts : (u : Uberblock) (chain : List LogPiece) (read : Contents) → Mounts image u chain read → (chain ≡ logged) × (read ≡ contents)

@@ -143,7 +143,7 @@ length-used (suc n) free within = by_flag (set.contains free (block_address n)) 
     by_flag false is all = let rest = all free (without is) in omega (arith, rest)
 
 -- the blocks of a chain that was read lie in the area
-sound_in_area : (blocks : ℕ) (chain : List LogPiece) → All (IsSoundBlock blocks) chain → (address : ℕ) → Contains (chain_addresses chain) address → IsBlockAddress blocks address
+pub sound_in_area : (blocks : ℕ) (chain : List LogPiece) → All (IsSoundBlock blocks) chain → (address : ℕ) → Contains (chain_addresses chain) address → IsBlockAddress blocks address
 sound_in_area blocks [] sound address (i, low, is) = absurd (omega (arith, low))
 sound_in_area blocks (b ∷ bs) sound address (zero, low, is) = subst (λ (a : ℕ). IsBlockAddress blocks a) is ((sound 0 b (omega arith)).in_area 0 b.address (omega arith))
 sound_in_area blocks (b ∷ bs) sound address (suc i, low, is) = sound_in_area blocks bs (λ k d h. sound (suc k) d (omega (arith, h))) address (i, omega (arith, low), is)

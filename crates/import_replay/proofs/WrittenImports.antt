@@ -4,18 +4,18 @@ use Rattle.std.specs.Prelude.{OnOk}
 use Rattle.base.specs.declared.error.PoolError.{PoolError}
 use Rattle.base.specs.disk.Calls.{Flushes}
 use Rattle.base.specs.disk.Disk.{Disk, bytes_of}
+use Rattle.base.specs.crash.Mount.{IsChainOf}
+use Rattle.base.specs.formats.Chain.{LogPiece}
 use Rattle.base.specs.formats.Uberblocks.{Uberblock, IsActive}
 use Rattle.base.specs.formats.Versions.{written_version}
 use Rattle.base.proofs.disk.Regions.{flushed_clean}
-use Rattle.object_maps.specs.declared.contents.Slot.{Slot}
-use Rattle.object_maps.specs.declared.tree.Tree.{Tree}
 use Rattle.import_replay.specs.Found.{HasFirstStage}
 use Rattle.import_replay.specs.ImportStops.{writes_of_next}
 use Rattle.import_replay.specs.ImportSyncs.{IsImportSynced, IsImportWritten, uberblock_of_import, writes_of_import}
 use Rattle.import_replay.specs.Labelled.{HasOtherSlots, HoldUberblock}
 use Rattle.import_replay.specs.LabelSyncs.{ImportWrites, IsGroupSynced, after_calls, calls_of_import}
 use Rattle.import_replay.specs.Mounts.{IsMountedFrom}
-use Rattle.import_replay.specs.NextPools.{KeepsLoaded, PoolParts, parts_of}
+use Rattle.import_replay.specs.NextPools.{AreMadeOver, ArePartsFor, PoolParts, parts_of}
 use Rattle.import_replay.specs.declared.mounted.Mounted.{Mounted}
 use Rattle.import_replay.specs.declared.next_pool.NextPool.{NextPool}
 use Rattle.import_replay.proofs.ImportedLabels.{active_now}
@@ -39,13 +39,14 @@ written_same size u next dirty_max moment m from = λ i. record {
   blocks = next.blocks.items;
 }
 
-module _ (size : ℕ) (old mid new : Disk) (u : Uberblock) (name : List ℕ) (slots : List Slot) (tree : Tree) (logged : List ℕ) (next : NextPool) (dirty_max moment : ℕ) (even_first : Bool)
+module _ (size : ℕ) (old mid new : Disk) (u : Uberblock) (name : List ℕ) (chain : List LogPiece) (next : NextPool) (dirty_max moment : ℕ) (even_first : Bool)
     (flushed : Flushes old (Ok tt) mid) (long : length (bytes_of old.now) ≡ size) (same_long : length (bytes_of new.now) ≡ size)
-    (is_active : IsActive (bytes_of old.now) u) (first : HasFirstStage (bytes_of old.now) u.guid u.group name even_first) (root : tree.root ≡ u.root) (kept : KeepsLoaded size name slots tree logged next)
+    (is_active : IsActive (bytes_of old.now) u) (first : HasFirstStage (bytes_of old.now) u.guid u.group name even_first) (chain_is : IsChainOf (bytes_of old.now) u chain) (parts : ArePartsFor size name (parts_of next))
+    (over : AreMadeOver (bytes_of old.now) u chain size next.blocks.items (parts_of next))
     (m : Mounted) (from : IsMountedFrom size u (parts_of next) dirty_max m)
     (done : IsGroupSynced (writes_of_next size u moment next) even_first mid new) where
   name_is : m.contents.name ≡ name
-  name_is = ap (λ (p : PoolParts). p.contents.name) from.parts ∙ kept.name_is
+  name_is = ap (λ (p : PoolParts). p.contents.name) from.parts ∙ parts.name_is
 
   mine : IsGroupSynced (writes_of_import moment next.blocks.items m) even_first mid new
   mine = subst (λ (w : ImportWrites). IsGroupSynced w even_first mid new) (written_same size u next dirty_max moment m from) done
@@ -59,9 +60,11 @@ module _ (size : ℕ) (old mid new : Disk) (u : Uberblock) (name : List ℕ) (sl
     import_number = from.import_number;
     even_first = even_first;
     first = subst (λ (n : List ℕ). HasFirstStage (bytes_of old.now) u.guid u.group n even_first) (sym name_is) first;
+    chain = chain;
+    chain_is = chain_is;
     blocks = next.blocks.items;
-    none = kept.none;
-    root = ap (λ (p : PoolParts). p.tree.root) from.parts ∙ ap (λ (t : Tree). t.root) kept.tree_is ∙ root;
+    unused = over.unused;
+    few = over.few;
     synced = mine.synced ∙ ap (λ (d : Disk). after_calls (writes_of_import moment next.blocks.items m) (calls_of_import (writes_of_import moment next.blocks.items m) even_first) d) flushed;
   }
 
@@ -77,13 +80,14 @@ module _ (size : ℕ) (old mid new : Disk) (u : Uberblock) (name : List ℕ) (sl
   import_written = record { synced = import_synced; labelled = mine.labelled; settled = mine.settled; active = now_active }
 
 -- the same of an answer
-pub ok_written : (old before mid new : Disk) (size : ℕ) (u : Uberblock) (name : List ℕ) (slots : List Slot) (tree : Tree) (logged : List ℕ) (next : NextPool) (dirty_max moment : ℕ) (even_first : Bool) (r : Result Mounted PoolError)
+pub ok_written : (old before mid new : Disk) (size : ℕ) (u : Uberblock) (name : List ℕ) (chain : List LogPiece) (next : NextPool) (dirty_max moment : ℕ) (even_first : Bool) (r : Result Mounted PoolError)
     → before ≡ mid → Flushes old (Ok tt) mid → length (bytes_of old.now) ≡ size → length (bytes_of new.now) ≡ size
-    → IsActive (bytes_of old.now) u → HasFirstStage (bytes_of old.now) u.guid u.group name even_first → tree.root ≡ u.root → KeepsLoaded size name slots tree logged next
+    → IsActive (bytes_of old.now) u → HasFirstStage (bytes_of old.now) u.guid u.group name even_first → IsChainOf (bytes_of old.now) u chain → ArePartsFor size name (parts_of next)
+    → AreMadeOver (bytes_of old.now) u chain size next.blocks.items (parts_of next)
     → IfOk r (IsMountedFrom size u (parts_of next) dirty_max)
     → OnOk r (IsGroupSynced (writes_of_next size u moment next) even_first before new)
     → IfOk r (IsImportWritten old new moment)
-ok_written old before mid new size u name slots tree logged next dirty_max moment even_first (Err e) same flushed long same_long active first root kept from done = tt
-ok_written old before mid new size u name slots tree logged next dirty_max moment even_first (Ok m) same flushed long same_long active first root kept from done =
-    import_written size old mid new u name slots tree logged next dirty_max moment even_first flushed long same_long active first root kept m from
+ok_written old before mid new size u name chain next dirty_max moment even_first (Err e) same flushed long same_long active first chain_is parts over from done = tt
+ok_written old before mid new size u name chain next dirty_max moment even_first (Ok m) same flushed long same_long active first chain_is parts over from done =
+    import_written size old mid new u name chain next dirty_max moment even_first flushed long same_long active first chain_is parts over m from
     (subst (λ (d : Disk). IsGroupSynced (writes_of_next size u moment next) even_first d new) same done)

@@ -1,4 +1,4 @@
--- The free blocks of a tree and a chain, and the one that an import takes for its log.
+-- The free blocks of a tree and a chain, and the one that a plan leaves for the log.
 use Rattle.std.specs.Prelude.{ℕ, ◌≡◌, ◌≢◌, ◌<◌, ◌⊎◌, ◌==◌, ◌||◌, ◌&&◌, Bool, Contains, List, true, false, not, take}
 use Rattle.std.specs.List.{flat_map, list_any}
 use Rattle.std.specs.Ordering.{nat_cmp}
@@ -12,6 +12,7 @@ use Rattle.base.specs.tree.Places.{Place, IsPlace}
 use Rattle.object_maps.specs.declared.tree.ObjectMap.{ObjectMap}
 use Rattle.object_maps.specs.declared.tree.Tree.{Tree}
 use Rattle.space.specs.FreeSets.{FreeSpace, is_free}
+use Rattle.tree_plans.specs.declared.planner.PlannedBlock.{PlannedBlock}
 
 -- the pointer at some place has this address
 abbrev pub IsNamed : (Place → Pointer) → ℕ → Type 0
@@ -31,24 +32,12 @@ pub record AreUnused (pointers : Place → Pointer) (logged : List ℕ) (blocks 
   pub unused : (address : ℕ) → set.contains free address ≡ true → IsUsedBy pointers logged address → ⊥
   pub others : (address : ℕ) → set.contains free address ≡ false → IsBlockAddress blocks address → IsUsedBy pointers logged address
 
--- the block at this address is the lowest that neither a pointer of the tree nor the chain has
-pub record IsLowestUnused (pointers : Place → Pointer) (logged : List ℕ) (blocks address : ℕ) : Type 0 where
-  pub is_block : IsBlockAddress blocks address
-  pub unused : IsUsedBy pointers logged address → ⊥
-  pub lowest : (other : ℕ) → other < address → IsBlockAddress blocks other → IsUsedBy pointers logged other
-
--- The block at this address is the lowest that neither a pointer of the tree nor the chain has. The free blocks are the
--- others that no pointer of the tree has: the chain's are given back.
-pub record HasTakenLowest (pointers : Place → Pointer) (logged : List ℕ) (blocks address : ℕ) (free : FinSet nat_cmp) : Type 0 where
-  pub first : IsLowestUnused pointers logged blocks address
+-- The free blocks are those that no pointer of the tree names, except for the one at this address.
+pub record AreAllOthers (pointers : Place → Pointer) (blocks address : ℕ) (free : FinSet nat_cmp) : Type 0 where
   pub in_area : (other : ℕ) → set.contains free other ≡ true → IsBlockAddress blocks other
   pub unnamed : (other : ℕ) → set.contains free other ≡ true → IsNamed pointers other → ⊥
   pub not_taken : (other : ℕ) → set.contains free other ≡ true → other ≢ address
   pub others : (other : ℕ) → set.contains free other ≡ false → IsBlockAddress blocks other → IsNamed pointers other ⊎ (other ≡ address)
-
--- each block is in the tree or in the chain
-abbrev pub AreAllUsed : (Place → Pointer) → List ℕ → ℕ → Type 0
-AreAllUsed pointers logged blocks = (address : ℕ) → IsBlockAddress blocks address → IsUsedBy pointers logged address
 
 -- whether this is the address of the k-th block
 abbrev pub is_block_at : ℕ → ℕ → Bool
@@ -79,3 +68,21 @@ pub record BlocksTaken (is_taken : ℕ → Bool) (old new : FreeSpace) : Type 0 
   pub each : (k : ℕ) → k < old.blocks → is_free k new ≡ (is_free k old && not (is_taken k))
   pub fewer : (address : ℕ) → set.contains new.free address ≡ true → set.contains old.free address ≡ true
   pub rest : new ≡ record old { free = new.free }
+
+-- whether one of these planned blocks is the k-th block
+abbrev pub plans_block : ℕ → PlannedBlock → Bool
+plans_block k planned = is_block_at k (block_address planned.index)
+
+abbrev pub is_planned : ℕ → List PlannedBlock → Bool
+is_planned k planned = list_any (plans_block k) planned
+
+-- of the free blocks of a set this one is the lowest that is not planned
+pub record IsLowestLeft (spare : FreeSpace) (planned : List PlannedBlock) (block : ℕ) : Type 0 where
+  pub within : block < spare.blocks
+  pub free : is_free block spare ≡ true
+  pub left : is_planned block planned ≡ false
+  pub below : (k : ℕ) → k < block → is_free k spare ≡ true → is_planned k planned ≡ true
+
+-- each free block of a set is planned
+abbrev pub AreAllPlanned : FreeSpace → List PlannedBlock → Type 0
+AreAllPlanned spare planned = (k : ℕ) → k < spare.blocks → is_free k spare ≡ true → is_planned k planned ≡ true

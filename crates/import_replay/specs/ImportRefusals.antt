@@ -1,19 +1,22 @@
 -- When an import is refused.
-use Rattle.std.specs.Prelude.{ℕ, ⊤, ◌≡◌, ◌≢◌, ◌⊎◌, true, false, List, length}
+use Rattle.std.specs.Prelude.{ℕ, ⊤, ◌≡◌, ◌≢◌, ◌≤◌, ◌⊎◌, true, false, List, length}
 use Rattle.std.specs.Ordering.{nat_cmp}
 use Rattle.std.specs.FinMap.{FinMap}
+use Rattle.std.specs.FinSet as set
+use Rattle.std.specs.FinSet.{FinSet}
 use Rattle.base.specs.declared.error.PoolError.{PoolError}
 use Rattle.base.specs.declared.error.PoolError.TheVariants.{NoMemory, Read, Write, Flush, NoPool, Damaged, BadGeometry, BadRange, NoSpace, TooMany}
-use Rattle.base.specs.declared.pointer.Pointer.{Pointer}
 use Rattle.base.specs.formats.Geometry.{IsBlockAddress, IsGeometry, block_count}
 use Rattle.base.specs.formats.Chain.{LogPiece}
-use Rattle.base.specs.formats.Uberblocks.{Uberblock}
+use Rattle.base.specs.formats.Uberblocks.{IsActive, Uberblock}
 use Rattle.base.specs.tree.Tree.{IsTree}
-use Rattle.base.specs.crash.Mount.{HasNoPool, HasPool, IsChainDamaged, IsChainOf, IsTreeDamaged, IsUsed, frame_of}
+use Rattle.base.specs.crash.Mount.{HasNoPool, HasPool, IsChainDamaged, IsChainOf, IsTreeDamaged, IsUsed, frame_of, records_above}
 use Rattle.base.specs.crash.Imports.{is_dirty_max_allowed, is_past_last}
 use Rattle.base.specs.crash.CrashRule.{IsOwnOnceFlushed}
+use Rattle.base.specs.crash.LogRoom.{records_estimate}
 use Rattle.base.specs.disk.Disk.{Disk}
 use Rattle.base.specs.history.Contents.{Contents}
+use Rattle.log_replay.specs.Replays.{IsNameKept}
 
 -- an import of a device of so many bytes with this limit may begin
 abbrev pub CanImport : ℕ → ℕ → Type 0
@@ -40,7 +43,7 @@ IsInspectionRefusal size e = IsGeometry size × IsWalkRefusal e
 abbrev pub IsSyncRefusal : PoolError → Type 0
 IsSyncRefusal e = (e ≡ Write) ⊎ (e ≡ Flush)
 
--- and before that there may be no memory, or no free block for the log
+-- and before that there may be no memory, or no room
 abbrev pub IsOpenRefusal : PoolError → Type 0
 IsOpenRefusal e = (e ≡ NoMemory) ⊎ ((e ≡ NoSpace) ⊎ IsSyncRefusal e)
 
@@ -73,10 +76,6 @@ IsImportRefusal size dirty_max BadGeometry = IsGeometry size → ⊥
 IsImportRefusal size dirty_max BadRange = IsGeometry size × (is_dirty_max_allowed dirty_max ≡ false)
 IsImportRefusal size dirty_max e = CanImport size dirty_max × IsMountRefusal e
 
--- each block of the image's area is in the tree under this root or in this chain
-abbrev pub HasAllBlocks : List ℕ → Pointer → List LogPiece → Type 0
-HasAllBlocks image root chain = (address : ℕ) → IsBlockAddress (block_count (length image)) address → IsUsed image root chain address
-
 -- the image has a pool with this active uberblock and name, and its tree has no damage
 pub record HasSoundPool (image : List ℕ) (u : Uberblock) (name : List ℕ) : Type 0 where
   pub pool : HasPool image u name
@@ -87,30 +86,45 @@ pub record HasSoundPool (image : List ℕ) (u : Uberblock) (name : List ℕ) : T
 abbrev pub HasLastNumbers : List ℕ → Type 0
 HasLastNumbers image = (u : Uberblock) × (name : List ℕ) × HasSoundPool image u name × (is_past_last u.group u.import_number ≡ true)
 
--- the tree is sound and the numbers fit, but each block is in the tree or in the chain
-pub record HasNoFreeBlock (image : List ℕ) : Type 0 where
+-- The tree is sound and the numbers fit, but the blocks that neither the tree nor the chain has are no more than the
+-- chain's records above the group are estimated at. Where it has none, each block is in the tree or in the chain.
+pub record HasNoRoom (image : List ℕ) : Type 0 where
   pub u : Uberblock
   pub name : List ℕ
   pub sound : HasSoundPool image u name
   pub chain : List LogPiece
   pub chain_is : IsChainOf image u chain
   pub within : is_past_last u.group u.import_number ≡ false
-  pub all : HasAllBlocks image u.root chain
+  pub spare : FinSet nat_cmp
+  pub all : (address : ℕ) → IsBlockAddress (block_count (length image)) address → (IsUsed image u.root chain address → ⊥) → set.contains spare address ≡ true
+  pub few : set.len spare ≤ records_estimate (records_above u.group chain)
 
--- the tree of the image's pool has this first damage, or a record of its chain, of the block at this address, can't
--- take place after those before it
-abbrev pub IsDamaged : List ℕ → ℕ → ℕ → Type 0
-IsDamaged image kind address = IsTreeDamaged image kind address ⊎ ((kind ≡ 6) × IsChainDamaged image address)
+-- no record of the active pool's chain that an import applies names the pool
+abbrev pub IsNameKeptIn : List ℕ → Type 0
+IsNameKeptIn image = (u : Uberblock) (chain : List LogPiece) → IsActive image u → IsChainOf image u chain → IsNameKept u.group chain
+
+-- the tree of the image's pool has this first damage, or a log block of its chain, at this address, is refused
+abbrev pub IsDamagedWith : (ℕ → Type 0) → List ℕ → ℕ → ℕ → Type 0
+IsDamagedWith IsBlockRefused image kind address = IsTreeDamaged image kind address ⊎ ((kind ≡ 6) × IsBlockRefused address)
 
 -- What a refusal says of the image, in the order in which they come: that there is no pool, that this is the first
--- damage of the active tree or of its chain, that the numbers would pass the last one, or that no block is free.
-pub record IsReason (image : List ℕ) (e : PoolError) : Type 0 where
+-- damage of the active tree or a log block of its chain that is refused, that the numbers would pass the last one, or
+-- that there is no room.
+pub record IsReasonWith (IsBlockRefused : ℕ → Type 0) (image : List ℕ) (e : PoolError) : Type 0 where
   pub no_pool : e ≡ NoPool → HasNoPool image
-  pub damaged : (kind address : ℕ) → e ≡ Damaged kind address → IsDamaged image kind address
+  pub damaged : (kind address : ℕ) → e ≡ Damaged kind address → IsDamagedWith IsBlockRefused image kind address
   pub too_many : e ≡ TooMany → HasLastNumbers image
-  pub no_space : e ≡ NoSpace → HasNoFreeBlock image
+  pub no_space : e ≡ NoSpace → HasNoRoom image
 
--- the refusal says neither that there is no pool, nor that a tree or a chain has a damage, nor that no block is free
+-- of an inspection: a record of a log block can't take place after those before it
+abbrev pub IsInspectionReason : List ℕ → PoolError → Type 0
+IsInspectionReason image e = IsReasonWith (λ address. IsChainDamaged image address) image e
+
+-- of an import: the same, where no record names the pool; a record that does is refused too
+abbrev pub IsReason : List ℕ → PoolError → Type 0
+IsReason image e = IsReasonWith (λ address. IsNameKeptIn image → IsChainDamaged image address) image e
+
+-- the refusal says neither that there is no pool, nor that a tree or a chain has a damage, nor that there is no room
 pub record IsOfSoundPool (e : PoolError) : Type 0 where
   pub not_missing : e ≢ NoPool
   pub not_full : e ≢ NoSpace

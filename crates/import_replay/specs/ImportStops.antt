@@ -1,19 +1,21 @@
 -- What an import that is refused leaves on the disk.
-use Rattle.std.specs.Prelude.{ℕ, ◌≡◌, ◌+◌, ◌⊎◌, Bool, false, List, []}
+use Rattle.std.specs.Prelude.{ℕ, ◌≡◌, ◌+◌, ◌⊎◌, Bool, false, List}
 use Rattle.base.specs.declared.error.PoolError.{PoolError}
 use Rattle.base.specs.declared.error.PoolError.TheVariants.{Flush}
 use Rattle.base.specs.declared.pointer.Pointer.{Pointer}
 use Rattle.base.specs.disk.Disk.{Disk, bytes_of, certain, disk_size}
-use Rattle.base.specs.crash.Imports.{IsFirstLogBlock, is_past_last}
-use Rattle.base.specs.crash.Mount.{IsChainOf}
+use Rattle.base.specs.crash.Imports.{is_past_last}
+use Rattle.base.specs.crash.Mount.{Mounts}
 use Rattle.base.specs.formats.Chain.{LogPiece}
 use Rattle.base.specs.formats.Labels.{Config}
 use Rattle.base.specs.formats.Versions.{written_version}
 use Rattle.base.specs.formats.Uberblocks.{Uberblock}
+use Rattle.object_maps.specs.ContentsShown.{contents_of}
 use Rattle.tree_plans.specs.declared.planner.PlannedBlock.{PlannedBlock}
 use Rattle.import_replay.specs.Found.{HasFirstStage}
 use Rattle.import_replay.specs.ImportRefusals.{HasSoundPool}
 use Rattle.import_replay.specs.LabelSyncs.{ImportWrites, IsStoppedSync}
+use Rattle.import_replay.specs.NextPools.{AreMadeOver, ArePartsFor, PoolParts}
 use Rattle.import_replay.specs.declared.next_pool.NextPool.{NextPool}
 
 -- the config that an import of this active uberblock and name writes, on a device of so many bytes
@@ -33,8 +35,8 @@ next_writes size u name root moment log_address blocks = record { size = size; c
 abbrev pub writes_of_next : (size : ℕ) → Uberblock → (moment : ℕ) → NextPool → ImportWrites
 writes_of_next size u moment next = next_writes size u next.contents.name next.tree.root moment next.log_address next.blocks.items
 
--- The sync of an import stopped, after its first flush. The image has a pool, a sound tree, numbers that fit and a free
--- block. What the calls write is of these, with these blocks and the root that they make.
+-- The sync of an import stopped, after its first flush. The image has a pool, a sound tree, numbers that fit and room.
+-- What the calls write is of these, with blocks that make the tree of what the image mounts, and a first log block.
 pub record IsStoppedInLabels (old new : Disk) (moment : ℕ) (e : PoolError) : Type 0 where
   pub u : Uberblock
   pub name : List ℕ
@@ -43,15 +45,12 @@ pub record IsStoppedInLabels (old new : Disk) (moment : ℕ) (e : PoolError) : T
   pub even_first : Bool
   pub first : HasFirstStage (bytes_of old.now) u.guid u.group name even_first
   pub chain : List LogPiece
-  pub chain_is : IsChainOf (bytes_of old.now) u chain
-  pub log_address : ℕ
-  pub log_block : IsFirstLogBlock (bytes_of old.now) u chain (bytes_of old.now) u.root log_address
   pub blocks : List PlannedBlock
-  pub root : Pointer
-  -- nothing is replayed at this stage: no block is written, and the root is that of before
-  pub none : blocks ≡ []
-  pub root_is : root ≡ u.root
-  pub stopped : IsStoppedSync (next_writes (disk_size old) u name root moment log_address blocks) even_first e (certain (bytes_of old.now) old) new
+  pub parts : PoolParts
+  pub are : ArePartsFor (disk_size old) name parts
+  pub made : AreMadeOver (bytes_of old.now) u chain (disk_size old) blocks parts
+  pub mounts : Mounts (bytes_of old.now) u chain (contents_of parts.contents)
+  pub stopped : IsStoppedSync (next_writes (disk_size old) u name parts.tree.root moment parts.log_address blocks) even_first e (certain (bytes_of old.now) old) new
 
 -- the device refused a write or a flush of an import: its first flush, which left the disk as it was, or a call of its
 -- sync

@@ -1,6 +1,9 @@
 -- What an import writes to the device, in which order, and what it leaves in the labels.
-use Rattle.std.specs.Prelude.{ℕ, ◌≡◌, ◌+◌, Bool, List, [], length}
+use Rattle.std.specs.Prelude.{ℕ, ◌≡◌, ◌≤◌, ◌+◌, All, Bool, List, [], length}
+use Rattle.base.specs.crash.LogRoom.{records_estimate}
+use Rattle.base.specs.crash.Mount.{IsChainOf, records_above}
 use Rattle.base.specs.disk.Disk.{Disk, bytes_of, certain}
+use Rattle.base.specs.formats.Chain.{LogPiece}
 use Rattle.base.specs.formats.Labels.{Config}
 use Rattle.base.specs.disk.SyncOrder.{import_calls}
 use Rattle.base.specs.formats.Uberblocks.{Uberblock, IsActive}
@@ -9,6 +12,7 @@ use Rattle.tree_plans.specs.declared.planner.PlannedBlock.{PlannedBlock}
 use Rattle.import_replay.specs.Found.{HasFirstStage}
 use Rattle.import_replay.specs.Labelled.{HoldLabels}
 use Rattle.import_replay.specs.LabelSyncs.{ImportWrites, after_calls}
+use Rattle.import_replay.specs.NextPools.{IsUnusedBlock}
 use Rattle.import_replay.specs.declared.mounted.Mounted.{Mounted}
 
 -- the config that an import writes
@@ -34,7 +38,8 @@ writes_of_import moment blocks m = record { size = m.geometry; config = config_o
 
 -- The disk after an import is what its calls make of the disk before, each answered Ok: a flush, and then just those of
 -- a sync of these blocks. What was mounted, and is written, is of the active uberblock, with the chosen name, four
--- groups and an import later. The even labels come first exactly if an odd one has the chosen config.
+-- groups and an import later. The even labels come first exactly if an odd one has the chosen config. The blocks are
+-- none of the tree or the chain, and no more than the chain's records above the group are estimated at.
 pub record IsImportSynced (old new : Disk) (moment : ℕ) (m : Mounted) : Type 0 where
   pub u : Uberblock
   pub active : IsActive (bytes_of old.now) u
@@ -43,10 +48,11 @@ pub record IsImportSynced (old new : Disk) (moment : ℕ) (m : Mounted) : Type 0
   pub import_number : m.import_number ≡ u.import_number + 1
   pub even_first : Bool
   pub first : HasFirstStage (bytes_of old.now) u.guid u.group m.contents.name even_first
+  pub chain : List LogPiece
+  pub chain_is : IsChainOf (bytes_of old.now) u chain
   pub blocks : List PlannedBlock
-  -- nothing is replayed at this stage: no block is written, and the root is that of before
-  pub none : blocks ≡ []
-  pub root : m.tree.root ≡ u.root
+  pub unused : All (IsUnusedBlock (bytes_of old.now) u chain) blocks
+  pub few : length blocks ≤ records_estimate (records_above u.group chain)
   pub synced : new ≡ after_calls (writes_of_import moment blocks m) (import_calls (length blocks) even_first) (certain (bytes_of old.now) old)
 
 -- the labels hold what was mounted

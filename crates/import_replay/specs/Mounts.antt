@@ -3,16 +3,17 @@ use Rattle.std.specs.Prelude.{ℕ, ◌≡◌, ◌+◌, ◌<◌, ◌≤◌, ◌^�
 use Rattle.std.specs.FinMap as finite
 use Rattle.base.specs.formats.Versions.{written_version}
 use Rattle.base.specs.formats.Blocks.{Frame}
-use Rattle.base.specs.formats.Geometry.{IsBlockAddress, block_count}
+use Rattle.base.specs.formats.Chain.{LogPiece}
+use Rattle.base.specs.formats.Fields.{number_at, part}
+use Rattle.base.specs.formats.Geometry.{IsBlockAddress, block_count, block_size}
 use Rattle.base.specs.steps.Exact.{AreFree, IsBounded}
 use Rattle.base.specs.steps.ExactNow.{IsExplainedNow}
 use Rattle.base.specs.crash.Imports.{IsImportOf, is_past_last}
-use Rattle.base.specs.crash.Mount.{IsChainOf}
+use Rattle.base.specs.crash.Mount.{IsChainOf, IsUsed}
 use Rattle.base.specs.history.Past.{new_past}
 use Rattle.base.specs.tree.PlacedTrees.{HoldsTree}
 use Rattle.base.specs.tree.Places.{IsInTree}
 use Rattle.base.specs.steps.Shown.{Shown}
-use Rattle.base.specs.stored.Stored.{SameBlocks}
 use Rattle.base.specs.formats.Uberblocks.{Uberblock, IsActive}
 use Rattle.object_maps.specs.ContentsShown.{contents_of}
 use Rattle.object_maps.specs.Lengths.{lengths_of}
@@ -53,7 +54,7 @@ frame_of_import m = record { version = written_version; guid = m.guid; blocks = 
 
 -- the parts of what was mounted
 abbrev pub parts_mounted : Mounted → PoolParts
-parts_mounted m = record { tree = m.tree; contents = m.contents; free = m.free.free; log_address = m.log_address }
+parts_mounted m = record { tree = m.tree; contents = m.contents; free = m.free.free; log_address = m.log_address; records = m.records }
 
 -- what was mounted on a device of so many bytes has these parts, of this active uberblock
 pub record IsMountedFrom (size : ℕ) (u : Uberblock) (p : PoolParts) (dirty_max : ℕ) (m : Mounted) : Type 0 where
@@ -77,12 +78,24 @@ pub record StandsOn (now : List ℕ) (m : Mounted) : Type 0 where
 abbrev pub IsExplainedAnew : Mounted → Type 0
 IsExplainedAnew m = (created : ℕ) → IsExplainedNow (shown_of_import m) (new_past (contents_of m.contents) created m.dirty_max)
 
--- an import of an image that leaves these bytes: for the active uberblock, where it has no chain, the pool that the
--- import gives; and that it stands on the device; each block is the image's
+-- each block of the active tree and of its chain is as in the image
+abbrev pub KeepsUsedBlocks : List ℕ → List ℕ → Type 0
+KeepsUsedBlocks image now = (u : Uberblock) (chain : List LogPiece) → IsActive image u → IsChainOf image u chain → (address : ℕ) → IsUsed image u.root chain address
+    → part now address block_size ≡ part image address block_size
+
+-- each log block of the area stood in the image
+abbrev pub WritesNoLogBlock : List ℕ → List ℕ → Type 0
+WritesNoLogBlock image now = (address : ℕ) → IsBlockAddress (block_count (length image)) address → number_at (part now address block_size) 0 ≡ 6
+    → part now address block_size ≡ part image address block_size
+
+-- An import of an image that leaves these bytes: the pool that it gives is the one that the image mounts, with so many
+-- records replayed, and it stands on the device. No block that the image's pool has was written, and no log block.
 pub record IsImport (image now : List ℕ) (dirty_max : ℕ) (m : Mounted) : Type 0 where
-  pub imported : (u : Uberblock) → IsActive image u → IsChainOf image u [] → IsImportOf image now dirty_max 0 (shown_of_import m)
+  pub imported : IsImportOf image now dirty_max m.records (shown_of_import m)
   pub stands : StandsOn now m
-  pub blocks : SameBlocks (block_count (length image)) image now
+  pub size : length now ≡ length image
+  pub kept : KeepsUsedBlocks image now
+  pub no_log : WritesNoLogBlock image now
 
 -- An import gives this on each device: a pool of this size and limit, both allowed, whose contents are within limits,
 -- and which a past in which nothing happened explains, whenever it was created.

@@ -1,19 +1,31 @@
 -- The pool that an import is about to sync and mount: what it owes to the image that was read.
-use Rattle.std.specs.Prelude.{ℕ, ◌≡◌, ◌≢◌, ◌+◌, ◌<◌, ◌⊎◌, true, false, All, List, [], IfSome}
+use Rattle.std.specs.Prelude.{ℕ, ◌≡◌, ◌≢◌, ◌+◌, ◌<◌, ◌≤◌, ◌⊎◌, All, List, length, IfSome}
 use Rattle.std.specs.Ordering.{nat_cmp}
 use Rattle.std.specs.FinMap as finite
-use Rattle.std.specs.FinSet as set
+use Rattle.std.specs.FinMap.{FinMap}
 use Rattle.std.specs.FinSet.{FinSet}
-use Rattle.base.specs.crash.Mount.{IsUsed}
+use Rattle.base.specs.common.Rising.{rising}
+use Rattle.base.specs.crash.LogRoom.{records_estimate}
+use Rattle.base.specs.crash.Mount.{IsUsed, records_above}
+use Rattle.base.specs.declared.error.PoolError.{PoolError}
+use Rattle.base.specs.declared.error.PoolError.TheVariants.{NoSpace}
 use Rattle.base.specs.formats.Blocks.{Frame}
 use Rattle.base.specs.formats.Chain.{LogPiece}
 use Rattle.base.specs.formats.Fields.{number_at}
 use Rattle.base.specs.formats.Geometry.{IsBlockAddress, block_address, block_count}
+use Rattle.base.specs.formats.Limits.{object_count}
 use Rattle.base.specs.formats.Uberblocks.{Uberblock}
 use Rattle.base.specs.formats.Versions.{written_version}
+use Rattle.base.specs.history.Contents as history
 use Rattle.base.specs.tree.PlacedTrees.{ArePlaced}
+use Rattle.base.specs.tree.Places.{IsPlace, Place}
+use Rattle.extents.specs.Synced.{patched_contents}
+use Rattle.extents.specs.Tables.{patches_of}
+use Rattle.group_plans.specs.GroupPlans.{FitsIn, IsShortOfBlocks, MakesGroupTree, TakesLowest, objects_with, plan_pointers}
+use Rattle.group_plans.specs.Pointers.{lengths_after}
+use Rattle.log_replay.specs.Replays.{IsReplay}
 use Rattle.object_maps.specs.ContentsShown.{contents_of}
-use Rattle.object_maps.specs.Lengths.{HasLengthsOf}
+use Rattle.object_maps.specs.Lengths.{HasLengthsOf, lengths_of}
 use Rattle.object_maps.specs.Loading.{IsLimitedObject}
 use Rattle.object_maps.specs.Pointers.{objects_of, pointers_of}
 use Rattle.object_maps.specs.declared.contents.Contents as declared
@@ -21,10 +33,12 @@ use Rattle.object_maps.specs.declared.contents.Slot.{Slot}
 use Rattle.object_maps.specs.declared.tree.Tree.{Tree}
 use Rattle.space.specs.FreeSets.{IsIdle}
 use Rattle.tree_plans.specs.declared.planner.PlannedBlock.{PlannedBlock}
-use Rattle.import_replay.specs.FreeBlocks.{HasTakenLowest, IsNamed}
+use Rattle.tree_plans.specs.declared.planner.TreePlan.{TreePlan}
+use Rattle.import_replay.specs.FreeBlocks.{AreAllOthers, AreAllPlanned, AreUnused, IsLowestLeft, IsNamed, chain_addresses}
 use Rattle.import_replay.specs.ImportViews.{IsTreeMade, ViewTree}
 use Rattle.import_replay.specs.LabelSyncs.{AreApartIn}
 use Rattle.import_replay.specs.declared.next_pool.NextPool.{NextPool}
+use Rattle.import_replay.specs.declared.next_pool.ReplayedPool.{ReplayedPool}
 
 -- the parts of a pool that an import syncs and mounts
 pub record PoolParts : Type 0 where
@@ -32,9 +46,10 @@ pub record PoolParts : Type 0 where
   pub contents : declared.Contents
   pub free : FinSet nat_cmp
   pub log_address : ℕ
+  pub records : ℕ
 
 abbrev pub parts_of : NextPool → PoolParts
-parts_of next = record { tree = next.tree; contents = next.contents; free = next.free.free; log_address = next.log_address }
+parts_of next = record { tree = next.tree; contents = next.contents; free = next.free.free; log_address = next.log_address; records = next.records }
 
 -- its tree as that of a view
 abbrev pub tree_of : PoolParts → ViewTree
@@ -45,17 +60,13 @@ abbrev pub next_frame : Uberblock → ℕ → Frame
 next_frame u size = record { version = written_version; guid = u.guid; blocks = block_count size; group = u.group + 4 }
 
 -- On a device of so many bytes the pool has this name, contents within the limits, and a tree of blocks of the area
--- that has their lengths. The first log block is one that the tree does not name, and the free ones are all others.
+-- that has their lengths. The first log block lies in the area, and the free blocks are all others.
 pub record ArePartsFor (size : ℕ) (name : List ℕ) (p : PoolParts) : Type 0 where
   pub name_is : p.contents.name ≡ name
   pub bounded : (n : ℕ) → IfSome (finite.get (objects_of p.contents.slots.items) n) (IsLimitedObject n)
   pub lengths : HasLengthsOf p.tree (objects_of p.contents.slots.items)
   pub log_block : IsBlockAddress (block_count size) p.log_address
-  pub log_unnamed : IsNamed (pointers_of p.tree) p.log_address → ⊥
-  pub in_area : (address : ℕ) → set.contains p.free address ≡ true → IsBlockAddress (block_count size) address
-  pub unnamed : (address : ℕ) → set.contains p.free address ≡ true → IsNamed (pointers_of p.tree) address → ⊥
-  pub not_taken : (address : ℕ) → set.contains p.free address ≡ true → address ≢ p.log_address
-  pub others : (address : ℕ) → set.contains p.free address ≡ false → IsBlockAddress (block_count size) address → IsNamed (pointers_of p.tree) address ⊎ (address ≡ p.log_address)
+  pub free : AreAllOthers (pointers_of p.tree) (block_count size) p.log_address p.free
 
 -- a block of a tree, at an address that neither the image's tree nor this chain has
 pub record IsUnusedBlock (image : List ℕ) (u : Uberblock) (chain : List LogPiece) (b : PlannedBlock) : Type 0 where
@@ -64,29 +75,77 @@ pub record IsUnusedBlock (image : List ℕ) (u : Uberblock) (chain : List LogPie
   pub unused : IsUsed image u.root chain (block_address b.index) → ⊥
 
 -- Over an image of so many bytes with this active uberblock and chain: the blocks take no block of these and make the
--- pool's tree. The first log block is the lowest that neither of these nor that tree has.
+-- pool's tree, and are no more than the chain's records above the group are estimated at. So many records were replayed.
+-- The first log block is the lowest that neither of these nor that tree has.
 pub record AreMadeOver (image : List ℕ) (u : Uberblock) (chain : List LogPiece) (size : ℕ) (blocks : List PlannedBlock) (p : PoolParts) : Type 0 where
   pub tree : IsTreeMade image size blocks (next_frame u size) (tree_of p)
   pub unused : All (IsUnusedBlock image u chain) blocks
+  pub few : length blocks ≤ records_estimate (records_above u.group chain)
+  pub records : p.records ≡ length (records_above u.group chain)
   pub log_unused : IsUsed image u.root chain p.log_address → ⊥
+  pub log_unnamed : IsNamed (pointers_of p.tree) p.log_address → ⊥
   pub lowest : (other : ℕ) → other < p.log_address → IsBlockAddress (block_count size) other → IsUsed image u.root chain other ⊎ IsNamed (pointers_of p.tree) other
 
--- the pool is the one that was loaded, with this name, these slots, this tree and a chain of these addresses, and no
--- block is to be written
-pub record KeepsLoaded (size : ℕ) (name : List ℕ) (slots : List Slot) (tree : Tree) (logged : List ℕ) (next : NextPool) : Type 0 where
-  pub none : next.blocks.items ≡ []
-  pub name_is : next.contents.name ≡ name
-  pub slots_are : next.contents.slots.items ≡ slots
-  pub tree_is : next.tree ≡ tree
-  pub log : HasTakenLowest (pointers_of next.tree) logged (block_count size) next.log_address next.free.free
+-- the contents of this name and these slots
+abbrev pub synced_with : List ℕ → List Slot → history.Contents
+synced_with name slots = record { name = name; objects = objects_of slots }
+
+-- The pool that was loaded, with this name, this tree, these slots and this chain: the records of the chain above the
+-- group were replayed on its contents, and the spare blocks are those that neither the tree nor the chain has.
+pub record IsReplayedPool (size group : ℕ) (name : List ℕ) (tree : Tree) (slots : List Slot) (chain : List LogPiece) (pool : ReplayedPool) : Type 0 where
+  pub tree_is : pool.tree ≡ tree
+  pub name_is : pool.synced.name ≡ name
+  pub slots_are : pool.synced.slots.items ≡ slots
+  pub spare : AreUnused (pointers_of pool.tree) (chain_addresses chain) (block_count size) pool.spare.free
+  pub sized : pool.spare.blocks ≡ block_count size
+  pub replayed : IsReplay group (contents_of pool.synced) chain pool.replayed
+
+-- the objects that the records leave
+abbrev pub objects_replayed : ReplayedPool → FinMap nat_cmp (List ℕ)
+objects_replayed pool = objects_with pool.replayed.extents pool.synced
+
+-- a plan makes of its tree that of these objects, as the tree of an import's group
+abbrev pub MakesNextTree : ℕ → Uberblock → ReplayedPool → TreePlan → Type 0
+MakesNextTree size u pool plan = MakesGroupTree (next_frame u size) pool.tree pool.replayed.records.items (objects_replayed pool) plan
+
+-- the spare blocks are too few for that tree
+abbrev pub IsShortPlan : Uberblock → ReplayedPool → Type 0
+IsShortPlan u pool = IsShortOfBlocks (u.group + 4) pool.replayed.records.items pool.tree.maps.items (pointers_of pool.tree) (objects_replayed pool) (rising pool.spare.free)
+
+abbrev pub TellsShortPlan : Uberblock → ReplayedPool → PoolError → Type 0
+TellsShortPlan u pool e = e ≡ NoSpace → IsShortPlan u pool
+
+-- or its plan takes all of them, and leaves none for the log
+abbrev pub TakesAll : ℕ → Uberblock → ReplayedPool → Type 0
+TakesAll size u pool = (plan : TreePlan) × MakesNextTree size u pool plan × AreAllPlanned pool.spare plan.blocks.items
+
+abbrev pub LacksBlocks : ℕ → Uberblock → ReplayedPool → Type 0
+LacksBlocks size u pool = IsShortPlan u pool ⊎ TakesAll size u pool
+
+-- The pool has the tree of a plan, which takes the lowest spare blocks, and the contents that the records leave. The
+-- first log block is the lowest spare one that the plan leaves, and the free blocks are those of neither.
+pub record IsPlannedFrom (size : ℕ) (u : Uberblock) (pool : ReplayedPool) (next : NextPool) : Type 0 where
+  pub plan : TreePlan
+  pub fits : FitsIn size plan
+  pub taken : TakesLowest pool.spare.free plan
+  pub made : MakesNextTree size u pool plan
+  pub blocks_are : next.blocks.items ≡ plan.blocks.items
+  pub pointers : (place : Place) → IsPlace place → pointers_of next.tree place ≡ plan_pointers pool.tree plan place
+  pub lengths : (n : ℕ) → n < object_count → lengths_of next.tree n ≡ lengths_after plan.maps pool.tree n
+  pub contents_are : contents_of next.contents ≡ patched_contents (patches_of pool.replayed.extents) (contents_of pool.synced)
+  pub log_block : ℕ
+  pub log_is : next.log_address ≡ block_address log_block
+  pub lowest : IsLowestLeft pool.spare plan.blocks.items log_block
+  pub free : AreAllOthers (pointers_of next.tree) (block_count size) next.log_address next.free.free
   pub sized : next.free.blocks ≡ block_count size
   pub idle : IsIdle next.free
+  pub records_are : next.records ≡ length pool.replayed.records.items
 
 -- the pool may be synced on a device of so many bytes: its blocks, its tree and its first log block lie in the area,
 -- and no block is reserved or taken
 pub record IsReadyFor (size : ℕ) (next : NextPool) : Type 0 where
   pub apart : AreApartIn size next.blocks.items
-  pub placed : ArePlaced (block_count size) (pointers_of next.tree)
+  pub placed : ∥ ArePlaced (block_count size) (pointers_of next.tree) ∥₁
   pub log_placed : IsBlockAddress (block_count size) next.log_address
   pub sized : next.free.blocks ≡ block_count size
   pub idle : IsIdle next.free

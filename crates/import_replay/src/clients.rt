@@ -10,6 +10,7 @@ ghost use Rattle.base.specs.crash.Mount.{IsChainDamaged, Mounts, records_above};
 ghost use Rattle.base.specs.formats.Chain.{LogPiece};
 ghost use Rattle.base.specs.history.Contents.{Contents};
 ghost use Rattle.base.specs.tree.Places.{IsInTree};
+ghost use Rattle.object_maps.specs.ContentsShown.{contents_of};
 ghost use Rattle.object_maps.specs.Surveys.{listed};
 
 use crate::creation::create;
@@ -83,14 +84,30 @@ fn a_limit_below_a_block_leaves_the_device<D: SectorDevice>(
     import(alloc, device, 4_095, 0)
 }
 
-// If an import synced group 9, `group` returns 9. `records` returns 0.
+// If an import synced group 9 and replayed 3 records, `group` returns 9 and `records` returns 3.
 fn an_import_has_its_group<D: SectorDevice>(imported: &Imported<D>) -> Group
-    requires { imported.now.mounted.group.0 ≡ 9 }
+    requires group { imported.now.mounted.group.0 ≡ 9 }
+    requires replayed { imported.now.mounted.records ≡ 3 }
     ensures { result.0 ≡ 9 }
 {
     let records = imported.records();
-    prove!(records == 0);
+    prove!(records == 3);
     imported.group()
+}
+
+// An import replays each record of the chain that is above the active group. What it gives has the contents that the
+// image mounts, these records applied.
+fn the_records_of_a_chain_are_replayed<D: SectorDevice>(
+    alloc: Global,
+    device: D,
+) -> Result<Imported<D>, (PoolError, D)>
+    ensures { IsTrue D.keeps_model → IfOk result (λ i. (u : image.Uberblock)
+        → (chain : List LogPiece) → (contents : Contents)
+        → Mounts (bytes_of (D.disk device).now) u chain contents
+        → (contents_of i.mounted.contents ≡ contents)
+        × (i.mounted.records ≡ length (records_above u.group chain))) }
+{
+    import(alloc, device, 1_048_576, 0)
 }
 
 // A create returns the kind of call that the device refused: a refused flush counts as one, and no write was refused.

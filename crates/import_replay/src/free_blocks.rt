@@ -1,11 +1,11 @@
-//! The free blocks of a tree and a chain that were read.
+//! The free blocks of a tree and a chain that were read, and the lowest one that a plan leaves.
 
 ghost use Rattle.std.specs.Prelude.{◌≡◌, IfErr, IfOk};
 ghost use Rattle.std.specs.List.{list_any};
 ghost use Rattle.base.specs.formats.Geometry.{block_count};
 ghost use Rattle.object_maps.specs.Pointers.{pointers_of};
 ghost use Rattle.space.specs.FreeSets.{IsIdle};
-ghost use Rattle.import_replay.specs.FreeBlocks.{AreUnused, BlocksTaken, chain_addresses, is_block_at, logs_block, map_names, names_block};
+ghost use Rattle.import_replay.specs.FreeBlocks.{AreAllPlanned, AreUnused, BlocksTaken, IsLowestLeft, chain_addresses, is_block_at, is_planned, logs_block, map_names, names_block};
 
 use base::{Pointer, PoolError};
 use intent_log::LoggedBlock;
@@ -13,6 +13,7 @@ use labels::Geometry;
 use object_maps::{ObjectMap, RECORD_COUNT, Tree};
 use space::FreeSet;
 use std::alloc::Global;
+use tree_plans::PlannedBlock;
 
 // Each block is free that neither the tree nor the chain has.
 pub(crate) fn free_set(
@@ -83,5 +84,23 @@ fn take_block(free: &mut FreeSet, geometry: Geometry, address: u64)
 {
     if geometry.is_block_address(address) {
         free.take(geometry.block_index(address) as usize);
+    }
+}
+
+// The lowest free block that is none of these planned ones. It takes no memory.
+pub(crate) fn lowest_left(mut spare: FreeSet, planned: &[PlannedBlock]) -> Result<usize, PoolError>
+    ensures lowest { IfOk result (IsLowestLeft spare planned.now) }
+    ensures full { IfErr result (λ _. AreAllPlanned spare planned.now) }
+    ensures refused { IfErr result (λ e. e ≡ PoolError.NoSpace) }
+{
+    take_planned(&mut spare, planned);
+    spare.take_lowest()
+}
+
+fn take_planned(free: &mut FreeSet, planned: &[PlannedBlock])
+    ensures { BlocksTaken (λ k. is_planned k planned.now) free.old free.new }
+{
+    for block in planned {
+        free.take(block.index);
     }
 }

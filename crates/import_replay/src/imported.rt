@@ -32,10 +32,10 @@ impl<D: SectorDevice> Imported<D> {
         self.mounted.group
     }
 
-    /// Returns how many log records were replayed. No log is replayed yet, so none was.
+    /// Returns how many log records were replayed.
     pub fn records(&self) -> u64
-        ensures { result ≡ 0 }
+        ensures { result ≡ self.now.mounted.records }
     {
-        0
+        self.mounted.records
     }
 }

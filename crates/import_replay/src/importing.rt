@@ -8,18 +8,21 @@
 //!    read.
 //! 3. It reads the labels: the active uberblock, and the config that is chosen for it, which has the pool's name.
 //! 4. It reads the tree, each block checked against its pointer. The first block that fails is reported as `Damaged`.
-//!    Then it reads the log chain, which it doesn't replay yet.
-//! 5. It refuses u + 5 or i + 1 above 2^60. The lowest block that neither the tree nor the chain has becomes the first
-//!    log block. No memory is taken after that.
-//! 6. It syncs group u + 4 with import number i + 1, the same root and the new config, and no block (`sync_group`).
-//!    The run before may have written for the groups u + 1 to u + 3; the jump keeps the new group apart from them.
+//!    Then it reads the log chain and replays it: the records of groups above u are applied, in order (`zil_replay` of
+//!    `zil.c`). The block of the first record that can't take place is reported as `Damaged` with kind 6.
+//! 5. It refuses u + 5 or i + 1 above 2^60. The tree that the records leave is planned as that of group u + 4; its
+//!    blocks are none of the old tree or of the chain. The lowest block that none of these has becomes the first log
+//!    block. No memory is taken after that.
+//! 6. It syncs group u + 4 with import number i + 1, the planned blocks, the new root and the new config
+//!    (`sync_group`). Without a record to replay there is no block, and the root stays. The run before may have written
+//!    for the groups u + 1 to u + 3; the jump keeps the new group apart from them.
 //! 7. If label 1 or 3 holds the chosen config, labels 0 and 2 are written first, else labels 1 and 3. So a stage that
 //!    holds the chosen config is written last, when the new uberblock is settled (rules 2, 8 and 10 of
 //!    `sync/src/run.rt`).
 //!
-//! A crash before 6 leaves the flushed image. A crash in 6 leaves the old uberblock or the new one active. Both have
-//! the same tree and name, so the next import mounts the same contents. If the device refuses a call, the calls
-//! before it are made, and the import can be made again.
+//! A crash before 6 leaves the flushed image. A crash in 6 leaves the old uberblock or the new one active. The old one
+//! has its tree and its chain still, and the new one a tree of what these mount. So the next import mounts the same
+//! contents. If the device refuses a call, the calls before it are made, and the import can be made again.
 
 ghost use Rattle.std.specs.Prelude.{◌≡◌, ℕ, false, IfErr, IfOk, IsTrue, MatchResult, OnOk};
 ghost use Rattle.base.specs.crash.CrashRule.{KeepsOwn};
@@ -41,11 +44,10 @@ use crate::finding::{Found, copy_name};
 use crate::imported::Imported;
 use crate::label_sync::sync_group;
 use crate::mounted::Mounted;
-use crate::next_pool::{NextPool, keep_loaded};
+use crate::next_pool::{NextPool, plan_pool, replay_pool};
 use crate::reading::read_pool;
 use base::{GREATEST_DIRTY_MAX, Group, LAST_NUMBER, LEAST_DIRTY_MAX, PoolError, WRITTEN_VERSION};
 use device_model::SectorDevice;
-use intent_log::LoggedBlock;
 use labels::{Geometry, LabelConfig};
 use std::alloc::Global;
 use uberblocks::Uberblock;
@@ -53,9 +55,9 @@ use uberblocks::Uberblock;
 /// Imports the pool on a device. At most `dirty_max` bytes may be dirty then, and `moment`, in seconds, is stored in
 /// the uberblocks.
 ///
-/// It flushes the device and loads the tree of the active uberblock, of group u and import number i. Then it syncs
-/// group u + 4 with import number i + 1 and both label stages (On-Disk Specification, chapter 1). Group u + 5 is then
-/// open. All memory is taken before the first write.
+/// It flushes the device, loads the tree of the active uberblock, of group u and import number i, and replays the log
+/// records of groups above u. Then it syncs what they leave as group u + 4, with import number i + 1 and both label
+/// stages (On-Disk Specification, chapter 1). Group u + 5 is then open. All memory is taken before the first write.
 ///
 /// If the pool alone wrote the disk, a crash at any moment after the first good flush leaves the same contents,
 /// unless a torn block passes its check by chance (clause `own` with the law `steady_imports_mount` of `base`).
@@ -63,8 +65,10 @@ use uberblocks::Uberblock;
 /// # Errors
 /// In this order:
 /// - `BadGeometry`, and `BadRange` if the limit is not 4,096 to 2^40 bytes. The device is as it was.
-/// - `NoPool`; `Damaged` with the first damage of the tree; `TooMany` if u + 5 or i + 1 would pass 2^60; `NoSpace` if
-///   no block is free for the log. `NoMemory` and `Read` when they happen. The device is flushed and else as it was.
+/// - `NoPool`; `Damaged` with the first damage of the tree, or with kind 6 and the address of the block of the first
+///   log record that can't take place; `TooMany` if u + 5 or i + 1 would pass 2^60; `NoSpace` if the blocks of the
+///   records and the first log block find no room. `NoMemory` and `Read` when they happen. The device is flushed and
+///   else as it was. A record that names the pool isn't built: it is refused as one that can't take place.
 /// - `Write` and `Flush`, if the device refused such a call. The calls before it are made.
 pub fn import<D: SectorDevice>(
     alloc: Global,
@@ -72,7 +76,8 @@ pub fn import<D: SectorDevice>(
     dirty_max: u64,
     moment: u64,
 ) -> Result<Imported<D>, (PoolError, D)>
-    // If the active uberblock has no log chain, it is the pool of that. The device holds its tree; all blocks stay.
+    // It is the pool that the image mounts, with the records of its chain replayed. The device holds its tree, and the
+    // blocks of the old tree and of the chain stay.
     ensures imported { IsTrue D.keeps_model
         → IfOk result (λ i. IsImport (bytes_of (D.disk device).now) (bytes_of (D.disk i.device).now)
         dirty_max i.mounted) }
@@ -153,10 +158,11 @@ fn mount_pool<D: SectorDevice>(
 {
     device.flush()?;
     let (found, loaded, logged) = read_pool(alloc, device, geometry)?;
+    let replayed = replay_pool(alloc, geometry, &found, loaded, logged)?;
     if is_past_last(&found.uberblock) {
         return Err(PoolError::TooMany);
     }
-    let next = keep_loaded(alloc, geometry, &found.name, loaded, logged.as_slice())?;
+    let next = plan_pool(alloc, geometry, &found.uberblock, replayed)?;
     open_pool(alloc, device, geometry, &found, next, dirty_max, moment)
 }
 
@@ -232,6 +238,7 @@ fn open_pool<D: SectorDevice>(
         tree: next.tree,
         free: next.free,
         log_address: next.log_address,
+        records: next.records,
         dirty_max,
     })
 }

@@ -34,6 +34,8 @@ pub struct Mounted {
     pub free: FreeSet,
     /// The address of the first log block, in bytes.
     pub log_address: u64,
+    /// How many records of the log chain were replayed.
+    pub records: u64,
     /// How many bytes may be dirty.
     pub dirty_max: u64,
     ghost sized: { IsGeometry geometry },

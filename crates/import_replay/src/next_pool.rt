@@ -1,20 +1,53 @@
-//! What an import makes of the pool that it read, before it writes.
+//! What an import makes of the pool that it read, before it writes: the records of the chain are replayed, and the tree
+//! that they leave is planned. All memory of the import is taken here.
+//!
+//! The blocks of the old tree and of the chain stay as they are until the sync is done, so that a crash finds one pool
+//! or the other: the new blocks and the first log block are none of them. After the sync the free blocks are all but
+//! those of the new tree and the first log block.
 
-ghost use Rattle.std.specs.Prelude.{◌≡◌, ◌⊎◌, IfErr, IfOk};
+ghost use Rattle.std.specs.Prelude.{◌≡◌, ◌<◌, ◌⊎◌, ℕ, false, IfErr, IfOk, OnOk};
+ghost use Rattle.base.specs.crash.Imports as numbers;
+ghost use Rattle.base.specs.crash.Mount.{records_above};
 ghost use Rattle.base.specs.formats.Geometry.{block_count};
+ghost use Rattle.base.specs.formats.Limits.{object_count};
+ghost use Rattle.base.specs.tree.PlacedTrees.{ArePlaced};
+ghost use Rattle.base.specs.tree.Places.{IsPlace, Place};
+ghost use Rattle.extents.specs.Synced.{patched_contents};
+ghost use Rattle.extents.specs.Tables.{patches_of};
+ghost use Rattle.group_plans.specs.GroupPlans.{FitsIn, TakesLowest, plan_pointers};
+ghost use Rattle.group_plans.specs.Pointers.{lengths_after};
+ghost use Rattle.log_replay.specs.Replays.{IsChainAllowed, IsNameKept, IsReplayCause, IsReplayRefusal};
+ghost use Rattle.object_maps.specs.ContentsShown.{contents_of};
+ghost use Rattle.object_maps.specs.Lengths.{lengths_of};
 ghost use Rattle.object_maps.specs.Pointers.{pointers_of};
-ghost use Rattle.import_replay.specs.FreeBlocks.{AreAllUsed, chain_addresses};
-ghost use Rattle.import_replay.specs.NextPools.{KeepsLoaded};
+ghost use Rattle.uberblocks.specs.Slots.{fields_of};
+ghost use Rattle.import_replay.specs.NextPools.{IsPlannedFrom, IsReplayedPool, LacksBlocks, MakesNextTree, TellsShortPlan, synced_with};
 
-use crate::finding::copy_name;
-use crate::free_blocks::free_set;
-use base::{PoolError, PoolName};
+use crate::finding::{Found, copy_name};
+use crate::free_blocks::{free_set, lowest_left};
+use base::{Group, PoolError};
+use group_plans::plan_group;
 use intent_log::LoggedBlock;
 use labels::Geometry;
+use log_replay::{Replayed, replay};
 use object_maps::{Contents, Loaded, Tree};
 use space::FreeSet;
 use std::alloc::Global;
-use tree_plans::PlannedBlock;
+use tree_plans::{PlanSource, PlannedBlock, TreePlan};
+use uberblocks::Uberblock;
+
+/// A pool that was read, with the records of its chain replayed.
+#[derive(Drop)]
+pub(crate) struct ReplayedPool {
+    /// The tree that was loaded.
+    pub tree: Tree,
+    /// The pool's name, and the objects of that tree with their bytes.
+    pub synced: Contents,
+    /// The blocks that neither that tree nor the chain has.
+    pub spare: FreeSet,
+    /// What the records of the chain change of these objects, and the records.
+    pub replayed: Replayed,
+}
 
 /// The pool that an import is about to sync and mount.
 #[derive(Drop)]
@@ -29,34 +62,137 @@ pub(crate) struct NextPool {
     pub free: FreeSet,
     /// The address of the first log block, in bytes.
     pub log_address: u64,
+    /// How many records were replayed.
+    pub records: u64,
 }
 
-// The pool as it was loaded, so no block is to be written. The lowest block that neither its tree nor the chain has
-// becomes the first log block. The chain's blocks are free for the pool once the sync is done, and not before.
-pub(crate) fn keep_loaded(
+// Replays the records of the chain on the objects of the tree.
+pub(crate) fn replay_pool(
     alloc: Global,
     geometry: Geometry,
-    name: &PoolName,
+    found: &Found,
     loaded: Loaded,
-    logged: &[LoggedBlock],
+    logged: Vec<LoggedBlock>,
+) -> Result<ReplayedPool, PoolError>
+    requires { IsChainAllowed logged.items }
+    ensures replayed { IfOk result (IsReplayedPool geometry found.now.uberblock.group.0
+        found.now.name loaded.tree loaded.slots.items logged.items) }
+    ensures refused { IsNameKept found.now.uberblock.group.0 logged.items → IfErr result
+        (IsReplayRefusal (records_above found.now.uberblock.group.0 logged.items)
+        (synced_with found.now.name loaded.slots.items)) }
+    ensures cause { IfErr result IsReplayCause }
+{
+    let spare = free_set(alloc, geometry, &loaded.tree, &logged)?;
+    let synced = Contents::of(copy_name(&found.name), loaded.slots);
+    let replayed = replay(alloc, found.uberblock.group, &synced, logged)?;
+    Ok(ReplayedPool {
+        tree: loaded.tree,
+        synced,
+        spare,
+        replayed,
+    })
+}
+
+// Plans the tree that the records leave, as that of the import's group, and lays the records into the objects. The
+// lowest block that neither the old tree nor the chain nor the new tree has becomes the first log block.
+pub(crate) fn plan_pool(
+    alloc: Global,
+    geometry: Geometry,
+    uberblock: &Uberblock,
+    pool: ReplayedPool,
 ) -> Result<NextPool, PoolError>
-    ensures kept { IfOk result
-        (KeepsLoaded geometry name.now loaded.slots.items loaded.tree
-        (chain_addresses logged.now)) }
+    requires within { numbers.is_past_last uberblock.now.group.0 uberblock.now.import_number
+        ≡ false }
+    requires sized { pool.spare.blocks ≡ block_count geometry }
+    requires placed { ∥ ArePlaced (block_count geometry) (pointers_of pool.tree) ∥₁ }
+    ensures planned { IfOk result (IsPlannedFrom geometry (fields_of uberblock.now) pool) }
     ensures full { IfErr result (λ e. e ≡ PoolError.NoSpace
-        → AreAllUsed (pointers_of loaded.tree) (chain_addresses logged.now)
-        (block_count geometry)) }
+        → LacksBlocks geometry (fields_of uberblock.now) pool) }
     ensures refused { IfErr result (λ e. (e ≡ PoolError.NoMemory) ⊎ (e ≡ PoolError.NoSpace)) }
 {
-    let mut spare = free_set(alloc, geometry, &loaded.tree, logged)?;
-    let log_block = spare.take_lowest()?;
-    let mut free = free_set(alloc, geometry, &loaded.tree, &[])?;
+    let planned = plan_tree(alloc, geometry, uberblock, &pool)?;
+    let ReplayedPool {
+        tree,
+        mut synced,
+        spare,
+        replayed,
+    } = pool;
+    let log_block = lowest_left(spare, &planned.blocks)?;
+    lay_records(&replayed, &mut synced)?;
+    let (tree, blocks) = with_plan(tree, planned);
+    let mut free = free_set(alloc, geometry, &tree, &[])?;
     free.take(log_block);
     Ok(NextPool {
-        blocks: Vec::new(alloc),
-        tree: loaded.tree,
-        contents: Contents::of(copy_name(name), loaded.slots),
+        blocks,
+        tree,
+        contents: synced,
         free,
         log_address: geometry.block_address(log_block as u64),
+        records: replayed.records.len() as u64,
     })
+}
+
+// The tree that the records leave, planned as that of the import's group.
+fn plan_tree(
+    alloc: Global,
+    geometry: Geometry,
+    uberblock: &Uberblock,
+    pool: &ReplayedPool,
+) -> Result<TreePlan, PoolError>
+    requires within { numbers.is_past_last uberblock.now.group.0 uberblock.now.import_number
+        ≡ false }
+    requires sized { pool.now.spare.blocks ≡ block_count geometry }
+    requires placed { ∥ ArePlaced (block_count geometry) (pointers_of pool.now.tree) ∥₁ }
+    ensures fits { IfOk result (FitsIn geometry) }
+    ensures taken { IfOk result (TakesLowest pool.now.spare.free) }
+    ensures tree { IfOk result (MakesNextTree geometry (fields_of uberblock.now) pool.now) }
+    ensures no_space { IfErr result (TellsShortPlan (fields_of uberblock.now) pool.now) }
+    ensures refused { IfErr result (λ e. (e ≡ PoolError.NoMemory) ⊎ (e ≡ PoolError.NoSpace)) }
+{
+    let source = PlanSource {
+        alloc,
+        geometry,
+        guid: uberblock.guid,
+        group: Group(uberblock.group.0 + 4),
+        tree: &pool.tree,
+        free: &pool.spare,
+    };
+    plan_group(
+        &source,
+        &pool.replayed.records,
+        &pool.replayed.extents,
+        &pool.synced,
+    )
+}
+
+// The tree with what a plan makes of it, and the blocks that are to be written for it. It takes no memory.
+fn with_plan(mut tree: Tree, planned: TreePlan) -> (Tree, Vec<PlannedBlock>)
+    ensures pointers { (place : Place) → IsPlace place
+        → pointers_of result.0 place ≡ plan_pointers tree planned place }
+    ensures lengths { (n : ℕ) → n < object_count
+        → lengths_of result.0 n ≡ lengths_after planned.maps tree n }
+    ensures blocks { result.1 ≡ planned.blocks }
+{
+    let TreePlan {
+        blocks,
+        maps,
+        directories,
+        root,
+        freed: _,
+    } = planned;
+    tree.root = root;
+    tree.directories = directories;
+    tree.set_all(maps);
+    (tree, blocks)
+}
+
+// Lays what the records change into the objects.
+fn lay_records(replayed: &Replayed, synced: &mut Contents) -> Result<(), PoolError>
+    ensures laid { OnOk result (contents_of synced.new
+        ≡ patched_contents (patches_of replayed.now.extents) (contents_of synced.old)) }
+    ensures refused { IfErr result (λ e. e ≡ PoolError.NoMemory) }
+{
+    replayed.extents.reserve_in(synced)?;
+    replayed.extents.lay_into(synced);
+    Ok(())
 }

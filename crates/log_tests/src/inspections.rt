@@ -1,4 +1,4 @@
-//! What an inspection reports of a pool with a log, and what an import leaves of the log's blocks.
+//! What an inspection reports of a pool with a log, and what an import makes of the log.
 
 use crate::chains::{FIRST, Stored, store_all};
 use base::PoolError;
@@ -30,19 +30,15 @@ fn imported_pool(alloc: Global, imports: usize) -> Result<MemDevice, PoolError> 
         Err((error, _)) => return Err(error),
     };
     for _ in 0..imports {
-        device = import_of(alloc, device)?.0;
+        device = import_of(alloc, device)?;
     }
     Ok(device)
 }
 
-/// The device after an import, with the address of the first log block and the number of free blocks.
-fn import_of(alloc: Global, device: MemDevice) -> Result<(MemDevice, u64, u64), PoolError> {
+/// The device after an import.
+fn import_of(alloc: Global, device: MemDevice) -> Result<MemDevice, PoolError> {
     match import(alloc, device, 1_048_576, 0) {
-        Ok(imported) => {
-            let address = imported.mounted.log_address;
-            let free = imported.mounted.free.free();
-            Ok((imported.device, address, free))
-        }
+        Ok(imported) => Ok(imported.device),
         Err((error, _)) => Err(error),
     }
 }
@@ -89,15 +85,49 @@ fn an_inspection_names_the_block_of_a_record_that_cannot_take_place(rt: HostRunt
     );
 }
 
-/// The first log block of an import of a pool with a chain of one block, and how many blocks are free after it.
-fn import_over(alloc: Global) -> Result<(u64, u64), PoolError> {
-    let mut device = imported_pool(alloc, 1)?;
-    store_all(&mut device, &[CREATES])?;
-    let (_, address, free) = import_of(alloc, device)?;
-    Ok((address, free))
+/// The records that an import replays, its first log block, the free blocks, and whether object 1 is there then, if these
+/// blocks were written after so many imports.
+fn import_over(
+    alloc: Global,
+    imports: usize,
+    blocks: &[Stored],
+) -> Result<(u64, u64, u64, bool), PoolError> {
+    let mut device = imported_pool(alloc, imports)?;
+    store_all(&mut device, blocks)?;
+    match import(alloc, device, 1_048_576, 0) {
+        Ok(imported) => Ok((
+            imported.records(),
+            imported.mounted.log_address,
+            imported.mounted.free.free(),
+            imported.mounted.contents.slots[1].present,
+        )),
+        Err((error, _)) => Err(error),
+    }
+}
+
+// Of 384 blocks the chain has the first one. The new tree has a root and a directory in the next two, and the first log
+// block comes after them. The chain's block is free then.
+#[test]
+fn an_import_replays_the_chain_and_gives_its_blocks_back(rt: HostRuntime) {
+    assert_eq!(rt; import_over(rt.alloc(), 1, &[CREATES]), Ok((1, 4_206_592, 381, true)));
 }
 
 #[test]
-fn an_import_takes_no_block_of_the_chain_and_gives_it_back(rt: HostRuntime) {
-    assert_eq!(rt; import_over(rt.alloc()), Ok((4_198_400, 383)));
+fn an_import_writes_no_block_for_records_of_an_older_group(rt: HostRuntime) {
+    let block = Stored {
+        chain: 2,
+        ..CREATES
+    };
+    assert_eq!(rt; import_over(rt.alloc(), 2, &[block]), Ok((0, 4_198_400, 383, false)));
+}
+
+#[test]
+fn an_import_names_the_block_of_a_record_that_cannot_take_place(rt: HostRuntime) {
+    assert_eq!(rt;
+        import_over(rt.alloc(), 1, &[CREATES, CREATES_AGAIN]),
+        Err(PoolError::Damaged {
+            kind: 6,
+            address: 4_198_400
+        })
+    );
 }

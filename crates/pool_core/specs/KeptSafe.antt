@@ -1,5 +1,5 @@
 -- What a pool keeps of its disk for crashes, step by step.
-use Rattle.std.specs.Prelude.{ℕ, ◌≡◌, ◌≢◌, ◌≤◌, ◌<◌, ◌⊎◌, ◌++◌, ◌∷◌, All, true, List, [], Option, Some, None}
+use Rattle.std.specs.Prelude.{ℕ, ◌≡◌, ◌≢◌, ◌≤◌, ◌<◌, ◌⊎◌, ◌++◌, ◌∷◌, All, true, List, Option, Some, None}
 use Rattle.base.specs.declared.step.Step as declared_step
 use Rattle.base.specs.declared.step.Reply as declared_reply
 use Rattle.base.specs.crash.CrashRule.{IsRunLeft}
@@ -83,11 +83,9 @@ IsDiskKept None disk s past = (s.line.syncing ≡ None) × IsPoolDisk (disk_size
 IsDiskKept (Some run) disk s past = IsSyncOnDisk run disk s past
 
 -- The crash rule of a pool with its past: the device holds what it should, a read of its disk gives these bytes, and
--- this disk, on which the create of the pool began at a moment of the past, is kept. No log block is written at this
--- stage.
+-- this disk, on which the create of the pool began at a moment of the past, is kept.
 pub record IsKeptSafe (x : OnDisk) : Type 0 where
   pub held : IsHeld x.held
-  pub no_log : x.held.state.shown.log.kept ≡ []
   pub same_bytes : x.held.now ≡ bytes_of x.disk.now
   pub began : x.held.state.past.created ≤ moments x.disk
   pub kept : IsDiskKept x.run x.disk x.held.state.shown x.held.state.past

@@ -206,6 +206,7 @@ impl PoolTables {
             tree,
             free,
             log_address,
+            records: _,
             dirty_max,
         } = mounted;
         PoolTables {

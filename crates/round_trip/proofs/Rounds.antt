@@ -26,10 +26,6 @@ use Rattle.pool_core.specs.States.{told}
 use Rattle.pool_core.specs.Turns.{MakesStep, turned_state}
 use Rattle.round_trip.specs.Rounds.{AreLeft, HoldsContents, IsAllSynced, IsCleanRound, IsJustMounted, IsOpened}
 
--- an image without log blocks has no chain
-pub no_chain : (now : List ℕ) (u : Uberblock) → HasNoLogBlock now → IsChainOf now u []
-no_chain now u none block is = none u.log_address is.in_area is.sealed.kind_is
-
 -- a step of a pool leaves no log block where none was
 still_none : (r : declared_reply.Reply) (old new : ShownPool) (past : Past) → IsHeld (held_with old past) → Leads r old new → HasNoLogBlock old.now → HasNoLogBlock new.now
 still_none (reply.Synced group) old new past held leads none =

@@ -98,7 +98,7 @@ own_certain disk created guid contents image began left fair own = by_cases disk
             let one : other ≡ image = only_bytes (settled image disk.now) other refl other_left in
             subst (λ (l : List ℕ). IsOwnImage (length image) created l (settled image disk.now) guid contents) (sym one)
             (subst (λ (n : ℕ). IsOwnImage n created image (settled image disk.now) guid contents) (sym long)
-            (record { v = own.v; guid_is = own.guid_is; rest = own.rest; configs = own.configs; no_log = own.no_log; applied = own.applied; room = own.room }));
+            (record { v = own.v; guid_is = own.guid_is; rest = own.rest; configs = own.configs; applied = own.applied; room = own.room }));
       };
     }
 

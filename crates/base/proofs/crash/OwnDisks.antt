@@ -2,7 +2,6 @@
 -- of its entries.
 use Rattle.std.proofs.Common.{◌≡◌, ◌⊎◌, inl, inr, ⊎_elim, ℕ, ◌+◌, ◌≤◌, List, [], ◌∷◌, length, take, Ok, refl, sym, ◌∙◌, ap, subst, arith}
 use Rattle.std.specs.Prelude.{Some, IfSome, filter, nat_le}
-use Rattle.std.proofs.Math.Seq.{take-nil}
 use Rattle.base.specs.declared.pointer.Pointer.{Pointer}
 use Rattle.base.specs.history.Contents.{Contents}
 use Rattle.base.specs.history.History.{IsHistory}
@@ -35,10 +34,6 @@ use Rattle.base.proofs.crash.SyncPaths.{configs_settled}
 use Rattle.base.proofs.crash.CrashRule.{phase_certain}
 use Rattle.base.proofs.crash.LaidOutMounts.{synced_applies, syncing_applies}
 
-no_length : {A : Type 0} (xs : List A) → length xs ≡ 0 → xs ≡ []
-no_length [] none = refl
-no_length (x ∷ xs) some = absurd (omega (arith, some))
-
 -- a log that keeps no block has none from a header on
 pub none_from : (header : Header) (log : Log) → log.kept ≡ [] → kept_from header log ≡ []
 none_from header log none = ap (λ (ks : List KeptBlock). filter (λ (b : KeptBlock). nat_le header.number b.number) ks) none
@@ -58,15 +53,14 @@ import_configs size t ws old new same higher known =
 
 module _ (size t : ℕ) (m : Moment) (image : List ℕ) (left : MayLeave m image) where
   -- an image that is certain and at rest on a view is the pool's own
-  pub rest_own : (flushed : ℕ) (v : View) (guid : ℕ) (contents : Contents) → v.logged ≡ [] → v.u.guid ≡ guid → flushed ≡ length v.logged → MountsAs v contents → HasImportRoom (block_count size) v → AreConfigsBelowImport size t (handed m) v
+  pub rest_own : (flushed : ℕ) (v : View) (guid : ℕ) (contents : Contents) → v.u.guid ≡ guid → flushed ≡ length v.logged → MountsAs v contents → HasImportRoom (block_count size) v → AreConfigsBelowImport size t (handed m) v
       → IsAtRest size t flushed (settled image m) v → IsOwnImage size t image m guid contents
-  rest_own flushed v guid contents none of_guid all mounts room configs rest =
+  rest_own flushed v guid contents of_guid all mounts room configs rest =
       record {
         v = v;
         guid_is = of_guid;
         rest = subst (λ (n : ℕ). IsAtRest size t n (settled image m) v) all rest;
         configs = configs_settled size t v.u.guid (v.u.group + 3) (λ group content. (group ≡ v.u.group + 4) × (content ≡ config_content size v.u.guid group v.name)) image m configs;
-        no_log = none;
         applied = mounts;
         room = room;
       }
@@ -74,9 +68,9 @@ module _ (size t : ℕ) (m : Moment) (image : List ℕ) (left : MayLeave m image
   -- and so is each that a crash leaves at a moment of an import
   pub import_image : (old new : View) (guid : ℕ) (contents : Contents) → AreImportViews (block_count size) old new guid contents → IsImportMoment size t old new m → IsOwnImage size t image m guid contents
   import_image old new guid contents views here = elim (phase_certain size t (length old.logged) (length new.logged) m image left old new here.phase) as (λ _. IsOwnImage size t image m guid contents) [
-    | inl rest ↦ rest_own (length old.logged) old guid contents views.old_log views.old_guid refl views.old_mounts views.old_room here.configs rest
+    | inl rest ↦ rest_own (length old.logged) old guid contents views.old_guid refl views.old_mounts views.old_room here.configs rest
     | inr rest ↦
-        rest_own (length new.logged) new guid contents views.new_log views.new_guid refl views.new_mounts views.new_room
+        rest_own (length new.logged) new guid contents views.new_guid refl views.new_mounts views.new_room
         (import_configs size t (handed m) old new (views.new_guid ∙ sym views.old_guid) views.next_group here.configs) rest
   ]
 
@@ -106,7 +100,7 @@ import_kept old new created guid contents own steady =
 -- A run, wherever it ends, leaves a disk that is the pool's own, with a cut of its entries.
 module _ (size : ℕ) (m : Moment) (s : Shown) (past : Past) (now : Contents) (image : List ℕ) (left : MayLeave m image) (kept : IsPoolDisk size m s past)
     (fair : IsFair (passes_check size) past.created (handed m) image) (log : IsLogExact s past) (sync : IsSyncExact s) (line : IsLine s.line) (history : IsHistory past.entries past.base now)
-    (none : s.log.kept ≡ []) (room : OfEachView size m s past (λ v. HasImportRoom (block_count size) v) kept.laid) where
+    (room : OfEachView size m s past (λ v. HasImportRoom (block_count size) v) kept.laid) where
   abbrev pub Left : Type 0
   Left = (c : Contents) × IsLeftBy past c × IsOwnImage size past.created image m s.guid c
 
@@ -127,9 +121,6 @@ module _ (size : ℕ) (m : Moment) (s : Shown) (past : Past) (now : Contents) (i
       let next : group ≡ s.line.synced + 1 = subst (λ o. IfSome o (λ g. g ≡ s.line.synced + 1)) other.syncing line.syncing in
       inl (omega (arith, next, no_lower))) kept.configs)
 
-  no_logged : (v : View) (header : Header) → length v.logged ≡ length (kept_from header s.log) → v.logged ≡ []
-  no_logged v header same = no_length v.logged (same ∙ ap (λ (ks : List KeptBlock). length ks) (none_from header s.log none))
-
   -- the contents of a view with the front of its log blocks that stands
   view_left : (flushed : ℕ) (v : View) (group : ℕ) (root : Pointer) (header : Header) → IsViewOf flushed v s past group root header → HasImportRoom (block_count size) v → AreLogBlocksBelow size past.created m.kept v flushed
       → IsAtRest size past.created flushed (settled image m) v → s.line.synced ≤ group
@@ -142,7 +133,7 @@ module _ (size : ℕ) (m : Moment) (s : Shown) (past : Past) (now : Contents) (i
       let not_below : s.line.synced ≤ v.u.group = let g : v.u.group ≡ group = is.group_is in omega (arith, g, no_lower) in (
         a.0,
         a.1,
-        rest_own size past.created m image left (length (take f.count v.logged)) (with_front f.count v) s.guid a.0 (ap (λ (ls : List Logged). take f.count ls) (no_logged v header is.as_many) ∙ take-nil f.count) is.guid refl a.2 (room_front (block_count size) f.count v enough) (configs v is.guid not_below)
+        rest_own size past.created m image left (length (take f.count v.logged)) (with_front f.count v) s.guid a.0 is.guid refl a.2 (room_front (block_count size) f.count v enough) (configs v is.guid not_below)
             (subst (λ (n : ℕ). IsAtRest n past.created (length (take f.count v.logged)) (settled image m) (with_front f.count v)) size_is front),
       )
 
@@ -170,15 +161,15 @@ module _ (size : ℕ) (m : Moment) (s : Shown) (past : Past) (now : Contents) (i
   image_left = by_phase kept.laid room
 
 pub run_own : (size : ℕ) (disk : Disk) (s : Shown) (past : Past) (now : Contents) → past.created ≤ moments disk → (kept : IsPoolDisk size disk.now s past) → IsLogExact s past → IsSyncExact s → IsLine s.line
-    → IsHistory past.entries past.base now → s.log.kept ≡ []
+    → IsHistory past.entries past.base now
     → OfEachView size disk.now s past (λ v. HasImportRoom (block_count size) v) kept.laid
     → IsRunLeft disk past s.guid
-run_own size disk s past now began kept log sync line history none room = record {
+run_own size disk s past now began kept log sync line history room = record {
   began = began;
   left = record {
     bytes = subst (λ (n : ℕ). HasFairBytes n past.created disk.now) (sym kept.bytes.size_is) kept.bytes;
     each = λ image left fair.
-        let here = image_left size disk.now s past now image left kept (subst (λ (n : ℕ). IsFair (passes_check n) past.created (handed disk.now) image) kept.bytes.size_is fair) log sync line history none room in
+        let here = image_left size disk.now s past now image left kept (subst (λ (n : ℕ). IsFair (passes_check n) past.created (handed disk.now) image) kept.bytes.size_is fair) log sync line history room in
         (here.0, here.1, subst (λ (n : ℕ). IsOwnImage n past.created image disk.now s.guid here.0) (sym kept.bytes.size_is) here.2);
   };
 }

@@ -32,8 +32,6 @@ pub record AreImportViews (blocks : ℕ) (old new : View) (guid : ℕ) (contents
   pub next_group : new.u.group ≡ old.u.group + 4
   pub old_mounts : MountsAs old contents
   pub new_mounts : MountsAs new contents
-  -- no log block is written at this stage
-  pub old_log : old.logged ≡ []
   -- the new one begins a log of its own
   pub new_log : new.logged ≡ []
   pub old_room : HasImportRoom blocks old

@@ -44,8 +44,6 @@ pub record IsOwnImage (size t : ℕ) (image : List ℕ) (m : Moment) (guid : ℕ
   pub guid_is : v.u.guid ≡ guid
   pub rest : IsAtRest size t (length v.logged) (settled image m) v
   pub configs : AreConfigsBelowImport size t (handed (settled image m)) v
-  -- no log block is written at this stage
-  pub no_log : v.logged ≡ []
   pub applied : apply_records (records_above v.u.group (map (λ (l : Logged). l.block) v.logged)) v.synced ≡ Ok contents
   pub room : HasImportRoom (block_count size) v
 

@@ -1,6 +1,6 @@
 -- A moment of a sync is one of its pool's disk, with room for an import in each view. So what a crash leaves at it is
 -- the pool's own, with a cut of its entries.
-use Rattle.std.proofs.Common.{◌≡◌, inl, inr, ℕ, ◌<◌, ◌&&◌, Bool, true, false, [], length, Some, refl, sym, subst, arith}
+use Rattle.std.proofs.Common.{◌≡◌, inl, inr, ℕ, ◌<◌, ◌&&◌, Bool, true, false, length, Some, refl, sym, subst, arith}
 use Rattle.std.specs.Prelude.{if◌then◌else◌, nat_lt, slice_get}
 use Rattle.std.proofs.lemmas.Option.{slice_get_within}
 use Rattle.base.specs.declared.pointer.Pointer.{Pointer}
@@ -144,12 +144,12 @@ module _ (size : ℕ) (m : Moment) (s : Shown) (past : Past) (x : HasSyncViews s
     }
 
     -- and what a crash leaves then is the pool's own
-    pub moment_left : IsExplainedNow s past → s.log.kept ≡ [] → LeavesOwn size past s.guid m
+    pub moment_left : IsExplainedNow s past → LeavesOwn size past s.guid m
     unfolding moment_laid
-    moment_left explained none = record {
+    moment_left explained = record {
       bytes = bytes;
       each = λ image left fair.
-          image_left size m s past s.contents image left moment_laid fair explained.exact.log explained.exact.sync explained.exact.groups.line explained.history none laid_with_room.1;
+          image_left size m s past s.contents image left moment_laid fair explained.exact.log explained.exact.sync explained.exact.groups.line explained.history laid_with_room.1;
     }
 
 -- what was left with a past that is the later one except for what was acknowledged

@@ -1,8 +1,7 @@
 -- Each device call of a running sync keeps its pool's disk, and with the last it is at rest on the view of the group
 -- that is synced then. The logs of both views stay held.
-use Rattle.std.proofs.Common.{◌≡◌, ◌∙◌, ◌⊎◌, inl, inr, ℕ, ◌+◌, ◌<◌, ◌≤◌, ◌&&◌, Bool, true, false, List, [], Option, Some, None, refl, ap, sym, subst, arith}
+use Rattle.std.proofs.Common.{◌≡◌, ◌∙◌, ◌⊎◌, inl, inr, ℕ, ◌+◌, ◌<◌, ◌≤◌, ◌&&◌, Bool, true, false, List, Option, Some, None, refl, sym, subst, arith}
 use Rattle.std.specs.Prelude.{All, IfSome, if◌then◌else◌, nat_lt, slice_get}
-use Rattle.base.specs.crash.Layout.{header_now}
 use Rattle.base.specs.crash.LogRoom.{HasImportRoom}
 use Rattle.base.specs.crash.LogRule.{IsLogHeld}
 use Rattle.base.specs.crash.LogSteps.{IsHeaderIn}
@@ -118,10 +117,10 @@ module _ (run next : SyncRun) (before after : Disk) (s : Shown) (p : Past) (bega
         (weaker Known (IsSafeMoment run.geometry p) before after
         (λ m here. let v = views_at m here.1 in moment_safe s p explained run.geometry m (moment_laid run.geometry m s p v.0 v.1 here.0.0 (configs_known m here.0.1))) known_each)
 
-    pub call_own : s.log.kept ≡ [] → EachMoment (LeavesOwn (disk_size before) p s.guid) before after
-    call_own none = subst (λ (n : ℕ). EachMoment (LeavesOwn n p s.guid) before after) (sym x.bytes.size_is)
+    pub call_own : EachMoment (LeavesOwn (disk_size before) p s.guid) before after
+    call_own = subst (λ (n : ℕ). EachMoment (LeavesOwn n p s.guid) before after) (sym x.bytes.size_is)
         (weaker Known (LeavesOwn run.geometry p s.guid) before after
-        (λ m here. let v = views_at m here.1 in moment_left run.geometry m s p v.0 v.1 here.0.0 (configs_known m here.0.1) explained none) known_each)
+        (λ m here. let v = views_at m here.1 in moment_left run.geometry m s p v.0 v.1 here.0.0 (configs_known m here.0.1) explained) known_each)
 
   -- After a call with more after it, or a refused one, the disk is kept with what is shown then.
   pub call_kept : (t : Shown) (q : Past) → SameSyncing s t p q → next.done < call_count next → IsSyncOnDisk next after t q

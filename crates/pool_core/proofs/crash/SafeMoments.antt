@@ -54,8 +54,8 @@ module _ (run : SyncRun) (disk : Disk) (s : Shown) (past : Past) (x : IsSyncOnDi
   sync_laid = subst (λ (n : ℕ). IsPoolDisk n disk.now s past) (sym x.bytes.size_is) (moment_laid run.geometry disk.now s past views phase x.bytes x.configs)
 
   -- what a crash leaves of it is the pool's own
-  pub sync_left : IsExplainedNow s past → s.log.kept ≡ [] → LeavesOwn (disk_size disk) past s.guid disk.now
-  sync_left explained none = subst (λ (n : ℕ). LeavesOwn n past s.guid disk.now) (sym x.bytes.size_is) (moment_left run.geometry disk.now s past views phase x.bytes x.configs explained none)
+  pub sync_left : IsExplainedNow s past → LeavesOwn (disk_size disk) past s.guid disk.now
+  sync_left explained = subst (λ (n : ℕ). LeavesOwn n past s.guid disk.now) (sym x.bytes.size_is) (moment_left run.geometry disk.now s past views phase x.bytes x.configs explained)
 
 disk_laid : (o : Option SyncRun) (disk : Disk) (s : Shown) (past : Past) → IsDiskKept o disk s past → IsPoolDisk (disk_size disk) disk.now s past
 disk_laid None disk s past kept = kept.1
@@ -77,11 +77,11 @@ module _ (m : Moment) (s : Shown) (past : Past) (idle : s.line.syncing ≡ None)
   idle_room pointers running explained kept (inr (inl between)) = absurd (not_syncing between.group between.syncing)
   idle_room pointers running explained kept (inr (inr switched)) = absurd (not_syncing switched.group switched.syncing)
 
-disk_left : (o : Option SyncRun) (disk : Disk) (s : Shown) (past : Past) (pointers : Place → Pointer) (running : Option NewTree) → past.created ≤ moments disk → IsExplainedNow s past → s.log.kept ≡ []
+disk_left : (o : Option SyncRun) (disk : Disk) (s : Shown) (past : Past) (pointers : Place → Pointer) (running : Option NewTree) → past.created ≤ moments disk → IsExplainedNow s past
     → IsKept (bytes_of disk.now) s pointers running past → IsDiskKept o disk s past → IsRunLeft disk past s.guid
-disk_left None disk s past pointers running began explained none held (idle, kept) =
-    run_own (disk_size disk) disk s past s.contents began kept explained.exact.log explained.exact.sync explained.exact.groups.line explained.history none (idle_room disk.now s past idle pointers running explained held kept.laid)
-disk_left (Some run) disk s past pointers running began explained none held kept = record { began = began; left = sync_left run disk s past kept explained none }
+disk_left None disk s past pointers running began explained held (idle, kept) =
+    run_own (disk_size disk) disk s past s.contents began kept explained.exact.log explained.exact.sync explained.exact.groups.line explained.history (idle_room disk.now s past idle pointers running explained held kept.laid)
+disk_left (Some run) disk s past pointers running began explained held kept = record { began = began; left = sync_left run disk s past kept explained }
 
 -- without a sync it is kept where it is laid so
 pub idle_kept : (o : Option SyncRun) (disk : Disk) (s : Shown) (past : Past) → o ≡ None → s.line.syncing ≡ None → IsPoolDisk (disk_size disk) disk.now s past → IsDiskKept o disk s past
@@ -98,7 +98,7 @@ kept_safe x safe = pool_safe x.held.state.shown x.held.state.past safe.held.expl
 -- and what a crash leaves of it is its own
 pub kept_own : (x : OnDisk) → IsKeptSafe x → IsRunLeft x.disk x.held.state.past x.held.state.shown.guid
 kept_own x safe =
-    disk_left x.run x.disk x.held.state.shown x.held.state.past x.held.pointers x.held.running safe.began safe.held.explained safe.no_log
+    disk_left x.run x.disk x.held.state.shown x.held.state.past x.held.pointers x.held.running safe.began safe.held.explained
     (subst (λ (l : List ℕ). IsKept l x.held.state.shown x.held.pointers x.held.running x.held.state.past) safe.same_bytes safe.held.kept) safe.kept
 
 -- where no call is made, what is safe then was so

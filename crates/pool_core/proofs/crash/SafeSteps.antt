@@ -36,7 +36,7 @@ use Rattle.base.specs.steps.Steps.SyncProgress.{More, Synced}
 use Rattle.base.specs.stored.Stored.{Held, IsHeld, IsStored, IsSyncing, NewTree, RunsAs, is_turn}
 use Rattle.base.specs.tree.Places.{Place}
 use Rattle.base.specs.tree.Syncs.{is_rename}
-use Rattle.base.proofs.crash.OwnDisks.{configs_weaker, none_from}
+use Rattle.base.proofs.crash.OwnDisks.{configs_weaker}
 use Rattle.base.proofs.disk.Moments.{moments_grow}
 use Rattle.base.proofs.history.CommitOrder.{ok-none}
 use Rattle.base.proofs.steps.StepEffects.{none_syncs}
@@ -181,7 +181,6 @@ module _ (x : OnDisk) (safe : IsKeptSafe x) where
       let same : SameSyncing s h.state.shown p h.state.past = step_leaves (Unit {0}) x.held.now st r x.held.state h.state step off safe.held.explained in
       let kept : IsKeptSafe (record x { held = h }) = record {
         held = held;
-        no_log = same.synced.kept ∙ safe.no_log;
         same_bytes = same_bytes;
         began = subst (λ (c : ℕ). c ≤ moments x.disk) (sym same.synced.created) safe.began;
         kept = disk_stays s h.state.shown p h.state.past safe.held.explained same x.run x.disk safe.kept;
@@ -231,7 +230,6 @@ module _ (x : OnDisk) (safe : IsKeptSafe x) where
     start_safe =
         let kept : IsKeptSafe (record { held = h; disk = x.disk; run = Some run }) = record {
           held = held;
-          no_log = same.kept ∙ safe.no_log;
           same_bytes = same_bytes;
           began = subst (λ (c : ℕ). c ≤ moments x.disk) (sym same.created) safe.began;
           kept = sync_kept;
@@ -247,7 +245,7 @@ module _ (x : OnDisk) (safe : IsKeptSafe x) where
     each = call_safe run next x.disk after s p safe.began before tries safe.held.explained
 
     owns : EachMoment (LeavesOwn (disk_size x.disk) p s.guid) x.disk after
-    owns = call_own run next x.disk after s p safe.began before tries safe.held.explained safe.no_log
+    owns = call_own run next x.disk after s p safe.began before tries safe.held.explained
 
     later : moments x.disk ≤ moments after
     later = moments_grow (IsSafeMoment (disk_size x.disk) p) x.disk after each
@@ -262,7 +260,6 @@ module _ (x : OnDisk) (safe : IsKeptSafe x) where
           step = made;
           kept = record {
             held = held;
-            no_log = same.synced.kept ∙ safe.no_log;
             same_bytes = same_bytes;
             began = omega (arith, created, safe.began, later);
             kept = call_kept run next x.disk after s p safe.began before tries h.state.shown h.state.past same left;
@@ -282,7 +279,6 @@ module _ (x : OnDisk) (safe : IsKeptSafe x) where
           step = made;
           kept = record {
             held = held;
-            no_log = ap (λ (u : State). u.shown.log.kept) over.4 ∙ none_from over.1.header s.log safe.no_log;
             same_bytes = same_bytes;
             began = omega (arith, created, safe.began, later);
             kept = (

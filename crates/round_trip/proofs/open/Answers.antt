@@ -1,24 +1,22 @@
-use Rattle.std.proofs.Common.{ℕ, List, ◌∙◌, refl}
+use Rattle.std.proofs.Common.{ℕ, List, ap, subst, sym, ◌∙◌, refl}
 use Rattle.base.specs.disk.Disk.{bytes_of}
-use Rattle.base.specs.formats.Uberblocks.{Uberblock}
+use Rattle.base.specs.formats.Fields.{number_at}
+use Rattle.base.specs.formats.Geometry.{IsBlockAddress, block_count}
 use Rattle.base.proofs.crash.OneMount.{mounts_agree}
-use Rattle.base.proofs.stored.StoredTrees.{same-no_log}
 use Rattle.import_replay.specs.ImportSyncs.{uberblock_of_import}
-use Rattle.round_trip.proofs.Rounds.{no_chain}
 use Rattle.round_trip.proofs.open.Goals as goal
 
 pub returns-in-Ok-clause-found : goal.returns-in-Ok-clause-found
 returns-in-Ok-clause-found g c = λ keeps contents holds.
     let image : List ℕ = bytes_of (g.D.SectorDevice.disk c.args.device).now in
-    let u : Uberblock = holds.mounts.0 in
-    let of = (c.in-Ok.ensures.imported keeps).imported u holds.mounts.2.found.pool.active (no_chain image u holds.no_log) in
+    let of = (c.in-Ok.ensures.imported keeps).imported in
     of.imported.contents_are ∙ (mounts_agree image of.u u of.chain holds.mounts.1 of.contents contents of.mounts holds.mounts.2).2
 
 pub returns-in-Ok-clause-no_log : goal.returns-in-Ok-clause-no_log
-returns-in-Ok-clause-no_log g c = λ keeps none.
-    let old : List ℕ = bytes_of (g.D.SectorDevice.disk c.args.device).now in
-    let new : List ℕ = bytes_of (g.D.SectorDevice.disk c.in-Ok.imported.device).now in
-    same-no_log old new none (c.in-Ok.ensures.imported keeps).blocks
+returns-in-Ok-clause-no_log g c = λ keeps none address is kind.
+    let told = c.in-Ok.ensures.imported keeps in
+    let before = subst (λ (n : ℕ). IsBlockAddress (block_count n) address) told.size is in
+    none address before (ap (λ (l : List ℕ). number_at l 0) (sym (told.no_log address before kind)) ∙ kind)
 
 pub returns-in-Ok-clause-opened : goal.returns-in-Ok-clause-opened
 returns-in-Ok-clause-opened g c = λ keeps.

@@ -1,33 +1,42 @@
-use Rattle.std.proofs.Common.{◌≡◌, ℕ, Bool, List, [], ap, refl, sym, subst, ◌∙◌}
+use Rattle.std.proofs.Common.{◌≡◌, ℕ, Bool, List, ap, refl, sym, subst, ◌∙◌}
 use Rattle.std.specs.Prelude.{OnOk}
-use Rattle.base.specs.declared.error.PoolError.TheVariants.{NoSpace, TooMany}
+use Rattle.base.specs.declared.error.PoolError.TheVariants.{TooMany}
 use Rattle.base.specs.disk.Disk.{Disk, bytes_of}
 use Rattle.base.specs.formats.Chain.{LogPiece}
-use Rattle.base.specs.formats.Geometry.{block_count}
 use Rattle.base.specs.formats.Uberblocks.{Uberblock}
-use Rattle.uberblocks.specs.Slots.{fields_of}
+use Rattle.labels.specs.declared.stage.Stage.{Stage}
 use Rattle.object_maps.specs.declared.contents.Slot.{Slot}
 use Rattle.object_maps.specs.declared.tree.Tree.{Tree}
-use Rattle.object_maps.specs.Pointers.{pointers_of}
-use Rattle.import_replay.specs.Mounts.{IsMountedAnew}
-use Rattle.import_replay.specs.LabelSyncs.{is_even}
-use Rattle.labels.specs.declared.stage.Stage.{Stage}
-use Rattle.import_replay.specs.FreeBlocks.{AreAllUsed, chain_addresses}
+use Rattle.uberblocks.specs.Slots.{fields_of}
 use Rattle.import_replay.specs.Found.{HasFirstStage}
 use Rattle.import_replay.specs.ImportStops.{writes_of_next}
 use Rattle.import_replay.specs.ImportViews.{EndsBehind, KeepsViews}
-use Rattle.import_replay.specs.NextPools.{KeepsLoaded, parts_of}
+use Rattle.import_replay.specs.LabelSyncs.{is_even}
+use Rattle.import_replay.specs.Mounts.{IsMountedAnew}
+use Rattle.import_replay.specs.NextPools.{parts_of}
 use Rattle.import_replay.specs.declared.next_pool.NextPool.{NextPool}
+use Rattle.import_replay.specs.declared.next_pool.ReplayedPool.{ReplayedPool}
 use Rattle.import_replay.proofs.Configs.{err_weaker, ok_weaker, ok_both}
-use Rattle.import_replay.proofs.MountedPools.{all_blocks, mounted_anew}
-use Rattle.import_replay.proofs.NextPools.{is_import, kept_mounts, kept_over, kept_parts, kept_ready}
-use Rattle.import_replay.proofs.OwnImports.{kept_before, kept_own, kept_unwritten, own_empty, starts_run}
+use Rattle.import_replay.proofs.MountedPools.{mounted_anew}
+use Rattle.import_replay.proofs.NextPools.{IsPrepared, chain_allowed, is_import, lacks_room, loaded_placed, prepared_mounts, prepared_over, prepared_parts, prepared_ready, reason_of_replay}
+use Rattle.import_replay.proofs.OwnImports.{kept_before, kept_own, kept_unwritten, starts_run}
 use Rattle.import_replay.proofs.ReadPools.{flushed, read_behind_flush, sound_read}
 use Rattle.import_replay.proofs.Reasons.{passed_on}
-use Rattle.import_replay.proofs.Refused.{flush_refused, next_refused, numbers_refused, open_refused, reading_refused}
+use Rattle.import_replay.proofs.Refused.{flush_refused, next_refused, numbers_refused, open_refused, reading_refused, replay_refused}
 use Rattle.import_replay.proofs.StoppedImports.{stopped_import}
 use Rattle.import_replay.proofs.WrittenImports.{ok_written}
 use Rattle.import_replay.proofs.importing.mount_pool.Goals as goal
+
+pub replay_pool-requires : goal.replay_pool-requires
+replay_pool-requires g c = chain_allowed c.args.geometry c.in_ok-found.logged.items c.in_ok-found.ensures.loaded.sound
+
+pub plan_pool-requires-clause-sized : goal.plan_pool-requires-clause-sized
+plan_pool-requires-clause-sized g c = c.in_ok-replayed.ensures.replayed.sized
+
+pub plan_pool-requires-clause-placed : goal.plan_pool-requires-clause-placed
+plan_pool-requires-clause-placed g c =
+    loaded_placed c.args.geometry (fields_of c.in_ok-found.found.uberblock) c.in_ok-found.found.name c.in_ok-found.loaded.tree c.in_ok-found.loaded.slots.items c.in_ok-found.logged.items
+    c.in_ok-replayed.replayed c.in_ok-found.ensures.loaded c.in_ok-replayed.ensures.replayed
 
 pub returns-clause-mounted : goal.returns-clause-mounted
 returns-clause-mounted g c =
@@ -36,13 +45,13 @@ returns-clause-mounted g c =
     let tree : Tree = c.in_ok-found.loaded.tree in
     let slots : List Slot = c.in_ok-found.loaded.slots.items in
     let chain : List LogPiece = c.in_ok-found.logged.items in
-    let kept : KeepsLoaded c.args.geometry name slots tree (chain_addresses chain) c.in_ok-next.next =
-    subst (λ (bs : List LogPiece). KeepsLoaded c.args.geometry name slots tree (chain_addresses bs) c.in_ok-next.next) c.as_slice.ensures.value c.in_ok-next.ensures.kept in
+    let pool : ReplayedPool = c.in_ok-replayed.replayed in
     let next : NextPool = c.in_ok-next.next in
     let size : ℕ = c.args.geometry in
-    let parts = kept_parts size u name slots tree chain next kept c.in_ok-found.ensures.loaded in
+    let is : IsPrepared size u name tree slots chain pool next =
+    record { named = c.in_ok-found.found.named; loaded = c.in_ok-found.ensures.loaded; replayed = c.in_ok-replayed.ensures.replayed; planned = c.in_ok-next.ensures.planned } in
     ok_weaker c.open_pool.result _ (IsMountedAnew size c.args.dirty_max)
-    (λ m h. mounted_anew size u name (parts_of next) c.args.dirty_max m h parts c.requires.can.allowed c.in_ok-found.found.named) c.open_pool.ensures.mounted
+    (λ m h. mounted_anew size u name (parts_of next) c.args.dirty_max m h (prepared_parts size u name tree slots chain pool next is) c.requires.can.allowed is.named) c.open_pool.ensures.mounted
 
 pub returns-clause-imported : goal.returns-clause-imported
 returns-clause-imported g c = λ keeps.
@@ -55,15 +64,16 @@ returns-clause-imported g c = λ keeps.
     let tree : Tree = c.in_ok-found.loaded.tree in
     let slots : List Slot = c.in_ok-found.loaded.slots.items in
     let chain : List LogPiece = c.in_ok-found.logged.items in
-    let kept : KeepsLoaded c.args.geometry name slots tree (chain_addresses chain) c.in_ok-next.next =
-    subst (λ (bs : List LogPiece). KeepsLoaded c.args.geometry name slots tree (chain_addresses bs) c.in_ok-next.next) c.as_slice.ensures.value c.in_ok-next.ensures.kept in
+    let pool : ReplayedPool = c.in_ok-replayed.replayed in
     let next : NextPool = c.in_ok-next.next in
     let size : ℕ = c.args.geometry in
+    let is : IsPrepared size u name tree slots chain pool next =
+    record { named = c.in_ok-found.found.named; loaded = c.in_ok-found.ensures.loaded; replayed = c.in_ok-replayed.ensures.replayed; planned = c.in_ok-next.ensures.planned } in
     let flushes = c.in_ok-flush.ensures.disk keeps in
     let read = read_behind_flush old mid size u name tree slots chain flushes (c.in_ok-found.ensures.pool keeps) in
     let bytes : bytes_of before.now ≡ bytes_of old.now = ap (λ (d : Disk). bytes_of d.now) (c.read_pool.ensures.reads.disk keeps) ∙ flushed old mid flushes in
     ok_weaker c.open_pool.result _ _
-    (λ m h. is_import size u name slots tree chain next kept (bytes_of old.now) read c.in_ok-found.ensures.loaded c.args.dirty_max c.args.moment m h.0 c.requires.can.allowed.1 _ before after bytes h.1)
+    (λ m h. is_import size u name tree slots chain pool next is (bytes_of old.now) read c.args.dirty_max c.args.moment m h.0 c.requires.can.allowed.1 _ before after bytes h.1)
     (ok_both c.open_pool.result _ _ c.open_pool.ensures.mounted (c.open_pool.ensures.written keeps))
 
 pub returns-clause-written : goal.returns-clause-written
@@ -75,16 +85,19 @@ returns-clause-written g c = λ keeps.
     let tree : Tree = c.in_ok-found.loaded.tree in
     let slots : List Slot = c.in_ok-found.loaded.slots.items in
     let chain : List LogPiece = c.in_ok-found.logged.items in
-    let kept : KeepsLoaded c.args.geometry name slots tree (chain_addresses chain) c.in_ok-next.next =
-    subst (λ (bs : List LogPiece). KeepsLoaded c.args.geometry name slots tree (chain_addresses bs) c.in_ok-next.next) c.as_slice.ensures.value c.in_ok-next.ensures.kept in
+    let pool : ReplayedPool = c.in_ok-replayed.replayed in
+    let next : NextPool = c.in_ok-next.next in
     let size : ℕ = c.args.geometry in
+    let is : IsPrepared size u name tree slots chain pool next =
+    record { named = c.in_ok-found.found.named; loaded = c.in_ok-found.ensures.loaded; replayed = c.in_ok-replayed.ensures.replayed; planned = c.in_ok-next.ensures.planned } in
     let even : Bool = is_even c.in_ok-found.found.first in
     let flushes = c.in_ok-flush.ensures.disk keeps in
     let read = read_behind_flush old mid size u name tree slots chain flushes (c.in_ok-found.ensures.pool keeps) in
     let same_long = g.met.D.SectorDevice.sized keeps c.open_pool.new.device ∙ c.open_pool.ensures.device.size ∙ c.read_pool.ensures.reads.size ∙ c.flush.ensures.size ∙ c.requires.can.size in
     let first = subst (λ (b : List ℕ). HasFirstStage b u.guid u.group name even) (flushed old mid flushes) (c.in_ok-found.ensures.first keeps) in
-    ok_written old _ mid _ size u name slots tree (chain_addresses chain) c.in_ok-next.next c.args.dirty_max c.args.moment even c.open_pool.result (c.read_pool.ensures.reads.disk keeps) flushes read.long same_long
-    read.pool.active first read.root kept c.open_pool.ensures.mounted (c.open_pool.ensures.written keeps)
+    ok_written old _ mid _ size u name chain next c.args.dirty_max c.args.moment even c.open_pool.result (c.read_pool.ensures.reads.disk keeps) flushes read.long same_long
+    read.pool.active first read.chain_is (prepared_parts size u name tree slots chain pool next is) (prepared_over size u name tree slots chain pool next is (bytes_of old.now) read)
+    c.open_pool.ensures.mounted (c.open_pool.ensures.written keeps)
 
 pub returns-in_err-flush-clause-refused : goal.returns-in_err-flush-clause-refused
 returns-in_err-flush-clause-refused g c =
@@ -102,6 +115,25 @@ returns-in_err-found-clause-refused g c =
     let new = g.D.SectorDevice.disk c.read_pool.new.device in
     passed_on c.from_residual-in_err-found.result x _ c.from_residual-in_err-found.ensures.1
     (reading_refused g.D.SectorDevice.keeps_model c.args.moment old mid new x c.in_ok-flush.ensures.disk c.in_err-found.ensures.refused c.in_err-found.ensures.reason c.read_pool.ensures.reads.disk)
+
+pub returns-in_err-replayed-clause-refused : goal.returns-in_err-replayed-clause-refused
+returns-in_err-replayed-clause-refused g c =
+    let x = c.in_err-replayed.field-0.0 in
+    let old = g.D.SectorDevice.disk c.args.device.now in
+    let mid = g.D.SectorDevice.disk c.flush.new.self in
+    let new = g.D.SectorDevice.disk c.read_pool.new.device in
+    let image : List ℕ = bytes_of old.now in
+    let u : Uberblock = fields_of c.in_ok-found.found.uberblock in
+    let name : List ℕ = c.in_ok-found.found.name in
+    let tree : Tree = c.in_ok-found.loaded.tree in
+    let slots : List Slot = c.in_ok-found.loaded.slots.items in
+    let chain : List LogPiece = c.in_ok-found.logged.items in
+    passed_on c.from_residual-in_err-replayed.result x _ c.from_residual-in_err-replayed.ensures.1
+    (replay_refused g.D.SectorDevice.keeps_model c.args.moment old mid new x c.in_ok-flush.ensures.disk c.in_err-replayed.ensures.cause
+    (λ keeps.
+    reason_of_replay image c.args.geometry u name tree slots chain (read_behind_flush old mid c.args.geometry u name tree slots chain (c.in_ok-flush.ensures.disk keeps) (c.in_ok-found.ensures.pool keeps)) x
+    c.in_err-replayed.ensures.cause c.in_err-replayed.ensures.refused)
+    c.read_pool.ensures.reads.disk)
 
 pub returns-then-is_past_last-clause-refused : goal.returns-then-is_past_last-clause-refused
 returns-then-is_past_last-clause-refused g c =
@@ -133,12 +165,12 @@ returns-in_err-next-clause-refused g c =
     let slots : List Slot = c.in_ok-found.loaded.slots.items in
     let chain : List LogPiece = c.in_ok-found.logged.items in
     let size : ℕ = c.args.geometry in
-    let full = λ (is : x ≡ NoSpace). subst (λ (bs : List LogPiece). AreAllUsed (pointers_of tree) (chain_addresses bs) (block_count size)) c.as_slice.ensures.value (c.in_err-next.ensures.full is) in
     passed_on c.from_residual-in_err-next.result x _ c.from_residual-in_err-next.ensures.1
     (next_refused g.D.SectorDevice.keeps_model c.args.moment old mid new x c.in_ok-flush.ensures.disk c.in_err-next.ensures.refused
     (λ keeps is.
     let read = read_behind_flush old mid size u name tree slots chain (c.in_ok-flush.ensures.disk keeps) (c.in_ok-found.ensures.pool keeps) in
-    record { u = u; name = name; sound = sound_read image size u name tree slots chain read; chain = chain; chain_is = read.chain_is; within = sym c.if-is_past_last.ensures; all = all_blocks size u tree slots chain image read.long read.held read.root (full is) })
+    lacks_room size u name tree slots chain c.in_ok-replayed.replayed c.in_ok-found.found.named c.in_ok-found.ensures.loaded c.in_ok-replayed.ensures.replayed image read
+    (sound_read image size u name tree slots chain read) (sym c.if-is_past_last.ensures) (c.in_err-next.ensures.full is))
     c.read_pool.ensures.reads.disk)
 
 pub returns-clause-refused : goal.returns-clause-refused
@@ -153,16 +185,18 @@ returns-clause-refused g c =
     let tree : Tree = c.in_ok-found.loaded.tree in
     let slots : List Slot = c.in_ok-found.loaded.slots.items in
     let chain : List LogPiece = c.in_ok-found.logged.items in
-    let kept : KeepsLoaded c.args.geometry name slots tree (chain_addresses chain) c.in_ok-next.next =
-    subst (λ (bs : List LogPiece). KeepsLoaded c.args.geometry name slots tree (chain_addresses bs) c.in_ok-next.next) c.as_slice.ensures.value c.in_ok-next.ensures.kept in
+    let pool : ReplayedPool = c.in_ok-replayed.replayed in
+    let next : NextPool = c.in_ok-next.next in
     let size : ℕ = c.args.geometry in
+    let is : IsPrepared size u name tree slots chain pool next =
+    record { named = c.in_ok-found.found.named; loaded = c.in_ok-found.ensures.loaded; replayed = c.in_ok-replayed.ensures.replayed; planned = c.in_ok-next.ensures.planned } in
     let even : Bool = is_even c.in_ok-found.found.first in
     err_weaker c.open_pool.result _ _
     (λ e refused. open_refused keeps_model c.args.moment old mid new e refused.kind (λ keeps.
     let flushes = c.in_ok-flush.ensures.disk keeps in
     let read = read_behind_flush old mid size u name tree slots chain flushes (c.in_ok-found.ensures.pool keeps) in
     let first = subst (λ (b : List ℕ). HasFirstStage b u.guid u.group name even) (flushed old mid flushes) (c.in_ok-found.ensures.first keeps) in
-    stopped_import size old mid before new u name slots tree chain c.in_ok-next.next c.args.moment even e flushes (c.read_pool.ensures.reads.disk keeps) read first kept
+    stopped_import size old mid before new u name slots tree chain pool next c.args.moment even e flushes (c.read_pool.ensures.reads.disk keeps) read first is
     (sym c.if-is_past_last.ensures) (refused.stopped keeps)))
     c.open_pool.ensures.refused
 
@@ -171,6 +205,10 @@ returns-in_err-flush-clause-own g c = λ keeps. kept_before (g.D.SectorDevice.di
 
 pub returns-in_err-found-clause-own : goal.returns-in_err-found-clause-own
 returns-in_err-found-clause-own g c = λ keeps.
+    kept_unwritten (g.D.SectorDevice.disk c.args.device.now) (g.D.SectorDevice.disk c.flush.new.self) (c.in_ok-flush.ensures.disk keeps) (g.D.SectorDevice.disk c.read_pool.new.device) (c.read_pool.ensures.reads.disk keeps)
+
+pub returns-in_err-replayed-clause-own : goal.returns-in_err-replayed-clause-own
+returns-in_err-replayed-clause-own g c = λ keeps.
     kept_unwritten (g.D.SectorDevice.disk c.args.device.now) (g.D.SectorDevice.disk c.flush.new.self) (c.in_ok-flush.ensures.disk keeps) (g.D.SectorDevice.disk c.read_pool.new.device) (c.read_pool.ensures.reads.disk keeps)
 
 pub returns-then-is_past_last-clause-own : goal.returns-then-is_past_last-clause-own
@@ -189,19 +227,19 @@ returns-clause-own g c = λ keeps.
     let tree : Tree = c.in_ok-found.loaded.tree in
     let slots : List Slot = c.in_ok-found.loaded.slots.items in
     let chain : List LogPiece = c.in_ok-found.logged.items in
-    let kept : KeepsLoaded c.args.geometry name slots tree (chain_addresses chain) c.in_ok-next.next =
-    subst (λ (bs : List LogPiece). KeepsLoaded c.args.geometry name slots tree (chain_addresses bs) c.in_ok-next.next) c.as_slice.ensures.value c.in_ok-next.ensures.kept in
+    let pool : ReplayedPool = c.in_ok-replayed.replayed in
     let next : NextPool = c.in_ok-next.next in
     let size : ℕ = c.args.geometry in
+    let is : IsPrepared size u name tree slots chain pool next =
+    record { named = c.in_ok-found.found.named; loaded = c.in_ok-found.ensures.loaded; replayed = c.in_ok-replayed.ensures.replayed; planned = c.in_ok-next.ensures.planned } in
     let old = g.D.SectorDevice.disk c.args.device.now in
     let mid = g.D.SectorDevice.disk c.flush.new.self in
     let new = g.D.SectorDevice.disk c.open_pool.new.device in
     let flushes = c.in_ok-flush.ensures.disk keeps in
     let read = c.in_ok-found.ensures.pool keeps in
     let stage = c.in_ok-found.ensures.first keeps in
-    kept_own old mid flushes size u name first read.long read.pool stage next c.args.moment chain (kept_parts size u name slots tree chain next kept c.in_ok-found.ensures.loaded)
-    (kept_over size u name slots tree chain next kept (bytes_of mid.now) read)
-    (λ created guid contents own. kept_mounts size u name slots tree chain next kept (bytes_of mid.now) read (own_empty old mid flushes size u name first read.long read.pool stage created guid contents own))
+    kept_own old mid flushes size u name first read.long read.pool stage next c.args.moment chain (prepared_parts size u name tree slots chain pool next is)
+    (prepared_over size u name tree slots chain pool next is (bytes_of mid.now) read) (prepared_mounts size u name tree slots chain pool next is (bytes_of mid.now) read)
     new (subst (λ (d : Disk). KeepsViews (writes_of_next size u c.args.moment next) first d new) (c.read_pool.ensures.reads.disk keeps) (c.open_pool.ensures.views keeps))
 
 pub returns-clause-starts : goal.returns-clause-starts
@@ -212,10 +250,11 @@ returns-clause-starts g c = λ keeps.
     let tree : Tree = c.in_ok-found.loaded.tree in
     let slots : List Slot = c.in_ok-found.loaded.slots.items in
     let chain : List LogPiece = c.in_ok-found.logged.items in
-    let kept : KeepsLoaded c.args.geometry name slots tree (chain_addresses chain) c.in_ok-next.next =
-    subst (λ (bs : List LogPiece). KeepsLoaded c.args.geometry name slots tree (chain_addresses bs) c.in_ok-next.next) c.as_slice.ensures.value c.in_ok-next.ensures.kept in
+    let pool : ReplayedPool = c.in_ok-replayed.replayed in
     let next : NextPool = c.in_ok-next.next in
     let size : ℕ = c.args.geometry in
+    let is : IsPrepared size u name tree slots chain pool next =
+    record { named = c.in_ok-found.found.named; loaded = c.in_ok-found.ensures.loaded; replayed = c.in_ok-replayed.ensures.replayed; planned = c.in_ok-next.ensures.planned } in
     let old = g.D.SectorDevice.disk c.args.device.now in
     let mid = g.D.SectorDevice.disk c.flush.new.self in
     let new = g.D.SectorDevice.disk c.open_pool.new.device in
@@ -226,19 +265,13 @@ returns-clause-starts g c = λ keeps.
     let ends =
     subst (λ (d : Disk). OnOk c.open_pool.result (EndsBehind (writes_of_next size u c.args.moment next) first d new)) (c.read_pool.ensures.reads.disk keeps) (c.open_pool.ensures.behind keeps) in
     ok_weaker c.open_pool.result _ _
-    (λ m h. starts_run old mid flushes size u name first read.long read.pool stage next c.args.moment chain (kept_parts size u name slots tree chain next kept c.in_ok-found.ensures.loaded)
-    (kept_over size u name slots tree chain next kept (bytes_of mid.now) read)
-    (λ created guid contents own. kept_mounts size u name slots tree chain next kept (bytes_of mid.now) read (own_empty old mid flushes size u name first read.long read.pool stage created guid contents own))
+    (λ m h. starts_run old mid flushes size u name first read.long read.pool stage next c.args.moment chain (prepared_parts size u name tree slots chain pool next is)
+    (prepared_over size u name tree slots chain pool next is (bytes_of mid.now) read) (prepared_mounts size u name tree slots chain pool next is (bytes_of mid.now) read)
     new views c.args.dirty_max m h.0 h.1)
     (ok_both c.open_pool.result _ _ c.open_pool.ensures.mounted ends)
 
 pub open_pool-requires-clause-next : goal.open_pool-requires-clause-next
 open_pool-requires-clause-next g c =
-    let u : Uberblock = fields_of c.in_ok-found.found.uberblock in
-    let name : List ℕ = c.in_ok-found.found.name in
-    let tree : Tree = c.in_ok-found.loaded.tree in
-    let slots : List Slot = c.in_ok-found.loaded.slots.items in
-    let chain : List LogPiece = c.in_ok-found.logged.items in
-    let kept : KeepsLoaded c.args.geometry name slots tree (chain_addresses chain) c.in_ok-next.next =
-    subst (λ (bs : List LogPiece). KeepsLoaded c.args.geometry name slots tree (chain_addresses bs) c.in_ok-next.next) c.as_slice.ensures.value c.in_ok-next.ensures.kept in
-    kept_ready c.args.geometry u name slots tree chain c.in_ok-next.next kept c.in_ok-found.ensures.loaded.placed
+    prepared_ready c.args.geometry (fields_of c.in_ok-found.found.uberblock) c.in_ok-found.found.name c.in_ok-found.loaded.tree c.in_ok-found.loaded.slots.items c.in_ok-found.logged.items
+    c.in_ok-replayed.replayed c.in_ok-next.next
+    (record { named = c.in_ok-found.found.named; loaded = c.in_ok-found.ensures.loaded; replayed = c.in_ok-replayed.ensures.replayed; planned = c.in_ok-next.ensures.planned })

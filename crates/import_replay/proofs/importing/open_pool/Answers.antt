@@ -8,7 +8,7 @@ use Rattle.import_replay.proofs.MountedPools.{group-within, import-within}
 use Rattle.import_replay.proofs.importing.open_pool.Goals as goal
 
 pub invariant_of-result-clause-tree_placed : goal.invariant_of-result-clause-tree_placed
-invariant_of-result-clause-tree_placed g c = ∣ c.requires.next.placed ∣₁
+invariant_of-result-clause-tree_placed g c = c.requires.next.placed
 
 pub invariant_of-result-clause-log_placed : goal.invariant_of-result-clause-log_placed
 invariant_of-result-clause-log_placed g c = ∣ c.requires.next.log_placed ∣₁

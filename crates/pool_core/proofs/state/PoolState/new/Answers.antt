@@ -33,7 +33,6 @@ returns-clause-safe g c = λ created held began kept.
     let idle : shown.line.syncing ≡ None = ap (λ (s : Shown). s.line.syncing) c.new.ensures.shown in
     record {
       held = held created;
-      no_log = ap (λ (s : Shown). s.log.kept) c.new.ensures.shown;
       same_bytes = refl;
       began = began;
       kept = idle_kept (run_in c.new.result) (g.D.SectorDevice.disk c.args.imported.device) shown (first_past shown created) none idle kept;
