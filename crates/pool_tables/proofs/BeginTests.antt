@@ -54,11 +54,11 @@ below_most : (n : ℕ) (other : Bool) → (nat_le max_transactions n || other) �
 below_most n other h = let few = (or_parts (nat_le max_transactions n) other h).0 in grind (arith, nat_tests)
 
 -- none of some tests applies
-abbrev AllPass : List Test → Type 0
+abbrev pub AllPass : List Test → Type 0
 AllPass [] = Unit {0}
 AllPass (t ∷ ts) = (t.applies ≡ false) × AllPass ts
 
-all_pass : (ts : List Test) → first_refusal ts ≡ None → AllPass ts
+pub all_pass : (ts : List Test) → first_refusal ts ≡ None → AllPass ts
 all_pass [] none = tt
 all_pass (t ∷ ts) none = go t.applies none (all_pass ts)
   where

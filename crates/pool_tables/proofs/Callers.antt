@@ -1,8 +1,10 @@
 -- What a caller reads off an answer: refused by the first test that applies, all stands; else it is what the step says.
-use Rattle.std.proofs.Common.{◌≡◌, ◌∙◌, ℕ, Bool, true, false, ◌&&◌, not, List, [], ◌∷◌, nat_eq, refl, ap, sym, subst}
-use Rattle.std.proofs.lemmas.Bool.{eq-eqb}
+use Rattle.std.proofs.Common.{◌≡◌, ◌∙◌, ◌⊎◌, inl, inr, ℕ, Bool, true, false, ◌&&◌, not, List, [], ◌∷◌, length, nat_eq, nat_le, refl, ap, sym, subst, arith}
+use Rattle.std.proofs.lemmas.Bool.{eq-eqb, or_right}
 use Rattle.std.proofs.lemmas.Cmp.{nat_cmp_total}
-use Rattle.std.specs.Prelude.{Option, Some, None, Result, Ok, Err, IfOk, IfSome, find, is_some, option_map, ◌==◌}
+use Rattle.std.specs.Prelude.{Option, Some, None, Result, Ok, Err, IfOk, IfSome, OnOk, find, is_some, option_map, ◌==◌}
+use Rattle.std.proofs.lemmas.List.{length-append}
+use Rattle.std.specs.List.{list_any}
 use Rattle.std.specs.Ordering.{nat_cmp}
 use Rattle.std.specs.FinMap as finite
 use Rattle.std.specs.FinSet as set
@@ -13,19 +15,25 @@ use Rattle.base.specs.declared.names.Group.{Group}
 use Rattle.base.specs.declared.names.LockId.{LockId}
 use Rattle.base.specs.declared.range.Mode.TheVariants.{Writer}
 use Rattle.base.specs.declared.range.Range.{Range}
+use Rattle.base.specs.disk.Calls.{Flushes}
+use Rattle.base.specs.disk.Disk.{Disk, Write, bytes_of, certain_with, written}
 use Rattle.base.specs.formats.Digest.{digest_of}
+use Rattle.base.specs.formats.Fields.{number_at}
 use Rattle.base.specs.history.Contents.{length_of}
 use Rattle.base.specs.history.Past.{Past}
 use Rattle.base.specs.history.Plans.{NumberRange}
 use Rattle.base.specs.steps.ExactNow.{IsExplainedNow}
 use Rattle.base.specs.steps.Groups.{Admission}
-use Rattle.base.specs.steps.Refusals.{abort_refusal, append_range, append_refusal, digest_refusal, length_refusal, quiesced_group, read_refusal, start_refusal, transaction_of}
-use Rattle.base.specs.steps.Shown.{Shown, SyncPlan}
+use Rattle.base.specs.formats.Records.{Record}
+use Rattle.base.specs.steps.Logs.{Committed, KeptBlock, Log, has_record, log_after_write}
+use Rattle.base.specs.steps.Refusals.{abort_refusal, append_range, append_refusal, digest_refusal, length_refusal, log_flush_refusal, log_write_refusal, quiesced_group, read_refusal, start_refusal, transaction_of}
+use Rattle.base.specs.steps.Shown.{Shown, SyncPlan, is_durable}
 use Rattle.base.specs.steps.BuiltSteps as as_built
 use Rattle.base.specs.steps.Steps as steps
-use Rattle.base.specs.steps.Steps.{Answers, IsPlanned, IsReplayUpTo, State, TakesForEach, WantsMemory, bytes_in, next_grant, state_after_abort, state_after_grant, state_after_start, transactions_without}
-use Rattle.base.proofs.common.KeptLists.{Some-injective, any_at}
+use Rattle.base.specs.steps.Steps.{Answers, IsPlanned, IsReplayUpTo, State, TakesForEach, TakesForLog, WantsMemory, bytes_in, next_grant, state_after_abort, state_after_grant, state_after_log_flush, state_after_log_write, state_after_start, suspended_state, transactions_without}
+use Rattle.base.proofs.common.KeptLists.{Some-injective, any_at, any_map}
 use Rattle.base.proofs.history.CommitOrder.{ok-none}
+use Rattle.pool_tables.specs.LogBlocks.{WritesLogBlock}
 use Rattle.pool_tables.specs.Meets.{Meets}
 use Rattle.pool_tables.specs.StepAnswers.{StartsSync, appended_numbers}
 use Rattle.pool_tables.specs.Tables.{result_map}
@@ -114,6 +122,61 @@ module _ (s new : Shown) where
       (done.1.0, ap (λ (x : State). x.shown.sync) done.1.4, done.1.2.contents)
   started_contents moment (Err e) starts = tt
 
+  -- What a write of the log makes: nothing, or a block more.
+  abbrev Puts : Past → Result ℕ PoolError → Type 0
+  Puts later answer = (taken rest : List Record) × (address : ℕ) × TakesForLog before taken rest address × (new.log ≡ log_after_write taken rest address s.log) × (new.line ≡ s.line) × IfOk answer (λ count. count ≡ length taken)
+
+  put_or_not : (r : Option PoolError) (later : Past) (answer : Result ℕ PoolError)
+      → Answers r answer before (after later)
+      (λ count. (taken rest : List Record) × (address : ℕ) × TakesForLog before taken rest address × (count ≡ length taken) × (after later ≡ state_after_log_write taken rest address before))
+      (λ e. WantsMemory before (after later) e ⊎ ((e ≡ error.Write) × ((taken rest : List Record) × (address : ℕ) × TakesForLog before taken rest address × (after later ≡ suspended_state (state_after_log_write taken rest address before)))))
+      → ((e : PoolError) × (answer ≡ Err e) × (new ≡ s)) ⊎ Puts later answer
+  put_or_not (Some e) later answer h = inl (e, h.0, ap (λ (x : State). x.shown) h.1)
+  put_or_not None later (Ok count) (taken, rest, address, takes, is, same) = inr (taken, rest, address, takes, ap (λ (x : State). x.shown.log) same, ap (λ (x : State). x.shown.line) same, is)
+  put_or_not None later (Err e) (inl (memory, same)) = inl (e, refl, ap (λ (x : State). x.shown) same)
+  put_or_not None later (Err e) (inr (write, (taken, rest, address, takes, same))) = inr (taken, rest, address, takes, ap (λ (x : State). x.shown.log) same, ap (λ (x : State). x.shown.line) same, tt)
+
+  -- of one pending record it writes one, and leaves none
+  pub written_one : (answer : Result ℕ PoolError) → length s.log.pending ≡ 1 → Meets steps.LogWrite answer s new → IfOk answer (λ count. count ≡ 1) × OnOk answer (new.log.pending ≡ [])
+  written_one (Err e) one meets = (tt, tt)
+  written_one (Ok count) one meets = elim (put_or_not (log_write_refusal s) (meets (some_past s)).0 (Ok count) (meets (some_past s)).1) as (λ _. (count ≡ 1) × (new.log.pending ≡ [])) [
+    | inl (e, is, same) ↦ absurd (let no_way : Ok count ≡ Err e = is in cc)
+    | inr (taken, rest, address, takes, log, line, is) ↦
+        let all = ap (λ (rs : List Record). length rs) takes.packed.front ∙ length-append taken rest in
+        let some = takes.packed.some in
+        (omega (arith, one, all, some, is), ap (λ (l : Log). l.pending) log ∙ none_of rest (omega (arith, one, all, some)))
+  ]
+    where
+      none_of : (rs : List Record) → length rs ≡ 0 → rs ≡ []
+      none_of [] none = refl
+      none_of (r ∷ rs) none = absurd (omega (arith, none))
+
+  -- a device that refuses it suspends the pool
+  pub write_suspends : (answer : Result ℕ PoolError) → log_write_refusal s ≡ None → Meets steps.LogWrite answer s new → answer ≡ Err error.Write → new.suspended ≡ true
+  write_suspends (Ok count) none meets is = absurd (let no_way : Ok count ≡ Err error.Write = is in cc)
+  write_suspends (Err e) none meets is =
+      elim (rw none at (meets (some_past s)).1) as (λ _. new.suspended ≡ true) [
+        | inl (memory, same) ↦ absurd (let no_way : Err e ≡ Err error.Write = is in cc)
+        | inr (write, (taken, rest, address, takes, same)) ↦ ap (λ (x : State). x.shown.suspended) same
+      ]
+
+  -- and none of what it writes is durable before a flush
+  pub written_not_durable : (answer : Result ℕ PoolError) (ordinal group : ℕ) → s.log.kept ≡ [] → nat_le group s.line.synced ≡ false → Meets steps.LogWrite answer s new → is_durable new ordinal group ≡ false
+  written_not_durable answer ordinal group none above meets = elim (put_or_not (log_write_refusal s) (meets (some_past s)).0 answer (meets (some_past s)).1) as (λ _. is_durable new ordinal group ≡ false) [
+    | inl (e, is, same) ↦ rw (same, none, above) refl
+    | inr (taken, rest, address, takes, log, line, is) ↦ rw (log, line, none, above) refl
+  ]
+
+  -- A flush of the log that is answered makes each kept block certain.
+  pub flushed_durable : (ordinal group : ℕ) (kept : List KeptBlock) → s.log.kept ≡ kept → list_any (λ (b : KeptBlock). has_record b (record { ordinal = ordinal; group = group })) kept ≡ true
+      → Meets steps.LogFlush (Ok tt) s new → is_durable new ordinal group ≡ true
+  flushed_durable ordinal group kept is has meets =
+      let later : State = after (meets (some_past s)).0 in
+      let done = ok-none (log_flush_refusal s) tt before later (λ _. later ≡ state_after_log_flush before) (λ e. (e ≡ error.Flush) × (later ≡ suspended_state before)) (meets (some_past s)).1 in
+      let c : Committed = record { ordinal = ordinal; group = group } in
+      ap (λ (x : State). is_durable x.shown ordinal group) done.1
+      ∙ or_right (nat_le group s.line.synced) _ (any_map (λ (b : KeptBlock). b.flushed && has_record b c) (λ (b : KeptBlock). record b { flushed = true }) s.log.kept ∙ ap (list_any (λ (b : KeptBlock). has_record b c)) is ∙ has)
+
 -- And of a step that leaves what is shown.
 module _ (s : Shown) where
   -- the bytes of a range that are read
@@ -153,6 +216,21 @@ module _ (s : Shown) where
   -- the digest that is told
   pub told_digest : (answer : Result (List ℕ) PoolError) → s.suspended ≡ false → Meets as_built.DigestInMemory answer s s → answer ≡ Ok (digest_of s.contents)
   told_digest answer running meets = digest_by (meets (some_past s)).0 answer (rw running refl) (meets (some_past s)).1
+
+-- a log write that is answered made one write, of a log block
+pub one_write : (answer : Result ℕ PoolError) (s new : Shown) (disk later : Disk) → WritesLogBlock answer s new disk later
+    → IfOk answer (λ _. (content : List ℕ) × (number_at content 0 ≡ 6) × (later ≡ written s.log.next.address content true disk))
+one_write (Ok count) s new disk later puts = (puts.block.content, puts.packed.sealed.kind_is, puts.writes)
+one_write (Err e) s new disk later puts = tt
+
+-- a flush that is answered leaves nothing unflushed
+pub all_flushed : (answer : Result (Unit {0}) PoolError) (disk later : Disk) → Flushes disk answer later → OnOk answer (later.now.unflushed ≡ [])
+all_flushed (Err e) disk later flushed = tt
+all_flushed (Ok x) disk later flushed = ap (λ (d : Disk). d.now.unflushed) flushed ∙ go disk.now.unflushed refl
+  where
+    go : (ws : List Write) → disk.now.unflushed ≡ ws → (certain_with (bytes_of disk.now) disk ws).now.unflushed ≡ []
+    go [] none = none
+    go (w ∷ ws) some = refl
 
 -- an address that a sync takes is free no more
 pub taken_away : (free : FinSet nat_cmp) (address : ℕ) → set.contains (set.difference free (set.from_list (address ∷ []))) address ≡ false

@@ -20,6 +20,8 @@ pub mod PendingOps
 pub mod WrittenRecords
 pub mod WholeBlocks
 pub mod LogHeaders
+pub mod LoggedRecords
+pub mod LogSteps
 pub mod UnsyncedChanges
 pub mod FreeBlocks
 pub mod GivenLogs

@@ -1,5 +1,5 @@
 -- Each record of the log lies whole in one kept block: with a block more, once all are flushed, and with fewer blocks.
-use Rattle.std.proofs.Common.{◌≡◌, ◌++◌, ◌∷◌, [], ◌⊎◌, inl, inr, Bool, true, List, ap, map, refl, subst}
+use Rattle.std.proofs.Common.{◌≡◌, ◌++◌, ◌∷◌, [], inl, inr, Bool, true, List, map, refl, subst}
 use Rattle.std.specs.Prelude.{filter}
 use Rattle.base.specs.formats.Chain.{Header}
 use Rattle.base.specs.steps.Logs.{AreWhole, Committed, KeptBlock, whole_block}

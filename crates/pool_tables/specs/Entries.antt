@@ -1,5 +1,5 @@
 -- What a commit makes of what a pool shows, and what it needs.
-use Rattle.std.specs.Prelude.{ℕ, ◌≡◌, ◌+◌, ◌<◌, ◌≤◌, ◌++◌, true, List, [], ◌∷◌, map, vec_capacity, vec_len}
+use Rattle.std.specs.Prelude.{ℕ, ◌≡◌, ◌+◌, ◌<◌, ◌≤◌, true, List, map, vec_capacity, vec_len}
 use Rattle.std.specs.FinMap.{FinMap}
 use Rattle.std.specs.Ordering.{nat_cmp}
 use Rattle.base.specs.declared.operation.Op.{Op}

@@ -18,4 +18,5 @@ pub mod SyncStarts
 pub mod Told
 pub mod KeptTrees
 pub mod NextCalls
+pub mod LogBlocks
 pub mod SyncPhases

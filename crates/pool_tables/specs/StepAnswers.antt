@@ -76,3 +76,9 @@ StartsSync moment answer = MeetsExplained (as_built.StartSync ⊥ [] moment) (re
 
 abbrev pub StepsSync : Result Progress PoolError → Shown → Shown → Type 0
 StepsSync answer = Meets steps.SyncStep (result_map plain_progress answer)
+
+abbrev pub WritesLog : Result ℕ PoolError → Shown → Shown → Type 0
+WritesLog answer = Meets steps.LogWrite answer
+
+abbrev pub FlushesLog : Result (Unit {0}) PoolError → Shown → Shown → Type 0
+FlushesLog answer = Meets steps.LogFlush answer

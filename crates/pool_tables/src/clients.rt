@@ -1,11 +1,13 @@
 //! What callers rest on: one function for each promise of this crate's calls, proved from the contract of the call
 //! alone. So it is refused as soon as that contract says less.
 
-ghost use Rattle.std.specs.Prelude.{◌≡◌, ◌<◌, ◌+◌, ◌∷◌, [], IfOk, None, Ok, Some, false, length, map, true};
+ghost use Rattle.std.specs.Prelude.{◌≡◌, ◌<◌, ◌+◌, ◌∷◌, [], ℕ, List, IfOk, IsTrue, None, Ok, OnOk, Some, false, length, map, true};
 ghost use Rattle.std.specs.FinMap as finite;
 ghost use Rattle.std.specs.FinSet as set;
 ghost use Rattle.base.specs.declared.range.Mode.TheVariants as mode;
+ghost use Rattle.base.specs.disk.Disk.{written};
 ghost use Rattle.base.specs.formats.Digest.{digest_of};
+ghost use Rattle.base.specs.formats.Fields.{number_at};
 ghost use Rattle.base.specs.formats.Geometry.{block_count};
 ghost use Rattle.base.specs.history.Contents.{length_of};
 ghost use Rattle.base.specs.history.Past.{Past};
@@ -13,8 +15,9 @@ ghost use Rattle.base.specs.history.Plans.{charge_of};
 ghost use Rattle.base.specs.steps.Exact.{log_addresses};
 ghost use Rattle.base.specs.steps.ExactNow.{IsExplainedNow};
 ghost use Rattle.base.specs.steps.Groups.{hold_count};
-ghost use Rattle.base.specs.steps.Refusals.{first_refusal};
-ghost use Rattle.base.specs.steps.Shown.{SyncPlan, free_count, reserved_total};
+ghost use Rattle.base.specs.steps.Refusals.{first_refusal, log_write_refusal};
+ghost use Rattle.base.specs.steps.Logs.{whole_block};
+ghost use Rattle.base.specs.steps.Shown.{SyncPlan, available, free_count, reserved_total};
 ghost use Rattle.base.specs.steps.Steps.{IsReplayUpTo};
 ghost use Rattle.object_maps.specs.ContentsShown.{contents_of};
 ghost use Rattle.object_maps.specs.Sources.{AreWithin};
@@ -22,13 +25,15 @@ ghost use Rattle.intent_log.specs.Kept.{log_shown};
 ghost use Rattle.tree_plans.specs.Plans.{address_of};
 ghost use Rattle.group_plans.specs.Areas.{AreBlocksOf};
 ghost use Rattle.pool_tables.specs.BeginTests.{plan_tests};
-ghost use Rattle.pool_tables.specs.Shows.{pool_shown};
+ghost use Rattle.pool_tables.specs.Shows.{geometry_of, pool_shown};
 
 use crate::blocks::{give_log, take_all};
 use crate::pool::PoolTables;
 use base::{
-    Bytes, Group, LockId, Mode, ObjectId, Owner, Plan, PoolError, PoolName, Range, Shape, TxId,
+    Bytes, Group, LockId, Mode, ObjectId, Ordinal, Owner, Plan, PoolError, PoolName, Range,
+    Receipt, Shape, TxId,
 };
+use device_model::SectorDevice;
 use import_replay::Mounted;
 use intent_log::{Log, LogHeader};
 use labels::Geometry;
@@ -227,4 +232,117 @@ fn a_block_that_a_sync_takes_is_not_free(free: &mut FreeSet, blocks: &[PlannedBl
     ensures { set.contains free.new.free 4202496 ≡ false }
 {
     take_all(free, blocks);
+}
+
+// One record that is pending is written, and pending no more.
+fn a_pending_record_is_written<D: SectorDevice>(
+    pool: &mut PoolTables,
+    device: &mut D,
+) -> Result<u64, PoolError>
+    requires sized { D.size device.old ≡ geometry_of pool.old }
+    requires one { length (pool_shown pool.old).log.pending ≡ 1 }
+    ensures count { IfOk result (λ count. count ≡ 1) }
+    ensures left { OnOk result ((pool_shown pool.new).log.pending ≡ []) }
+{
+    pool.log_write(device)
+}
+
+// Nothing is written if nothing is pending.
+fn nothing_pending_is_not_written<D: SectorDevice>(
+    pool: &mut PoolTables,
+    device: &mut D,
+) -> Result<u64, PoolError>
+    requires sized { D.size device.old ≡ geometry_of pool.old }
+    requires running { (pool_shown pool.old).suspended ≡ false }
+    requires none { (pool_shown pool.old).log.pending ≡ [] }
+    ensures refused { result ≡ Err PoolError.NotReady }
+    ensures unchanged { pool_shown pool.new ≡ pool_shown pool.old }
+{
+    pool.log_write(device)
+}
+
+// A log write leaves the 16 blocks that are kept back.
+fn no_log_block_takes_a_kept_back_one<D: SectorDevice>(
+    pool: &mut PoolTables,
+    device: &mut D,
+) -> Result<u64, PoolError>
+    requires sized { D.size device.old ≡ geometry_of pool.old }
+    requires running { (pool_shown pool.old).suspended ≡ false }
+    requires one { length (pool_shown pool.old).log.pending ≡ 1 }
+    requires few { available (pool_shown pool.old) ≡ 16 }
+    ensures refused { result ≡ Err PoolError.NoLogSpace }
+    ensures unchanged { pool_shown pool.new ≡ pool_shown pool.old }
+{
+    pool.log_write(device)
+}
+
+// If the device refuses it, the pool is suspended.
+fn a_refused_log_write_suspends_the_pool<D: SectorDevice>(
+    pool: &mut PoolTables,
+    device: &mut D,
+) -> Result<u64, PoolError>
+    requires sized { D.size device.old ≡ geometry_of pool.old }
+    requires passes { log_write_refusal (pool_shown pool.old) ≡ None }
+    ensures { result ≡ Err PoolError.Write → (pool_shown pool.new).suspended ≡ true }
+{
+    pool.log_write(device)
+}
+
+// A log write is one write of a block of the log's kind, at the log's next address.
+fn a_log_write_is_one_write<D: SectorDevice>(
+    pool: &mut PoolTables,
+    device: &mut D,
+) -> Result<u64, PoolError>
+    requires sized { D.size device.old ≡ geometry_of pool.old }
+    requires keeps { IsTrue D.keeps_model }
+    ensures { IfOk result (λ _. (content : List ℕ) × (number_at content 0 ≡ 6)
+        × (D.disk device.new ≡ written (pool_shown pool.old).log.next.address content true
+        (D.disk device.old))) }
+{
+    pool.log_write(device)
+}
+
+// A record that is written and not flushed is not durable, answered or refused.
+fn a_written_record_is_not_durable_yet<D: SectorDevice>(
+    pool: &mut PoolTables,
+    device: &mut D,
+) -> bool
+    requires sized { D.size device.old ≡ geometry_of pool.old }
+    requires synced { (pool_shown pool.old).line.synced ≡ 8 }
+    requires none { (pool_shown pool.old).log.kept ≡ [] }
+    ensures { result ≡ false }
+{
+    let _ = pool.log_write(device);
+    pool.durable(Receipt {
+        ordinal: Ordinal(7),
+        group: Group(9),
+    })
+}
+
+// It is durable after a flush that is answered.
+fn a_flushed_record_is_durable<D: SectorDevice>(
+    pool: &mut PoolTables,
+    device: &mut D,
+) -> Result<bool, PoolError>
+    requires { (pool_shown pool.old).log.kept
+        ≡ whole_block (record { address = 4202496; number = 3 }) (record { ordinal = 7; group = 9 } ∷ []) false
+        ∷ [] }
+    ensures { IfOk result (λ is. is ≡ true) }
+{
+    pool.log_flush(device)?;
+    Ok(pool.durable(Receipt {
+        ordinal: Ordinal(7),
+        group: Group(9),
+    }))
+}
+
+// After it the device has nothing that is not flushed.
+fn a_log_flush_leaves_nothing_unflushed<D: SectorDevice>(
+    pool: &mut PoolTables,
+    device: &mut D,
+) -> Result<(), PoolError>
+    requires { IsTrue D.keeps_model }
+    ensures { OnOk result ((D.disk device.new).now.unflushed ≡ []) }
+{
+    pool.log_flush(device)
 }

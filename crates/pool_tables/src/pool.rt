@@ -23,6 +23,10 @@
 //! 9. The transactions of the unsynced groups are kept in order of commit, and those that the log has are a front of
 //!    them. A sync fixes its log header at its start, and the log blocks before it come back with its last step
 //!    (`zil.c`).
+//! 10. A log write takes as many whole records from the front of the others as fit a block. It also takes the lowest
+//!     free block, for the log block after it (`zil_lwb_write_issue`). Both are noted before the block is written, so a
+//!     refused write has taken them. It leaves the 16 blocks that are kept for plans that free blocks.
+//! 11. After a log flush each log block that was written is certain, and its transactions are durable.
 //!
 //! The full contract of each call stands at `PoolState` of `pool_core`, which adds the device.
 
@@ -52,6 +56,7 @@ ghost use Rattle.pool_tables.specs.RunningUberblocks.{uberblock_with};
 ghost use Rattle.pool_tables.specs.Targets.{is_readable};
 
 mod commits;
+mod logs;
 mod syncs;
 
 use base::{

@@ -2,10 +2,7 @@
 use Rattle.std.proofs.Common.{◌≡◌, ◌<◌, ◌≤◌, ◌+◌, ℕ, true, false, arith, List, length, map, refl, ap, sym, subst, ◌∙◌}
 use Rattle.std.specs.Prelude.{Option, Some, None, is_some, option_map}
 use Rattle.std.specs.BTreeMap.{BTreeMap}
-use Rattle.std.specs.FinMap.{FinMap}
 use Rattle.std.specs.Global.{Vec}
-use Rattle.std.specs.Option.{option_map_or}
-use Rattle.std.specs.Ordering.{nat_cmp}
 use Rattle.std.proofs.lemmas.List.{length-map}
 use Rattle.base.specs.common.Rising.{rising}
 use Rattle.base.specs.declared.names.ObjectId.{ObjectId}
@@ -23,11 +20,9 @@ use Rattle.base.proofs.steps.KeptGroups.{none_there, quiesced_is}
 use Rattle.base.proofs.steps.WaitingGroups.{next-group}
 use Rattle.object_maps.specs.declared.tree.ObjectMap.{ObjectMap}
 use Rattle.object_maps.specs.declared.tree.Tree.{Tree}
-use Rattle.extents.specs.declared.extents.Extents.{Extents}
-use Rattle.extents.specs.Patches.{ArePatchesOf, laid_over, no_patch}
+use Rattle.extents.specs.Patches.{ArePatchesOf}
 use Rattle.extents.specs.Synced.{patched_contents}
-use Rattle.extents.specs.Tables.{patches_of}
-use Rattle.extents.specs.Unsynced.{changes_at, extents_at, laid_all}
+use Rattle.extents.specs.Unsynced.{changes_at, laid_all}
 use Rattle.object_maps.specs.Pointers.{pointers_of}
 use Rattle.space.proofs.FreeLists.{length-rising}
 use Rattle.tree_plans.specs.declared.planner.PlannedBlock.{PlannedBlock}

@@ -1,5 +1,5 @@
 -- A sync that starts, step by step.
-use Rattle.std.proofs.Common.{ℕ, ◌≡◌, ◌+◌, ◌<◌, ◌≤◌, Bool, true, false, not, ◌&&◌, ◌||◌, cond, List, [], ◌∷◌, map, length, nat_lt, refl, ap, sym, subst, ◌∙◌, ◌⊎◌, inl, inr, arith, take, All}
+use Rattle.std.proofs.Common.{ℕ, ◌≡◌, ◌+◌, ◌<◌, ◌≤◌, Bool, true, false, ◌||◌, cond, List, [], ◌∷◌, map, length, nat_lt, refl, ap, sym, subst, ◌∙◌, ◌⊎◌, inl, inr, arith, take, All}
 use Rattle.std.specs.Prelude.{Option, Some, None, Result, Ok, Err, filter, ◌==◌, is_some, IfSome, unwrap_or, if◌then◌else◌}
 use Rattle.std.specs.List.{list_any, enumerate_from, flat_map}
 use Rattle.std.specs.FinSet as set
