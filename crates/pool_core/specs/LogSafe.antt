@@ -1,35 +1,12 @@
 -- What a write and a flush of the log do to a pool on its disk, and that they keep the crash rule.
-use Rattle.std.specs.Prelude.{ℕ, ◌≡◌, ◌⊎◌, Bool, true, false, List, [], ◌∷◌, Result, Ok, Err}
-use Rattle.std.specs.FinSet as set
+use Rattle.std.specs.Prelude.{ℕ, ◌≡◌, Result}
 use Rattle.base.specs.declared.error.PoolError.{PoolError}
-use Rattle.base.specs.crash.LogSteps.{IsPackedBlock, shown_after_write}
-use Rattle.base.specs.crash.Views.{Logged}
-use Rattle.base.specs.disk.Calls.{Flushes, Writes}
-use Rattle.base.specs.disk.Disk.{Disk, bytes_of}
-use Rattle.base.specs.formats.Records.{Record}
+use Rattle.base.specs.disk.Calls.{Flushes}
+use Rattle.base.specs.disk.Disk.{bytes_of}
 use Rattle.base.specs.steps.Explains.{WereSafe}
-use Rattle.base.specs.steps.Logs.{IsPacked}
-use Rattle.base.specs.steps.Shown.{Shown}
-use Rattle.base.specs.steps.Steps.{LogFlush, LogWrite, lowest_free}
+use Rattle.base.specs.steps.Steps.{LogFlush, LogWrite}
+use Rattle.pool_tables.specs.LogBlocks.{WritesLogBlock}
 use Rattle.pool_core.specs.KeptSafe.{IsKeptSafe, OnDisk, WereOwn}
-
--- A log block was handed to the disk at the log's next address, and answered so. It holds as many pending records from
--- the front as fit, and names the lowest free block as the one after it.
-pub record PutsLogBlock (answer : Result (Unit {0}) PoolError) (done : Bool) (old new : Shown) (before after : Disk) : Type 0 where
-  pub taken : List Record
-  pub rest : List Record
-  pub fits : IsPacked 0 old.log.pending taken rest
-  pub address : ℕ
-  pub next : lowest_free 1 old ≡ address ∷ []
-  pub block : Logged
-  pub packed : IsPackedBlock old taken address block
-  pub writes : Writes before old.log.next.address block.content answer after
-  pub shown : new ≡ shown_after_write taken rest address (set.remove old.free address) done old
-
--- A log write hands one block to the disk. Refused before that it leaves the pool and the disk.
-abbrev pub WritesLogBlock : Result ℕ PoolError → Shown → Shown → Disk → Disk → Type 0
-WritesLogBlock (Ok count) old new before after = PutsLogBlock (Ok tt) true old new before after
-WritesLogBlock (Err e) old new before after = ((new ≡ old) × (after ≡ before)) ⊎ PutsLogBlock (Err e) false old new before after
 
 -- the bytes are those of the disk, and the pointers of the synced tree and the running sync are as before
 pub record KeepsSync (old new : OnDisk) : Type 0 where

@@ -20,8 +20,9 @@ use Rattle.base.proofs.disk.Put.{length-put}
 use Rattle.base.proofs.history.CommitOrder.{no_refusal, ok-none}
 use Rattle.base.proofs.steps.KeptTables.{log_steps_keep_tables}
 use Rattle.base.proofs.stored.StoredSteps.{kept-state}
+use Rattle.pool_tables.specs.LogBlocks.{PutsLogBlock}
 use Rattle.pool_core.specs.KeptSafe.{IsKeptSafe, LeavesOwn, OnDisk}
-use Rattle.pool_core.specs.LogSafe.{FlushesLog, IsKeptSafely, LogFlushesAreSafe, LogWritesAreSafe, PutsLogBlock, WritesLog}
+use Rattle.pool_core.specs.LogSafe.{FlushesLog, IsKeptSafely, LogFlushesAreSafe, LogWritesAreSafe, WritesLog}
 use Rattle.pool_core.proofs.crash.LogFlushes as flushes
 use Rattle.pool_core.proofs.crash.LogWrites as writes
 use Rattle.pool_core.proofs.crash.OwnMoments.{were_left}

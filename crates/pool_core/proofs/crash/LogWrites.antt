@@ -47,7 +47,7 @@ use Rattle.sync.specs.Phases.{HoldsLogs, IsUnderWay, SyncViews}
 use Rattle.sync.specs.declared.run.SyncRun.{SyncRun}
 use Rattle.sync.proofs.LogWrites.{log_written}
 use Rattle.pool_core.specs.KeptSafe.{AreSyncTrees, IsDiskKept, IsKeptSafe, IsSyncOnDisk, OnDisk}
-use Rattle.pool_core.specs.LogSafe.{PutsLogBlock}
+use Rattle.pool_tables.specs.LogBlocks.{PutsLogBlock}
 use Rattle.pool_core.proofs.crash.HeldLogs.{held_as}
 use Rattle.pool_core.proofs.crash.OwnMoments.{held_of}
 use Rattle.pool_core.proofs.crash.SafeMoments.{not_syncing}
