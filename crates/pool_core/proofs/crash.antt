@@ -10,3 +10,7 @@ pub mod StoppedSteps
 pub mod StartedViews
 pub mod LeftDisks
 pub mod ViewRooms
+pub mod SyncTrees
+pub mod LogWrites
+pub mod LogFlushes
+pub mod LogSafe

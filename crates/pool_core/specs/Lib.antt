@@ -6,4 +6,5 @@ pub mod Turns
 pub mod NewStates
 pub mod States
 pub mod KeptSafe
+pub mod LogSafe
 pub mod GroupSyncs

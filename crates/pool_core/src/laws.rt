@@ -4,6 +4,7 @@ ghost use Rattle.pool_core.specs.KeptSafe.{KeptPoolsAreExplained, KeptPoolsAreLa
 ghost use Rattle.pool_core.specs.KeptSafe.{KeptPoolsAreSafe};
 ghost use Rattle.pool_core.specs.KeptSafe.{KeptPoolsLeaveTheirOwn, StoppedStepsLeaveTheirOwn};
 ghost use Rattle.pool_core.specs.KeptSafe.{StoppedStepsAreSafe};
+ghost use Rattle.pool_core.specs.LogSafe.{LogFlushesAreSafe, LogWritesAreSafe};
 
 /// A pool that keeps the crash rule with a past is explained by it, on the disk of its device. What is shown is exact.
 /// The past's entries are a history that leads to the contents. The disk holds the tree of the synced group, and the
@@ -38,4 +39,16 @@ pub fn stopped_steps_are_safe()
 /// And it leaves a disk that this pool alone wrote.
 pub fn stopped_steps_leave_their_own()
     ensures { StoppedStepsLeaveTheirOwn }
+{}
+
+/// A write of the log keeps the crash rule, whether a sync runs or not, and whatever the device answers. At each of its
+/// moments the disk is safe, and the pool's own.
+pub fn log_writes_are_safe()
+    ensures { LogWritesAreSafe }
+{}
+
+/// So does a flush of the log. Within it the disk is safe with what was acknowledged before it, and after it with each
+/// entry whose record is in a log block.
+pub fn log_flushes_are_safe()
+    ensures { LogFlushesAreSafe }
 {}

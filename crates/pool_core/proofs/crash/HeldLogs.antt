@@ -6,8 +6,6 @@ use Rattle.base.specs.crash.LogRule.{AreLogBlocksBelow, IsLogHeld}
 use Rattle.base.specs.crash.Views.{Logged, View}
 use Rattle.base.specs.disk.Disk.{Moment, Write, handed}
 use Rattle.base.proofs.crash.LogStarts.{below_of_group, drop-at}
-use Rattle.sync.specs.declared.run.SyncRun.{SyncRun}
-use Rattle.sync.specs.Phases.{HoldsLogs, SyncViews}
 
 -- the log of a view stays held with the same create, also once a write was refused
 pub held_as : (size t other flushed : ℕ) (refused now_refused : Bool) (m : Moment) (v : View) → other ≡ t → (now_refused ≡ false → refused ≡ false) → IsLogHeld size t flushed refused m v → IsLogHeld size other flushed now_refused m v
