@@ -1,5 +1,5 @@
 -- A write and a flush of the log, with the replies that are made of their answers, are steps.
-use Rattle.std.proofs.Common.{◌≡◌, ◌∙◌, ◌⊎◌, inl, inr, ℕ, refl, ap, sym, subst}
+use Rattle.std.proofs.Common.{◌≡◌, ◌∙◌, ◌⊎◌, inl, inr, ℕ, List, [], Option, refl, ap, sym, subst}
 use Rattle.std.specs.Prelude.{IsTrue, Result, Ok, Err, option_map}
 use Rattle.base.specs.declared.error.PoolError.{PoolError}
 use Rattle.base.specs.declared.refused.RefusedCalls.{RefusedCalls}
@@ -22,7 +22,7 @@ use Rattle.pool_tables.specs.LogBlocks.{PutsLogBlock, WritesLogBlock}
 use Rattle.pool_tables.specs.StepAnswers as answers
 use Rattle.pool_tables.specs.Told.{Leads, ShownPool, new_tree_of, state_with}
 use Rattle.pool_tables.specs.declared.pool.RunningSync.{RunningSync}
-use Rattle.pool_core.specs.Calls.{CallsDevice, answer_in}
+use Rattle.pool_core.specs.Calls.{CallsDevice, WritesBlock, answer_in}
 use Rattle.pool_core.specs.KeptSafe.{IsKeptSafe, KeepsSafe, OnDisk, disk_of, on_disk}
 use Rattle.pool_core.specs.LogSafe.{FlushesLog, KeepsSync, WritesLog}
 use Rattle.pool_core.specs.States.{CountsRefused, KeepsTreeOf, refused_calls, shown, told}
@@ -30,7 +30,8 @@ use Rattle.pool_core.specs.StepReplies.{IsStep, StepReplies}
 use Rattle.pool_core.specs.Turns.{MakesStep, Turns}
 use Rattle.pool_core.specs.declared.state.PoolState.{PoolState}
 use Rattle.pool_core.proofs.Turns.{any_turns}
-use Rattle.pool_core.proofs.crash.LogSafe.{log_flushes_are_safe, log_writes_are_safe}
+use Rattle.pool_core.proofs.crash.LogSafe.{log_flushes_safe, log_writes_safe}
+use Rattle.pool_core.proofs.crash.LogFlushes.{same_flushed}
 
 -- a write that the device refused leaves what a read gives, and so does a flush
 bytes_refused : (before after : Disk) (place : ℕ) (content : List ℕ) (e : PoolError) → Writes before place content (Err e) after → bytes_of after.now ≡ bytes_of before.now
@@ -38,7 +39,7 @@ bytes_refused before after place content e (inl counts) = ap (λ (d : Disk). byt
 bytes_refused before after place content e (inr same) = ap (λ (d : Disk). bytes_of d.now) same
 
 bytes_flushed : (before after : Disk) (answer : Result (Unit {0}) PoolError) → Flushes before answer after → bytes_of after.now ≡ bytes_of before.now
-bytes_flushed before after (Ok u) made = ap (λ (d : Disk). bytes_of d.now) made
+bytes_flushed before after (Ok u) made = same_flushed before after made
 bytes_flushed before after (Err e) made = ap (λ (d : Disk). bytes_of d.now) made
 
 abbrev logged : Result ℕ PoolError → Reply
@@ -55,7 +56,7 @@ answer_in-flushed : (answer : Result (Unit {0}) PoolError) → answer_in (flushe
 answer_in-flushed (Ok u) = refl
 answer_in-flushed (Err e) = refl
 
-module _ {Dev : Type 0} {G : Ghosts Dev} {old new : PoolState Dev G} (same : KeepsTreeOf old new) where
+module _ {Dev : Type 0} {G : Ghosts Dev} (old new : PoolState Dev G) (same : KeepsTreeOf old new) where
   same_pointers : (told new).pointers ≡ (told old).pointers
   same_pointers = ap (λ (t : Tree). pointers_of t) same.tree
 
@@ -105,15 +106,15 @@ module _ {Dev : Type 0} {G : Ghosts Dev} {old new : PoolState Dev G} (same : Kee
           wrote = wrote keeps;
           same = keeps_sync past later;
         } in
-        let safe = log_writes_are_safe answer (on_disk old past) (on_disk new later) x made in
+        let safe = log_writes_safe answer (on_disk old past) (on_disk new later) x made in
         record { step = (write_turns past).over keeps x.held; kept = safe.kept; were = safe.were; own = safe.own }
 
     write_calls : CallsDevice step.LogWrite (logged answer) old new
     write_calls keeps = go answer (wrote keeps)
       where
-        go : (a : Result ℕ PoolError) → WritesLogBlock a (shown old) (shown new) (disk_of old) (disk_of new) → CallsDevice step.LogWrite (logged a) old new
-        go (Ok count) made keeps = made
-        go (Err e) made keeps = made
+        go : (a : Result ℕ PoolError) → WritesLogBlock a (shown old) (shown new) (disk_of old) (disk_of new) → WritesBlock (logged a) old new
+        go (Ok count) made = made
+        go (Err e) made = made
 
     pub log_write_step : MakesStep step.LogWrite (logged answer) old new
     log_write_step = record {
@@ -151,7 +152,7 @@ module _ {Dev : Type 0} {G : Ghosts Dev} {old new : PoolState Dev G} (same : Kee
           flushed = made keeps;
           same = keeps_sync past later;
         } in
-        let safe = log_flushes_are_safe answer (on_disk old past) (on_disk new later) x done in
+        let safe = log_flushes_safe answer (on_disk old past) (on_disk new later) x done in
         record { step = (flush_turns past).over keeps x.held; kept = safe.kept; were = safe.were; own = safe.own }
 
     pub log_flush_step : MakesStep step.LogFlush (flushed answer) old new

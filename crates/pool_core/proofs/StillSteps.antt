@@ -21,12 +21,14 @@ use Rattle.pool_core.specs.States.{CountsRefused, MakesNoCall, MovesNothing, ref
 use Rattle.pool_tables.specs.SyncStarts.{StartLeads}
 use Rattle.pool_tables.proofs.StillSteps.{leads_as}
 
--- whether a reply is neither a refusal nor says of a sync that it was started, goes on or is done
+-- whether a reply is neither a refusal, nor says of a sync that it was started, goes on or is done, nor of a log block
+-- that it was written
 abbrev pub is_still : declared_reply.Reply → Bool
 is_still (reply.Refused e) = false
 is_still (reply.Syncing group) = false
 is_still (reply.Synced group) = false
 is_still reply.More = false
+is_still (reply.Logged count) = false
 is_still _ = true
 
 -- the bytes, the pointers and what the running sync makes are as before
@@ -35,6 +37,7 @@ IsStill old new = (new.now ≡ old.now) × (new.pointers ≡ old.pointers) × (n
 
 still_leads : (r : declared_reply.Reply) (old new : ShownPool) → is_still r ≡ true → IsStill old new → Leads r old new
 still_leads reply.More old new is same = absurd (false≢true is)
+still_leads (reply.Logged count) old new is same = absurd (false≢true is)
 still_leads (reply.Syncing group) old new is same = absurd (false≢true is)
 still_leads (reply.Synced group) old new is same = absurd (false≢true is)
 still_leads _ old new is same = λ past later. same
