@@ -109,7 +109,10 @@ fn import_over(
 // block comes after them. The chain's block is free then.
 #[test]
 fn an_import_replays_the_chain_and_gives_its_blocks_back(rt: HostRuntime) {
-    assert_eq!(rt; import_over(rt.alloc(), 1, &[CREATES]), Ok((1, 4_206_592, 381, true)));
+    assert_eq!(rt;
+        import_over(rt.alloc(), 1, &[CREATES]),
+        Ok((1, 4_206_592, 381, true))
+    );
 }
 
 #[test]
@@ -118,7 +121,10 @@ fn an_import_writes_no_block_for_records_of_an_older_group(rt: HostRuntime) {
         chain: 2,
         ..CREATES
     };
-    assert_eq!(rt; import_over(rt.alloc(), 2, &[block]), Ok((0, 4_198_400, 383, false)));
+    assert_eq!(rt;
+        import_over(rt.alloc(), 2, &[block]),
+        Ok((0, 4_198_400, 383, false))
+    );
 }
 
 #[test]
