@@ -46,7 +46,7 @@ abbrev pub IsOfTree : View → ℕ → Type 0
 IsOfTree v address = (place : Place) × IsPlace place × (v.pointers place ≢ no_pointer) × ((v.pointers place).address ≡ address)
 
 -- The trees of a sync's views: the old one's stands in the bytes that the sync writes over. Each block of the new one's
--- is a block of that, or taken by the sync, and so is each block that the sync writes.
+-- is a block of that, or taken by the sync. Each block that the sync writes is taken by it.
 pub record AreSyncTrees (base : List ℕ) (run : SyncRun) (v : SyncViews) (taken : List ℕ) : Type 0 where
   pub old : HoldsTree base (view_frame run.geometry v.old) v.old.pointers v.old.synced.objects
   pub new : (place : Place) → IsPlace place → v.new.pointers place ≢ no_pointer → IsOfTree v.old (v.new.pointers place).address ⊎ (is_in (v.new.pointers place).address taken ≡ true)

@@ -1,5 +1,5 @@
--- A write and a flush of the log keep the crash rule. At each moment of them the disk is safe with what was acknowledged
--- before, and the pool's own.
+-- A write and a flush of the log keep the crash rule. At each of their moments the disk is the pool's own, and safe
+-- with what was acknowledged before.
 use Rattle.std.proofs.Common.{◌≡◌, ◌∙◌, ◌⊎◌, inl, inr, ℕ, ◌+◌, ◌≤◌, Bool, true, false, List, [], ◌∷◌, ◌++◌, length, Option, Some, None, Result, Ok, Err, refl, ap, sym, subst, arith}
 use Rattle.std.specs.Prelude.{get_or}
 use Rattle.std.proofs.lemmas.List.{length_push}

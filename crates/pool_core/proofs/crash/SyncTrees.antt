@@ -1,5 +1,5 @@
--- The trees of a running sync's views: that of the old view stands in what a read gives, each block of the new view's is
--- one of it or taken, and a log block beside them leaves them.
+-- The trees of a running sync's views. That of the old view stands in what a read gives. Each block of the new view's
+-- is one of it, or taken. A log block beside them leaves them.
 use Rattle.std.proofs.Common.{◌≡◌, ◌∙◌, ◌⊎◌, inl, inr, ℕ, ◌+◌, ◌<◌, ◌≤◌, true, List, length, map, Ok, Err, Result, Some, refl, ap, sym, subst, arith}
 use Rattle.std.specs.Prelude.{◌≢◌, slice_get}
 use Rattle.base.specs.crash.Views.{Logged, view_frame}
