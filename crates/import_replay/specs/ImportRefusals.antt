@@ -90,8 +90,9 @@ pub record HasLastNumbers (image : List ℕ) : Type 0 where
   pub mounts : Mounts image u chain contents
   pub past_last : is_past_last u.group u.import_number ≡ true
 
--- The image mounts contents and the numbers fit, but the blocks that neither the tree nor the chain has are no more than
--- the chain's records above the group are estimated at. Where it has none, each block is in the tree or in the chain.
+-- The image mounts contents and the numbers fit, but the blocks that neither the tree nor the chain has are no more
+-- than the chain's records above the group are estimated at. Where it has none, each block is in the tree or in the
+-- chain.
 pub record LacksImportRoom (image : List ℕ) : Type 0 where
   pub u : Uberblock
   pub chain : List LogPiece

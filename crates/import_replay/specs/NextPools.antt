@@ -75,8 +75,8 @@ pub record IsUnusedBlock (image : List ℕ) (u : Uberblock) (chain : List LogPie
   pub unused : IsUsed image u.root chain (block_address b.index) → ⊥
 
 -- Over an image of so many bytes with this active uberblock and chain: the blocks take no block of these and make the
--- pool's tree, and are no more than the chain's records above the group are estimated at. So many records were replayed.
--- The first log block is the lowest that neither of these nor that tree has.
+-- pool's tree, and are no more than the chain's records above the group are estimated at. So many records were
+-- replayed. The first log block is the lowest that neither of these nor that tree has.
 pub record AreMadeOver (image : List ℕ) (u : Uberblock) (chain : List LogPiece) (size : ℕ) (blocks : List PlannedBlock) (p : PoolParts) : Type 0 where
   pub tree : IsTreeMade image size blocks (next_frame u size) (tree_of p)
   pub unused : All (IsUnusedBlock image u chain) blocks

@@ -85,8 +85,8 @@ fn an_inspection_names_the_block_of_a_record_that_cannot_take_place(rt: HostRunt
     );
 }
 
-/// The records that an import replays, its first log block, the free blocks, and whether object 1 is there then, if these
-/// blocks were written after so many imports.
+/// The records that an import replays, its first log block, the free blocks, and whether object 1 is there then, if
+/// these blocks were written after so many imports.
 fn import_over(
     alloc: Global,
     imports: usize,

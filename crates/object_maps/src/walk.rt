@@ -264,7 +264,8 @@ pub fn load<D: SectorDevice>(
 /// lengths of its objects. No object's bytes are kept: while it walks it has those of one.
 ///
 /// # Errors
-/// As `load`: `Damaged` with the first damage in the order of the walk, `Read` if the device refuses a read, `NoMemory`.
+/// As `load`: `Damaged` with the first damage in the order of the walk, `Read` if the device refuses a read,
+/// `NoMemory`.
 pub fn survey<D: SectorDevice>(
     alloc: Global,
     device: &mut D,

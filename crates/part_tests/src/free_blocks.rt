@@ -113,8 +113,8 @@ fn the_greatest_device_has_a_set(rt: HostRuntime) {
 }
 
 // A transaction reserves blocks of a set of 24, and its group is synced. The numbers count the available blocks, but
-// the fourth counts those that are free before the sync ends. After them come the refusal of one more, the first and the
-// last block that is taken, and whether block 2 is free after the sync.
+// the fourth counts those that are free before the sync ends. After them come the refusal of one more, the first and
+// the last block that is taken, and whether block 2 is free after the sync.
 fn reserve_and_sync(
     free: &mut FreeSet,
 ) -> Result<([u64; 6], Option<PoolError>, [usize; 2], bool), PoolError>

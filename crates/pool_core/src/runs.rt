@@ -14,8 +14,8 @@ ghost use Rattle.pool_core.specs.StepReplies.{StepReplies};
 ghost use Rattle.pool_core.specs.Turns.{MakesStep, Turns};
 
 use crate::calls::{
-    Abort, Begin, CloseGroup, Commit, Digest, Durable, Length, Lock, LockAppend, LogFlush, LogWrite,
-    MarkQuiesced, Name, PoolCall, Read, ReadStatus, StartSync, SyncStep, Unlock,
+    Abort, Begin, CloseGroup, Commit, Digest, Durable, Length, Lock, LockAppend, LogFlush,
+    LogWrite, MarkQuiesced, Name, PoolCall, Read, ReadStatus, StartSync, SyncStep, Unlock,
 };
 use crate::state::PoolState;
 use base::{PoolError, Reply, Step};

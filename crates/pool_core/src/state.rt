@@ -285,9 +285,9 @@ impl<D: SectorDevice> PoolState<D> {
         self.pool.name()
     }
 
-    /// Whether a committed transaction survives a crash: its group is synced, or its record lies in a log block that was
-    /// written before a good `log_flush`. It is never refused, also of a suspended
-    /// pool, and takes no memory. Of a receipt that this run of the pool did not give, it says nothing.
+    /// Whether a committed transaction survives a crash: its group is synced, or its record lies in a log block that
+    /// was written before a good `log_flush`. It is never refused, also of a suspended pool, and takes no memory. Of a
+    /// receipt that this run of the pool did not give, it says nothing.
     pub fn durable(&self, receipt: Receipt) -> bool
         ensures { result ≡ is_durable (shown self.now) receipt.ordinal.0 receipt.group.0 }
     {
@@ -384,8 +384,8 @@ impl<D: SectorDevice> PoolState<D> {
     pub fn log_write(&mut self) -> Result<u64, PoolError>
         ensures step { WritesLog result (shown self.old) (shown self.new) }
         ensures tree { KeepsTreeOf self.old self.new }
-        ensures wrote { IsTrue D.keeps_model → WritesLogBlock result (shown self.old) (shown self.new)
-            (disk_of self.old) (disk_of self.new) }
+        ensures wrote { IsTrue D.keeps_model → WritesLogBlock result
+            (shown self.old) (shown self.new) (disk_of self.old) (disk_of self.new) }
         ensures count { CountsRefused result self.old self.new }
     {
         self.pool.log_write(&mut self.device)

@@ -13,7 +13,7 @@
 //! 5. The transactions whose records are in that chain, with those of the groups up to s, are closed under conflicts.
 //! 6. What was acknowledged as durable is in U's tree or in a flushed log block.
 //!
-//! (No log is written yet, so U's chain is empty, and 4 to 6 speak of the tree alone.) The calls keep the rules so:
+//! The calls keep the rules so:
 //!
 //! 7. First the blocks, each at a place that is free in U's tree, and a flush. So no write touches 3, and an uberblock
 //!    never names a block that isn't settled.
