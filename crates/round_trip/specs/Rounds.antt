@@ -1,5 +1,6 @@
--- What an import shows and its moment, and a pool as an import left it.
-use Rattle.std.specs.Prelude.{ℕ, ◌≡◌, ◌+◌, List}
+-- What an import shows and its moment, a pool as an import left it, and a new one.
+use Rattle.std.specs.Prelude.{ℕ, ◌≡◌, ◌+◌, List, None}
+use Rattle.std.specs.FinMap as finite
 use Rattle.base.specs.crash.Mount.{MountsTo}
 use Rattle.base.specs.formats.Uberblocks.{Uberblock, IsActive}
 use Rattle.base.specs.history.Contents.{Contents}
@@ -30,3 +31,8 @@ pub record IsOpened (image now : List ℕ) (moment : ℕ) : Type 0 where
 pub record IsJustMounted (s : Shown) : Type 0 where
   pub mounted : Mounted
   pub shown_is : s ≡ shown_of_import mounted
+
+-- the contents of a new pool: this name and no object
+pub record AreNew (name : List ℕ) (contents : Contents) : Type 0 where
+  pub name_is : contents.name ≡ name
+  pub empty : (n : ℕ) → finite.get contents.objects n ≡ None
