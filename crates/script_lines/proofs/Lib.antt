@@ -1,3 +1,4 @@
 mod Copies
+mod PoolLines
 pub mod Readings
 mod Zips

@@ -6,4 +6,4 @@ use Rattle.script_lines.specs.declared.answer.Answer.TheVariants as answer
 
 -- what is told of an imported pool
 abbrev pub imported_answer : Mounted → Answer
-imported_answer m = answer.Imported m.group (record { 0 = m.group.0 + 1 }) 0
+imported_answer m = answer.Imported m.group (record { 0 = m.group.0 + 1 }) m.records

@@ -32,10 +32,11 @@ fn each_word_of_a_commit_has_its_bytes(alloc: Global) -> Option<Vec<Bytes>>
     }
 }
 
-// The group after the mounted one is open, and there are no log records.
+// The group after the mounted one is open, and each replayed log record counts.
 fn an_import_tells_its_group_and_the_next(imported: &Imported<MemDevice>) -> Answer
-    requires { imported.now.mounted.group.0 ≡ 8 }
-    ensures { result ≡ Answer.Imported (record { 0 = 8 }) (record { 0 = 9 }) 0 }
+    requires group { imported.now.mounted.group.0 ≡ 8 }
+    requires records { imported.now.mounted.records ≡ 3 }
+    ensures { result ≡ Answer.Imported (record { 0 = 8 }) (record { 0 = 9 }) 3 }
 {
     Answer::imported(imported)
 }

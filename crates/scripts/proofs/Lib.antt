@@ -1,4 +1,5 @@
 mod Asked
+mod BadLines
 mod CloseLines
 mod CommandPlans
 mod CommandSteps
