@@ -1,0 +1,452 @@
+#!/usr/bin/env python3
+"""Times `ztxg load` beside SQLite, RocksDB and a plain log that make the same writes, and prints ratios.
+
+    make -C bench
+    python3 bench/run.py --ztxg crates/ztxg/out/ztxg
+
+In each round each contestant runs once, in the same folder, each on a store made anew; the next round begins with the
+next contestant. What a store holds afterwards is compared with the writes. bench/README.md says what is compared and
+how the output is read. The status is 1 if a contestant fails or holds something else, and 2 for a command-line fault.
+"""
+
+import argparse
+import contextlib
+import hashlib
+import os
+import pathlib
+import shutil
+import statistics
+import subprocess
+import sys
+import tempfile
+import time
+from dataclasses import dataclass, field
+
+HERE = pathlib.Path(__file__).resolve().parent
+PEERS = HERE / "out"
+
+STREAMS = 16
+# `load` makes so many transactions before its streams begin.
+FIRST_COMMITS = 17
+POOL = "tank"
+GUID = "77"
+
+MIB = 2**20
+DEFAULT_DIRTY = MIB
+EACH, EIGHTH = "each", "eighth"
+
+# Of the better of the stores, by dirty limit; and of the plain log that grows, at one worker.
+STORE_GOALS = {64 * MIB: 1.0, DEFAULT_DIRTY: 0.5}
+LOG_GOAL = 0.5
+
+SLOWEST = 3600  # seconds of one run
+
+
+class Failure(Exception):
+    """A contestant failed, or its store holds something else than the writes."""
+
+
+@dataclass(frozen=True)
+class Load:
+    """The writes: `ops` of each of the 16 streams, whose streams `workers` threads share."""
+
+    workers: int
+    ops: int
+    seed: int
+
+    @property
+    def commits(self):
+        return STREAMS * self.ops
+
+
+@dataclass(frozen=True)
+class Measured:
+    """One run: its wall-clock time in seconds, and the flushes that it counted, if it counts them."""
+
+    seconds: float
+    flushes: int | None
+
+
+def call(words):
+    """Runs a program and returns what it wrote on standard output."""
+    try:
+        done = subprocess.run([str(word) for word in words], capture_output=True, timeout=SLOWEST)
+    except (OSError, subprocess.TimeoutExpired) as fault:
+        raise Failure(str(fault)) from fault
+    if done.returncode != 0:
+        told = done.stderr.decode(errors="replace").strip()
+        raise Failure(f"{' '.join(map(str, words))}: status {done.returncode}: {told}")
+    return done.stdout
+
+
+def numbers_of(output):
+    """The lines 'WORD NUMBER' of an output."""
+    return {word: int(number) for word, number in (line.split() for line in output.decode().splitlines())}
+
+
+@dataclass(frozen=True)
+class Ztxg:
+    """`ztxg load` at one dirty limit, on a new pool."""
+
+    program: pathlib.Path
+    dirty: int
+    size: int
+    flush = None
+    is_log = False
+
+    @property
+    def name(self):
+        return f"ztxg {limit_name(self.dirty)}"
+
+    def prepare(self, path, load):
+        call([self.program, "create", path, POOL, GUID, self.size])
+
+    def command(self, path, load):
+        numbers = ["--workers", load.workers, "--ops", load.ops, "--seed", load.seed, "--dirty", self.dirty]
+        return [self.program, "load", path, *numbers]
+
+    def flushes(self, output, load):
+        """None: `load` prints no such count."""
+        right = f"committed {FIRST_COMMITS + load.commits}\ndigest {digest(load.ops, load.seed)}\n"
+        if output.decode() != right:
+            raise Failure(f"{self.name} printed {output.decode()!r}, not {right!r}")
+        return None
+
+    def check(self, path, load):
+        """The digest that it printed was that of the right contents, so there is no more to compare."""
+
+
+@dataclass(frozen=True)
+class Peer:
+    """A store that flushes each commit, or each eighth commit of a stream."""
+
+    program: pathlib.Path
+    variant: str
+    flush: str
+    is_log: bool
+
+    @property
+    def name(self):
+        return f"{self.store} {self.flush}"
+
+    @property
+    def store(self):
+        variant = "" if self.variant == "default" else f" {self.variant}"
+        return f"{self.program.name}{variant}"
+
+    def prepare(self, path, load):
+        call([self.program, "prepare", self.variant, path, load.ops])
+
+    def command(self, path, load):
+        return [self.program, "run", self.variant, path, load.ops, load.seed, load.workers, self.flush]
+
+    def flushes(self, output, load):
+        told = numbers_of(output)
+        if told.get("committed") != load.commits:
+            raise Failure(f"{self.name} printed {output.decode()!r}")
+        return told["flushes"]
+
+    def check(self, path, load):
+        call([self.program, "check", self.variant, path, load.ops, load.seed])
+
+
+_digests = {}
+
+
+def digest(ops, seed):
+    """The digest of a pool that was empty and then loaded."""
+    if (ops, seed) not in _digests:
+        contents = call([PEERS / "log", "contents", POOL, ops, seed])
+        _digests[ops, seed] = hashlib.sha256(contents).hexdigest()
+    return _digests[ops, seed]
+
+
+def limit_name(dirty):
+    return f"{dirty // MIB} MiB" if dirty % MIB == 0 else f"{dirty} B"
+
+
+def measure(contestant, load, folder):
+    """One run on a new store. The making of the store and the comparison afterwards are not timed."""
+    place = folder / "run"
+    place.mkdir()
+    path = place / "store"
+    contestant.prepare(path, load)
+    os.sync()  # what was written before is not flushed at this contestant's cost
+    begin = time.perf_counter()
+    output = call(contestant.command(path, load))
+    seconds = time.perf_counter() - begin
+    flushes = contestant.flushes(output, load)
+    contestant.check(path, load)
+    shutil.rmtree(place)
+    return Measured(seconds, flushes)
+
+
+@dataclass
+class Race:
+    """The runs at one number of workers: by contestant, one for each round, and one with no writes."""
+
+    load: Load
+    contestants: list
+    runs: dict = field(default_factory=dict)
+    empty: dict = field(default_factory=dict)
+
+    def middle(self, contestant):
+        return statistics.median(run.seconds for run in self.runs[contestant])
+
+    def ratios(self, peer, ztxg):
+        """Above 1 where `ztxg` was faster, round by round."""
+        pairs = zip(self.runs[peer], self.runs[ztxg], strict=True)
+        return [theirs.seconds / ours.seconds for theirs, ours in pairs]
+
+    def ztxgs(self):
+        return [it for it in self.contestants if isinstance(it, Ztxg)]
+
+    def peers(self, flush, is_log):
+        return [it for it in self.contestants if it.flush == flush and it.is_log == is_log]
+
+    def better(self, flush):
+        """The store that is no log with the lowest middle time."""
+        return min(self.peers(flush, is_log=False), key=self.middle, default=None)
+
+
+def in_turn(contestants, number):
+    """The order of a round: each begins with the next contestant."""
+    first = number % len(contestants)
+    return contestants[first:] + contestants[:first]
+
+
+def race(contestants, load, rounds, folder, note):
+    """Runs all rounds. `note(round, contestant, measured)` is called after each run, with None for one of no writes."""
+    result = Race(load, contestants)
+    for contestant in contestants:
+        result.runs[contestant] = []
+        result.empty[contestant] = measure(contestant, Load(load.workers, 0, load.seed), folder)
+        note(None, contestant, result.empty[contestant])
+    for number in range(rounds):
+        for contestant in in_turn(contestants, number):
+            measured = measure(contestant, load, folder)
+            result.runs[contestant].append(measured)
+            note(number, contestant, measured)
+    return result
+
+
+# --- What is printed ---
+
+
+def table(rows):
+    """Lines of columns: the first column is at the left, the others at the right. There is at least one row."""
+    widths = [max(map(len, column)) for column in zip(*rows, strict=True)]
+    for row in rows:
+        cells = [row[0].ljust(widths[0]), *(cell.rjust(width) for cell, width in zip(row[1:], widths[1:], strict=True))]
+        yield "  ".join(cells).rstrip()
+
+
+def times(result):
+    """The times of one race, in the order of the contestants."""
+    yield ["contestant", "seconds", "least", "most", "commits/s", "flushes/commit", "with no writes"]
+    for contestant in result.contestants:
+        runs = result.runs[contestant]
+        seconds = [run.seconds for run in runs]
+        counted = [run.flushes / result.load.commits for run in runs if run.flushes is not None]
+        yield [
+            contestant.name,
+            f"{result.middle(contestant):.3f}",
+            f"{min(seconds):.3f}",
+            f"{max(seconds):.3f}",
+            f"{result.load.commits / result.middle(contestant):.0f}",
+            f"{statistics.median(counted):.3f}" if counted else "-",
+            f"{result.empty[contestant].seconds:.3f}",
+        ]
+
+
+def ratio_cell(ratios):
+    return f"{statistics.median(ratios):.2f} ({min(ratios):.2f}-{max(ratios):.2f})"
+
+
+def goal_cell(ratios, goal):
+    return f"{goal:.1f} {'met' if statistics.median(ratios) >= goal else 'missed'}"
+
+
+def ratio_rows(races, flush):
+    """For each race and each dirty limit the ratios to each store and to the better of them."""
+    stores = list(dict.fromkeys(peer.store for result in races for peer in result.peers(flush, is_log=False)))
+    if not stores:
+        return
+    yield ["workers, limit", *stores, "better of them", *(["goal"] if flush == EACH else [])]
+    for result in races:
+        by_store = {peer.store: peer for peer in result.peers(flush, is_log=False)}
+        better = result.better(flush)
+        for ztxg in result.ztxgs():
+            cells = [ratio_cell(result.ratios(by_store[store], ztxg)) for store in stores]
+            ratios = result.ratios(better, ztxg)
+            goal = STORE_GOALS.get(ztxg.dirty)
+            row = [f"{result.load.workers}, {limit_name(ztxg.dirty)}", *cells, f"{ratio_cell(ratios)} {better.store}"]
+            if flush == EACH:
+                row.append("-" if goal is None else goal_cell(ratios, goal))
+            yield row
+
+
+def log_rows(result, flush):
+    """At one worker, the ratios to the plain logs."""
+    logs = result.peers(flush, is_log=True)
+    if not logs:
+        return
+    is_goal = flush == EACH and any(log.variant == "grown" for log in logs)
+    yield ["workers, limit", *(log.store for log in logs), *(["goal"] if is_goal else [])]
+    for ztxg in result.ztxgs():
+        row = [f"{result.load.workers}, {limit_name(ztxg.dirty)}"]
+        row += [ratio_cell(result.ratios(log, ztxg)) for log in logs]
+        if is_goal:
+            grown = next(log for log in logs if log.variant == "grown")
+            row.append(goal_cell(result.ratios(grown, ztxg), LOG_GOAL))
+        yield row
+
+
+TITLES = {
+    EACH: "MAIN TABLE: the peers flush after each commit.\n"
+    "`ztxg load` flushes after each eighth commit of a stream, so it promises less here.",
+    EIGHTH: "LIKE FOR LIKE: the peers flush after each eighth commit of a stream, as `ztxg load` does.",
+}
+
+
+RATIOS = "Ratios are the peer's time by ztxg's in the same round, middle (least-most); above 1 ztxg is faster."
+
+
+def report(races, rounds, write):
+    for result in races:
+        write(f"\nTIMES of {result.load.commits} commits, W = {result.load.workers}, middle of {rounds} rounds")
+        for line in table(list(times(result))):
+            write(line)
+    if not any(result.ztxgs() for result in races):
+        write("\nNo ratios: there was no ztxg.")
+        return
+    for flush in (EACH, EIGHTH):
+        tables = [list(ratio_rows(races, flush)), *(list(log_rows(result, flush)) for result in races)]
+        if any(tables):
+            write(f"\n{TITLES[flush]}")
+            write(RATIOS)
+        for rows in filter(None, tables):
+            for line in table(rows):
+                write(line)
+
+
+# --- Command line ---
+
+
+def contestants_of(options, workers):
+    """Those that can run with so many workers: a plain log has one thread."""
+    if options.ztxg is not None:
+        for dirty in options.dirty:
+            yield Ztxg(options.ztxg, dirty, options.size)
+    for name in ("sqlite", "rocksdb", "log"):
+        program = PEERS / name
+        is_log = name == "log"
+        if not program.is_file() or (is_log and workers != 1):
+            continue
+        for variant in call([program, "variants"]).decode().split():
+            for flush in options.flush:
+                yield Peer(program, variant, flush, is_log)
+
+
+def chosen(options, workers):
+    """The contestants whose names have one of the words of --only."""
+    words = options.only
+    return [it for it in contestants_of(options, workers) if not words or any(word in it.name for word in words)]
+
+
+def file_system(folder):
+    """The device and type of the file system of a folder, by /proc/mounts."""
+    best = ("", "an unknown device", "an unknown file system")
+    with contextlib.suppress(OSError):
+        for line in pathlib.Path("/proc/mounts").read_text().splitlines():
+            device, mount, kind = line.split()[:3]
+            if folder.is_relative_to(mount) and len(mount) >= len(best[0]):
+                best = (mount, device, kind)
+    return best[1], best[2]
+
+
+def head(options, folder, write):
+    device, kind = file_system(folder)
+    load = ", ".join(f"{it:.1f}" for it in os.getloadavg())
+    write(f"Files in {folder}, {kind} on {device}; {os.cpu_count()} processors, load average {load}")
+    write(f"{options.ops} writes a stream, {STREAMS} streams, seed {options.seed}, {options.rounds} rounds")
+    if kind in ("tmpfs", "ramfs"):
+        write("WARNING: a flush costs nothing on this file system, so the numbers say nothing about durable commits")
+    for name in ("sqlite", "rocksdb"):
+        if not (PEERS / name).is_file():
+            write(f"{name} was not built, so it isn't measured")
+
+
+def numbers(text):
+    return [int(it) for it in text.split(",")]
+
+
+def parse(words):
+    parser = argparse.ArgumentParser(description=__doc__.split("\n")[0])
+    parser.add_argument("--ztxg", type=pathlib.Path, metavar="PROGRAM", help="a built ztxg; without it the peers alone")
+    parser.add_argument("--workers", type=numbers, default=[1, 4, 16], metavar="W,..", help="each 1 to 16")
+    parser.add_argument("--ops", type=int, default=500, metavar="N", help="writes of each of the 16 streams")
+    parser.add_argument("--seed", type=int, default=5, metavar="S")
+    parser.add_argument("--rounds", type=int, default=5, metavar="R")
+    parser.add_argument("--dirty", type=numbers, default=[DEFAULT_DIRTY, 64 * MIB], metavar="D,..")
+    parser.add_argument("--size", type=int, default=256 * MIB, metavar="SIZE", help="bytes of the pool")
+    parser.add_argument("--flush", default=f"{EACH},{EIGHTH}", metavar="each,eighth", help="the peers' modes")
+    parser.add_argument("--only", default="", metavar="WORD,..", help="contestants whose names have one of the words")
+    parser.add_argument("--folder", type=pathlib.Path, metavar="DIR", help="where the files lie (default: bench/out)")
+    parser.add_argument("--raw", type=pathlib.Path, metavar="FILE", help="a line for each run, with tabs")
+    options = parser.parse_args(words)
+    options.flush = options.flush.split(",")
+    options.only = [it for it in options.only.split(",") if it]
+    if not set(options.flush) <= {EACH, EIGHTH}:
+        parser.error("--flush is each, eighth or each,eighth")
+    if not all(1 <= it <= STREAMS for it in options.workers) or options.ops < 1 or options.rounds < 1:
+        parser.error("workers are 1 to 16, writes and rounds at least 1")
+    if not (PEERS / "log").is_file():
+        parser.error("the peers are not built: make -C bench")
+    if options.ztxg is not None:
+        options.ztxg = options.ztxg.resolve()
+    return options
+
+
+class Notes:
+    """Progress on standard error, and a line for each run in the file of --raw."""
+
+    def __init__(self, file):
+        self.file = file
+        self.put("round", "workers", "contestant", "seconds", "flushes")
+
+    def put(self, *cells):
+        if self.file is not None:
+            print(*cells, sep="\t", file=self.file, flush=True)
+
+    def of(self, load):
+        def note(number, contestant, measured):
+            told = "no writes" if number is None else f"round {number + 1}"
+            print(f"W = {load.workers}, {told}: {contestant.name} {measured.seconds:.3f} s", file=sys.stderr)
+            flushes = "" if measured.flushes is None else measured.flushes
+            self.put("" if number is None else number + 1, load.workers, contestant.name, measured.seconds, flushes)
+
+        return note
+
+
+def main(words):
+    options = parse(words)
+    parent = options.folder or PEERS
+    with contextlib.ExitStack() as stack:
+        folder = pathlib.Path(stack.enter_context(tempfile.TemporaryDirectory(prefix="bench-", dir=parent))).resolve()
+        notes = Notes(stack.enter_context(options.raw.open("w")) if options.raw else None)
+        head(options, folder, print)
+        races = []
+        for workers in options.workers:
+            load = Load(workers, options.ops, options.seed)
+            contestants = chosen(options, workers)
+            if contestants:
+                races.append(race(contestants, load, options.rounds, folder, notes.of(load)))
+        report(races, options.rounds, print)
+
+
+if __name__ == "__main__":
+    try:
+        main(sys.argv[1:])
+    except Failure as failure:
+        sys.exit(f"run.py: {failure}")

@@ -1,0 +1,153 @@
+#!/usr/bin/env python3
+"""Tests of the benchmark itself: the peers that are built, and run.py over stand_in.sh in place of ztxg.
+
+    make -C bench check
+"""
+
+import contextlib
+import io
+import os
+import pathlib
+import statistics
+import subprocess
+import tempfile
+import unittest
+
+import run
+
+HERE = pathlib.Path(__file__).resolve().parent
+MIB = run.MIB
+
+
+def invented(seconds):
+    return [run.Measured(it, None) for it in seconds]
+
+
+class Ratios(unittest.TestCase):
+    """On times that are made up, with ratios worked out by hand."""
+
+    def setUp(self):
+        self.ztxg = run.Ztxg(pathlib.Path("ztxg"), 64 * MIB, 0)
+        self.sqlite = run.Peer(pathlib.Path("sqlite"), "busy", run.EACH, False)
+        self.rocksdb = run.Peer(pathlib.Path("rocksdb"), "default", run.EACH, False)
+        self.log = run.Peer(pathlib.Path("log"), "grown", run.EACH, True)
+        contestants = [self.ztxg, self.sqlite, self.rocksdb, self.log]
+        self.race = run.Race(run.Load(1, 10, 5), contestants)
+        self.race.runs = {
+            self.ztxg: invented([2.0, 4.0, 2.0]),
+            self.sqlite: invented([3.0, 4.0, 8.0]),
+            self.rocksdb: invented([5.0, 4.5, 1.0]),
+            self.log: invented([1.0, 1.0, 0.5]),
+        }
+        self.race.empty = {it: run.Measured(0.1, None) for it in contestants}
+
+    def test_a_ratio_is_of_two_runs_of_one_round(self):
+        self.assertEqual(self.race.ratios(self.sqlite, self.ztxg), [1.5, 1.0, 4.0])
+
+    def test_the_better_store_has_the_lower_middle_and_is_no_log(self):
+        self.assertEqual(self.race.better(run.EACH), self.sqlite)
+        self.assertIsNone(self.race.better(run.EIGHTH))
+
+    def test_a_goal_looks_at_the_middle(self):
+        _, row = run.ratio_rows([self.race], run.EACH)
+        self.assertEqual(row[0], "1, 64 MiB")
+        self.assertEqual(row[1:], ["1.50 (1.00-4.00)", "1.12 (0.50-2.50)", "1.50 (1.00-4.00) sqlite busy", "1.0 met"])
+        _, row = run.log_rows(self.race, run.EACH)
+        self.assertEqual(row[1:], ["0.25 (0.25-0.50)", "0.5 missed"])
+
+    def test_a_mode_that_did_not_run_has_no_rows(self):
+        self.assertEqual(list(run.ratio_rows([self.race], run.EIGHTH)), [])
+        self.assertEqual(list(run.log_rows(self.race, run.EIGHTH)), [])
+
+    def test_each_round_begins_with_the_next_contestant(self):
+        orders = [run.in_turn(list("abc"), number) for number in range(4)]
+        self.assertEqual(orders, [list("abc"), list("bca"), list("cab"), list("abc")])
+
+
+class StandIn(unittest.TestCase):
+    """Whole runs, with a script that sleeps in place of ztxg."""
+
+    def run_with(self, *words, **environment):
+        output = io.StringIO()
+        with tempfile.TemporaryDirectory() as folder:
+            raw = pathlib.Path(folder) / "raw"
+            for name, value in environment.items():
+                os.environ[name] = value
+                self.addCleanup(os.environ.pop, name, None)
+            with contextlib.redirect_stdout(output), contextlib.redirect_stderr(io.StringIO()):
+                run.main(["--ztxg", str(HERE / "stand_in.sh"), "--folder", folder, "--raw", str(raw), *words])
+            self.assertEqual(os.listdir(folder), ["raw"])
+            return output.getvalue(), [line.split("\t") for line in raw.read_text().splitlines()[1:]]
+
+    def test_times_and_ratios_are_those_of_the_runs(self):
+        words = ["--ops", "8", "--rounds", "3", "--workers", "1", "--only", "ztxg,log grown each"]
+        printed, raw = self.run_with(*words, STAND_IN_SLOW="0.3", STAND_IN_FAST="0.1")
+        runs = {name: [float(it[3]) for it in raw if it[2] == name and it[0]] for name in {it[2] for it in raw}}
+        self.assertEqual(sorted(runs), ["log grown each", "ztxg 1 MiB", "ztxg 64 MiB"])
+        self.assertTrue(all(len(it) == 3 for it in runs.values()))
+        self.assertTrue(min(runs["ztxg 1 MiB"]) >= 0.3 and min(runs["ztxg 64 MiB"]) >= 0.1)
+        ratio = statistics.median(a / b for a, b in zip(runs["log grown each"], runs["ztxg 1 MiB"], strict=True))
+        row = next(line for line in printed.splitlines() if line.startswith("1, 1 MiB"))
+        self.assertEqual(row.split()[3], f"{ratio:.2f}")
+        self.assertEqual(["met" in row, "missed" in row], [ratio >= 0.5, ratio < 0.5])
+
+    def test_another_digest_ends_the_run(self):
+        words = ["--ops", "8", "--rounds", "1", "--workers", "1", "--only", "ztxg"]
+        with self.assertRaisesRegex(run.Failure, "digest"):
+            self.run_with(*words, STAND_IN_SLOW="0", STAND_IN_FAST="0", STAND_IN_WRONG="pond")
+
+
+class Peers(unittest.TestCase):
+    """Each peer that is built, at each number of threads."""
+
+    def each_run(self, ops):
+        """Yields each peer with the path of its store after a run, the load, and the number of flushes."""
+        for program in sorted(run.PEERS.iterdir()):
+            if program.name not in ("sqlite", "rocksdb", "log"):
+                continue
+            for variant in run.call([program, "variants"]).decode().split():
+                for workers in [1] if program.name == "log" else [1, 3, 16]:
+                    for flush in (run.EACH, run.EIGHTH):
+                        peer = run.Peer(program, variant, flush, program.name == "log")
+                        with tempfile.TemporaryDirectory() as folder:
+                            path = pathlib.Path(folder) / "store"
+                            load = run.Load(workers, ops, 5)
+                            peer.prepare(path, load)
+                            yield peer, path, load, peer.flushes(run.call(peer.command(path, load)), load)
+
+    def test_a_store_holds_the_writes_and_no_others(self):
+        for peer, path, load, _ in self.each_run(20):
+            peer.check(path, load)
+            for other in (run.Load(1, load.ops + 1, 5), run.Load(1, load.ops - 1, 5), run.Load(1, load.ops, 6)):
+                with self.assertRaises(run.Failure, msg=f"{peer.name}, {other}"):
+                    peer.check(path, other)
+
+    # A store opens, closes and makes checkpoints with some flushes of its own. RocksDB flushes once for the commits of
+    # several threads.
+    def test_a_commit_is_flushed_as_the_mode_says(self):
+        for peer, _, load, flushes in self.each_run(16):
+            durable = load.commits if peer.flush == run.EACH else load.commits // 8
+            least = durable if load.workers == 1 or peer.program.name != "rocksdb" else durable // load.workers
+            self.assertTrue(least <= flushes <= durable + 64, f"{peer.name}, {load}: {flushes} flushes")
+
+    def test_a_damaged_log_is_refused(self):
+        with tempfile.TemporaryDirectory() as folder:
+            path = pathlib.Path(folder) / "store"
+            load = run.Load(1, 4, 5)
+            peer = run.Peer(run.PEERS / "log", "grown", run.EACH, True)
+            peer.prepare(path, load)
+            run.call(peer.command(path, load))
+            held = bytearray(path.read_bytes())
+            held[-1] ^= 1
+            path.write_bytes(held)
+            with self.assertRaisesRegex(run.Failure, "another byte"):
+                peer.check(path, load)
+
+    def test_wrong_words_are_refused(self):
+        for words in ("", "run grown x 1 5 2 each", "run grown x 1 5 1 often", "contents tank -1 5", "check x"):
+            done = subprocess.run([run.PEERS / "log", *words.split()], capture_output=True)
+            self.assertEqual(done.returncode, 2, words)
+
+
+if __name__ == "__main__":
+    unittest.main()
