@@ -42,6 +42,16 @@ fn a_closed_group_keeps_its_holds() {
     prove!(group == Err(PoolError::NotReady));
 }
 
+// A group that is closed without a transaction is ready to be quiesced, and stays as it is.
+fn a_group_without_holds_is_ready_to_quiesce() {
+    let mut groups = Groups::new(Group(8));
+    groups.close_open().unwrap();
+    let ready = groups.ready_to_quiesce();
+    prove!(ready == Ok(Group(9)));
+    let again = groups.ready_to_quiesce();
+    prove!(again == Ok(Group(9)));
+}
+
 // A group is closed only once the middle is free again.
 fn a_second_group_is_not_closed() {
     let mut groups = Groups::new(Group(8));

@@ -197,11 +197,22 @@ impl Groups {
         ensures quiesced { IfOk result (λ group. self.new ≡ after_quiesce group.0 self.old) }
         ensures group { IfOk result (λ group. quiescing_group self.old.line ≡ Some group.0) }
     {
+        let group = self.ready_to_quiesce()?;
+        self.middle = Some(Middle::Quiesced(group));
+        Ok(group)
+    }
+
+    /// The quiescing group, if none of its transactions is open. Nothing changes.
+    ///
+    /// # Errors
+    /// `NotReady` exactly if no group quiesces, or a transaction of it is open.
+    pub fn ready_to_quiesce(&self) -> Result<Group, PoolError>
+        ensures refused { IsErr result ↔ IsTrue (is_quiesce_refused self.now) }
+        ensures error { IfErr result (λ e. e ≡ PoolError.NotReady) }
+        ensures group { IfOk result (λ group. quiescing_group self.now.line ≡ Some group.0) }
+    {
         match self.middle {
-            Some(Middle::Quiescing(group, 0)) => {
-                self.middle = Some(Middle::Quiesced(group));
-                Ok(group)
-            }
+            Some(Middle::Quiescing(group, 0)) => Ok(group),
             _ => Err(PoolError::NotReady),
         }
     }

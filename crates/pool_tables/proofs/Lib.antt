@@ -28,3 +28,5 @@ pub mod GivenLogs
 pub mod Aborts
 pub mod Callers
 pub mod syncs
+pub mod Receipts
+pub mod DueSteps

@@ -20,3 +20,5 @@ pub mod KeptTrees
 pub mod NextCalls
 pub mod LogBlocks
 pub mod SyncPhases
+pub mod Duties
+pub mod Receipts

@@ -1,10 +1,11 @@
 //! What callers rest on: one function for each promise of this crate's calls, proved from the contract of the call
 //! alone. So it is refused as soon as that contract says less.
 
-ghost use Rattle.std.specs.Prelude.{◌≡◌, ◌<◌, ◌+◌, ◌∷◌, [], ℕ, List, IfOk, IsTrue, None, Ok, OnOk, Some, false, length, map, true};
+ghost use Rattle.std.specs.Prelude.{◌≡◌, ◌<◌, ◌+◌, ◌∷◌, [], ℕ, List, Err, IfOk, IsTrue, None, Ok, OnOk, Some, false, length, map, true};
 ghost use Rattle.std.specs.FinMap as finite;
 ghost use Rattle.std.specs.FinSet as set;
 ghost use Rattle.base.specs.declared.range.Mode.TheVariants as mode;
+ghost use Rattle.base.specs.declared.step.Step.TheVariants as step;
 ghost use Rattle.base.specs.disk.Disk.{written};
 ghost use Rattle.base.specs.formats.Digest.{digest_of};
 ghost use Rattle.base.specs.formats.Fields.{number_at};
@@ -24,14 +25,16 @@ ghost use Rattle.object_maps.specs.Sources.{AreWithin};
 ghost use Rattle.intent_log.specs.Kept.{log_shown};
 ghost use Rattle.tree_plans.specs.Plans.{address_of};
 ghost use Rattle.group_plans.specs.Areas.{AreBlocksOf};
+ghost use Rattle.transactions.specs.Records.{record_fields};
 ghost use Rattle.pool_tables.specs.BeginTests.{plan_tests};
 ghost use Rattle.pool_tables.specs.Shows.{geometry_of, pool_shown};
 
 use crate::blocks::{give_log, take_all};
+use crate::duty::Duty;
 use crate::pool::PoolTables;
 use base::{
     Bytes, Group, LockId, Mode, ObjectId, Ordinal, Owner, Plan, PoolError, PoolName, Range,
-    Receipt, Shape, TxId,
+    Receipt, Shape, Step, TxId,
 };
 use device_model::SectorDevice;
 use import_replay::Mounted;
@@ -39,6 +42,7 @@ use intent_log::{Log, LogHeader};
 use labels::Geometry;
 use range_locks::{HeldLocks, HeldPiece};
 use space::FreeSet;
+use transactions::Record;
 use tree_plans::PlannedBlock;
 
 // No transaction is open in a pool that was just mounted, and the group after the mounted one is open.
@@ -345,4 +349,44 @@ fn a_log_flush_leaves_nothing_unflushed<D: SectorDevice>(
     ensures { OnOk result ((D.disk device.new).now.unflushed ≡ []) }
 {
     pool.log_flush(device)
+}
+
+// What is pending is written first.
+fn a_pending_record_is_due_for_the_log(pool: &PoolTables, pending: &Record) -> Option<Step>
+    requires { (pool_shown pool.now).log.pending ≡ record_fields pending.now ∷ [] }
+    ensures { result ≡ Some step.LogWrite }
+{
+    let _ = pending;
+    pool.due_step(Duty::CommitLog)
+}
+
+// Group 8 is synced already.
+fn nothing_is_due_for_a_synced_group(pool: &PoolTables) -> Option<Step>
+    requires { (pool_shown pool.now).line.synced ≡ 8 }
+    ensures { result ≡ None }
+{
+    pool.due_step(Duty::SyncUpTo(Group(8), 7))
+}
+
+// A sync that runs goes on first.
+fn a_running_sync_is_due_first(pool: &PoolTables) -> Option<Step>
+    requires synced { (pool_shown pool.now).line.synced ≡ 8 }
+    requires syncing { (pool_shown pool.now).line.syncing ≡ Some 9 }
+    ensures { result ≡ Some step.SyncStep }
+{
+    pool.due_step(Duty::SyncUpTo(Group(10), 7))
+}
+
+// No transaction of group 9 is in the log, and none waits for it.
+fn an_unknown_receipt_is_refused(pool: &PoolTables) -> Result<bool, PoolError>
+    requires running { (pool_shown pool.now).suspended ≡ false }
+    requires synced { (pool_shown pool.now).line.synced ≡ 8 }
+    requires pending { (pool_shown pool.now).log.pending ≡ [] }
+    requires kept { (pool_shown pool.now).log.kept ≡ [] }
+    ensures { result ≡ Err PoolError.BadRange }
+{
+    pool.check_receipt(Receipt {
+        ordinal: Ordinal(5),
+        group: Group(9),
+    })
 }

@@ -3,7 +3,9 @@
 
 mod blocks;
 mod clients;
+mod duty;
 mod plans;
 mod pool;
 
+pub use duty::Duty;
 pub use pool::{PoolTables, Progress};

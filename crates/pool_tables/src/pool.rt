@@ -56,6 +56,7 @@ ghost use Rattle.pool_tables.specs.RunningUberblocks.{uberblock_with};
 ghost use Rattle.pool_tables.specs.Targets.{is_readable};
 
 mod commits;
+mod duties;
 mod logs;
 mod syncs;
 
