@@ -6,7 +6,6 @@ use Rattle.std.specs.Option.{option_map_or}
 use Rattle.base.specs.declared.error.PoolError.{PoolError}
 use Rattle.base.specs.declared.names.Group.{Group}
 use Rattle.base.specs.declared.step.Step.TheVariants as step
-use Rattle.base.specs.declared.step.Reply as declared_reply
 use Rattle.base.specs.declared.step.Reply.TheVariants as reply
 use Rattle.base.specs.steps.Refusals.{sync_step_refusal}
 use Rattle.base.specs.steps.Runs.{progress_reply, reply_of}
@@ -18,7 +17,6 @@ use Rattle.device_model.specs.declared.device.SectorDevice.{Ghosts}
 use Rattle.pool_core.specs.declared.state.PoolState.{PoolState}
 use Rattle.pool_core.specs.GroupSyncs.{AndThen, Call, EndsSync, If, MakesMore, SyncsClosed, SyncsOpen}
 use Rattle.pool_core.specs.States.{shown}
-use Rattle.pool_core.specs.StepReplies.{StepReplies}
 use Rattle.pool_core.specs.Turns.{MakesStep}
 use Rattle.pool_tables.specs.Told.{sync_step_reply}
 use Rattle.pool_tables.specs.declared.pool.Progress.{Progress}

@@ -1,14 +1,13 @@
 -- A write and a flush of the log, with the replies that are made of their answers, are steps.
-use Rattle.std.proofs.Common.{◌≡◌, ◌∙◌, ◌⊎◌, inl, inr, ℕ, List, [], Option, refl, ap, sym, subst}
+use Rattle.std.proofs.Common.{◌≡◌, ◌∙◌, inl, inr, ℕ, List, [], Option, refl, ap, sym, subst}
 use Rattle.std.specs.Prelude.{IsTrue, Result, Ok, Err, option_map}
 use Rattle.base.specs.declared.error.PoolError.{PoolError}
 use Rattle.base.specs.declared.refused.RefusedCalls.{RefusedCalls}
-use Rattle.base.specs.declared.step.Step as declared_step
 use Rattle.base.specs.declared.step.Step.TheVariants as step
 use Rattle.base.specs.declared.step.Reply.{Reply}
 use Rattle.base.specs.declared.step.Reply.TheVariants as reply
 use Rattle.base.specs.disk.Calls.{Flushes, Writes, counted}
-use Rattle.base.specs.disk.Disk.{Disk, bytes_of, put}
+use Rattle.base.specs.disk.Disk.{Disk, bytes_of}
 use Rattle.base.specs.history.Past.{Past}
 use Rattle.base.specs.steps.Additions.{past_after}
 use Rattle.base.specs.steps.Runs.{reply_of}
@@ -18,15 +17,15 @@ use Rattle.base.proofs.steps.Additions.{told_past}
 use Rattle.device_model.specs.declared.device.SectorDevice.{Ghosts}
 use Rattle.object_maps.specs.declared.tree.Tree.{Tree}
 use Rattle.object_maps.specs.Pointers.{pointers_of}
-use Rattle.pool_tables.specs.LogBlocks.{PutsLogBlock, WritesLogBlock}
+use Rattle.pool_tables.specs.LogBlocks.{WritesLogBlock}
 use Rattle.pool_tables.specs.StepAnswers as answers
-use Rattle.pool_tables.specs.Told.{Leads, ShownPool, new_tree_of, state_with}
+use Rattle.pool_tables.specs.Told.{Leads, new_tree_of, state_with}
 use Rattle.pool_tables.specs.declared.pool.RunningSync.{RunningSync}
 use Rattle.pool_core.specs.Calls.{CallsDevice, WritesBlock, answer_in}
-use Rattle.pool_core.specs.KeptSafe.{IsKeptSafe, KeepsSafe, OnDisk, disk_of, on_disk}
+use Rattle.pool_core.specs.KeptSafe.{KeepsSafe, disk_of, on_disk}
 use Rattle.pool_core.specs.LogSafe.{FlushesLog, KeepsSync, WritesLog}
 use Rattle.pool_core.specs.States.{CountsRefused, KeepsTreeOf, refused_calls, shown, told}
-use Rattle.pool_core.specs.StepReplies.{IsStep, StepReplies}
+use Rattle.pool_core.specs.StepReplies.{StepReplies}
 use Rattle.pool_core.specs.Turns.{MakesStep, Turns}
 use Rattle.pool_core.specs.declared.state.PoolState.{PoolState}
 use Rattle.pool_core.proofs.Turns.{any_turns}

@@ -46,7 +46,6 @@ use Rattle.pool_core.specs.Turns.{MakesStep, Turns}
 use Rattle.pool_core.proofs.RepliedSteps.{result_map-same, reply_in-made, replied_with}
 use Rattle.pool_core.proofs.crash.SafeStates.{start_keeps, still_keeps, sync_keeps}
 use Rattle.pool_core.proofs.StepsOver.{start_over}
-use Rattle.pool_tables.proofs.StillSteps.{leads_as}
 use Rattle.pool_core.proofs.StillSteps.{is_still, answer_in-still, no_call_counts, start_told, still_replied, still_turn}
 use Rattle.pool_core.proofs.Turns.{any_turns, turns}
 

@@ -1,9 +1,10 @@
 //! What callers rest on: one function for each promise of this crate's calls, proved from the contract of the call
 //! alone. So it is refused as soon as that contract says less.
 
-ghost use Rattle.std.specs.Prelude.{◌≡◌, ◌∷◌, [], Err, IfOk, false, is_some, true};
+ghost use Rattle.std.specs.Prelude.{◌≡◌, ◌∷◌, [], Err, IfOk, None, Ok, Some, false, is_some, true};
 ghost use Rattle.base.specs.declared.step.Reply.TheVariants as reply;
 ghost use Rattle.base.specs.declared.step.Step.TheVariants as step;
+ghost use Rattle.base.specs.steps.Shown.{dirty_of};
 ghost use Rattle.pool_core.specs.GroupSyncs.{AndThen, Call, SyncsClosed};
 ghost use Rattle.pool_core.specs.States.{shown};
 
@@ -11,6 +12,7 @@ use crate::runs::run;
 use crate::state::PoolState;
 use base::{Group, LockId, Ordinal, Owner, PoolError, Receipt, Reply, Step};
 use device_model::SectorDevice;
+use pool_tables::Duty;
 
 // A suspended pool releases no lock.
 fn a_suspended_pool_releases_no_lock<D: SectorDevice>(
@@ -81,4 +83,61 @@ fn an_open_group_is_closed_and_then_synced<D: SectorDevice>(
         result pool.old pool.new }
 {
     pool.sync_open_group(7)
+}
+
+// In a pool without a closed group, the open one is closed first. Its charges don't matter.
+fn an_open_group_is_closed_for_its_sync<D: SectorDevice>(pool: &PoolState<D>) -> Option<Step>
+    requires running { (shown pool.now).suspended ≡ false }
+    requires synced { (shown pool.now).line.synced ≡ 8 }
+    requires no_sync { (shown pool.now).line.syncing ≡ None }
+    requires no_closed { (shown pool.now).line.middle ≡ None }
+    ensures { result ≡ Some step.CloseGroup }
+{
+    pool.due_step(Duty::SyncUpTo(Group(9), 7))
+}
+
+// A quiescer leaves a group to which nothing is charged.
+fn a_clean_group_stays_open<D: SectorDevice>(pool: &PoolState<D>) -> Option<Step>
+    requires running { (shown pool.now).suspended ≡ false }
+    requires no_closed { (shown pool.now).line.middle ≡ None }
+    requires clean { dirty_of (shown pool.now) (shown pool.now).line.open_group ≡ 0 }
+    ensures { result ≡ None }
+{
+    pool.due_step(Duty::Quiesce)
+}
+
+// A syncer starts the sync of a quiesced group, with its own moment.
+fn a_quiesced_group_is_due_for_its_sync<D: SectorDevice>(pool: &PoolState<D>) -> Option<Step>
+    requires running { (shown pool.now).suspended ≡ false }
+    requires no_sync { (shown pool.now).line.syncing ≡ None }
+    requires closed { (shown pool.now).line.middle ≡ Some (record { group = 9; quiesced = true }) }
+    ensures { result ≡ Some (step.StartSync 7) }
+{
+    pool.due_step(Duty::Sync(7))
+}
+
+// A receipt of a synced group is durable, also in a suspended pool.
+fn a_synced_receipt_is_durable<D: SectorDevice>(pool: &PoolState<D>) -> Result<bool, PoolError>
+    requires { (shown pool.now).line.synced ≡ 8 }
+    ensures { result ≡ Ok true }
+{
+    pool.check_receipt(Receipt {
+        ordinal: Ordinal(3),
+        group: Group(8),
+    })
+}
+
+// Another one is refused by a suspended pool.
+fn a_receipt_is_not_checked_in_a_suspended_pool<D: SectorDevice>(
+    pool: &PoolState<D>,
+) -> Result<bool, PoolError>
+    requires suspended { (shown pool.now).suspended ≡ true }
+    requires synced { (shown pool.now).line.synced ≡ 8 }
+    requires none { (shown pool.now).log.kept ≡ [] }
+    ensures { result ≡ Err PoolError.Suspended }
+{
+    pool.check_receipt(Receipt {
+        ordinal: Ordinal(3),
+        group: Group(9),
+    })
 }

@@ -8,11 +8,11 @@ ghost use Rattle.pool_tables.specs.Shows.{geometry_of};
 
 use base::{
     Bytes, Group, LockId, Mode, ObjectId, Ops, Owner, Plan, PoolError, PoolName, Range, Receipt,
-    Status, TxId,
+    Status, Step, TxId,
 };
 use device_model::{Fault, MemDevice, SectorDevice};
 use import_replay::Imported;
-use pool_tables::{PoolTables, Progress};
+use pool_tables::{Duty, PoolTables, Progress};
 use range_locks::{HeldLock, HeldLocks, HeldPiece};
 use std::alloc::Global;
 
@@ -36,6 +36,8 @@ impl<D: SectorDevice> PoolState<D> {
     ghost use Rattle.import_replay.specs.Mounts.{shown_of_import};
     ghost use Rattle.sync.specs.Calls.{plain_answer};
     ghost use Rattle.pool_tables.specs.BeginTests.{is_above_limit};
+    ghost use Rattle.pool_tables.specs.Duties.{due_step};
+    ghost use Rattle.pool_tables.specs.Receipts.{ChecksReceipt};
     ghost use Rattle.pool_core.specs.Calls.{CallsNext};
     ghost use Rattle.pool_tables.specs.Told.{Leads, sync_step_reply};
     ghost use Rattle.pool_tables.specs.SyncPhases.{StepsPhases};
@@ -292,6 +294,27 @@ impl<D: SectorDevice> PoolState<D> {
         ensures { result ≡ is_durable (shown self.now) receipt.ordinal.0 receipt.group.0 }
     {
         self.pool.durable(receipt)
+    }
+
+    /// Whether a committed transaction survives a crash, for a caller that waits until it does.
+    ///
+    /// # Errors
+    /// If it does not survive a crash, in this order:
+    /// - `Suspended`.
+    /// - `BadRange` if no such transaction was committed.
+    pub fn check_receipt(&self, receipt: Receipt) -> Result<bool, PoolError>
+        ensures { ChecksReceipt receipt result (shown self.now) }
+    {
+        self.pool.check_receipt(receipt)
+    }
+
+    /// The step that is due next for a duty, or `None` if nothing has to be done now. It is a look, and no step.
+    ///
+    /// Of a suspended pool it is a step that is refused `Suspended`, unless the group that is asked for is synced.
+    pub fn due_step(&self, duty: Duty) -> Option<Step>
+        ensures { result ≡ due_step duty (shown self.now) }
+    {
+        self.pool.due_step(duty)
     }
 
     /// The groups of the pool, and its sums: the bytes that are charged, the free blocks, and how many of them no
