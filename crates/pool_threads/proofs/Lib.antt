@@ -15,3 +15,8 @@ pub mod TransactsSeen
 pub mod Released
 pub mod TransactsRelease
 pub mod TransactClients
+mod Served
+mod Waited
+mod WaitsSeen
+mod TransactsDurably
+mod Looped

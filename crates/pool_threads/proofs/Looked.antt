@@ -1,17 +1,23 @@
 -- A plan of a fault, which no view shows.
-use Rattle.std.proofs.Common.{◌≡◌, ◌∙◌, ◌++◌, ◌∷◌, [], List, ap, sym, subst}
-use Rattle.std.specs.Prelude.{IsTrue}
+use Rattle.std.proofs.Common.{◌≡◌, ◌∙◌, ◌++◌, ◌∷◌, [], List, ap, refl, sym, subst}
+use Rattle.std.specs.Prelude.{Bool, IsTrue, Result}
+use Rattle.base.specs.declared.error.PoolError.{PoolError}
+use Rattle.base.specs.declared.names.Receipt.{Receipt}
 use Rattle.base.specs.history.Past.{Past}
 use Rattle.base.specs.steps.ExactNow.{IsExplainedNow}
+use Rattle.base.specs.steps.Steps.{State}
 use Rattle.base.specs.stored.Stored.{IsHeld}
 use Rattle.device_model.specs.declared.device.SectorDevice.{Ghosts}
 use Rattle.pool_core.specs.declared.state.PoolState.{PoolState}
 use Rattle.pool_tables.specs.Told.{ShownPool, held_with, state_with}
 use Rattle.pool_core.specs.KeptSafe.{IsKeptSafe, OnDisk, on_disk}
-use Rattle.pool_core.specs.States.{told}
+use Rattle.pool_core.specs.States.{shown, told}
+use Rattle.pool_tables.specs.Receipts.{ChecksReceipt}
 use Rattle.pool_threads.specs.declared.handle.Handle.{Handle}
+use Rattle.pool_threads.specs.Answers.{TakesOne}
 use Rattle.pool_threads.specs.Handles.{HasLooked, StaysInPool, kin_of, turns_of, view_seen}
 use Rattle.pool_threads.specs.Views.{Explains, GrowsTo, SeenPool, since}
+use Rattle.pool_threads.specs.Waits.{FindsReceipt}
 use Rattle.word_lock.specs.declared.rule.Turn.{Turn}
 use Rattle.word_lock.specs.Seats.{HasMetNone}
 use Rattle.word_lock.specs.Turns.{turn}
@@ -37,3 +43,18 @@ module _ {Dev : Type 0} {G : Ghosts Dev} (old new : Handle Dev G) (ts : List (Tu
     met_none = met;
     alone = λ only. still ∙ alone only;
   }
+
+-- A look is a turn that took and left the same.
+pub looked_one : {Dev : Type 0} {G : Ghosts Dev} {P : Turn SeenPool → Type 0} {old new : Handle Dev G} → HasLooked old new → P (turn (view_seen new) (view_seen new)) → TakesOne P old new
+looked_one {new = new} l p = record {
+  same_pool = l.same_pool;
+  made = record { took = view_seen new; onward = l.onward; made = p; turn = l.turn; met_none = l.met_none; alone = l.alone };
+}
+
+-- what a pool says of a receipt, its view says
+pub found_by : {Dev : Type 0} {G : Ghosts Dev} (receipt : Receipt) (result : Result Bool PoolError) (p : PoolState Dev G) (v : SeenPool) → Explains p v → ChecksReceipt receipt result (shown p) → FindsReceipt receipt result (turn v v)
+found_by receipt result p v x checked = record {
+  looked = refl;
+  checked = subst (λ (a : State). ChecksReceipt receipt result a.shown) (sym x.state) checked;
+  explained = subst (λ (a : State). ∥ IsExplainedNow a.shown a.past ∥₁) (sym x.state) x.explained;
+}

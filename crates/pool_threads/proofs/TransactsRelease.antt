@@ -23,9 +23,9 @@ use Rattle.base.specs.steps.Steps.{State}
 use Rattle.base.proofs.steps.KeptTables.{steps_keep_tables}
 use Rattle.device_model.specs.declared.device.SectorDevice.{Ghosts}
 use Rattle.pool_threads.specs.declared.handle.Handle.{Handle}
-use Rattle.pool_threads.specs.Answers.{Makes, MakesAtLast, Sees, state_seen}
+use Rattle.pool_threads.specs.Answers.{Makes, MakesAtLast, state_seen}
 use Rattle.pool_threads.specs.Handles.{kin_of}
-use Rattle.pool_threads.specs.Transacts.{AreReleased, Ends, LeavesNothing, Locks, LocksAndEnds, StopsAtLock, TransactsOrLacks, Unlocks, lock_step, plan_of}
+use Rattle.pool_threads.specs.Transacts.{AreReleased, Ends, LeavesNothing, Locks, LocksAndEnds, TransactsOrLacks, Unlocks, lock_step, plan_of}
 use Rattle.pool_threads.specs.Turns.{AreUnbroken}
 use Rattle.pool_threads.specs.Views.{IsPoolStep, SeenPool, viewed_state}
 use Rattle.pool_threads.proofs.Released.{HasLocked, HasUnlocked, Holds, KeepsLocks, all_released, begin_refused, holds_then, keeps_committed, keeps_given_up, keeps_same, lock_refused, none_locked, none_unlocked, one_locked, one_unlocked, unlocked_once}
@@ -70,7 +70,7 @@ module _ {Dev : Type 0} {G : Ghosts Dev} where
 
   module _ {s : declared_step.Step} {e : PoolError} {r : declared_reply.Reply} (old new : Handle Dev G) (leaves : Leaves s e) (only : kin_of old ≡ 0) (m : MakesAtLast s e r old new) where
     took_is : ∥ viewed_state m.made.took ≡ state_seen old ∥₁
-    took_is = tries_leave (IsTrue G.keeps_model) s e m.made.tries (seen old.seat) m.made.took leaves m.made.refused (m.made.alone only)
+    took_is = tries_leave (IsTrue G.keeps_model) s e m.made.had (seen old.seat) m.made.took leaves m.made.each (m.made.alone only)
 
     step_at_last : ∥ Does s r (state_seen old) (state_seen new) ∥₁
     step_at_last =

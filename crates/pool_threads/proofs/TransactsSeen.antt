@@ -104,10 +104,14 @@ module _ {Dev : Type 0} {G : Ghosts Dev} where
         (seen_last old s.middle next new (along_locks owner s.locked ids old s.middle s.locks) s.refused later)
         (λ b. inl (s.range, refused_between _ e (state_seen old) (state_seen new) b))
 
+    -- an entry that is seen, also after what comes later
+    pub entered_by : (r : Receipt) (old done new : Handle Dev G) → TransactsOrLacks owner ops (Ok r) old done → GoesAlong done new → Sees (IsTransacted ops r) old new
+    entered_by r old done new (inl t) later =
+        committed_seen r old t.ends.0 t.ended new (along_locks owner _ t.ids old t.ends.0 t.ends.1) t.ends.2 (along_on t.ended done new (along_unlocks owner t.ids t.ended done t.unlocks) later)
+    entered_by r old done new (inr (lacks, same)) later = absurd (let no_way : Ok r ≡ Err error.NoMemory = lacks in cc)
+
     pub transacts_seen : (result : Result Receipt PoolError) (old new : Handle Dev G) → TransactsOrLacks owner ops result old new → IfOk result (λ r. Sees (IsTransacted ops r) old new)
-    transacts_seen (Ok r) old new (inl t) =
-        committed_seen r old t.ends.0 t.ended new (along_locks owner _ t.ids old t.ends.0 t.ends.1) t.ends.2 (along_unlocks owner t.ids t.ended new t.unlocks)
-    transacts_seen (Ok r) old new (inr (lacks, same)) = absurd (let no_way : Ok r ≡ Err error.NoMemory = lacks in cc)
+    transacts_seen (Ok r) old new t = entered_by r old new new t (along_same new new refl)
     transacts_seen (Err e) old new t = tt
 
     pub refusals_seen : (result : Result Receipt PoolError) (old new : Handle Dev G) → TransactsOrLacks owner ops result old new

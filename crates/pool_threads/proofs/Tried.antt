@@ -1,4 +1,4 @@
--- Tries that are refused, and then a step, are turns of the seat.
+-- Turns of a handle, one after another, and one at last: tries that are refused, and then a step.
 use Rattle.std.proofs.Common.{◌≡◌, ◌++◌, ◌∷◌, [], List, append_assoc, refl, sym, ap, subst, ◌∙◌}
 use Rattle.std.proofs.lemmas.List.{append-nil}
 use Rattle.std.proofs.lemmas.List.Elements.{All-nil, All-push}
@@ -13,17 +13,18 @@ use Rattle.base.specs.steps.Seen.{IsMadeBetween}
 use Rattle.base.specs.steps.Steps.{State}
 use Rattle.device_model.specs.declared.device.SectorDevice.{Ghosts}
 use Rattle.pool_threads.specs.declared.handle.Handle.{Handle}
-use Rattle.pool_threads.specs.Answers.{IsRefusal, Makes, MakesAtLast, Sees, Tries, state_seen}
+use Rattle.pool_threads.specs.Answers.{IsRefusal, Makes, MakesAtLast, Sees, Takes, TakesAtLast, TakesOne, Tries, state_seen}
 use Rattle.pool_threads.specs.Handles.{StaysInPool}
-use Rattle.pool_threads.specs.Views.{IsPoolStep, SeenPool, grows_onward, grows_same}
+use Rattle.pool_threads.specs.Views.{GrowsTo, SeenPool, grows_onward, grows_same}
 use Rattle.pool_threads.proofs.Answered.{between, refused_between}
-use Rattle.pool_threads.proofs.Made.{grows_by_made, met_none_on}
+use Rattle.pool_threads.proofs.Made.{met_none_on}
+use Rattle.pool_threads.proofs.Turned.{grows_by_one}
 use Rattle.pool_threads.specs.Turns.{AreUnbroken}
 use Rattle.word_lock.specs.declared.rule.Turn.{Turn}
 use Rattle.word_lock.specs.Seats.{seen, turns}
 use Rattle.word_lock.specs.Turns.{turn}
 
-stays_on : {Dev : Type 0} {G : Ghosts Dev} (old now new : Handle Dev G) → StaysInPool old now → StaysInPool now new → StaysInPool old new
+pub stays_on : {Dev : Type 0} {G : Ghosts Dev} (old now new : Handle Dev G) → StaysInPool old now → StaysInPool now new → StaysInPool old new
 stays_on old now new first later = (later.0 ∙ first.0, later.1 ∙ first.1)
 
 -- unbroken turns, up to what they left last
@@ -32,41 +33,49 @@ unbroken_to v [] w x line same = same ∙ line
 unbroken_to v (t ∷ ts) w x line same = (line.0, unbroken_to t.left ts w x line.1 same)
 
 -- and one more
-unbroken_push : (v : SeenPool) (ts : List (Turn SeenPool)) (w took left : SeenPool) → AreUnbroken v ts w → took ≡ w → AreUnbroken v (ts ++ turn took left ∷ []) left
+pub unbroken_push : (v : SeenPool) (ts : List (Turn SeenPool)) (w took left : SeenPool) → AreUnbroken v ts w → took ≡ w → AreUnbroken v (ts ++ turn took left ∷ []) left
 unbroken_push v [] w took left line same = (same ∙ line, refl)
 unbroken_push v (t ∷ ts) w took left line same = (line.0, unbroken_push t.left ts w took left line.1 same)
 
+-- turns of which something is so, one after another
+module _ {Dev : Type 0} {G : Ghosts Dev} (P : Turn SeenPool → Type 0) where
+  pub no_turns : (h : Handle Dev G) → Takes P h h
+  no_turns h = record { same_pool = (refl, refl); made = record { had = []; each = All-nil P; onward = grows_same (IsTrue G.keeps_model) (seen h.seat); turns = sym (append-nil (turns h.seat)); met_none = (refl, refl); alone = λ _. refl } }
+
+  module _ {old now next : Handle Dev G} (t : Takes P old now) where
+    -- one more, which leads on
+    pub one_more_turn : (m : TakesOne P now next) → GrowsTo (IsTrue G.keeps_model) m.made.took (seen next.seat) → Takes P old next
+    one_more_turn m leads = record {
+      same_pool = stays_on old now next t.same_pool m.same_pool;
+      made = record {
+        had = t.made.had ++ turn m.made.took (seen next.seat) ∷ [];
+        each = All-push P t.made.had (turn m.made.took (seen next.seat)) t.made.each m.made.made;
+        onward = grows_onward _ _ _ _ t.made.onward (grows_onward _ _ _ _ m.made.onward leads);
+        turns = m.made.turn ∙ ap (λ (ts : List (Turn SeenPool)). ts ++ turn m.made.took (seen next.seat) ∷ []) t.made.turns ∙ append_assoc (turns old.seat) t.made.had (turn m.made.took (seen next.seat) ∷ []);
+        met_none = met_none_on old.seat now.seat next.seat t.made.met_none m.made.met_none;
+        alone = λ only. unbroken_push (seen old.seat) t.made.had (seen now.seat) m.made.took (seen next.seat) (t.made.alone only) (m.made.alone (t.made.met_none.0 ∙ only));
+      };
+    }
+
+    -- the last one
+    pub at_last : {Q : Turn SeenPool → Type 0} → TakesOne Q now next → TakesAtLast P Q old next
+    at_last m = record {
+      same_pool = stays_on old now next t.same_pool m.same_pool;
+      made = record {
+        had = t.made.had;
+        each = t.made.each;
+        took = m.made.took;
+        onward = grows_onward _ _ _ _ t.made.onward m.made.onward;
+        made = m.made.made;
+        turn = m.made.turn ∙ ap (λ (ts : List (Turn SeenPool)). ts ++ turn m.made.took (seen next.seat) ∷ []) t.made.turns;
+        met_none = met_none_on old.seat now.seat next.seat t.made.met_none m.made.met_none;
+        alone = λ only. unbroken_to (seen old.seat) t.made.had (seen now.seat) m.made.took (t.made.alone only) (m.made.alone (t.made.met_none.0 ∙ only));
+      };
+    }
+
 module _ {Dev : Type 0} {G : Ghosts Dev} (s : declared_step.Step) (e : PoolError) where
-  pub no_tries : (h : Handle Dev G) → Tries s e h h
-  no_tries h = record { same_pool = (refl, refl); tried = record { tries = []; refused = All-nil (λ (t : Turn SeenPool). IsPoolStep (IsTrue G.keeps_model) s (reply.Refused e) t.took t.left); onward = grows_same (IsTrue G.keeps_model) (seen h.seat); turns = sym (append-nil (turns h.seat)); met_none = (refl, refl); alone = λ _. refl } }
-
-  pub one_more_try : {old now next : Handle Dev G} → Tries s e old now → Makes s (reply.Refused e) now next → Tries s e old next
-  one_more_try {old} {now} {next} t m = record {
-    same_pool = stays_on old now next t.same_pool m.same_pool;
-    tried = record {
-      tries = t.tried.tries ++ turn m.made.took (seen next.seat) ∷ [];
-      refused = All-push (λ (t : Turn SeenPool). IsPoolStep (IsTrue G.keeps_model) s (reply.Refused e) t.took t.left) t.tried.tries (turn m.made.took (seen next.seat)) t.tried.refused m.made.made;
-      onward = grows_onward _ _ _ _ t.tried.onward (grows_by_made m.made);
-      turns = m.made.turn ∙ ap (λ (ts : List (Turn SeenPool)). ts ++ turn m.made.took (seen next.seat) ∷ []) t.tried.turns ∙ append_assoc (turns old.seat) t.tried.tries (turn m.made.took (seen next.seat) ∷ []);
-      met_none = met_none_on old.seat now.seat next.seat t.tried.met_none m.made.met_none;
-      alone = λ only. unbroken_push (seen old.seat) t.tried.tries (seen now.seat) m.made.took (seen next.seat) (t.tried.alone only) (m.made.alone (t.tried.met_none.0 ∙ only));
-    };
-  }
-
-  pub at_last : {old now new : Handle Dev G} {r : declared_reply.Reply} → Tries s e old now → Makes s r now new → MakesAtLast s e r old new
-  at_last {old} {now} {new} t m = record {
-    same_pool = stays_on old now new t.same_pool m.same_pool;
-    made = record {
-      tries = t.tried.tries;
-      refused = t.tried.refused;
-      took = m.made.took;
-      onward = grows_onward _ _ _ _ t.tried.onward m.made.onward;
-      made = m.made.made;
-      turn = m.made.turn ∙ ap (λ (ts : List (Turn SeenPool)). ts ++ turn m.made.took (seen new.seat) ∷ []) t.tried.turns;
-      met_none = met_none_on old.seat now.seat new.seat t.tried.met_none m.made.met_none;
-      alone = λ only. unbroken_to (seen old.seat) t.tried.tries (seen now.seat) m.made.took (t.tried.alone only) (m.made.alone (t.tried.met_none.0 ∙ only));
-    };
-  }
+  one_more_try : {old now next : Handle Dev G} → Tries s e old now → Makes s (reply.Refused e) now next → Tries s e old next
+  one_more_try t m = one_more_turn _ t m (grows_by_one _ _ _ _ _ _ refl m.made.made)
 
   -- a call whose answer is that refusal is one more try
   pub refused_again : {A : Type 0} (make : A → declared_reply.Reply) {old now next : Handle Dev G} (x : Result A PoolError) → x ≡ Err e → Tries s e old now → Makes s (reply_of make x) now next

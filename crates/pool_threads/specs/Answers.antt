@@ -3,6 +3,7 @@ use Rattle.std.specs.Prelude.{◌≡◌, true, false, IsTrue}
 use Rattle.base.specs.declared.error.PoolError.{PoolError}
 use Rattle.base.specs.declared.step.Step as declared_step
 use Rattle.base.specs.declared.step.Reply as declared_reply
+use Rattle.base.specs.declared.step.Reply.TheVariants as reply
 use Rattle.base.specs.steps.Runs.{refusal_of_step}
 use Rattle.base.specs.steps.Seen.{IsRefusedBetween}
 use Rattle.base.specs.steps.SeenLaws.{is_suspending, is_untested}
@@ -10,8 +11,9 @@ use Rattle.base.specs.steps.Steps.{State}
 use Rattle.device_model.specs.declared.device.SectorDevice.{Ghosts}
 use Rattle.pool_threads.specs.declared.handle.Handle.{Handle}
 use Rattle.pool_threads.specs.Handles.{StaysInPool}
-use Rattle.pool_threads.specs.Turns.{HasMade, HasMadeAtLast, HasTried}
-use Rattle.pool_threads.specs.Views.{viewed_state}
+use Rattle.pool_threads.specs.Turns.{HasHad, HasHadAtLast, HasHadOne, IsStepTurn}
+use Rattle.pool_threads.specs.Views.{SeenPool, viewed_state}
+use Rattle.word_lock.specs.declared.rule.Turn.{Turn}
 use Rattle.word_lock.specs.Seats.{seen}
 
 -- What is so of a refusal, by the states before and after the call: each but those of memory and of the device is the
@@ -30,17 +32,29 @@ module _ {Dev : Type 0} {G : Ghosts Dev} where
   abbrev pub Sees : (State → State → Type 0) → Handle Dev G → Handle Dev G → Type 0
   Sees P old new = ∥ P (state_seen old) (state_seen new) ∥₁
 
-  -- the handle is of the same pool, and made this step with this reply in one turn and no other
-  pub record Makes (s : declared_step.Step) (r : declared_reply.Reply) (old new : Handle Dev G) : Type 0 where
+  -- the handle is of the same pool, and had one turn and no other, of which this is so
+  pub record TakesOne (P : Turn SeenPool → Type 0) (old new : Handle Dev G) : Type 0 where
     pub same_pool : StaysInPool old new
-    pub made : HasMade (IsTrue G.keeps_model) s r old.seat new.seat
+    pub made : HasHadOne (IsTrue G.keeps_model) P old.seat new.seat
+
+  -- so far the handle had turns of which this is so, and no others
+  pub record Takes (P : Turn SeenPool → Type 0) (old now : Handle Dev G) : Type 0 where
+    pub same_pool : StaysInPool old now
+    pub made : HasHad (IsTrue G.keeps_model) P old.seat now.seat
+
+  -- after such turns the handle had one more, of which that is so, and no others
+  pub record TakesAtLast (P Q : Turn SeenPool → Type 0) (old new : Handle Dev G) : Type 0 where
+    pub same_pool : StaysInPool old new
+    pub made : HasHadAtLast (IsTrue G.keeps_model) P Q old.seat new.seat
+
+  -- the handle made this step with this reply in one turn and no other
+  abbrev pub Makes : declared_step.Step → declared_reply.Reply → Handle Dev G → Handle Dev G → Type 0
+  Makes s r = TakesOne (IsStepTurn (IsTrue G.keeps_model) s r)
 
   -- so far the handle only tried this step, and was refused so each time
-  pub record Tries (s : declared_step.Step) (e : PoolError) (old now : Handle Dev G) : Type 0 where
-    pub same_pool : StaysInPool old now
-    pub tried : HasTried (IsTrue G.keeps_model) s e old.seat now.seat
+  abbrev pub Tries : declared_step.Step → PoolError → Handle Dev G → Handle Dev G → Type 0
+  Tries s e = Takes (IsStepTurn (IsTrue G.keeps_model) s (reply.Refused e))
 
   -- the handle made this step with this reply, after turns in which it was refused so, and in no other turn
-  pub record MakesAtLast (s : declared_step.Step) (e : PoolError) (r : declared_reply.Reply) (old new : Handle Dev G) : Type 0 where
-    pub same_pool : StaysInPool old new
-    pub made : HasMadeAtLast (IsTrue G.keeps_model) s e r old.seat new.seat
+  abbrev pub MakesAtLast : declared_step.Step → PoolError → declared_reply.Reply → Handle Dev G → Handle Dev G → Type 0
+  MakesAtLast s e r = TakesAtLast (IsStepTurn (IsTrue G.keeps_model) s (reply.Refused e)) (IsStepTurn (IsTrue G.keeps_model) s r)

@@ -4,4 +4,7 @@ pub mod Turns
 pub mod Handles
 pub mod Answers
 pub mod Laws
+pub mod Serves
+pub mod Waits
 pub mod Transacts
+pub mod Loops

@@ -1,5 +1,5 @@
 -- What a handle does in the turns of one transaction: it locks ranges, begins, commits or aborts, and unlocks.
-use Rattle.std.specs.Prelude.{◌≡◌, ◌⊎◌, ◌++◌, List, [], ◌∷◌, map, Result, Ok, Err}
+use Rattle.std.specs.Prelude.{◌≡◌, ◌⊎◌, ◌++◌, List, [], ◌∷◌, map, None, Ok, Err, Option, Result, Some}
 use Rattle.base.specs.declared.error.PoolError.{PoolError}
 use Rattle.base.specs.declared.error.PoolError.TheVariants as error
 use Rattle.base.specs.declared.names.Group.{Group}
@@ -22,6 +22,7 @@ use Rattle.device_model.specs.declared.device.SectorDevice.{Ghosts}
 use Rattle.pool_threads.specs.declared.handle.Handle.{Handle}
 use Rattle.pool_threads.specs.Answers.{IsRefusal, Makes, MakesAtLast, Sees, state_seen}
 use Rattle.pool_threads.specs.Handles.{kin_of}
+use Rattle.pool_threads.specs.Waits.{WaitsUntil}
 use Rattle.transactions.specs.LockRanges.{lock_ranges}
 
 -- the step that locks a range for writing
@@ -121,3 +122,17 @@ pub record AreReleased (before after : State) : Type 0 where
 -- The only handle of a pool in which no transaction was open has left no lock and no transaction of its own.
 abbrev pub LeavesNothing : {Dev : Type 0} {G : Ghosts Dev} → Handle Dev G → Handle Dev G → Type 0
 LeavesNothing old new = kin_of old ≡ 0 → (state_seen old).shown.transactions ≡ [] → Sees AreReleased old new
+
+module _ {Dev : Type 0} {G : Ghosts Dev} where
+  -- the handle made a transaction with this receipt, in which it left nothing, and then waited with this result
+  pub record TransactsThenWaits (owner : Owner) (ops : List Op) (r : Receipt) (result : Result (Unit {0}) PoolError) (old new : Handle Dev G) : Type 0 where
+    pub done : Handle Dev G
+    pub transacts : TransactsOrLacks owner ops (Ok r) old done
+    pub released : LeavesNothing old done
+    pub waits : WaitsUntil r result done new
+
+  -- Its commit is durable; or the wait for it was refused, with its receipt; or the transaction was, without one.
+  abbrev pub TransactsDurably : Owner → List Op → Result Receipt (PoolError × Option Receipt) → Handle Dev G → Handle Dev G → Type 0
+  TransactsDurably owner ops (Ok r) old new = TransactsThenWaits owner ops r (Ok tt) old new
+  TransactsDurably owner ops (Err (e, Some r)) old new = TransactsThenWaits owner ops r (Err e) old new
+  TransactsDurably owner ops (Err (e, None)) old new = TransactsOrLacks owner ops (Err e) old new × LeavesNothing old new

@@ -29,39 +29,47 @@ abbrev pub AreUnbroken : SeenPool → List (Turn SeenPool) → SeenPool → Type
 AreUnbroken v [] w = w ≡ v
 AreUnbroken v (t ∷ ts) w = (t.took ≡ v) × AreUnbroken t.left ts w
 
+-- in this turn the step was made with this reply
+abbrev pub IsStepTurn : Type 0 → declared_step.Step → declared_reply.Reply → Turn SeenPool → Type 0
+IsStepTurn keeps s r t = IsPoolStep keeps s r t.took t.left
+
 module _ {T R : Type 0} where
   -- In the turn in which it had the lock, the seat made a step with this reply.
   pub record HasStepped (keeps : Type 0) (s : declared_step.Step) (r : declared_reply.Reply) (holder new : Seat T R SeenPool) : Type 0 where
     pub made : IsPoolStep keeps s r (seen holder) (seen new)
     pub turn : HasTurned holder new (seen new)
 
-  -- In one turn and no other the seat made a step with this reply: from a view that goes on from what it had seen, to
-  -- the one that it has seen then. The only seat of a lock took just what it had seen.
-  pub record HasMade (keeps : Type 0) (s : declared_step.Step) (r : declared_reply.Reply) (old new : Seat T R SeenPool) : Type 0 where
+  -- In one turn and no other, of which this is so, the seat went from a view that goes on from what it had seen to the one
+  -- that it has seen then. The only seat of a lock took just what it had seen.
+  pub record HasHadOne (keeps : Type 0) (P : Turn SeenPool → Type 0) (old new : Seat T R SeenPool) : Type 0 where
     pub took : SeenPool
     pub onward : GrowsTo keeps (seen old) took
-    pub made : IsPoolStep keeps s r took (seen new)
+    pub made : P (turn took (seen new))
     pub turn : turns new ≡ turns old ++ turn took (seen new) ∷ []
     pub met_none : HasMetNone old new
     pub alone : kin old ≡ 0 → took ≡ seen old
 
-  -- In these turns and no others the seat made a step that was refused each time, with the same refusal. Between those
-  -- of the only seat of a lock lies nothing.
-  pub record HasTried (keeps : Type 0) (s : declared_step.Step) (e : PoolError) (old now : Seat T R SeenPool) : Type 0 where
-    pub tries : List (Turn SeenPool)
-    pub refused : All (λ t. IsPoolStep keeps s (reply.Refused e) t.took t.left) tries
+  -- The seat had these turns and no others, of each of which this is so. Between those of the only seat of a lock lies
+  -- nothing.
+  pub record HasHad (keeps : Type 0) (P : Turn SeenPool → Type 0) (old now : Seat T R SeenPool) : Type 0 where
+    pub had : List (Turn SeenPool)
+    pub each : All P had
     pub onward : GrowsTo keeps (seen old) (seen now)
-    pub turns : turns now ≡ turns old ++ tries
+    pub turns : turns now ≡ turns old ++ had
     pub met_none : HasMetNone old now
-    pub alone : kin old ≡ 0 → AreUnbroken (seen old) tries (seen now)
+    pub alone : kin old ≡ 0 → AreUnbroken (seen old) had (seen now)
 
-  -- After such tries the seat made the step with this reply.
-  pub record HasMadeAtLast (keeps : Type 0) (s : declared_step.Step) (e : PoolError) (r : declared_reply.Reply) (old new : Seat T R SeenPool) : Type 0 where
-    pub tries : List (Turn SeenPool)
-    pub refused : All (λ t. IsPoolStep keeps s (reply.Refused e) t.took t.left) tries
+  -- After such turns the seat had one more, of which that is so.
+  pub record HasHadAtLast (keeps : Type 0) (P Q : Turn SeenPool → Type 0) (old new : Seat T R SeenPool) : Type 0 where
+    pub had : List (Turn SeenPool)
+    pub each : All P had
     pub took : SeenPool
     pub onward : GrowsTo keeps (seen old) took
-    pub made : IsPoolStep keeps s r took (seen new)
-    pub turn : turns new ≡ (turns old ++ tries) ++ turn took (seen new) ∷ []
+    pub made : Q (turn took (seen new))
+    pub turn : turns new ≡ (turns old ++ had) ++ turn took (seen new) ∷ []
     pub met_none : HasMetNone old new
-    pub alone : kin old ≡ 0 → AreUnbroken (seen old) tries took
+    pub alone : kin old ≡ 0 → AreUnbroken (seen old) had took
+
+  -- In one turn and no other the seat made a step with this reply.
+  abbrev pub HasMade : Type 0 → declared_step.Step → declared_reply.Reply → Seat T R SeenPool → Seat T R SeenPool → Type 0
+  HasMade keeps s r = HasHadOne keeps (IsStepTurn keeps s r)

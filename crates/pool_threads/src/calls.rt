@@ -13,7 +13,7 @@ ghost use Rattle.pool_threads.specs.Handles.{IsUnchanged, kin_of, moment_of};
 ghost use Rattle.pool_threads.specs.Turns.{begin_reply, dated};
 
 use crate::handle::Handle;
-use crate::turn::{try_turn, turn};
+use crate::turn::{replied, try_turn, turn};
 use base::{
     Bytes, Group, LockId, Mode, ObjectId, Ops, Owner, Plan, PoolError, Range, Receipt, Reply, Step,
     TxId,
@@ -27,8 +27,8 @@ use word_lock::release;
 impl<'p, D: SectorDevice> Handle<'p, D> {
     /// Makes one step of the pool, in one turn of the handle. A start of a sync gets the pool's moment.
     ///
-    /// A thread that syncs makes the steps `CloseGroup`, `MarkQuiesced`, `StartSync` and `SyncStep` (the crate's page
-    /// shows how). A `SyncStep` makes one device call, a write or a flush, under the pool's lock: other threads wait.
+    /// `sync_pool`, and the loops `quiescer` and `syncer`, make the steps of a sync by themselves. A `SyncStep`, a
+    /// `LogWrite` and a `LogFlush` make one device call, under the pool's lock: other threads wait.
     pub fn step<'a, 'b, W: Wait>(&'a mut self, rt: &'b W, step: Step) -> Reply
         ensures made { Makes (dated (moment_of self.old) step) result self.old self.new }
     {
@@ -119,7 +119,8 @@ impl<'p, D: SectorDevice> Handle<'p, D> {
     /// `PoolState::begin` says, until it is synced.
     ///
     /// At the dirty limit it waits: it tries again while it is refused `Throttled`, unless the plan's charge alone is
-    /// above the limit. So some thread has to sync a group (the crate's page shows how), or to abort a transaction.
+    /// above the limit. So some thread has to sync a group (`sync_pool`, or the loops `quiescer` and `syncer`), or to
+    /// abort a transaction.
     ///
     /// # Errors
     /// Those of `PoolState::begin`; `Throttled` only if the plan's charge alone is above the limit.
@@ -179,7 +180,9 @@ impl<'p, D: SectorDevice> Handle<'p, D> {
         ensures refused { IfErr result (λ e. Sees (IsRefusal (step.Commit tx ops) e)
             self.old self.new) }
     {
-        self.ask(rt, Commit { tx, ops })
+        let committed = self.ask(rt, Commit { tx, ops });
+        self.owed.note(committed.is_ok());
+        committed
     }
 
     /// Gives a transaction up: none of its operations takes place.
@@ -255,16 +258,6 @@ impl<'p> Handle<'p, MemDevice> {
         let mut guard = self.seat.acquire(rt, &self.shared.lock);
         guard.held.value.fail(fault, n);
         release(guard);
-    }
-}
-
-// The answer of a step, as a reply.
-fn replied(answer: Result<Reply, PoolError>) -> Reply
-    ensures { result ≡ reply_of (λ r. r) answer }
-{
-    match answer {
-        Ok(reply) => reply,
-        Err(error) => Reply::Refused(error),
     }
 }
 

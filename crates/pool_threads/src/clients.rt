@@ -1,6 +1,6 @@
 //! What callers rest on: one function for each promise of this crate's calls, proved from the contract of the call
 //! alone. So it is refused as soon as that contract says less.
-ghost use Rattle.std.specs.Prelude.{ℕ, ◌≡◌, [], ◌∷◌, ◌+◌, ◌++◌, IfErr, IfNone, IfOk, IfSome, IsSome, IsTrue, List, false};
+ghost use Rattle.std.specs.Prelude.{ℕ, ◌≡◌, ◌≢◌, ◌≤◌, [], ◌∷◌, ◌+◌, ◌++◌, IfErr, IfNone, IfOk, IfSome, IsSome, IsTrue, List, false};
 ghost use Rattle.base.specs.declared.error.PoolError.TheVariants as error;
 ghost use Rattle.base.specs.declared.names.Group.{Group};
 ghost use Rattle.base.specs.declared.names.LockId.{LockId};
@@ -10,12 +10,14 @@ ghost use Rattle.base.specs.declared.range.ObjectRange.{ObjectRange};
 ghost use Rattle.base.specs.declared.step.Reply.TheVariants as reply;
 ghost use Rattle.base.specs.declared.step.Step.TheVariants as step;
 ghost use Rattle.base.specs.steps.Refusals.{object_range};
-ghost use Rattle.base.specs.steps.Seen.{IsGranted, IsReadBetween};
+ghost use Rattle.base.specs.steps.Seen.{IsGranted, IsKnownDurable, IsReadBetween};
 ghost use Rattle.import_replay.specs.ImportSyncs.{IsImportSynced};
 ghost use Rattle.import_replay.specs.Mounts.{shown_of_import};
 ghost use Rattle.import_replay.specs.declared.mounted.Mounted.{Mounted};
+ghost use Rattle.pool_tables.specs.declared.duty.Duty.TheVariants as duty;
 ghost use Rattle.pool_threads.specs.Answers.{Makes, MakesAtLast, Sees, state_seen};
 ghost use Rattle.pool_threads.specs.Handles.{IsOf, IsOfSamePool, OpensBehind, StartsBehind, TakesOneTurn, TakesTurns, WasOf, kin_left, kin_of, moment_of, opening_view, owned_of, shared_of, taken_by, turns_of, view_seen};
+ghost use Rattle.pool_threads.specs.Loops.{Works};
 ghost use Rattle.pool_threads.specs.Transacts.{IsTransacted, Locks, Unlocks, plan_of};
 ghost use Rattle.pool_threads.specs.Views.{Explains, GrowsTo, IsFollowed, SeenPool, WereSafeBetween};
 ghost use Rattle.pool_threads.specs.declared.handle.Handle.{Handle};
@@ -25,8 +27,8 @@ ghost use Rattle.word_lock.specs.Turns.{turn};
 
 use crate::{Handle, LastSeen, OwnedPool, Pool};
 use base::{
-    Bytes, Group, LockId, Mode, ObjectId, Ops, Owner, Plan, PoolError, Range, Receipt, Reply, Step,
-    TxId,
+    Bytes, Group, LockId, Mode, ObjectId, Ops, Ordinal, Owner, Plan, PoolError, Range, Receipt,
+    Reply, Step, TxId,
 };
 use device_model::{Fault, MemDevice, SectorDevice};
 use import_replay::Imported;
@@ -400,4 +402,88 @@ fn a_transact_of_the_only_handle_leaves_the_locks_as_they_were<D: SectorDevice, 
         → Sees (λ before after. after.shown.locks ≡ before.shown.locks) handle.old handle.new }
 {
     handle.transact(rt, Owner(3), ops)
+}
+
+// A wait that returns Ok has found the transaction durable.
+fn a_wait_ends_with_a_durable_commit<D: SectorDevice, W: Wait>(
+    rt: &W,
+    handle: &mut Handle<'_, D>,
+) -> Result<(), PoolError>
+    ensures { IfOk result
+        (λ _. Sees (λ before after. IsKnownDurable 3 9 after) handle.old handle.new) }
+{
+    let receipt = Receipt {
+        ordinal: Ordinal(3),
+        group: Group(9),
+    };
+    handle.fsync(rt, receipt)
+}
+
+// It syncs groups instead.
+fn a_wait_is_never_refused_for_log_space<D: SectorDevice, W: Wait>(
+    rt: &W,
+    handle: &mut Handle<'_, D>,
+    receipt: Receipt,
+) -> bool
+    ensures { result ≡ false }
+{
+    let answer = handle.fsync(rt, receipt);
+    matches!(answer, Err(PoolError::NoLogSpace))
+}
+
+// All that it did are turns of its own, in which steps were made that were due, or none.
+fn a_wait_takes_turns<D: SectorDevice, W: Wait>(
+    rt: &W,
+    handle: &mut Handle<'_, D>,
+    receipt: Receipt,
+) -> Result<(), PoolError>
+    ensures { TakesTurns handle.old handle.new }
+{
+    handle.fsync(rt, receipt)
+}
+
+fn a_sync_of_the_pool_returns_a_synced_group<D: SectorDevice, W: Wait>(
+    rt: &W,
+    handle: &mut Handle<'_, D>,
+) -> Result<Group, PoolError>
+    ensures { IfOk result (λ g. g.0 ≤ (state_seen handle.new).shown.line.synced) }
+{
+    handle.sync_pool(rt)
+}
+
+fn a_durable_transaction_is_entered_and_durable<D: SectorDevice, W: Wait>(
+    rt: &W,
+    handle: &mut Handle<'_, D>,
+    ops: Ops,
+) -> Option<Receipt>
+    ensures entered { IfSome result (λ r. Sees (IsTransacted ops r) handle.old handle.new) }
+    ensures durable { IfSome result (λ r. Sees
+        (λ before after. IsKnownDurable r.ordinal.0 r.group.0 after) handle.old handle.new) }
+{
+    match handle.transact_durably(rt, Owner(3), ops) {
+        Ok(receipt) => Some(receipt),
+        Err(_) => None,
+    }
+}
+
+// A quiescer makes no step of a sync, and waits if a group is not ready.
+fn a_quiescer_only_quiesces<D: SectorDevice, W: Wait>(
+    rt: &W,
+    handle: &mut Handle<'_, D>,
+) -> Result<(), PoolError>
+    ensures worked { IfOk result (λ _. Works duty.Quiesce handle.old handle.new) }
+    ensures ready { IfErr result (λ e. e ≢ PoolError.NotReady) }
+{
+    handle.quiescer(rt)
+}
+
+// A syncer starts syncs with the pool's moment.
+fn a_syncer_starts_at_the_moment_of_the_pool<D: SectorDevice, W: Wait>(
+    rt: &W,
+    handle: &mut Handle<'_, D>,
+) -> Result<(), PoolError>
+    ensures { IfOk result
+        (λ _. Works (duty.Sync (moment_of handle.old)) handle.old handle.new) }
+{
+    handle.syncer(rt)
 }

@@ -2,6 +2,7 @@
 ghost use Rattle.std.specs.Prelude.{◌≡◌};
 ghost use Rattle.word_lock.specs.Seats.{IsIdle, lock_table, seat_table};
 
+use crate::flushers::Owed;
 use crate::rule::PoolRule;
 use crate::shared::Shared;
 use device_model::SectorDevice;
@@ -19,6 +20,7 @@ use word_lock::Seat;
 pub struct Handle<'p, D: SectorDevice> {
     pub(crate) shared: &'p Shared<D>,
     pub(crate) seat: Seat<Box<PoolState<D>>, PoolRule<D>>,
+    pub(crate) owed: Owed<'p>,
     pub(crate) ghost own: { seat_table seat ≡ lock_table shared.now.lock },
     pub(crate) ghost idle: { IsIdle seat },
 }
@@ -42,7 +44,8 @@ impl<'p, D: SectorDevice> Handle<'p, D> {
     {
         let shared = self.shared;
         let seat = self.seat.split(&shared.lock);
-        Handle { shared, seat }
+        let owed = Owed::new(&shared.flushers);
+        Handle { shared, seat, owed }
     }
 
     /// For proofs: takes in what another handle of the same pool has seen, and takes over the turns that it had.
@@ -50,7 +53,11 @@ impl<'p, D: SectorDevice> Handle<'p, D> {
         requires { IsOfSamePool self.old other }
         ensures { HasJoined self.old other.entry self.new }
     {
-        let Handle { shared: _, seat } = other;
+        let Handle {
+            shared: _,
+            seat,
+            owed: _,
+        } = other;
         self.seat.join(&self.shared.lock, seat);
     }
 
@@ -59,7 +66,11 @@ impl<'p, D: SectorDevice> Handle<'p, D> {
     pub fn leave(self) -> LastSeen<D>
         ensures { IsLeftBehind self.entry result }
     {
-        let Handle { shared: _, seat } = self;
+        let Handle {
+            shared: _,
+            seat,
+            owed: _,
+        } = self;
         LastSeen { seat }
     }
 }

@@ -1,28 +1,27 @@
 //! A pool that threads share: each takes it whole, makes one step, and releases it.
 //!
 //! [`Pool::open`] opens the pool on a device, and [`Pool::handle`] gives each thread a [`Handle`]. `transact` of a
-//! handle makes a whole transaction. Its other calls are single steps, as those of `PoolState` in `pool_core`; `lock`
-//! and `begin` wait for what others hold. When no handle is left, [`Pool::close`] gives the state back.
+//! handle makes a whole transaction, and `transact_durably` returns once no crash loses it. Its other calls are single
+//! steps, as those of `PoolState` in `pool_core`; `lock` and `begin` wait for what others hold. When no handle is left,
+//! [`Pool::close`] gives the state back.
 //!
 //! Transactions are charged until their group is synced. At the dirty limit `begin` and `transact` wait, so some thread
-//! has to sync. As each step is made under the pool's lock, other threads wait for a write or a flush of a sync.
+//! has to sync: by `sync_pool`, or by the two loops `quiescer` and `syncer`, each in a thread of its own. As each step is
+//! made under the pool's lock, other threads wait for a write or a flush.
 //!
 //! [`LastSeen`], [`OwnedPool`], [`PoolRule`], [`PoolView`] and the two functions are for proofs.
 //!
 //! # Examples
 //!
-//! It commits a transaction and syncs its group while the pool runs. A thread that syncs beside others calls
-//! `sync_up_to` with each group that it is asked for, or makes such rounds until the others are done
-//! (`crates/shared_pool`).
+//! It commits a transaction, and waits until no crash loses it.
 //!
 //! ```
 //! #![tactic(auto)]
 //!
-//! use base::{DEFAULT_DIRTY_MAX, Group, ObjectId, Op, Ops, Owner, PoolError, Reply, Step};
-//! use device_model::{MemDevice, SectorDevice};
+//! use base::{DEFAULT_DIRTY_MAX, ObjectId, Op, Ops, Owner, PoolError};
+//! use device_model::MemDevice;
 //! use import_replay::create;
-//! use pool_threads::{Handle, Pool};
-//! use std::sync::Wait;
+//! use pool_threads::Pool;
 //!
 //! fn main(rt: HostRuntime) -> anyhow::Result<()> {
 //!     let device = create(MemDevice::new(rt.alloc(), 16_384)?, b"tank", 77, 0);
@@ -31,37 +30,21 @@
 //!     let mut handle = pool.handle();
 //!     let ops = Ops::new(vec![in rt.alloc(); Op::Create(ObjectId(1))]?);
 //!     let receipt = handle.transact(&rt, Owner(1), ops)?;
-//!     sync_up_to(&rt, &mut handle, receipt.group)?;
+//!     handle.fsync(&rt, receipt)?;
 //!     Ok(())
-//! }
-//!
-//! // Makes each step of a sync for which the groups are ready, round after round, until this group is synced.
-//! fn sync_up_to<D: SectorDevice, W: Wait>(
-//!     rt: &W,
-//!     handle: &mut Handle<'_, D>,
-//!     group: Group,
-//! ) -> Result<(), PoolError> {
-//!     for _ in rt.forever() {
-//!         for step in [Step::CloseGroup, Step::MarkQuiesced, Step::StartSync(0), Step::SyncStep] {
-//!             match handle.step(rt, step) {
-//!                 Reply::Synced(synced) if group <= synced => return Ok(()),
-//!                 Reply::Refused(PoolError::NotReady) => {}
-//!                 Reply::Refused(error) => return Err(error),
-//!                 _ => {}
-//!             }
-//!         }
-//!     }
-//!     unreachable!()
 //! }
 //! ```
 #![tactic(auto)]
 
+mod bells;
 mod calls;
 mod clients;
 mod debug;
 mod first;
+mod flushers;
 mod handle;
 mod laws;
+mod loops;
 mod owned;
 mod pool;
 mod retries;
@@ -70,6 +53,7 @@ mod shared;
 mod transact;
 mod turn;
 mod waiters;
+mod waits;
 
 pub use handle::Handle;
 pub use pool::Pool;

@@ -2,6 +2,7 @@
 ghost use Rattle.word_lock.specs.Seats.{IsSourceOf};
 
 use crate::first::{first_view, state_behind, view_behind};
+use crate::flushers::Owed;
 use crate::handle::{Handle, LastSeen};
 use crate::rule::{PoolRule, PoolView};
 use crate::shared::{Shared, boxed};
@@ -85,7 +86,14 @@ impl<D: SectorDevice> Pool<D> {
     {
         let shared = &self.shared;
         let seat = self.source.seat(&shared.lock);
-        Handle { shared, seat }
+        let owed = Owed::new(&shared.flushers);
+        Handle { shared, seat, owed }
+    }
+
+    /// Tells the loops of the pool to stop (`Handle::quiescer`, `Handle::syncer`). Each returns at its next turn. Other
+    /// calls still work.
+    pub fn stop(&self) {
+        self.shared.bells.stop();
     }
 
     /// Takes the state out of the pool, for one thread: to sync it (`PoolState::sync_open_group`), or to get its

@@ -25,6 +25,11 @@ pub(crate) trait RetriedCall<D: SectorDevice>: PoolCall<D> + Copy {
     // It will be refused so for ever.
     ghost is_in_vain: { Self → Shown → Type 0 };
 
+    /// Whether a sync of the open group may help it. No clause rests on it.
+    fn wants_close() -> bool {
+        false
+    }
+
     /// Whether the call may pass later, in a pool in which it was refused so.
     fn may_pass(&self, error: PoolError, state: &PoolState<D>) -> bool
         ensures again { result ≡ true → error ≡ retried }
@@ -57,6 +62,10 @@ impl<'a, D: SectorDevice> RetriedCall<D> for Begin<'a> {
 
     ghost is_in_vain = { λ c s. is_above_limit c.plan.now s ≡ true };
 
+    fn wants_close() -> bool {
+        true
+    }
+
     fn may_pass(&self, error: PoolError, state: &PoolState<D>) -> bool {
         error == PoolError::Throttled && !state.is_above_limit(self.plan)
     }
@@ -81,6 +90,9 @@ impl<'p, D: SectorDevice> Handle<'p, D> {
             let (answer, may_pass) = self.try_call(rt, call);
             if !may_pass {
                 return answer;
+            }
+            if C::wants_close() {
+                self.shared.bells.call_for_close();
             }
             self.shared.waiters.rest(rt, &backoff, changes);
         }

@@ -1,6 +1,8 @@
 //! What the handles of one pool share.
 ghost use Rattle.std.specs.Prelude.{◌≡◌, IfErr, IfOk, IfSome, IsSome};
 
+use crate::bells::Bells;
+use crate::flushers::{Flushers, Owed};
 use crate::handle::{Handle, LastSeen};
 use crate::rule::PoolRule;
 use crate::waiters::Waiters;
@@ -18,6 +20,8 @@ pub(crate) struct Shared<D: SectorDevice> {
     pub(crate) alloc: Global,
     pub(crate) moment: u64,
     pub(crate) waiters: Waiters,
+    pub(crate) flushers: Flushers,
+    pub(crate) bells: Bells,
 }
 
 impl<D: SectorDevice> Shared<D> {
@@ -36,6 +40,8 @@ impl<D: SectorDevice> Shared<D> {
             alloc,
             moment,
             waiters: Waiters::new(),
+            flushers: Flushers::new(),
+            bells: Bells::new(),
         }
     }
 
@@ -45,7 +51,12 @@ impl<D: SectorDevice> Shared<D> {
         ensures { IsBackIn self.entry.now last result }
     {
         let LastSeen { seat } = last;
-        Handle { shared: self, seat }
+        let owed = Owed::new(&self.flushers);
+        Handle {
+            shared: self,
+            seat,
+            owed,
+        }
     }
 
     /// The state, by steps from the first one.
@@ -59,6 +70,8 @@ impl<D: SectorDevice> Shared<D> {
             alloc: _,
             moment: _,
             waiters: _,
+            flushers: _,
+            bells: _,
         } = self;
         match lock.close() {
             Some(held) => Some(Box::into_inner(held)),
@@ -79,6 +92,8 @@ impl<D: SectorDevice> Shared<D> {
             alloc: _,
             moment: _,
             waiters: _,
+            flushers: _,
+            bells: _,
         } = self;
         let LastSeen { seat } = last;
         match lock.close_with(seat) {

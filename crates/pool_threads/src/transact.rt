@@ -3,7 +3,8 @@ ghost use Rattle.std.specs.Prelude.{◌≡◌, ◌≤◌, ◌⊎◌, [], IfErr, 
 ghost use Rattle.base.specs.declared.error.PoolError.TheVariants as error;
 ghost use Rattle.pool_threads.specs.Answers.{Sees};
 ghost use Rattle.pool_threads.specs.Handles.{StaysInPool};
-ghost use Rattle.pool_threads.specs.Transacts.{Ends, IsTransacted, IsTransactRefusal, LeavesNothing, LocksAll, LocksAndEnds, TransactsOrLacks, Unlocks};
+ghost use Rattle.pool_threads.specs.Transacts.{Ends, IsTransacted, IsTransactRefusal, LeavesNothing, LocksAll, LocksAndEnds, TransactsDurably, TransactsOrLacks, Unlocks};
+ghost use Rattle.pool_threads.specs.Waits.{LeavesDurable};
 ghost use Rattle.word_lock.specs.Seats.{HasMetNone};
 
 use crate::handle::Handle;
@@ -22,7 +23,8 @@ impl<'p, D: SectorDevice> Handle<'p, D> {
     /// **It may wait for a sync.** A transaction is charged for what its sync writes (`PoolState::begin` says how
     /// much), until its group is synced. At the dirty limit `transact` waits until another thread has synced a group.
     /// If none does, it waits for ever: with [`DEFAULT_DIRTY_MAX`](base::DEFAULT_DIRTY_MAX) the 43rd transaction that
-    /// creates an object and writes a few bytes to it. The crate's page shows a thread that syncs.
+    /// creates an object and writes a few bytes to it. A thread that calls `sync_pool`, or the loops `quiescer` and
+    /// `syncer`, keeps it going.
     ///
     /// As the order rises, no two calls of `transact` wait for each other's locks. A caller that holds a lock of its
     /// own that overlaps one of these ranges waits for itself.
@@ -58,6 +60,31 @@ impl<'p, D: SectorDevice> Handle<'p, D> {
         let result = self.lock_and_commit(rt, owner, &ranges, &mut locks, plan, ops);
         self.unlock_all(rt, owner, &locks);
         result
+    }
+
+    /// Commits operations as `transact` does, and returns once the commit is durable, as `fsync` does.
+    ///
+    /// # Errors
+    /// Those of `transact`, without a receipt: then none of the operations takes place. Those of `fsync`, with the
+    /// receipt: then all of them took place, and a crash may lose them. `fsync` of the receipt may be tried again.
+    pub fn transact_durably<'a, 'b, W: Wait>(
+        &'a mut self,
+        rt: &'b W,
+        owner: Owner,
+        ops: Ops,
+    ) -> Result<Receipt, (PoolError, Option<Receipt>)>
+        ensures made { TransactsDurably owner ops result self.old self.new }
+        ensures committed { IfOk result (λ r. Sees (IsTransacted ops r) self.old self.new) }
+        ensures durable { IfOk result (λ r. Sees (LeavesDurable r) self.old self.new) }
+    {
+        let receipt = match self.transact(rt, owner, ops) {
+            Ok(receipt) => receipt,
+            Err(error) => return Err((error, None)),
+        };
+        match self.fsync(rt, receipt) {
+            Ok(()) => Ok(receipt),
+            Err(error) => Err((error, Some(receipt))),
+        }
     }
 
     // Locks these ranges, and commits operations in a transaction of this plan if it gets them all. It adds each lock

@@ -6,14 +6,15 @@ ghost use Rattle.std.specs.Prelude.{◌≡◌, IsSome, IsTrue, MatchOption, IfEr
 ghost use Rattle.base.specs.steps.Runs.{reply_of};
 ghost use Rattle.word_lock.specs.Seats.{IsAsBefore, IsHolding, IsIdle, IsSameSeat, kin, lock_table, seat_table, seen};
 ghost use Rattle.pool_core.specs.States.{shown};
-ghost use Rattle.pool_threads.specs.Turns.{HasMade, HasStepped};
+ghost use Rattle.pool_threads.specs.Serves.{HasServed, IsServedTurn, MakesDue};
+ghost use Rattle.pool_threads.specs.Turns.{HasHadOne, HasMade, HasStepped};
 ghost use Rattle.pool_threads.specs.Views.{Explains, IsPoolStep, view_after, viewed_state};
 
 use crate::retries::RetriedCall;
 use crate::rule::{PoolRule, PoolView};
-use base::{PoolError, Told};
+use base::{Group, PoolError, Reply, Step, Told};
 use device_model::SectorDevice;
-use pool_core::{PoolCall, PoolState};
+use pool_core::{Duty, PoolCall, PoolState};
 use std::snapshot::Snapshot;
 use word_lock::{Guard, Held, Seat, WordLock};
 
@@ -105,6 +106,107 @@ fn may_pass<D: SectorDevice, C: RetriedCall<D> + Drop>(
     match answer {
         Ok(_) => false,
         Err(error) => call.may_pass(*error, state),
+    }
+}
+
+// The most steps that are made in one turn for a duty. No clause rests on it.
+const STEPS_IN_A_TURN: u32 = 1_000;
+
+/// Makes the steps that are due on the pool of a lock that a seat has, and frees the lock: the reply of the last step,
+/// and the group that is synced then.
+pub(crate) fn serve_turn<'s, 'l, D: SectorDevice>(
+    guard: Guard<'s, 'l, Box<PoolState<D>>, PoolRule<D>>,
+    duty: Duty,
+) -> (Option<Reply>, Group)
+    requires own { seat_table guard.seat.now ≡ lock_table guard.lock.now }
+    requires held { IsHolding guard.seat.now }
+    requires view { guard.held.view.value ≡ seen guard.seat.now }
+    requires explains { Explains guard.held.value.value guard.held.view.value }
+    ensures same { IsSameSeat guard.entry.seat.now guard.exit.0.now × IsIdle guard.exit.0.now }
+    ensures served { HasServed (IsTrue D.keeps_model) duty result.0
+        guard.entry.seat.now guard.exit.0.now }
+    ensures synced { result.1.0 ≡ (viewed_state (seen guard.exit.0.now)).shown.line.synced }
+{
+    let Guard { seat, lock, held } = guard;
+    let mut held = held;
+    let reply = serve_noted(&mut held, duty);
+    let Held { value, view } = held;
+    let synced = value.status().synced;
+    seat.put_back(lock, value, &view);
+    (reply, synced)
+}
+
+/// Makes the steps that are due if the lock is free, in one turn of the seat and no other: the reply of the last.
+pub(crate) fn try_serve<D: SectorDevice>(
+    seat: &mut Seat<Box<PoolState<D>>, PoolRule<D>>,
+    lock: &WordLock<Box<PoolState<D>>, PoolRule<D>>,
+    duty: Duty,
+) -> Option<Option<Reply>>
+    requires own { seat_table seat.old ≡ lock_table lock.now }
+    requires idle { IsIdle seat.old }
+    ensures same { (seat_table seat.new ≡ seat_table seat.old) × IsIdle seat.new }
+    ensures served { MatchOption result (IsAsBefore seat.old seat.new)
+        (λ r. HasHadOne (IsTrue D.keeps_model) (IsServedTurn (IsTrue D.keeps_model) duty r)
+        seat.old seat.new) }
+{
+    let Some(guard) = seat.try_acquire(lock) else {
+        return None;
+    };
+    let (reply, _) = serve_turn(guard, duty);
+    Some(reply)
+}
+
+// Makes the steps that are due one after another, up to one after which none is due at once, and goes on to the view
+// after them: the reply of the last step.
+fn serve_noted<'h, D: SectorDevice>(
+    held: &'h mut Held<Box<PoolState<D>>, PoolView>,
+    duty: Duty,
+) -> Option<Reply>
+    requires { Explains held.old.value.value held.old.view.value }
+    ensures explains { Explains held.new.value.value held.new.view.value }
+    ensures made { MakesDue (IsTrue D.keeps_model) duty result
+        held.old.view.value held.new.view.value }
+{
+    let step = held.value.due_step(duty)?;
+    let mut reply = step_replied(held, step);
+    for _ in 0..STEPS_IN_A_TURN {
+        if !goes_on(&reply) {
+            return Some(reply);
+        }
+        match held.value.due_step(duty) {
+            Some(step) => reply = step_replied(held, step),
+            None => return Some(reply),
+        }
+    }
+    Some(reply)
+}
+
+// Makes a step, and goes on to the view after it: its reply.
+fn step_replied<'h, D: SectorDevice>(
+    held: &'h mut Held<Box<PoolState<D>>, PoolView>,
+    step: Step,
+) -> Reply
+    requires { Explains held.old.value.value held.old.view.value }
+    ensures explains { Explains held.new.value.value held.new.view.value }
+    ensures stepped { IsPoolStep (IsTrue D.keeps_model) step result
+        held.old.view.value held.new.view.value }
+{
+    replied(step_noted(held, step))
+}
+
+// Whether a turn goes on after a step with this reply: it ends with a refusal, and after each flush of the log and each
+// sync, so that other threads get the pool.
+fn goes_on(reply: &Reply) -> bool {
+    !matches!(reply, Reply::Refused(_) | Reply::Flushed | Reply::Synced(_))
+}
+
+/// The answer of a step, as a reply.
+pub(crate) fn replied(answer: Result<Reply, PoolError>) -> Reply
+    ensures { result ≡ reply_of (λ r. r) answer }
+{
+    match answer {
+        Ok(reply) => reply,
+        Err(error) => Reply::Refused(error),
     }
 }
 

@@ -1,6 +1,6 @@
 //! Where a thread rests before it tries again. No clause rests on the two numbers here.
 
-use base::PoolError;
+use base::{PoolError, Reply, Step};
 use crossbeam_utils::Backoff;
 use device_model::SectorDevice;
 use pool_core::PoolCall;
@@ -36,10 +36,20 @@ impl Waiters {
         &self,
         answer: &Result<C::Answer, PoolError>,
     ) {
-        let Ok(answer) = answer else {
-            return;
-        };
-        if !C::releases(answer) {
+        if let Ok(answer) = answer {
+            self.note_if(C::releases(answer));
+        }
+    }
+
+    /// The same after steps of which the last one had this reply.
+    pub(crate) fn note_last<D: SectorDevice>(&self, reply: &Option<Reply>) {
+        if let Some(reply) = reply {
+            self.note_if(<Step as PoolCall<D>>::releases(reply));
+        }
+    }
+
+    fn note_if(&self, released: bool) {
+        if !released {
             return;
         }
         self.changes.fetch_add(1, Ordering::SeqCst);

@@ -9,8 +9,8 @@ use std::sync::Wait;
 use std::sync::atomic::{AtomicBool, Ordering};
 use std::thread::{Threads, join, map_vec};
 use topzerad::{
-    Bytes, DEFAULT_DIRTY_MAX, Handle, MemDevice, Mode, ObjectId, Op, Ops, Owner, Pool, PoolError,
-    Range, Receipt, Reply, Step, create,
+    Bytes, DEFAULT_DIRTY_MAX, MemDevice, Mode, ObjectId, Op, Ops, Owner, Pool, PoolError, Range,
+    Receipt, create,
 };
 
 /// How often each thread writes its line. Each write is charged 16,384 bytes, and each create 8,192. So all of them
@@ -134,32 +134,14 @@ fn write_line<W: Wait>(
     Ok(receipt)
 }
 
-// What the syncing thread does, until the flag is set. A program that writes less would rest between two rounds.
+// What the syncing thread does, until the flag is set. A program that writes less would rest between two syncs.
 fn sync_until<W: Wait>(rt: &W, pool: &Pool<MemDevice>, done: &AtomicBool) -> Result<(), PoolError> {
     let mut handle = pool.handle();
     for _ in rt.forever() {
         if done.load(Ordering::SeqCst) {
             break;
         }
-        sync_round(rt, &mut handle)?;
-    }
-    Ok(())
-}
-
-// Makes each step of a sync for which the groups are ready: the open group is closed, it is quiesced once its
-// transactions have ended, its sync is started, and a device call of it is made.
-fn sync_round<W: Wait>(rt: &W, handle: &mut Handle<'_, MemDevice>) -> Result<(), PoolError> {
-    for step in [
-        Step::CloseGroup,
-        Step::MarkQuiesced,
-        Step::StartSync(0),
-        Step::SyncStep,
-    ] {
-        match handle.step(rt, step) {
-            Reply::Refused(PoolError::NotReady) => {}
-            Reply::Refused(error) => return Err(error),
-            _ => {}
-        }
+        handle.sync_pool(rt)?;
     }
     Ok(())
 }

@@ -1,14 +1,14 @@
-use Rattle.pool_threads.proofs.Tried.{at_last, no_tries, refused_again}
+use Rattle.pool_threads.proofs.Tried.{at_last, no_turns, refused_again}
 use Rattle.pool_threads.proofs.handle.Handle.retry.Goals as goal
 
 pub loop-init : goal.loop-init
-loop-init g c = no_tries _ _ c.args.self.now
+loop-init g c = no_turns _ c.args.self.now
 
 pub loop-preserved : goal.loop-preserved
 loop-preserved g c = refused_again _ _ _ c.try_call-answer.result.0 (c.try_call-answer.ensures.again c.if-not-may_pass.false) c.loop.invariant c.try_call-answer.ensures.made
 
 pub returns-then-not-may_pass-clause-made : goal.returns-then-not-may_pass-clause-made
-returns-then-not-may_pass-clause-made g c = at_last _ _ c.loop.invariant c.try_call-answer.ensures.made
+returns-then-not-may_pass-clause-made g c = at_last _ c.loop.invariant c.try_call-answer.ensures.made
 
 pub returns-then-not-may_pass-clause-for_good : goal.returns-then-not-may_pass-clause-for_good
 returns-then-not-may_pass-clause-for_good g c = c.try_call-answer.ensures.for_good c.if-not-may_pass.true

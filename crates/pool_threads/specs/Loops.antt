@@ -1,0 +1,17 @@
+-- What a handle does that runs as a loop.
+use Rattle.std.specs.Prelude.{IsTrue}
+use Rattle.base.specs.declared.error.PoolError.{PoolError}
+use Rattle.device_model.specs.declared.device.SectorDevice.{Ghosts}
+use Rattle.pool_tables.specs.declared.duty.Duty.{Duty}
+use Rattle.pool_threads.specs.declared.handle.Handle.{Handle}
+use Rattle.pool_threads.specs.Answers.{Takes, TakesAtLast}
+use Rattle.pool_threads.specs.Serves.{IsDutyTurn, IsRefusedTurn}
+
+module _ {Dev : Type 0} {G : Ghosts Dev} where
+  -- so far the handle only did what was due, in each turn
+  abbrev pub Works : Duty → Handle Dev G → Handle Dev G → Type 0
+  Works d = Takes (IsDutyTurn (IsTrue G.keeps_model) d)
+
+  -- and then the last step that was due was refused so
+  abbrev pub WorksUntil : Duty → PoolError → Handle Dev G → Handle Dev G → Type 0
+  WorksUntil d e = TakesAtLast (IsDutyTurn (IsTrue G.keeps_model) d) (IsRefusedTurn (IsTrue G.keeps_model) d e)

@@ -1,0 +1,106 @@
+//! The loops beside the threads that use a pool: one closes groups and marks them as quiesced, one syncs them (`txg.c`
+//! has a thread for each).
+//!
+//! 1. Each takes the pool, makes the steps that are due, and frees it. A step that is refused `NotReady` is made again
+//!    later; each other refusal ends the loop.
+//! 2. Each tests before a turn whether the pool was told to stop, and never after one whose reply it has not looked at.
+//! 3. When a loop looks is a matter of speed alone (`bells.rt`).
+
+ghost use Rattle.std.specs.Prelude.{◌≡◌, ◌≢◌, IfErr, IfNone, IfSome, IsTrue, MatchResult, Some};
+ghost use Rattle.base.specs.declared.step.Reply.TheVariants as replied;
+ghost use Rattle.pool_tables.specs.declared.duty.Duty.TheVariants as duty;
+ghost use Rattle.pool_threads.specs.Answers.{Sees, TakesOne};
+ghost use Rattle.pool_threads.specs.Handles.{IsUnchanged, moment_of};
+ghost use Rattle.pool_threads.specs.Loops.{Works, WorksUntil};
+ghost use Rattle.pool_threads.specs.Serves.{IsRefusedDuty, IsServedTurn};
+
+use crate::handle::Handle;
+use crate::turn::try_serve;
+use base::{PoolError, Reply};
+use device_model::SectorDevice;
+use pool_core::Duty;
+use std::sync::Wait;
+
+impl<'p, D: SectorDevice> Handle<'p, D> {
+    /// Quiesces groups until the pool is told to stop (`Pool::stop`). It closes the open group if bytes are charged to
+    /// it and no closed one is left, and marks a closed one as quiesced once none of its transactions is open.
+    ///
+    /// A program has one thread for it, beside one for `syncer` and those that write.
+    ///
+    /// # Errors
+    /// `Suspended`, if a write or a flush of another thread was refused. Then the pool has to be opened again.
+    pub fn quiescer<'a, 'b, W: Wait>(&'a mut self, rt: &'b W) -> Result<(), PoolError>
+        ensures worked { MatchResult result (λ _. Works duty.Quiesce self.old self.new)
+            (λ e. WorksUntil duty.Quiesce e self.old self.new) }
+        ensures refused { IfErr result (λ e. Sees (IsRefusedDuty duty.Quiesce e)
+            self.old self.new) }
+        ensures not_unready { IfErr result (λ e. e ≢ PoolError.NotReady) }
+    {
+        self.work(rt, Duty::Quiesce)
+    }
+
+    /// Syncs groups until the pool is told to stop (`Pool::stop`). It starts the sync of the group that is quiesced,
+    /// and makes its device calls. The syncs carry the pool's moment.
+    ///
+    /// A flush is made under the pool's lock: other threads wait for it.
+    ///
+    /// # Errors
+    /// `NoMemory`, and then it may be called again; `Write` or `Flush` if the device refused, and `Suspended` if it did
+    /// so before. Then the pool has to be opened again.
+    pub fn syncer<'a, 'b, W: Wait>(&'a mut self, rt: &'b W) -> Result<(), PoolError>
+        ensures worked { MatchResult result
+            (λ _. Works (duty.Sync (moment_of self.old)) self.old self.new)
+            (λ e. WorksUntil (duty.Sync (moment_of self.old)) e self.old self.new) }
+        ensures refused { IfErr result (λ e. Sees (IsRefusedDuty (duty.Sync (moment_of self.old)) e)
+            self.old self.new) }
+        ensures not_unready { IfErr result (λ e. e ≢ PoolError.NotReady) }
+    {
+        let moment = self.shared.moment;
+        self.work(rt, Duty::Sync(moment))
+    }
+
+    // Does what is due until the pool is told to stop.
+    fn work<'a, 'b, W: Wait>(&'a mut self, rt: &'b W, duty: Duty) -> Result<(), PoolError>
+        ensures worked { MatchResult result (λ _. Works duty self.old self.new)
+            (λ e. WorksUntil duty e self.old self.new) }
+        ensures refused { IfErr result (λ e. Sees (IsRefusedDuty duty e) self.old self.new) }
+        ensures not_unready { IfErr result (λ e. e ≢ PoolError.NotReady) }
+    {
+        for _ in rt.forever() {
+            if self.shared.bells.is_stopped() {
+                return Ok(());
+            }
+            match self.try_due(duty) {
+                None => self.shared.bells.rest_briefly(rt),
+                Some(reply) => match ending(&reply) {
+                    Some(error) => return Err(error),
+                    None => self.shared.bells.rest(rt, duty, &reply),
+                },
+            }
+        }
+        unreachable!()
+    }
+
+    // Makes the steps that are due, if no other handle has the pool: the reply of the last, if one was due. It returns
+    // `None` if another has it, and then nothing has changed.
+    fn try_due<'a>(&'a mut self, duty: Duty) -> Option<Option<Reply>>
+        ensures done { IfSome result (λ r. TakesOne
+            (IsServedTurn (IsTrue D.keeps_model) duty r) self.old self.new) }
+        ensures unchanged { IfNone result (IsUnchanged self.old self.new) }
+    {
+        let reply = try_serve(&mut self.seat, &self.shared.lock, duty)?;
+        self.shared.waiters.note_last::<D>(&reply);
+        Some(reply)
+    }
+}
+
+// The refusal that ends a loop.
+fn ending(reply: &Option<Reply>) -> Option<PoolError>
+    ensures { IfSome result (λ e. (reply.now ≡ Some (replied.Refused e))
+        × (e ≢ PoolError.NotReady)) }
+{
+    match reply {
+        Some(Reply::Refused(error)) if *error != PoolError::NotReady => Some(*error),
+        _ => None,
+    }
+}

@@ -1,0 +1,180 @@
+//! Calls that wait until a transaction is durable, or until groups are synced.
+//!
+//! 1. A transaction is durable once its log block is flushed, or once its group is synced. So `fsync` writes the log
+//!    and flushes it; if the log finds no block, it syncs groups instead (`zil_commit` of `zil.c`, which then waits for
+//!    `txg_wait_synced`).
+//! 2. Handles that wait at once share one flush: one of them leads (`flushers.rt`).
+//! 3. In each turn only steps are made that are due then, so no step is refused `NotReady`, except a close at the last
+//!    group. While transactions of the closed group are open nothing is due, and the call rests.
+
+ghost use Rattle.std.specs.Prelude.{◌≡◌, ◌≢◌, ◌≤◌, IfErr, IfOk, IsTrue};
+ghost use Rattle.base.specs.declared.names.Group.{Group};
+ghost use Rattle.base.specs.formats.Limits.{last_number};
+ghost use Rattle.pool_threads.specs.Answers.{Sees, TakesOne, state_seen};
+ghost use Rattle.pool_threads.specs.Handles.{HasLooked, moment_of};
+ghost use Rattle.pool_threads.specs.Serves.{IsServedTurn};
+ghost use Rattle.pool_threads.specs.Waits.{FindsReceipt, IsSyncingRefusal, IsWaitingRefusal, LeavesDurable, SyncsPool, SyncsUpTo, WaitsOr, WaitsUntil};
+
+use crate::handle::Handle;
+use crate::turn::serve_turn;
+use base::{Group, PoolError, Receipt, Reply};
+use crossbeam_utils::Backoff;
+use device_model::SectorDevice;
+use pool_core::Duty;
+use std::sync::Wait;
+use word_lock::release;
+
+impl<'p, D: SectorDevice> Handle<'p, D> {
+    /// Waits until the transaction of a receipt is durable: no crash loses it then.
+    ///
+    /// It writes the log and flushes it, together with the commits of other handles that wait at the same time. If the
+    /// log finds no block, it syncs groups until the transaction's group is synced. Transactions that are open in these
+    /// groups have to end first.
+    ///
+    /// # Errors
+    /// Those of the tests in this order, `Suspended`, or `BadRange` if no such transaction was committed, unless the
+    /// transaction is durable. Else those of a step that it makes: `NoMemory`, `Write` or `Flush`, after which the pool
+    /// is suspended; `NotReady` only if the open group is 2^60. The transaction may be durable or not then.
+    pub fn fsync<'a, 'b, W: Wait>(
+        &'a mut self,
+        rt: &'b W,
+        receipt: Receipt,
+    ) -> Result<(), PoolError>
+        ensures waited { WaitsUntil receipt result self.old self.new }
+        ensures durable { IfOk result (λ _. Sees (LeavesDurable receipt) self.old self.new) }
+        ensures refused { IfErr result (λ e. Sees
+            (IsWaitingRefusal (moment_of self.old) receipt e) self.old self.new) }
+        ensures not_log_space { IfErr result (λ e. e ≢ PoolError.NoLogSpace) }
+        ensures at_limit { IfErr result (λ e. e ≡ PoolError.NotReady
+            → last_number ≤ (state_seen self.new).shown.line.open_group) }
+    {
+        self.shared.flushers.enter();
+        let result = self.wait_until_durable(rt, receipt);
+        self.shared.flushers.leave();
+        self.owed.settle();
+        result
+    }
+
+    fn wait_until_durable<'a, 'b, W: Wait>(
+        &'a mut self,
+        rt: &'b W,
+        receipt: Receipt,
+    ) -> Result<(), PoolError>
+        ensures { WaitsUntil receipt result self.old self.new }
+    {
+        for _ in rt.forever() {
+            let rounds = self.shared.flushers.rounds();
+            if self.check_receipt(rt, receipt)? {
+                return Ok(());
+            }
+            if self.shared.flushers.try_lead() {
+                self.lead(rt, receipt)?;
+            } else {
+                self.shared.flushers.rest(rt, rounds);
+            }
+        }
+        unreachable!()
+    }
+
+    // Looks whether the transaction of a receipt is durable, in one turn.
+    fn check_receipt<'a, 'b, W: Wait>(
+        &'a mut self,
+        rt: &'b W,
+        receipt: Receipt,
+    ) -> Result<bool, PoolError>
+        ensures { TakesOne (FindsReceipt receipt result) self.old self.new }
+    {
+        let guard = self.seat.acquire(rt, &self.shared.lock);
+        let checked = guard.held.value.check_receipt(receipt);
+        release(guard);
+        checked
+    }
+
+    // Writes and flushes the log for all that wait. If the log finds no block, it syncs groups up to the receipt's.
+    fn lead<'a, 'b, W: Wait>(&'a mut self, rt: &'b W, receipt: Receipt) -> Result<(), PoolError>
+        ensures { WaitsOr receipt result self.old self.new }
+    {
+        self.shared.flushers.gather(rt);
+        let (reply, _) = self.serve(rt, Duty::CommitLog);
+        self.shared.flushers.retire();
+        let Some(Reply::Refused(error)) = reply else {
+            return Ok(());
+        };
+        if error == PoolError::NoLogSpace {
+            return self.sync_up_to(rt, receipt.group);
+        }
+        Err(error)
+    }
+
+    /// Syncs the group that is open, and returns it. All that was committed before is then durable. It writes no log
+    /// block.
+    ///
+    /// Each group up to that one is synced. Transactions that are open in these groups have to end first: it waits for
+    /// them.
+    ///
+    /// # Errors
+    /// Those of a step that it makes: `Suspended`; `NoMemory`; `Write` or `Flush`, after which the pool is suspended;
+    /// `NotReady` only if the open group is 2^60. The groups that were synced by then stay so.
+    pub fn sync_pool<'a, 'b, W: Wait>(&'a mut self, rt: &'b W) -> Result<Group, PoolError>
+        ensures synced { SyncsPool result self.old self.new }
+        ensures whole { IfOk result (λ g. g.0 ≤ (state_seen self.new).shown.line.synced) }
+        ensures refused { IfErr result (λ e. (group : Group)
+            × Sees (IsSyncingRefusal (moment_of self.old) group e) self.old self.new) }
+        ensures at_limit { IfErr result (λ e. e ≡ PoolError.NotReady
+            → last_number ≤ (state_seen self.new).shown.line.open_group) }
+    {
+        let group = self.look_for_open_group(rt);
+        match self.sync_up_to(rt, group) {
+            Ok(()) => {
+                self.owed.settle();
+                Ok(group)
+            }
+            Err(error) => Err(error),
+        }
+    }
+
+    // Looks which group is open, in one turn.
+    fn look_for_open_group<'a, 'b, W: Wait>(&'a mut self, rt: &'b W) -> Group
+        ensures looked { HasLooked self.old self.new }
+        ensures group { result.0 ≡ (state_seen self.new).shown.line.open_group }
+    {
+        let guard = self.seat.acquire(rt, &self.shared.lock);
+        let group = guard.held.value.status().open_group;
+        release(guard);
+        group
+    }
+
+    // Syncs groups until this one is synced.
+    fn sync_up_to<'a, 'b, W: Wait>(&'a mut self, rt: &'b W, group: Group) -> Result<(), PoolError>
+        ensures { SyncsUpTo group result self.old self.new }
+    {
+        let duty = Duty::SyncUpTo(group, self.shared.moment);
+        let backoff = Backoff::new();
+        for _ in rt.forever() {
+            let changes = self.shared.waiters.changes();
+            let (reply, synced) = self.serve(rt, duty);
+            if let Some(Reply::Refused(error)) = reply {
+                return Err(error);
+            }
+            if group <= synced {
+                return Ok(());
+            }
+            if reply.is_none() {
+                self.shared.waiters.rest(rt, &backoff, changes);
+            }
+        }
+        unreachable!()
+    }
+
+    // Makes the steps that are due, in one turn: the reply of the last one, and the group that is synced then.
+    fn serve<'a, 'b, W: Wait>(&'a mut self, rt: &'b W, duty: Duty) -> (Option<Reply>, Group)
+        ensures served { TakesOne (IsServedTurn (IsTrue D.keeps_model) duty result.0)
+            self.old self.new }
+        ensures synced { result.1.0 ≡ (state_seen self.new).shown.line.synced }
+    {
+        let guard = self.seat.acquire(rt, &self.shared.lock);
+        let (reply, synced) = serve_turn(guard, duty);
+        self.shared.waiters.note_last::<D>(&reply);
+        (reply, synced)
+    }
+}
