@@ -1,8 +1,12 @@
 //! The arguments of the program: which command, and what it works on.
 
+use loads::Order;
+
 /// A command of the program, with its arguments.
 #[derive(Clone, Copy, Debug, PartialEq, Eq)]
 pub enum Arguments<'a> {
+    /// `ztxg load`.
+    Load(LoadArguments<'a>),
     /// `ztxg script`.
     Script(ScriptArguments<'a>),
     /// `ztxg create`.
@@ -45,5 +49,18 @@ pub struct CreateArguments<'a> {
     /// Whether a file that exists already is refused.
     pub only_new: bool,
     /// The moment, in seconds, of the new pool's uberblocks.
+    pub moment: u64,
+}
+
+/// The arguments of `ztxg load`.
+#[derive(Clone, Copy, Debug, PartialEq, Eq)]
+pub struct LoadArguments<'a> {
+    /// The path of the pool's file.
+    pub file: &'a str,
+    /// The workers, and the writes of each stream.
+    pub order: Order,
+    /// The most bytes that unsynced transactions may be charged.
+    pub dirty_max: u64,
+    /// The moment, in seconds, of each uberblock that the run writes.
     pub moment: u64,
 }

@@ -3,17 +3,20 @@
 
 ghost use Rattle.std.specs.Prelude.{◌≡◌};
 
-use crate::arguments::{CreateArguments, ScriptArguments, ScriptDevice};
+use crate::arguments::{CreateArguments, LoadArguments, ScriptArguments, ScriptDevice};
 use crate::failure::{Failure, report_failure};
+use crate::load::run_load;
 use crate::pool_files::{run_create, run_show};
 use crate::program::run_opened;
 use base::PoolError;
 use device_model::{FileRefusal, HeldFile, SectorDevice};
+use loads::Order;
 use std::alloc::Global;
-use std::io::{self, ErrorKind, Read, Write};
+use std::io::{self, Eprint, ErrorKind, Read, Write};
 use std::os::unix::fs::FileExt;
 use std::rt::Files;
 use std::sync::Wait;
+use std::thread::Threads;
 
 // A refusal of the engine has status 1.
 fn a_refusal_has_status_1<E: Write>(errors: &mut E) -> u8
@@ -104,4 +107,44 @@ where
     };
     let opened: io::Result<R> = Err(io::Error::from(ErrorKind::NotFound));
     run_opened(rt, arguments, opened, out, errors)
+}
+
+// What is loaded by so many workers.
+fn tank_by(workers: u32) -> LoadArguments<'static>
+    ensures { result.order.workers ≡ workers }
+{
+    LoadArguments {
+        file: "tank.pool",
+        order: Order {
+            workers,
+            writes: 200,
+            seed: 5,
+        },
+        dirty_max: 1_048_576,
+        moment: 0,
+    }
+}
+
+fn a_pool_that_is_not_opened_is_loaded_with_status_3<
+    R: Threads + Wait + Sync + Eprint + AllocGlobal,
+    D: SectorDevice + Send + Drop,
+    W: Write,
+    E: Write,
+>(rt: &R, out: &mut W, errors: &mut E) -> u8
+    ensures { result ≡ 3 }
+{
+    let opened: Result<D, FileRefusal> = Err(FileRefusal::InUse);
+    run_load(rt, tank_by(4), opened, false, out, errors)
+}
+
+// There are 16 streams, so no more workers.
+fn a_load_by_17_workers_has_status_1<
+    R: Threads + Wait + Sync + Eprint + AllocGlobal,
+    D: SectorDevice + Send + Drop,
+    W: Write,
+    E: Write,
+>(rt: &R, device: D, out: &mut W, errors: &mut E) -> u8
+    ensures { result ≡ 1 }
+{
+    run_load(rt, tank_by(17), Ok(device), false, out, errors)
 }

@@ -5,27 +5,37 @@ ghost use Rattle.std.specs.Prelude.{◌≡◌, ◌≢◌, ◌≤◌, IsErr};
 
 use crate::arguments::{Arguments, ScriptArguments, ScriptDevice};
 use crate::failure::{Failure, report_failure};
+use crate::load::run_load;
 use crate::pool_files::{run_create, run_show};
 use device_model::{FileDevice, HeldFile, SectorFile};
 use scripts::{FileSession, SharedSession, run_script_on};
 use std::alloc::Global;
 use std::fs::File;
-use std::io::{self, Read, Write};
+use std::io::{self, Eprint, IsTerminal, Read, Write};
 use std::os::unix::fs::FileExt;
 use std::rt::Files;
 use std::sync::Wait;
+use std::thread::Threads;
 
-/// Does a command of the program, and returns the exit status. A script may wait for its pool.
-pub fn run<R: Files + Input + Print + AllocGlobal + Wait, E: Write>(
-    rt: &R,
-    arguments: Arguments<'_>,
-    errors: &mut E,
-) -> u8
+/// Does a command of the program, and returns the exit status. A script may wait for its pool. A load has threads, and
+/// shows its progress if `errors`, which is standard error, is a terminal.
+pub fn run<
+    R: Files + Input + Print + Eprint + AllocGlobal + Threads + Wait + Sync,
+    E: Write + IsTerminal,
+>(rt: &R, arguments: Arguments<'_>, errors: &mut E) -> u8
 where
-    R::File: FileExt + HeldFile,
+    R::File: FileExt + HeldFile + Send,
     ensures { result ≤ 3 }
 {
     match arguments {
+        Arguments::Load(arguments) => run_load(
+            rt,
+            arguments,
+            FileDevice::open(rt, arguments.file),
+            errors.is_terminal(),
+            &mut io::writer(rt),
+            errors,
+        ),
         Arguments::Script(arguments) => run_named_script(rt, arguments, errors),
         Arguments::Create(arguments) => { run_create(rt, arguments, &mut io::writer(rt), errors) }
         Arguments::Show(file) => run_show(

@@ -1,6 +1,9 @@
 //! What is printed where a script can't be opened, and the commands on a pool in a file, on a file of their own.
 
-use commands::{CreateArguments, ScriptArguments, ScriptDevice, run_create, run_opened, run_show};
+use commands::{
+    CreateArguments, LoadArguments, Order, ScriptArguments, ScriptDevice, run_create, run_load,
+    run_opened, run_show,
+};
 use device_model::FileDevice;
 use std::fs::{self, File};
 use std::io::{self, ErrorKind};
@@ -203,5 +206,46 @@ fn tells_of_a_file_that_shows_no_pool(rt: HostRuntime) -> Result<(), Fail> {
         let text = format!(in rt.alloc(); "ztxg: cannot use {file}\n")?;
         assert!(rt; errors.as_slice() == text.as_bytes());
     }
+    Ok(())
+}
+
+// The digest is that of a reading of the rules in another language.
+#[test]
+fn a_pool_in_a_file_is_loaded(rt: HostRuntime) -> Result<(), Fail> {
+    let mut out = Vec::new(rt.alloc());
+    let mut errors = Vec::new(rt.alloc());
+    assert_eq!(rt;
+        run_create(&rt, tank("load.pool"), &mut out, &mut errors),
+        0
+    );
+    let arguments = LoadArguments {
+        file: "load.pool",
+        order: Order {
+            workers: 2,
+            writes: 0,
+            seed: 5,
+        },
+        dirty_max: 1_048_576,
+        moment: 0,
+    };
+    out.clear();
+    let opened = FileDevice::open(&rt, "load.pool");
+    let status = run_load(&rt, arguments, opened, false, &mut out, &mut errors);
+    assert_eq!(rt; status, 0);
+    let loaded = b"committed 17\n\
+        digest 02c3029d90bacf3137525a1b5e08d7b247d7b92ad01b9220a73b9855b15d17ed\n";
+    assert!(rt; out.as_slice() == loaded.as_slice());
+
+    out.clear();
+    let throttled = LoadArguments {
+        dirty_max: 4_096,
+        ..arguments
+    };
+    let opened = FileDevice::open(&rt, "load.pool");
+    let status = run_load(&rt, throttled, opened, false, &mut out, &mut errors);
+    assert_eq!(rt; status, 1);
+    assert!(rt; out.is_empty());
+    assert!(rt; errors.as_slice() == b"ztxg: refused 17 Throttled\n".as_slice());
+    fs::remove_file(&rt, "load.pool")?;
     Ok(())
 }

@@ -2,7 +2,10 @@
 
 use crate::help;
 use clap::{Arg, ArgAction, ArgMatches, Command, Error, value_parser};
-use commands::{Arguments, CreateArguments, ScriptArguments, ScriptDevice};
+use commands::{
+    Arguments, CreateArguments, LoadArguments, MAX_WORKERS, MAX_WRITES, Order, ScriptArguments,
+    ScriptDevice,
+};
 use std::alloc::{AllocError, Global};
 
 const SIZE_HELP: &str =
@@ -17,10 +20,12 @@ fn word<'a>(alloc: Global, name: &'a str, help: &'a str) -> Arg<'a> {
     Arg::new(alloc, name).required(true).help(help)
 }
 
+fn option<'a>(alloc: Global, name: &'a str, value: &'a str) -> Arg<'a> {
+    Arg::new(alloc, name).long(name).value_name(value)
+}
+
 fn moment<'a>(alloc: Global) -> Arg<'a> {
-    Arg::new(alloc, "moment")
-        .long("moment")
-        .value_name("M")
+    option(alloc, "moment", "M")
         .help("The moment, in seconds, that each written uberblock gets: below 2^64")
         .value_parser(value_parser!(u64))
         .default_value("0")
@@ -84,6 +89,38 @@ fn show_command<'a>(alloc: Global) -> Result<Command<'a>, AllocError> {
         ))
 }
 
+fn load_command<'a>(alloc: Global) -> Result<Command<'a>, AllocError> {
+    let workers = option(alloc, "workers", "W")
+        .required(true)
+        .help("The threads that make the writes: 1 to 16")
+        .value_parser(value_parser!(u32).range(1..=i64::from(MAX_WORKERS)));
+    let ops = option(alloc, "ops", "N")
+        .required(true)
+        .help("The writes of each of the 16 streams: 0 to 1000000")
+        .value_parser(value_parser!(u32).range(0..=i64::from(MAX_WRITES)));
+    let seed = option(alloc, "seed", "S")
+        .required(true)
+        .help("The number from which the writes are drawn: below 2^64")
+        .value_parser(value_parser!(u64));
+    let dirty = option(alloc, "dirty", "D")
+        .help("The most bytes that unsynced transactions may be charged: 4096 to 2^40")
+        .value_parser(value_parser!(u64))
+        .default_value("1048576");
+    Command::new(alloc, "load")
+        .about("Makes many small writes on the pool in a file, syncs it, and prints its digest")
+        .after_help(help::LOAD)
+        .arg(word(
+            alloc,
+            "FILE",
+            "The path of the file, a regular file that no process has open as a pool",
+        ))?
+        .arg(workers)?
+        .arg(ops)?
+        .arg(seed)?
+        .arg(dirty)?
+        .arg(moment(alloc))
+}
+
 fn command<'a>(alloc: Global) -> Result<Command<'a>, AllocError> {
     Command::new(alloc, "ztxg")
         .about("The write engine of a copy-on-write storage pool, in memory or in a file")
@@ -92,6 +129,7 @@ fn command<'a>(alloc: Global) -> Result<Command<'a>, AllocError> {
         .subcommand_required(true)
         .subcommand(create_command(alloc)?)?
         .subcommand(show_command(alloc)?)?
+        .subcommand(load_command(alloc)?)?
         .subcommand(script_command(alloc)?)
 }
 
@@ -110,6 +148,7 @@ pub fn read_arguments<'a>(matches: &ArgMatches<'a>) -> Option<Arguments<'a>> {
         "script" => Some(Arguments::Script(read_script(given)?)),
         "create" => Some(Arguments::Create(read_create(given)?)),
         "show" => Some(Arguments::Show(given.get_str("FILE")?)),
+        "load" => Some(Arguments::Load(read_load(given)?)),
         _ => None,
     }
 }
@@ -136,6 +175,19 @@ fn read_create<'a>(given: &ArgMatches<'a>) -> Option<CreateArguments<'a>> {
         guid: given.get_one::<u64>("GUID")?,
         size: given.get_one::<u64>("SIZE")?,
         only_new: given.get_flag("new"),
+        moment: given.get_one::<u64>("moment")?,
+    })
+}
+
+fn read_load<'a>(given: &ArgMatches<'a>) -> Option<LoadArguments<'a>> {
+    Some(LoadArguments {
+        file: given.get_str("FILE")?,
+        order: Order {
+            workers: given.get_one::<u32>("workers")?,
+            writes: given.get_one::<u32>("ops")?,
+            seed: given.get_one::<u64>("seed")?,
+        },
+        dirty_max: given.get_one::<u64>("dirty")?,
         moment: given.get_one::<u64>("moment")?,
     })
 }

@@ -44,6 +44,30 @@ Refusals, with status 1:
    7 Damaged KIND ADDRESS  a block is not what the pool's tree says of it
    8 BadGeometry           FILE's size is none that a pool may have";
 
+/// What stands after the help of `load`.
+pub const LOAD: &str = "\
+Example: ztxg load tank.pool --workers 4 --ops 200 --seed 5
+
+Makes the objects 0 to 16, or empties them, and then N writes of at most 64
+bytes in each of 16 streams, which W threads share. After each eighth write a
+stream waits until it is durable. At the end the pool is synced. Prints
+'committed C', with C = 17 + 16N transactions, and 'digest HEX', the SHA-256
+of the contents. That depends on the pool before, N and S alone. On a terminal
+standard error shows how much is durable.
+
+Refusals, with status 1, and then nothing is printed on standard output:
+   1 NoMemory              there is no memory, or no threads can be made
+   2 Read                  the device refused a read
+   3 Write                 the device refused a write
+   4 Flush                 the device refused a flush
+   6 NoPool                no label has a valid uberblock with a config
+   7 Damaged KIND ADDRESS  a block is not what the pool's tree or log says
+   8 BadGeometry           FILE's size is none that a pool may have
+  11 BadRange              D is outside its limits
+  16 NoSpace               a write finds no blocks, also after 8 syncs
+  17 Throttled             D is below the charge of one transaction
+  22 TooMany               a group or an import is at its last number, 2^60";
+
 /// What stands after the help of `script`.
 pub const SCRIPT: &str = "\
 Examples:

@@ -1,0 +1,140 @@
+//! The command `load`: threads make many small writes on the pool in a file, beside the loops that sync it.
+//!
+//! Nothing is written to the output before all of it has gone well. On a terminal standard error shows how much is
+//! done.
+
+ghost use Rattle.std.specs.Prelude.{◌≡◌, ◌≢◌, ◌≤◌, Err, IfOk, IsErr, false};
+ghost use Rattle.loads.specs.Orders.{is_order};
+
+use crate::arguments::LoadArguments;
+use crate::failure::{Failure, report_failure};
+use base::{PoolError, Reply};
+use device_model::{FileRefusal, SectorDevice};
+use loads::{Gate, Loaded, Order, load};
+use pool_threads::Pool;
+use scripts::Answer;
+use std::alloc::Global;
+use std::io::{self, Eprint, Write};
+use std::sync::Wait;
+use std::sync::atomic::{AtomicU64, Ordering};
+use std::thread::Threads;
+
+/// A stream of a load reports its writes in groups of this many.
+const REPORTED_AT_ONCE: u64 = 8;
+
+/// The streams of a load.
+const STREAMS: u64 = 16;
+
+/// Opens the pool on a device, makes the writes of a load on it, writes their number and the digest to `out`, and
+/// returns the exit status.
+///
+/// The status is 0 if all was written, 1 if the engine refused a step, and 3 if the file was not opened as a device or
+/// `out` can't be written. A failure is reported on `errors`, and then nothing is written to `out`. With
+/// `shows_progress` standard error shows how many percent of the writes are durable.
+pub fn run_load<
+    R: Threads + Wait + Sync + Eprint + AllocGlobal,
+    D: SectorDevice + Send + Drop,
+    W: Write,
+    E: Write,
+>(
+    rt: &R,
+    arguments: LoadArguments<'_>,
+    opened: Result<D, FileRefusal>,
+    shows_progress: bool,
+    out: &mut W,
+    errors: &mut E,
+) -> u8
+    ensures unusable { IsErr opened → result ≡ 3 }
+    ensures order { IfOk opened (λ _. is_order arguments.entry.order ≡ false → result ≡ 1) }
+    ensures range { result ≤ 3 }
+    ensures no_usage { result ≢ 2 }
+{
+    match load_pool(rt, arguments, opened, shows_progress, out) {
+        Ok(()) => 0,
+        Err(failure) => report_failure(failure, arguments.file, errors),
+    }
+}
+
+fn load_pool<
+    R: Threads + Wait + Sync + Eprint + AllocGlobal,
+    D: SectorDevice + Send + Drop,
+    W: Write,
+>(
+    rt: &R,
+    arguments: LoadArguments<'_>,
+    opened: Result<D, FileRefusal>,
+    shows_progress: bool,
+    out: &mut W,
+) -> Result<(), Failure>
+    ensures unusable { IsErr opened → result ≡ Err Failure.Unusable }
+{
+    let Ok(device) = opened else {
+        return Err(Failure::Unusable);
+    };
+    let alloc = rt.alloc();
+    let pool = Pool::open(alloc, device, arguments.dirty_max, arguments.moment).map_err(
+        PoolError::from,
+    )?;
+    let progress = Progress::new(rt, arguments.order, shows_progress);
+    let loaded = load(rt, alloc, &pool, arguments.order, &progress);
+    progress.end();
+    if write_loaded(&loaded?, out).is_err() {
+        return Err(Failure::Unwritten);
+    }
+    Ok(())
+}
+
+fn write_loaded<W: Write>(loaded: &Loaded, out: &mut W) -> io::Result<()> {
+    writeln!(out, "committed {}", loaded.committed)?;
+    writeln!(out, "{}", Answer::Reply(Reply::Digest(loaded.digest)))
+}
+
+/// Shows on standard error how much of a load is durable, if it is a terminal.
+#[derive(Drop)]
+struct Progress<'a, R: Eprint> {
+    rt: &'a R,
+    is_shown: bool,
+    // the groups of writes of which streams report, and those that were reported
+    total: u64,
+    reported: AtomicU64,
+}
+
+impl<'a, R: Eprint> Progress<'a, R> {
+    fn new(rt: &'a R, order: Order, is_shown: bool) -> Self {
+        Progress {
+            rt,
+            is_shown,
+            total: STREAMS * (u64::from(order.writes) / REPORTED_AT_ONCE),
+            reported: AtomicU64::new(0),
+        }
+    }
+
+    // What is shown stays, and the next text begins a line.
+    fn end(&self) {
+        if self.is_shown && self.reported.load(Ordering::SeqCst) != 0 {
+            let _ = eprintln!(self.rt; "");
+        }
+    }
+}
+
+impl<R: Eprint> Gate for Progress<'_, R> {
+    fn at(&self, _stream: u32) {}
+
+    fn acknowledged(&self, _stream: u32, _writes: u32) {
+        if !self.is_shown {
+            return;
+        }
+        let before = self.reported.fetch_add(1, Ordering::SeqCst);
+        let percent = percent_of(before.saturating_add(1), self.total);
+        if percent != percent_of(before, self.total) {
+            let _ = eprint!(self.rt; "\r{percent} percent of the writes are durable");
+        }
+    }
+}
+
+fn percent_of(part: u64, total: u64) -> u64 {
+    match part.saturating_mul(100).checked_div(total) {
+        Some(percent) => percent,
+        None => 100,
+    }
+}

@@ -1,0 +1,10 @@
+//! Loads on pools in memory. The digests that are expected are those of a reading of the rules in another language, as
+//! `bench/stream.h` has it.
+#![tactic(auto)]
+
+#[cfg(test)]
+mod fixture;
+#[cfg(test)]
+mod refused_loads;
+#[cfg(test)]
+mod threads;

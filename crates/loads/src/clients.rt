@@ -1,0 +1,84 @@
+//! What callers rely on: one function for each promise of this crate's calls, proved from the contract of the call
+//! alone. So it is refused as soon as that contract promises less.
+
+ghost use Rattle.std.specs.Prelude.{◌≡◌, ◌≢◌, ◌<◌, Err, IfOk};
+
+use crate::gate::Gate;
+use crate::order::{Loaded, Order};
+use crate::words::Word;
+use crate::workers::load;
+use base::PoolError;
+use device_model::SectorDevice;
+use pool_threads::Pool;
+use std::alloc::Global;
+use std::sync::Wait;
+use std::thread::Threads;
+
+// With 200 writes of each stream 3,217 transactions are committed.
+fn two_hundred_writes_commit_3217<D: SectorDevice + Send, G: Gate + Sync, R: Threads + Wait + Sync>(
+    rt: &R,
+    alloc: Global,
+    pool: &Pool<D>,
+    gate: &G,
+) -> Result<Loaded, PoolError>
+    ensures { IfOk result (λ loaded. loaded.committed ≡ 3217) }
+{
+    let order = Order {
+        workers: 5,
+        writes: 200,
+        seed: 5,
+    };
+    load(rt, alloc, pool, order, gate)
+}
+
+fn a_seventeenth_worker_is_refused<
+    D: SectorDevice + Send,
+    G: Gate + Sync,
+    R: Threads + Wait + Sync,
+>(rt: &R, alloc: Global, pool: &Pool<D>, gate: &G) -> Result<Loaded, PoolError>
+    ensures { result ≡ Err PoolError.BadRange }
+{
+    let order = Order {
+        workers: 17,
+        writes: 0,
+        seed: 5,
+    };
+    load(rt, alloc, pool, order, gate)
+}
+
+fn no_worker_is_refused<D: SectorDevice + Send, G: Gate + Sync, R: Threads + Wait + Sync>(
+    rt: &R,
+    alloc: Global,
+    pool: &Pool<D>,
+    gate: &G,
+) -> Result<Loaded, PoolError>
+    ensures { result ≡ Err PoolError.BadRange }
+{
+    let order = Order {
+        workers: 0,
+        writes: 0,
+        seed: 5,
+    };
+    load(rt, alloc, pool, order, gate)
+}
+
+// The greatest number of the last stream writes 64 bytes into its part of the shared object.
+fn the_greatest_word_is_in_the_last_part() {
+    let word = Word::of(15, 4_294_967_295);
+    prove!(word.place.object.0 == 16);
+    prove!(word.place.range.low == 15_615);
+    prove!(word.place.range.high == 15_679);
+    prove!(word.byte == 255);
+}
+
+// Two streams write no byte in common.
+fn streams_write_apart(one: u32, other: u32, drawn: u32, also_drawn: u32)
+    requires one { one < 16 }
+    requires other { other < 16 }
+    requires apart { one ≢ other }
+{
+    let first = Word::of(one, drawn).place;
+    let second = Word::of(other, also_drawn).place;
+    let overlap = first.overlaps(&second);
+    prove!(!overlap);
+}

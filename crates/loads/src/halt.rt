@@ -1,0 +1,76 @@
+//! The flags that the threads of a load share beside the pool. No clause rests on them.
+
+ghost use Rattle.std.specs.Prelude.{◌≡◌};
+
+use base::PoolError;
+use std::sync::Wait;
+use std::sync::atomic::{AtomicBool, AtomicU64, Ordering};
+use std::time::Duration;
+
+// How many loops there are.
+const LOOPS: u64 = 2;
+
+// So often, and so long each time, the workers wait for the loops: ten seconds in all.
+const NAPS: u32 = 10_000;
+
+const NAP_IN_MICROSECONDS: u64 = 1_000;
+
+/// Whether the load is to end early, and how many loops have begun.
+#[derive(Drop)]
+pub(crate) struct Halt {
+    raised: AtomicBool,
+    loops: AtomicU64,
+}
+
+impl Halt {
+    pub(crate) fn new() -> Self {
+        Halt {
+            raised: AtomicBool::new(false),
+            loops: AtomicU64::new(0),
+        }
+    }
+
+    /// Whether the workers are to begin no further write.
+    pub(crate) fn is_raised(&self) -> bool {
+        self.raised.load(Ordering::SeqCst)
+    }
+
+    /// Ends the load if a call was refused. It hands the answer on.
+    pub(crate) fn note(&self, answer: Result<(), PoolError>) -> Result<(), PoolError>
+        ensures { result ≡ answer }
+    {
+        if answer.is_err() {
+            self.raised.store(true, Ordering::SeqCst);
+        }
+        answer
+    }
+
+    /// A loop begins.
+    pub(crate) fn loop_begins(&self) {
+        self.loops.fetch_add(1, Ordering::SeqCst);
+        self.loops.wake_all();
+    }
+
+    /// Waits until both loops have begun. Without them a write would wait at the dirty limit for ever.
+    ///
+    /// # Errors
+    /// `NoMemory` if they don't begin, since no threads can be made for them.
+    pub(crate) fn wait_for_loops<W: Wait>(&self, rt: &W) -> Result<(), PoolError> {
+        let nap = Duration::from_micros(NAP_IN_MICROSECONDS);
+        for _ in 0..NAPS {
+            let begun = self.loops.load(Ordering::SeqCst);
+            if begun >= LOOPS {
+                return Ok(());
+            }
+            self.loops.park_timeout(rt, (begun % LOOPS) as u32, nap);
+        }
+        Err(PoolError::NoMemory)
+    }
+
+    /// Rests for a short time.
+    pub(crate) fn rest<W: Wait>(&self, rt: &W) {
+        let begun = self.loops.load(Ordering::SeqCst);
+        let nap = Duration::from_micros(NAP_IN_MICROSECONDS);
+        self.loops.park_timeout(rt, (begun % (1 << 32)) as u32, nap);
+    }
+}

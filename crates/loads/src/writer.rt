@@ -1,0 +1,151 @@
+//! What a worker of a load does on the pool: one transaction after another, each under a lock of its own.
+//!
+//! A refused transaction is aborted and its range unlocked, so that no other thread waits for it.
+
+ghost use Rattle.std.specs.Prelude.{◌≡◌, IfErr};
+
+use crate::gate::Gate;
+use crate::halt::Halt;
+use crate::order::{Order, STREAMS};
+use crate::words::{PART, SHARED, Word, Words};
+use base::{
+    Bytes, Group, Mode, ObjectId, ObjectRange, Op, Ops, Owner, Plan, PoolError, Range, Receipt,
+    TxId,
+};
+use device_model::SectorDevice;
+use pool_threads::{Handle, Pool};
+use std::alloc::Global;
+use std::sync::Wait;
+
+/// After so many writes a stream waits until they are durable, and reads.
+const WRITES_BETWEEN_FSYNCS: u32 = 8;
+
+/// How often a write that finds no space syncs the pool and begins again.
+const SYNCS_FOR_SPACE: u32 = 8;
+
+/// All parts of the shared object.
+const ALL_PARTS: Range = Range {
+    low: 0,
+    high: PART * STREAMS as u64,
+};
+
+/// A handle of the pool with the owner that it works for.
+#[derive(Drop)]
+pub(crate) struct Writer<'a, 'p, D: SectorDevice, W: Wait> {
+    rt: &'a W,
+    alloc: Global,
+    handle: Handle<'p, D>,
+    owner: Owner,
+}
+
+impl<'a, 'p, D: SectorDevice, W: Wait> Writer<'a, 'p, D, W> {
+    pub(crate) fn new(rt: &'a W, alloc: Global, pool: &'p Pool<D>, owner: Owner) -> Self {
+        Writer {
+            rt,
+            alloc,
+            handle: pool.handle(),
+            owner,
+        }
+    }
+
+    /// Makes each object of a load, or empties it if it is there.
+    pub(crate) fn make_objects(&mut self) -> Result<(), PoolError> {
+        for number in 0..=STREAMS {
+            let object = ObjectId(number);
+            let op = match self.handle.length(self.rt, object) {
+                Ok(_) => Op::SetLength(object, 0),
+                Err(PoolError::NoObject) => Op::Create(object),
+                Err(error) => return Err(error),
+            };
+            let place = ObjectRange {
+                object,
+                range: Range::WHOLE,
+            };
+            self.transact(place, op, 0)?;
+        }
+        Ok(())
+    }
+
+    /// Makes the writes of the stream that has the owner's number, up to the last one or until the load is halted.
+    pub(crate) fn run_stream<G: Gate>(
+        &mut self,
+        order: Order,
+        gate: &G,
+        halt: &Halt,
+    ) -> Result<(), PoolError> {
+        let stream = self.owner.0;
+        let mut words = Words::new(order.seed, stream);
+        for number in 0..order.writes {
+            if halt.is_raised() {
+                break;
+            }
+            let receipt = self.write(words.draw())?;
+            if number % WRITES_BETWEEN_FSYNCS == WRITES_BETWEEN_FSYNCS - 1 {
+                self.handle.fsync(self.rt, receipt)?;
+                gate.acknowledged(stream, number + 1);
+                self.read_shared()?;
+            }
+        }
+        Ok(())
+    }
+
+    fn write(&mut self, word: Word) -> Result<Receipt, PoolError> {
+        let bytes = Bytes::new(vec![in self.alloc; word.byte; word.length]?);
+        let op = Op::Write(word.place.object, word.place.range.low, bytes);
+        self.transact(word.place, op, SYNCS_FOR_SPACE)
+    }
+
+    // Commits an operation in a transaction of its own, under a lock of its place.
+    fn transact(
+        &mut self,
+        place: ObjectRange,
+        op: Op,
+        syncs_for_space: u32,
+    ) -> Result<Receipt, PoolError> {
+        let ops = Ops::new(vec![in self.alloc; op]?);
+        let ObjectRange { object, range } = place;
+        let lock = self
+            .handle
+            .lock(self.rt, self.owner, object, range, Mode::Writer)?;
+        let committed = self.begin_and_commit(ops, syncs_for_space);
+        let unlocked = self.handle.unlock(self.rt, self.owner, lock);
+        let receipt = committed?;
+        unlocked?;
+        Ok(receipt)
+    }
+
+    fn begin_and_commit(&mut self, ops: Ops, syncs_for_space: u32) -> Result<Receipt, PoolError> {
+        let (tx, _) = self.begin(&ops, syncs_for_space)?;
+        let committed = self.handle.commit(self.rt, tx, ops);
+        if committed.is_err() {
+            let _ = self.handle.abort(self.rt, tx);
+        }
+        committed
+    }
+
+    // Begins a transaction. If it finds no space it syncs the pool and begins again, at most so often.
+    fn begin(&mut self, ops: &Ops, syncs_for_space: u32) -> Result<(TxId, Group), PoolError> {
+        for _ in 0..syncs_for_space {
+            let plan = Plan::of(self.alloc, ops)?;
+            match self.handle.begin(self.rt, self.owner, plan) {
+                Err(PoolError::NoSpace) => {
+                    self.handle.sync_pool(self.rt)?;
+                }
+                begun => return begun,
+            }
+        }
+        let plan = Plan::of(self.alloc, ops)?;
+        self.handle.begin(self.rt, self.owner, plan)
+    }
+
+    // Reads all parts of the shared object, under a lock.
+    fn read_shared(&mut self) -> Result<(), PoolError> {
+        let lock = self
+            .handle
+            .lock(self.rt, self.owner, SHARED, ALL_PARTS, Mode::Reader)?;
+        let read = self.handle.read(self.rt, self.owner, SHARED, ALL_PARTS);
+        let unlocked = self.handle.unlock(self.rt, self.owner, lock);
+        read?;
+        unlocked
+    }
+}
