@@ -2,6 +2,8 @@
 //! alone. So it is refused as soon as that contract promises less.
 
 ghost use Rattle.std.specs.Prelude.{◌≡◌, ◌≢◌, ◌<◌, Err, IfOk};
+ghost use Rattle.loads.specs.Digests.{RepliesDigest};
+ghost use Rattle.pool_threads.specs.Handles.{shared_of};
 
 use crate::gate::Gate;
 use crate::order::{Loaded, Order};
@@ -28,6 +30,17 @@ fn two_hundred_writes_commit_3217<D: SectorDevice + Send, G: Gate + Sync, R: Thr
         writes: 200,
         seed: 5,
     };
+    load(rt, alloc, pool, order, gate)
+}
+
+// The digest is what the pool replied to a step of one of its handles.
+fn a_digest_is_a_reply_of_the_pool<
+    D: SectorDevice + Send,
+    G: Gate + Sync,
+    R: Threads + Wait + Sync,
+>(rt: &R, alloc: Global, pool: &Pool<D>, order: Order, gate: &G) -> Result<Loaded, PoolError>
+    ensures { IfOk result (λ loaded. RepliesDigest (shared_of pool.entry.now) loaded.digest) }
+{
     load(rt, alloc, pool, order, gate)
 }
 

@@ -1,7 +1,9 @@
 //! The threads of a load: one for each loop, and one for each worker.
 
 ghost use Rattle.std.specs.Prelude.{◌≡◌, Err, IfOk, false};
+ghost use Rattle.loads.specs.Digests.{RepliesDigest};
 ghost use Rattle.loads.specs.Orders.{committed_by, is_order};
+ghost use Rattle.pool_threads.specs.Handles.{shared_of};
 
 use crate::gate::Gate;
 use crate::halt::Halt;
@@ -34,6 +36,8 @@ pub fn load<D: SectorDevice + Send, G: Gate + Sync, R: Threads + Wait + Sync>(
     gate: &G,
 ) -> Result<Loaded, PoolError>
     ensures committed { IfOk result (λ loaded. loaded.committed ≡ committed_by order) }
+    ensures digest { IfOk result
+        (λ loaded. RepliesDigest (shared_of pool.entry.now) loaded.digest) }
     ensures limits { is_order order ≡ false → result ≡ Err PoolError.BadRange }
 {
     if !order.is_allowed() {
@@ -67,8 +71,11 @@ fn cause(results: &[Result<(), PoolError>]) -> Result<(), PoolError> {
 }
 
 // The digest of the contents, by a step of a handle.
-fn digest<D: SectorDevice, W: Wait>(rt: &W, pool: &Pool<D>) -> Result<[u8; 32], PoolError> {
-    match pool.handle().step(rt, Step::Digest) {
+fn digest<D: SectorDevice, W: Wait>(rt: &W, pool: &Pool<D>) -> Result<[u8; 32], PoolError>
+    ensures { IfOk result (RepliesDigest (shared_of pool.entry.now)) }
+{
+    let mut handle = pool.handle();
+    match handle.step(rt, Step::Digest) {
         Reply::Digest(digest) => Ok(digest),
         Reply::Refused(error) => Err(error),
         // The step has no other reply.
