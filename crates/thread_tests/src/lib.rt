@@ -6,6 +6,8 @@
 #![tactic(auto)]
 
 #[cfg(test)]
+mod durable;
+#[cfg(test)]
 mod each_call;
 #[cfg(test)]
 mod file_commands;
