@@ -56,7 +56,7 @@ fn a_commit_is_durable_before_its_group_is_synced(rt: HostRuntime) -> Result<(),
     Ok(())
 }
 
-/// What a status tells of a pool.
+/// What a status reports of a pool.
 #[derive(Clone, Copy, Debug, PartialEq)]
 struct Room {
     synced: u64,
