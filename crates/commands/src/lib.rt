@@ -1,14 +1,16 @@
-//! The commands of the program `ztxg`: a script on a pool, and a pool in a file, which is made or shown.
+//! The commands of the program `ztxg`: a script on a pool, and a pool in a file, which is made, shown or checked.
 //!
 //! The crate knows no command line: `ztxg` reads its words into `Arguments`, and `run` does the command.
 #![tactic(auto)]
 
 mod arguments;
+mod checks;
 mod clients;
 mod failure;
 mod pool_files;
 mod program;
 
 pub use arguments::{Arguments, CreateArguments, ScriptArguments, ScriptDevice};
+pub use checks::{Finding, check_pool, run_check};
 pub use pool_files::{run_create, run_show};
 pub use program::{run, run_opened};
