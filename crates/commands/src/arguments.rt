@@ -13,6 +13,8 @@ pub enum Arguments<'a> {
     Create(CreateArguments<'a>),
     /// `ztxg show`, with the path of the pool's file.
     Show(&'a str),
+    /// `ztxg check`, with the path of the pool's file.
+    Check(&'a str),
 }
 
 /// The device that a script works on.

@@ -1,9 +1,14 @@
 //! What callers rely on: one function for each promise of this crate's calls, proved from the contract of the call
 //! alone. So it is refused as soon as that contract promises less.
 
-ghost use Rattle.std.specs.Prelude.{◌≡◌};
+ghost use Rattle.std.specs.Prelude.{◌≡◌, ◌≢◌, ℕ, IfOk, IsTrue};
+ghost use Rattle.base.specs.crash.Mount.{IsTreeDamaged, MountsTo};
+ghost use Rattle.base.specs.disk.Disk.{bytes_of};
+ghost use Rattle.base.specs.history.Contents.{Contents};
+ghost use Rattle.commands.specs.Checks.{finding_status};
 
 use crate::arguments::{CreateArguments, LoadArguments, ScriptArguments, ScriptDevice};
+use crate::checks::{Finding, check_pool, run_check};
 use crate::failure::{Failure, report_failure};
 use crate::load::run_load;
 use crate::pool_files::{run_create, run_show};
@@ -147,4 +152,53 @@ fn a_load_by_17_workers_has_status_1<
     ensures { result ≡ 1 }
 {
     run_load(rt, tank_by(17), Ok(device), false, out, errors)
+}
+
+fn a_pool_that_is_not_opened_is_checked_with_status_3<D: SectorDevice + Drop, W: Write, E: Write>(
+    alloc: Global,
+    out: &mut W,
+    errors: &mut E,
+) -> u8
+    ensures { result ≡ 3 }
+{
+    let opened: Result<D, FileRefusal> = Err(FileRefusal::InUse);
+    run_check(alloc, "tank.pool", opened, out, errors)
+}
+
+// If a block of the tree is damaged, the status is not 0.
+fn a_damaged_pool_is_not_clean<D: SectorDevice + Drop, W: Write, E: Write>(
+    alloc: Global,
+    device: D,
+    out: &mut W,
+    errors: &mut E,
+) -> u8
+    ensures { IsTrue D.keeps_model → (kind address : ℕ)
+        → IsTreeDamaged (bytes_of (D.disk device).now) kind address → result ≢ 0 }
+{
+    run_check(alloc, "tank.pool", Ok(device), out, errors)
+}
+
+// A file of 512 bytes can hold no pool.
+fn a_check_of_a_small_file_has_status_1<D: SectorDevice + Drop, W: Write, E: Write>(
+    alloc: Global,
+    device: D,
+    out: &mut W,
+    errors: &mut E,
+) -> u8
+    requires { D.size device ≡ 512 }
+    ensures { result ≡ 1 }
+{
+    run_check(alloc, "tank.pool", Ok(device), out, errors)
+}
+
+// If an image mounts contents, a check that isn't refused finds it clean, and changes nothing.
+fn a_whole_pool_is_found_clean<D: SectorDevice>(
+    alloc: Global,
+    device: &mut D,
+) -> Result<Finding, PoolError>
+    ensures clean { IsTrue D.keeps_model → IfOk result (λ finding. (contents : Contents)
+        → MountsTo (bytes_of (D.disk device.old).now) contents → finding_status finding ≡ 0) }
+    ensures unchanged { IsTrue D.keeps_model → D.disk device.new ≡ D.disk device.old }
+{
+    check_pool(alloc, device)
 }

@@ -7,8 +7,8 @@ use base::PoolError;
 use scripts::{Answer, FAILED};
 use std::io::Write;
 
-/// The status of a refusal.
-const REFUSED: u8 = 1;
+/// The status of a refusal, and of a pool that is not whole.
+pub(crate) const REFUSED: u8 = 1;
 
 /// Why a command was not done.
 #[derive(Clone, Copy, Debug, PartialEq, Eq)]

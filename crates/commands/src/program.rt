@@ -4,6 +4,7 @@
 ghost use Rattle.std.specs.Prelude.{◌≡◌, ◌≢◌, ◌≤◌, IsErr};
 
 use crate::arguments::{Arguments, ScriptArguments, ScriptDevice};
+use crate::checks::run_check;
 use crate::failure::{Failure, report_failure};
 use crate::load::run_load;
 use crate::pool_files::{run_create, run_show};
@@ -39,6 +40,13 @@ where
         Arguments::Script(arguments) => run_named_script(rt, arguments, errors),
         Arguments::Create(arguments) => { run_create(rt, arguments, &mut io::writer(rt), errors) }
         Arguments::Show(file) => run_show(
+            rt.alloc(),
+            file,
+            FileDevice::open_to_read(rt, file),
+            &mut io::writer(rt),
+            errors,
+        ),
+        Arguments::Check(file) => run_check(
             rt.alloc(),
             file,
             FileDevice::open_to_read(rt, file),

@@ -1,8 +1,8 @@
 //! What is printed where a script can't be opened, and the commands on a pool in a file, on a file of their own.
 
 use commands::{
-    CreateArguments, LoadArguments, Order, ScriptArguments, ScriptDevice, run_create, run_load,
-    run_opened, run_show,
+    CreateArguments, LoadArguments, Order, ScriptArguments, ScriptDevice, run_check, run_create,
+    run_load, run_opened, run_show,
 };
 use device_model::FileDevice;
 use std::fs::{self, File};
@@ -247,5 +247,77 @@ fn a_pool_in_a_file_is_loaded(rt: HostRuntime) -> Result<(), Fail> {
     assert!(rt; out.is_empty());
     assert!(rt; errors.as_slice() == b"ztxg: refused 17 Throttled\n".as_slice());
     fs::remove_file(&rt, "load.pool")?;
+    Ok(())
+}
+
+// Makes object 1 of the bytes `abcd`. They lie at the front of the payload of the block at 4,198,400.
+const MAKES_AN_OBJECT: &str = "\
+import 1048576
+lock 1 1 w 0 338688
+begin 1 c:1 w:1:0:4
+commit 0 abcd
+sync
+";
+
+#[test]
+fn a_check_finds_a_pool_whole_or_damaged(rt: HostRuntime) -> Result<(), Fail> {
+    let mut out = Vec::new(rt.alloc());
+    let mut errors = Vec::new(rt.alloc());
+    assert_eq!(rt;
+        run_create(&rt, tank("checked.pool"), &mut out, &mut errors),
+        0
+    );
+    let arguments = ScriptArguments {
+        device: ScriptDevice::File("checked.pool"),
+        script: "script",
+        moment: 0,
+    };
+    let opened: io::Result<&[u8]> = Ok(MAKES_AN_OBJECT.as_bytes());
+    assert_eq!(rt;
+        run_opened(&rt, arguments, opened, &mut out, &mut errors),
+        0
+    );
+    for (byte, status, text) in [
+        (b'a', 0, "clean group 9 records 0\n"),
+        (b'b', 1, "damaged 5 4198400\n"),
+    ] {
+        let mut image = fs::read(&rt, "checked.pool")?;
+        if let Some(first) = image.get_mut(4_198_464) {
+            *first = byte;
+        }
+        fs::write(&rt, "checked.pool", image.as_slice())?;
+        let opened = FileDevice::open_to_read(&rt, "checked.pool");
+        out.clear();
+        assert_eq!(rt;
+            run_check(rt.alloc(), "checked.pool", opened, &mut out, &mut errors),
+            status
+        );
+        assert!(rt; out.as_slice() == text.as_bytes());
+        assert!(rt; errors.is_empty());
+        assert!(rt; fs::read(&rt, "checked.pool")? == image);
+    }
+    fs::remove_file(&rt, "checked.pool")?;
+    Ok(())
+}
+
+#[test]
+fn a_check_tells_of_a_file_without_a_pool(rt: HostRuntime) -> Result<(), Fail> {
+    for (size, found, text) in [
+        (0, "", "ztxg: refused 8 BadGeometry\n"),
+        (6_291_455, "", "ztxg: refused 8 BadGeometry\n"),
+        (6_291_456, "no pool\n", ""),
+    ] {
+        File::create(&rt, "missing.pool")?.set_len(size)?;
+        let opened = FileDevice::open_to_read(&rt, "missing.pool");
+        let mut out = Vec::new(rt.alloc());
+        let mut errors = Vec::new(rt.alloc());
+        assert_eq!(rt;
+            run_check(rt.alloc(), "missing.pool", opened, &mut out, &mut errors),
+            1
+        );
+        assert!(rt; out.as_slice() == found.as_bytes());
+        assert!(rt; errors.as_slice() == text.as_bytes());
+    }
+    fs::remove_file(&rt, "missing.pool")?;
     Ok(())
 }

@@ -121,6 +121,17 @@ fn load_command<'a>(alloc: Global) -> Result<Command<'a>, AllocError> {
         .arg(moment(alloc))
 }
 
+fn check_command<'a>(alloc: Global) -> Result<Command<'a>, AllocError> {
+    Command::new(alloc, "check")
+        .about("Checks whether the pool in a file is whole; it only reads the file")
+        .after_help(help::CHECK)
+        .arg(word(
+            alloc,
+            "FILE",
+            "The path of the file, a regular file that no process has open as a pool to write",
+        ))
+}
+
 fn command<'a>(alloc: Global) -> Result<Command<'a>, AllocError> {
     Command::new(alloc, "ztxg")
         .about("The write engine of a copy-on-write storage pool, in memory or in a file")
@@ -129,6 +140,7 @@ fn command<'a>(alloc: Global) -> Result<Command<'a>, AllocError> {
         .subcommand_required(true)
         .subcommand(create_command(alloc)?)?
         .subcommand(show_command(alloc)?)?
+        .subcommand(check_command(alloc)?)?
         .subcommand(load_command(alloc)?)?
         .subcommand(script_command(alloc)?)
 }
@@ -148,6 +160,7 @@ pub fn read_arguments<'a>(matches: &ArgMatches<'a>) -> Option<Arguments<'a>> {
         "script" => Some(Arguments::Script(read_script(given)?)),
         "create" => Some(Arguments::Create(read_create(given)?)),
         "show" => Some(Arguments::Show(given.get_str("FILE")?)),
+        "check" => Some(Arguments::Check(given.get_str("FILE")?)),
         "load" => Some(Arguments::Load(read_load(given)?)),
         _ => None,
     }

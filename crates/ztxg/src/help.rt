@@ -10,7 +10,8 @@ Example: ztxg create tank.pool tank 77 8388608
 
 Exit status:
   0  the command was done
-  1  the engine refused it: 'ztxg: refused N NAME' on standard error
+  1  the engine refused it: 'ztxg: refused N NAME' on standard error;
+     or a check found no pool that is whole
   2  a fault of the command line, or a line of a script that is no command
   3  a file that can't be used: 'ztxg: cannot use FILE' on standard error;
      or a script that can't be read, or output that can't be written
@@ -67,6 +68,26 @@ Refusals, with status 1, and then nothing is printed on standard output:
   16 NoSpace               a write finds no blocks, also after 8 syncs
   17 Throttled             D is below the charge of one transaction
   22 TooMany               a group or an import is at its last number, 2^60";
+
+/// What stands after the help of `check`.
+pub const CHECK: &str = "\
+Example: ztxg check tank.pool
+
+Prints what an import of the pool would find, in one line:
+  clean group U records R  with status 0: the pool is whole. U is its group, R
+                           the number of log records that an import applies
+  damaged KIND ADDRESS     with status 1: this block is the first that is not
+                           what the pool's tree or log says of it
+  no pool                  with status 1: no label has a valid uberblock with
+                           a config
+
+KIND is 2 for the root, 3 for a directory, 4 for an indirect block, 5 for data
+and 6 for the log. ADDRESS is the block's byte in FILE.
+
+Refusals, with status 1:
+   1 NoMemory     there is no memory
+   2 Read         the device refused a read
+   8 BadGeometry  FILE's size is none that a pool may have";
 
 /// What stands after the help of `script`.
 pub const SCRIPT: &str = "\

@@ -1,6 +1,6 @@
 //! The command line of the pool's write engine. `ztxg script SIZE SCRIPT` runs a script on a device in memory, and
-//! `ztxg create FILE NAME GUID SIZE` makes a pool in a file, which `ztxg show FILE` shows and on which
-//! `ztxg script --file FILE SCRIPT` runs a script and `ztxg load FILE` makes many writes.
+//! `ztxg create FILE NAME GUID SIZE` makes a pool in a file. `ztxg show FILE` shows it, `ztxg check FILE` checks it,
+//! `ztxg load FILE` makes many writes on it, and `ztxg script --file FILE SCRIPT` runs a script.
 #![tactic(auto)]
 
 mod arguments;

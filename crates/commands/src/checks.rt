@@ -1,0 +1,137 @@
+//! The command `check`: whether the pool in a file is whole. It only reads, and finds what an inspection finds.
+
+ghost use Rattle.std.specs.Prelude.{◌≡◌, ◌≢◌, ◌≤◌, Err, IfErr, IfOk, IsErr, IsTrue, OnOk};
+ghost use Rattle.base.specs.disk.Disk.{bytes_of};
+ghost use Rattle.base.specs.formats.Geometry.{IsGeometry};
+ghost use Rattle.device_model.specs.Reading.{OnlyReads};
+ghost use Rattle.commands.specs.Checks.{IsCheckRefusal, IsFoundIn, MountsWhole, finding_status, found_of};
+
+use crate::failure::{Failure, REFUSED, report_failure};
+use base::{Group, PoolError};
+use device_model::{FileRefusal, SectorDevice};
+use import_replay::{Inspected, inspect};
+use std::alloc::Global;
+use std::fmt;
+use std::io::Write;
+
+/// What a check found on a device.
+#[derive(Clone, Copy, Debug, PartialEq, Eq)]
+pub enum Finding {
+    /// A pool that is whole.
+    Clean {
+        /// The group of the active uberblock.
+        group: Group,
+        /// How many log records an import would apply.
+        records: u64,
+    },
+    /// A pool of which a block is damaged, so no import mounts it.
+    Damaged {
+        /// The kind of the block: 2 root, 3 directory, 4 indirect, 5 data, 6 log.
+        kind: u64,
+        /// Its byte address on the device.
+        address: u64,
+    },
+    /// No pool.
+    NoPool,
+}
+
+impl Finding {
+    /// The exit status of a check that found this: 0 if the pool is whole, else 1.
+    pub fn status(&self) -> u8
+        ensures { result ≡ finding_status self.now }
+    {
+        match self {
+            Finding::Clean { .. } => 0,
+            Finding::Damaged { .. } | Finding::NoPool => REFUSED,
+        }
+    }
+}
+
+impl fmt::Display for Finding {
+    fn fmt<W: fmt::Write>(&self, f: &mut fmt::Formatter<W>) -> fmt::Result {
+        match self {
+            Finding::Clean { group, records } => {
+                write!(f, "clean group {} records {records}", group.0)
+            }
+            Finding::Damaged { kind, address } => write!(f, "damaged {kind} {address}"),
+            Finding::NoPool => write!(f, "no pool"),
+        }
+    }
+}
+
+/// Checks the pool on a device, by the reads of an inspection. It makes no write and no flush.
+///
+/// # Errors
+/// `BadGeometry`, before any device call. `NoMemory` and `Read` when they happen.
+pub fn check_pool<D: SectorDevice>(alloc: Global, device: &mut D) -> Result<Finding, PoolError>
+    // The disk is as it was, and the device refused no call but a read.
+    ensures reads { OnlyReads D.SectorDevice result device.old device.new }
+
+    ensures found { IsTrue D.keeps_model
+        → IfOk result (IsFoundIn (bytes_of (D.disk device.old).now)) }
+    ensures sized { OnOk result (IsGeometry (D.size device.old)) }
+    ensures refused { IfErr result (IsCheckRefusal (D.size device.old)) }
+{
+    finding_of(inspect(alloc, device))
+}
+
+// What an inspection found.
+fn finding_of(inspected: Result<Inspected, PoolError>) -> Result<Finding, PoolError>
+    ensures { result ≡ found_of inspected }
+{
+    match inspected {
+        Ok(inspected) => Ok(Finding::Clean {
+            group: inspected.group,
+            records: inspected.records,
+        }),
+        Err(PoolError::Damaged { kind, address }) => Ok(Finding::Damaged { kind, address }),
+        Err(PoolError::NoPool) => Ok(Finding::NoPool),
+        Err(refusal) => Err(refusal),
+    }
+}
+
+/// Writes to `out` what a check of the pool in a file found, and returns the exit status. It only reads the file.
+///
+/// The status is 0 if the pool is whole. It is 1 if a block is damaged, if there is no pool, or if the engine refused
+/// the check. It is 3 if the file was not opened as a device or `out` can't be written. A failure is reported on
+/// `errors`.
+pub fn run_check<D: SectorDevice + Drop, W: Write, E: Write>(
+    alloc: Global,
+    file: &str,
+    opened: Result<D, FileRefusal>,
+    out: &mut W,
+    errors: &mut E,
+) -> u8
+    ensures unusable { IsErr opened → result ≡ 3 }
+    ensures size { IfOk opened (λ device. (IsGeometry (D.size device) → ⊥) → result ≡ 1) }
+    ensures clean { result ≡ 0 → IfOk opened (λ device. IsTrue D.keeps_model
+        → MountsWhole (bytes_of (D.disk device).now)) }
+    ensures range { result ≤ 3 }
+    ensures no_usage { result ≢ 2 }
+{
+    match check_opened(alloc, opened, out) {
+        Ok(finding) => finding.status(),
+        Err(failure) => report_failure(failure, file, errors),
+    }
+}
+
+fn check_opened<D: SectorDevice + Drop, W: Write>(
+    alloc: Global,
+    opened: Result<D, FileRefusal>,
+    out: &mut W,
+) -> Result<Finding, Failure>
+    ensures unusable { IsErr opened → result ≡ Err Failure.Unusable }
+    ensures size { IfOk opened (λ device. (IsGeometry (D.size device) → ⊥)
+        → result ≡ Err (Failure.Refused PoolError.BadGeometry)) }
+    ensures found { IfOk opened (λ device. IsTrue D.keeps_model
+        → IfOk result (IsFoundIn (bytes_of (D.disk device).now))) }
+{
+    let Ok(mut device) = opened else {
+        return Err(Failure::Unusable);
+    };
+    let finding = check_pool(alloc, &mut device)?;
+    if writeln!(out, "{finding}").is_err() {
+        return Err(Failure::Unwritten);
+    }
+    Ok(finding)
+}

@@ -1,0 +1,316 @@
+#!/usr/bin/env python3
+"""Images of a hostile writer by chance, judged by `check`, `show` and an import.
+
+    python3 tools/hostile.py PROGRAM [COUNT [SEED [JOBS]]]
+
+PROGRAM is a built `ztxg`. It makes a few pools in files. COUNT (1,000) times the image of one of them gets one to three
+edits by chance, with the checks above them made right (`hostile_edits.py`). What the image mounts is worked out by
+Python alone (`pool_image.py`). Then these have to print exactly that, without a crash or a hang:
+
+- `check FILE` and `show FILE`, which leave the file as it is;
+- a script on the file, which imports the pool and prints its name, its digest and the lengths of objects. A refused
+  import leaves the file as it is;
+- after an import `check` and `show` again: the same contents, four groups and one import later.
+
+The first difference ends it with status 1, and prints the number of its image. The same SEED (0) makes the same images:
+`N:M` as COUNT judges those from N to before M alone. JOBS (1) processes share them. The end prints how many images were
+judged how, and which edits they had.
+"""
+
+import collections
+import multiprocessing
+import os
+import random
+import subprocess
+import sys
+import tempfile
+
+sys.dont_write_bytecode = True
+
+from hostile_edits import Edits  # noqa: E402
+from pool_image import (  # noqa: E402
+    RECORD,
+    TOP,
+    BadGeometry,
+    Damaged,
+    Image,
+    NoPool,
+    digest,
+    import_line,
+    mount,
+    read_pool,
+    show_lines,
+)
+
+SIZE = 6 * 2**20
+DIRTY_MAX = 2**40
+SECONDS = 60
+ROOM = "/dev/shm" if os.path.isdir("/dev/shm") else None
+
+
+# The pools: for each the scripts that make it, one import in each.
+
+
+def transact(tx, shapes, *words):
+    """A transaction on locked objects."""
+    return [f"begin 1 {shapes}", " ".join(["commit", str(tx), *words])]
+
+
+def start(objects):
+    """An import, and locks of objects."""
+    return [f"import {DIRTY_MAX}", *(f"lock 1 {number} w 0 {TOP}" for number in objects)]
+
+
+def several():
+    """Objects in three directories, with holes, over two imports. Then a log of four blocks, with records of the synced
+    group and of two later ones."""
+    objects = [0, 1, 2, 62, 63, 5_291]
+    first = ["create tank 77", *start(objects)]
+    first += transact(0, "c:0 w:0:0:5 w:0:8064:10", "hello", "@10:z") + transact(1, "c:1 c:2 w:2:4030:4", "abcd")
+    first += transact(2, "c:62 l:62:9000 c:63 w:63:0:3", "xyz") + ["sync"]
+    first += transact(3, "c:5291 w:5291:338000:600", "@600:q") + transact(4, "w:0:4032:3000", "@3000:m") + ["sync"]
+    second = start(objects)
+    second += transact(0, "w:1:0:3900", "@3900:a") + transact(1, "d:62") + ["sync"]
+    second += transact(2, "w:2:0:6", "synced") + ["close", "log-write"]
+    second += transact(3, "c:62 w:62:7:2000", "@2000:b") + transact(4, "w:63:1:1500", "@1500:c") + ["log-write"]
+    second += transact(5, "l:0:4100") + ["log-write", "log-flush"]
+    second += transact(6, "w:5291:0:3000", "@3000:d") + ["log-write", "quiesce", "start", "finish"]
+    second += transact(7, "d:1") + ["log-write", "log-flush"]
+    return [first, second]
+
+
+def small():
+    """One object, and a log of one block with two records."""
+    lines = ["create pond 12345678901234567", *start([1, 2])]
+    lines += transact(0, "c:1 w:1:0:4", "abcd") + ["sync"]
+    lines += transact(1, "c:2") + transact(2, "w:1:100:4", "wxyz") + ["log-write", "log-flush"]
+    return [lines]
+
+
+def empty():
+    return [["create tank 77", f"import {DIRTY_MAX}"], [f"import {DIRTY_MAX}"]]
+
+
+def full():
+    """Four objects of 72 records each and a small one, and a log of one block. 89 of 384 blocks are free."""
+    lines = ["create tank 77", *start(range(5))]
+    lines += transact(0, "c:0 c:1 c:2 c:3 c:4") + ["sync"]
+    for tx in range(1, 73):
+        number, first = divmod(4 * (tx - 1), 72)
+        shapes = (f"w:{number}:{RECORD * record}:900" for record in range(first, first + 4))
+        lines += transact(tx, " ".join(shapes), *["@900:e"] * 4) + ["sync"] * (tx % 6 == 0)
+    lines += transact(73, "w:4:0:1", "f") + ["log-write", "log-flush"]
+    return [lines]
+
+
+# Each with its share of the images.
+POOLS = {several: 4, small: 2, empty: 1, full: 1}
+
+
+def make_pool(program, pool):
+    """The image of a pool, and what it mounts."""
+    with tempfile.NamedTemporaryFile(dir=ROOM) as file:
+        file.truncate(SIZE)
+        for lines in pool():
+            ran = run(program, "script", "--file", file.name, "-", script="\n".join(lines) + "\n")
+            if ran.status or any(line.startswith("refused") for line in ran.lines):
+                stop(f"the pool `{pool.__name__}` isn't made: {ran}")
+        file.seek(0)
+        base = file.read()
+    return base, mount(read_pool(Image(bytearray(base))))
+
+
+# The program
+
+
+# A command's status, and its lines on standard output and standard error.
+Ran = collections.namedtuple("Ran", "status lines errors")
+
+
+def run(program, *words, script=""):
+    try:
+        ran = subprocess.run([program, *words], input=script.encode(), capture_output=True, timeout=SECONDS)
+    except subprocess.TimeoutExpired:
+        return Ran("none", [f"no end after {SECONDS} seconds"], [])
+    out, errors = (text.decode(errors="replace").splitlines() for text in (ran.stdout, ran.stderr))
+    return Ran(ran.returncode, out, errors)
+
+
+def stop(reason):
+    print(f"hostile.py: {reason}", file=sys.stderr)
+    sys.exit(1)
+
+
+# What is expected
+
+
+class Refusal:
+    """A refusal of an inspection or an import: its number, its name, and what is damaged."""
+
+    def __init__(self, number, *words):
+        self.text = " ".join([str(number), *words])
+        # What a check finds, if it isn't refused too; and how the end counts it.
+        self.found = {6: "no pool", 7: " ".join(["damaged", *words[1:]])}.get(number)
+        self.kind = " ".join(self.text.split()[:3])
+
+    def shown(self):
+        return Ran(1, [], [f"ztxg: refused {self.text}"])
+
+    def checked(self):
+        return Ran(1, [self.found], []) if self.found else self.shown()
+
+
+def outcome(judge, *words, **options):
+    """What an image mounts, or the refusal."""
+    try:
+        return judge(*words, **options)
+    except Damaged as damage:
+        return Refusal(7, "Damaged", str(damage.kind), str(damage.address))
+    except NoPool:
+        return Refusal(6, "NoPool")
+    except BadGeometry:
+        return Refusal(8, "BadGeometry")
+
+
+class Expected:
+    """What an inspection and an import make of an image."""
+
+    def __init__(self, image):
+        found = outcome(read_pool, image)
+        is_read = not isinstance(found, Refusal)
+        self.inspected = outcome(mount, found) if is_read else found
+        self.imported = outcome(mount, found, takes_names=False) if is_read else found
+        self.is_whole = not isinstance(self.inspected, Refusal)
+
+    def check(self):
+        one = self.inspected
+        if not self.is_whole:
+            return one.checked()
+        return Ran(0, [f"clean group {one.uberblock.group} records {one.records}"], [])
+
+    def show(self):
+        return Ran(0, show_lines(self.inspected), []) if self.is_whole else self.inspected.shown()
+
+    def import_answer(self):
+        one = self.imported
+        return f"refused {one.text}" if isinstance(one, Refusal) else import_line(one)
+
+    def script(self):
+        """The lines of a script that imports the pool, each with its answer."""
+        lines = {f"import {DIRTY_MAX}": self.import_answer()}
+        if self.import_answer().startswith("synced"):
+            objects = self.imported.objects
+            lines |= {"name": f"name {self.imported.name.decode()}", "digest": f"digest {digest(self.imported)}"}
+            for number in sorted({*objects, 0, 1, 7}):
+                answer = f"length {len(objects[number])}" if number in objects else "refused 9 NoObject"
+                lines[f"length {number}"] = answer
+        return lines
+
+    def kinds(self):
+        """How the image is counted."""
+        answer = self.import_answer()
+        if not self.is_whole:
+            return [self.inspected.kind]
+        if answer.startswith("synced"):
+            return ["clean", "clean, with records"] if self.inspected.records else ["clean"]
+        return ["clean, but a record names the pool" if answer.startswith("refused 7") else f"clean, but {answer}"]
+
+    def after(self):
+        """What is left of the pool by an import: its group, import, guid, log, name and objects."""
+        one = self.imported
+        return one.uberblock.group + 4, one.uberblock.import_number + 1, one.uberblock.guid, 0, one.name, one.objects
+
+    def left(self):
+        one = self.inspected
+        return one.uberblock.group, one.uberblock.import_number, one.uberblock.guid, one.records, one.name, one.objects
+
+
+class Bench:
+    """A file in which images are judged."""
+
+    def __init__(self, program, file):
+        self.program, self.file, self.counts = program, file, collections.Counter()
+
+    def differs(self, wanted, *words, script=""):
+        """How a command differs from what is wanted, or None."""
+        found = run(self.program, *words, script=script)
+        return None if found == wanted else f"{words[0]}: wanted {wanted}, found {found}"
+
+    def content(self):
+        with open(self.file, "rb") as file:
+            return file.read()
+
+    def look(self, expected):
+        """How a check or a show differs, or None."""
+        return self.differs(expected.check(), "check", self.file) or self.differs(expected.show(), "show", self.file)
+
+    def judge(self, image):
+        """How a command differs on an image, or None."""
+        with open(self.file, "wb") as file:
+            file.write(image.content)
+        expected = Expected(image)
+        self.counts.update(expected.kinds())
+        difference = self.look(expected)
+        if difference or self.content() != image.content:
+            return difference or "check or show wrote to the file"
+        lines = expected.script()
+        answers, script = Ran(0, list(lines.values()), []), "\n".join(lines) + "\n"
+        difference = self.differs(answers, "script", "--file", self.file, "-", script=script)
+        left = self.content()
+        if difference or not expected.import_answer().startswith("synced"):
+            return difference or (None if left == image.content else "a refused import wrote to the file")
+        return self.judge_left(expected, Expected(Image(bytearray(left))))
+
+    def judge_left(self, before, after):
+        """How the pool that an import left differs, or None."""
+        if not after.is_whole or after.left() != before.after():
+            return f"the import left another pool: {after.check()}"
+        return self.look(after)
+
+
+def judge_images(program, bases, seed, images):
+    """Judges images: their counts, and the first that differs."""
+    pools, shares = list(POOLS), list(POOLS.values())
+    with tempfile.NamedTemporaryFile(dir=ROOM) as file:
+        bench = Bench(program, file.name)
+        for at in images:
+            chance = random.Random(f"{seed}/{at}")
+            pool = chance.choices(range(len(pools)), shares)[0]
+            edits = Edits(chance, *bases[pool])
+            for _ in range(chance.choice([1, 1, 1, 2, 3])):
+                edits.edit()
+            if chance.random() < 0.01:
+                edits.resize()
+            difference = bench.judge(edits.image)
+            if difference:
+                made = f"{pools[pool].__name__}, {', '.join(edits.names)}"
+                return bench.counts, f"image {at} of seed {seed} ({made}): {difference}"
+            bench.counts.update(f"edit: {name}" for name in edits.names)
+    return bench.counts, None
+
+
+def read_arguments():
+    if not 2 <= len(sys.argv) <= 5:
+        stop("usage: python3 tools/hostile.py PROGRAM [COUNT [SEED [JOBS]]]")
+    count, seed, jobs = [*sys.argv[2:], *["1000", "0", "1"][len(sys.argv) - 2 :]]
+    first, _, end = count.rpartition(":")
+    return os.path.abspath(sys.argv[1]), range(int(first or 0), int(end)), int(seed), int(jobs)
+
+
+def main():
+    program, images, seed, jobs = read_arguments()
+    bases = [make_pool(program, pool) for pool in POOLS]
+    parts = [(program, bases, seed, images[first::jobs]) for first in range(jobs)]
+    counts = collections.Counter()
+    with multiprocessing.Pool(jobs) as workers:
+        for part, difference in workers.starmap(judge_images, parts):
+            counts.update(part)
+            if difference:
+                stop(difference)
+    print(f"{len(images)} images of seed {seed}: check, show and import agree")
+    for kind, count in sorted(counts.items()):
+        print(f"{count:8} {kind}")
+
+
+if __name__ == "__main__":
+    main()
