@@ -11,20 +11,22 @@
 //! 3. **A [`Handle`]** makes the calls of a thread. `transact` commits operations whole, or returns why it refused
 //!    them. To read, lock the range first: nobody changes it until it is unlocked. An [`Owner`] is a number for who
 //!    holds locks and transactions; each thread takes one of its own.
-//! 4. **A sync** makes a [`Group`] of transactions durable. A commit that no sync has followed is lost in a power
-//!    failure. After `close`, [`PoolState::sync_open_group`] syncs all. While threads run, one of them makes the steps
-//!    `CloseGroup`, `MarkQuiesced`, `StartSync` and `SyncStep` of its handle (`crates/shared_pool`). A write or a flush
-//!    of a sync is made under the pool's lock, so other threads wait for it.
-//! 5. **The dirty limit**, as [`DEFAULT_DIRTY_MAX`], is in bytes. Until its group is synced, a transaction is charged
+//! 4. **`transact_durably`** returns once no power failure loses the commit, and so does `fsync` of a receipt. Both write
+//!    the intent log and flush it; threads that wait at once share one flush. A commit that nobody waited for may be
+//!    lost, until its [`Group`] is synced.
+//! 5. **A sync** writes the objects of a group to their places. `sync_pool` syncs all that was committed before. A program
+//!    that writes for long has two threads for it: `quiescer` and `syncer` of a handle each run until `Pool::stop`. A
+//!    write or a flush is made under the pool's lock, so other threads wait for it.
+//! 6. **The dirty limit**, as [`DEFAULT_DIRTY_MAX`], is in bytes. Until its group is synced, a transaction is charged
 //!    4,096 bytes for each block that its sync may write: 2 blocks for a create or a remove, 4 for a new length. A
 //!    write is 3 blocks, and one more for each piece of 4,032 bytes that it touches. At the limit [`PoolState::begin`]
 //!    is refused `Throttled`, and `begin` and `transact` of a handle wait until a group is synced. So some thread has
 //!    to sync, or they wait for ever.
-//! 6. **A refusal** is a [`PoolError`]. A refused step changes nothing, with one exception: a refused write or flush of
-//!    a sync suspends the pool, and it has to be opened again. `sync_open_group` keeps the steps before the refused
-//!    one. A refused `transact` changes no contents. [`create`], [`import`] and [`Pool::open`] give the device back
-//!    with their refusal. In a function that returns a `PoolError`, `?` takes the refusal and drops the device. With
-//!    `anyhow`, write `.map_err(PoolError::from)?`.
+//! 7. **A refusal** is a [`PoolError`]. A refused step changes nothing, with one exception: a refused write or flush
+//!    suspends the pool, and it has to be opened again. `sync_pool` and `sync_open_group` keep the steps before the
+//!    refused one. A refused `transact` changes no contents. [`create`], [`import`] and [`Pool::open`] give the device
+//!    back with their refusal, and `transact_durably` the receipt, if the commit took place. In a function that returns
+//!    a `PoolError`, `?` takes the refusal and drops the other. With `anyhow`, write `.map_err(PoolError::from)?`.
 //!
 //! Numbers: an object has up to 338,688 bytes ([`MAX_LENGTH`]), a device 6 MiB to 1 GiB in sectors of 512 bytes. A guid
 //! is any number that distinguishes pools. A moment is a time in seconds that the uberblocks carry; 0 serves if no
@@ -32,16 +34,16 @@
 //!
 //! # Examples
 //!
-//! It makes a pool in a file, writes five bytes and syncs them. Then it opens the file again and prints what it reads
-//! there: `hello`.
+//! It makes a pool in a file, and commits five bytes so that no power failure loses them. Then it opens the file again
+//! and prints what it reads there: `hello`.
 //!
 //! ```
 //! #![tactic(auto)]
 //!
-//! use anyhow::{Context, Result};
+//! use anyhow::Result;
 //! use std::sync::Wait;
-//! use topzerad::{Bytes, DEFAULT_DIRTY_MAX, FileDevice, Group, Mode, ObjectId, Op, Ops, Owner};
-//! use topzerad::{Pool, PoolError, Range, create};
+//! use topzerad::{Bytes, DEFAULT_DIRTY_MAX, FileDevice, Mode, ObjectId, Op, Ops, Owner};
+//! use topzerad::{Pool, PoolError, Range, Receipt, create};
 //!
 //! fn main(rt: HostRuntime) -> Result<()> {
 //!     write(&rt, FileDevice::create(&rt, "tank.pool", 8_388_608)?)?;
@@ -49,14 +51,13 @@
 //!     Ok(println!(rt; "{}", str::from_utf8(bytes.as_slice())?)?)
 //! }
 //!
-//! fn write<R: Wait + AllocGlobal>(rt: &R, device: FileDevice) -> Result<Group> {
+//! fn write<R: Wait + AllocGlobal>(rt: &R, device: FileDevice) -> Result<Receipt> {
 //!     let device = create(device, b"tank", 77, 0).map_err(PoolError::from)?;
 //!     let pool = Pool::open(rt.alloc(), device, DEFAULT_DIRTY_MAX, 0).map_err(PoolError::from)?;
 //!     let bytes = Bytes::from_slice(rt.alloc(), b"hello")?;
 //!     let ops = vec![in rt.alloc(); Op::Create(ObjectId(1)), Op::Write(ObjectId(1), 0, bytes)]?;
-//!     pool.handle().transact(rt, Owner(1), Ops::new(ops))?;
-//!     let mut state = pool.close().context("a handle is still there")?;
-//!     Ok(state.sync_open_group(0)?) // before this, a power failure loses the commit
+//!     let committed = pool.handle().transact_durably(rt, Owner(1), Ops::new(ops));
+//!     Ok(committed.map_err(PoolError::from)?) // from here on a power failure loses nothing
 //! }
 //!
 //! fn read<R: Wait + AllocGlobal>(rt: &R, device: FileDevice) -> Result<Bytes> {
@@ -78,7 +79,7 @@ pub use device_model::{
     Access, Fault, FileDevice, FileRefusal, HeldFile, MemDevice, SectorDevice, SectorFile,
 };
 pub use import_replay::{Imported, Inspected, Mounted, create, import, inspect};
-pub use pool_core::{PoolState, Progress, run};
+pub use pool_core::{Duty, PoolState, Progress, run};
 pub use pool_threads::{Handle, Pool};
 pub use range_locks::{HeldLock, HeldLocks, HeldPiece};
 
