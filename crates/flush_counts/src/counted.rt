@@ -1,9 +1,11 @@
 //! A device that counts its writes and flushes.
 
+use std::alloc::{AllocError, Global};
+use std::sync::Arc;
 use std::sync::atomic::{AtomicU64, Ordering};
 use topzerad::{PoolError, SectorDevice};
 
-/// Counts of the calls of a device, to be read while a pool has the device.
+/// Counts of the calls of a device. They can be read while a pool has the device.
 #[derive(Drop)]
 pub struct Counter {
     writes: AtomicU64,
@@ -20,7 +22,7 @@ pub struct Calls {
 }
 
 impl Counter {
-    pub fn new() -> Self {
+    fn new() -> Self {
         Counter {
             writes: AtomicU64::new(0),
             flushes: AtomicU64::new(0),
@@ -50,18 +52,27 @@ impl Calls {
 ///
 /// Contracts see the other device.
 #[derive(Drop)]
-pub struct Counted<'c, D: SectorDevice> {
+pub struct Counted<D: SectorDevice> {
     device: D,
-    counter: &'c Counter,
+    counter: Arc<Counter>,
 }
 
-impl<'c, D: SectorDevice> Counted<'c, D> {
-    pub fn new(device: D, counter: &'c Counter) -> Self {
-        Counted { device, counter }
+impl<D: SectorDevice> Counted<D> {
+    /// A device that counts the calls of this one, and its counter.
+    pub fn new(alloc: Global, device: D) -> Result<(Self, Arc<Counter>), AllocError>
+    where
+        D: Drop,
+    {
+        let counter = Arc::new(alloc, Counter::new())?;
+        let device = Counted {
+            device,
+            counter: counter.clone()?,
+        };
+        Ok((device, counter))
     }
 }
 
-impl<'c, D: SectorDevice> SectorDevice for Counted<'c, D> {
+impl<D: SectorDevice> SectorDevice for Counted<D> {
     ghost keeps_model = { D.keeps_model };
 
     ghost size = { λ counted. D.size counted.device };

@@ -3,7 +3,7 @@
 use crate::THREADS;
 use crate::commits::{Load, commit_in_threads, make_pool, open};
 use crate::counted::{Calls, Counted, Counter};
-use crate::turns::{Turns, watch_turns};
+use crate::turns::{Turns, micros, watch_turns};
 use anyhow::{Context, Result, bail};
 use std::alloc::Global;
 use std::fs::File;
@@ -40,9 +40,9 @@ pub fn measure<R: Threads + Wait + Print + Files<File = File> + Clock + Sync>(
     if commits > MOST_COMMITS {
         bail!("at most {MOST_COMMITS} commits");
     }
-    let counter = Counter::new();
     let file = FileDevice::create(rt, path, SIZE)?;
-    let mut device = make_pool(rt, alloc, Counted::new(file, &counter))?;
+    let (device, counter) = Counted::new(alloc, file)?;
+    let mut device = make_pool(rt, alloc, device)?;
     println!(rt; "per commit: flushes, log blocks. A turn in microseconds: mean, longest")?;
     for threads in THREADS {
         let pool = open(alloc, device)?;
@@ -78,7 +78,7 @@ fn measure_load<D: SectorDevice + Send + Sync, R: Threads + Wait + Clock + Sync>
     Ok(Measured {
         load,
         calls: counter.calls().since(before),
-        micros: start.elapsed(rt)?.as_micros() as u64,
+        micros: micros(start.elapsed(rt)?),
         turns: turns?,
     })
 }

@@ -28,7 +28,7 @@ impl Turns {
 
     // One turn more.
     fn add(&mut self, turn: Duration) {
-        let micros = turn.as_micros() as u64;
+        let micros = micros(turn);
         self.count = self.count.saturating_add(1);
         self.total = self.total.saturating_add(micros);
         self.longest = self.longest.max(micros);
@@ -43,6 +43,11 @@ impl Turns {
     pub fn longest(&self) -> u64 {
         self.longest
     }
+}
+
+/// A time in microseconds.
+pub fn micros(time: Duration) -> u64 {
+    u64::try_from(time.as_micros()).unwrap_or(u64::MAX)
 }
 
 /// Asks for the length of an object again and again, until the flag is set.
