@@ -34,6 +34,7 @@ fn main(rt: HostRuntime) -> Result<()> {
 }
 
 /// Prints what the streams report.
+#[derive(Drop)]
 struct Receipts<'a, R: Print> {
     rt: &'a R,
 }

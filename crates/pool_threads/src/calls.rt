@@ -180,9 +180,7 @@ impl<'p, D: SectorDevice> Handle<'p, D> {
         ensures refused { IfErr result (λ e. Sees (IsRefusal (step.Commit tx ops) e)
             self.old self.new) }
     {
-        let committed = self.ask(rt, Commit { tx, ops });
-        self.owed.note(committed.is_ok());
-        committed
+        self.ask(rt, Commit { tx, ops })
     }
 
     /// Gives a transaction up: none of its operations takes place.

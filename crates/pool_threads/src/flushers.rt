@@ -1,10 +1,11 @@
-//! Where handles wait for one log flush that serves all of them (`zil_commit` of `zil.c`). No clause rests on the
-//! numbers here.
+//! Who writes and flushes the log for handles that wait at the same time (`zil_commit_waiter` in `zil.c`). No clause
+//! rests on it: a handle that waits makes the steps that are due, whoever leads.
 //!
 //! 1. One handle at a time leads: it writes what is pending and flushes. The others rest until its round ends, and then
 //!    look at their receipts again.
-//! 2. A leader gathers first: while other handles have commits that they haven't come to wait for, it rests, for at most
-//!    a short time. A flush costs far more than that rest, and serves all commits that come in it.
+//! 2. A leader gathers first: it rests until as many handles have come as came to the last round, for at most a short
+//!    time. If fewer come, the next leader expects half of the difference less. A flush costs far more than that rest,
+//!    and serves all commits that come in it.
 //! 3. Each leader retires, also if it was refused, so there is always a next one.
 
 use std::sync::Wait;
@@ -12,11 +13,10 @@ use std::sync::atomic::{AtomicU64, Ordering};
 use std::time::Duration;
 
 // The longest that a handle sleeps before it looks again whether a round has ended.
-const SHORT_TIME_IN_MICROSECONDS: u64 = 500;
+const SHORT_TIME_IN_MICROSECONDS: u64 = 20_000;
 
 // How often a leader looks for others, and how long it rests each time.
 const GATHER_COUNT: u32 = 10;
-
 const GATHER_TIME_IN_MICROSECONDS: u64 = 10;
 
 /// The handles of a pool that wait for their commits to be durable.
@@ -26,11 +26,14 @@ pub(crate) struct Flushers {
     leading: AtomicU64,
     // the rounds that have ended
     rounds: AtomicU64,
-    // the handles that wait, and those of them that sleep
-    waiting: AtomicU64,
+    // the handles that sleep until a round ends
     sleepers: AtomicU64,
-    // the handles that have committed since they last waited
-    owing: AtomicU64,
+    // how often a handle began to wait: now, when this round was gathered, and when the round before it was
+    entered: AtomicU64,
+    gathered: AtomicU64,
+    gathered_before: AtomicU64,
+    // how many handles the next leader waits for
+    expected: AtomicU64,
 }
 
 impl Flushers {
@@ -38,20 +41,17 @@ impl Flushers {
         Flushers {
             leading: AtomicU64::new(0),
             rounds: AtomicU64::new(0),
-            waiting: AtomicU64::new(0),
             sleepers: AtomicU64::new(0),
-            owing: AtomicU64::new(0),
+            entered: AtomicU64::new(0),
+            gathered: AtomicU64::new(0),
+            gathered_before: AtomicU64::new(0),
+            expected: AtomicU64::new(0),
         }
     }
 
     /// A handle begins to wait.
     pub(crate) fn enter(&self) {
-        self.waiting.fetch_add(1, Ordering::SeqCst);
-    }
-
-    /// A handle waits no longer.
-    pub(crate) fn leave(&self) {
-        self.waiting.fetch_sub(1, Ordering::SeqCst);
+        self.entered.fetch_add(1, Ordering::SeqCst);
     }
 
     /// How many rounds have ended.
@@ -64,19 +64,33 @@ impl Flushers {
         self.leading.swap(1, Ordering::SeqCst) == 0
     }
 
-    /// Rests for a short time, or until each handle that has committed waits.
+    /// Rests for a short time, or until as many handles have begun to wait as are expected.
     pub(crate) fn gather<W: Wait>(&self, rt: &W) {
         let short = Duration::from_micros(GATHER_TIME_IN_MICROSECONDS);
+        let before = self.gathered.load(Ordering::SeqCst);
+        let expected = self.expected.load(Ordering::SeqCst);
         for _ in 0..GATHER_COUNT {
-            if self.waiting.load(Ordering::SeqCst) >= self.owing.load(Ordering::SeqCst) {
-                return;
+            if self.came_since(before) >= expected {
+                break;
             }
             self.leading.park_timeout(rt, 1, short);
         }
+        let entered = self.entered.load(Ordering::SeqCst);
+        self.gathered.store(entered, Ordering::SeqCst);
+        self.gathered_before.store(before, Ordering::SeqCst);
+    }
+
+    // how many handles have begun to wait since there were so many
+    fn came_since(&self, before: u64) -> u64 {
+        self.entered.load(Ordering::SeqCst).wrapping_sub(before)
     }
 
     /// The leader's round ends, and those that sleep look again.
     pub(crate) fn retire(&self) {
+        let came = self.came_since(self.gathered_before.load(Ordering::SeqCst));
+        let expected = self.expected.load(Ordering::SeqCst);
+        self.expected
+            .store(came.max(came.midpoint(expected)), Ordering::SeqCst);
         self.leading.store(0, Ordering::SeqCst);
         self.rounds.fetch_add(1, Ordering::SeqCst);
         if self.sleepers.load(Ordering::SeqCst) != 0 {
@@ -91,44 +105,5 @@ impl Flushers {
         self.rounds
             .park_timeout(rt, (rounds % (1 << 32)) as u32, short);
         self.sleepers.fetch_sub(1, Ordering::SeqCst);
-    }
-}
-
-/// Whether a handle has committed since it last waited: then a leader expects it.
-pub(crate) struct Owed<'p> {
-    flushers: &'p Flushers,
-    noted: AtomicU64,
-}
-
-impl<'p> Owed<'p> {
-    pub(crate) fn new(flushers: &'p Flushers) -> Self {
-        Owed {
-            flushers,
-            noted: AtomicU64::new(0),
-        }
-    }
-
-    /// The handle has tried to commit.
-    pub(crate) fn note(&self, has_committed: bool) {
-        if has_committed && self.noted.swap(1, Ordering::SeqCst) == 0 {
-            self.flushers.owing.fetch_add(1, Ordering::SeqCst);
-        }
-    }
-
-    /// The handle has waited.
-    pub(crate) fn settle(&self) {
-        if self.noted.swap(0, Ordering::SeqCst) != 0 {
-            self.flushers.owing.fetch_sub(1, Ordering::SeqCst);
-        }
-    }
-}
-
-impl<'p> Drop for Owed<'p> {
-    fn drop(self) {
-        self.settle();
-        let Owed {
-            flushers: _,
-            noted: _,
-        } = self;
     }
 }

@@ -2,7 +2,6 @@
 ghost use Rattle.std.specs.Prelude.{◌≡◌};
 ghost use Rattle.word_lock.specs.Seats.{IsIdle, lock_table, seat_table};
 
-use crate::flushers::Owed;
 use crate::rule::PoolRule;
 use crate::shared::Shared;
 use device_model::SectorDevice;
@@ -20,7 +19,6 @@ use word_lock::Seat;
 pub struct Handle<'p, D: SectorDevice> {
     pub(crate) shared: &'p Shared<D>,
     pub(crate) seat: Seat<Box<PoolState<D>>, PoolRule<D>>,
-    pub(crate) owed: Owed<'p>,
     pub(crate) ghost own: { seat_table seat ≡ lock_table shared.now.lock },
     pub(crate) ghost idle: { IsIdle seat },
 }
@@ -44,8 +42,7 @@ impl<'p, D: SectorDevice> Handle<'p, D> {
     {
         let shared = self.shared;
         let seat = self.seat.split(&shared.lock);
-        let owed = Owed::new(&shared.flushers);
-        Handle { shared, seat, owed }
+        Handle { shared, seat }
     }
 
     /// For proofs: takes in what another handle of the same pool has seen, and takes over the turns that it had.
@@ -53,11 +50,7 @@ impl<'p, D: SectorDevice> Handle<'p, D> {
         requires { IsOfSamePool self.old other }
         ensures { HasJoined self.old other.entry self.new }
     {
-        let Handle {
-            shared: _,
-            seat,
-            owed: _,
-        } = other;
+        let Handle { shared: _, seat } = other;
         self.seat.join(&self.shared.lock, seat);
     }
 
@@ -66,11 +59,7 @@ impl<'p, D: SectorDevice> Handle<'p, D> {
     pub fn leave(self) -> LastSeen<D>
         ensures { IsLeftBehind self.entry result }
     {
-        let Handle {
-            shared: _,
-            seat,
-            owed: _,
-        } = self;
+        let Handle { shared: _, seat } = self;
         LastSeen { seat }
     }
 }

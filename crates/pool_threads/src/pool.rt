@@ -2,7 +2,6 @@
 ghost use Rattle.word_lock.specs.Seats.{IsSourceOf};
 
 use crate::first::{first_view, state_behind, view_behind};
-use crate::flushers::Owed;
 use crate::handle::{Handle, LastSeen};
 use crate::rule::{PoolRule, PoolView};
 use crate::shared::{Shared, boxed};
@@ -86,8 +85,7 @@ impl<D: SectorDevice> Pool<D> {
     {
         let shared = &self.shared;
         let seat = self.source.seat(&shared.lock);
-        let owed = Owed::new(&shared.flushers);
-        Handle { shared, seat, owed }
+        Handle { shared, seat }
     }
 
     /// Tells the loops of the pool to stop (`Handle::quiescer`, `Handle::syncer`). Each returns at its next turn. Other

@@ -2,7 +2,7 @@
 ghost use Rattle.std.specs.Prelude.{◌≡◌, IfErr, IfOk, IfSome, IsSome};
 
 use crate::bells::Bells;
-use crate::flushers::{Flushers, Owed};
+use crate::flushers::Flushers;
 use crate::handle::{Handle, LastSeen};
 use crate::rule::PoolRule;
 use crate::waiters::Waiters;
@@ -51,12 +51,7 @@ impl<D: SectorDevice> Shared<D> {
         ensures { IsBackIn self.entry.now last result }
     {
         let LastSeen { seat } = last;
-        let owed = Owed::new(&self.flushers);
-        Handle {
-            shared: self,
-            seat,
-            owed,
-        }
+        Handle { shared: self, seat }
     }
 
     /// The state, by steps from the first one.

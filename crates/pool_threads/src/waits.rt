@@ -49,10 +49,7 @@ impl<'p, D: SectorDevice> Handle<'p, D> {
             → last_number ≤ (state_seen self.new).shown.line.open_group) }
     {
         self.shared.flushers.enter();
-        let result = self.wait_until_durable(rt, receipt);
-        self.shared.flushers.leave();
-        self.owed.settle();
-        result
+        self.wait_until_durable(rt, receipt)
     }
 
     fn wait_until_durable<'a, 'b, W: Wait>(
@@ -125,10 +122,7 @@ impl<'p, D: SectorDevice> Handle<'p, D> {
     {
         let group = self.look_for_open_group(rt);
         match self.sync_up_to(rt, group) {
-            Ok(()) => {
-                self.owed.settle();
-                Ok(group)
-            }
+            Ok(()) => Ok(group),
             Err(error) => Err(error),
         }
     }

@@ -3,7 +3,7 @@ use Rattle.pool_threads.proofs.Answered.{sees_answer, sees_refusal}
 use Rattle.pool_threads.proofs.handle.Handle.commit.Goals as goal
 
 pub returns-clause-committed : goal.returns-clause-committed
-returns-clause-committed g c = sees_answer _ _ c.ask-committed.result c.ask-committed.ensures _ (λ r. commits_are_seen _ _ r)
+returns-clause-committed g c = sees_answer _ _ c.ask.result c.ask.ensures _ (λ r. commits_are_seen _ _ r)
 
 pub returns-clause-refused : goal.returns-clause-refused
-returns-clause-refused g c = sees_refusal _ _ c.ask-committed.result c.ask-committed.ensures
+returns-clause-refused g c = sees_refusal _ _ c.ask.result c.ask.ensures
