@@ -1,7 +1,8 @@
 //! When the loops of a pool look at it. No clause rests on it.
 //!
-//! 1. The sync of a group costs much the same whatever the group holds, so small groups cost most. A quiescer looks when
-//!    a `begin` is throttled, and else every 20 milliseconds (`txg_quiesce_thread` waits for a timeout or a full group).
+//! 1. The sync of a group costs much the same whatever the group holds, so small groups cost most. A quiescer looks
+//!    when a `begin` is throttled, and else every 20 milliseconds (`txg_quiesce_thread` waits for a timeout or a full
+//!    group).
 //! 2. The syncer looks when a group was quiesced, and again at once after each sync.
 //! 3. A loop that finds the pool taken does not ask to be woken: so no release has to wake it. It looks again soon.
 //! 4. A `begin` that is still throttled after a sync rings again by itself, so nothing rings after a sync.

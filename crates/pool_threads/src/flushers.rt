@@ -17,6 +17,7 @@ const SHORT_TIME_IN_MICROSECONDS: u64 = 20_000;
 
 // How often a leader looks for others, and how long it rests each time.
 const GATHER_COUNT: u32 = 10;
+
 const GATHER_TIME_IN_MICROSECONDS: u64 = 10;
 
 /// The handles of a pool that wait for their commits to be durable.

@@ -6,8 +6,8 @@
 //! [`Pool::close`] gives the state back.
 //!
 //! Transactions are charged until their group is synced. At the dirty limit `begin` and `transact` wait, so some thread
-//! has to sync: by `sync_pool`, or by the two loops `quiescer` and `syncer`, each in a thread of its own. As each step is
-//! made under the pool's lock, other threads wait for a write or a flush.
+//! has to sync: by `sync_pool`, or by the two loops `quiescer` and `syncer`, each in a thread of its own. As each step
+//! is made under the pool's lock, other threads wait for a write or a flush.
 //!
 //! [`LastSeen`], [`OwnedPool`], [`PoolRule`], [`PoolView`] and the two functions are for proofs.
 //!

@@ -11,12 +11,12 @@
 //! 3. **A [`Handle`]** makes the calls of a thread. `transact` commits operations whole, or returns why it refused
 //!    them. To read, lock the range first: nobody changes it until it is unlocked. An [`Owner`] is a number for who
 //!    holds locks and transactions; each thread takes one of its own.
-//! 4. **`transact_durably`** returns once no power failure loses the commit, and so does `fsync` of a receipt. Both write
-//!    the intent log and flush it; threads that wait at once share one flush. A commit that nobody waited for may be
+//! 4. **`transact_durably`** returns once no power failure loses the commit, and so does `fsync` of a receipt. Both
+//!    write the intent log and flush it; threads that wait at once share one flush. A commit that nobody waited for may be
 //!    lost, until its [`Group`] is synced.
-//! 5. **A sync** writes the objects of a group to their places. `sync_pool` syncs all that was committed before. A program
-//!    that writes for long has two threads for it: `quiescer` and `syncer` of a handle each run until `Pool::stop`. A
-//!    write or a flush is made under the pool's lock, so other threads wait for it.
+//! 5. **A sync** writes the objects of a group to their places. `sync_pool` syncs all that was committed before. A
+//!    program that writes for long has two threads for it: `quiescer` and `syncer` of a handle each run until
+//!    `Pool::stop`. A write or a flush is made under the pool's lock, so other threads wait for it.
 //! 6. **The dirty limit**, as [`DEFAULT_DIRTY_MAX`], is in bytes. Until its group is synced, a transaction is charged
 //!    4,096 bytes for each block that its sync may write: 2 blocks for a create or a remove, 4 for a new length. A
 //!    write is 3 blocks, and one more for each piece of 4,032 bytes that it touches. At the limit [`PoolState::begin`]
