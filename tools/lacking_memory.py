@@ -1,0 +1,160 @@
+#!/usr/bin/env python3
+"""Scripts in which each request for memory fails once, compared with the undisturbed run.
+
+    python3 tools/lacking_memory.py PROGRAM [WORD [JOBS]]
+
+PROGRAM is a built `ztxg`, which takes its memory by `malloc` of the C library. The scripts are those of
+`tools/rows/*.rows` whose file or title has the WORD (all if not given). `cc` compiles a `malloc` that refuses one
+request of a run. For each request of each script,
+
+- the answers are those of the undisturbed run up to a line, which is refused `1 NoMemory`. That line again and all later
+  lines then answer as undisturbed;
+- or they are the undisturbed ones: the request was for speed alone;
+- or the device in memory found no room for its own notes. Then the line is refused `3 Write` or `4 Flush`. After a crash
+  that keeps, loses or tears all unflushed writes, an import shows what is mounted if the run crashes before that line or
+  after it. A `create` that was refused so is made again, and all later lines then answer as undisturbed;
+- or the program ends with status 3 before its next line, for a request of what reads the script, or with status 2
+  before the first line, for a request of what reads the command line.
+
+The first difference is printed, with status 1. The end prints how many requests there were of each kind. JOBS (1)
+processes share the scripts.
+"""
+
+import collections
+import multiprocessing
+import os
+import pathlib
+import re
+import subprocess
+import sys
+import tempfile
+
+sys.dont_write_bytecode = True
+
+from script_row import read_rows  # noqa: E402
+
+ROWS = pathlib.Path(__file__).parent / "rows"
+
+# It counts in a shared page of COUNT_FILE, since the program ends without destructors.
+SHIM = r"""
+#define _GNU_SOURCE
+#include <dlfcn.h>
+#include <fcntl.h>
+#include <stdlib.h>
+#include <sys/mman.h>
+static long own, *count, at;
+static int lacks(void) {
+    if (!count) {
+        const char *word = getenv("FAIL_AT"), *path = getenv("COUNT_FILE");
+        int file = path ? open(path, O_RDWR) : -1;
+        void *page = file < 0 ? MAP_FAILED : mmap(NULL, sizeof(long), PROT_READ | PROT_WRITE, MAP_SHARED, file, 0);
+        count = page == MAP_FAILED ? &own : page;
+        at = word ? atol(word) : 0;
+    }
+    return ++*count == at;
+}
+void *malloc(size_t size) {
+    static void *(*next)(size_t);
+    if (!next) next = dlsym(RTLD_NEXT, "malloc");
+    return lacks() ? NULL : next(size);
+}
+void *realloc(void *old, size_t size) {
+    static void *(*next)(void *, size_t);
+    if (!next) next = dlsym(RTLD_NEXT, "realloc");
+    return lacks() ? NULL : next(old, size);
+}
+"""
+
+Ran = collections.namedtuple("Ran", "answers status")
+
+
+class Script:
+    def __init__(self, program, shim, row):
+        self.program, self.shim, self.head = program, shim, row.head
+        _, self.size, self.moment, _ = row.head.split(" ", 3)
+        # Lines that print nothing would move the answers away from their lines.
+        self.lines = [line for line, answer in row.lines if answer is not None]
+
+    def run(self, lines, fail_at=0, count_file=None):
+        names = {"LD_PRELOAD": self.shim, "FAIL_AT": str(fail_at)}
+        if count_file:
+            names["COUNT_FILE"] = count_file
+        command = [self.program, "script", self.size, "-", "--moment", self.moment]
+        done = subprocess.run(command, input=b"".join(line + b"\n" for line in lines), stdout=subprocess.PIPE,
+                              stderr=subprocess.DEVNULL, env={**os.environ, **names}, timeout=600)
+        return Ran(done.stdout.decode().splitlines(), done.returncode)
+
+    def mounts(self, lines, fail_at=0):
+        """The digests that imports show after these lines and a crash."""
+        found = set()
+        crashed = self.run([*lines, b"crash"], fail_at).answers[-1]
+        count = int(re.fullmatch(r"crashed (\d+)", crashed)[1])
+        for letter in b"klt":
+            crash = b"crash " + bytes([letter]) * count if count else b"crash"
+            found.add(tuple(self.run([*lines, crash, b"import 1048576", b"digest"], fail_at).answers[-1:]))
+        return found
+
+    def check(self, at, calm):
+        """How the run ends if this request fails."""
+        ran = self.run(self.lines, at)
+        if ran == calm:
+            return "for speed alone"
+        line = next((i for i, both in enumerate(zip(ran.answers, calm.answers)) if both[0] != both[1]), len(ran.answers))
+        if line == len(ran.answers):
+            if ran.status == 2 and line == 0:
+                return "of the command line"
+            return "of the script's reader" if ran.status == 3 else f"WRONG status {ran.status} after line {line}"
+        answer = ran.answers[line]
+        is_device = answer in ("refused 3 Write", "refused 4 Flush")
+        if answer == "refused 1 NoMemory" or is_device and self.lines[line].startswith(b"create"):
+            again = self.run([*self.lines[:line + 1], *self.lines[line:]], at)
+            wanted = Ran([*calm.answers[:line], answer, *calm.answers[line:]], calm.status)
+            kind = "of the device's notes, at a create" if is_device else "refused 1, then undisturbed"
+            return kind if again == wanted else f"WRONG answers after line {line}: {again}"
+        if is_device:
+            allowed = self.mounts(self.lines[:line]) | self.mounts(self.lines[:line + 1])
+            found = self.mounts(self.lines[:line + 1], at)
+            return "of the device's notes" if found <= allowed else f"WRONG mount after line {line}: {found - allowed}"
+        return f"WRONG answer {answer!r} to {self.lines[line]!r}"
+
+    def check_all(self):
+        kinds = collections.Counter()
+        with tempfile.NamedTemporaryFile() as file:
+            file.truncate(8)
+            calm = self.run(self.lines, 0, file.name)
+            count = int.from_bytes(file.read(8), sys.byteorder)
+        for at in range(1, count + 1):
+            kind = self.check(at, calm)
+            if kind.startswith("WRONG"):
+                return kinds, f"{self.head}: request {at}: {kind}"
+            kinds[kind] += 1
+        return kinds, None
+
+
+def check_script(words):
+    return Script(*words).check_all()
+
+
+def main():
+    program = os.path.abspath(sys.argv[1])
+    word = sys.argv[2] if len(sys.argv) > 2 else ""
+    jobs = int(sys.argv[3]) if len(sys.argv) > 3 else 1
+    with tempfile.TemporaryDirectory() as folder:
+        source, shim = os.path.join(folder, "heap.c"), os.path.join(folder, "heap.so")
+        pathlib.Path(source).write_text(SHIM)
+        subprocess.run(["cc", "-O2", "-shared", "-fPIC", source, "-o", shim, "-ldl"], check=True)
+        rows = [row for path in sorted(ROWS.glob("*.rows")) for row in read_rows(path)
+                if word in path.name or word in row.head]
+        total = collections.Counter()
+        with multiprocessing.Pool(jobs) as pool:
+            for kinds, wrong in pool.imap(check_script, [(program, shim, row) for row in rows]):
+                total += kinds
+                if wrong:
+                    sys.exit(wrong)
+    print(f"{len(rows)} scripts, {sum(total.values())} requests for memory")
+    for kind, count in sorted(total.items()):
+        print(f"{count:8} {kind}")
+
+
+if __name__ == "__main__":
+    main()
