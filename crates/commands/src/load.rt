@@ -3,8 +3,7 @@
 //! Nothing is written to the output before all of it has gone well. On a terminal standard error shows how much is
 //! done.
 
-ghost use Rattle.std.specs.Prelude.{◌≡◌, ◌≢◌, ◌≤◌, Err, IfOk, IsErr, false};
-ghost use Rattle.loads.specs.Orders.{is_order};
+ghost use Rattle.std.specs.Prelude.{◌≡◌, ◌≢◌, ◌≤◌, Err, IsErr};
 
 use crate::arguments::LoadArguments;
 use crate::failure::{Failure, report_failure};
@@ -45,7 +44,6 @@ pub fn run_load<
     errors: &mut E,
 ) -> u8
     ensures unusable { IsErr opened → result ≡ 3 }
-    ensures order { IfOk opened (λ _. is_order arguments.entry.order ≡ false → result ≡ 1) }
     ensures range { result ≤ 3 }
     ensures no_usage { result ≢ 2 }
 {
