@@ -8,7 +8,7 @@ PROGRAM is a built `ztxg`, which takes its memory by `malloc` of the C library. 
 request of a run. For each request of each script,
 
 - the answers are those of the undisturbed run up to a line, which is refused `1 NoMemory`. That line again and all later
-  lines then answer as undisturbed;
+  lines then answer as undisturbed. In place of a `sync` a `start` and a `finish` do, since its group is closed by then;
 - or they are the undisturbed ones: the request was for speed alone;
 - or the device in memory found no room for its own notes. Then the line is refused `3 Write` or `4 Flush`. After a crash
   that keeps, loses or tears all unflushed writes, an import shows what is mounted if the run crashes before that line or
@@ -107,8 +107,12 @@ class Script:
         answer = ran.answers[line]
         is_device = answer in ("refused 3 Write", "refused 4 Flush")
         if answer == "refused 1 NoMemory" or is_device and self.lines[line].startswith(b"create"):
-            again = self.run([*self.lines[:line + 1], *self.lines[line:]], at)
-            wanted = Ran([*calm.answers[:line], answer, *calm.answers[line:]], calm.status)
+            repeated, answers = [self.lines[line]], [calm.answers[line]]
+            if self.lines[line] == b"sync":
+                # Its start is refused, after its group was closed.
+                repeated, answers = [b"start", b"finish"], [answers[0].replace("synced", "syncing"), *answers]
+            again = self.run([*self.lines[:line + 1], *repeated, *self.lines[line + 1:]], at)
+            wanted = Ran([*calm.answers[:line], answer, *answers, *calm.answers[line + 1:]], calm.status)
             kind = "of the device's notes, at a create" if is_device else "refused 1, then undisturbed"
             return kind if again == wanted else f"WRONG answers after line {line}: {again}"
         if is_device:
