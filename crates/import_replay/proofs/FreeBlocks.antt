@@ -250,9 +250,6 @@ unused-from_taken t chain blocks all left directories maps count whole taken = r
         let was : is_free k all ≡ true = (whole (block_address k)).1 (k, low, refl) in
         taken.each k (omega (arith, low, count)) ∙ ap (λ (b : Bool). b && not (uses_block k t chain)) was
 
-block_below : (i k : ℕ) → block_address i < block_address k → i < k
-block_below i k e = omega arith
-
 -- the blocks that no place names, without one of them
 pub others_free : (pointers : Place → Pointer) (blocks : ℕ) (s : FreeSpace) (b : ℕ) → AreUnused pointers [] blocks s.free → AreAllOthers pointers blocks (block_address b) (after_take b s).free
 others_free pointers blocks s b were = record {

@@ -30,9 +30,6 @@ due_seen d p v x = ap (λ (a : State). due_step d a.shown) (sym x.state)
 pub due_then : {Dev : Type 0} {G : Ghosts Dev} (d : Duty) (p : PoolState Dev G) (v : SeenPool) (o : Option declared_step.Step) (s : declared_step.Step) → Explains p v → o ≡ due_step d (shown p) → o ≡ Some s → due_of d v ≡ Some s
 due_then d p v o s x found is = sym (due_seen d p v x) ∙ sym found ∙ is
 
-pub none_due : {Dev : Type 0} {G : Ghosts Dev} (keeps : Type 0) (d : Duty) (p : PoolState Dev G) (v : SeenPool) (o : Option declared_step.Step) → Explains p v → o ≡ due_step d (shown p) → o ≡ None → MakesDue keeps d None v v
-none_due keeps d p v o x found is = (sym (due_seen d p v x) ∙ sym found ∙ is, refl)
-
 module _ (keeps : Type 0) (d : Duty) where
   -- steps that were due lead on
   grows_by_all : (rs : List declared_reply.Reply) (v w : SeenPool) → AreDue keeps d rs v w → GrowsTo keeps v w

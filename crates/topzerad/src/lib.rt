@@ -12,8 +12,8 @@
 //!    them. To read, lock the range first: nobody changes it until it is unlocked. An [`Owner`] is a number for who
 //!    holds locks and transactions; each thread takes one of its own.
 //! 4. **`transact_durably`** returns once no power failure loses the commit, and so does `fsync` of a receipt. Both
-//!    write the intent log and flush it; threads that wait at once share one flush. A commit that nobody waited for may be
-//!    lost, until its [`Group`] is synced.
+//!    write the intent log and flush it; threads that wait at once share one flush. A commit that nobody waited for
+//!    may be lost, until its [`Group`] is synced.
 //! 5. **A sync** writes the objects of a group to their places. `sync_pool` syncs all that was committed before. A
 //!    program that writes for long has two threads for it: `quiescer` and `syncer` of a handle each run until
 //!    `Pool::stop`. A write or a flush is made under the pool's lock, so other threads wait for it.

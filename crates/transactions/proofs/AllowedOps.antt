@@ -14,11 +14,6 @@ pub all_bytes : (bytes : List ℕ) → ((i : ℕ) → get_or bytes i 0 < 256) �
 all_bytes [] h = refl
 all_bytes (b ∷ bytes) h = rw (lt-ltb b 256 (h 0), all_bytes bytes (λ i. h (suc i))) refl
 
--- a name has the length of one
-pub name_has_length : (a b c : Bool) → (a && (a && b && c)) ≡ (a && b && c)
-name_has_length true b c = refl
-name_has_length false b c = refl
-
 four : (a b c d : Bool) → (a && b && (c && d)) ≡ (a && c && (b && d))
 four true true c d = refl
 four true false true d = refl

@@ -2,8 +2,8 @@
 -- runs leave a client what it may expect.
 use Rattle.std.proofs.Common.{◌≡◌, inl, inr, ⊎_elim, true, ℕ, zero, suc, ◌≤◌, List, [], ◌∷◌, length, map, take, refl, sym, ◌∙◌, ap, subst, arith, ◌⊎◌}
 use Rattle.base.specs.history.Contents.{Contents}
-use Rattle.base.specs.disk.Disk.{Write, Disk, Moment, moments, MayLeave, HandedSince, bytes_of, handed, disk_size, settled, certain, certain_with}
-use Rattle.base.specs.disk.Fairness.{IsFair, IsFairOn, LeavesFair, LeavesFairNow, passes_check}
+use Rattle.base.specs.disk.Disk.{Write, Disk, Moment, moments, MayLeave, bytes_of, handed, disk_size, settled, certain, certain_with}
+use Rattle.base.specs.disk.Fairness.{IsFair, IsFairOn, LeavesFair, passes_check}
 use Rattle.base.specs.crash.Mount.{MountsTo, IsFound}
 use Rattle.base.specs.crash.Views.{View, Logged, IsFoundAs}
 use Rattle.base.specs.crash.Own.{IsAtRest, IsPhase, IsOwnImage, IsOwnWith}
@@ -112,12 +112,6 @@ clients_find_cuts created guid first (past ∷ pasts) before after own (same, (e
     let own_next = subst (λ (t : ℕ). IsOwnWith (certain image ended) t guid left_by.0) same (own_certain ended past.created guid left_by.0 image run_left.began round.left round.fair left_by.2) in
     let r = clients_find_cuts created guid left_by.0 pasts (certain image ended) after own_next (later left_by.0 own_next) in
     (r.0, (round.base, (left_by.0, left_by.1, r.1)), r.2)
-
--- a moment of the create that is later than each write that counts is none: a place that is sealed now was handed by no
--- write since
-pub no_late_create : (disk : Disk) (created place n : ℕ) (P : List ℕ → Type 0) → LeavesFairNow disk created P → passes_check (disk_size disk) place n (part (bytes_of disk.now) place n) ≡ true
-    → ((p : ℕ) (content : List ℕ) → HandedSince created (handed disk.now) p content → ⊥) → ⊥
-no_late_create disk created place n P left sealed none = none place (part (bytes_of disk.now) place n) (left.bytes.fair place n sealed)
 
 -- a crash and a good flush lead from each phase to rest, on the one view or on the other
 pub phase_certain : (size t f g : ℕ) (m : Moment) (image : List ℕ) → MayLeave m image → (old new : View) → IsPhase size t f g m old new → IsAtRest size t f (settled image m) old ⊎ IsAtRest size t g (settled image m) new

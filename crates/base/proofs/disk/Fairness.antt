@@ -58,10 +58,6 @@ fair_settled passes t image m fair place n ok =
     (λ right. handed_right t (filter (holds image) m.unflushed) m.kept place (part image place n) right)
     (handed_cases t m.unflushed m.kept place (part image place n) (fair place n ok))
 
--- and one that was made certain was fair before
-pub fair_before : (passes : ℕ → ℕ → List ℕ → Bool) (t : ℕ) (image other : List ℕ) (m : Moment) → IsFair passes t (handed (settled image m)) other → IsFair passes t (handed m) other
-fair_before passes t image other m fair place n ok = handed_settled t image m place (part other place n) (fair place n ok)
-
 -- an allowed write, and a flush, hand nothing else
 pub hands_wrote : (t since place : ℕ) (content : List ℕ) (done : Bool) (Allowed : ℕ → List ℕ → Type 0) (base : List Write) (m : Moment) → Allowed place content → HandsOnly since Allowed base m → HandsOnly since Allowed base (wrote t place content done m)
 hands_wrote t since place content done Allowed base m allowed so_far p c (inl here) = inl (subst (λ (l : List ℕ). Allowed p l) here.2 (subst (λ (q : ℕ). Allowed q content) here.1 allowed))

@@ -1,13 +1,12 @@
 -- How a run of calls goes on, and what a crash leaves after each of them.
-use Rattle.std.proofs.Common.{◌≡◌, ◌⊎◌, inl, inr, ⊎_elim, ℕ, ◌+◌, ◌<◌, ◌≤◌, Bool, true, false, List, [], ◌∷◌, ◌++◌, length, get_or, Result, Ok, Err, refl, sym, ◌∙◌, ap, subst, arith, append_assoc, length-append}
+use Rattle.std.proofs.Common.{◌≡◌, inl, inr, ℕ, ◌+◌, ◌<◌, ◌≤◌, Bool, true, false, List, [], ◌∷◌, ◌++◌, length, get_or, Result, Ok, Err, refl, sym, ◌∙◌, ap, subst, arith, append_assoc, length-append}
 use Rattle.std.specs.List.{AllByRecursion}
 use Rattle.std.proofs.lemmas.List.{ext_get_or, append_cancel_right}
-use Rattle.std.proofs.lemmas.Bool.{cases_lt}
 use Rattle.base.specs.declared.error.PoolError.{PoolError}
 use Rattle.base.specs.formats.Fields.{part}
-use Rattle.base.specs.disk.Disk.{Write, Moment, Disk, moments, bytes_of, IsTouched, MayLeave, wrote, settled, next, certain, certain_with, EachMoment, CrashLeaves, LeavesOnly, SomeSince, LeftSince}
+use Rattle.base.specs.disk.Disk.{Write, Moment, Disk, moments, bytes_of, IsTouched, MayLeave, wrote, settled, next, certain, certain_with, EachMoment, CrashLeaves, LeavesOnly}
 use Rattle.base.specs.disk.Calls.{Writes, Flushes}
-use Rattle.base.proofs.disk.Put.{length-put, get_or-put_other, part_same}
+use Rattle.base.proofs.disk.Put.{part_same}
 
 -- before the first call
 pub starts : (P : Moment → Type 0) (disk : Disk) → P disk.now → EachMoment P disk disk
@@ -60,21 +59,6 @@ pub moments_grow : (P : Moment → Type 0) (old new : Disk) → EachMoment P old
 moments_grow P old new run =
     let long = ap (λ (l : List Moment). length l) run.joined ∙ length-append run.later (old.now ∷ old.past) in omega (arith, long)
 
--- what a write adds to what a crash may leave
-pub may_leave_wrote : (t place : ℕ) (content : List ℕ) (done : Bool) (m : Moment) (image : List ℕ) → place + length content ≤ length (bytes_of m) → MayLeave (wrote t place content done m) image
-    → (length image ≡ length (bytes_of m)) × ((i : ℕ) → ((place ≤ i) × (i < place + length content) → ⊥) → (IsTouched m.unflushed i → ⊥) → get_or image i 0 ≡ get_or (bytes_of m) i 0)
-may_leave_wrote t place content true m image fits left = (
-  left.size ∙ length-put place content (bytes_of m) fits,
-  λ i out untouched. left.others i (λ touched. ⊎_elim out untouched touched) ∙ get_or-put_other place content (bytes_of m) i fits (side i out),
-)
-  where
-    side : (i : ℕ) → ((place ≤ i) × (i < place + length content) → ⊥) → (i < place) ⊎ (place + length content ≤ i)
-    side i out = elim (cases_lt i place) [
-      | inl before ↦ inl before
-      | inr from ↦ elim (cases_lt i (place + length content)) [ inl to ↦ absurd (out (from, to)) | inr behind ↦ inr behind ]
-    ]
-may_leave_wrote t place content false m image fits left = (left.size, λ i out untouched. left.others i (λ touched. ⊎_elim out untouched touched))
-
 -- a part that no unflushed write touches stands in each image
 pub part_stands : (m : Moment) (image : List ℕ) (place n : ℕ) → MayLeave m image → ((i : ℕ) → place ≤ i → i < place + n → IsTouched m.unflushed i → ⊥) → part image place n ≡ part (bytes_of m) place n
 part_stands m image place n left apart = part_same image (bytes_of m) place n left.size (λ i from to. left.others i (apart i from to))
@@ -113,23 +97,6 @@ pub leaves_write : (P : List ℕ → Type 0) (old disk new : Disk) (place : ℕ)
 leaves_write P old disk new place content (Ok x) so_far writes here = subst (λ (d : Disk). LeavesOnly old d P) (sym writes) (goes_on (CrashLeaves P) old disk (wrote (moments disk) place content true disk.now) so_far (here true))
 leaves_write P old disk new place content (Err e) so_far (inl counted) here = subst (λ (d : Disk). LeavesOnly old d P) (sym counted) (goes_on (CrashLeaves P) old disk (wrote (moments disk) place content false disk.now) so_far (here false))
 leaves_write P old disk new place content (Err e) so_far (inr same) here = subst (λ (d : Disk). LeavesOnly old d P) (sym same) so_far
-
-none_since : (Q : Moment → Type 0) (ms : List Moment) (t : ℕ) → length ms ≤ t → SomeSince ms t Q → ⊥
-none_since Q [] t short some = some
-none_since Q (m ∷ ms) t short (inl here) = absurd (omega (arith, here.0, short))
-none_since Q (m ∷ ms) t short (inr there) = none_since Q ms t (omega (arith, short)) there
-
-left_in_run : (P : List ℕ → Type 0) (old : Disk) (image : List ℕ) (later : List Moment) → AllByRecursion (CrashLeaves P) later → CrashLeaves P old.now → SomeSince (later ++ old.now ∷ old.past) (moments old) (λ m. MayLeave m image) → P image
-left_in_run P old image [] each first (inl here) = first image here.1
-left_in_run P old image [] each first (inr before) = absurd (none_since (λ m. MayLeave m image) old.past (moments old) (omega arith) before)
-left_in_run P old image (m ∷ ms) each first (inl here) = each.0 image here.1
-left_in_run P old image (m ∷ ms) each first (inr there) = left_in_run P old image ms each.1 first there
-
--- a crash since the first moment leaves only what has P
-pub left_since : (P : List ℕ → Type 0) (old new : Disk) (image : List ℕ) → LeavesOnly old new P → LeftSince new (moments old) image → P image
-left_since P old new image run (inl now) = latest (CrashLeaves P) old new run image now
-left_since P old new image run (inr past) =
-    left_in_run P old image run.later run.each run.first (subst (λ (ms : List Moment). SomeSince ms (moments old) (λ m. MayLeave m image)) run.joined (inr past))
 
 -- What each write and each flush keeps, each moment of a run keeps.
 module _ (P : Moment → Type 0) where
