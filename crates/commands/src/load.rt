@@ -9,7 +9,7 @@ use crate::arguments::LoadArguments;
 use crate::failure::{Failure, report_failure};
 use base::{PoolError, Reply};
 use device_model::{FileRefusal, SectorDevice};
-use loads::{Gate, Loaded, Order, load};
+use loads::{Gate, Loaded, Order, STREAMS, WRITES_BETWEEN_WAITS, load};
 use pool_threads::Pool;
 use scripts::Answer;
 use std::alloc::Global;
@@ -17,12 +17,6 @@ use std::io::{self, Eprint, Write};
 use std::sync::Wait;
 use std::sync::atomic::{AtomicU64, Ordering};
 use std::thread::Threads;
-
-/// A stream of a load reports its writes in groups of this many.
-const REPORTED_AT_ONCE: u64 = 8;
-
-/// The streams of a load.
-const STREAMS: u64 = 16;
 
 /// Opens the pool on a device, makes the writes of a load on it, writes their number and the digest to `out`, and
 /// returns the exit status.
@@ -92,7 +86,7 @@ fn write_loaded<W: Write>(loaded: &Loaded, out: &mut W) -> io::Result<()> {
 struct Progress<'a, R: Eprint> {
     rt: &'a R,
     is_shown: bool,
-    // the groups of writes of which streams report, and those that were reported
+    // the waits of all streams, and those that ended
     total: u64,
     reported: AtomicU64,
 }
@@ -102,7 +96,7 @@ impl<'a, R: Eprint> Progress<'a, R> {
         Progress {
             rt,
             is_shown,
-            total: STREAMS * (u64::from(order.writes) / REPORTED_AT_ONCE),
+            total: u64::from(STREAMS) * u64::from(order.writes / WRITES_BETWEEN_WAITS),
             reported: AtomicU64::new(0),
         }
     }

@@ -26,5 +26,5 @@ mod workers;
 mod writer;
 
 pub use gate::Gate;
-pub use order::{Loaded, MAX_WORKERS, MAX_WRITES, Order};
+pub use order::{Loaded, MAX_WORKERS, MAX_WRITES, Order, STREAMS, WRITES_BETWEEN_WAITS};
 pub use workers::load;

@@ -4,13 +4,16 @@ ghost use Rattle.std.specs.Prelude.{◌≡◌, ◌+◌, ◌*◌, true};
 ghost use Rattle.loads.specs.Orders.{committed_by, is_order};
 
 /// The streams of a load. Each has an owner of its number.
-pub(crate) const STREAMS: u32 = 16;
+pub const STREAMS: u32 = 16;
 
 /// The most workers of a load: one for each stream.
 pub const MAX_WORKERS: u32 = STREAMS;
 
 /// The most writes of a stream.
 pub const MAX_WRITES: u32 = 1_000_000;
+
+/// After so many writes a stream waits until they are durable, and reads.
+pub const WRITES_BETWEEN_WAITS: u32 = 8;
 
 /// What a load does.
 #[derive(Clone, Copy, Debug, PartialEq, Eq)]

@@ -6,7 +6,7 @@ ghost use Rattle.std.specs.Prelude.{◌≡◌, IfErr};
 
 use crate::gate::Gate;
 use crate::halt::Halt;
-use crate::order::{Order, STREAMS};
+use crate::order::{Order, STREAMS, WRITES_BETWEEN_WAITS};
 use crate::words::{PART, SHARED, Word, Words};
 use base::{
     Bytes, Group, Mode, ObjectId, ObjectRange, Op, Ops, Owner, Plan, PoolError, Range, Receipt,
@@ -16,9 +16,6 @@ use device_model::SectorDevice;
 use pool_threads::{Handle, Pool};
 use std::alloc::Global;
 use std::sync::Wait;
-
-/// After so many writes a stream waits until they are durable, and reads.
-const WRITES_BETWEEN_FSYNCS: u32 = 8;
 
 /// How often a write that finds no space syncs the pool and begins again.
 const SYNCS_FOR_SPACE: u32 = 8;
@@ -80,7 +77,7 @@ impl<'a, 'p, D: SectorDevice, W: Wait> Writer<'a, 'p, D, W> {
                 break;
             }
             let receipt = self.write(words.draw())?;
-            if number % WRITES_BETWEEN_FSYNCS == WRITES_BETWEEN_FSYNCS - 1 {
+            if number % WRITES_BETWEEN_WAITS == WRITES_BETWEEN_WAITS - 1 {
                 self.handle.fsync(self.rt, receipt)?;
                 gate.acknowledged(stream, number + 1);
                 self.read_shared()?;
