@@ -98,7 +98,7 @@ class Device:
 
 def new_pool(ztxg, file):
     pathlib.Path(file).unlink(missing_ok=True)
-    done = run([ztxg, "create", file, str(SIZE), "tank", "77"])
+    done = run([ztxg, "create", file, "tank", "77", str(SIZE)])
     if done.returncode != 0:
         sys.exit(f"no pool was made: {done}")
 
