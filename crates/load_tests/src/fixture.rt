@@ -20,12 +20,26 @@ impl Gate for Open {
     fn at(&self, _stream: u32) {}
 }
 
-/// A new pool of 6 MiB, with 384 blocks.
-pub fn opened(alloc: Global, dirty_max: u64) -> Result<Pool<MemDevice>, PoolError> {
+/// A device with a new pool of 6 MiB, with 384 blocks.
+pub fn new_device(alloc: Global) -> Result<MemDevice, PoolError> {
     let device = MemDevice::new(alloc, 12_288)?;
     let device = create(device, b"tank", 77, 0)?;
+    Ok(device)
+}
+
+/// The pool on a device.
+pub fn mounted(
+    alloc: Global,
+    device: MemDevice,
+    dirty_max: u64,
+) -> Result<Pool<MemDevice>, PoolError> {
     let pool = Pool::open(alloc, device, dirty_max, 0)?;
     Ok(pool)
+}
+
+/// The pool on a new device.
+pub fn opened(alloc: Global, dirty_max: u64) -> Result<Pool<MemDevice>, PoolError> {
+    mounted(alloc, new_device(alloc)?, dirty_max)
 }
 
 /// So many workers and writes, drawn from the seed 5.

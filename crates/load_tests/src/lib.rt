@@ -5,6 +5,12 @@
 #[cfg(test)]
 mod fixture;
 #[cfg(test)]
+mod load_command;
+#[cfg(test)]
 mod refused_loads;
 #[cfg(test)]
+mod refused_loops;
+#[cfg(test)]
 mod threads;
+#[cfg(test)]
+mod what_is_left;

@@ -42,6 +42,7 @@ fn two_workers(rt: HostRuntime) -> Result<(), Fail> {
     };
     let loaded = load(&rt, rt.alloc(), &pool, order(2, 8), &gate)?;
     assert_eq!(rt; loaded.committed, 145);
+    assert!(rt; gate.is_second_there.load(Ordering::SeqCst));
     assert!(rt; !gate.is_missed.load(Ordering::SeqCst));
     Ok(())
 }
