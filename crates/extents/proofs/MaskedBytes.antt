@@ -1,14 +1,14 @@
 -- A byte laid over another by its mark.
-use Rattle.std.proofs.Common.{◌≡◌, ℕ, ◌<◌, ◌≤◌, ◌+◌, ◌-◌, ◌==◌, true, refl, ap, ◌∙◌, arith, ◌⊎◌, inl, inr, bit_and, bit_or, List, ◌++◌, length, get_or, take, drop, replicate, Some}
-use Rattle.std.specs.Prelude.{All}
+use Rattle.std.proofs.Common.{◌≡◌, ℕ, zero, suc, cond, [], ◌∷◌, ◌&&◌, ◌<◌, ◌≤◌, ◌+◌, ◌-◌, ◌==◌, true, refl, ap, ◌∙◌, arith, ◌⊎◌, inl, inr, bit_and, bit_or, List, ◌++◌, length, get_or, take, drop, replicate, Some}
+use Rattle.std.specs.Prelude.{All, nat_le, nat_lt}
 use Rattle.std.proofs.lemmas.Bool.{or_cases, eqb-true, cases_lt, lt-leb, le-leb, lt-ltb, le-ltb}
-use Rattle.std.proofs.lemmas.List.{get_or-append_right, get_or_append_left, length-take-le, length-replicate, get_or-replicate, get_or_past}
+use Rattle.std.proofs.lemmas.List.{get_or-append_right, get_or_append_left, length-append, length-take-le, length-replicate, get_or-replicate, get_or_past}
 use Rattle.std.proofs.lemmas.List.Elements.{All-append, All-take, All-drop, All-replicate}
 use Rattle.base.specs.disk.Disk.{put}
 use Rattle.base.proofs.disk.Put.{get_or-put_other, length-put}
 use Rattle.std.specs.Int.Bits.{and_zero_r, or_zero_l, or_zero_r}
 use Rattle.std.proofs.lemmas.Grind.{and_numeral}
-use Rattle.extents.specs.Marks.{is_mark, laid_byte, byte_in, marked_byte}
+use Rattle.extents.specs.Marks.{is_mark, laid_byte, byte_in, marked_byte, with_zeros}
 use Rattle.extents.specs.Patches.{written_after, written_below}
 
 pub masked_byte : (mark byte below : ℕ) → is_mark mark ≡ true → byte < 256 → below < 256
@@ -83,3 +83,36 @@ cleared_bytes offset bytes mask fits k = go (cases_lt k offset) (cases_lt k (len
     go (inr from) (inl within) =
         none (get_or-put_in offset zeros mask k all from (rw long (omega arith)) ∙ get_or-replicate (length mask - offset) (k - offset) 0 0 (omega arith)) from
     go (inr from) (inr past) = none (get_or_past (put offset zeros mask) k 0 (rw (length-put offset zeros mask all) past)) from
+
+-- zeros that are laid out change no byte, and no mark
+get_or-zeros : (n k : ℕ) → ◌≡◌ {A = ℕ} (get_or (replicate n 0) k 0) 0
+get_or-zeros zero k = refl
+get_or-zeros (suc n) zero = refl
+get_or-zeros (suc n) (suc k) = get_or-zeros n k
+
+get_or-append_zeros : (xs : List ℕ) (n k : ℕ) → get_or (xs ++ replicate n 0) k 0 ≡ get_or xs k 0
+get_or-append_zeros [] n k = get_or-zeros n k
+get_or-append_zeros (x ∷ xs) n zero = refl
+get_or-append_zeros (x ∷ xs) n (suc k) = get_or-append_zeros xs n k
+
+pub byte_in-with_zeros : (size : ℕ) (bytes mask : List ℕ) (k : ℕ) → byte_in (with_zeros size bytes) (with_zeros size mask) k ≡ byte_in bytes mask k
+byte_in-with_zeros size bytes mask k =
+    ap (λ b. marked_byte (get_or (with_zeros size mask) k 0) b) (get_or-append_zeros bytes (size - length bytes) k)
+    ∙ ap (λ m. marked_byte m (get_or bytes k 0)) (get_or-append_zeros mask (size - length mask) k)
+
+pub zeros_are_marks : (size : ℕ) (mask : List ℕ) → All (λ m. is_mark m ≡ true) mask → All (λ m. is_mark m ≡ true) (with_zeros size mask)
+zeros_are_marks size mask all = All-append (λ m. is_mark m ≡ true) mask (replicate (size - length mask) 0) all (All-replicate (λ m. is_mark m ≡ true) (size - length mask) 0 refl)
+
+-- bytes that are written after zeros were laid out
+pub written_after_zeros : (offset : ℕ) (content bytes mask : List ℕ) → (k : ℕ)
+    → byte_in (put offset content (with_zeros (offset + length content) bytes)) (put offset (replicate (length content) 255) (with_zeros (offset + length content) mask)) k
+    ≡ written_after offset content (byte_in bytes mask) k
+written_after_zeros offset content bytes mask k =
+    written_bytes offset content (with_zeros end bytes) (with_zeros end mask) (reached bytes) (reached mask) k
+    ∙ ap (λ w. cond (nat_le offset k && nat_lt k (offset + length content)) (Some (get_or content (k - offset) 0)) w) (byte_in-with_zeros end bytes mask k)
+  where
+    end : ℕ
+    end = offset + length content
+
+    reached : (xs : List ℕ) → offset + length content ≤ length (with_zeros end xs)
+    reached xs = rw (length-append xs (replicate (end - length xs) 0), length-replicate {A = ℕ} (end - length xs) 0) (omega arith)

@@ -1,9 +1,12 @@
 //! What a group wrote into one record of an object.
+//!
+//! A patch takes the room for a whole record when it is made, so a write takes no memory. Its bytes and marks are laid
+//! out up to the last byte that was written and no further, so a short write costs no zeros for the rest of the record.
 
-ghost use Rattle.std.specs.Prelude.{ℕ, ◌≡◌, ◌<◌, ◌≤◌, ◌+◌, ◌↔◌, true, false, All, None, IfOk, IsTrue, OnOk, get_or, is_some, length, replicate, unwrap_or, vec_len};
+ghost use Rattle.std.specs.Prelude.{ℕ, ◌≡◌, ◌<◌, ◌≤◌, ◌+◌, ◌↔◌, true, false, All, None, IfOk, IsTrue, OnOk, get_or, is_some, length, max, replicate, unwrap_or, vec_capacity, vec_len};
 ghost use Rattle.base.specs.disk.Disk.{put};
 ghost use Rattle.base.specs.formats.Limits.{record_size};
-ghost use Rattle.extents.specs.Marks.{is_mark, laid_byte};
+ghost use Rattle.extents.specs.Marks.{is_mark, laid_byte, with_zeros};
 
 use base::RECORD_SIZE;
 use std::alloc::{AllocError, Global};
@@ -17,8 +20,9 @@ pub(crate) struct RecordPatch {
     bytes: Vec<u8>,
     // 255 at each byte that was written
     mask: Vec<u8>,
-    ghost all_bytes: { vec_len bytes ≡ record_size },
-    ghost all_marks: { vec_len mask ≡ record_size },
+    ghost all_marked: { vec_len bytes ≡ vec_len mask },
+    ghost byte_room: { record_size ≤ vec_capacity bytes },
+    ghost mark_room: { record_size ≤ vec_capacity mask },
     ghost marked: { All (λ m. is_mark m ≡ true) mask.items },
 }
 
@@ -33,10 +37,8 @@ impl RecordPatch {
     pub fn new(alloc: Global) -> Result<Self, AllocError>
         ensures { IfOk result (λ patch. (k : ℕ) → bytes_written patch k ≡ None) }
     {
-        let mut bytes = Vec::new(alloc);
-        bytes.resize(RECORD_SIZE, 0)?;
-        let mut mask = Vec::new(alloc);
-        mask.resize(RECORD_SIZE, 0)?;
+        let bytes = Vec::with_capacity(alloc, RECORD_SIZE)?;
+        let mask = Vec::with_capacity(alloc, RECORD_SIZE)?;
         Ok(RecordPatch { bytes, mask })
     }
 
@@ -46,6 +48,9 @@ impl RecordPatch {
         ensures { (k : ℕ) → bytes_written self.new k
             ≡ written_after offset content.now (bytes_written self.old) k }
     {
+        let end = offset + content.len();
+        extend_to(&mut self.bytes, end);
+        extend_to(&mut self.mask, end);
         overwrite(&mut self.bytes, offset, content);
         mark(&mut self.mask, offset, content.len(), WRITTEN);
     }
@@ -68,6 +73,9 @@ impl RecordPatch {
             ↔ ((k : ℕ) → k < count → is_some (bytes_written self.now (start + k)) ≡ true) }
         ensures some { result ≡ false → 0 < count }
     {
+        if self.mask.len() < start + count {
+            return count == 0;
+        }
         self.mask[start..start + count]
             .iter()
             .all(|mark| *mark == WRITTEN)
@@ -88,10 +96,25 @@ impl RecordPatch {
     }
 }
 
+// Lays zeros out up to a length that there is room for.
+fn extend_to(bytes: &mut Vec<u8>, length: usize)
+    requires { length ≤ vec_capacity bytes.old }
+    ensures bytes { bytes.new.items ≡ with_zeros length bytes.old.items }
+    ensures length { vec_len bytes.new ≡ max (vec_len bytes.old) length }
+    ensures room { vec_capacity bytes.old ≤ vec_capacity bytes.new }
+{
+    if bytes.len() < length {
+        let Ok(()) = bytes.resize(length, 0) else {
+            unreachable!();
+        };
+    }
+}
+
 fn overwrite(bytes: &mut Vec<u8>, offset: usize, content: &[u8])
     requires { offset + length content.now ≤ vec_len bytes.old }
     ensures bytes { bytes.new.items ≡ put offset content.now bytes.old.items }
     ensures length { vec_len bytes.new ≡ vec_len bytes.old }
+    ensures room { vec_capacity bytes.new ≡ vec_capacity bytes.old }
 {
     bytes[offset..offset + content.len()].copy_from_slice(content);
 }
@@ -101,6 +124,7 @@ fn mark(mask: &mut Vec<u8>, offset: usize, count: usize, mark: u8)
     requires { offset + count ≤ vec_len mask.old }
     ensures marks { mask.new.items ≡ put offset (replicate count mark) mask.old.items }
     ensures length { vec_len mask.new ≡ vec_len mask.old }
+    ensures room { vec_capacity mask.new ≡ vec_capacity mask.old }
 {
     mask[offset..offset + count].fill(mark);
 }

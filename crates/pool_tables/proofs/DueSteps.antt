@@ -1,5 +1,5 @@
--- How a step that is due may be refused by its tests: as suspended, a log write for space, and a close at the last group
--- as not ready.
+-- How a step that is due may be refused by its tests: as suspended, a log write for space, and a close at the last
+-- group as not ready.
 use Rattle.std.proofs.Common.{◌≡◌, ◌≤◌, ◌⊎◌, ℕ, Bool, true, false, not, ◌||◌, inl, inr, refl, ap, sym, subst, ◌∙◌}
 use Rattle.std.specs.Prelude.{[], ◌∷◌, ◌==◌, Option, Some, None, if◌then◌else◌, is_none, is_some, length, nat_le}
 use Rattle.std.proofs.lemmas.Bool.{false≢true, leb-true}

@@ -2,7 +2,7 @@
 use Rattle.std.proofs.Common.{◌≡◌, ℕ, ◌+◌, ◌≤◌, ◌&&◌, Bool, true, false, cond, refl, ap, sym, subst, ◌∙◌, arith, inl, inr}
 use Rattle.std.specs.Prelude.{nat_le, nat_lt, Option, Some, IfSome, Result, Ok, Err, IsOk, OnOk, OnErr}
 use Rattle.std.proofs.lemmas.Bool.{cases_eq}
-use Rattle.std.specs.BTreeMap.{BTreeMap}
+use Rattle.range_locks.specs.Rows.{PartRows}
 use Rattle.base.specs.declared.range.Range.{Range}
 use Rattle.base.proofs.common.KeptLists.{Some-injective}
 use Rattle.range_locks.specs.declared.parts.Part.{Part}
@@ -20,7 +20,7 @@ ends-recounted r change f k = by (nat_le r.low k && nat_lt k r.high)
     by true = ends-recounted_part change (f k)
     by false = refl
 
-module _ (old new : BTreeMap ℕ Part) (counted : HasCounts most_counted old) where
+module _ (old new : PartRows) (counted : HasCounts most_counted old) where
   -- with one lock more a table has parts
   pub parts_with_lock : (r : Range) (change : Change) → HoldsFor old (λ f. IsTable new (with_lock r change f)) → HasNoParts new → ⊥
   parts_with_lock r change holds none =

@@ -1,7 +1,7 @@
 pub mod Places
 pub mod Names
 pub mod Grants
-pub mod Keys
+pub mod PartRows
 pub mod StoredParts
 pub mod Updates
 pub mod Recounts

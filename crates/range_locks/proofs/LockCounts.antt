@@ -3,8 +3,7 @@ use Rattle.std.proofs.Common.{◌≡◌, ℕ, zero, suc, ◌+◌, ◌-◌, ◌*�
 use Rattle.std.specs.Prelude.{Some, None, Option, IfSome, is_some, slice_get, sum_by, nat_lt, nat_le}
 use Rattle.std.specs.List.{count_by, find, list_any}
 use Rattle.std.specs.Option.{option_map, option_or}
-use Rattle.std.specs.BTreeMap.{BTreeMap, get}
-use Rattle.std.specs.Ordering.{nat_cmp}
+use Rattle.range_locks.specs.Rows.{PartRows, part_in}
 use Rattle.std.proofs.lemmas.Bool.{eq-eqb, ne_eqb, eqb-true, cases_eq, cases_lt, cases_order, le-leb, lt-leb, lt-ltb, le-ltb}
 use Rattle.std.proofs.lemmas.List.Folds.{find-append}
 use Rattle.std.proofs.lemmas.List.Sums.{sum_by-cons, sum_by_push, sum_by-le, count_by-le-length}
@@ -231,9 +230,9 @@ module _ (locks : List Grant) (i id : ℕ) (g : Grant) (rise : NamesRise locks) 
     let_go_elsewhere n other k = sym (counts_let_go n k ∙ fewer_apart g k n other (counts_of n locks k))
 
   -- it is counted at each offset that it covers
-  pub is_counted : (table : BTreeMap ℕ Part) → IsTable table (counts_of g.range.number locks) → (k : ℕ) → g.range.low ≤ k → k < g.range.high
-      → IfSome (get nat_cmp table k) (CanRecountPart (change_of_release g.mode))
-  is_counted table is k from below = by (get nat_cmp table k) refl
+  pub is_counted : (table : PartRows) → IsTable table (counts_of g.range.number locks) → (k : ℕ) → g.range.low ≤ k → k < g.range.high
+      → IfSome (part_in table k) (CanRecountPart (change_of_release g.mode))
+  is_counted table is k from below = by (part_in table k) refl
     where
       n : ℕ
       n = g.range.number
@@ -248,7 +247,7 @@ module _ (locks : List Grant) (i id : ℕ) (g : Grant) (rise : NamesRise locks) 
           omega (arith, whole, one_here)
       counted Writer is_mode = tt
 
-      by : (o : Option Part) → get nat_cmp table k ≡ o → IfSome o (CanRecountPart (change_of_release g.mode))
+      by : (o : Option Part) → part_in table k ≡ o → IfSome o (CanRecountPart (change_of_release g.mode))
       by None at_k = tt
       by (Some p) at_k = subst (λ (q : Part). CanRecountPart (change_of_release g.mode) q) (sym (part_here table (counts_of n locks) is k p at_k)) (counted g.mode refl)
 
@@ -330,7 +329,7 @@ counts_still n locks = record {
 }
 
 -- and no count is above twice the number of locks
-pub counts_small : (table : BTreeMap ℕ Part) (n : ℕ) (locks : List Grant) → length locks ≤ 256 → IsTable table (counts_of n locks) → HasCounts most_counted table
+pub counts_small : (table : PartRows) (n : ℕ) (locks : List Grant) → length locks ≤ 256 → IsTable table (counts_of n locks) → HasCounts most_counted table
 counts_small table n locks few is = record {
   counts = counts_of n locks;
   is = is;

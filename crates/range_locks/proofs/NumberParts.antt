@@ -2,9 +2,7 @@
 -- locked.
 use Rattle.std.proofs.Common.{◌≡◌, ℕ, refl, sym, subst, arith}
 use Rattle.std.specs.Prelude.{Option, Some, None, Result, Ok, Err, OnOk, OnErr}
-use Rattle.std.specs.BTreeMap.{BTreeMap, get}
-use Rattle.std.specs.Ordering.{nat_cmp}
-use Rattle.range_locks.specs.declared.parts.Part.{Part}
+use Rattle.range_locks.specs.Rows.{PartRows, part_in}
 use Rattle.range_locks.specs.declared.parts.Parts.{Parts}
 use Rattle.range_locks.specs.Parts.{Counts, HasCounts, HoldsFor, HoldsOf, IsTable, IsTableOf, most_counted}
 
@@ -13,7 +11,7 @@ pub no_ends : (parts : Option Parts) → None ≡ parts → (f : Counts) → IsT
 no_ends parts none f is = subst (λ (o : Option Parts). IsTableOf o f) (sym none) is
 
 -- an empty table is counted
-pub nothing_counted : (table : BTreeMap ℕ Part) → ((k : ℕ) → get nat_cmp table k ≡ None) → HasCounts most_counted table
+pub nothing_counted : (table : PartRows) → ((k : ℕ) → part_in table k ≡ None) → HasCounts most_counted table
 nothing_counted table none = record {
   counts = λ k. record { ends = 0; readers = 0; writer = None };
   is = λ k. none k;

@@ -2,8 +2,7 @@
 use Rattle.std.proofs.Common.{◌≡◌, ℕ, zero, suc, ◌+◌, ◌<◌, ◌≤◌, ◌==◌, ◌&&◌, ◌||◌, Bool, true, false, not, cond, List, [], ◌∷◌, ◌++◌, refl, ap, sym, ◌∙◌, arith, inl, inr}
 use Rattle.std.specs.Prelude.{Some, None, IfNone, IfSome, Option, is_some, slice_get, nat_lt}
 use Rattle.std.specs.List.{count_by, list_any}
-use Rattle.std.specs.BTreeMap.{BTreeMap, get}
-use Rattle.std.specs.Ordering.{nat_cmp}
+use Rattle.range_locks.specs.Rows.{PartRows, part_in}
 use Rattle.std.proofs.lemmas.Bool.{cases_lt, eq-eqb, eqb-true, lt-ltb, or_cases}
 use Rattle.std.proofs.lemmas.List.{append-nil, append_assoc}
 use Rattle.std.proofs.lemmas.List.Sums.{sum_by-cons}
@@ -67,30 +66,30 @@ no_pieces n locks none = ap (pieces_along n locks) (by (ends_of n locks) refl)
         let there : is_in x (ends_of n locks) ≡ true = ap (is_in x) is ∙ ap (λ b. b || is_in x xs) (eq-eqb x x refl) in
         let no_way : false ≡ true = sym (ap (λ y. nat_lt 0 y) (none x)) ∙ sym (in-ends_of n x locks) ∙ there in cc)
 
-module _ (table : BTreeMap ℕ Part) (n : ℕ) (held : LockTable) (was : AreCounted n held table) where
-  is_end : (k : ℕ) (p : Part) → get nat_cmp table k ≡ Some p → is_in k (ends_of n held.locks) ≡ true
+module _ (table : PartRows) (n : ℕ) (held : LockTable) (was : AreCounted n held table) where
+  is_end : (k : ℕ) (p : Part) → part_in table k ≡ Some p → is_in k (ends_of n held.locks) ≡ true
   is_end k p at = in-ends_of n k held.locks ∙ lt-ltb 0 (counts_of n held.locks k).ends (stored_is (counts_of n held.locks k) p (sym (was.is k) ∙ at)).1
 
-  no_end_there : (k : ℕ) → get nat_cmp table k ≡ None → is_in k (ends_of n held.locks) ≡ true → ⊥
+  no_end_there : (k : ℕ) → part_in table k ≡ None → is_in k (ends_of n held.locks) ≡ true → ⊥
   no_end_there k at there =
       let none : (counts_of n held.locks k).ends ≡ 0 = no_end table (counts_of n held.locks) was.is k at in
       let no_way : false ≡ true = sym (ap (λ x. nat_lt 0 x) none) ∙ sym (in-ends_of n k held.locks) ∙ there in cc
 
   -- the next key is the next end
-  next_end : (offset high : ℕ) (p : Part) → offset ≤ high → get nat_cmp table high ≡ Some p → ((k : ℕ) → offset ≤ k → k < high → get nat_cmp table k ≡ None)
+  next_end : (offset high : ℕ) (p : Part) → offset ≤ high → part_in table high ≡ Some p → ((k : ℕ) → offset ≤ k → k < high → part_in table k ≡ None)
       → ends_from offset (ends_of n held.locks) ≡ high ∷ ends_from (high + 1) (ends_of n held.locks)
   next_end offset high p from at none = first_from offset high (ends_of n held.locks) (rise-ends_of n held.locks) from (is_end high p at) (λ y there above. elim (cases_lt y high) as (λ _. high ≤ y) [
     | inl below ↦ absurd (no_end_there y (none y above below) there)
     | inr behind ↦ behind
   ])
 
-  last_end : (offset : ℕ) → ((k : ℕ) → offset ≤ k → k < 338689 → get nat_cmp table k ≡ None) → ends_from offset (ends_of n held.locks) ≡ []
+  last_end : (offset : ℕ) → ((k : ℕ) → offset ≤ k → k < 338689 → part_in table k ≡ None) → ends_from offset (ends_of n held.locks) ≡ []
   last_end offset none = none_from offset (ends_of n held.locks) (λ y there. elim (cases_lt y offset) as (λ _. y < offset) [
     | inl below ↦ below
     | inr above ↦ absurd (let within : y ≤ max_length = ends_within n y held.locks was.are.allowed there in no_end_there y (none y above (omega arith)) there)
   ])
 
-  module _ (low high : ℕ) (p : Part) (at : get nat_cmp table low ≡ Some p) where
+  module _ (low high : ℕ) (p : Part) (at : part_in table low ≡ Some p) where
     -- what a part tells of its piece
     piece_is : record { low = low; high = high; writer = is_some p.writer; readers = p.readers } ≡ piece_between n held.locks low high
     piece_is =
@@ -106,32 +105,32 @@ module _ (table : BTreeMap ℕ Part) (n : ℕ) (held : LockTable) (was : AreCoun
         ∙ either n low held.locks
 
 -- the pieces so far, and those from the next key on, are all of them
-abbrev pub IsWalked : BTreeMap ℕ Part → List HeldPiece → Option (ℕ × Part) → Type 0
+abbrev pub IsWalked : PartRows → List HeldPiece → Option (ℕ × Part) → Type 0
 IsWalked table pieces None = (n : ℕ) (held : LockTable) → AreCounted n held table → pieces ≡ pieces_of n held.locks
-IsWalked table pieces (Some b) = (b.0 < 338689) × (get nat_cmp table b.0 ≡ Some b.1)
+IsWalked table pieces (Some b) = (b.0 < 338689) × (part_in table b.0 ≡ Some b.1)
     × ((n : ℕ) (held : LockTable) → AreCounted n held table → pieces ++ pieces_from n held.locks b.0 (ends_from (b.0 + 1) (ends_of n held.locks)) ≡ pieces_of n held.locks)
 
-module _ (table : BTreeMap ℕ Part) where
-  walk_begins : (low : ℕ) (p : Part) → low < 338689 → get nat_cmp table low ≡ Some p → ((k : ℕ) → 0 ≤ k → k < low → get nat_cmp table k ≡ None) → IsWalked table [] (Some (low, p))
+module _ (table : PartRows) where
+  walk_begins : (low : ℕ) (p : Part) → low < 338689 → part_in table low ≡ Some p → ((k : ℕ) → 0 ≤ k → k < low → part_in table k ≡ None) → IsWalked table [] (Some (low, p))
   walk_begins low p within at none = (within, at, λ n held was. ap (pieces_along n held.locks) (sym (next_end table n held was 0 low p (omega arith) at none) ∙ ends_from-zero (ends_of n held.locks)))
 
-  walk_is_empty : ((k : ℕ) → 0 ≤ k → k < 338689 → get nat_cmp table k ≡ None) → IsWalked table [] None
+  walk_is_empty : ((k : ℕ) → 0 ≤ k → k < 338689 → part_in table k ≡ None) → IsWalked table [] None
   walk_is_empty none n held was = ap (pieces_along n held.locks) (sym (last_end table n held was 0 none) ∙ ends_from-zero (ends_of n held.locks))
 
   -- as it begins
-  pub walk_starts : (o : Option (ℕ × Part)) → IfSome o (λ (r : ℕ × Part). (0 ≤ r.0) × (r.0 < 338689)) → IfSome o (λ (r : ℕ × Part). get nat_cmp table r.0 ≡ Some r.1)
-      → IfSome o (λ (r : ℕ × Part). (k : ℕ) → 0 ≤ k → k < r.0 → get nat_cmp table k ≡ None)
-      → IfNone o ((k : ℕ) → 0 ≤ k → k < 338689 → get nat_cmp table k ≡ None) → IsWalked table [] o
+  pub walk_starts : (o : Option (ℕ × Part)) → IfSome o (λ (r : ℕ × Part). (0 ≤ r.0) × (r.0 < 338689)) → IfSome o (λ (r : ℕ × Part). part_in table r.0 ≡ Some r.1)
+      → IfSome o (λ (r : ℕ × Part). (k : ℕ) → 0 ≤ k → k < r.0 → part_in table k ≡ None)
+      → IfNone o ((k : ℕ) → 0 ≤ k → k < 338689 → part_in table k ≡ None) → IsWalked table [] o
   walk_starts None _ _ _ none = walk_is_empty none
   walk_starts (Some r) within at none _ = walk_begins r.0 r.1 within.1 at none
 
   -- where no key is left
   module _ (pieces : List HeldPiece) (low : ℕ) (p : Part) (walked : IsWalked table pieces (Some (low, p))) where
-    pub walk_ends : ((k : ℕ) → low + 1 ≤ k → k < 338689 → get nat_cmp table k ≡ None) → IsWalked table pieces None
+    pub walk_ends : ((k : ℕ) → low + 1 ≤ k → k < 338689 → part_in table k ≡ None) → IsWalked table pieces None
     walk_ends none n held was = sym (append-nil pieces) ∙ ap (λ ends. pieces ++ pieces_from n held.locks low ends) (sym (last_end table n held was (low + 1) none)) ∙ walked.2 n held was
 
-    module _ (high : ℕ) (q : Part) (from : low + 1 ≤ high) (within : high < 338689) (at : get nat_cmp table high ≡ Some q)
-        (none : (k : ℕ) → low + 1 ≤ k → k < high → get nat_cmp table k ≡ None) where
+    module _ (high : ℕ) (q : Part) (from : low + 1 ≤ high) (within : high < 338689) (at : part_in table high ≡ Some q)
+        (none : (k : ℕ) → low + 1 ≤ k → k < high → part_in table k ≡ None) where
       -- past a piece
       pub walk_piece : is_covered_part p ≡ true → IsWalked table (pieces ++ record { low = low; high = high; writer = is_some p.writer; readers = p.readers } ∷ []) (Some (high, q))
       walk_piece covered = (

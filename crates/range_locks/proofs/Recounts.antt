@@ -1,8 +1,7 @@
 -- The parts of a range are counted one after another: where none begins there is nothing to count.
 use Rattle.std.proofs.Common.{◌≡◌, ℕ, zero, suc, ◌+◌, ◌-◌, ◌<◌, ◌≤◌, ◌||◌, ◌&&◌, false, not, ap, sym, subst, refl, ◌∙◌, arith, inl, inr}
 use Rattle.std.specs.Prelude.{Option, Some, None, IfSome, is_some, nat_lt}
-use Rattle.std.specs.BTreeMap.{BTreeMap, get, WritesThrough}
-use Rattle.std.specs.Ordering.{nat_cmp}
+use Rattle.range_locks.specs.Rows.{PartRows, part_in, PutsAt}
 use Rattle.std.proofs.lemmas.Bool.{cases_lt}
 use Rattle.base.specs.declared.names.LockId.{LockId}
 use Rattle.base.specs.declared.range.Mode.{Mode}
@@ -19,8 +18,8 @@ module _ (low : ℕ) (change : Change) where
   up_to offset f = recounted (record { low = low; high = offset }) change f
 
   -- up to a further offset, where no part begins between the two
-  pub widened : (table : BTreeMap ℕ Part) (offset at : ℕ) → low ≤ offset → offset ≤ at
-      → ((k : ℕ) → offset ≤ k → k < at → get nat_cmp table k ≡ None) → (f : Counts)
+  pub widened : (table : PartRows) (offset at : ℕ) → low ≤ offset → offset ≤ at
+      → ((k : ℕ) → offset ≤ k → k < at → part_in table k ≡ None) → (f : Counts)
       → IsTable table (recounted (record { low = low; high = offset }) change f) → IsTable table (recounted (record { low = low; high = at }) change f)
   widened table offset at from within none f is j = is j ∙ elim (cases_lt j low) as (λ _. stored_part (up_to offset f j) ≡ stored_part (up_to at f j)) [
     | inl before ↦ ap stored_part (recounted-before low offset change f j before ∙ sym (recounted-before low at change f j before))
@@ -37,9 +36,9 @@ module _ (low : ℕ) (change : Change) where
   ]
 
   -- and past the next one
-  pub counted_next : (old new : BTreeMap ℕ Part) (offset at : ℕ) (part v : Part) → low ≤ offset → offset ≤ at
-      → ((k : ℕ) → offset ≤ k → k < at → get nat_cmp old k ≡ None) → get nat_cmp old at ≡ Some part
-      → WritesThrough nat_cmp (nat_cmp at) old v new → v ≡ recounted_part change part → (f : Counts)
+  pub counted_next : (old new : PartRows) (offset at : ℕ) (part v : Part) → low ≤ offset → offset ≤ at
+      → ((k : ℕ) → offset ≤ k → k < at → part_in old k ≡ None) → part_in old at ≡ Some part
+      → PutsAt at (Some v) old new → v ≡ recounted_part change part → (f : Counts)
       → IsTable old (recounted (record { low = low; high = offset }) change f) → IsTable new (recounted (record { low = low; high = at + 1 }) change f)
   counted_next old new offset at part v from within none there writes v_is f is =
       written old new at v (up_to at f) (up_to (at + 1) f) wide writes (ap is_some there) here apart
@@ -68,15 +67,15 @@ module _ (low : ℕ) (change : Change) where
       ]
 
 -- a range is free for a lock where its first offset is, and each part that begins in it
-pub free_in : (table : BTreeMap ℕ Part) (f : Counts) (low high : ℕ) (mode : Mode) → IsTable table f → IsStill f
+pub free_in : (table : PartRows) (f : Counts) (low high : ℕ) (mode : Mode) → IsTable table f → IsStill f
     → blocks_part mode (f low) ≡ false
-    → ((k : ℕ) → low ≤ k → k < high → IfSome (get nat_cmp table k) (λ (p : Part). blocks_part mode p ≡ false))
+    → ((k : ℕ) → low ≤ k → k < high → IfSome (part_in table k) (λ (p : Part). blocks_part mode p ≡ false))
     → IsFreeIn (record { low = low; high = high }) mode f
 free_in table f low high mode is still first parts k from below =
     let far : low + (k - low) ≡ k = omega arith in
     subst (λ x. blocks_part mode (f x) ≡ false) far (up (k - low) (omega arith))
   where
-    by : (o : Option Part) (j : ℕ) → get nat_cmp table (low + j + 1) ≡ o → IfSome o (λ (p : Part). blocks_part mode p ≡ false) → blocks_part mode (f (low + j)) ≡ false → blocks_part mode (f (low + j + 1)) ≡ false
+    by : (o : Option Part) (j : ℕ) → part_in table (low + j + 1) ≡ o → IfSome o (λ (p : Part). blocks_part mode p ≡ false) → blocks_part mode (f (low + j)) ≡ false → blocks_part mode (f (low + j + 1)) ≡ false
     by (Some p) j at free before = ap (λ (q : Part). blocks_part mode q) (sym (part_here table f is (low + j + 1) p at)) ∙ free
     by None j at free before =
         let same = still.next (low + j) (no_end table f is (low + j + 1) at) in
@@ -86,14 +85,14 @@ free_in table f low high mode is still first parts k from below =
     up zero within = ap (λ x. blocks_part mode (f x)) (omega arith) ∙ first
     up (suc d) within =
         let next : low + suc d ≡ low + d + 1 = omega arith in
-        ap (λ x. blocks_part mode (f x)) next ∙ by (get nat_cmp table (low + d + 1)) d refl (parts (low + d + 1) (omega arith) (omega arith)) (up d (omega arith))
+        ap (λ x. blocks_part mode (f x)) next ∙ by (part_in table (low + d + 1)) d refl (parts (low + d + 1) (omega arith) (omega arith)) (up d (omega arith))
 
 -- one more can be counted where the counts are small
-pub can_count : (table : BTreeMap ℕ Part) (f : Counts) (k : ℕ) (id : LockId) (mode : Mode) → IsTable table f → (f k).readers ≤ most_counted
-    → IfSome (get nat_cmp table k) (CanRecountPart (change_of_grant id mode))
-can_count table f k id mode is readers = by (get nat_cmp table k) mode refl
+pub can_count : (table : PartRows) (f : Counts) (k : ℕ) (id : LockId) (mode : Mode) → IsTable table f → (f k).readers ≤ most_counted
+    → IfSome (part_in table k) (CanRecountPart (change_of_grant id mode))
+can_count table f k id mode is readers = by (part_in table k) mode refl
   where
-    by : (o : Option Part) (m : Mode) → get nat_cmp table k ≡ o → IfSome o (CanRecountPart (change_of_grant id m))
+    by : (o : Option Part) (m : Mode) → part_in table k ≡ o → IfSome o (CanRecountPart (change_of_grant id m))
     by None m at = tt
     by (Some p) Reader at = subst (λ (q : Part). q.readers ≤ most_counted) (sym (part_here table f is k p at)) readers
     by (Some p) Writer at = tt

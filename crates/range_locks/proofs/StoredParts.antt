@@ -1,8 +1,7 @@
 -- What the table has at an offset, as it follows from how many locks begin, end and cover there.
 use Rattle.std.proofs.Common.{◌≡◌, ℕ, zero, suc, ◌+◌, ◌-◌, ◌<◌, ◌≤◌, ◌==◌, Bool, true, false, cond, refl, ap, sym, ◌∙◌, arith}
 use Rattle.std.specs.Prelude.{Option, Some, None}
-use Rattle.std.specs.BTreeMap.{BTreeMap, get}
-use Rattle.std.specs.Ordering.{nat_cmp}
+use Rattle.range_locks.specs.Rows.{PartRows, part_in}
 use Rattle.std.proofs.lemmas.Bool.{eq-eqb, eqb-true, eqb-false}
 use Rattle.base.proofs.common.KeptLists.{Some-injective}
 use Rattle.range_locks.specs.declared.parts.Part.{Part}
@@ -47,17 +46,17 @@ nothing_before f still at none =
     let writer : None ≡ (f at).writer = sym (sym (ap (λ x. (f x).writer) far) ∙ same.1 ∙ first.1) in
     λ i. record { ends = ends i; readers = readers i; writer = writer i }
 
-module _ (table : BTreeMap ℕ Part) (f : Counts) (is : IsTable table f) where
-  pub part_here : (k : ℕ) (p : Part) → get nat_cmp table k ≡ Some p → p ≡ f k
+module _ (table : PartRows) (f : Counts) (is : IsTable table f) where
+  pub part_here : (k : ℕ) (p : Part) → part_in table k ≡ Some p → p ≡ f k
   part_here k p h = (stored_is (f k) p (sym (is k) ∙ h)).0
 
-  pub no_end : (k : ℕ) → get nat_cmp table k ≡ None → (f k).ends ≡ 0
+  pub no_end : (k : ℕ) → part_in table k ≡ None → (f k).ends ≡ 0
   no_end k h = stored_none (f k) (sym (is k) ∙ h)
 
   module _ (still : IsStill f) (at : ℕ) where
     -- an offset after the last end has what began there
-    pub part_after : (k : ℕ) (p : Part) → get nat_cmp table k ≡ Some p → k ≤ at → (k ≡ at → ⊥)
-        → ((x : ℕ) → k < x → x ≤ at → get nat_cmp table x ≡ None) → record p { ends = 0 } ≡ f at
+    pub part_after : (k : ℕ) (p : Part) → part_in table k ≡ Some p → k ≤ at → (k ≡ at → ⊥)
+        → ((x : ℕ) → k < x → x ≤ at → part_in table x ≡ None) → record p { ends = 0 } ≡ f at
     part_after k p h below apart none =
         let there : p ≡ f k = part_here k p h in
         let far : k + (at - k) ≡ at = omega arith in
@@ -68,5 +67,5 @@ module _ (table : BTreeMap ℕ Part) (f : Counts) (is : IsTable table f) where
         λ i. record { ends = ends i; readers = readers i; writer = writer i }
 
     -- an offset before the first end has nothing
-    pub part_none : ((x : ℕ) → x ≤ at → get nat_cmp table x ≡ None) → record { ends = 0; readers = 0; writer = None } ≡ f at
+    pub part_none : ((x : ℕ) → x ≤ at → part_in table x ≡ None) → record { ends = 0; readers = 0; writer = None } ≡ f at
     part_none none = nothing_before f still at (λ x within. no_end x (none x within))

@@ -1,33 +1,21 @@
 -- What a write at one key, and what one more or one fewer lock, makes of what the table has.
 use Rattle.std.proofs.Common.{◌≡◌, ℕ, ◌+◌, ◌-◌, ◌<◌, ◌≤◌, ◌==◌, ◌&&◌, Bool, true, false, cond, refl, ap, sym, subst, ◌∙◌, arith, inl, inr}
 use Rattle.std.specs.Prelude.{Option, Some, None, IfSome, IsSome, is_some, nat_lt}
-use Rattle.std.specs.BTreeMap.{BTreeMap, get, is_at, WritesThrough}
-use Rattle.std.specs.Cmp.{nat_cmp_is}
-use Rattle.std.specs.Ordering.{nat_cmp, is_eq}
-use Rattle.std.specs.declared.cmp.Ordering.TheVariants.{Less, Equal, Greater}
-use Rattle.std.proofs.lemmas.Bool.{eq-eqb, ne_eqb, cases_eq, cases_order, le-leb, lt-leb, lt-ltb, le-ltb, cases_lt}
+use Rattle.range_locks.specs.Rows.{PartRows, part_in, PutsAt}
+use Rattle.std.proofs.lemmas.Bool.{eq-eqb, ne_eqb, cases_eq, le-leb, lt-leb, lt-ltb, le-ltb, cases_lt}
 use Rattle.range_locks.specs.declared.parts.Change.{Change}
 use Rattle.range_locks.specs.declared.parts.Change.TheVariants.{ReaderCame, ReaderLeft, WriterCame, WriterLeft}
 use Rattle.range_locks.specs.declared.parts.Part.{Part}
 use Rattle.range_locks.specs.Parts.{Counts, IsTable, IsStill, stored_part, recounted, recounted_part, with_end, without_end}
 use Rattle.range_locks.proofs.StoredParts.{no_end, part_here, stored-zero}
 
-is_at-key : (k j : ℕ) → is_at (nat_cmp k) j ≡ (j == k)
-is_at-key k j = elim (cases_order k j) as (λ _. is_eq (nat_cmp k j) ≡ (j == k)) [
-  | inl same ↦ ap is_eq (sym (nat_cmp_is k j Equal same)) ∙ sym (eq-eqb j k (sym same))
-  | inr apart ↦ elim apart as (λ _. is_eq (nat_cmp k j) ≡ (j == k)) [
-    | inl low ↦ ap is_eq (sym (nat_cmp_is k j Less low)) ∙ sym (ne_eqb j k (λ same. omega arith))
-    | inr high ↦ ap is_eq (sym (nat_cmp_is k j Greater high)) ∙ sym (ne_eqb j k (λ same. omega arith))
-  ]
-]
-
 -- a table that differs at one key is one of counts that differ at one offset
-pub updated : (old new : BTreeMap ℕ Part) (k : ℕ) (w : Option Part) (f g : Counts) → IsTable old f
-    → ((q : ℕ) → get nat_cmp new q ≡ cond (is_at (nat_cmp k) q) w (get nat_cmp old q))
+pub updated : (old new : PartRows) (k : ℕ) (w : Option Part) (f g : Counts) → IsTable old f
+    → PutsAt k w old new
     → w ≡ stored_part (g k) → ((j : ℕ) → (j ≡ k → ⊥) → g j ≡ f j) → IsTable new g
-updated old new k w f g is update here apart j = update j ∙ ap (λ b. cond b w (get nat_cmp old j)) (is_at-key k j) ∙ elim (cases_eq j k) as (λ _. cond (j == k) w (get nat_cmp old j) ≡ stored_part (g j)) [
-  | inl same ↦ ap (λ b. cond b w (get nat_cmp old j)) (eq-eqb j k same) ∙ here ∙ ap (λ x. stored_part (g x)) (sym same)
-  | inr other ↦ ap (λ b. cond b w (get nat_cmp old j)) (ne_eqb j k other) ∙ is j ∙ ap stored_part (sym (apart j other))
+updated old new k w f g is update here apart j = update j ∙ elim (cases_eq j k) as (λ _. cond (j == k) w (part_in old j) ≡ stored_part (g j)) [
+  | inl same ↦ ap (λ b. cond b w (part_in old j)) (eq-eqb j k same) ∙ here ∙ ap (λ x. stored_part (g x)) (sym same)
+  | inr other ↦ ap (λ b. cond b w (part_in old j)) (ne_eqb j k other) ∙ is j ∙ ap stored_part (sym (apart j other))
 ]
 
 module _ (k : ℕ) (f : Counts) where
@@ -74,10 +62,10 @@ module _ (k : ℕ) (f : Counts) where
   }
 
 -- a value that is written at a key
-pub written : (old new : BTreeMap ℕ Part) (k : ℕ) (v : Part) (f g : Counts) → IsTable old f
-    → WritesThrough nat_cmp (nat_cmp k) old v new → IsSome (get nat_cmp old k)
+pub written : (old new : PartRows) (k : ℕ) (v : Part) (f g : Counts) → IsTable old f
+    → PutsAt k (Some v) old new → IsSome (part_in old k)
     → Some v ≡ stored_part (g k) → ((j : ℕ) → (j ≡ k → ⊥) → g j ≡ f j) → IsTable new g
-written old new k v f g is writes there here apart = updated old new k (Some v) f g is (writes.3 there).0 here apart
+written old new k v f g is writes there here apart = updated old new k (Some v) f g is writes here apart
 
 -- a part that is stored_part
 pub stored-some : (p : Part) → 0 < p.ends → stored_part p ≡ Some p
@@ -108,14 +96,14 @@ module _ (low high : ℕ) (change : Change) (f : Counts) where
   ]
 
 -- what is at the other offsets
-pub others_stay : (old new : BTreeMap ℕ Part) (k : ℕ) (v : Part) → WritesThrough nat_cmp (nat_cmp k) old v new → IsSome (get nat_cmp old k)
-    → (j : ℕ) → (j ≡ k → ⊥) → get nat_cmp new j ≡ get nat_cmp old j
-others_stay old new k v writes there j other = (writes.3 there).2 j (is_at-key k j ∙ ne_eqb j k other)
+pub others_stay : (old new : PartRows) (k : ℕ) (v : Part) → PutsAt k (Some v) old new → IsSome (part_in old k)
+    → (j : ℕ) → (j ≡ k → ⊥) → part_in new j ≡ part_in old j
+others_stay old new k v writes there j other = writes j ∙ ap (λ b. cond b (Some v) (part_in old j)) (ne_eqb j k other)
 
 -- an end fewer where there are others
-pub end_fewer : (old new : BTreeMap ℕ Part) (k : ℕ) (p q : Part) (f : Counts) → IsTable old f
-    → get nat_cmp old k ≡ Some p → 1 < p.ends → get nat_cmp old k ≡ Some q
-    → WritesThrough nat_cmp (nat_cmp k) old (record q { ends = p.ends - 1 }) new → IsTable new (without_end k f)
+pub end_fewer : (old new : PartRows) (k : ℕ) (p q : Part) (f : Counts) → IsTable old f
+    → part_in old k ≡ Some p → 1 < p.ends → part_in old k ≡ Some q
+    → PutsAt k (Some (record q { ends = p.ends - 1 })) old new → IsTable new (without_end k f)
 end_fewer old new k p q f is there some there_too writes =
     let p_is : p ≡ f k = part_here old f is k p there in
     let q_is : q ≡ f k = part_here old f is k q there_too in
@@ -125,14 +113,14 @@ end_fewer old new k p q f is there some there_too writes =
     (without_end-apart k f)
 
 -- and where there are none
-pub end_gone : (old new : BTreeMap ℕ Part) (k : ℕ) (f : Counts) → IsTable old f
-    → IfSome (get nat_cmp old k) (λ (p : Part). p.ends ≤ 1)
-    → ((q : ℕ) → get nat_cmp new q ≡ cond (is_at (nat_cmp k) q) None (get nat_cmp old q)) → IsTable new (without_end k f)
+pub end_gone : (old new : PartRows) (k : ℕ) (f : Counts) → IsTable old f
+    → IfSome (part_in old k) (λ (p : Part). p.ends ≤ 1)
+    → PutsAt k None old new → IsTable new (without_end k f)
 end_gone old new k f is few update =
     updated old new k None f (without_end k f) is update
-    (sym (ap stored_part (without_end-here k f) ∙ stored-zero (record (f k) { ends = (f k).ends - 1 }) (let most : (f k).ends ≤ 1 = by (get nat_cmp old k) refl few in omega arith)))
+    (sym (ap stored_part (without_end-here k f) ∙ stored-zero (record (f k) { ends = (f k).ends - 1 }) (let most : (f k).ends ≤ 1 = by (part_in old k) refl few in omega arith)))
     (without_end-apart k f)
   where
-    by : (o : Option Part) → get nat_cmp old k ≡ o → IfSome o (λ (p : Part). p.ends ≤ 1) → (f k).ends ≤ 1
+    by : (o : Option Part) → part_in old k ≡ o → IfSome o (λ (p : Part). p.ends ≤ 1) → (f k).ends ≤ 1
     by None at _ = let none : (f k).ends ≡ 0 = no_end old f is k at in omega arith
     by (Some p) at least = subst (λ (x : Part). x.ends ≤ 1) (part_here old f is k p at) least

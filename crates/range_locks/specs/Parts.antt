@@ -2,10 +2,9 @@
 use Rattle.std.specs.Prelude.{ℕ, ◌≡◌, ◌+◌, ◌-◌, ◌*◌, ◌<◌, ◌≤◌, ◌==◌, ◌&&◌, ◌||◌, Bool, true, false, not, Option, Some, None, IfSome, is_some, List, sum_by, nat_eq, nat_lt, nat_le, if◌then◌else◌}
 use Rattle.std.specs.List.{count_by, find}
 use Rattle.std.specs.Option.{option_map}
-use Rattle.std.specs.BTreeMap.{BTreeMap, get}
+use Rattle.range_locks.specs.Rows.{PartRows, part_in}
 use Rattle.std.specs.HashMap as hashes
 use Rattle.std.specs.HashMap.{HashMap}
-use Rattle.std.specs.Ordering.{nat_cmp}
 use Rattle.base.specs.declared.names.LockId.{LockId}
 use Rattle.base.specs.declared.range.Mode.{Mode}
 use Rattle.base.specs.declared.range.Mode.TheVariants.{Reader, Writer}
@@ -57,19 +56,19 @@ counts_of n locks k = record {
 abbrev pub stored_part : Part → Option Part
 stored_part p = if p.ends == 0 then None else Some p
 
-abbrev pub IsTable : BTreeMap ℕ Part → Counts → Type 0
-IsTable table f = (k : ℕ) → get nat_cmp table k ≡ stored_part (f k)
+abbrev pub IsTable : PartRows → Counts → Type 0
+IsTable table f = (k : ℕ) → part_in table k ≡ stored_part (f k)
 
 -- the table has nothing at the offsets from one to another
-abbrev pub HasNone : BTreeMap ℕ Part → ℕ → ℕ → Type 0
-HasNone table low high = (k : ℕ) → low ≤ k → k < high → get nat_cmp table k ≡ None
+abbrev pub HasNone : PartRows → ℕ → ℕ → Type 0
+HasNone table low high = (k : ℕ) → low ≤ k → k < high → part_in table k ≡ None
 
 -- the table has no parts at all
-abbrev pub HasNoParts : BTreeMap ℕ Part → Type 0
-HasNoParts table = (k : ℕ) → get nat_cmp table k ≡ None
+abbrev pub HasNoParts : PartRows → Type 0
+HasNoParts table = (k : ℕ) → part_in table k ≡ None
 
 -- a table of counts becomes one of other counts
-abbrev pub Becomes : BTreeMap ℕ Part → (Counts → Counts) → BTreeMap ℕ Part → Type 0
+abbrev pub Becomes : PartRows → (Counts → Counts) → PartRows → Type 0
 Becomes old change new = (f : Counts) → IsTable old f → IsTable new (change f)
 
 -- what covers an offset changes only if a lock begins or ends
@@ -78,7 +77,7 @@ pub record IsStill (f : Counts) : Type 0 where
   pub next : (k : ℕ) → (f (k + 1)).ends ≡ 0 → ((f (k + 1)).readers ≡ (f k).readers) × ((f (k + 1)).writer ≡ (f k).writer)
 
 -- what is true of the counts of a table, where these are still
-abbrev pub HoldsFor : BTreeMap ℕ Part → (Counts → Type 0) → Type 0
+abbrev pub HoldsFor : PartRows → (Counts → Type 0) → Type 0
 HoldsFor table P = (f : Counts) → IsTable table f → IsStill f → P f
 
 -- one lock more or one fewer begins or ends at an offset
@@ -114,11 +113,11 @@ CanRecountPart ReaderLeft p = 0 < p.readers
 CanRecountPart (WriterCame id) p = Unit {0}
 CanRecountPart WriterLeft p = Unit {0}
 
-abbrev pub CanRecount : Range → Change → BTreeMap ℕ Part → Type 0
-CanRecount r change table = (k : ℕ) → r.low ≤ k → k < r.high → IfSome (get nat_cmp table k) (CanRecountPart change)
+abbrev pub CanRecount : Range → Change → PartRows → Type 0
+CanRecount r change table = (k : ℕ) → r.low ≤ k → k < r.high → IfSome (part_in table k) (CanRecountPart change)
 
 -- the table is one of counts, and none is above a number
-pub record HasCounts (most : ℕ) (table : BTreeMap ℕ Part) : Type 0 where
+pub record HasCounts (most : ℕ) (table : PartRows) : Type 0 where
   pub counts : ℕ → Part
   pub is : IsTable table counts
   pub still : IsStill counts
@@ -145,7 +144,7 @@ abbrev pub IsFreeIn : Range → Mode → Counts → Type 0
 IsFreeIn r mode f = (k : ℕ) → r.low ≤ k → k < r.high → blocks_part mode (f k) ≡ false
 
 -- held locks, and a table of the parts of a number that is theirs
-pub record AreCounted (n : ℕ) (held : LockTable) (table : BTreeMap ℕ Part) : Type 0 where
+pub record AreCounted (n : ℕ) (held : LockTable) (table : PartRows) : Type 0 where
   pub are : AreHeld held
   pub is : IsTable table (counts_of n held.locks)
 

@@ -5,6 +5,7 @@ mod clients;
 mod held;
 mod locks;
 mod numbers;
+mod part_table;
 mod parts;
 mod table;
 

@@ -5,16 +5,15 @@
 //! where the last lock that begins or ends between them is released.
 
 ghost use Rattle.std.specs.Prelude.{ℕ, ◌≡◌, ◌+◌, ◌<◌, ◌≤◌, ◌↔◌, true, false, None, Some, IfSome, IfNone, IfOk, OnOk, OnErr, IfErr, IsTrue};
-ghost use Rattle.std.specs.BTreeMap.{get};
-ghost use Rattle.std.specs.Ordering.{nat_cmp};
 ghost use Rattle.range_locks.specs.Locks.{LockTable};
 ghost use Rattle.range_locks.specs.Pieces.{pieces_of};
+ghost use Rattle.range_locks.specs.Rows.{part_in};
 ghost use Rattle.range_locks.specs.Parts.{AreCounted, Becomes, blocks_part, CanRecount, CanRecountPart, change_of_grant, change_of_release, HasCounts, HasNone, HasNoParts, HoldsFor, IsBlockedIn, IsFreeIn, is_covered_part, IsTable, most_counted, recounted, recounted_part, with_end, with_lock, without_end, without_lock};
 
 use crate::held::HeldPiece;
+use crate::part_table::PartTable;
 use base::{LockId, MAX_LENGTH, Mode, PoolError, Range};
 use std::alloc::Global;
-use std::collections::BTreeMap;
 
 /// What begins at an end of a lock, up to the next end of the same number.
 #[derive(Clone, Copy, Debug, PartialEq, Eq)]
@@ -112,7 +111,7 @@ impl Part {
 /// The parts of a number by offset, rising.
 #[derive(Debug, Drop)]
 pub(crate) struct Parts {
-    table: BTreeMap<u64, Part>,
+    table: PartTable,
 }
 
 impl Parts {
@@ -121,7 +120,7 @@ impl Parts {
         ensures { HasNoParts result.table }
     {
         Parts {
-            table: BTreeMap::new(alloc),
+            table: PartTable::new(alloc),
         }
     }
 
@@ -136,12 +135,18 @@ impl Parts {
     fn next_part(&self, low: u64, high: u64) -> Option<(u64, Part)>
         requires { low ≤ high }
         ensures within { IfSome result (λ r. (low ≤ r.0) × (r.0 < high)) }
-        ensures part { IfSome result (λ r. get nat_cmp self.now.table r.0 ≡ Some r.1) }
+        ensures part { IfSome result (λ r. part_in self.now.table r.0 ≡ Some r.1) }
         ensures before { IfSome result (λ r. HasNone self.now.table low r.0) }
         ensures none { IfNone result (HasNone self.now.table low high) }
     {
-        match self.table.range(low..high).next() {
-            Some((begin, part)) => Some((*begin, *part)),
+        match self.table.first_from(low) {
+            Some((begin, part)) => {
+                if begin < high {
+                    Some((begin, part))
+                } else {
+                    None
+                }
+            }
             None => None,
         }
     }
@@ -150,9 +155,9 @@ impl Parts {
     pub fn part_at(&self, at: u64) -> Part
         ensures { HoldsFor self.now.table (λ f. result ≡ f at) }
     {
-        match self.table.range(0..=at).next_back() {
-            Some((begin, part)) if *begin == at => *part,
-            Some((_, part)) => Part { ends: 0, ..*part },
+        match self.table.last_up_to(at) {
+            Some((begin, part)) if begin == at => part,
+            Some((_, part)) => Part { ends: 0, ..part },
             None => NOTHING,
         }
     }
@@ -175,14 +180,12 @@ impl Parts {
     fn remove_end(&mut self, at: u64)
         ensures { Becomes self.old.table (without_end at) self.new.table }
     {
-        match self.table.get(&at) {
+        match self.table.get(at) {
             Some(part) if part.ends > 1 => {
                 let ends = part.ends - 1;
-                self.table.get_mut(&at).unwrap().ends = ends;
+                self.table.replace(at, Part { ends, ..part });
             }
-            _ => {
-                self.table.remove(&at);
-            }
+            _ => self.table.remove(at),
         }
     }
 
@@ -195,7 +198,7 @@ impl Parts {
         let Range { low, high } = range;
         let mut offset = low;
         while let Some((at, part)) = self.next_part(offset, high) {
-            *self.table.get_mut(&at).unwrap() = part.recounted(change);
+            self.table.replace(at, part.recounted(change));
             offset = at + 1;
         }
     }

@@ -1,7 +1,8 @@
-use Rattle.std.proofs.Common.{rules, ◌≡◌, ◌+◌, ◌*◌, [], List, ℕ, Option, Some, None, ap, sym, subst, ◌∙◌}
+use Rattle.std.proofs.Common.{rules, ◌≡◌, true, false, length, ◌+◌, ◌*◌, [], List, ℕ, Option, Some, None, ap, sym, subst, ◌∙◌}
 use Rattle.std.specs.Prelude.{OnOk, is_some, unwrap_or}
 use Rattle.object_maps.specs.Sources.{AreBytesFrom}
-use Rattle.extents.specs.Objects.{patch_of}
+use Rattle.extents.specs.Objects.{HidesBelow, patch_of}
+use Rattle.extents.specs.Patches.{Patch}
 use Rattle.extents.specs.Tables.{entry_at, patch_in, patches_of}
 use Rattle.extents.proofs.LaidReads.{same_object, shown_is_there, laid_part, hidden_part}
 use Rattle.extents.proofs.laid.LaidObjectSource.read_present.Goals as goal
@@ -46,3 +47,9 @@ returns-clause-part g c =
           hidden_part patches below c.args.id.0 (patch_of patch) (ap patch_in some) c.requires.there offset c.if-not-hides.into c.lay_on.new.into patch.sized
           c.lay_on.ensures.size c.lay_on.ensures.bytes (search rules)
     ]
+
+pub returns-in_err-read_present-clause-spared : goal.returns-in_err-read_present-clause-spared
+returns-in_err-read_present-clause-spared g c = λ sees.
+    let some : entry_at c.args.self.now.extents.now c.args.id.0 ≡ Some c.in-Some.patch.now = search rules in
+    let hidden = subst (λ (p : Patch). HidesBelow p (4032 * c.args.index + c.args.start) (length c.args.into.now)) (ap patch_in some) sees.1 in
+    absurd (let no_way : true ≡ false = sym (c.hides.ensures.hidden.1 hidden) ∙ c.if-not-hides.true in cc)

@@ -6,7 +6,7 @@ use Rattle.range_locks.proofs.parts.Parts.add_end.Goals as goal
 
 pub returns-clause-added : goal.returns-clause-added
 returns-clause-added c = λ f is still.
-    updated c.args.self.now.table c.insert.new.self c.args.at _ f (with_end c.args.at f) is c.in_ok-insert.ensures.updates.0
+    updated c.args.self.now.table c.insert.new.self c.args.at _ f (with_end c.args.at f) is c.in_ok-insert.ensures.inserted
     (ap (λ (p : Part). Some (record p { ends = p.ends + 1 })) (c.part_at-part.ensures f is still) ∙ sym (ap stored_part (with_end-here c.args.at f) ∙ stored-some _ (omega arith)))
     (with_end-apart c.args.at f)
 

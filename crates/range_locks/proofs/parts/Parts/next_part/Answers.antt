@@ -1,8 +1,11 @@
-use Rattle.range_locks.proofs.Keys.{none_before, none_within}
+use Rattle.std.proofs.Common.{arith}
 use Rattle.range_locks.proofs.parts.Parts.next_part.Goals as goal
 
-pub returns-in-Some-clause-before : goal.returns-in-Some-clause-before
-returns-in-Some-clause-before c = none_before c.args.self.now.table c.args.low c.args.high _ _ _ c.in-Some.ensures.steps (c.range.ensures.in_range tt)
+pub returns-then-begin-high-clause-before : goal.returns-then-begin-high-clause-before
+returns-then-begin-high-clause-before c = c.in-Some.ensures.2
+
+pub returns-else-begin-high-clause-none : goal.returns-else-begin-high-clause-none
+returns-else-begin-high-clause-none c = λ k from below. c.in-Some.ensures.2 k from (omega (arith, c.if-begin-high.false))
 
 pub returns-in-None-clause-none : goal.returns-in-None-clause-none
-returns-in-None-clause-none c = none_within c.args.self.now.table c.args.low c.args.high _ c.in-None.ensures.steps.0 (c.range.ensures.in_range tt)
+returns-in-None-clause-none c = λ k from below. c.in-None.ensures k from

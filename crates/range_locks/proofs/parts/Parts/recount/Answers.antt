@@ -7,8 +7,8 @@ use Rattle.range_locks.proofs.parts.Parts.recount.Goals as goal
 pub loop-at-preserved : goal.loop-at-preserved
 loop-at-preserved c =
     let kept = c.loop-at.invariant in
-    let now = c.get_mut.follows.lender c.recounted.result in
-    let writes = c.get_mut.follows.holds c.recounted.result in
+    let now = c.replace.new.self in
+    let writes = c.replace.ensures in
     let from : c.args.range.low ≤ c.loop-at.offset = kept.0 in
     let at : c.loop-at.offset ≤ c.in-Some.at = c.in-Some.ensures.within.0 in
     let to : c.in-Some.at < c.args.range.high = c.in-Some.ensures.within.1 in (
