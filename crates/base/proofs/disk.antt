@@ -5,5 +5,6 @@ pub mod Fairness
 pub mod CheckedPlaces
 pub mod WrittenBlocks
 pub mod WrittenLabels
+pub mod StagedLabels
 pub mod FairBytes
 pub mod EarlierWrites

@@ -1,3 +1,4 @@
+pub mod LabelConfigs
 pub mod ShownLabels
 pub mod Stored
 pub mod HeldMounts

@@ -1,10 +1,10 @@
--- The labels that an import wrote show the pool that it gives.
+-- The labels that an import wrote show the pool that it gives, each with its config.
 use Rattle.std.proofs.Common.{◌≡◌, ℕ, ◌<◌, List, length, drop, refl, sym, subst}
 use Rattle.base.specs.formats.Fields.{part}
 use Rattle.base.specs.formats.Geometry.{IsGeometry, block_size, config_place}
 use Rattle.base.specs.formats.Labels.{IsConfig}
 use Rattle.base.specs.formats.Uberblocks.{IsActive}
-use Rattle.base.proofs.stored.StoredImports.{new-shows}
+use Rattle.base.proofs.stored.StoredImports.{new-configs, new-shows}
 use Rattle.labels.specs.Configs.{IsConfigBlock}
 use Rattle.object_maps.specs.ContentsShown.{contents_of}
 use Rattle.import_replay.specs.declared.mounted.Mounted.{Mounted}
@@ -24,4 +24,5 @@ module _ (now : List ℕ) (moment : ℕ) (m : Mounted) (long : length now ≡ m.
   labels_show geometry active = record {
     geometry = geometry;
     labels = λ created. new-shows now (shown_of_import m) (contents_of m.contents) created m.dirty_max (uberblock_of_import moment m) active config_at refl refl refl refl refl refl;
+    configs = λ created. new-configs now (shown_of_import m) (contents_of m.contents) created m.dirty_max config_at;
   }

@@ -39,6 +39,7 @@ kept_as t pointers past same none x = record {
     sync = subst (λ (o : Option NewTree). RunsAs t.now t.shown t.pointers o past) (sym none) (subst (λ (o : Option NewTree). RunsAs t.now t.shown pointers o past) none x.kept.sync);
     geometry = x.kept.geometry;
     labels = x.kept.labels;
+    configs = x.kept.configs;
   };
 }
 

@@ -56,7 +56,7 @@ module _ (now : List ℕ) (created : ℕ) (m : Mounted) (sized : block_count m.g
     pointers = pointers_of m.tree;
     running = None;
   })
-  is_held = record { explained = explained created; kept = record { stored = stored; sync = refl; geometry = shows.geometry; labels = shows.labels created } }
+  is_held = record { explained = explained created; kept = record { stored = stored; sync = refl; geometry = shows.geometry; labels = shows.labels created; configs = shows.configs created } }
 
 -- The contents that an import mounts are within the limits.
 pub mounted_within : (m : Mounted) → ∥ IsExplainedAnew m ∥₁ → AreWithin (contents_of m.contents).objects

@@ -15,6 +15,7 @@ use Rattle.base.specs.steps.Steps.{State}
 use Rattle.base.specs.stored.Stored.{Held, Moves, NewTree}
 use Rattle.object_maps.specs.declared.tree.Tree.{Tree}
 use Rattle.object_maps.specs.Pointers.{pointers_of}
+use Rattle.sync.specs.declared.run.LabelStages.{LabelStages}
 use Rattle.sync.specs.declared.run.SyncRun.{SyncRun}
 use Rattle.tree_plans.specs.Plans.{new_block}
 use Rattle.pool_tables.specs.declared.pool.PoolTables.{PoolTables}
@@ -31,10 +32,10 @@ pub record ShownPool : Type 0 where
   pub pointers : Place → Pointer
   pub running : Option NewTree
 
--- the tree of these pointers that a sync makes, its blocks as they are written, its uberblock, and how many of its
--- calls it has made
+-- the tree of these pointers that a sync makes, its blocks as they are written, its uberblock, its config if it has
+-- label stages, and how many of its calls it has made
 abbrev pub made_by : (Place → Pointer) → SyncRun → NewTree
-made_by pointers run = record { pointers = pointers; blocks = map new_block run.blocks.items; slot = run.uberblock; done = run.done }
+made_by pointers run = record { pointers = pointers; blocks = map new_block run.blocks.items; slot = run.uberblock; stages = option_map (λ (stages : LabelStages). stages.config) run.stages; done = run.done }
 
 -- the one that a running sync makes of this tree, and its pointers
 abbrev pub tree_after : RunningSync → Tree → Place → Pointer

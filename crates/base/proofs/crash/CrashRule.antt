@@ -1,6 +1,6 @@
 -- The crash rule: each phase mounts what its views mount, a crash leads from each to rest, and rounds of imports and
 -- runs leave a client what it may expect.
-use Rattle.std.proofs.Common.{◌≡◌, inl, inr, ⊎_elim, true, ℕ, zero, suc, ◌≤◌, List, [], ◌∷◌, length, map, take, refl, sym, ◌∙◌, ap, subst, arith, ◌⊎◌}
+use Rattle.std.proofs.Common.{◌≡◌, inl, inr, ⊎_elim, ℕ, zero, suc, ◌≤◌, List, [], ◌∷◌, length, map, take, refl, sym, ◌∙◌, ap, subst, arith, ◌⊎◌}
 use Rattle.base.specs.history.Contents.{Contents}
 use Rattle.base.specs.disk.Disk.{Write, Disk, Moment, moments, MayLeave, bytes_of, handed, disk_size, settled, certain, certain_with}
 use Rattle.base.specs.disk.Fairness.{IsFair, IsFairOn, LeavesFair, passes_check}

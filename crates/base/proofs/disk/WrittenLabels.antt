@@ -1,5 +1,5 @@
--- What a write of a block or of an uberblock makes of the labels: a block touches none, and an uberblock of a later
--- group is the active one from its first label on, with the config as it was.
+-- What a write of a block, a config or an uberblock makes of the labels: a block touches none, a config leaves each
+-- uberblock, and an uberblock of a later group is the active one from its first label on, with the configs as they were.
 use Rattle.std.proofs.Common.{◌≡◌, ℕ, ◌+◌, ◌<◌, ◌≤◌, List, length, ap, sym, subst, ◌∙◌, arith, ◌⊎◌, inl, inr}
 use Rattle.std.specs.Prelude.{◌≢◌}
 use Rattle.std.proofs.lemmas.Bool.{cases_lt, cases_order}
@@ -26,10 +26,10 @@ stands-back now later k u size same is = subst (λ (bytes : List ℕ). IsUberblo
     (ap (λ (n : ℕ). part later (slot_place n k (slot_of u.group)) slot_size) size ∙ same) is
 
 -- each config is the same
-abbrev SameConfigs : List ℕ → List ℕ → Type 0
+abbrev pub SameConfigs : List ℕ → List ℕ → Type 0
 SameConfigs now later = (k : ℕ) → k < 4 → part later (config_place (length now) k) block_size ≡ part now (config_place (length now) k) block_size
 
-config-along : (now later : List ℕ) (k guid group : ℕ) (name : List ℕ) → length later ≡ length now → part later (config_place (length now) k) block_size ≡ part now (config_place (length now) k) block_size
+pub config-along : (now later : List ℕ) (k guid group : ℕ) (name : List ℕ) → length later ≡ length now → part later (config_place (length now) k) block_size ≡ part now (config_place (length now) k) block_size
     → IsConfig now k guid group name → IsConfig later k guid group name
 config-along now later k guid group name size same is = record {
   payload = is.payload;
@@ -56,34 +56,56 @@ chosen-along now later guid bound found name size same c = record {
   lowest = λ k other before is. c.lowest k other before (let in_range = c.in_range in config-back now later k guid found other size (same k (omega (arith, before, in_range))) is);
 }
 
+-- where each slot is the same, the same uberblock is active
+abbrev SameSlots : List ℕ → List ℕ → Type 0
+SameSlots now later = (k i : ℕ) → k < 4 → i < 128 → part later (slot_place (length now) k i) slot_size ≡ part now (slot_place (length now) k i) slot_size
+
+active-along : (now later : List ℕ) (u : Uberblock) → length later ≡ length now → SameSlots now later → IsActive now u → IsActive later u
+active-along now later u size slots x = record {
+  label = x.label;
+  in_range = x.in_range;
+  stands = stands-along now later x.label u size (slots x.label (slot_of u.group) x.in_range (slot-below u.group)) x.stands;
+  highest = λ k other below is. x.highest k other below (stands-back now later k other size (slots k (slot_of other.group) below (slot-below other.group)) is);
+  lowest = λ k other before is. let in_range = x.in_range in
+      x.lowest k other before (stands-back now later k other size (slots k (slot_of other.group) (omega (arith, before, in_range)) (slot-below other.group)) is);
+}
+
 -- where each slot and each config is the same, so is what the labels show
-pub shows-along : (now later : List ℕ) (u : Uberblock) (name : List ℕ) → length later ≡ length now
-    → ((k i : ℕ) → k < 4 → i < 128 → part later (slot_place (length now) k i) slot_size ≡ part now (slot_place (length now) k i) slot_size) → SameConfigs now later
-    → ShowsUberblock now u name → ShowsUberblock later u name
+shows-along : (now later : List ℕ) (u : Uberblock) (name : List ℕ) → length later ≡ length now → SameSlots now later → SameConfigs now later → ShowsUberblock now u name → ShowsUberblock later u name
 shows-along now later u name size slots configs x = record {
-  active = record {
-    label = x.active.label;
-    in_range = x.active.in_range;
-    stands = stands-along now later x.active.label u size (slots x.active.label (slot_of u.group) x.active.in_range (slot-below u.group)) x.active.stands;
-    highest = λ k other below is. x.active.highest k other below (stands-back now later k other size (slots k (slot_of other.group) below (slot-below other.group)) is);
-    lowest = λ k other before is. let in_range = x.active.in_range in
-        x.active.lowest k other before (stands-back now later k other size (slots k (slot_of other.group) (omega (arith, before, in_range)) (slot-below other.group)) is);
-  };
+  active = active-along now later u size slots x.active;
   config_group = x.config_group;
-  chosen = λ bound above. chosen-along now later u.guid bound x.config_group name size configs (x.chosen bound above);
+  chosen = chosen-along now later u.guid u.group x.config_group name size configs x.chosen;
 }
 
 -- A block that is written leaves the labels.
-pub block-shows : (now : List ℕ) (address : ℕ) (content : List ℕ) (u : Uberblock) (name : List ℕ) → IsGeometry (length now) → IsBlockAddress (block_count (length now)) address → length content ≡ block_size
-    → address + length content ≤ length now → ShowsUberblock now u name → ShowsUberblock (put address content now) u name
-block-shows now address content u name geometry area long fits x = shows-along now (put address content now) u name (length-put address content now fits)
-    (λ k i below in_array. part-put_apart address content now (slot_place (length now) k i) slot_size fits
-    (side k (slot_place (length now) k i) slot_size below (omega arith) (omega (arith, in_array))))
-    (λ k below. part-put_apart address content now (config_place (length now) k) block_size fits (side k (config_place (length now) k) block_size below (omega arith) (omega arith)))
-    x
-  where
-    side : (k place n : ℕ) → k < 4 → label_place (length now) k ≤ place → place + n ≤ label_place (length now) k + 262144 → Apart address (length content) place n
-    side k place n below from to = subst (λ (m : ℕ). Apart address m place n) (sym long) (block-label_apart (length now) k place n address geometry below from to area)
+module _ (now : List ℕ) (address : ℕ) (content : List ℕ) (geometry : IsGeometry (length now)) (area : IsBlockAddress (block_count (length now)) address) (long : length content ≡ block_size) (fits : address + length content ≤ length now) where
+  beside : (k place n : ℕ) → k < 4 → label_place (length now) k ≤ place → place + n ≤ label_place (length now) k + 262144 → Apart address (length content) place n
+  beside k place n below from to = subst (λ (m : ℕ). Apart address m place n) (sym long) (block-label_apart (length now) k place n address geometry below from to area)
+
+  pub block-configs : SameConfigs now (put address content now)
+  block-configs k below = part-put_apart address content now (config_place (length now) k) block_size fits (beside k (config_place (length now) k) block_size below (omega arith) (omega arith))
+
+  pub block-shows : (u : Uberblock) (name : List ℕ) → ShowsUberblock now u name → ShowsUberblock (put address content now) u name
+  block-shows u name x = shows-along now (put address content now) u name (length-put address content now fits)
+      (λ k i below in_array. part-put_apart address content now (slot_place (length now) k i) slot_size fits
+      (beside k (slot_place (length now) k i) slot_size below (omega arith) (omega (arith, in_array))))
+      block-configs x
+
+-- A config that is written into a label leaves the active uberblock.
+module _ (now config : List ℕ) (label : ℕ) (geometry : IsGeometry (length now)) (below : label < 4) (long : length config ≡ block_size) where
+  pub config-fits : config_place (length now) label + length config ≤ length now
+  config-fits = let l = label-apart (length now) label (config_place (length now) label) block_size geometry below (omega arith) (omega arith) in omega (arith, long, l.0)
+
+  apart-from : (k i : ℕ) → k < 4 → i < 128 → Apart (config_place (length now) label) (length config) (slot_place (length now) k i) slot_size
+  apart-from k i k_in i_in = elim (slot-config_apart (length now) k i label geometry k_in i_in below) as (λ _. Apart (config_place (length now) label) (length config) (slot_place (length now) k i) slot_size) [
+    | inl less ↦ inr less
+    | inr more ↦ inl (omega (arith, more, long))
+  ]
+
+  pub config-active : (u : Uberblock) → IsActive now u → IsActive (put (config_place (length now) label) config now) u
+  config-active u = active-along now (put (config_place (length now) label) config now) u (length-put (config_place (length now) label) config now config-fits)
+      (λ k i k_in i_in. part-put_apart (config_place (length now) label) config now (slot_place (length now) k i) slot_size config-fits (apart-from k i k_in i_in))
 
 -- An uberblock that is written into its slot of a label.
 module _ (now slot : List ℕ) (v : Uberblock) (label : ℕ) (geometry : IsGeometry (length now)) (below : label < 4) (coded : IsUberblock slot v) where
@@ -115,8 +137,8 @@ module _ (now slot : List ℕ) (v : Uberblock) (label : ℕ) (geometry : IsGeome
       (slots-apart (length now) label (slot_of v.group) k i geometry below (slot-below v.group) k_in i_in other))
 
   -- and each config
-  configs : SameConfigs now later
-  configs k k_in = part-put_apart place slot now (config_place (length now) k) block_size slot-fits
+  pub slot-configs : SameConfigs now later
+  slot-configs k k_in = part-put_apart place slot now (config_place (length now) k) block_size slot-fits
       (subst (λ (n : ℕ). Apart place n (config_place (length now) k) block_size) (sym coded.size)
       (slot-config_apart (length now) label (slot_of v.group) k geometry below (slot-below v.group) k_in))
 
@@ -150,21 +172,20 @@ module _ (now slot : List ℕ) (v : Uberblock) (label : ℕ) (geometry : IsGeome
       by_label (inr (inl less)) = none k other k_in (in-other k other k_in (λ same. omega (arith, same, less)) is)
       by_label (inr (inr more)) = none k other k_in (in-other k other k_in (λ same. omega (arith, same, more)) is)
 
-  -- The first write makes it the active one.
-  pub slot-shows : (u : Uberblock) (name : List ℕ) → u.guid ≡ v.guid → u.group < v.group → ShowsUberblock now u name → ShowsUberblock later v name
-  slot-shows u name guid above x = record {
+  -- The first write makes it the active one, with the config that is chosen for it.
+  pub slot-shows : (u : Uberblock) (found : ℕ) (name : List ℕ) → u.group < v.group → IsActive now u → IsChosen now v.guid v.group found name → ShowsUberblock later v name
+  slot-shows u found name above active chosen = record {
     active = record {
       label = label;
       in_range = below;
       stands = here;
-      highest = none-higher (λ k other k_in is. let up = x.active.highest k other k_in is in omega (arith, up, above));
+      highest = none-higher (λ k other k_in is. let up = active.highest k other k_in is in omega (arith, up, above));
       lowest = λ k other before is same.
-          let up = x.active.highest k other (omega (arith, before, below)) (in-other k other (omega (arith, before, below)) (λ l. omega (arith, l, before)) is) in
+          let up = active.highest k other (omega (arith, before, below)) (in-other k other (omega (arith, before, below)) (λ l. omega (arith, l, before)) is) in
           omega (arith, up, above, same);
     };
-    config_group = x.config_group;
-    chosen = λ bound high. chosen-along now later v.guid bound x.config_group name size configs
-        (subst (λ (g : ℕ). IsChosen now g bound x.config_group name) guid (x.chosen bound (omega (arith, above, high))));
+    config_group = found;
+    chosen = chosen-along now later v.guid v.group found name size slot-configs chosen;
   }
 
   -- And each further one leaves it that.
@@ -172,7 +193,7 @@ module _ (now slot : List ℕ) (v : Uberblock) (label : ℕ) (geometry : IsGeome
   slot-shows_again name x = record {
     active = by_label (cases_lt label x.active.label);
     config_group = x.config_group;
-    chosen = λ bound high. chosen-along now later v.guid bound x.config_group name size configs (x.chosen bound high);
+    chosen = chosen-along now later v.guid v.group x.config_group name size slot-configs x.chosen;
   }
     where
       highest : (k : ℕ) (other : Uberblock) → k < 4 → StandsIn later k other → other.group ≤ v.group

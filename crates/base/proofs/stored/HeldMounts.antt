@@ -12,6 +12,7 @@ use Rattle.base.specs.formats.Versions.{written_version}
 use Rattle.base.specs.crash.Mount.{IsChainOf, frame_of}
 use Rattle.base.specs.history.Past.{Past}
 use Rattle.base.specs.steps.Shown.{Shown, SyncPlan, uberblock_of}
+use Rattle.base.specs.crash.SyncCalls.{stage_calls}
 use Rattle.base.specs.stored.ShownLabels.{ShowsUberblock, ShowsSynced, ShowsSyncing, AreLabelsShown, HasNoLogBlock}
 use Rattle.base.specs.stored.Stored.{NewTree, IsSyncing, RunsAs, Held, IsHeld, frame_at}
 use Rattle.base.specs.stored.HeldMounts.{MountsUpTo, HeldMounts, IdleMounts}
@@ -42,7 +43,7 @@ module _ (h : Held) (x : IsHeld h) (none : HasNoLogBlock h.now) where
     mounts = record {
       synced = c;
       found = record {
-        pool = record { geometry = x.kept.geometry; active = shows.active; config_group = shows.config_group; chosen = shows.chosen u.group (omega arith) };
+        pool = record { geometry = x.kept.geometry; active = shows.active; config_group = shows.config_group; chosen = shows.chosen };
         tree = subst (λ (r : Pointer). IsTree h.now (frame_of h.now u) r c.objects) (sym root_is) (subst (λ (f : Frame). IsTree h.now f root c.objects) frames tree);
         chain_is = no_log-chain h.now u none;
       };
@@ -71,7 +72,7 @@ module _ (h : Held) (x : IsHeld h) (none : HasNoLogBlock h.now) where
       (subst (λ (c : Contents). IsTree h.now (frame_at s s.line.synced) s.root c.objects) same t.tree)
 
   -- the group of a sync
-  syncing : (new : NewTree) → IsSyncing h.now s h.pointers new past → length new.blocks + 1 < new.done → ShowsSyncing h.now s past → (group : ℕ) × (s.line.syncing ≡ Some group) × MountsUpTo group h.now s past
+  syncing : (new : NewTree) → IsSyncing h.now s h.pointers new past → length new.blocks + 1 + stage_calls new.stages < new.done → ShowsSyncing h.now s past → (group : ℕ) × (s.line.syncing ≡ Some group) × MountsUpTo group h.now s past
   syncing new y high z =
       let behind : length new.blocks ≤ new.done = omega (arith, high) in
       let of_group : z.group ≡ y.group = Some-injective (sym z.syncing ∙ y.syncing) in

@@ -1,6 +1,6 @@
--- What the labels show of a pool that was just imported; and blocks of zeros are no log blocks.
+-- What the labels show of a pool that was just imported, and which configs they have; and blocks of zeros are no log blocks.
 use Rattle.std.proofs.Common.{◌≡◌, ℕ, ◌<◌, List, [], refl, ap, sym, ◌∙◌, arith}
-use Rattle.std.specs.Prelude.{slice_get, unwrap_or, option_map}
+use Rattle.std.specs.Prelude.{None, slice_get, unwrap_or, option_map}
 use Rattle.base.specs.history.Contents.{Contents}
 use Rattle.base.specs.formats.Uberblocks.{Uberblock, IsActive}
 use Rattle.base.specs.formats.Labels.{IsConfig}
@@ -8,7 +8,18 @@ use Rattle.base.specs.steps.Logs.{KeptBlock, header_at}
 use Rattle.base.specs.crash.Mount.{header_of}
 use Rattle.base.specs.history.Past.{new_past}
 use Rattle.base.specs.steps.Shown.{Shown}
+use Rattle.base.specs.stored.LabelConfigs.{HaveConfigs, HoldConfigs}
 use Rattle.base.specs.stored.ShownLabels.{ShowsSynced}
+use Rattle.base.proofs.disk.StagedLabels.{unstaged-chosen}
+
+-- each label has a config of this group and name
+all-configs : (now : List ℕ) (guid group : ℕ) (name : List ℕ) → ((label : ℕ) → label < 4 → IsConfig now label guid group name) → HaveConfigs now guid group name [] 0
+all-configs now guid group name configs = record { written = λ label below none. absurd (omega (arith, none)); left = λ label below more. configs label below }
+
+-- so are those of a new pool
+pub new-configs : (now : List ℕ) (s : Shown) (contents : Contents) (created dirty_max : ℕ) → ((label : ℕ) → label < 4 → IsConfig now label s.guid s.line.synced contents.name)
+    → HoldConfigs now s None (new_past contents created dirty_max)
+new-configs now s contents created dirty_max configs = record { synced = contents; replayed = refl; group = s.line.synced; within = omega arith; have = all-configs now s.guid s.line.synced contents.name configs }
 
 -- The labels show a new pool, where its uberblock is the active one and each label has its config.
 pub new-shows : (now : List ℕ) (s : Shown) (contents : Contents) (created dirty_max : ℕ) (v : Uberblock) → IsActive now v → ((label : ℕ) → label < 4 → IsConfig now label v.guid v.group contents.name) → v.guid ≡ s.guid
@@ -21,14 +32,7 @@ new-shows now s contents created dirty_max v active configs guid group import ro
     shows = record {
       active = active;
       config_group = v.group;
-      chosen = λ bound above. record {
-        label = 0;
-        in_range = omega arith;
-        stands = configs 0 (omega arith);
-        not_above = above;
-        highest = λ k g other below within c. let same : g ≡ v.group = sym c.block.group_is ∙ (configs k below).block.group_is in omega (arith, same);
-        lowest = λ k other before c. omega (arith, before);
-      };
+      chosen = unstaged-chosen now v.guid v.group 0 contents.name [] (all-configs now v.guid v.group contents.name configs) refl v.group (omega arith);
     };
     guid = guid;
     group_is = group;

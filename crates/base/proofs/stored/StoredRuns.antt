@@ -97,9 +97,9 @@ module _ (old new : Held) (x : IsHeld old) where
 
     -- the start of a sync
     start : (group : ℕ) (moment : ℕ) → as_built.StartSync keeps bytes moment (Ok group) old.state new.state → Starts group old new → Kept
-    start group moment h m = told old.pointers (Some (record { pointers = m.tree; blocks = m.bs; slot = m.slot; done = 0 })) m.pointers m.running
-        (subst (λ (l : List ℕ). IsKept l new.state.shown old.pointers (Some (record { pointers = m.tree; blocks = m.bs; slot = m.slot; done = 0 })) new.state.past) (sym m.same)
-        (start-keeps keeps bytes old.now moment group m.plan old.state new.state old.pointers m.tree m.bs m.slot x.explained old.running x.kept h m.plan_is m.slot_is (m.planned x)))
+    start group moment h m = told old.pointers (Some (record { pointers = m.tree; blocks = m.bs; slot = m.slot; stages = m.stages; done = 0 })) m.pointers m.running
+        (subst (λ (l : List ℕ). IsKept l new.state.shown old.pointers (Some (record { pointers = m.tree; blocks = m.bs; slot = m.slot; stages = m.stages; done = 0 })) new.state.past) (sym m.same)
+        (start-keeps keeps bytes old.now moment group m.plan old.state new.state old.pointers m.tree m.bs m.slot m.stages x.explained old.running x.kept h m.plan_is m.slot_is (m.planned x) (m.named x)))
 
     -- its end
     end : (group : ℕ) → steps.SyncStep (Ok (Synced group)) old.state new.state

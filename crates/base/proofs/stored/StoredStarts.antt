@@ -31,6 +31,7 @@ use Rattle.base.specs.steps.Refusals as refusal
 use Rattle.base.specs.steps.Steps as steps
 use Rattle.base.specs.steps.Steps.{State, IsPlanned}
 use Rattle.base.specs.steps.BuiltSteps as as_built
+use Rattle.base.specs.stored.LabelConfigs.{HoldConfigs, WritesName}
 use Rattle.base.specs.stored.ShownLabels.{ShowsSynced, AreLabelsShown}
 use Rattle.base.specs.stored.Stored.{NewTree, IsStored, IsPlannedSync, IsSyncing, RunsAs, IsKept, AreBlocks, LeavesTree, IsUnwritten, AreUsed, frame_at}
 use Rattle.base.proofs.history.CommitOrder.{no_refusal, ok-none}
@@ -43,6 +44,7 @@ use Rattle.base.proofs.formats.Geometry.{IsGeometry-IsSize}
 use Rattle.base.proofs.steps.KeptTrees.{explained-allowed, next_bounded}
 use Rattle.base.proofs.steps.WaitingGroups.{next-group}
 use Rattle.base.proofs.stored.StoredLabels.{synced-state}
+use Rattle.base.proofs.stored.StoredConfigs.{configs-start}
 use Rattle.base.proofs.stored.StoredSets.{in-at, at-in, set-at, at-set, rising-in, rising-rises, map-at}
 use Rattle.base.proofs.common.KeptLists.{at_take, Some-injective}
 
@@ -161,28 +163,36 @@ pub idle-shows : (now : List ℕ) (s : Shown) (p : Past) (pointers : Place → P
 idle-shows now s p pointers None idle y labels = labels
 idle-shows now s p pointers (Some new) idle y labels = absurd (let no_way : None ≡ Some y.group = sym idle ∙ y.syncing in cc)
 
+-- and its configs
+pub idle-configs : (now : List ℕ) (s : Shown) (p : Past) (pointers : Place → Pointer) (running : Option NewTree) → s.line.syncing ≡ None → RunsAs now s pointers running p → HoldConfigs now s running p → HoldConfigs now s None p
+idle-configs now s p pointers None idle y configs = configs
+idle-configs now s p pointers (Some new) idle y configs = absurd (let no_way : None ≡ Some y.group = sym idle ∙ y.syncing in cc)
+
 -- what is kept of the device before a sync is started, except for its tree
 pub record IsIdle (now : List ℕ) (s : Shown) (past : Past) : Type 0 where
   pub shows : ShowsSynced now s past
+  pub configs : HoldConfigs now s None past
   pub geometry : IsGeometry (length now)
 
 -- what is stored stays as a sync starts, and the sync has written nothing yet
-pub start-state : (now : List ℕ) (moment group : ℕ) (plan : SyncPlan) (s : State) (pointers new : Place → Pointer) (bs : List NewBlock) (slot : List ℕ) → IsExplainedNow s.shown s.past → (x : IsStored now s.shown pointers s.past)
+pub start-state : (now : List ℕ) (moment group : ℕ) (plan : SyncPlan) (s : State) (pointers new : Place → Pointer) (bs : List NewBlock) (slot : List ℕ) (stages : Option (List ℕ)) → IsExplainedNow s.shown s.past → (x : IsStored now s.shown pointers s.past)
     → IsIdle now s.shown s.past → s.shown.line.middle ≡ Some (record { group = group; quiesced = true }) → s.shown.line.syncing ≡ None → IsPlanned s moment group plan
     → IsUberblock slot (uberblock_of s.shown group plan) → IsPlannedSync (frame_at s.shown group) pointers new bs x.synced.objects plan.contents.objects plan
-    → IsKept now (steps.state_after_start group plan s).shown pointers (Some (record { pointers = new; blocks = bs; slot = slot; done = 0 })) (steps.state_after_start group plan s).past
-start-state now moment group plan s pointers new bs slot explained x idle_is middle idle planned coded y = record {
+    → WritesName stages (length now) s.shown.guid group x.synced.name plan.contents.name
+    → IsKept now (steps.state_after_start group plan s).shown pointers (Some (record { pointers = new; blocks = bs; slot = slot; stages = stages; done = 0 })) (steps.state_after_start group plan s).past
+start-state now moment group plan s pointers new bs slot stages explained x idle_is middle idle planned coded y named = record {
   stored = stored;
   sync = syncing;
   geometry = idle_is.geometry;
   labels = inl (omega arith, synced-state now s.shown t.shown s.past t.past idle_is.shows refl);
+  configs = configs-start now s.shown t.shown s.past t.past tree refl refl idle_is.configs;
 }
   where
     t : State
     t = steps.state_after_start group plan s
 
     tree : NewTree
-    tree = record { pointers = new; blocks = bs; slot = slot; done = 0 }
+    tree = record { pointers = new; blocks = bs; slot = slot; stages = stages; done = 0 }
 
     stored : IsStored now t.shown pointers t.past
     stored = record {
@@ -232,22 +242,24 @@ start-state now moment group plan s pointers new bs slot explained x idle_is mid
           (bounded-no_others plan.contents bounded) are leaves y.used room;
       header = subst (λ (h : Header). IsHeaderIn h s.shown.log) (sym planned.header) (header_for-in group s.shown.log);
       slot = coded;
+      named = named;
       done = omega arith;
       written = λ i b below at. absurd (omega (arith, below));
     }
 
 -- the start of a sync, as a step
-pub start-keeps : (keeps : Type 0) (bytes now : List ℕ) (moment group : ℕ) (plan : SyncPlan) (old new : State) (pointers made : Place → Pointer) (bs : List NewBlock) (slot : List ℕ) → IsExplainedNow old.shown old.past
+pub start-keeps : (keeps : Type 0) (bytes now : List ℕ) (moment group : ℕ) (plan : SyncPlan) (old new : State) (pointers made : Place → Pointer) (bs : List NewBlock) (slot : List ℕ) (stages : Option (List ℕ)) → IsExplainedNow old.shown old.past
     → (running : Option NewTree) (x : IsKept now old.shown pointers running old.past) → as_built.StartSync keeps bytes moment (Ok group) old new → new.shown.sync ≡ Some plan → IsUberblock slot (uberblock_of old.shown group plan)
-    → IsPlannedSync (frame_at old.shown group) pointers made bs x.stored.synced.objects plan.contents.objects plan
-    → IsKept now new.shown pointers (Some (record { pointers = made; blocks = bs; slot = slot; done = 0 })) new.past
-start-keeps keeps bytes now moment group plan old new pointers made bs slot explained running x h runs coded y =
+    → IsPlannedSync (frame_at old.shown group) pointers made bs x.stored.synced.objects plan.contents.objects plan → WritesName stages (length now) old.shown.guid group x.stored.synced.name plan.contents.name
+    → IsKept now new.shown pointers (Some (record { pointers = made; blocks = bs; slot = slot; stages = stages; done = 0 })) new.past
+start-keeps keeps bytes now moment group plan old new pointers made bs slot stages explained running x h runs coded y named =
     let done = ok-none (refusal.start_refusal old.shown) group old new _ _ h in
     let d = done.1 in
     let line = start-line old.shown group done.0 d.1 in
     let same : d.0 ≡ plan = Some-injective (sym (ap (λ (u : State). u.shown.sync) d.4) ∙ runs) in
-    let idle : IsIdle now old.shown old.past = record { shows = idle-shows now old.shown old.past pointers running line.1 x.sync x.labels; geometry = x.geometry } in
-    subst (λ (u : State). IsKept now u.shown pointers (Some (record { pointers = made; blocks = bs; slot = slot; done = 0 })) u.past) (sym d.4)
-    (start-state now moment group d.0 old pointers made bs slot explained x.stored idle line.0 line.1 d.2
+    let idle : IsIdle now old.shown old.past = record { shows = idle-shows now old.shown old.past pointers running line.1 x.sync x.labels; configs = idle-configs now old.shown old.past pointers running line.1 x.sync x.configs; geometry = x.geometry } in
+    subst (λ (u : State). IsKept now u.shown pointers (Some (record { pointers = made; blocks = bs; slot = slot; stages = stages; done = 0 })) u.past) (sym d.4)
+    (start-state now moment group d.0 old pointers made bs slot stages explained x.stored idle line.0 line.1 d.2
     (subst (λ (q : SyncPlan). IsUberblock slot (uberblock_of old.shown group q)) (sym same) coded)
-    (subst (λ (q : SyncPlan). IsPlannedSync (frame_at old.shown group) pointers made bs x.stored.synced.objects q.contents.objects q) (sym same) y))
+    (subst (λ (q : SyncPlan). IsPlannedSync (frame_at old.shown group) pointers made bs x.stored.synced.objects q.contents.objects q) (sym same) y)
+    (subst (λ (q : SyncPlan). WritesName stages (length now) old.shown.guid group x.stored.synced.name q.contents.name) (sym same) named))

@@ -28,6 +28,7 @@ use Rattle.base.proofs.history.Cuts.{up_to_push}
 use Rattle.base.proofs.steps.KeptGroups.{held_above, held_above_sync}
 use Rattle.base.proofs.steps.StepEffects.{StepDoes, step_does}
 use Rattle.base.proofs.stored.StoredLabels.{AreSameUpTo, counted-state, labels-state}
+use Rattle.base.proofs.stored.StoredConfigs.{configs-state}
 use Rattle.base.proofs.stored.StoredLogs.{log_flush_keeps, log_write_keeps}
 
 -- the free blocks are the same where a sync has taken the same
@@ -83,6 +84,7 @@ module _ (now : List ℕ) (s t : Shown) (pointers : Place → Pointer) (p q : Pa
     not_log = x.not_log;
     header = x.header;
     slot = x.slot;
+    named = x.named;
     done = x.done;
     written = x.written;
   }
@@ -97,6 +99,7 @@ module _ (now : List ℕ) (s t : Shown) (pointers : Place → Pointer) (p q : Pa
     sync = runs running x.sync;
     geometry = x.geometry;
     labels = labels-state now s after p (record q { base = p.base }) running same x.labels;
+    configs = configs-state now s after p (record q { base = p.base }) running (same s.line.synced (inl refl)) x.configs;
   }
     where
       after : Shown
@@ -134,6 +137,7 @@ module _ (now : List ℕ) (s t : Shown) (pointers : Place → Pointer) (p q : Pa
         not_log = y.not_log;
         header = y.header;
         slot = y.slot;
+        named = y.named;
         done = y.done;
         written = y.written;
       }
@@ -172,6 +176,7 @@ module _ (now : List ℕ) (pointers : Place → Pointer) (running : Option NewTr
     sync = runs running x.sync;
     geometry = x.geometry;
     labels = shown running x.sync x.labels;
+    configs = configs-state now old.shown t.shown old.past t.past running refl x.configs;
   }
     where
       t : State

@@ -20,6 +20,7 @@ use Rattle.base.specs.history.Past.{Past}
 use Rattle.base.specs.steps.Shown.{Shown, taken_of}
 use Rattle.base.specs.steps.Exact.{AreFree, IsInLog}
 use Rattle.base.specs.steps.Explains.{IsSyncedTree}
+use Rattle.base.specs.stored.LabelConfigs.{WritesName}
 use Rattle.base.specs.stored.ShownLabels.{HasNoLogBlock}
 use Rattle.base.specs.stored.Stored.{NewTree, IsStored, IsSyncing, SameBlocks, total_calls, frame_at}
 use Rattle.base.proofs.disk.Put.{length-put, part-put_same, part-put_apart}
@@ -124,9 +125,9 @@ module _ (now later : List ℕ) (s : Shown) (pointers : Place → Pointer) (past
       back address = subst (λ (root : Pointer). IsInTree later root address → IsInTree now root address) x.root (tree-along later now frame frame pointers x.synced.objects x.synced.objects tree x.tree address)
 
   -- a running sync goes on where what it has written stands
-  pub syncing-along : (new : NewTree) (more : ℕ) → (x : IsSyncing now s pointers new past) → more ≤ total_calls new
+  pub syncing-along : (new : NewTree) (more : ℕ) → (x : IsSyncing now s pointers new past) → more ≤ total_calls new → length later ≡ length now
       → ((i : ℕ) (b : NewBlock) → i < more → slice_get new.blocks i ≡ Some b → IsBlockWritten later s.blocks b) → IsSyncing later s pointers (record new { done = more }) past
-  syncing-along new more x bound stands = record {
+  syncing-along new more x bound size stands = record {
     group = x.group;
     plan = x.plan;
     syncing = x.syncing;
@@ -140,6 +141,7 @@ module _ (now later : List ℕ) (s : Shown) (pointers : Place → Pointer) (past
     not_log = x.not_log;
     header = x.header;
     slot = x.slot;
+    named = subst (λ (n : ℕ). WritesName new.stages n s.guid x.group x.synced.name x.plan.contents.name) (sym size) x.named;
     done = bound;
     written = stands;
   }
@@ -179,7 +181,7 @@ module _ (now later : List ℕ) (s : Shown) (pointers : Place → Pointer) (past
         ]
 
     pub written-syncing : IsSyncing later s pointers (record new { done = new.done + 1 }) past
-    written-syncing = syncing-along new (new.done + 1) y (let below = slice_get_within new.blocks new.done b at in omega (arith, below)) stands
+    written-syncing = syncing-along new (new.done + 1) y (let below = slice_get_within new.blocks new.done b at in omega (arith, below)) size stands
       where
         stands : (i : ℕ) (c : NewBlock) → i < new.done + 1 → slice_get new.blocks i ≡ Some c → IsBlockWritten later s.blocks c
         stands i c below at_c = elim (cases_lt i new.done) as (λ _. IsBlockWritten later s.blocks c) [
@@ -214,7 +216,7 @@ module _ (now later : List ℕ) (s : Shown) (pointers : Place → Pointer) (past
   -- a call of a running sync after its blocks
   pub same-syncing : (new : NewTree) → IsSyncing now s pointers new past → length new.blocks ≤ new.done → new.done + 1 ≤ total_calls new → SameBlocks s.blocks now later
       → IsSyncing later s pointers (record new { done = new.done + 1 }) past
-  same-syncing new y behind bound same = syncing-along new (new.done + 1) y bound (λ i b below at. record {
+  same-syncing new y behind bound same = syncing-along new (new.done + 1) y bound same.size (λ i b below at. record {
     in_area = y.are.in_area i b at;
     stands = same.each b.address (y.are.in_area i b at) ∙ (y.written i b (let within = slice_get_within new.blocks i b at in omega (arith, within, behind)) at).stands;
   })

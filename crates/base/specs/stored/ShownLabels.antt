@@ -12,14 +12,13 @@ use Rattle.base.specs.crash.Mount.{header_of}
 use Rattle.base.specs.history.Past.{Past}
 use Rattle.base.specs.steps.Shown.{Shown, SyncPlan, uberblock_of}
 use Rattle.base.specs.crash.Layout.{header_now}
-use Rattle.base.specs.crash.SyncCalls.{NewTree}
+use Rattle.base.specs.crash.SyncCalls.{NewTree, stage_calls}
 
--- the active uberblock of these bytes, and the config that is chosen with this name for its group and for each later
--- one
+-- the active uberblock of these bytes, and the config that is chosen for it with this name
 pub record ShowsUberblock (now : List ℕ) (u : Uberblock) (name : List ℕ) : Type 0 where
   pub active : IsActive now u
   pub config_group : ℕ
-  pub chosen : (bound : ℕ) → u.group ≤ bound → IsChosen now u.guid bound config_group name
+  pub chosen : IsChosen now u.guid u.group config_group name
 
 -- the active uberblock is one of the pool, of this group, root and log header
 pub record ShowsGroup (now : List ℕ) (s : Shown) (group : ℕ) (root : Pointer) (header : Header) (name : List ℕ) : Type 0 where
@@ -56,7 +55,8 @@ pub record ShowsSyncing (now : List ℕ) (s : Shown) (past : Past) : Type 0 wher
 abbrev pub AreLabelsShown : List ℕ → Shown → Option NewTree → Past → Type 0
 AreLabelsShown now s None past = ShowsSynced now s past
 AreLabelsShown now s (Some new) past =
-    ((new.done ≤ length new.blocks + 1) × ShowsSynced now s past) ⊎ ((length new.blocks + 1 < new.done) × ShowsSyncing now s past)
+    ((new.done ≤ length new.blocks + 1 + stage_calls new.stages) × ShowsSynced now s past)
+    ⊎ ((length new.blocks + 1 + stage_calls new.stages < new.done) × ShowsSyncing now s past)
 
 -- No block of the area is a log block, so that each chain is empty. (Nothing writes a log so far.)
 abbrev pub HasNoLogBlock : List ℕ → Type 0

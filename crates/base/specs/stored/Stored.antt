@@ -21,6 +21,7 @@ use Rattle.base.specs.history.Past.{Past}
 use Rattle.base.specs.formats.Uberblocks.{IsUberblock}
 use Rattle.base.specs.steps.Shown.{Shown, SyncPlan, uberblock_of}
 pub use Rattle.base.specs.crash.SyncCalls.{NewTree, Advances, total_calls}
+use Rattle.base.specs.stored.LabelConfigs.{HoldConfigs, WritesName}
 use Rattle.base.specs.stored.ShownLabels.{AreLabelsShown}
 use Rattle.base.specs.steps.Exact.{AreFree, IsInLog, log_addresses}
 use Rattle.base.specs.crash.LogSteps.{IsHeaderIn, IsPackedBlock}
@@ -76,7 +77,7 @@ pub record IsPlannedSync (frame : Frame) (old new : Place → Pointer) (bs : Lis
 
 -- The sync of the syncing group runs: it makes the tree of its plan's contents, none of its blocks is one of the old
 -- tree or of the log, none is a log block, and those are written whose calls were made. Its uberblock is the one of its
--- plan.
+-- plan, and its config the one of its name.
 pub record IsSyncing (now : List ℕ) (s : Shown) (old : Place → Pointer) (new : NewTree) (past : Past) : Type 0 where
   pub group : ℕ
   pub plan : SyncPlan
@@ -91,6 +92,7 @@ pub record IsSyncing (now : List ℕ) (s : Shown) (old : Place → Pointer) (new
   pub not_log : (i : ℕ) (b : NewBlock) → slice_get new.blocks i ≡ Some b → number_at b.content 0 ≢ 6
   pub header : IsHeaderIn plan.header s.log
   pub slot : IsUberblock new.slot (uberblock_of s group plan)
+  pub named : WritesName new.stages (length now) s.guid group synced.name plan.contents.name
   pub done : new.done ≤ total_calls new
   pub written : (i : ℕ) (b : NewBlock) → i < new.done → slice_get new.blocks i ≡ Some b → IsBlockWritten now s.blocks b
 
@@ -99,12 +101,13 @@ abbrev pub RunsAs : List ℕ → Shown → (Place → Pointer) → Option NewTre
 RunsAs now s old None past = s.sync ≡ None
 RunsAs now s old (Some new) past = IsSyncing now s old new past
 
--- all of it, with what the labels show
+-- all of it, with what the labels show and which configs they have
 pub record IsKept (now : List ℕ) (s : Shown) (pointers : Place → Pointer) (running : Option NewTree) (past : Past) : Type 0 where
   pub stored : IsStored now s pointers past
   pub sync : RunsAs now s pointers running past
   pub geometry : IsGeometry (length now)
   pub labels : AreLabelsShown now s running past
+  pub configs : HoldConfigs now s running past
 
 -- of so many blocks each is the same in both images
 pub record SameBlocks (blocks : ℕ) (before after : List ℕ) : Type 0 where
@@ -136,11 +139,13 @@ pub record Starts (group : ℕ) (old new : Held) : Type 0 where
   pub tree : Place → Pointer
   pub bs : List NewBlock
   pub slot : List ℕ
+  pub stages : Option (List ℕ)
   pub plan : SyncPlan
-  pub running : new.running ≡ Some (record { pointers = tree; blocks = bs; slot = slot; done = 0 })
+  pub running : new.running ≡ Some (record { pointers = tree; blocks = bs; slot = slot; stages = stages; done = 0 })
   pub plan_is : new.state.shown.sync ≡ Some plan
   pub slot_is : IsUberblock slot (uberblock_of old.state.shown group plan)
   pub planned : (x : IsHeld old) → IsPlannedSync (frame_at old.state.shown group) old.pointers tree bs x.kept.stored.synced.objects plan.contents.objects plan
+  pub named : (x : IsHeld old) → WritesName stages (length old.now) old.state.shown.guid group x.kept.stored.synced.name plan.contents.name
 
 -- the next device call of a running sync was made
 pub record IsCallMade (old new : Held) (after : NewTree) : Type 0 where

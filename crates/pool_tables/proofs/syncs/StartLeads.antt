@@ -16,6 +16,7 @@ use Rattle.base.specs.steps.Shown.{SyncPlan}
 use Rattle.base.specs.steps.Steps.{AreLengthsOf, TakesForEach, ops_of_group}
 use Rattle.base.specs.stored.Stored.{IsHeld, IsPlannedSync, frame_at}
 use Rattle.base.specs.tree.Syncs.{written_places}
+use Rattle.base.proofs.history.BuiltNames.{name-up_to}
 use Rattle.base.proofs.steps.KeptGroups.{none_there, quiesced_is}
 use Rattle.base.proofs.steps.WaitingGroups.{next-group}
 use Rattle.object_maps.specs.declared.tree.ObjectMap.{ObjectMap}
@@ -25,6 +26,7 @@ use Rattle.extents.specs.Synced.{patched_contents}
 use Rattle.extents.specs.Unsynced.{changes_at, laid_all}
 use Rattle.object_maps.specs.Pointers.{pointers_of}
 use Rattle.space.proofs.FreeLists.{length-rising}
+use Rattle.sync.specs.declared.run.LabelStages.{LabelStages}
 use Rattle.tree_plans.specs.declared.planner.PlannedBlock.{PlannedBlock}
 use Rattle.tree_plans.specs.declared.planner.TreePlan.{TreePlan}
 use Rattle.tree_plans.specs.Marks.{pending_ops}
@@ -48,9 +50,10 @@ use Rattle.pool_tables.proofs.syncs.PlannedGroups.{group_takes_place, ops_are, p
 
 -- a sync that has made no call yet
 pub nothing_made : (tree : Tree) (r : RunningSync) (root : Pointer) (directories : Vec Pointer) (maps : BTreeMap ObjectId ObjectMap) (blocks : Vec PlannedBlock) → r.root ≡ root → r.directories ≡ directories → r.maps ≡ maps
-    → r.run.blocks ≡ blocks → r.run.done ≡ 0 → new_tree_of tree r ≡ record { pointers = pointers_after root directories.items maps tree; blocks = map new_block blocks.items; slot = r.run.uberblock; done = 0 }
+    → r.run.blocks ≡ blocks → r.run.done ≡ 0
+    → new_tree_of tree r ≡ record { pointers = pointers_after root directories.items maps tree; blocks = map new_block blocks.items; slot = r.run.uberblock; stages = None; done = 0 }
 nothing_made tree r root directories maps blocks root_is directories_are maps_are blocks_are none =
-    λ k. record { pointers = pointers_after (root_is k) (directories_are k).items (maps_are k) tree; blocks = map new_block (blocks_are k).items; slot = r.run.uberblock; done = none k }
+    λ k. record { pointers = pointers_after (root_is k) (directories_are k).items (maps_are k) tree; blocks = map new_block (blocks_are k).items; slot = r.run.uberblock; stages = option_map (λ (stages : LabelStages). stages.config) (none_there r.run.stages r.no_stages k); done = none k }
 
 -- the blocks that it writes are those of its plan
 pub blocks_kept : (r : RunningSync) (planned : Vec PlannedBlock) (told : List PlannedBlock) → r.run.blocks ≡ planned → told ≡ r.run.blocks.items → told ≡ planned.items
@@ -134,6 +137,10 @@ module _ (now : List ℕ) (past : Past) (pool : PoolTables) (group moment : ℕ)
 
   takes_place : TakesPlace (pending_ops group pool.unsynced.items) pool.tree.maps.items (synced_of pool) (contents_after_oldest pool)
   takes_place = oldest_takes_place past pool group may x.explained
+
+  -- the contents that it leaves have the name that they had
+  pub group_named : (contents_after_oldest pool).name ≡ x.kept.stored.synced.name
+  group_named = name-up_to (pool_shown pool) past x.explained group (contents_after_oldest pool) to.replayed ∙ sym (name-up_to (pool_shown pool) past x.explained (pool_shown pool).line.synced x.kept.stored.synced x.kept.stored.replayed)
 
   pub group_planned : IsPlannedSync (frame_at (pool_shown pool) group) (pointers_of pool.tree) (plan_pointers pool.tree p) (map new_block p.blocks.items) x.kept.stored.synced.objects (contents_after_oldest pool).objects plan
   group_planned =

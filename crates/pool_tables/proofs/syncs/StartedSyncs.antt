@@ -29,7 +29,7 @@ use Rattle.pool_tables.specs.Told.{ShownPool, new_tree_of, pool_told, start_repl
 use Rattle.pool_tables.specs.Lines.{MayNotStart, MayStart}
 use Rattle.pool_tables.specs.Shows.{contents_after_oldest, plan_of, pool_shown, synced_of}
 use Rattle.pool_tables.specs.SyncStarts.{IsSyncStart}
-use Rattle.pool_tables.proofs.syncs.StartLeads.{blocks_kept, group_fits, group_lengths, group_planned, group_takes, group_takes_each, never_short, nothing_made, oldest_leads}
+use Rattle.pool_tables.proofs.syncs.StartLeads.{blocks_kept, group_fits, group_lengths, group_named, group_planned, group_takes, group_takes_each, never_short, nothing_made, oldest_leads}
 use Rattle.pool_tables.proofs.OfNoDevice.{plan_own}
 use Rattle.pool_tables.proofs.syncs.Starts.{StartsAt, lowest_taken, start_done, start_not_ready, start_suspended, start_wants, unsynced_names, wants_only}
 use Rattle.pool_tables.proofs.StillSteps.{still_pool}
@@ -128,11 +128,13 @@ module _ (pool : PoolTables) (g : Group) (moment : ℕ) (planned : TreePlan) whe
             tree = plan_pointers pool.tree planned;
             bs = map new_block planned.blocks.items;
             slot = r.run.uberblock;
+            stages = None;
             plan = plan;
             running = running;
             plan_is = shows;
             slot_is = slot_is;
             planned = λ x. group_planned now past pool g.0 moment planned may makes x;
+            named = λ x. group_named now past pool g.0 moment planned may makes x;
           };
           own = λ calls. refl;
         })

@@ -9,19 +9,21 @@ use Rattle.base.specs.declared.pointer.Pointer.{Pointer}
 use Rattle.base.specs.declared.step.Reply.TheVariants as reply
 use Rattle.base.specs.declared.names.Group.{Group}
 use Rattle.base.specs.disk.Disk.{Disk, bytes_of, put}
-use Rattle.base.specs.formats.Geometry.{block_address, slot_of, slot_place}
+use Rattle.base.specs.formats.Geometry.{block_address, config_place, slot_of, slot_place}
 use Rattle.base.specs.tree.Places.{Place}
 use Rattle.base.specs.tree.PlannedTrees.{NewBlock}
 use Rattle.base.specs.steps.Shown.{SyncPlan}
 use Rattle.base.specs.stored.Stored.{Advances, NewTree, total_calls}
+use Rattle.base.specs.crash.SyncCalls.{IsConfigTurn, IsFlushTurn, stage_calls}
 use Rattle.base.specs.crash.SyncCalls.DiskCall.{Put, Settle}
 use Rattle.base.specs.disk.SyncOrder.{DeviceCall, calls_in_order}
 use Rattle.base.specs.disk.SyncOrder.DeviceCall.{Block, Config, Uberblock, Flush}
 use Rattle.base.proofs.common.KeptLists.{at_within, Some-injective}
 use Rattle.base.proofs.disk.Regions.{flushed_clean}
+use Rattle.labels.specs.declared.stage.Stage.TheVariants.{Even}
 use Rattle.sync.specs.declared.run.LabelStages.{LabelStages}
 use Rattle.sync.specs.declared.run.SyncRun.{SyncRun}
-use Rattle.sync.specs.Calls.{IsNextCall, MakesCall, Target, WritesTarget, block_target, first_labels, last_labels, target_of}
+use Rattle.sync.specs.Calls.{IsNextCall, MakesCall, Target, WritesTarget, block_target, config_target, first_labels, last_labels, target_of}
 use Rattle.sync.specs.Runs.{SameSync, call_count, other_calls}
 use Rattle.sync.proofs.CallPlaces.{block_stands, others_stand}
 use Rattle.tree_plans.specs.declared.planner.PlannedBlock.{PlannedBlock}
@@ -44,23 +46,68 @@ call_at P n [] k call each at = absurd (let no_way : None ≡ Some call = at in 
 call_at P n (c ∷ calls) zero call each at = let same : c ≡ call = cc in let place : n ≡ n + zero = omega arith in subst (λ (m : ℕ). P m call) place (subst (P n) same each.0)
 call_at P n (c ∷ calls) (suc k) call each at = let place : n + 1 + k ≡ n + suc k = omega arith in subst (λ (m : ℕ). P m call) place (call_at P (n + 1) calls k call each.1 at)
 
--- Without label stages the calls after the blocks are a flush, the uberblocks of the labels 0 to 3 in their order, and
--- a flush.
-abbrev IsBehind : ℕ → DeviceCall → Type 0
-IsBehind place (Block k) = ⊥
-IsBehind place (Config label) = ⊥
-IsBehind place (Uberblock label) = (label < 4) × (place ≡ 1 + label)
-IsBehind place Flush = (place ≡ 0) ⊎ (place ≡ 5)
+-- the config that a sync with label stages writes
+abbrev config_of : Option LabelStages → Option (List ℕ)
+config_of stages = option_map (λ (s : LabelStages). s.config) stages
 
-all_behind : (stages : Option LabelStages) → is_some stages ≡ false → EachAt IsBehind 0 (calls_in_order 0 (is_some stages) (first_labels stages) (last_labels stages))
-all_behind None none = (inl refl, ((omega arith, refl), ((omega arith, refl), ((omega arith, refl), ((omega arith, refl), (inr refl, tt))))))
-all_behind (Some stages) none = absurd (true≢false none)
+-- label stages of which the even labels are the first
+abbrev AreEvenFirst : Option LabelStages → Type 0
+AreEvenFirst None = Unit {0}
+AreEvenFirst (Some stages) = stages.first ≡ Even
 
-call_behind : (run : SyncRun) (call : DeviceCall) → is_some run.stages ≡ false → vec_len run.blocks ≤ run.done → IsNextCall run call → IsBehind (run.done - vec_len run.blocks) call
-call_behind run call none behind at =
+none_even : (stages : Option LabelStages) → is_some stages ≡ false → AreEvenFirst stages
+none_even None none = tt
+none_even (Some stages) none = absurd (true≢false none)
+
+-- What a call behind the blocks is, by its number: a config of a label stage, the uberblock of a label, or a flush.
+abbrev IsBehind : Option LabelStages → ℕ → DeviceCall → Type 0
+IsBehind stages turn (Block k) = ⊥
+IsBehind stages turn (Config label) = (some : LabelStages) × (stages ≡ Some some) × IsConfigTurn label turn
+IsBehind stages turn (Uberblock label) = (label < 4) × (turn ≡ 1 + stage_calls (config_of stages) + label)
+IsBehind stages turn Flush = IsFlushTurn (config_of stages) turn
+
+abbrev AreBehind : Option LabelStages → Type 0
+AreBehind stages = EachAt (IsBehind stages) 0 (calls_in_order 0 (is_some stages) (first_labels stages) (last_labels stages))
+
+all_behind : (stages : Option LabelStages) → AreEvenFirst stages → AreBehind stages
+all_behind None even = (inl refl, ((omega arith, refl), ((omega arith, refl), ((omega arith, refl), ((omega arith, refl), (inr (inl refl), tt))))))
+all_behind (Some stages) even = subst (λ (s : LabelStages). AreBehind (Some s)) (sym is) (
+  inl refl,
+  (
+    (first, refl, inl (refl, refl)),
+    (
+      (first, refl, inr (inl (refl, refl))),
+      (
+        inr (inr (refl, inl refl)),
+        (
+          (omega arith, refl),
+          (
+            (omega arith, refl),
+            (
+              (omega arith, refl),
+              (
+                (omega arith, refl),
+                (inr (inl refl), ((first, refl, inr (inr (inl (refl, refl)))), ((first, refl, inr (inr (inr (refl, refl)))), (inr (inr (refl, inr refl)), tt)))),
+              ),
+            ),
+          ),
+        ),
+      ),
+    ),
+  ),
+)
+  where
+    first : LabelStages
+    first = record { config = stages.config; first = Even }
+
+    is : stages ≡ first
+    is = λ k. record { config = stages.config; first = even k }
+
+call_behind : (run : SyncRun) (call : DeviceCall) → AreEvenFirst run.stages → vec_len run.blocks ≤ run.done → IsNextCall run call → IsBehind run.stages (run.done - vec_len run.blocks) call
+call_behind run call even behind at =
     let place : 0 + (run.done - vec_len run.blocks) ≡ run.done - vec_len run.blocks = omega arith in
-    subst (λ (n : ℕ). IsBehind n call) place
-    (call_at IsBehind 0 (calls_in_order 0 (is_some run.stages) (first_labels run.stages) (last_labels run.stages)) (run.done - vec_len run.blocks) call (all_behind run.stages none)
+    subst (λ (n : ℕ). IsBehind run.stages n call) place
+    (call_at (IsBehind run.stages) 0 (calls_in_order 0 (is_some run.stages) (first_labels run.stages) (last_labels run.stages)) (run.done - vec_len run.blocks) call (all_behind run.stages even)
     (sym (others_stand (vec_len run.blocks) (is_some run.stages) (first_labels run.stages) (last_labels run.stages) run.done (run.done - vec_len run.blocks) (omega (arith, behind))) ∙ at))
 
 call_before : (run : SyncRun) (call : DeviceCall) → run.done < vec_len run.blocks → IsNextCall run call → Block run.done ≡ call
@@ -83,12 +130,12 @@ failed_call run (Config label) e old new makes = failed_write (target_of run (Co
 failed_call run (Uberblock label) e old new makes = failed_write (target_of run (Uberblock label)) e old new makes
 failed_call run Flush e old new makes = ap (λ (d : Disk). bytes_of d.now) makes
 
--- it has six calls besides its blocks
-six_others : (stages : Option LabelStages) → is_some stages ≡ false → other_calls stages ≡ 6
-six_others None none = refl
-six_others (Some stages) none = absurd (true≢false none)
+-- it has six calls besides its blocks, and those of its label stages
+all_others : (stages : Option LabelStages) → other_calls stages ≡ 6 + stage_calls (config_of stages) + stage_calls (config_of stages)
+all_others None = refl
+all_others (Some stages) = refl
 
-module _ (run new : SyncRun) (same : SameSync run new) (pointers : Place → Pointer) (none : is_some run.stages ≡ false) where
+module _ (run new : SyncRun) (same : SameSync run new) (pointers : Place → Pointer) where
   abbrev blocks : List NewBlock
   blocks = map new_block run.blocks.items
 
@@ -96,8 +143,8 @@ module _ (run new : SyncRun) (same : SameSync run new) (pointers : Place → Poi
   many = length-map run.blocks.items new_block ∙ sym run.blocks.ok.0
 
   -- the same tree, so many of whose calls are made
-  made_as : (d : ℕ) → new.done ≡ d → made_by pointers new ≡ record { pointers = pointers; blocks = blocks; slot = run.uberblock; done = d }
-  made_as d is = λ k. record { pointers = pointers; blocks = map new_block (same.blocks k).items; slot = same.uberblock k; done = is k }
+  made_as : (d : ℕ) → new.done ≡ d → made_by pointers new ≡ record { pointers = pointers; blocks = blocks; slot = run.uberblock; stages = config_of run.stages; done = d }
+  made_as d is = λ k. record { pointers = pointers; blocks = map new_block (same.blocks k).items; slot = same.uberblock k; stages = config_of (same.stages k); done = is k }
 
   -- after a refused call it is as before
   pub made_same : new.done ≡ run.done → made_by pointers new ≡ made_by pointers run
@@ -107,10 +154,10 @@ module _ (run new : SyncRun) (same : SameSync run new) (pointers : Place → Poi
   pub made_all : new.done ≡ call_count new → (made_by pointers new).done ≡ total_calls (made_by pointers new)
   made_all last =
       let long : length (map new_block new.blocks.items) ≡ vec_len new.blocks = length-map new.blocks.items new_block ∙ sym new.blocks.ok.0 in
-      let others : other_calls new.stages ≡ 6 = ap (λ (o : Option LabelStages). other_calls o) same.stages ∙ six_others run.stages none in
+      let others = all_others new.stages in
       omega (arith, last, long, others)
 
-  module _ (done : new.done ≡ run.done + 1) (before after : Disk) (sized : length (bytes_of before.now) ≡ run.geometry) (group : ℕ) (slot : run.slot ≡ slot_of group) where
+  module _ (even : AreEvenFirst run.stages) (done : new.done ≡ run.done + 1) (before after : Disk) (sized : length (bytes_of before.now) ≡ run.geometry) (group : ℕ) (slot : run.slot ≡ slot_of group) where
     abbrev Advanced : Type 0
     Advanced = Advances group (bytes_of before.now) (bytes_of after.now) (made_by pointers run) (made_by pointers new)
 
@@ -124,26 +171,34 @@ module _ (run new : SyncRun) (same : SameSync run new) (pointers : Place → Poi
           made_as (run.done + 1) done,
         )
 
-    flush_number : vec_len run.blocks ≤ run.done → (run.done - vec_len run.blocks ≡ 0) ⊎ (run.done - vec_len run.blocks ≡ 5) → (run.done ≡ length blocks) ⊎ (run.done ≡ length blocks + 5)
-    flush_number behind (inl first) = inl (omega (arith, behind, first, many))
-    flush_number behind (inr last) = inr (omega (arith, behind, last, many))
+    abbrev turn : ℕ
+    turn = run.done - vec_len run.blocks
 
-    by_call : (call : DeviceCall) → vec_len run.blocks ≤ run.done → IsBehind (run.done - vec_len run.blocks) call → MakesCall run call before (Ok tt) after → Advanced
+    placed : vec_len run.blocks ≤ run.done → run.done ≡ length blocks + turn
+    placed behind = omega (arith, behind, many)
+
+    by_call : (call : DeviceCall) → vec_len run.blocks ≤ run.done → IsBehind run.stages turn call → MakesCall run call before (Ok tt) after → Advanced
     by_call (Block k) behind is makes = absurd is
-    by_call (Config label) behind is makes = absurd is
-    by_call (Uberblock label) behind (low, place) makes = (
+    by_call (Config label) behind (stages, staged, is) makes = (
+      Put (config_place (length (bytes_of before.now)) label) stages.config,
+      inr (turn, placed behind, inr (inl (stages.config, label, ap config_of staged, is, refl))),
+      put_bytes (target_of run (Config label)) (config_target run.geometry label stages) before after (ap (λ (o : Option LabelStages). option_map (config_target run.geometry label) o) staged) makes
+          ∙ (λ k. put (config_place (sym sized k) label) stages.config (bytes_of before.now)),
+      made_as (run.done + 1) done,
+    )
+    by_call (Uberblock label) behind (low, is) makes = (
       Put (slot_place (length (bytes_of before.now)) label (slot_of group)) run.uberblock,
-      inr (inl (label, low, omega (arith, behind, place, many), refl)),
+      inr (turn, placed behind, inl (label, low, is, refl)),
       ap (λ (d : Disk). bytes_of d.now) makes ∙ (λ k. put (slot_place (sym sized k) label (slot k)) run.uberblock (bytes_of before.now)),
       made_as (run.done + 1) done,
     )
-    by_call Flush behind place makes = (Settle, inr (inr (flush_number behind place, refl)), (flushed_clean before after makes).1, made_as (run.done + 1) done)
+    by_call Flush behind is makes = (Settle, inr (turn, placed behind, inr (inr (is, refl))), (flushed_clean before after makes).1, made_as (run.done + 1) done)
 
     -- the next call was made
     pub call_advances : (call : DeviceCall) → IsNextCall run call → MakesCall run call before (Ok tt) after → Advanced
     call_advances call at makes = elim (cases_lt run.done (vec_len run.blocks)) as (λ _. Advanced) [
       | inl below ↦ block_written below (subst (λ (c : DeviceCall). MakesCall run c before (Ok tt) after) (sym (call_before run call below at)) makes)
-      | inr behind ↦ by_call call behind (call_behind run call none behind at) makes
+      | inr behind ↦ by_call call behind (call_behind run call even behind at) makes
     ]
 
 -- how a step that ends a sync leads on
@@ -174,7 +229,7 @@ planned_still pool r next same left is = λ k. record (plan_of pool.tree (conten
 pub failed_running : (pool : PoolTables) (r : RunningSync) (next : SyncRun) → pool.sync ≡ Some r → SameSync r.run next → next.done ≡ r.run.done
     → Some (made_by (pointers_after r.root r.directories.items r.maps pool.tree) next) ≡ option_map (new_tree_of pool.tree) pool.sync
 failed_running pool r next is same done =
-    ap (λ (t : NewTree). Some t) (made_same r.run next same (pointers_after r.root r.directories.items r.maps pool.tree) r.no_stages done) ∙ sym (was_running pool r is)
+    ap (λ (t : NewTree). Some t) (made_same r.run next same (pointers_after r.root r.directories.items r.maps pool.tree) done) ∙ sym (was_running pool r is)
 
 -- The running sync of a pool made its next call.
 module _ (pool : PoolTables) (r : RunningSync) (next : SyncRun) (before after : Disk) (is : pool.sync ≡ Some r) (same : SameSync r.run next) (sized : length (bytes_of before.now) ≡ pool.geometry)
@@ -187,10 +242,10 @@ module _ (pool : PoolTables) (r : RunningSync) (next : SyncRun) (before after : 
 
   pub advanced : next.done ≡ r.run.done + 1 → IsMade → Advances r.group.0 (bytes_of before.now) (bytes_of after.now) (made_by pointers r.run) (made_by pointers next)
   advanced done makes =
-      call_advances r.run next same pointers r.no_stages done before after (sized ∙ sym size) r.group.0 (pool.running r is).uberblock.slot call at makes
+      call_advances r.run next same pointers (none_even r.run.stages r.no_stages) done before after (sized ∙ sym size) r.group.0 (pool.running r is).uberblock.slot call at makes
 
   pub synced_told : (new : PoolTables) → next.done ≡ r.run.done + 1 → next.done ≡ call_count next → IsMade → new.sync ≡ None → SamePlaces (pointers_of new.tree) pointers
       → Leads (reply.Synced r.group) (pool_told pool (bytes_of before.now)) (pool_told new (bytes_of after.now))
   synced_told new done last makes none places =
       synced_leads r.group (pool_told pool (bytes_of before.now)) (pool_told new (bytes_of after.now)) (made_by pointers r.run) (made_by pointers next) (was_running pool r is) (was_syncing pool r is)
-      (ap (λ (o : Option RunningSync). option_map (new_tree_of new.tree) o) none) places (made_all r.run next same pointers r.no_stages last) (advanced done makes)
+      (ap (λ (o : Option RunningSync). option_map (new_tree_of new.tree) o) none) places (made_all r.run next same pointers last) (advanced done makes)
