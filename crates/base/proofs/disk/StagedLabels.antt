@@ -1,5 +1,5 @@
--- While the labels of a pool get a config with a new name, stage by stage, the old config is chosen for each group below
--- the new one's, and the new one for each from there on.
+-- While a sync with a new name writes its config, label by label, the old config is chosen for each group below the new
+-- one's. The new config is chosen from its group on, once label 0 has it.
 use Rattle.std.proofs.Common.{◌≡◌, ℕ, zero, suc, ◌+◌, ◌<◌, ◌≤◌, List, length, ap, refl, sym, subst, ◌∙◌, arith, ◌⊎◌, inl, inr}
 use Rattle.std.specs.Prelude.{◌≢◌}
 use Rattle.std.proofs.lemmas.Bool.{cases_lt, cases_order}
@@ -110,31 +110,31 @@ configs-apart size k l geometry k_in l_in differ = by_label (cases_order k l)
 
 -- The next label of the stages gets the new config.
 module _ (now : List ℕ) (guid group count : ℕ) (name new : List ℕ) (geometry : IsGeometry (length now)) (long : length new ≡ block_size) (more : count < 4) (have : HaveConfigs now guid group name new count) where
-  abbrev turn : ℕ
-  turn = stage_place count
+  abbrev next_label : ℕ
+  next_label = stage_place count
 
   abbrev later : List ℕ
-  later = put (config_place (length now) turn) new now
+  later = put (config_place (length now) next_label) new now
 
-  fits : config_place (length now) turn + length new ≤ length now
-  fits = config-fits now new turn geometry (stage-twice count more).0 long
+  fits : config_place (length now) next_label + length new ≤ length now
+  fits = config-fits now new next_label geometry (stage-twice count more).0 long
 
   size : length later ≡ length now
-  size = length-put (config_place (length now) turn) new now fits
+  size = length-put (config_place (length now) next_label) new now fits
 
   -- it has it then
-  here : part later (config_place (length now) turn) block_size ≡ new
-  here = ap (λ (n : ℕ). part later (config_place (length now) turn) n) (sym long) ∙ part-put_same (config_place (length now) turn) new now fits
+  here : part later (config_place (length now) next_label) block_size ≡ new
+  here = ap (λ (n : ℕ). part later (config_place (length now) next_label) n) (sym long) ∙ part-put_same (config_place (length now) next_label) new now fits
 
   -- and each other label has what it had
   elsewhere : (label : ℕ) → label < 4 → stage_place label ≢ count → part later (config_place (length now) label) block_size ≡ part now (config_place (length now) label) block_size
-  elsewhere label below differ = part-put_apart (config_place (length now) turn) new now (config_place (length now) label) block_size fits
-      (subst (λ (n : ℕ). Apart (config_place (length now) turn) n (config_place (length now) label) block_size) (sym long)
-      (configs-apart (length now) turn label geometry (stage-twice count more).0 below (λ same. differ (ap stage_place (sym same) ∙ (stage-twice count more).1))))
+  elsewhere label below differ = part-put_apart (config_place (length now) next_label) new now (config_place (length now) label) block_size fits
+      (subst (λ (n : ℕ). Apart (config_place (length now) next_label) n (config_place (length now) label) block_size) (sym long)
+      (configs-apart (length now) next_label label geometry (stage-twice count more).0 below (λ same. differ (ap stage_place (sym same) ∙ (stage-twice count more).1))))
 
   has_it : (label : ℕ) → label < 4 → (stage_place label ≡ count) ⊎ ((stage_place label < count) ⊎ (count < stage_place label)) → stage_place label < count + 1 → part later (config_place (length now) label) block_size ≡ new
   has_it label below (inl same) less =
-      let is : turn ≡ label = ap stage_place (sym same) ∙ (stage-twice label below).1 in
+      let is : next_label ≡ label = ap stage_place (sym same) ∙ (stage-twice label below).1 in
       ap (λ (l : ℕ). part later (config_place (length now) l) block_size) (sym is) ∙ here
   has_it label below (inr (inl before)) less = elsewhere label below (λ same. omega (arith, same, before)) ∙ have.written label below before
   has_it label below (inr (inr behind)) less = absurd (omega (arith, behind, less))

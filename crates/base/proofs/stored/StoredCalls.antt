@@ -14,7 +14,7 @@ use Rattle.base.specs.history.Past.{Past}
 use Rattle.base.specs.formats.Uberblocks.{Uberblock, IsActive}
 use Rattle.base.specs.steps.Shown.{Shown, SyncPlan, uberblock_of}
 use Rattle.base.specs.steps.ExactNow.{IsExplainedNow}
-use Rattle.base.specs.crash.SyncCalls.{DiskCall, IsCallAt, IsConfigTurn, IsFlushTurn, bytes_made, stage_calls, staged_labels, total_calls}
+use Rattle.base.specs.crash.SyncCalls.{DiskCall, IsCallAt, IsConfigCall, IsFlushCall, bytes_made, stage_calls, staged_labels, total_calls}
 use Rattle.base.specs.crash.SyncCalls.DiskCall.{Put, Settle}
 use Rattle.base.specs.stored.LabelConfigs.{HoldConfigs, WritesName}
 use Rattle.base.specs.stored.ShownLabels.{ShowsSynced, ShowsSyncing, AreLabelsShown, HasNoLogBlock}
@@ -99,31 +99,31 @@ module _ (now : List ℕ) (s : Shown) (pointers : Place → Pointer) (past : Pas
       )
       shown (inr (high, y)) = absurd (let below = slice_get_within old.blocks old.done b at in omega (arith, below, high))
 
-  -- nothing is written, behind the blocks
-  settle-made : (turn : ℕ) → old.done ≡ length old.blocks + turn → IsFlushTurn old.stages turn → IsKept now s pointers (Some more) past
-  settle-made turn at is = record {
+  -- nothing is written, after the blocks
+  settle-made : (offset : ℕ) → old.done ≡ length old.blocks + offset → IsFlushCall old.stages offset → IsKept now s pointers (Some more) past
+  settle-made offset at is = record {
     stored = x.stored;
     sync = same-syncing now now s pointers past old x.sync (omega (arith, at)) (bound beside) (no-change s.blocks now);
     geometry = x.geometry;
     labels = shown beside x.labels;
     configs = same-configs now refl (λ k below. refl)
-        (ap (staged_labels old.stages) (omega (arith, at)) ∙ staged-flush old.stages turn is ∙ ap (staged_labels old.stages) (omega (arith, at)));
+        (ap (staged_labels old.stages) (omega (arith, at)) ∙ staged-flush old.stages offset is ∙ ap (staged_labels old.stages) (omega (arith, at)));
   }
     where
-      beside : IsBeside old.stages turn
-      beside = flush-beside old.stages turn is
+      beside : IsBeside old.stages offset
+      beside = flush-beside old.stages offset is
 
-      bound : IsBeside old.stages turn → old.done + 1 ≤ total_calls old
+      bound : IsBeside old.stages offset → old.done + 1 ≤ total_calls old
       bound (inl first) = omega (arith, at, first)
       bound (inr last) = omega (arith, at, last.1)
 
-      shown : IsBeside old.stages turn → AreLabelsShown now s (Some old) past → AreLabelsShown now s (Some more) past
+      shown : IsBeside old.stages offset → AreLabelsShown now s (Some old) past → AreLabelsShown now s (Some more) past
       shown (inl first) (inl (low, y)) = inl (omega (arith, at, first), y)
       shown (inr last) (inl (low, y)) = absurd (omega (arith, at, last.0, low))
       shown is (inr (high, y)) = inr (omega (arith, high), y)
 
   -- the uberblock is written into a label
-  module _ (turn label : ℕ) (at : old.done ≡ length old.blocks + turn) (below : label < 4) (turn_is : turn ≡ 1 + stage_calls old.stages + label) where
+  module _ (offset label : ℕ) (at : old.done ≡ length old.blocks + offset) (below : label < 4) (offset_is : offset ≡ 1 + stage_calls old.stages + label) where
     abbrev slot : ℕ
     slot = slot_place (length now) label (slot_of x.sync.group)
 
@@ -135,7 +135,7 @@ module _ (now : List ℕ) (s : Shown) (pointers : Place → Pointer) (past : Pas
 
     -- the config that is chosen for it has the name that comes
     chosen : (found : ℕ) × IsChosen now s.guid x.sync.group found x.sync.plan.contents.name
-    chosen = chosen-behind s.guid held.group x.sync.group held.synced.name x.sync.plan.contents.name above old.stages (old.done - length old.blocks) now (omega (arith, at, turn_is)) held.have (named now refl)
+    chosen = chosen-behind s.guid held.group x.sync.group held.synced.name x.sync.plan.contents.name above old.stages (old.done - length old.blocks) now (omega (arith, at, offset_is)) held.have (named now refl)
 
     slot-shown : AreLabelsShown now s (Some old) past → ShowsSyncing with_slot s past
     slot-shown labels = record {
@@ -156,15 +156,15 @@ module _ (now : List ℕ) (s : Shown) (pointers : Place → Pointer) (past : Pas
         let same : SameBlocks s.blocks now with_slot = subst (λ (n : ℕ). SameBlocks n now with_slot) (sym x.stored.blocks) slot-same in
         record {
           stored = same-stored now with_slot s pointers past x.stored same;
-          sync = same-syncing now with_slot s pointers past old x.sync (omega (arith, at)) (omega (arith, at, turn_is, below)) same;
+          sync = same-syncing now with_slot s pointers past old x.sync (omega (arith, at)) (omega (arith, at, offset_is, below)) same;
           geometry = subst IsGeometry (sym same.size) x.geometry;
-          labels = inr (omega (arith, at, turn_is), slot-shown x.labels);
+          labels = inr (omega (arith, at, offset_is), slot-shown x.labels);
           configs = same-configs with_slot same.size (slot-configs now old.slot coming label x.geometry below x.sync.slot)
-              (ap (staged_labels old.stages) (omega (arith, at)) ∙ staged-slot old.stages turn label below turn_is ∙ ap (staged_labels old.stages) (omega (arith, at)));
+              (ap (staged_labels old.stages) (omega (arith, at)) ∙ staged-slot old.stages offset label below offset_is ∙ ap (staged_labels old.stages) (omega (arith, at)));
         }
 
   -- the config of a label stage is written into a label
-  module _ (turn label : ℕ) (config : List ℕ) (at : old.done ≡ length old.blocks + turn) (staged : old.stages ≡ Some config) (turn_is : IsConfigTurn label turn) where
+  module _ (offset label : ℕ) (config : List ℕ) (at : old.done ≡ length old.blocks + offset) (staged : old.stages ≡ Some config) (offset_is : IsConfigCall label offset) where
     abbrev place : ℕ
     place = config_place (length now) label
 
@@ -172,7 +172,7 @@ module _ (now : List ℕ) (s : Shown) (pointers : Place → Pointer) (past : Pas
     with_config = put place config now
 
     below : label < 4
-    below = config-label label turn turn_is
+    below = config-label label offset offset_is
 
     long : length config ≡ block_size
     long = config-long old.stages config (length now) s.guid x.sync.group held.synced.name x.sync.plan.contents.name staged (named now refl)
@@ -180,16 +180,16 @@ module _ (now : List ℕ) (s : Shown) (pointers : Place → Pointer) (past : Pas
     config-same : SameBlocks (block_count (length now)) now with_config
     config-same = label-put now label place config x.geometry below (omega arith) (omega (arith, long))
 
-    have : HaveStaged old.stages (turn + 1) with_config s.guid held.group held.synced.name
-    have = config-staged old.stages config now s.guid held.group label turn held.synced.name staged turn_is x.geometry
+    have : HaveStaged old.stages (offset + 1) with_config s.guid held.group held.synced.name
+    have = config-staged old.stages config now s.guid held.group label offset held.synced.name staged offset_is x.geometry
         (subst (λ (n : ℕ). HaveStaged old.stages n now s.guid held.group held.synced.name) (omega (arith, at)) held.have) long
 
     -- in the first stage the synced group has the config that it had
-    config-synced : turn ≤ stage_calls old.stages → ShowsSynced now s past → ShowsSynced with_config s past
+    config-synced : offset ≤ stage_calls old.stages → ShowsSynced now s past → ShowsSynced with_config s past
     config-synced first y =
         let both : Ok held.synced ≡ Ok y.contents = sym held.replayed ∙ y.replayed in
         let same : held.synced ≡ y.contents = cc in
-        let chosen = chosen-before s.guid held.group x.sync.group held.synced.name x.sync.plan.contents.name above old.stages (turn + 1) with_config (omega (arith, first)) have (named with_config config-same.size)
+        let chosen = chosen-before s.guid held.group x.sync.group held.synced.name x.sync.plan.contents.name above old.stages (offset + 1) with_config (omega (arith, first)) have (named with_config config-same.size)
         s.line.synced held.within (omega (arith, next)) in
         record {
           contents = y.contents;
@@ -212,9 +212,9 @@ module _ (now : List ℕ) (s : Shown) (pointers : Place → Pointer) (past : Pas
         }
 
     -- in the second one the group of the sync has that of its name
-    config-syncing : stage_calls old.stages < turn → ShowsSyncing now s past → ShowsSyncing with_config s past
+    config-syncing : stage_calls old.stages < offset → ShowsSyncing now s past → ShowsSyncing with_config s past
     config-syncing behind z =
-        let chosen = chosen-behind s.guid held.group x.sync.group held.synced.name x.sync.plan.contents.name above old.stages (turn + 1) with_config (omega (arith, behind)) have (named with_config config-same.size) in
+        let chosen = chosen-behind s.guid held.group x.sync.group held.synced.name x.sync.plan.contents.name above old.stages (offset + 1) with_config (omega (arith, behind)) have (named with_config config-same.size) in
         record {
           group = x.sync.group;
           plan = x.sync.plan;
@@ -225,19 +225,19 @@ module _ (now : List ℕ) (s : Shown) (pointers : Place → Pointer) (past : Pas
           shows = record { active = config-active now config label x.geometry below long coming (coming-active z); config_group = chosen.0; chosen = chosen.1 };
         }
 
-    config-shown : IsBeside old.stages turn → AreLabelsShown now s (Some old) past → AreLabelsShown with_config s (Some more) past
+    config-shown : IsBeside old.stages offset → AreLabelsShown now s (Some old) past → AreLabelsShown with_config s (Some more) past
     config-shown (inl first) (inl (low, y)) = inl (omega (arith, at, first), config-synced first y)
     config-shown (inl first) (inr (high, z)) = absurd (omega (arith, at, first, high))
     config-shown (inr last) (inl (low, y)) = absurd (omega (arith, at, last.0, low))
     config-shown (inr last) (inr (high, z)) = inr (omega (arith, high), config-syncing (omega (arith, last.0)) z)
 
-    bound : IsBeside old.stages turn → old.done + 1 ≤ total_calls old
+    bound : IsBeside old.stages offset → old.done + 1 ≤ total_calls old
     bound (inl first) = omega (arith, at, first)
     bound (inr last) = omega (arith, at, last.1)
 
     config-made : IsKept with_config s pointers (Some more) past
     config-made =
-        let beside : IsBeside old.stages turn = config-beside old.stages config label turn staged turn_is in
+        let beside : IsBeside old.stages offset = config-beside old.stages config label offset staged offset_is in
         let same : SameBlocks s.blocks now with_config = subst (λ (n : ℕ). SameBlocks n now with_config) (sym x.stored.blocks) config-same in
         record {
           stored = same-stored now with_config s pointers past x.stored same;
@@ -257,9 +257,9 @@ module _ (now : List ℕ) (s : Shown) (pointers : Place → Pointer) (past : Pas
   module _ (group : ℕ) (syncing : s.line.syncing ≡ Some group) (call : DiskCall) (is_call : IsCallAt (length now) group old old.done call) where
     -- what holds after each kind of call holds after it
     by_call : (P : List ℕ → Type 0) → ((b : NewBlock) → slice_get old.blocks old.done ≡ Some b → P (put b.address b.content now))
-        → ((turn label : ℕ) → old.done ≡ length old.blocks + turn → label < 4 → turn ≡ 1 + stage_calls old.stages + label → P (put (slot_place (length now) label (slot_of x.sync.group)) old.slot now))
-        → ((turn label : ℕ) (config : List ℕ) → old.done ≡ length old.blocks + turn → old.stages ≡ Some config → IsConfigTurn label turn → P (put (config_place (length now) label) config now))
-        → ((turn : ℕ) → old.done ≡ length old.blocks + turn → IsFlushTurn old.stages turn → P now) → P (bytes_made call now)
+        → ((offset label : ℕ) → old.done ≡ length old.blocks + offset → label < 4 → offset ≡ 1 + stage_calls old.stages + label → P (put (slot_place (length now) label (slot_of x.sync.group)) old.slot now))
+        → ((offset label : ℕ) (config : List ℕ) → old.done ≡ length old.blocks + offset → old.stages ≡ Some config → IsConfigCall label offset → P (put (config_place (length now) label) config now))
+        → ((offset : ℕ) → old.done ≡ length old.blocks + offset → IsFlushCall old.stages offset → P now) → P (bytes_made call now)
     by_call P block slot config flush = go is_call
       where
         told : (c : DiskCall) → call ≡ c → P (bytes_made c now) → P (bytes_made call now)
@@ -270,10 +270,10 @@ module _ (now : List ℕ) (s : Shown) (pointers : Place → Pointer) (past : Pas
 
         go : IsCallAt (length now) group old old.done call → P (bytes_made call now)
         go (inl (b, at, is)) = told (Put b.address b.content) is (block b at)
-        go (inr (turn, at, inl (label, below, turn_is, is))) = told (Put (slot_place (length now) label (slot_of x.sync.group)) old.slot)
-            (is ∙ ap (λ (g : ℕ). Put (slot_place (length now) label (slot_of g)) old.slot) (sym of_group)) (slot turn label at below turn_is)
-        go (inr (turn, at, inr (inl (c, label, staged, turn_is, is)))) = told (Put (config_place (length now) label) c) is (config turn label c at staged turn_is)
-        go (inr (turn, at, inr (inr (turn_is, is)))) = told Settle is (flush turn at turn_is)
+        go (inr (offset, at, inl (label, below, offset_is, is))) = told (Put (slot_place (length now) label (slot_of x.sync.group)) old.slot)
+            (is ∙ ap (λ (g : ℕ). Put (slot_place (length now) label (slot_of g)) old.slot) (sym of_group)) (slot offset label at below offset_is)
+        go (inr (offset, at, inr (inl (c, label, staged, offset_is, is)))) = told (Put (config_place (length now) label) c) is (config offset label c at staged offset_is)
+        go (inr (offset, at, inr (inr (offset_is, is)))) = told Settle is (flush offset at offset_is)
 
   -- each call keeps what is kept
   pub advance-keeps : (group : ℕ) (after : List ℕ) (new : NewTree) → s.line.syncing ≡ Some group → Advances group now after old new → IsKept after s pointers (Some new) past
@@ -288,6 +288,6 @@ module _ (now : List ℕ) (s : Shown) (pointers : Place → Pointer) (past : Pas
       subst HasNoLogBlock (sym made)
       (by_call group syncing call is_call HasNoLogBlock
       (λ b at. written-no_log now (put b.address b.content now) s pointers past old b x.stored x.sync at refl none)
-      (λ turn label at below turn_is. same-no_log now (put (slot_place (length now) label (slot_of x.sync.group)) old.slot now) none (slot-same turn label at below turn_is))
-      (λ turn label config at staged turn_is. same-no_log now (put (config_place (length now) label) config now) none (config-same turn label config at staged turn_is))
-      (λ turn at turn_is. none))
+      (λ offset label at below offset_is. same-no_log now (put (slot_place (length now) label (slot_of x.sync.group)) old.slot now) none (slot-same offset label at below offset_is))
+      (λ offset label config at staged offset_is. same-no_log now (put (config_place (length now) label) config now) none (config-same offset label config at staged offset_is))
+      (λ offset at offset_is. none))

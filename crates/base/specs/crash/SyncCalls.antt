@@ -35,39 +35,39 @@ stage_calls (Some config) = 3
 abbrev pub total_calls : NewTree → ℕ
 total_calls new = length new.blocks + 6 + stage_calls new.stages + stage_calls new.stages
 
--- Behind the blocks the calls are numbered from 0. These write the config into a label: 1 and 2 into labels 0 and 2, 9
--- and 10 into labels 1 and 3.
-abbrev pub IsConfigTurn : ℕ → ℕ → Type 0
-IsConfigTurn label turn = ((label ≡ 0) × (turn ≡ 1)) ⊎ ((label ≡ 2) × (turn ≡ 2)) ⊎ ((label ≡ 1) × (turn ≡ 9)) ⊎ ((label ≡ 3) × (turn ≡ 10))
+-- Offsets count the calls after the blocks, from 0. These write the config into a label: 1 and 2 into labels 0 and 2,
+-- 9 and 10 into labels 1 and 3.
+abbrev pub IsConfigCall : ℕ → ℕ → Type 0
+IsConfigCall label offset = ((label ≡ 0) × (offset ≡ 1)) ⊎ ((label ≡ 2) × (offset ≡ 2)) ⊎ ((label ≡ 1) × (offset ≡ 9)) ⊎ ((label ≡ 3) × (offset ≡ 10))
 
--- these are flushes: of the blocks, of the uberblocks, and of each label stage
-abbrev pub IsFlushTurn : Option (List ℕ) → ℕ → Type 0
-IsFlushTurn stages turn = (turn ≡ 0) ⊎ (turn ≡ 5 + stage_calls stages) ⊎ ((is_some stages ≡ true) × ((turn ≡ 3) ⊎ (turn ≡ 11)))
+-- these flush the blocks, the uberblocks, and each label stage
+abbrev pub IsFlushCall : Option (List ℕ) → ℕ → Type 0
+IsFlushCall stages offset = (offset ≡ 0) ⊎ (offset ≡ 5 + stage_calls stages) ⊎ ((is_some stages ≡ true) × ((offset ≡ 3) ⊎ (offset ≡ 11)))
 
--- the call behind the blocks: the uberblock into the labels 0 to 3 in their order, the config into a label, or a flush
-abbrev pub IsCallBehind : ℕ → ℕ → NewTree → ℕ → DiskCall → Type 0
-IsCallBehind size group new turn call =
-    ((label : ℕ) × (label < 4) × (turn ≡ 1 + stage_calls new.stages + label) × (call ≡ Put (slot_place size label (slot_of group)) new.slot))
-    ⊎ ((config : List ℕ) × (label : ℕ) × (new.stages ≡ Some config) × IsConfigTurn label turn × (call ≡ Put (config_place size label) config))
-    ⊎ (IsFlushTurn new.stages turn × (call ≡ Settle))
+-- the call at an offset: the uberblock into the labels 0 to 3 in their order, the config into a label, or a flush
+abbrev pub IsCallAfterBlocks : ℕ → ℕ → NewTree → ℕ → DiskCall → Type 0
+IsCallAfterBlocks size group new offset call =
+    ((label : ℕ) × (label < 4) × (offset ≡ 1 + stage_calls new.stages + label) × (call ≡ Put (slot_place size label (slot_of group)) new.slot))
+    ⊎ ((config : List ℕ) × (label : ℕ) × (new.stages ≡ Some config) × IsConfigCall label offset × (call ≡ Put (config_place size label) config))
+    ⊎ (IsFlushCall new.stages offset × (call ≡ Settle))
 
 -- The call of this number, of the sync of a group on a device of so many bytes: first each block is written, and then
 -- the others come.
 abbrev pub IsCallAt : ℕ → ℕ → NewTree → ℕ → DiskCall → Type 0
 IsCallAt size group new number call =
     ((b : NewBlock) × (slice_get new.blocks number ≡ Some b) × (call ≡ Put b.address b.content))
-    ⊎ ((turn : ℕ) × (number ≡ length new.blocks + turn) × IsCallBehind size group new turn call)
+    ⊎ ((offset : ℕ) × (number ≡ length new.blocks + offset) × IsCallAfterBlocks size group new offset call)
 
 -- the next call was made
 abbrev pub Advances : ℕ → List ℕ → List ℕ → NewTree → NewTree → Type 0
 Advances group now later old new =
     (call : DiskCall) × IsCallAt (length now) group old old.done call × (later ≡ bytes_made call now) × (new ≡ record old { done = old.done + 1 })
 
--- how many labels have the new config before the call of this number behind the blocks
+-- how many labels have the new config before the call at this offset
 abbrev pub staged_before : ℕ → ℕ
-staged_before turn = if nat_lt turn 2 then 0 else (if nat_lt turn 3 then 1 else (if nat_lt turn 10 then 2 else (if nat_lt turn 11 then 3 else 4)))
+staged_before offset = if nat_lt offset 2 then 0 else (if nat_lt offset 3 then 1 else (if nat_lt offset 10 then 2 else (if nat_lt offset 11 then 3 else 4)))
 
 -- without label stages none ever has it
 abbrev pub staged_labels : Option (List ℕ) → ℕ → ℕ
-staged_labels None turn = 0
-staged_labels (Some config) turn = staged_before turn
+staged_labels None offset = 0
+staged_labels (Some config) offset = staged_before offset

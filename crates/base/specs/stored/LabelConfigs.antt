@@ -15,8 +15,8 @@ use Rattle.base.specs.steps.Shown.{Shown}
 abbrev pub stage_place : ℕ → ℕ
 stage_place label = if label == 1 then 2 else (if label == 2 then 1 else label)
 
--- So many labels, in the order of the stages, have these bytes as their config. Each other one has a config of the pool,
--- of this group and with this name.
+-- So many labels, in the order of the stages, have these bytes as their config. Each other label has a config of the
+-- pool, of this group and with this name.
 pub record HaveConfigs (now : List ℕ) (guid group : ℕ) (name new : List ℕ) (count : ℕ) : Type 0 where
   pub written : (label : ℕ) → label < 4 → stage_place label < count → part now (config_place (length now) label) block_size ≡ new
   pub left : (label : ℕ) → label < 4 → count ≤ stage_place label → IsConfig now label guid group name
@@ -30,8 +30,8 @@ abbrev pub written_labels : Option NewTree → ℕ
 written_labels None = 0
 written_labels (Some new) = staged_labels new.stages (new.done - length new.blocks)
 
--- The labels have the config of the running sync as far as it has written it, and else one of a group up to the synced
--- one, with the synced name.
+-- Each label into which the running sync has written its config has that one. Each other label has a config with the
+-- synced name, of a group up to the synced one.
 pub record HoldConfigs (now : List ℕ) (s : Shown) (running : Option NewTree) (past : Past) : Type 0 where
   pub synced : Contents
   pub replayed : replay (entries_up_to s.line.synced past.entries) past.base ≡ Ok synced
@@ -39,7 +39,7 @@ pub record HoldConfigs (now : List ℕ) (s : Shown) (running : Option NewTree) (
   pub within : group ≤ s.line.synced
   pub have : HaveConfigs now s.guid group synced.name (written_config running) (written_labels running)
 
--- A sync without label stages leaves the name. The config of one with them is of its group, with the name that comes.
+-- A sync without label stages leaves the name. With them its config is one of its group, with the new name.
 abbrev pub WritesName : Option (List ℕ) → (size guid group : ℕ) → (before after : List ℕ) → Type 0
 WritesName None size guid group before after = after ≡ before
 WritesName (Some config) size guid group before after = IsConfigContent config size guid group after

@@ -14,7 +14,7 @@ use Rattle.base.specs.tree.Places.{Place}
 use Rattle.base.specs.tree.PlannedTrees.{NewBlock}
 use Rattle.base.specs.steps.Shown.{SyncPlan}
 use Rattle.base.specs.stored.Stored.{Advances, NewTree, total_calls}
-use Rattle.base.specs.crash.SyncCalls.{IsConfigTurn, IsFlushTurn, stage_calls}
+use Rattle.base.specs.crash.SyncCalls.{IsConfigCall, IsFlushCall, stage_calls}
 use Rattle.base.specs.crash.SyncCalls.DiskCall.{Put, Settle}
 use Rattle.base.specs.disk.SyncOrder.{DeviceCall, calls_in_order}
 use Rattle.base.specs.disk.SyncOrder.DeviceCall.{Block, Config, Uberblock, Flush}
@@ -59,12 +59,12 @@ none_even : (stages : Option LabelStages) → is_some stages ≡ false → AreEv
 none_even None none = tt
 none_even (Some stages) none = absurd (true≢false none)
 
--- What a call behind the blocks is, by its number: a config of a label stage, the uberblock of a label, or a flush.
+-- what a call after the blocks is, by its offset: a config of a label stage, the uberblock of a label, or a flush
 abbrev IsBehind : Option LabelStages → ℕ → DeviceCall → Type 0
-IsBehind stages turn (Block k) = ⊥
-IsBehind stages turn (Config label) = (some : LabelStages) × (stages ≡ Some some) × IsConfigTurn label turn
-IsBehind stages turn (Uberblock label) = (label < 4) × (turn ≡ 1 + stage_calls (config_of stages) + label)
-IsBehind stages turn Flush = IsFlushTurn (config_of stages) turn
+IsBehind stages offset (Block k) = ⊥
+IsBehind stages offset (Config label) = (some : LabelStages) × (stages ≡ Some some) × IsConfigCall label offset
+IsBehind stages offset (Uberblock label) = (label < 4) × (offset ≡ 1 + stage_calls (config_of stages) + label)
+IsBehind stages offset Flush = IsFlushCall (config_of stages) offset
 
 abbrev AreBehind : Option LabelStages → Type 0
 AreBehind stages = EachAt (IsBehind stages) 0 (calls_in_order 0 (is_some stages) (first_labels stages) (last_labels stages))
@@ -171,28 +171,28 @@ module _ (run new : SyncRun) (same : SameSync run new) (pointers : Place → Poi
           made_as (run.done + 1) done,
         )
 
-    abbrev turn : ℕ
-    turn = run.done - vec_len run.blocks
+    abbrev offset : ℕ
+    offset = run.done - vec_len run.blocks
 
-    placed : vec_len run.blocks ≤ run.done → run.done ≡ length blocks + turn
+    placed : vec_len run.blocks ≤ run.done → run.done ≡ length blocks + offset
     placed behind = omega (arith, behind, many)
 
-    by_call : (call : DeviceCall) → vec_len run.blocks ≤ run.done → IsBehind run.stages turn call → MakesCall run call before (Ok tt) after → Advanced
+    by_call : (call : DeviceCall) → vec_len run.blocks ≤ run.done → IsBehind run.stages offset call → MakesCall run call before (Ok tt) after → Advanced
     by_call (Block k) behind is makes = absurd is
     by_call (Config label) behind (stages, staged, is) makes = (
       Put (config_place (length (bytes_of before.now)) label) stages.config,
-      inr (turn, placed behind, inr (inl (stages.config, label, ap config_of staged, is, refl))),
+      inr (offset, placed behind, inr (inl (stages.config, label, ap config_of staged, is, refl))),
       put_bytes (target_of run (Config label)) (config_target run.geometry label stages) before after (ap (λ (o : Option LabelStages). option_map (config_target run.geometry label) o) staged) makes
           ∙ (λ k. put (config_place (sym sized k) label) stages.config (bytes_of before.now)),
       made_as (run.done + 1) done,
     )
     by_call (Uberblock label) behind (low, is) makes = (
       Put (slot_place (length (bytes_of before.now)) label (slot_of group)) run.uberblock,
-      inr (turn, placed behind, inl (label, low, is, refl)),
+      inr (offset, placed behind, inl (label, low, is, refl)),
       ap (λ (d : Disk). bytes_of d.now) makes ∙ (λ k. put (slot_place (sym sized k) label (slot k)) run.uberblock (bytes_of before.now)),
       made_as (run.done + 1) done,
     )
-    by_call Flush behind is makes = (Settle, inr (turn, placed behind, inr (inr (is, refl))), (flushed_clean before after makes).1, made_as (run.done + 1) done)
+    by_call Flush behind is makes = (Settle, inr (offset, placed behind, inr (inr (is, refl))), (flushed_clean before after makes).1, made_as (run.done + 1) done)
 
     -- the next call was made
     pub call_advances : (call : DeviceCall) → IsNextCall run call → MakesCall run call before (Ok tt) after → Advanced
