@@ -1,5 +1,5 @@
--- What a write of a block, a config or an uberblock makes of the labels: a block touches none, a config leaves each
--- uberblock, and an uberblock of a later group is the active one from its first label on, with the configs as they were.
+-- What a write makes of the labels. A block touches none, and a config leaves each uberblock. An uberblock of a later
+-- group is the active one from its first label on, and leaves each config.
 use Rattle.std.proofs.Common.{◌≡◌, ℕ, ◌+◌, ◌<◌, ◌≤◌, List, length, ap, sym, subst, ◌∙◌, arith, ◌⊎◌, inl, inr}
 use Rattle.std.specs.Prelude.{◌≢◌}
 use Rattle.std.proofs.lemmas.Bool.{cases_lt, cases_order}

@@ -1,5 +1,5 @@
--- Which configs the labels of a pool hold as its sync goes on. Each config call of a label stage gives one label more the
--- new config, and after the first stage the new config is chosen for the group of the sync. (A rename will have stages.)
+-- Which configs the labels of a pool hold while its sync goes on. Each config call gives one more label the new config.
+-- After the first label stage that one is chosen for the group of the sync.
 use Rattle.std.proofs.Common.{◌≡◌, ℕ, ◌+◌, ◌-◌, ◌<◌, ◌≤◌, Bool, true, false, List, [], length, refl, ap, sym, subst, ◌∙◌, arith, ◌⊎◌, inl, inr}
 use Rattle.std.specs.Prelude.{Option, Some, None, nat_lt, unwrap_or, if◌then◌else◌}
 use Rattle.std.proofs.lemmas.Bool.{false≢true, le-ltb, lt-ltb}

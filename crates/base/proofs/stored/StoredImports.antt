@@ -1,4 +1,4 @@
--- What the labels show of a pool that was just imported, and which configs they have; and blocks of zeros are no log blocks.
+-- What the labels show of a pool that was just imported, and which configs they have.
 use Rattle.std.proofs.Common.{◌≡◌, ℕ, ◌<◌, List, [], refl, ap, sym, ◌∙◌, arith}
 use Rattle.std.specs.Prelude.{None, slice_get, unwrap_or, option_map}
 use Rattle.base.specs.history.Contents.{Contents}
