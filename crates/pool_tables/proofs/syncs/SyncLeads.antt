@@ -74,9 +74,9 @@ all_behind None even = (inl refl, ((omega arith, refl), ((omega arith, refl), ((
 all_behind (Some stages) even = subst (λ (s : LabelStages). AreBehind (Some s)) (sym is) (
   inl refl,
   (
-    (first, refl, inl (refl, refl)),
+    (staged, refl, inl (refl, refl)),
     (
-      (first, refl, inr (inl (refl, refl))),
+      (staged, refl, inr (inl (refl, refl))),
       (
         inr (inr (refl, inl refl)),
         (
@@ -87,7 +87,7 @@ all_behind (Some stages) even = subst (λ (s : LabelStages). AreBehind (Some s))
               (omega arith, refl),
               (
                 (omega arith, refl),
-                (inr (inl refl), ((first, refl, inr (inr (inl (refl, refl)))), ((first, refl, inr (inr (inr (refl, refl)))), (inr (inr (refl, inr refl)), tt)))),
+                (inr (inl refl), ((staged, refl, inr (inr (inl (refl, refl)))), ((staged, refl, inr (inr (inr (refl, refl)))), (inr (inr (refl, inr refl)), tt)))),
               ),
             ),
           ),
@@ -97,10 +97,10 @@ all_behind (Some stages) even = subst (λ (s : LabelStages). AreBehind (Some s))
   ),
 )
   where
-    first : LabelStages
-    first = record { config = stages.config; first = Even }
+    staged : LabelStages
+    staged = record { config = stages.config; first = Even }
 
-    is : stages ≡ first
+    is : stages ≡ staged
     is = λ k. record { config = stages.config; first = even k }
 
 call_behind : (run : SyncRun) (call : DeviceCall) → AreEvenFirst run.stages → vec_len run.blocks ≤ run.done → IsNextCall run call → IsBehind run.stages (run.done - vec_len run.blocks) call
