@@ -19,7 +19,6 @@ pub mod LogCalls
 pub mod LogHeaders
 pub mod LogSpares
 pub mod PoolLogs
-pub mod LogNames
 pub mod LogRoom
 pub mod PoolRoom
 pub mod LogUnwritten

@@ -7,4 +7,4 @@ pub mod Admissions
 pub mod CommitOrder
 pub mod LogOrder
 pub mod KeptContents
-pub mod BuiltNames
+pub mod Names

@@ -53,7 +53,7 @@ phase_mounts t m image left fair old new contents old_mounts new_mounts (inr (in
 -- same
 pub steady_mounts : (before after : Disk) (created guid : ℕ) (contents : Contents) → HasSteadyPhases (disk_size before) created before after guid contents → AllMountTo before after created contents
 steady_mounts before after created guid contents steady =
-    weaker (IsImportMoment (disk_size before) created steady.old steady.new) (LeavesFair (disk_size before) created (λ image. MountsTo image contents)) before after
+    weaker (IsImportMoment (disk_size before) created steady.old steady.new contents.name) (LeavesFair (disk_size before) created (λ image. MountsTo image contents)) before after
     (λ m here. record {
       bytes = here.bytes;
       each = λ image left fair.

@@ -51,7 +51,7 @@ import_goes_on old new created guid contents (inl same) = subst (λ (d : Disk). 
 import_goes_on old new created guid contents (inr steady) =
     let flushed : Disk = certain (bytes_of old.now) old in
     joins (λ m. Unit {0}) old flushed new (certain_goes_on old (bytes_of old.now))
-    (weaker (IsImportMoment _ created steady.phases.old steady.phases.new) (λ m. Unit {0}) flushed new (λ m here. tt) steady.phases.each)
+    (weaker (IsImportMoment _ created steady.phases.old steady.phases.new contents.name) (λ m. Unit {0}) flushed new (λ m here. tt) steady.phases.each)
 
 kept_left : (past : Past) (old new : Disk) → IsLeft past old → (f : IsLeftOnceFlushed past old) → IsImportKept old new past.created f.guid f.contents → IsLeft past new
 kept_left past old new was f (inl same) = subst (λ (d : Disk). IsLeft past d) (sym same) was

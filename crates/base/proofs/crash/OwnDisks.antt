@@ -45,39 +45,39 @@ configs_weaker size t ws guid top up IsOther IsNew higher weaker known label gro
     ⊎_elim (λ low. inl (omega (arith, low, higher))) (λ other. weaker group c other) (known label group name c below some is)
 
 -- what holds of an import's old view holds of its new one
-pub import_configs : (size t : ℕ) (ws : List Write) (old new : View) → new.u.guid ≡ old.u.guid → new.u.group ≡ old.u.group + 4 → AreConfigsBelowImport size t ws old → AreConfigsBelowImport size t ws new
-import_configs size t ws old new same higher known =
-    subst (λ (guid : ℕ). AreConfigsUpTo size t ws guid (new.u.group + 3) (λ group content. (group ≡ new.u.group + 4) × (content ≡ config_content size guid group new.name))) (sym same)
-    (configs_weaker size t ws old.u.guid (old.u.group + 3) (new.u.group + 3) (λ group content. (group ≡ old.u.group + 4) × (content ≡ config_content size old.u.guid group old.name))
-    (λ group content. (group ≡ new.u.group + 4) × (content ≡ config_content size old.u.guid group new.name)) (omega (arith, higher)) (λ group content other. inl (omega (arith, higher, other.0))) known)
+pub import_configs : (size t : ℕ) (ws : List Write) (old new : View) (name : List ℕ) → new.u.guid ≡ old.u.guid → new.u.group ≡ old.u.group + 4 → AreConfigsBelowImport size t ws old name → AreConfigsBelowImport size t ws new name
+import_configs size t ws old new name same higher known =
+    subst (λ (guid : ℕ). AreConfigsUpTo size t ws guid (new.u.group + 3) (λ group content. (group ≡ new.u.group + 4) × (content ≡ config_content size guid group name))) (sym same)
+    (configs_weaker size t ws old.u.guid (old.u.group + 3) (new.u.group + 3) (λ group content. (group ≡ old.u.group + 4) × (content ≡ config_content size old.u.guid group name))
+    (λ group content. (group ≡ new.u.group + 4) × (content ≡ config_content size old.u.guid group name)) (omega (arith, higher)) (λ group content other. inl (omega (arith, higher, other.0))) known)
 
 module _ (size t : ℕ) (m : Moment) (image : List ℕ) (left : MayLeave m image) where
   -- an image that is certain and at rest on a view is the pool's own
-  pub rest_own : (flushed : ℕ) (v : View) (guid : ℕ) (contents : Contents) → v.u.guid ≡ guid → flushed ≡ length v.logged → MountsAs v contents → HasImportRoom (block_count size) v → AreConfigsBelowImport size t (handed m) v
+  pub rest_own : (flushed : ℕ) (v : View) (guid : ℕ) (contents : Contents) → v.u.guid ≡ guid → flushed ≡ length v.logged → MountsAs v contents → HasImportRoom (block_count size) v → AreConfigsBelowImport size t (handed m) v contents.name
       → IsAtRest size t flushed (settled image m) v → IsOwnImage size t image m guid contents
   rest_own flushed v guid contents of_guid all mounts room configs rest =
       record {
         v = v;
         guid_is = of_guid;
         rest = subst (λ (n : ℕ). IsAtRest size t n (settled image m) v) all rest;
-        configs = configs_settled size t v.u.guid (v.u.group + 3) (λ group content. (group ≡ v.u.group + 4) × (content ≡ config_content size v.u.guid group v.name)) image m configs;
+        configs = configs_settled size t v.u.guid (v.u.group + 3) (λ group content. (group ≡ v.u.group + 4) × (content ≡ config_content size v.u.guid group contents.name)) image m configs;
         applied = mounts;
         room = room;
       }
 
   -- and so is each that a crash leaves at a moment of an import
-  pub import_image : (old new : View) (guid : ℕ) (contents : Contents) → AreImportViews (block_count size) old new guid contents → IsImportMoment size t old new m → IsOwnImage size t image m guid contents
+  pub import_image : (old new : View) (guid : ℕ) (contents : Contents) → AreImportViews (block_count size) old new guid contents → IsImportMoment size t old new contents.name m → IsOwnImage size t image m guid contents
   import_image old new guid contents views here = elim (phase_certain size t (length old.logged) (length new.logged) m image left old new here.phase) as (λ _. IsOwnImage size t image m guid contents) [
     | inl rest ↦ rest_own (length old.logged) old guid contents views.old_guid refl views.old_mounts views.old_room here.configs rest
     | inr rest ↦
         rest_own (length new.logged) new guid contents views.new_guid refl views.new_mounts views.new_room
-        (import_configs size t (handed m) old new (views.new_guid ∙ sym views.old_guid) views.next_group here.configs) rest
+        (import_configs size t (handed m) old new contents.name (views.new_guid ∙ sym views.old_guid) views.next_group here.configs) rest
   ]
 
 -- so an import, wherever it ends, leaves a disk that is the pool's own with what it mounted
 pub steady_own : (size created : ℕ) (before after : Disk) (guid : ℕ) (contents : Contents) → created ≤ moments after → HasSteadyPhases size created before after guid contents → IsOwnWith after created guid contents
 steady_own size created before after guid contents began steady =
-    let here = latest (IsImportMoment size created steady.old steady.new) before after steady.each in
+    let here = latest (IsImportMoment size created steady.old steady.new contents.name) before after steady.each in
     record {
       began = began;
       left = record {
@@ -93,7 +93,7 @@ pub import_kept : (old new : Disk) (created guid : ℕ) (contents : Contents) �
     → HasSteadyPhases (disk_size old) created (certain (bytes_of old.now) old) new guid contents → IsSteady old new created guid contents
 import_kept old new created guid contents own steady =
     let flushed : Disk = certain (bytes_of old.now) old in
-    let later : moments flushed ≤ moments new = moments_grow (IsImportMoment (disk_size old) created steady.old steady.new) flushed new steady.each in
+    let later : moments flushed ≤ moments new = moments_grow (IsImportMoment (disk_size old) created steady.old steady.new contents.name) flushed new steady.each in
     let began : created ≤ moments flushed = own.began in
     record { phases = steady; own = steady_own (disk_size old) created flushed new guid contents (omega (arith, began, later)) steady }
 
@@ -113,10 +113,10 @@ module _ (size : ℕ) (m : Moment) (s : Shown) (past : Past) (now : Contents) (i
       rest_found past.created (settled image m) image (bytes_may_be_left (settled image m)) certain_fair flushed v
       (subst (λ (n : ℕ). IsAtRest n past.created flushed (settled image m) v) (sym size_is) rest)
 
-  configs : (v : View) → v.u.guid ≡ s.guid → s.line.synced ≤ v.u.group → AreConfigsBelowImport size past.created (handed m) v
-  configs v of_guid no_lower =
-      subst (λ (guid : ℕ). AreConfigsUpTo size past.created (handed m) guid (v.u.group + 3) (λ group content. (group ≡ v.u.group + 4) × (content ≡ config_content size guid group v.name))) (sym of_guid)
-      (configs_weaker size past.created (handed m) s.guid s.line.synced (v.u.group + 3) (IsSyncConfig size s past) (λ group content. (group ≡ v.u.group + 4) × (content ≡ config_content size s.guid group v.name)) (omega (arith, no_lower))
+  configs : (v : View) (name : List ℕ) → v.u.guid ≡ s.guid → s.line.synced ≤ v.u.group → AreConfigsBelowImport size past.created (handed m) v name
+  configs v name of_guid no_lower =
+      subst (λ (guid : ℕ). AreConfigsUpTo size past.created (handed m) guid (v.u.group + 3) (λ group content. (group ≡ v.u.group + 4) × (content ≡ config_content size guid group name))) (sym of_guid)
+      (configs_weaker size past.created (handed m) s.guid s.line.synced (v.u.group + 3) (IsSyncConfig size s past) (λ group content. (group ≡ v.u.group + 4) × (content ≡ config_content size s.guid group name)) (omega (arith, no_lower))
       (λ group content other.
       let next : group ≡ s.line.synced + 1 = subst (λ o. IfSome o (λ g. g ≡ s.line.synced + 1)) other.syncing line.syncing in
       inl (omega (arith, next, no_lower))) kept.configs)
@@ -133,7 +133,7 @@ module _ (size : ℕ) (m : Moment) (s : Shown) (past : Past) (now : Contents) (i
       let not_below : s.line.synced ≤ v.u.group = let g : v.u.group ≡ group = is.group_is in omega (arith, g, no_lower) in (
         a.0,
         a.1,
-        rest_own size past.created m image left (length (take f.count v.logged)) (with_front f.count v) s.guid a.0 is.guid refl a.2 (room_front (block_count size) f.count v enough) (configs v is.guid not_below)
+        rest_own size past.created m image left (length (take f.count v.logged)) (with_front f.count v) s.guid a.0 is.guid refl a.2 (room_front (block_count size) f.count v enough) (configs v a.0.name is.guid not_below)
             (subst (λ (n : ℕ). IsAtRest n past.created (length (take f.count v.logged)) (settled image m) (with_front f.count v)) size_is front),
       )
 

@@ -20,7 +20,6 @@ use Rattle.base.specs.formats.Records.{Record, IsAllowed, bytes_of_records}
 use Rattle.base.specs.steps.Logs.{Log, header_for, log_after_write, log_after_flush, log_after_sync, awaits_flush}
 use Rattle.base.specs.steps.Shown.{Shown, is_durable}
 use Rattle.base.specs.steps.Refusals as refusal
-use Rattle.base.specs.steps.BuiltSteps as as_built
 use Rattle.base.specs.declared.piece.Piece.TheVariants.{Keep, Lose, Fill}
 use Rattle.base.specs.disk.Disk.{Write}
 use Rattle.base.specs.disk.Crashes.{crash_image}
@@ -66,10 +65,10 @@ abbrev busy : Shown
 busy = record fresh { locks = writer 0 100 ∷ []; transactions = open_write ∷ [] }
 
 -- its begin of a write of [2, 6) is busy, one outside its lock is not locked, and its lock is in use
-row_busy : as_built.begin_refusal 1 (shape.Write (object 1) 2 4 ∷ []) busy ≡ Some error.Busy
+row_busy : refusal.begin_refusal 1 (shape.Write (object 1) 2 4 ∷ []) busy ≡ Some error.Busy
 row_busy = refl
 
-row_not_locked : as_built.begin_refusal 1 (shape.Write (object 1) 98 4 ∷ []) busy ≡ Some error.NotLocked
+row_not_locked : refusal.begin_refusal 1 (shape.Write (object 1) 98 4 ∷ []) busy ≡ Some error.NotLocked
 row_not_locked = refl
 
 row_in_use : refusal.unlock_refusal 1 0 busy ≡ Some error.LockInUse
@@ -82,10 +81,10 @@ row_unlocked : refusal.unlock_refusal 1 0 (record busy { transactions = [] }) �
 row_unlocked = refl
 
 -- a plan of no shape, and one that is too large
-row_bad_range : as_built.begin_refusal 1 [] busy ≡ Some error.BadRange
+row_bad_range : refusal.begin_refusal 1 [] busy ≡ Some error.BadRange
 row_bad_range = refl
 
-row_too_large : as_built.begin_refusal 1 (shape.Write (object 1) 0 3970 ∷ []) busy ≡ Some error.TooLarge
+row_too_large : refusal.begin_refusal 1 (shape.Write (object 1) 0 3970 ∷ []) busy ≡ Some error.TooLarge
 row_too_large = refl
 
 -- a commit of a transaction that is not open, and one with other operations than its plan
@@ -134,20 +133,20 @@ row_suspended = refl
 abbrev dirtied : Shown
 dirtied = record fresh { locks = writer 0 338688 ∷ []; dirty = finite.insert finite.empty 9 32768 }
 
-row_throttled : as_built.begin_refusal 1 (shape.Write (object 1) 0 4 ∷ []) dirtied ≡ Some error.Throttled
+row_throttled : refusal.begin_refusal 1 (shape.Write (object 1) 0 4 ∷ []) dirtied ≡ Some error.Throttled
 row_throttled = simp (finite.get-empty {X = ℕ} nat_cmp, finite.get-insert {X = ℕ} nat_cmp_total) refl
 
-row_no_space : as_built.begin_refusal 1 (shape.Create (object 1) ∷ []) dirtied ≡ Some error.NoSpace
+row_no_space : refusal.begin_refusal 1 (shape.Create (object 1) ∷ []) dirtied ≡ Some error.NoSpace
 row_no_space = simp (finite.get-empty {X = ℕ} nat_cmp, finite.get-insert {X = ℕ} nat_cmp_total, set.len-empty nat_cmp) refl
 
 abbrev spare : Shown
 spare = record fresh { locks = writer 0 338688 ∷ []; free = set.insert (set.insert set.empty 4198400) 4202496 }
 
 -- of two free blocks a create would leave none of those kept back; a removal may take them
-row_kept_back : as_built.begin_refusal 1 (shape.Create (object 1) ∷ []) spare ≡ Some error.NoSpace
+row_kept_back : refusal.begin_refusal 1 (shape.Create (object 1) ∷ []) spare ≡ Some error.NoSpace
 row_kept_back = simp (finite.get-empty {X = ℕ} nat_cmp, set.len-insert nat_cmp_total, set.contains-insert nat_cmp_total, set.contains-empty nat_cmp, set.len-empty nat_cmp) refl
 
-row_removal : as_built.begin_refusal 1 (shape.Remove (object 1) ∷ []) spare ≡ None
+row_removal : refusal.begin_refusal 1 (shape.Remove (object 1) ∷ []) spare ≡ None
 row_removal = simp (finite.get-empty {X = ℕ} nat_cmp, set.len-insert nat_cmp_total, set.contains-insert nat_cmp_total, set.contains-empty nat_cmp, set.len-empty nat_cmp) refl
 
 -- an append of an absent object

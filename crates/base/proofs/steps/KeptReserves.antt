@@ -212,13 +212,13 @@ stays : (old new : State) → HasReserves old → new ≡ old → HasReserves ne
 stays old new x e = subst HasReserves (sym e) x
 
 module _ (old new : State) (groups : AreGroupsExact old.shown old.past) (sync : IsSyncExact old.shown) (x : HasReserves old) where
-  begin_step : (owner : ℕ) (plan : List Shape) (answer : Result (ℕ × ℕ) PoolError) → steps.WholeBegin owner plan answer old new → HasReserves new
-  begin_step owner plan answer h = by_answer answer (refusal.whole_begin_refusal owner plan old.shown) old new _ _
+  begin_step : (owner : ℕ) (plan : List Shape) (answer : Result (ℕ × ℕ) PoolError) → steps.Begin owner plan answer old new → HasReserves new
+  begin_step owner plan answer h = by_answer answer (refusal.begin_refusal owner plan old.shown) old new _ _
       (λ a none d.
       let fits : dirty_total old.shown + charge_of plan ≤ old.shown.dirty_max =
-      ltb-false old.shown.dirty_max (dirty_total old.shown + charge_of plan) (no_refusal (refusal.whole_begin_tests owner plan old.shown) none 6 _ refl) in
+      ltb-false old.shown.dirty_max (dirty_total old.shown + charge_of plan) (no_refusal (refusal.begin_tests owner plan old.shown) none 6 _ refl) in
       let free : refusal.blocks_wanted old.shown.contents plan ≤ available old.shown =
-      ltb-false (available old.shown) (refusal.blocks_wanted old.shown.contents plan) (no_refusal (refusal.whole_begin_tests owner plan old.shown) none 7 _ refl) in
+      ltb-false (available old.shown) (refusal.blocks_wanted old.shown.contents plan) (no_refusal (refusal.begin_tests owner plan old.shown) none 7 _ refl) in
       subst HasReserves (sym d.1) (begin_state old groups x (steps.next_admission owner plan old.shown) groups.next refl fits (omega arith)))
       (λ e none own. stays old new x own.1) x h
 

@@ -28,7 +28,6 @@ use Rattle.base.specs.crash.Imports.{IsImported}
 use Rattle.base.specs.steps.Refusals as refusal
 use Rattle.base.specs.steps.Refusals.{Test, refused_if, first_refusal}
 use Rattle.base.specs.steps.Steps.{State, IsReplayUpTo}
-use Rattle.base.specs.steps.BuiltSteps as as_built
 use Rattle.base.specs.steps.Space.{HasReserves}
 use Rattle.base.specs.steps.Effects.{Effect, HasEffect, MayHave, MayAddEntry, state_after}
 use Rattle.base.specs.steps.Effects.Effect.{Suspends, AddsGrant, LetsGo, AddsAdmission, AddsEntry, EndsAdmission, OpensNext, QuiescesMiddle, PlansSync, CountsStep, EndsSync, WritesLog, FlushesLog}
@@ -152,7 +151,7 @@ module _ (old : State) (x : IsExplainedState old) where
 
   groups : (e : Effect) → MayHave e old → AreGroupsExact (state_after e old).shown (state_after e old).past
   groups (AddsAdmission a) may =
-      begin_keeps s (state_after (AddsAdmission a) old).shown p a x.exact.groups may.named may.in_open (and_parts (is_plan_allowed a.plan) (list_all as_built.is_shape_built a.plan) may.built).0 may.small
+      begin_keeps s (state_after (AddsAdmission a) old).shown p a x.exact.groups may.named may.in_open may.allowed may.small
   groups (AddsEntry tx a ops contents) may =
       let t : State = state_after (AddsEntry tx a ops contents) old in
       let at = place tx a ops contents may in
@@ -212,13 +211,6 @@ module _ (old : State) (x : IsExplainedState old) where
   sync FlushesLog may = let t : State = state_after FlushesLog old in flush_sync s t.shown p t.past x.exact.log x.exact.sync
   sync e may = same_sync s (state_after e old).shown x.exact.sync
 
-  built : (e : Effect) → MayHave e old → as_built.AreBuilt (state_after e old).past.admissions
-  built (AddsAdmission a) may = λ i b at. elim (push-cases p.admissions a b i at) as (λ _. list_all as_built.is_shape_built b.plan ≡ true) [
-    | inl before ↦ x.built i b before
-    | inr last ↦ ap (λ (c : Admission). list_all as_built.is_shape_built c.plan) (sym last.1) ∙ (and_parts (is_plan_allowed a.plan) (list_all as_built.is_shape_built a.plan) may.built).1
-  ]
-  built e may = x.built
-
   trees : (e : Effect) → MayHave e old → AreTreesExact (state_after e old).shown (state_after e old).past
   trees (AddsEntry tx a ops contents) may =
       let t : State = state_after (AddsEntry tx a ops contents) old in
@@ -266,7 +258,6 @@ module _ (old : State) (x : IsExplainedState old) where
       sync = sync e may;
     };
     history = history e may;
-    built = built e may;
     trees = trees e may;
   }
 
@@ -297,6 +288,5 @@ pub new_pools_are_explained : (u : Uberblock) (blocks : ℕ) (contents : Content
 new_pools_are_explained u blocks contents created dirty_max s i bounded last = record {
   exact = new_pool_is_exact u blocks contents created dirty_max s i bounded last;
   history = search rules;
-  built = λ j a at. cc;
   trees = new_trees u blocks contents created dirty_max s i bounded;
 }

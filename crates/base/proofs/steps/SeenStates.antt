@@ -25,7 +25,6 @@ use Rattle.base.specs.history.Past.{Past, Grows, IsPrefixOf}
 use Rattle.base.specs.steps.Shown.{Shown}
 use Rattle.base.specs.steps.Refusals as refusal
 use Rattle.base.specs.steps.Refusals.{object_range}
-use Rattle.base.specs.steps.BuiltSteps as as_built
 use Rattle.base.specs.steps.Steps as steps
 use Rattle.base.specs.steps.Steps.{State}
 use Rattle.base.specs.steps.Additions.{past_after}
@@ -110,7 +109,7 @@ begins_are_seen owner plan tx group before after m =
   where
     name : Step ⊥ m.now (step.Begin owner plan) (reply.Began tx group) m.old m.new → tx.0 ≡ m.old.shown.next_tx
     name (Ok r, is, h) =
-        let done = ok-none (as_built.begin_refusal owner.0 plan m.old.shown) r m.old m.new _ _ h in
+        let done = ok-none (refusal.begin_refusal owner.0 plan m.old.shown) r m.old m.new _ _ h in
         let same : tx ≡ record { 0 = r.0 } = cc in
         ap (λ (x : TxId). x.0) same ∙ ap (λ (p : ℕ × ℕ). p.0) done.1.0
     name (Err e, is, h) = absurd (let no_way : reply.Began tx group ≡ reply.Refused e = is in cc)

@@ -13,7 +13,7 @@ use Rattle.base.specs.declared.step.Reply as declared_reply
 use Rattle.base.specs.declared.step.Reply.TheVariants as reply
 use Rattle.base.specs.formats.Limits.{last_number, max_log_record, kept_back}
 use Rattle.base.specs.formats.Records.{Record}
-use Rattle.base.specs.history.Plans.{log_record_size, charge_of}
+use Rattle.base.specs.history.Plans.{is_plan_allowed, log_record_size, charge_of}
 use Rattle.base.specs.steps.Additions.{past_after}
 use Rattle.base.specs.steps.Effects.{Effect, HasEffect, MayHave, is_logging, is_turning, state_after}
 use Rattle.base.specs.steps.Effects.Effect.{Stays, AddsGrant, LetsGo, AddsAdmission, AddsEntry, EndsAdmission, OpensNext, QuiescesMiddle, PlansSync, CountsStep, EndsSync, WritesLog, FlushesLog}
@@ -24,7 +24,6 @@ use Rattle.base.specs.steps.Refusals.{Test, refused_if, first_refusal, object_ra
 use Rattle.base.specs.steps.Runs.{Step, is_log_step, refusal_of_step, reply_of, progress_reply}
 use Rattle.base.specs.steps.SeenLaws.{is_suspending, is_untested}
 use Rattle.base.specs.steps.Shown.{Shown, SyncPlan, dirty_total, available}
-use Rattle.base.specs.steps.BuiltSteps as as_built
 use Rattle.base.specs.steps.Steps as steps
 use Rattle.base.specs.steps.Steps.{State, Answers, SyncProgress, WantsMemory}
 use Rattle.base.specs.steps.Steps.SyncProgress.{More, Synced}
@@ -142,14 +141,14 @@ step_does keeps now (step.Unlock owner id) r old new (answer, is, h) =
     by_answer s old new _ r answer _ _ (λ a none d. does s old new _ (LetsGo owner.0 id.0) none (lock_found old.shown owner.0 id.0 none) d refl refl refl (λ other. refl)) (λ e none never. absurd never) is h
 step_does keeps now (step.Begin owner plan) r old new (answer, is, h) =
     let s : declared_step.Step = step.Begin owner plan in
-    let tests = as_built.begin_tests owner.0 plan old.shown in
+    let tests = refusal.begin_tests owner.0 plan old.shown in
     by_answer s old new _ r answer _ _ (λ a none d.
     let wanted : ℕ = refusal.blocks_wanted old.shown.contents plan in
     let enough : wanted ≤ available old.shown = ltb-false (available old.shown) wanted (no_refusal tests none 7 _ refl) in
     does s old new _ (AddsAdmission (steps.next_admission owner.0 plan old.shown)) none (record {
       named = refl;
       in_open = refl;
-      built = not-false (as_built.is_plan_built plan) (no_refusal tests none 1 _ refl);
+      allowed = not-false (is_plan_allowed plan) (no_refusal tests none 1 _ refl);
       small = ltb-false max_log_record (log_record_size plan) (no_refusal tests none 2 _ refl);
       covered = not-false (refusal.is_plan_covered owner.0 plan old.shown.locks) (no_refusal tests none 3 _ refl);
       free = no_refusal tests none 4 _ refl;

@@ -37,11 +37,11 @@ pub record AreImportViews (blocks : ℕ) (old new : View) (guid : ℕ) (contents
   pub old_room : HasImportRoom blocks old
   pub new_room : HasImportRoom blocks new
 
--- a moment of an import: what a read gives is fair, no config counts that an import of the old view does not write, no
--- log block of a later chain than the old view's does, and it is one of the phases
-pub record IsImportMoment (size t : ℕ) (old new : View) (m : Moment) : Type 0 where
+-- a moment of an import that mounts this name: what a read gives is fair, no config counts that an import of the old
+-- view does not write, no log block of a later chain than the old view's does, and it is one of the phases
+pub record IsImportMoment (size t : ℕ) (old new : View) (name : List ℕ) (m : Moment) : Type 0 where
   pub bytes : HasFairBytes size t m
-  pub configs : AreConfigsBelowImport size t (handed m) old
+  pub configs : AreConfigsBelowImport size t (handed m) old name
   pub chains : AreChainsUpTo size t (handed m) old.u.guid old.u.import_number
   pub phase : IsPhase size t (length old.logged) (length new.logged) m old new
 
@@ -50,7 +50,7 @@ pub record HasSteadyPhases (size t : ℕ) (before after : Disk) (guid : ℕ) (co
   pub old : View
   pub new : View
   pub views : AreImportViews (block_count size) old new guid contents
-  pub each : EachMoment (IsImportMoment size t old new) before after
+  pub each : EachMoment (IsImportMoment size t old new contents.name) before after
 
 -- a disk that this pool alone wrote, once what a read gives is certain: as a good flush leaves it
 abbrev pub IsOwnOnceFlushed : Disk → ℕ → ℕ → Contents → Type 0

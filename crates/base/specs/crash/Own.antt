@@ -33,9 +33,9 @@ abbrev pub IsPhase : ℕ → ℕ → ℕ → ℕ → Moment → View → View �
 IsPhase size t flushed new_flushed m old new = IsAtRest size t flushed m old ⊎ (IsBetween size t flushed new_flushed m old new ⊎ IsAtRest size t new_flushed m new)
 
 -- no config of the pool that counts is of a group that an import of this view may reach, except for the one that it
--- writes
-abbrev pub AreConfigsBelowImport : ℕ → ℕ → List Write → View → Type 0
-AreConfigsBelowImport size t ws v = AreConfigsUpTo size t ws v.u.guid (v.u.group + 3) (λ group content. (group ≡ v.u.group + 4) × (content ≡ config_content size v.u.guid group v.name))
+-- writes, with the name of what it mounts
+abbrev pub AreConfigsBelowImport : ℕ → ℕ → List Write → View → List ℕ → Type 0
+AreConfigsBelowImport size t ws v name = AreConfigsUpTo size t ws v.u.guid (v.u.group + 3) (λ group content. (group ≡ v.u.group + 4) × (content ≡ config_content size v.u.guid group name))
 
 -- an image that is certain is one that this pool alone has written since its create, mounts these contents, and has
 -- room for its import
@@ -43,7 +43,7 @@ pub record IsOwnImage (size t : ℕ) (image : List ℕ) (m : Moment) (guid : ℕ
   pub v : View
   pub guid_is : v.u.guid ≡ guid
   pub rest : IsAtRest size t (length v.logged) (settled image m) v
-  pub configs : AreConfigsBelowImport size t (handed (settled image m)) v
+  pub configs : AreConfigsBelowImport size t (handed (settled image m)) v contents.name
   pub applied : apply_records (records_above v.u.group (map (λ (l : Logged). l.block) v.logged)) v.synced ≡ Ok contents
   pub room : HasImportRoom (block_count size) v
 

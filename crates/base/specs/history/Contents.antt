@@ -1,5 +1,5 @@
 -- What a pool contains, and what each operation makes of it.
-use Rattle.std.specs.Prelude.{cond, ◌==◌, option_map, ℕ, ◌+◌, ◌-◌, List, [], ◌++◌, take, drop, replicate, length, Option, Some, None, Result, Ok, Err}
+use Rattle.std.specs.Prelude.{cond, ◌==◌, option_map, ℕ, ◌+◌, ◌-◌, List, [], ◌∷◌, ◌++◌, take, drop, replicate, length, Option, Some, None, Result, Ok, Err}
 use Rattle.std.specs.Ordering.{nat_cmp}
 use Rattle.std.specs.FinMap as map
 use Rattle.std.specs.FinMap.{FinMap}
@@ -53,6 +53,19 @@ apply (Remove n) c = at_object n.0 removed c
 apply (Write n offset bytes) c = at_object n.0 (changed (bytes_after_write offset bytes)) c
 apply (SetLength n length) c = at_object n.0 (changed (resize length)) c
 apply (SetName bytes) c = Ok (record { name = bytes; objects = c.objects })
+
+-- the name that an operation gives, or else the one that was given before, if one was
+abbrev pub name_given : Op → Option (List ℕ) → Option (List ℕ)
+name_given (Create n) before = before
+name_given (Remove n) before = before
+name_given (Write n offset bytes) before = before
+name_given (SetLength n size) before = before
+name_given (SetName bytes) before = Some bytes
+
+-- the name that operations give last, or else the one that was given before
+abbrev pub name_given_by_all : List Op → Option (List ℕ) → Option (List ℕ)
+name_given_by_all [] before = before
+name_given_by_all (op ∷ ops) before = name_given_by_all ops (name_given op before)
 
 -- an object after an operation that takes place, by its number
 abbrev pub object_after : ℕ → Op → Option (List ℕ) → Option (List ℕ)

@@ -7,14 +7,13 @@ use Rattle.base.specs.formats.Limits.{last_number, max_log_record}
 use Rattle.base.specs.formats.Records.{Record, is_content_allowed}
 use Rattle.base.specs.history.Contents.{Contents}
 use Rattle.base.specs.history.History.{apply_all}
-use Rattle.base.specs.history.Plans.{log_record_size, estimate_of, charge_of}
+use Rattle.base.specs.history.Plans.{is_plan_allowed, log_record_size, estimate_of, charge_of}
 use Rattle.base.specs.steps.Locks.{Grant, is_blocked}
 use Rattle.base.specs.steps.Groups.{Admission, hold_count}
 use Rattle.base.specs.steps.Shown.{SyncPlan, dirty_total, available}
 use Rattle.base.specs.steps.Refusals.{lock_of, is_lock_in_use, is_plan_blocked, is_plan_covered, transaction_of, commit_refusal, quiescing_group, quiesced_group}
 use Rattle.base.specs.steps.Steps as steps
 use Rattle.base.specs.steps.Steps.{State, IsPlanned, TakesForLog}
-use Rattle.base.specs.steps.BuiltSteps.{is_plan_built}
 
 -- An effect: nothing, that the pool is suspended, or a change of the locks, the transactions, the line of groups, the
 -- running sync or the log.
@@ -58,12 +57,12 @@ state_after (EndsSync group plan) s = steps.state_after_sync group plan s
 state_after (WritesLog taken rest address) s = steps.state_after_log_write taken rest address s
 state_after FlushesLog s = steps.state_after_log_flush s
 
--- an admission of the next name, to the open group, of a plan that is built, not too large, covered by locks and not
+-- an admission of the next name, to the open group, of a plan that is allowed, not too large, covered by locks and not
 -- blocked, whose charge is within the limit and whose estimate is available
 pub record MayAddAdmission (a : Admission) (s : State) : Type 0 where
   pub named : a.tx ≡ s.shown.next_tx
   pub in_open : a.group ≡ s.shown.line.open_group
-  pub built : is_plan_built a.plan ≡ true
+  pub allowed : is_plan_allowed a.plan ≡ true
   pub small : log_record_size a.plan ≤ max_log_record
   pub covered : is_plan_covered a.owner a.plan s.shown.locks ≡ true
   pub free : is_plan_blocked a.plan s.shown.transactions ≡ false

@@ -10,7 +10,6 @@ use Rattle.base.specs.history.Past.{Past, new_past}
 use Rattle.base.specs.steps.Shown.{Shown, SyncPlan}
 use Rattle.base.specs.steps.Steps.{State, AreLengthsOf, IsReplayUpTo}
 use Rattle.base.specs.steps.Runs.{Step, Run}
-use Rattle.base.specs.steps.BuiltSteps.{AreBuilt}
 use Rattle.base.specs.steps.Exact.{IsExact, IsBounded}
 use Rattle.base.specs.crash.Imports.{IsImported}
 
@@ -30,7 +29,6 @@ pub record AreTreesExact (s : Shown) (past : Past) : Type 0 where
 pub record IsExplainedNow (s : Shown) (past : Past) : Type 0 where
   pub exact : IsExact s past
   pub history : IsHistory past.entries past.base s.contents
-  pub built : AreBuilt past.admissions
   pub trees : AreTreesExact s past
 
 -- steps one after another, each over some bytes of a device

@@ -1,5 +1,4 @@
--- When each step is refused, and why first. Want of memory and what a device refuses come after these. The words with
--- whole_ are of the steps that BuiltSteps has less of.
+-- When each step is refused, and why first. Want of memory and what a device refuses come after these.
 use Rattle.std.specs.Prelude.{ℕ, ◌+◌, ◌==◌, ◌&&◌, ◌||◌, Bool, true, false, not, List, [], ◌∷◌, ◌++◌, map, length, nat_lt, nat_le, Option, Some, None, is_some, is_none, option_map, find, Result, Ok, Err, if◌then◌else◌}
 use Rattle.std.specs.List.{list_any, list_all}
 use Rattle.std.specs.Option.{option_map_or}
@@ -107,13 +106,13 @@ admission_tests owner plan s =
     ∷ refused_if (nat_lt s.dirty_max (dirty_total s + charge_of plan)) Throttled
     ∷ refused_if (nat_lt (available s) (blocks_wanted s.contents plan)) NoSpace ∷ []
 
-abbrev pub whole_begin_tests : ℕ → List Shape → Shown → List Test
-whole_begin_tests owner plan s =
+abbrev pub begin_tests : ℕ → List Shape → Shown → List Test
+begin_tests owner plan s =
     refused_if s.suspended Suspended
     ∷ refused_if (not (is_plan_allowed plan)) BadRange ∷ admission_tests owner plan s
 
-abbrev pub whole_begin_refusal : ℕ → List Shape → Shown → Option PoolError
-whole_begin_refusal owner plan s = first_refusal (whole_begin_tests owner plan s)
+abbrev pub begin_refusal : ℕ → List Shape → Shown → Option PoolError
+begin_refusal owner plan s = first_refusal (begin_tests owner plan s)
 
 -- the open transaction of this name
 abbrev pub transaction_of : ℕ → Shown → Option Admission

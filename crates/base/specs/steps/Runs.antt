@@ -41,7 +41,7 @@ Step keeps now (step.Unlock owner id) given old new =
     Replies (λ _. reply.Done) given (λ answer. steps.Unlock owner.0 id.0 answer old new)
 Step keeps now (step.Begin owner plan) given old new =
     Replies (λ (a : ℕ × ℕ). reply.Began (record { 0 = a.0 }) (record { 0 = a.1 })) given
-    (λ answer. as_built.Begin owner.0 plan answer old new)
+    (λ answer. steps.Begin owner.0 plan answer old new)
 Step keeps now (step.Commit tx ops) given old new =
     Replies receipt_reply given (λ answer. steps.Commit tx.0 ops answer old new)
 Step keeps now (step.Abort tx) given old new =
@@ -81,7 +81,7 @@ abbrev pub tests_of_step : declared_step.Step → Shown → List Test
 tests_of_step (step.Lock owner n range mode) s = refusal.lock_tests owner.0 (object_range n.0 range.low range.high) mode s
 tests_of_step (step.LockAppend owner n) s = refusal.append_tests owner.0 n.0 s
 tests_of_step (step.Unlock owner id) s = refusal.unlock_tests owner.0 id.0 s
-tests_of_step (step.Begin owner plan) s = as_built.begin_tests owner.0 plan s
+tests_of_step (step.Begin owner plan) s = refusal.begin_tests owner.0 plan s
 tests_of_step (step.Commit tx ops) s = refusal.commit_tests tx.0 ops s
 tests_of_step (step.Abort tx) s = refusal.abort_tests tx.0 s
 tests_of_step (step.Read owner n range) s = refusal.read_tests owner.0 (object_range n.0 range.low range.high) s

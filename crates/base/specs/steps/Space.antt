@@ -15,7 +15,7 @@ use Rattle.base.specs.steps.Groups.{Line, Admission, AreMembers}
 use Rattle.base.specs.steps.Charges.{transactions_of, estimate_sum}
 use Rattle.base.specs.steps.Shown.{Shown, free_count}
 use Rattle.base.specs.steps.Refusals.{quiesced_group}
-use Rattle.base.specs.steps.Steps.{State, SyncProgress, Lock, LockAppend, Unlock, WholeBegin, Commit, Abort, WholeRead, Length, Digest, CloseGroup, MarkQuiesced, WholeStartSync, SyncStep, LogWrite, LogFlush, ops_of_group}
+use Rattle.base.specs.steps.Steps.{State, SyncProgress, Lock, LockAppend, Unlock, Begin, Commit, Abort, WholeRead, Length, Digest, CloseGroup, MarkQuiesced, WholeStartSync, SyncStep, LogWrite, LogFlush, ops_of_group}
 use Rattle.base.specs.crash.Imports.{IsImported}
 use Rattle.base.specs.steps.Exact.{AreGroupsExact, AreChargesExact, IsSyncExact, HasReservedBlocks}
 
@@ -42,7 +42,7 @@ SyncsHaveRoom = (s : State) (group : ℕ) (synced : Contents) (had_block : Place
 
 -- the steps that charge, reserve or take, whatever they answer, over a device of which nothing is known
 pub data IsChargedStep (old new : State) : Type 0 where
-  Begins : (owner : ℕ) → (plan : List Shape) → (answer : Result (ℕ × ℕ) PoolError) → WholeBegin owner plan answer old new → IsChargedStep old new
+  Begins : (owner : ℕ) → (plan : List Shape) → (answer : Result (ℕ × ℕ) PoolError) → Begin owner plan answer old new → IsChargedStep old new
   Aborts : (tx : ℕ) → (answer : Result (Unit {0}) PoolError) → Abort tx answer old new → IsChargedStep old new
   Closes : (answer : Result ℕ PoolError) → CloseGroup answer old new → IsChargedStep old new
   Starts : (now : List ℕ) → (moment : ℕ) → (answer : Result ℕ PoolError) → WholeStartSync ⊥ now moment answer old new → IsChargedStep old new

@@ -106,8 +106,8 @@ state_after_charged_admission a s = record {
 }
 
 -- a transaction is admitted to the open group, charged and reserved for
-abbrev pub WholeBegin : ℕ → List Shape → Result (ℕ × ℕ) PoolError → State → State → Type 0
-WholeBegin owner plan answer old new = Answers (refusal.whole_begin_refusal owner plan old.shown) answer old new
+abbrev pub Begin : ℕ → List Shape → Result (ℕ × ℕ) PoolError → State → State → Type 0
+Begin owner plan answer old new = Answers (refusal.begin_refusal owner plan old.shown) answer old new
     (λ a. (a ≡ (old.shown.next_tx, old.shown.line.open_group)) × (new ≡ state_after_charged_admission (next_admission owner plan old.shown) old)) (WantsMemory old new)
 
 abbrev pub transactions_without : ℕ → List Admission → List Admission
