@@ -149,6 +149,10 @@ module _ (before : List Op) (c : Contents) (done : Apply before c) (id : ObjectI
       by a None e h = refused a.does NoObject (a.is (done.0)) (ap a.does e ∙ a.absent)
       by a (Some bytes) e h = cc
 
+-- a new name can always be given
+pub name_judged : (before : List Op) (c : Contents) (bytes : List ℕ) (op : Op) → op ≡ SetName bytes → Apply before c → Apply (before ++ op ∷ []) c
+name_judged before c bytes op is done = one_more before op c (done.0) (record { name = bytes; objects = (done.0).objects }) (done.1) (rw is refl)
+
 -- one more operation of a list is judged
 pub judged_more : (ops : List Op) (i : ℕ) (op : Op) (c : Contents) → i < length ops → op ≡ get_or ops i op → Apply (take i ops ++ op ∷ []) c → Apply (take (i + 1) ops) c
 judged_more ops i op c low is h = (h.0, ap (λ l. apply_all l c) (take_more ops i op low ∙ ap (λ (x : Op). take i ops ++ x ∷ []) (sym is)) ∙ h.1)

@@ -3,12 +3,12 @@ use Rattle.std.specs.Prelude.{ℕ, ◌≡◌, ◌≤◌, true, false, List, All,
 use Rattle.std.specs.Option.{option_map_or}
 use Rattle.base.specs.declared.operation.Op.{Op}
 use Rattle.base.specs.history.Plans.{shape_of, is_shape_allowed}
-use Rattle.base.specs.tree.Syncs.{is_rename}
+use Rattle.base.specs.steps.Refusals.{gives_bad_name}
 use Rattle.object_maps.specs.declared.contents.Slot.{Slot}
 
--- an operation is one on an object, within the limits
+-- an operation is within the limits, and a name that it gives is one
 abbrev pub IsOpAllowed : Op → Type 0
-IsOpAllowed op = (is_rename op ≡ false) × (is_shape_allowed (shape_of op) ≡ true)
+IsOpAllowed op = (gives_bad_name op ≡ false) × (is_shape_allowed (shape_of op) ≡ true)
 
 abbrev pub AreOpsAllowed : List Op → Type 0
 AreOpsAllowed ops = All IsOpAllowed ops

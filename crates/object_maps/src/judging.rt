@@ -1,4 +1,5 @@
-//! Operations that are judged before they take place, each by whether its object is there.
+//! Operations that are judged before they take place, each by whether its object is there. A name that is given, and is
+//! one, is never refused.
 //!
 //! Whether an object is there after the operations before is found without memory: the last create or remove of it
 //! among them decides, or else whether it is there now.
@@ -13,7 +14,7 @@ use base::{ObjectId, Op, PoolError};
 
 /// Judges operations in order, each on the objects after those before it, and gives the first refusal:
 /// `Exists` for an object that is created but is there, `NoObject` for one that is removed, written or set to
-/// a length but is not there. It takes no memory.
+/// a length but is not there. A new name is not refused: that it is one is the caller's to test. It takes no memory.
 pub fn judge<O: ObjectSource>(objects: &O, ops: &[Op]) -> Result<(), PoolError>
     requires { AreOpsAllowed ops.now }
     ensures { JudgesOver ops.now (O.objects objects.now) result }
@@ -43,7 +44,7 @@ fn judge_after<O: ObjectSource>(objects: &O, before: &[Op], op: &Op) -> Result<(
             }
             Ok(())
         }
-        Op::SetName(_) => Err(PoolError::BadRange),
+        Op::SetName(_) => Ok(()),
     }
 }
 

@@ -9,7 +9,7 @@ ghost use Rattle.object_maps.specs.Sources.{AreWithin};
 use crate::digests::digest;
 use crate::judging::judge;
 use crate::source::ObjectSource;
-use base::{ObjectId, Op, PoolError, PoolName};
+use base::{Bytes, ObjectId, Op, PoolError, PoolName};
 
 // An object that an earlier operation created may be removed.
 fn a_created_object_may_be_removed<O: ObjectSource>(objects: &O) -> Result<(), PoolError>
@@ -25,6 +25,14 @@ fn an_object_is_created_once<O: ObjectSource>(objects: &O) -> Result<(), PoolErr
     ensures { result ≡ Err PoolError.Exists }
 {
     judge(objects, &[Op::Create(ObjectId(7))])
+}
+
+// A new name, which needs no object, is not refused.
+fn a_new_name_is_not_refused<O: ObjectSource>(objects: &O, name: Bytes) -> Result<(), PoolError>
+    requires { name ≡ 97 ∷ [] }
+    ensures { result ≡ Ok tt }
+{
+    judge(objects, &[Op::SetName(name)])
 }
 
 // An object that an earlier operation removed has no length to set.

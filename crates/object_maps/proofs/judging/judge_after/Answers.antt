@@ -1,5 +1,5 @@
 use Rattle.object_maps.specs.Judging.{with_name}
-use Rattle.object_maps.proofs.Judged.{create_judged, create_refused, change_judged, change_refused}
+use Rattle.object_maps.proofs.Judged.{create_judged, create_refused, change_judged, change_refused, name_judged}
 use Rattle.object_maps.proofs.judging.judge_after.Goals as goal
 
 pub returns-then-has_after : goal.returns-then-has_after
@@ -13,3 +13,6 @@ returns-else-not-has_after g c = λ name. change_judged c.args.before.now (with_
 
 pub returns-then-not-has_after : goal.returns-then-not-has_after
 returns-then-not-has_after g c = λ name. change_refused c.args.before.now (with_name (g.O.ObjectSource.objects c.args.objects.now) name) (c.requires.before name) c.in-Remove.id c.args.op.now c.in-Remove.is (c.if-not-has_after.ensures name)
+
+pub returns-in-SetName : goal.returns-in-SetName
+returns-in-SetName g c = λ name. name_judged c.args.before.now (with_name (g.O.ObjectSource.objects c.args.objects.now) name) c.in-SetName.field-0 c.args.op.now c.in-SetName.is (c.requires.before name)
