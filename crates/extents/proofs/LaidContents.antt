@@ -119,7 +119,7 @@ none_left left n object is = rw is (sym (patched_nothing object))
 -- slots with the patched objects, and the name of before, stand for the patched contents
 pub patched_slots : (patches : Patches) (name now : List ℕ) (old new : List Slot) → now ≡ name → length new ≡ object_count
     → ((n : ℕ) → n < object_count → object_in new n ≡ patched (patches n) (object_in old n))
-    → ◌≡◌ {A = Contents} (record { name = now; objects = objects_from 0 new }) (patched_contents patches (record { name = name; objects = objects_from 0 old }))
+    → ◌≡◌ {A = Contents} (record { name = now; objects = objects_from 0 new }) (patched_contents patches None (record { name = name; objects = objects_from 0 old }))
 patched_slots patches name now old new named count each =
     ap (λ (l : List ℕ). let c : Contents = record { name = l; objects = objects_from 0 new } in c) named
     ∙ same_contents name (objects_from 0 new) (laid_over patches (objects_from 0 old)) (same_map nat_cmp_total nat_cmp-IsAntisymmetric _ _ (λ n. at n (cases_lt n object_count)))

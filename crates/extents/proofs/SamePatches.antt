@@ -7,6 +7,7 @@ use Rattle.std.proofs.lemmas.List.{drop_more, take_more, get_or_default, ext_get
 use Rattle.std.proofs.lemmas.List.Folds.{list_all-append}
 use Rattle.base.specs.declared.operation.Op.{Op}
 use Rattle.base.specs.declared.operation.Op.TheVariants.{Create, Remove, Write, SetLength, SetName}
+use Rattle.base.specs.history.Contents.{name_given, name_given_by_all}
 use Rattle.extents.specs.declared.object.ObjectPatch.{ObjectPatch}
 use Rattle.extents.specs.declared.extents.Extents.{Extents}
 use Rattle.extents.specs.Patches.{Patch, Patches, ArePatchesOf, IsSized, filled, patched, patch_after, patch_after_write, patch_after_cut, with_ops, basis_after_write, basis_after_cut, no_patch}
@@ -17,7 +18,7 @@ use Rattle.extents.proofs.PatchedObjects.{changes_follow, patched_nothing}
 use Rattle.extents.proofs.LaidWithin.{patches_sized}
 use Rattle.object_maps.specs.Sources.{AreBytesFrom}
 use Rattle.extents.specs.Objects.{HasRoomFrom, KeepsRoom, LaysOver}
-use Rattle.extents.specs.Tables.{CanApply, CanStillApply, IsSame, KeepsRooms, AppliesOps, entry_at, patches_of}
+use Rattle.extents.specs.Tables.{CanApply, CanStillApply, IsLeft, IsSame, KeepsRooms, AppliesOps, entry_at, name_of, patches_of}
 
 pub same-trans : (p q r : Patch) → IsSame p q → IsSame q r → IsSame p r
 same-trans p q r pq qr = record { basis = pq.basis ∙ qr.basis; written = λ i. pq.written i ∙ qr.written i }
@@ -61,6 +62,27 @@ next_applied ops i op mid new whole low is applied left n =
     let rest : drop i ops ≡ op ∷ drop (i + 1) ops = drop_more ops i op low ∙ ap (λ (x : Op). x ∷ drop (i + 1) ops) (sym is) in
     same-trans _ (with_ops (op ∷ drop (i + 1) ops) mid n) (whole n) (same_with (drop (i + 1) ops) n (new n) (patch_after n op (mid n)) (applied n))
     (rw rest at (left n))
+
+-- and of the name
+pub next_named : (ops : List Op) (i : ℕ) (op : Op) (mid new whole : Option (List ℕ)) → i < length ops → op ≡ get_or ops i op
+    → new ≡ name_given op mid → name_given_by_all (drop i ops) mid ≡ whole → name_given_by_all (drop (i + 1) ops) new ≡ whole
+next_named ops i op mid new whole low is applied left =
+    let rest : drop i ops ≡ op ∷ drop (i + 1) ops = drop_more ops i op low ∙ ap (λ (x : Op). x ∷ drop (i + 1) ops) (sym is) in
+    ap (name_given_by_all (drop (i + 1) ops)) applied ∙ ap (λ (l : List Op). name_given_by_all l mid) (sym rest) ∙ left
+
+-- what is left twice is left, and operations that are applied to what is left are applied to what was there
+pub left-trans : (old mid new : Extents) → IsLeft old mid → IsLeft mid new → IsLeft old new
+left-trans old mid new first second = record {
+  patches = λ n. same-trans (patches_of new n) (patches_of mid n) (patches_of old n) (second.patches n) (first.patches n);
+  name = second.name ∙ first.name;
+}
+
+pub applied_left : (ops : List Op) (old mid new : Extents) → IsLeft old mid → AppliesOps ops mid new → AppliesOps ops old new
+applied_left ops old mid new same applied = record {
+  patches = λ n. same-trans (patches_of new n) (with_ops ops (patches_of mid) n) (with_ops ops (patches_of old) n)
+      (applied.patches n) (same_with ops n (patches_of mid n) (patches_of old n) (same.patches n));
+  name = applied.name ∙ ap (name_given_by_all ops) same.name;
+}
 
 -- what has its room keeps it
 has_kept : (a b : Option ObjectPatch) (Q : ObjectPatch → Type 0) → ((x y : ObjectPatch) → KeepsRoom x y → Q x → Q y)
@@ -137,4 +159,4 @@ changes_left ops old new are same n object = same_patched (new n) (old n) object
 -- what a group adds to its changes are the changes of what it added
 pub added_changes : (earlier ops : List Op) (old new : Extents) → ArePatchesOf earlier (patches_of old) → AppliesOps ops old new
     → ArePatchesOf (earlier ++ ops) (patches_of new)
-added_changes earlier ops old new are applied = changes_added earlier ops (patches_of old) (patches_of new) (patches_sized old) are applied
+added_changes earlier ops old new are applied = changes_added earlier ops (patches_of old) (patches_of new) (patches_sized old) are applied.patches

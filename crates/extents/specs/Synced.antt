@@ -17,9 +17,9 @@ FitsPatched basis below room = IfSome (length_over basis (option_map length belo
 abbrev pub HasRoomForPatches : Patches → List Slot → Type 0
 HasRoomForPatches patches slots = (n : ℕ) → n < object_count → FitsPatched (patches n).basis (object_in slots n) (room_of slots n)
 
--- the contents with the patched objects
-abbrev pub patched_contents : Patches → Contents → Contents
-patched_contents patches c = record { name = c.name; objects = laid_over patches c.objects }
+-- the contents with the patched objects, and with the name that was given, if one was
+abbrev pub patched_contents : Patches → Option (List ℕ) → Contents → Contents
+patched_contents patches given c = record { name = unwrap_or given c.name; objects = laid_over patches c.objects }
 
 -- how many bytes from the front of an object of this length stay
 abbrev pub kept_of : Basis → ℕ → ℕ

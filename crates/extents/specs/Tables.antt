@@ -1,9 +1,10 @@
--- The patches of a group, by the numbers of objects.
+-- The patches of a group, by the numbers of objects, and the name that it gives.
 use Rattle.std.specs.Prelude.{ℕ, ◌≡◌, ◌≢◌, ◌<◌, List, length, All, Option, Some, IfSome, IsSome, IsSomeAnd, nat_eq}
 use Rattle.std.specs.Option.{option_map_or}
 use Rattle.std.specs.HashMap.{get}
 use Rattle.base.specs.declared.operation.Op.{Op}
 use Rattle.base.specs.declared.operation.Op.TheVariants.{Create, Remove, Write, SetLength, SetName}
+use Rattle.base.specs.history.Contents.{name_given_by_all}
 use Rattle.extents.specs.declared.object.ObjectPatch.{ObjectPatch}
 use Rattle.extents.specs.declared.extents.Extents.{Extents}
 use Rattle.extents.specs.Patches.{Patch, Patches, no_patch, with_ops}
@@ -20,6 +21,10 @@ patch_in entry = option_map_or patch_of entry no_patch
 abbrev pub patches_of : Extents → Patches
 patches_of e n = patch_in (entry_at e n)
 
+-- the name that the group gives the pool, if it gives one
+abbrev pub name_of : Extents → Option (List ℕ)
+name_of e = e.name
+
 abbrev pub HasEntry : Extents → ℕ → Type 0
 HasEntry e n = IsSome (entry_at e n)
 
@@ -32,9 +37,10 @@ pub record IsSame (p q : Patch) : Type 0 where
   pub basis : p.basis ≡ q.basis
   pub written : (i : ℕ) → p.written i ≡ q.written i
 
--- all objects have patches that say the same
-abbrev pub LeavesPatches : Extents → Extents → Type 0
-LeavesPatches old new = (n : ℕ) → IsSame (patches_of new n) (patches_of old n)
+-- all objects have patches that say the same, and the name is the same
+pub record IsLeft (old new : Extents) : Type 0 where
+  pub patches : (n : ℕ) → IsSame (patches_of new n) (patches_of old n)
+  pub name : name_of new ≡ name_of old
 
 -- an object has an entry with the room for so many bytes from an offset on
 abbrev pub HasRoomIn : Extents → ℕ → ℕ → ℕ → Type 0
@@ -64,8 +70,9 @@ abbrev pub CanStillApply : Extents → Extents → Type 0
 CanStillApply old new = (ops : List Op) → CanApplyAll old ops → CanApplyAll new ops
 
 -- the new changes are those of before with these operations
-abbrev pub AppliesOps : List Op → Extents → Extents → Type 0
-AppliesOps ops old new = (n : ℕ) → IsSame (patches_of new n) (with_ops ops (patches_of old) n)
+pub record AppliesOps (ops : List Op) (old new : Extents) : Type 0 where
+  pub patches : (n : ℕ) → IsSame (patches_of new n) (with_ops ops (patches_of old) n)
+  pub name : name_of new ≡ name_given_by_all ops (name_of old)
 
 -- there are bytes, so many from an offset of object n on, and none of the object below is seen among them
 abbrev pub SeesNone : Extents → ℕ → ℕ → ℕ → Type 0

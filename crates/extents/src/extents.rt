@@ -1,33 +1,39 @@
-//! What a group made of the objects of a pool.
+//! What a group made of the objects of a pool, and of its name.
 
-ghost use Rattle.std.specs.Prelude.{ℕ, ◌≡◌, ◌<◌, ◌≤◌, ◌+◌, ◌*◌, true, IsSome, OnErr, OnOk, length, nat_lt};
+ghost use Rattle.std.specs.Prelude.{ℕ, ◌≡◌, ◌<◌, ◌≤◌, ◌+◌, ◌*◌, None, OnErr, OnOk, Some, length, nat_lt, option_map, true, unwrap_or};
 ghost use Rattle.std.specs.List.{list_all};
 ghost use Rattle.base.specs.formats.Limits.{max_length, record_count, record_size};
 
 use crate::object::ObjectPatch;
-use base::{ObjectId, Op};
+use base::{ObjectId, Op, PoolName};
 use indexmap::IndexMap;
 use std::alloc::{AllocError, Global};
 
-/// The patches of the objects that a group changed, by their numbers.
+/// The patches of the objects that a group changed, by their numbers, and the name that it gives the pool, if it gives
+/// one: the last one, which lies in place.
 #[derive(Debug, Drop)]
 pub struct Extents {
     pub(crate) patches: IndexMap<u32, ObjectPatch>,
+    pub(crate) name: Option<PoolName>,
 }
 
 impl Extents {
-    ghost use Rattle.extents.specs.Tables.{AppliesOps, HasEntry, CanApply, CanStillApply, HasRoomIn, CanApplyAll, IsSame, KeepsEntries, KeepsOtherEntries, KeepsRooms, LeavesPatches, patches_of};
+    ghost use Rattle.extents.specs.Tables.{AppliesOps, HasEntry, CanApply, CanStillApply, HasRoomIn, CanApplyAll, IsLeft, IsSame, KeepsEntries, KeepsOtherEntries, KeepsRooms, name_of, patches_of};
+    ghost use Rattle.base.specs.formats.Names.{is_name};
     ghost use Rattle.base.specs.formats.Records.{is_content_allowed};
+    ghost use Rattle.base.specs.history.Contents.{name_given};
     ghost use Rattle.extents.specs.Objects.{LaysOver};
     ghost use Rattle.object_maps.specs.Ops.{AreOpsAllowed, IsOpAllowed};
     ghost use Rattle.extents.specs.Patches.{gone_patch, length_over, made_patch, no_patch, patch_after, patch_after_cut, patch_after_write};
 
     /// No changes. It takes no memory.
     pub fn new(alloc: Global) -> Self
-        ensures { (n : ℕ) → patches_of result n ≡ no_patch }
+        ensures patches { (n : ℕ) → patches_of result n ≡ no_patch }
+        ensures name { name_of result ≡ None }
     {
         Extents {
             patches: IndexMap::new(alloc),
+            name: None,
         }
     }
 
@@ -35,7 +41,7 @@ impl Extents {
     fn touch(&mut self, id: ObjectId) -> Result<(), AllocError>
         ensures entry { OnOk result (HasEntry self.new id.0) }
         ensures kept { KeepsEntries self.old self.new }
-        ensures same { LeavesPatches self.old self.new }
+        ensures same { IsLeft self.old self.new }
     {
         if self.patches.contains_key(&id.0) {
             return Ok(());
@@ -52,7 +58,7 @@ impl Extents {
         requires within { offset + count ≤ max_length }
         ensures room { OnOk result (HasRoomIn self.new id.0 offset count) }
         ensures kept { KeepsRooms self.old self.new }
-        ensures same { LeavesPatches self.old self.new }
+        ensures same { IsLeft self.old self.new }
     {
         self.touch(id)?;
         if let Some(patch) = self.patches.get_mut(&id.0) {
@@ -66,6 +72,7 @@ impl Extents {
         requires within { offset + length content.now ≤ max_length }
         requires room { HasRoomIn self.old id.0 offset (length content.now) }
         ensures kept { KeepsRooms self.old self.new }
+        ensures name { name_of self.new ≡ name_of self.old }
         ensures others { KeepsOtherEntries id.0 self.old self.new }
         ensures here { IsSame (patches_of self.new id.0)
             (patch_after_write offset content.now (patches_of self.old id.0)) }
@@ -78,6 +85,7 @@ impl Extents {
     fn create(&mut self, id: ObjectId)
         requires { HasEntry self.old id.0 }
         ensures kept { KeepsRooms self.old self.new }
+        ensures name { name_of self.new ≡ name_of self.old }
         ensures others { KeepsOtherEntries id.0 self.old self.new }
         ensures here { IsSame (patches_of self.new id.0) made_patch }
     {
@@ -89,6 +97,7 @@ impl Extents {
     fn remove(&mut self, id: ObjectId)
         requires { HasEntry self.old id.0 }
         ensures kept { KeepsRooms self.old self.new }
+        ensures name { name_of self.new ≡ name_of self.old }
         ensures others { KeepsOtherEntries id.0 self.old self.new }
         ensures here { IsSame (patches_of self.new id.0) gone_patch }
     {
@@ -101,6 +110,7 @@ impl Extents {
         requires entry { HasEntry self.old id.0 }
         requires within { length ≤ max_length }
         ensures kept { KeepsRooms self.old self.new }
+        ensures name { name_of self.new ≡ name_of self.old }
         ensures others { KeepsOtherEntries id.0 self.old self.new }
         ensures here { IsSame (patches_of self.new id.0)
             (patch_after_cut length (patches_of self.old id.0)) }
@@ -108,6 +118,16 @@ impl Extents {
         if let Some(patch) = self.patches.get_mut(&id.0) {
             patch.set_length(length);
         }
+    }
+
+    // The group gives this name, in the place of the one that it gave before.
+    fn set_name(&mut self, bytes: &[u8])
+        requires { is_name bytes.now ≡ true }
+        ensures kept { KeepsRooms self.old self.new }
+        ensures patches { (n : ℕ) → patches_of self.new n ≡ patches_of self.old n }
+        ensures name { name_of self.new ≡ Some bytes.now }
+    {
+        self.name = PoolName::new(bytes);
     }
 
     /// Adds operations to what the group made, in order. All memory is taken first: if it is refused, the group made
@@ -118,7 +138,7 @@ impl Extents {
     pub fn add(&mut self, ops: &[Op]) -> Result<(), AllocError>
         requires { AreOpsAllowed ops.now }
         ensures added { OnOk result (AppliesOps ops.now self.old self.new) }
-        ensures unchanged { OnErr result (LeavesPatches self.old self.new) }
+        ensures unchanged { OnErr result (IsLeft self.old self.new) }
         ensures kept { CanStillApply self.old self.new }
     {
         self.reserve(ops)?;
@@ -135,7 +155,7 @@ impl Extents {
         requires { AreOpsAllowed ops.now }
         ensures room { OnOk result (CanApplyAll self.new ops.now) }
         ensures bytes { OnOk result (list_all is_content_allowed ops.now ≡ true) }
-        ensures same { LeavesPatches self.old self.new }
+        ensures same { IsLeft self.old self.new }
         ensures kept { CanStillApply self.old self.new }
     {
         for op in ops {
@@ -149,7 +169,7 @@ impl Extents {
         ensures room { OnOk result (CanApply self.new op.now) }
         ensures bytes { is_content_allowed op.now ≡ true }
         ensures kept { KeepsRooms self.old self.new }
-        ensures same { LeavesPatches self.old self.new }
+        ensures same { IsLeft self.old self.new }
     {
         match op {
             Op::Create(id) | Op::Remove(id) | Op::SetLength(id, _) => self.touch(*id),
@@ -173,7 +193,7 @@ impl Extents {
         ensures room { OnOk result (HasRoomIn self.new id.0 offset (length content.now)) }
         ensures bytes { list_all (λ b. nat_lt b 256) content.now ≡ true }
         ensures kept { KeepsRooms self.old self.new }
-        ensures same { LeavesPatches self.old self.new }
+        ensures same { IsLeft self.old self.new }
     {
         self.reserve_write(id, offset, content.len())
     }
@@ -196,13 +216,31 @@ impl Extents {
         ensures kept { KeepsRooms self.old self.new }
         ensures applied { (n : ℕ) → IsSame (patches_of self.new n)
             (patch_after n op.now (patches_of self.old n)) }
+        ensures name { name_of self.new ≡ name_given op.now (name_of self.old) }
     {
         match op {
             Op::Create(id) => self.create(*id),
             Op::Remove(id) => self.remove(*id),
             Op::Write(id, offset, bytes) => self.write(*id, *offset as usize, bytes.as_slice()),
             Op::SetLength(id, length) => self.set_length(*id, *length as usize),
-            Op::SetName(_) => {}
+            Op::SetName(bytes) => self.set_name(bytes.as_slice()),
+        }
+    }
+
+    /// The name that the group gives the pool, if it gives one.
+    pub fn name(&self) -> Option<&PoolName>
+        ensures { option_map (λ n. n.now) result ≡ name_of self.now }
+    {
+        self.name.as_ref()
+    }
+
+    /// The name that the group gives the pool, or else the one below.
+    pub fn name_over<'a>(&'a self, below: &'a PoolName) -> &'a PoolName
+        ensures { result.now ≡ unwrap_or (name_of self.now) below.now }
+    {
+        match &self.name {
+            Some(name) => name,
+            None => below,
         }
     }
 

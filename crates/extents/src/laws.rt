@@ -1,6 +1,6 @@
 //! What holds of the changes of groups: each function's contract is a law, and its body does nothing.
 
-ghost use Rattle.extents.specs.Laws.{AddedChanges, AddedEntry, ChangesFollow, GroupIsRead, GroupsAreRead, LeftChanges, LengthsFollow, MovedGroups, NothingChanges, OldestIsLaid, StayWithin, UnsyncedAreRead};
+ghost use Rattle.extents.specs.Laws.{AddedChanges, AddedEntry, ChangesFollow, GroupIsRead, GroupsAreRead, LeftChanges, LengthsFollow, MovedGroups, NamesAreRead, NothingChanges, OldestIsLaid, OldestNameIsLaid, StayWithin, UnsyncedAreRead};
 
 /// What no operation has changed is as it lies below.
 pub fn nothing_changes()
@@ -44,12 +44,22 @@ pub fn unsynced_are_read()
     ensures { UnsyncedAreRead }
 {}
 
+/// The name that the newest of the three unsynced groups gives that give one, or else the synced one, is the contents'.
+pub fn names_are_read()
+    ensures { NamesAreRead }
+{}
+
 /// Once the oldest group's changes are in the tree, the changes of the others over it give what all gave before.
 pub fn oldest_is_laid()
     ensures { OldestIsLaid }
 {}
 
-/// The changes of the unsynced groups stay those of their entries if what each group made stays.
+/// Once the oldest group's name is the synced one, the names of the others over it give what all gave before.
+pub fn oldest_name_is_laid()
+    ensures { OldestNameIsLaid }
+{}
+
+/// The changes and names of the unsynced groups stay those of their entries if what each group made stays.
 pub fn left_changes()
     ensures { LeftChanges }
 {}

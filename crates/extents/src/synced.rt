@@ -1,13 +1,13 @@
-//! What a group made of the objects becomes part of contents in memory, once the group is synced.
+//! What a group made of the objects and the name becomes part of contents in memory, once the group is synced.
 
-ghost use Rattle.std.specs.Prelude.{ℕ, ◌≡◌, ◌≢◌, ◌<◌, ◌≤◌, ◌*◌, length, get_or, option_map, take, unwrap_or, vec_capacity, vec_len, OnOk};
+ghost use Rattle.std.specs.Prelude.{ℕ, ◌≡◌, ◌≢◌, ◌<◌, ◌≤◌, ◌*◌, None, length, get_or, option_map, take, unwrap_or, vec_capacity, vec_len, OnOk};
 ghost use Rattle.base.specs.formats.Limits.{object_count, record_size};
 ghost use Rattle.object_maps.specs.ContentsShown.{contents_of, object_in, object_of};
 ghost use Rattle.object_maps.specs.Ops.{RoomGrows, room_of};
 ghost use Rattle.extents.specs.Objects.{patch_of, written_in};
 ghost use Rattle.extents.specs.Patches.{filled, patched};
 ghost use Rattle.extents.specs.Synced.{FitsPatched, HasRoomForPatches, kept_of, laid_in_record, patched_contents};
-ghost use Rattle.extents.specs.Tables.{patches_of};
+ghost use Rattle.extents.specs.Tables.{name_of, patches_of};
 
 use crate::basis::Basis;
 use crate::extents::Extents;
@@ -35,8 +35,19 @@ impl Extents {
     /// Makes of contents what the group made of them. The room is there: it takes no memory.
     pub fn lay_into(&self, contents: &mut Contents)
         requires room { HasRoomForPatches (patches_of self.now) contents.old.slots.items }
-        ensures { contents_of contents.new
-            ≡ patched_contents (patches_of self.now) (contents_of contents.old) }
+        ensures { contents_of contents.new ≡ patched_contents (patches_of self.now)
+            (name_of self.now) (contents_of contents.old) }
+    {
+        let name = self.name_over(&contents.name).copy();
+        contents.name = name;
+        self.lay_objects(contents);
+    }
+
+    // Makes of the objects what the group made of them.
+    fn lay_objects(&self, contents: &mut Contents)
+        requires room { HasRoomForPatches (patches_of self.now) contents.old.slots.items }
+        ensures { contents_of contents.new ≡ patched_contents (patches_of self.now)
+            None (contents_of contents.old) }
     {
         for (number, patch) in self.patches.iter() {
             lay_object(contents, *number, patch);

@@ -2,14 +2,16 @@
 //!
 //! At most three groups are unsynced: one that is written out, one that quiesces and the open one. Each has a place,
 //! the oldest one place 0, and keeps what it made until it is synced: then the tree has it, and the others move up by
-//! one place. So the contents are the objects of the tree with the changes at places 0, 1 and 2 laid over them.
+//! one place. So the contents are the objects of the tree with the changes at places 0, 1 and 2 laid over them, and the
+//! name is that of the newest group that gives one, else the synced one. A transaction of an older group that is
+//! committed late names the pool only if no newer group has: both touch the name, so the newer one would wait.
 
-ghost use Rattle.std.specs.Prelude.{ℕ, ◌≡◌, ◌<◌, true, Some, OnOk};
+ghost use Rattle.std.specs.Prelude.{ℕ, ◌≡◌, ◌<◌, true, None, Some, OnOk};
 ghost use Rattle.std.specs.List.{list_all};
 
 use crate::extents::Extents;
 use crate::laid::Laid;
-use base::Op;
+use base::{Op, PoolName};
 use object_maps::ObjectSource;
 use std::alloc::{AllocError, Global};
 use std::mem;
@@ -28,11 +30,12 @@ impl UnsyncedExtents {
     ghost use Rattle.base.specs.formats.Records.{is_content_allowed};
     ghost use Rattle.object_maps.specs.Ops.{AreOpsAllowed};
     ghost use Rattle.extents.specs.Patches.{no_patch};
-    ghost use Rattle.extents.specs.Unsynced.{AppliesAt, CanApplyAt, CanStillApplyAt, KeepsOtherPlaces, LeavesChanges, MovesUp, RoomMovesUp, changes_at, extents_at, laid_all};
+    ghost use Rattle.extents.specs.Unsynced.{AppliesAt, CanApplyAt, CanStillApplyAt, KeepsOtherPlaces, LeavesChanges, MovesUp, RoomMovesUp, changes_at, extents_at, laid_all, name_at, name_over};
 
     /// No changes of any group. It takes no memory.
     pub fn new(alloc: Global) -> Self
-        ensures { (place n : ℕ) → changes_at result place n ≡ no_patch }
+        ensures patches { (place n : ℕ) → changes_at result place n ≡ no_patch }
+        ensures names { (place : ℕ) → name_at result place ≡ None }
     {
         UnsyncedExtents {
             alloc,
@@ -85,6 +88,15 @@ impl UnsyncedExtents {
         ensures { Some result.now ≡ extents_at self.now 0 }
     {
         &self.oldest
+    }
+
+    /// The name that the newest of the groups gives that give one, or else the synced one. It takes no memory.
+    pub fn name_over<'a>(&'a self, synced: &'a PoolName) -> &'a PoolName
+        ensures { result.now ≡ name_over self.now synced.now }
+    {
+        let oldest = self.oldest.name_over(synced);
+        let second = self.second.name_over(oldest);
+        self.third.name_over(second)
     }
 
     /// The objects of a source with the changes of all groups laid over them. It takes no memory.

@@ -1,14 +1,16 @@
 //! What callers rest on of the changes of groups: operations are applied to their own group, and groups move up.
 
-ghost use Rattle.std.specs.Prelude.{◌≡◌, IfOk, OnOk, Some};
+ghost use Rattle.std.specs.Prelude.{◌≡◌, ◌∷◌, [], IfOk, None, OnOk, Some};
 ghost use Rattle.extents.specs.Patches.{no_patch};
-ghost use Rattle.extents.specs.Tables.{patches_of};
-ghost use Rattle.extents.specs.Unsynced.{changes_at, extents_at};
+ghost use Rattle.object_maps.specs.ContentsShown.{contents_of};
+ghost use Rattle.extents.specs.Tables.{name_of, patches_of};
+ghost use Rattle.extents.specs.Unsynced.{changes_at, extents_at, name_at};
 ghost use Rattle.extents.specs.declared.basis.Basis.TheVariants as basis;
 
 use crate::extents::Extents;
 use crate::unsynced::UnsyncedExtents;
-use base::{ObjectId, Op};
+use base::{Bytes, ObjectId, Op, PoolName};
+use object_maps::Contents;
 use std::alloc::{AllocError, Global};
 
 // Nothing is changed at first: an object has the length of the one below.
@@ -49,6 +51,55 @@ fn operations_go_to_their_group(unsynced: &mut UnsyncedExtents) -> Result<(), Al
     let ops = [Op::SetLength(ObjectId(7), 100)];
     unsynced.reserve(1, &ops)?;
     unsynced.apply(1, &ops);
+    Ok(())
+}
+
+// Of two names that a group gives it gives the last.
+fn the_last_name_is_given(
+    extents: &mut Extents,
+    first: Bytes,
+    second: Bytes,
+) -> Result<(), AllocError>
+    requires first { first ≡ 97 ∷ [] }
+    requires second { second ≡ 98 ∷ [] }
+    ensures { OnOk result (name_of extents.new ≡ Some (98 ∷ [])) }
+{
+    extents.add(&[Op::SetName(first), Op::SetName(second)])
+}
+
+// The newest group that gives a name decides.
+fn the_newest_name_is_laid_over_the_others(
+    unsynced: &UnsyncedExtents,
+    synced: &PoolName,
+) -> PoolName
+    requires oldest { name_at unsynced.now 0 ≡ Some (97 ∷ []) }
+    requires second { name_at unsynced.now 1 ≡ Some (98 ∷ []) }
+    requires third { name_at unsynced.now 2 ≡ None }
+    ensures { result ≡ 98 ∷ [] }
+{
+    unsynced.name_over(synced).copy()
+}
+
+// If no group gives a name, the synced one stays.
+fn the_synced_name_stays(unsynced: &UnsyncedExtents, synced: &PoolName) -> PoolName
+    requires oldest { name_at unsynced.now 0 ≡ None }
+    requires second { name_at unsynced.now 1 ≡ None }
+    requires third { name_at unsynced.now 2 ≡ None }
+    ensures { result ≡ synced.now }
+{
+    unsynced.name_over(synced).copy()
+}
+
+// Once the group is synced, the contents have its name.
+fn a_synced_group_names_the_contents(
+    extents: &Extents,
+    contents: &mut Contents,
+) -> Result<(), AllocError>
+    requires { name_of extents.now ≡ Some (97 ∷ []) }
+    ensures { OnOk result ((contents_of contents.new).name ≡ 97 ∷ []) }
+{
+    extents.reserve_in(contents)?;
+    extents.lay_into(contents);
     Ok(())
 }
 

@@ -3,7 +3,7 @@ use Rattle.extents.specs.Patches.{basis_after_cut}
 use Rattle.extents.proofs.clients.groups.operations_go_to_their_group.Goals as goal
 
 pub returns-clause-here : goal.returns-clause-here
-returns-clause-here c = (c.apply.ensures.applied 7).basis ∙ ap (basis_after_cut 100) ((c.reserve.ensures.same 1 7).basis ∙ c.requires)
+returns-clause-here c = (c.apply.ensures.applied.patches 7).basis ∙ ap (basis_after_cut 100) ((c.reserve.ensures.same.patches 1 7).basis ∙ c.requires)
 
 pub returns-clause-others : goal.returns-clause-others
 returns-clause-others c =

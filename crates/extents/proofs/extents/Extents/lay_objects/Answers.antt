@@ -5,7 +5,7 @@ use Rattle.base.specs.formats.Limits.{object_count}
 use Rattle.object_maps.specs.ContentsShown.{object_in}
 use Rattle.extents.specs.Tables.{patches_of}
 use Rattle.extents.proofs.LaidContents.{next_object, next_fits, none_left, patched_slots}
-use Rattle.extents.proofs.extents.Extents.lay_into.Goals as goal
+use Rattle.extents.proofs.extents.Extents.lay_objects.Goals as goal
 
 pub loop-number-preserved : goal.loop-number-preserved
 loop-number-preserved c =

@@ -8,7 +8,7 @@ use Rattle.extents.specs.Patches.{patched}
 use Rattle.extents.specs.Synced.{HasRoomForPatches}
 use Rattle.extents.specs.Tables.{patches_of}
 use Rattle.extents.proofs.LaidContents.{patches_in}
-use Rattle.extents.proofs.extents.Extents.lay_into.Given as goal
+use Rattle.extents.proofs.extents.Extents.lay_objects.Given as goal
 
 -- the entries that are left have their room, and make of the objects what all make of the old ones
 abbrev pub invariant-loop-number : goal.invariant-loop-number
