@@ -1,11 +1,10 @@
 -- The contents that operations reach are those of before with the changes that the operations add laid over them.
-use Rattle.std.proofs.Common.{◌≡◌, ℕ, ◌+◌, ◌<◌, ◌≤◌, ◌⊎◌, inl, inr, true, false, List, [], ◌∷◌, map, Option, None, Ok, refl, ap, sym, ◌∙◌, arith, append-nil, length}
-use Rattle.std.specs.Prelude.{fold, nat_lt, nat_le, ◌&&◌, ◌==◌}
-use Rattle.std.specs.List.{list_all}
+use Rattle.std.proofs.Common.{◌≡◌, ℕ, ◌+◌, ◌<◌, ◌≤◌, ◌⊎◌, inl, inr, true, false, List, [], ◌∷◌, Option, None, Ok, refl, ap, sym, ◌∙◌, arith, append-nil, length}
+use Rattle.std.specs.Prelude.{fold, nat_lt, nat_le, unwrap_or, ◌&&◌, ◌==◌}
 use Rattle.std.specs.Ordering.{nat_cmp}
 use Rattle.std.specs.FinMap as finite
 use Rattle.std.specs.FinMap.{FinMap, nat_cmp-IsAntisymmetric, same_map}
-use Rattle.std.proofs.lemmas.Bool.{and_parts, and_from, cases_lt, ltb-true, ne_eqb, true≢false}
+use Rattle.std.proofs.lemmas.Bool.{and_parts, cases_lt, ltb-true, ne_eqb}
 use Rattle.std.proofs.lemmas.Cmp.{nat_cmp_total}
 use Rattle.std.proofs.lemmas.List.Elements.{All-head, All-tail}
 use Rattle.base.specs.declared.names.ObjectId.{ObjectId}
@@ -15,33 +14,17 @@ use Rattle.base.specs.formats.Limits.{max_length, object_count}
 use Rattle.base.specs.history.Contents.{Contents, object_after}
 use Rattle.base.specs.history.History.{Entry, apply_all, replay}
 use Rattle.base.specs.history.Plans.{is_shape_allowed, shape_of}
-use Rattle.base.specs.steps.BuiltSteps.{is_shape_built}
-use Rattle.base.specs.tree.Syncs.{is_rename}
-use Rattle.base.proofs.history.BuiltNames.{name-apply_all}
+use Rattle.base.proofs.history.Names.{name-apply_all}
 use Rattle.base.proofs.history.Projections.{objects_replay}
 use Rattle.object_maps.specs.Ops.{AreOpsAllowed, IsOpAllowed}
 use Rattle.extents.specs.declared.extents.Extents.{Extents}
 use Rattle.extents.specs.Patches.{laid_over}
 use Rattle.extents.specs.Synced.{patched_contents}
-use Rattle.extents.specs.Tables.{AppliesOps, patches_of}
+use Rattle.extents.specs.Tables.{AppliesOps, name_of, patches_of}
 use Rattle.extents.proofs.LaidObjects.{get-laid_over, get-laid_past}
 use Rattle.extents.proofs.LaidWithin.{patches_sized}
 use Rattle.extents.proofs.PatchedObjects.{after_patches}
 use Rattle.extents.proofs.SamePatches.{same_patched}
-
--- an operation that gives no name is of a built shape
-built_one : (op : Op) → is_rename op ≡ false → is_shape_built (shape_of op) ≡ true
-built_one (Create m) none = refl
-built_one (Remove m) none = refl
-built_one (Write m offset bytes) none = refl
-built_one (SetLength m size) none = refl
-built_one (SetName bytes) none = absurd (true≢false none)
-
-pub built_all : (ops : List Op) → AreOpsAllowed ops → list_all is_shape_built (map shape_of ops) ≡ true
-built_all [] allowed = refl
-built_all (op ∷ ops) allowed =
-    and_from (is_shape_built (shape_of op)) (list_all is_shape_built (map shape_of ops)) (built_one op (All-head IsOpAllowed op ops allowed).0)
-    (built_all ops (All-tail IsOpAllowed op ops allowed))
 
 -- an operation within its limits leaves the numbers past the last one
 left_one : (n : ℕ) (op : Op) (object : Option (List ℕ)) → object_count ≤ n → is_shape_allowed (shape_of op) ≡ true → object_after n op object ≡ object
@@ -74,9 +57,10 @@ object_reached ops c d n h =
 
 -- The contents with the old changes laid over them, after operations, are those with the new changes.
 pub reached_contents : (ops : List Op) (old new : Extents) (synced after : Contents) → AreOpsAllowed ops → AppliesOps ops old new
-    → apply_all ops (patched_contents (patches_of old) synced) ≡ Ok after → after ≡ patched_contents (patches_of new) synced
+    → apply_all ops (patched_contents (patches_of old) (name_of old) synced) ≡ Ok after → after ≡ patched_contents (patches_of new) (name_of new) synced
 reached_contents ops old new synced after allowed added reaches =
-    let named : after.name ≡ synced.name = name-apply_all ops (patched_contents (patches_of old) synced) after (built_all ops allowed) reaches in
+    let named : after.name ≡ unwrap_or (name_of new) synced.name =
+    name-apply_all ops (name_of old) synced.name (patched_contents (patches_of old) (name_of old) synced) after refl reaches ∙ ap (λ (given : Option (List ℕ)). unwrap_or given synced.name) (sym added.name) in
     let laid : after.objects ≡ laid_over (patches_of new) synced.objects = same_map nat_cmp_total nat_cmp-IsAntisymmetric _ _ (λ n. at n (cases_lt n object_count)) in
     λ i. record { name = named i; objects = laid i }
   where
@@ -86,13 +70,13 @@ reached_contents ops old new synced after allowed added reaches =
     at : (n : ℕ) → (n < object_count) ⊎ (object_count ≤ n) → finite.get after.objects n ≡ finite.get (laid_over (patches_of new) synced.objects) n
     at n (inl low) =
         let below : Option (List ℕ) = finite.get synced.objects n in
-        object_reached ops (patched_contents (patches_of old) synced) after n reaches
+        object_reached ops (patched_contents (patches_of old) (name_of old) synced) after n reaches
         ∙ ap (λ o. fold (λ o op. object_after n op o) o ops) (get-laid_over (patches_of old) synced.objects n low)
         ∙ sym (after_patches ops n (patches_of old n) below (patches_sized old n))
-        ∙ sym (same_patched (patches_of new n) _ below (added n))
+        ∙ sym (same_patched (patches_of new n) _ below (added.patches n))
         ∙ sym (get-laid_over (patches_of new) synced.objects n low)
     at n (inr past) =
-        object_reached ops (patched_contents (patches_of old) synced) after n reaches
+        object_reached ops (patched_contents (patches_of old) (name_of old) synced) after n reaches
         ∙ ap (λ o. fold (λ o op. object_after n op o) o ops) (get-laid_past (patches_of old) synced.objects n past)
         ∙ left_all n ops None past allowed
         ∙ sym (get-laid_past (patches_of new) synced.objects n past)

@@ -1,8 +1,7 @@
 -- What replays of two small chains come to.
 use Rattle.std.proofs.Common.{◌≡◌, ℕ, ◌⊎◌, inl, inr, [], ◌∷◌, Some, None, Ok, Err, refl, ap, sym, ◌∙◌, arith, length}
-use Rattle.std.specs.Prelude.{Result, option_map}
+use Rattle.std.specs.Prelude.{Result, option_map, unwrap_or}
 use Rattle.std.specs.FinMap as finite
-use Rattle.std.proofs.lemmas.List.Elements.{All-cons, All-nil}
 use Rattle.base.specs.declared.error.PoolError.{PoolError}
 use Rattle.base.specs.declared.error.PoolError.TheVariants.{Damaged, Exists, NoMemory}
 use Rattle.base.specs.crash.Mount.{apply_records, records_above}
@@ -10,13 +9,13 @@ use Rattle.base.specs.history.Contents.{Contents, with_object}
 use Rattle.base.proofs.history.Objects.{get-stored_same}
 use Rattle.extents.specs.Patches.{laid_over}
 use Rattle.extents.specs.Synced.{patched_contents}
-use Rattle.extents.specs.Tables.{patches_of}
+use Rattle.extents.specs.Tables.{name_of, patches_of}
 use Rattle.object_maps.specs.Lengths.{lengths_of}
 use Rattle.log_replay.specs.declared.outline.Outline.{Outline}
 use Rattle.log_replay.specs.declared.replaying.Replayed.{Replayed}
 use Rattle.log_replay.specs.Outlines.{IsOutlineOf, ReplaysOutline}
-use Rattle.log_replay.specs.Replays.{IsNameKept, IsRecordRefused, IsReplay, IsReplayRefusal, KeepsName}
-use Rattle.log_replay.specs.SmallChains.{creation_chain, growing_chain}
+use Rattle.log_replay.specs.Replays.{IsRecordRefused, IsReplay, IsReplayRefusal}
+use Rattle.log_replay.specs.SmallChains.{creation_chain, growing_chain, naming_chain}
 use Rattle.log_replay.proofs.RefusedRecords.{none_reached, refusals_agree}
 
 Ok-same : {A : Type 0} (a b : A) → ◌≡◌ {A = Result A PoolError} (Ok a) (Ok b) → a ≡ b
@@ -30,7 +29,7 @@ module _ (c : Contents) where
 
     pub object_created : (r : Replayed) → IsReplay 9 c (creation_chain 10) r → finite.get (laid_over (patches_of r.extents) c.objects) 7 ≡ Some []
     object_created r is =
-        let same : with_object c 7 (Some []) ≡ patched_contents (patches_of r.extents) c = Ok-same _ _ (sym created ∙ is.applied) in
+        let same : with_object c 7 (Some []) ≡ patched_contents (patches_of r.extents) (name_of r.extents) c = Ok-same _ _ (sym created ∙ is.applied) in
         ap (λ (d : Contents). finite.get d.objects 7) (sym same) ∙ get-stored_same c.objects 7 (Some [])
 
     abbrev grown : Contents
@@ -49,7 +48,14 @@ module _ (c : Contents) where
         )
     length_grown old new (Err e) is (address, damaged, refused) = absurd (none_reached (records_above 9 (growing_chain 10)) c grown address (refused c is) grows)
 
-  -- and is refused if it is there
+  -- the pool is named
+  pub pool_named : (r : Replayed) → IsReplay 9 c (naming_chain 10) r → unwrap_or (name_of r.extents) c.name ≡ 112 ∷ 111 ∷ 110 ∷ 100 ∷ []
+  pool_named r is =
+      let taken : apply_records (records_above 9 (naming_chain 10)) c ≡ Ok (record { name = 112 ∷ 111 ∷ 110 ∷ 100 ∷ []; objects = c.objects }) = refl in
+      let same : record { name = 112 ∷ 111 ∷ 110 ∷ 100 ∷ []; objects = c.objects } ≡ patched_contents (patches_of r.extents) (name_of r.extents) c = Ok-same _ _ (sym taken ∙ is.applied) in
+      ap (λ (d : Contents). d.name) (sym same)
+
+  -- and a creation is refused if the object is there
   module _ (there : finite.get c.objects 7 ≡ Some []) where
     pub creation_refused : IsRecordRefused (records_above 9 (creation_chain 10)) c 4194304
     creation_refused = record {
@@ -75,7 +81,3 @@ module _ (c : Contents) where
         absurd (none_reached (records_above 9 (creation_chain 10)) c d 4194304 creation_refused reached)
     creation_damaged old new (Err e) is (address, damaged, refused) =
         ap Err (damaged ∙ ap (Damaged 6) ((refusals_agree (records_above 9 (creation_chain 10)) c 4194304 creation_refused).1 address (refused c is)))
-
--- neither record names the pool
-pub creation_keeps_name : IsNameKept 9 (creation_chain 10)
-creation_keeps_name = All-cons KeepsName _ [] refl (All-nil KeepsName)

@@ -1,5 +1,6 @@
 -- A replay of some records, with one more that takes place, is the replay of all of them.
-use Rattle.std.proofs.Common.{◌≡◌, ℕ, ◌+◌, List, [], ◌∷◌, ◌++◌, map, Ok, Err, refl, ap, sym, ◌∙◌, append-nil, arith}
+use Rattle.std.proofs.Common.{◌≡◌, ℕ, ◌+◌, List, [], ◌∷◌, ◌++◌, map, None, Ok, Err, refl, ap, sym, ◌∙◌, append-nil, arith}
+use Rattle.std.specs.Prelude.{unwrap_or}
 use Rattle.std.proofs.lemmas.Grind.{flat_map-append}
 use Rattle.std.proofs.lemmas.List.{map-append}
 use Rattle.std.proofs.lemmas.List.Elements.{All-nil, All-push}
@@ -17,7 +18,7 @@ use Rattle.object_maps.specs.Ops.{AreOpsAllowed}
 use Rattle.object_maps.proofs.ContentsShown.{get-objects_past}
 use Rattle.extents.specs.Patches.{AreNumbered, laid_over, no_patch, patched}
 use Rattle.extents.specs.Synced.{patched_contents}
-use Rattle.extents.specs.Tables.{AppliesOps, patches_of}
+use Rattle.extents.specs.Tables.{AppliesOps, name_of, patches_of}
 use Rattle.extents.proofs.LaidObjects.{laid_nothing}
 use Rattle.extents.proofs.PatchedObjects.{patched_nothing}
 use Rattle.extents.proofs.SamePatches.{added_changes}
@@ -40,10 +41,10 @@ records_reached records p c mid after before last =
     ∙ in_turn-append run (map entry records) (entry p ∷ []) c mid after before (joined (run (entry p) mid) (in_turn run []) after after last refl)
 
 -- at first there are no changes and no records
-pub nothing_replayed : (group : ℕ) (c : declared.Contents) (r : Replayed) → ((n : ℕ) → patches_of r.extents n ≡ no_patch) → r.records.items ≡ [] → IsReplayOf group (contents_of c) [] r
-nothing_replayed group c r none empty = record {
+pub nothing_replayed : (group : ℕ) (c : declared.Contents) (r : Replayed) → ((n : ℕ) → patches_of r.extents n ≡ no_patch) → name_of r.extents ≡ None → r.records.items ≡ [] → IsReplayOf group (contents_of c) [] r
+nothing_replayed group c r none unnamed empty = record {
   applied = let same : laid_over (patches_of r.extents) (contents_of c).objects ≡ (contents_of c).objects = laid_nothing (patches_of r.extents) (contents_of c).objects none (contents_numbered c) in
-      λ i. Ok (record { name = (contents_of c).name; objects = sym same i });
+      λ i. Ok (record { name = unwrap_or ((sym unnamed) i) (contents_of c).name; objects = sym same i });
   patches = λ n below. ap (λ p. patched p below) (none n) ∙ patched_nothing below ∙ rw empty refl;
   records_are = ap (map record_fields) empty;
   allowed = rw empty (All-nil (λ (x : Record). AreOpsAllowed x.ops));
@@ -57,14 +58,14 @@ module _ (group : ℕ) (synced : Contents) (records : List Placed) (p : Placed) 
   same_ops = ap (λ (r : formats.Record). r.ops) fields
 
   abbrev after : Contents
-  after = (applies synced.name).0
+  after = (applies (unwrap_or (name_of old.extents) synced.name)).0
 
-  reaches : apply_all x.ops (patched_contents (patches_of old.extents) synced) ≡ Ok after
-  reaches = (applies synced.name).1
+  reaches : apply_all x.ops (patched_contents (patches_of old.extents) (name_of old.extents) synced) ≡ Ok after
+  reaches = (applies (unwrap_or (name_of old.extents) synced.name)).1
 
   pub one_more_replayed : IsReplayOf group synced (records ++ p ∷ []) new
   one_more_replayed = record {
-    applied = records_reached records p synced _ after is.applied (ap (λ ops. apply_all ops (patched_contents (patches_of old.extents) synced)) (sym same_ops) ∙ reaches)
+    applied = records_reached records p synced _ after is.applied (ap (λ ops. apply_all ops (patched_contents (patches_of old.extents) (name_of old.extents) synced)) (sym same_ops) ∙ reaches)
         ∙ ap Ok (reached_contents x.ops old.extents new.extents synced after allowed added reaches);
     patches = rw (pushed, flat_map-append (λ (r : Record). r.ops) old.records.items (x ∷ []), append-nil x.ops)
         (added_changes (ops_of_records old.records.items) x.ops old.extents new.extents is.patches added);
@@ -75,13 +76,13 @@ module _ (group : ℕ) (synced : Contents) (records : List Placed) (p : Placed) 
 
 -- A record that can't take place on what was reached is the first such one of any records that go on with it.
 pub one_refused : (group : ℕ) (synced : Contents) (records rest : List Placed) (p : Placed) (r : Replayed) (e : PoolError) → IsReplayOf group synced records r
-    → apply_all p.logged.ops (patched_contents (patches_of r.extents) synced) ≡ Err e → IsRecordRefused (records ++ p ∷ rest) synced p.address
+    → apply_all p.logged.ops (patched_contents (patches_of r.extents) (name_of r.extents) synced) ≡ Err e → IsRecordRefused (records ++ p ∷ rest) synced p.address
 one_refused group synced records rest p r e is refused = record {
   before = records;
   refused = p;
   after = rest;
   split = refl;
-  reached = patched_contents (patches_of r.extents) synced;
+  reached = patched_contents (patches_of r.extents) (name_of r.extents) synced;
   reaches = is.applied;
   error = e;
   refuses = refused;

@@ -13,7 +13,7 @@ use Rattle.object_maps.specs.Judging.{ApplyTo}
 use Rattle.object_maps.specs.Ops.{AreOpsAllowed}
 use Rattle.extents.specs.Patches.{laid_over}
 use Rattle.extents.specs.Synced.{patched_contents}
-use Rattle.extents.specs.Tables.{AppliesOps, patches_of}
+use Rattle.extents.specs.Tables.{AppliesOps, name_of, patches_of}
 use Rattle.transactions.specs.declared.record.Record.{Record}
 use Rattle.transactions.specs.Records.{record_fields}
 use Rattle.log_replay.specs.declared.replaying.Replayed.{Replayed}
@@ -67,5 +67,5 @@ module _ (group : ℕ) (synced : Contents) (records : List Placed) where
     }
 
     -- or it can't
-    pub came_to_refused : (e : PoolError) → apply_all p.logged.ops (patched_contents (patches_of old.extents) synced) ≡ Err e → IsRecordRefused records synced p.address
+    pub came_to_refused : (e : PoolError) → apply_all p.logged.ops (patched_contents (patches_of old.extents) (name_of old.extents) synced) ≡ Err e → IsRecordRefused records synced p.address
     came_to_refused e refused = rw is.split (one_refused group synced is.done rest p old e is.replayed refused)

@@ -1,7 +1,7 @@
 -- What an import does with the records of a chain: it applies those of groups above the active one, in order, or
 -- reports the block of the first one that can't take place.
-use Rattle.std.specs.Prelude.{ℕ, ◌≡◌, ◌+◌, ◌++◌, ◌⊎◌, false, List, ◌∷◌, All, map, Ok, Err}
-use Rattle.std.specs.List.{flat_map, list_any}
+use Rattle.std.specs.Prelude.{ℕ, ◌≡◌, ◌+◌, ◌++◌, ◌⊎◌, List, ◌∷◌, All, map, Ok, Err}
+use Rattle.std.specs.List.{flat_map}
 use Rattle.base.specs.declared.error.PoolError.{PoolError}
 use Rattle.base.specs.declared.error.PoolError.TheVariants.{Damaged, NoMemory}
 use Rattle.base.specs.declared.operation.Op.{Op}
@@ -11,11 +11,10 @@ use Rattle.base.specs.formats.Records as formats
 use Rattle.base.specs.formats.Records.{IsAllowed}
 use Rattle.base.specs.history.Contents.{Contents}
 use Rattle.base.specs.history.History.{apply_all}
-use Rattle.base.specs.tree.Syncs.{is_rename}
 use Rattle.object_maps.specs.Ops.{AreOpsAllowed}
 use Rattle.extents.specs.Patches.{ArePatchesOf}
 use Rattle.extents.specs.Synced.{patched_contents}
-use Rattle.extents.specs.Tables.{patches_of}
+use Rattle.extents.specs.Tables.{name_of, patches_of}
 use Rattle.transactions.specs.declared.record.Record.{Record}
 use Rattle.transactions.specs.Records.{record_fields}
 use Rattle.log_replay.specs.declared.replaying.Replayed.{Replayed}
@@ -27,13 +26,6 @@ IsBlockAllowed block = All IsAllowed block.records
 abbrev pub IsChainAllowed : List LogPiece → Type 0
 IsChainAllowed chain = All IsBlockAllowed chain
 
--- a record leaves the name of the pool, and so does each one of a group above this one
-abbrev pub KeepsName : Placed → Type 0
-KeepsName p = list_any is_rename p.logged.ops ≡ false
-
-abbrev pub IsNameKept : ℕ → List LogPiece → Type 0
-IsNameKept group chain = All KeepsName (records_above group chain)
-
 -- a record as one of this group
 abbrev pub record_in : ℕ → Placed → formats.Record
 record_in group p = record { group = group; ordinal = p.logged.ordinal; ops = p.logged.ops }
@@ -43,9 +35,9 @@ abbrev pub ops_of_records : List Record → List Op
 ops_of_records records = flat_map (λ (r : Record). r.ops) records
 
 -- These records of groups above the active one were applied to the contents that its tree holds: what they change of
--- its objects, and the records as those of one group, four after the active one.
+-- its objects and its name, and the records as those of one group, four after the active one.
 pub record IsReplayOf (group : ℕ) (synced : Contents) (records : List Placed) (r : Replayed) : Type 0 where
-  pub applied : apply_records records synced ≡ Ok (patched_contents (patches_of r.extents) synced)
+  pub applied : apply_records records synced ≡ Ok (patched_contents (patches_of r.extents) (name_of r.extents) synced)
   pub patches : ArePatchesOf (ops_of_records r.records.items) (patches_of r.extents)
   pub records_are : map record_fields r.records.items ≡ map (record_in (group + 4)) records
   pub allowed : All (λ (x : Record). AreOpsAllowed x.ops) r.records.items

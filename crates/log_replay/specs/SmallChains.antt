@@ -1,6 +1,6 @@
--- Two small chains that the clients replay.
+-- Three small chains that the clients replay.
 use Rattle.std.specs.Prelude.{ℕ, List, [], ◌∷◌}
-use Rattle.base.specs.declared.operation.Op.TheVariants.{Create, Write}
+use Rattle.base.specs.declared.operation.Op.TheVariants.{Create, SetName, Write}
 use Rattle.base.specs.formats.Chain.{LogPiece}
 use Rattle.base.specs.formats.Records.{Record}
 
@@ -11,7 +11,11 @@ creation group = record { group = group; ordinal = 0; ops = Create (record { 0 =
 abbrev pub growth : ℕ → Record
 growth group = record { group = group; ordinal = 1; ops = Write (record { 0 = 7 }) 3 (1 ∷ 2 ∷ 3 ∷ 4 ∷ 5 ∷ []) ∷ [] }
 
--- a block with the first, and one with each
+-- and one that names the pool pond
+abbrev pub naming : ℕ → Record
+naming group = record { group = group; ordinal = 0; ops = SetName (112 ∷ 111 ∷ 110 ∷ 100 ∷ []) ∷ [] }
+
+-- a block with the first, and one with each; and a block with the last
 abbrev pub creation_chain : ℕ → List LogPiece
 creation_chain group = record { address = 4194304; next = 4198400; records = creation group ∷ [] } ∷ []
 
@@ -20,3 +24,6 @@ growing_chain group =
     record { address = 4194304; next = 4198400; records = creation group ∷ [] }
     ∷ record { address = 4198400; next = 4202496; records = growth group ∷ [] }
     ∷ []
+
+abbrev pub naming_chain : ℕ → List LogPiece
+naming_chain group = record { address = 4194304; next = 4198400; records = naming group ∷ [] } ∷ []

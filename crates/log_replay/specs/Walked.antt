@@ -7,7 +7,7 @@ use Rattle.base.specs.history.Contents.{Contents}
 use Rattle.transactions.specs.declared.record.Record.{Record}
 use Rattle.transactions.specs.Records.{record_fields}
 use Rattle.log_replay.specs.declared.replaying.Replayed.{Replayed}
-use Rattle.log_replay.specs.Replays.{IsChainAllowed, IsNameKept, IsReplayOf, KeepsName}
+use Rattle.log_replay.specs.Replays.{IsChainAllowed, IsReplayOf}
 
 -- this rest of the records is left: those before it were applied
 pub record HasReplayedTo (group : ℕ) (synced : Contents) (records rest : List Placed) (r : Replayed) : Type 0 where
@@ -26,12 +26,10 @@ above_at group address records = filter (λ (p : Placed). nat_lt group p.logged.
 -- a replay that began before a block has come to these of its records
 pub record IsAtRecords (group : ℕ) (synced : Contents) (block : LogPiece) (left : List Record) (old now : Replayed) : Type 0 where
   pub allowed : All (λ (r : Record). IsAllowed (record_fields r)) left
-  pub named : IsNameKept group (block ∷ []) → All KeepsName (above_at group block.address left)
   pub walked : (records rest : List Placed) → HasReplayedTo group synced records (records_above group (block ∷ []) ++ rest) old
       → HasReplayedTo group synced records (above_at group block.address left ++ rest) now
 
 -- and to these blocks of a chain
 pub record IsAtBlocks (group : ℕ) (synced : Contents) (chain left : List LogPiece) (now : Replayed) : Type 0 where
   pub allowed : IsChainAllowed left
-  pub named : IsNameKept group chain → IsNameKept group left
   pub walked : HasReplayedTo group synced (records_above group chain) (records_above group left) now

@@ -1,15 +1,15 @@
 //! What callers rest on: one function for each promise of this crate's calls, proved from the contract of the call
 //! alone. So it is refused as soon as that contract says less.
 
-ghost use Rattle.std.specs.Prelude.{◌≡◌, ◌⊎◌, ◌∷◌, [], IfErr, IfOk, Err, IsErr, None, Ok, Some, map};
+ghost use Rattle.std.specs.Prelude.{◌≡◌, ◌⊎◌, ◌∷◌, [], IfErr, IfOk, Err, IsErr, None, Ok, Some, map, unwrap_or};
 ghost use Rattle.std.specs.FinMap as finite;
 ghost use Rattle.base.specs.history.Contents as history;
 ghost use Rattle.extents.specs.Patches.{laid_over};
-ghost use Rattle.extents.specs.Tables.{patches_of};
+ghost use Rattle.extents.specs.Tables.{name_of, patches_of};
 ghost use Rattle.object_maps.specs.ContentsShown.{contents_of};
 ghost use Rattle.object_maps.specs.Lengths.{lengths_of};
 ghost use Rattle.transactions.specs.Records.{record_fields};
-ghost use Rattle.log_replay.specs.SmallChains.{creation, creation_chain, growing_chain};
+ghost use Rattle.log_replay.specs.SmallChains.{creation, creation_chain, growing_chain, naming_chain};
 ghost use Rattle.log_replay.specs.Outlines.{IsOutlineOf};
 ghost use Rattle.log_replay.specs.Replays.{IsChainAllowed};
 
@@ -59,6 +59,20 @@ fn a_record_of_a_group_above_takes_place_four_groups_later(
     ensures record { IfOk result (λ r. map record_fields r.records.items ≡ creation 13 ∷ []) }
     ensures object { IfOk result (λ r. finite.get
         (laid_over (patches_of r.extents) (contents_of contents.now).objects) 7 ≡ Some []) }
+{
+    replay(alloc, Group(9), contents, blocks)
+}
+
+// A record may name the pool: what it leaves has that name.
+fn a_record_names_the_pool(
+    alloc: Global,
+    contents: &Contents,
+    blocks: Vec<LoggedBlock>,
+) -> Result<Replayed, PoolError>
+    requires chain { blocks.items ≡ naming_chain 10 }
+    requires allowed { IsChainAllowed blocks.items }
+    ensures { IfOk result (λ r. unwrap_or (name_of r.extents) (contents_of contents.now).name
+        ≡ 112 ∷ 111 ∷ 110 ∷ 100 ∷ []) }
 {
     replay(alloc, Group(9), contents, blocks)
 }

@@ -34,8 +34,6 @@ impl Outline {
     /// Replays the records of a chain: those of groups above the active one, in order. It makes of the name and the
     /// lengths what `replay` makes of the contents, and takes no memory. It returns how many records it replayed.
     ///
-    /// It replays a record that names the pool too, which `replay` refuses.
-    ///
     /// # Errors
     /// `Damaged` with kind 6 and the address of its block for the first record that can't take place. The name and the
     /// lengths are then those that the operations before it left.

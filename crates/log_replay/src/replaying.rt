@@ -8,9 +8,9 @@ ghost use Rattle.extents.specs.Tables.{AppliesOps, patches_of};
 ghost use Rattle.object_maps.specs.ContentsShown.{contents_of};
 ghost use Rattle.object_maps.specs.Judging.{ApplyTo};
 ghost use Rattle.object_maps.specs.Ops.{AreOpsAllowed};
-ghost use Rattle.log_replay.specs.Judged.{AreShapesAllowed, IsRecordRefusal};
+ghost use Rattle.log_replay.specs.Judged.{IsRecordRefusal};
 ghost use Rattle.log_replay.specs.Walked.{HasReplayedTo};
-ghost use Rattle.log_replay.specs.Replays.{IsBlockAllowed, IsChainAllowed, IsNameKept, IsReplay, IsReplayCause, IsReplayOf, IsReplayRefusal, IsRecordRefused};
+ghost use Rattle.log_replay.specs.Replays.{IsBlockAllowed, IsChainAllowed, IsReplay, IsReplayCause, IsReplayOf, IsReplayRefusal, IsRecordRefused};
 
 use crate::judging::judge_record;
 use base::{Group, PoolError};
@@ -23,7 +23,7 @@ use transactions::Record;
 /// What the records of a chain make of the contents that a tree holds.
 #[derive(Debug, Drop)]
 pub struct Replayed {
-    /// What they change of its objects.
+    /// What they change of its objects and of its name.
     pub extents: Extents,
     /// The records that were applied, in order, each as one of the group that the import syncs.
     pub records: Vec<Record>,
@@ -31,9 +31,6 @@ pub struct Replayed {
 
 /// Applies the records of a chain to the contents of the tree: those of groups above the active one, in order. Those of
 /// groups up to it are passed over. The operations are moved out of the blocks, and their bytes are copied once.
-///
-/// A record that names the pool isn't built, and is refused as a damage of its block. So what a refusal says of the
-/// records is said only of chains without one.
 ///
 /// # Errors
 /// `Damaged` with kind 6 and the address of its block for the first record that can't take place; `NoMemory`.
@@ -46,7 +43,7 @@ pub fn replay(
     requires group { group.0 ≤ last_number }
     requires allowed { IsChainAllowed blocks.items }
     ensures replayed { IfOk result (IsReplay group.0 (contents_of contents.now) blocks.items) }
-    ensures refused { IsNameKept group.0 blocks.items → IfErr result
+    ensures refused { IfErr result
         (IsReplayRefusal (records_above group.0 blocks.items) (contents_of contents.now)) }
     ensures found { (address : ℕ) → IsRecordRefused (records_above group.0 blocks.items)
         (contents_of contents.now) address → IsErr result }
@@ -84,7 +81,6 @@ impl Replayed {
             → OnOk result (HasReplayedTo group.0 (contents_of contents.now) records rest self.new) }
         ensures refused { (records rest : List Placed) → HasReplayedTo group.0 (contents_of contents.now)
             records (records_above group.0 (block ∷ []) ++ rest) self.old
-            → IsNameKept group.0 (block ∷ [])
             → IfErr result (IsReplayRefusal records (contents_of contents.now)) }
         ensures cause { IfErr result IsReplayCause }
     {
@@ -108,8 +104,7 @@ impl Replayed {
 
     // Applies a record of the log block at an address.
     fn apply(&mut self, contents: &Contents, address: u64, logged: Record) -> Result<(), PoolError>
-        requires { AreShapesAllowed logged.ops }
-        ensures allowed { OnOk result (AreOpsAllowed logged.ops) }
+        requires { AreOpsAllowed logged.ops }
         ensures applies { OnOk result (ApplyTo logged.ops
             (laid_over (patches_of self.old.extents) (contents_of contents.now).objects)) }
         ensures extents { OnOk result (AppliesOps logged.ops self.old.extents self.new.extents) }

@@ -1,4 +1,4 @@
 use Rattle.log_replay.proofs.judging.judge_record.Goals as goal
 
 pub returns-in-Err-clause-refused : goal.returns-in-Err-clause-refused
-returns-in-Err-clause-refused g c = λ _. (c.in-Err.field-0, c.in-Err.ensures)
+returns-in-Err-clause-refused g c = (c.in-Err.field-0, c.in-Err.ensures)

@@ -23,11 +23,11 @@ loop-block-preserved c =
     )
 
 pub returns-in_err-apply_block-clause-refused : goal.returns-in_err-apply_block-clause-refused
-returns-in_err-apply_block-clause-refused c = λ kept.
+returns-in_err-apply_block-clause-refused c =
     let step : into_iter_items c.loop-block.block-iterator ≡ c.in-Some.block ∷ into_iter_items c.next.new.self = c.in-Some.ensures.steps.0 in
     let p = err_from_is_err_and c.from_residual.result c.from_residual.ensures.1 in
     rw (p.1, p.2) (block_refused c.args.group.0 (contents_of c.args.contents.now) c.args.blocks.items c.in-Some.block (into_iter_items c.next.new.self) c.loop-block.replayed
-    (rw step at c.loop-block.invariant.2) c.in_err-apply_block.field-0.0 c.in_err-apply_block.ensures.refused kept)
+    (rw step at c.loop-block.invariant.2) c.in_err-apply_block.field-0.0 c.in_err-apply_block.ensures.refused)
 
 pub returns-clause-replayed : goal.returns-clause-replayed
 returns-clause-replayed c =
