@@ -213,7 +213,7 @@ class Expected:
             return [self.inspected.kind]
         if answer.startswith("synced"):
             return ["clean", "clean, with records"] if self.inspected.records else ["clean"]
-        return ["clean, but a record names the pool" if answer.startswith("refused 7") else f"clean, but {answer}"]
+        return [f"clean, but {answer}"]
 
     def after(self):
         """What is left of the pool by an import: its group, import, guid, log, name and objects."""

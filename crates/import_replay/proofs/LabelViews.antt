@@ -53,11 +53,11 @@ module _ (w : ImportWrites) (first : Stage) (created : ℕ) (at : FixedLabels) (
   config_group : w.config.group ≡ v.u.group + 4
   config_group = ap (λ (c : Config). c.group) may.behind.config_is
 
-  config_name : w.config.name ≡ v.name
+  config_name : w.config.name ≡ tree.contents.name
   config_name = ap (λ (c : Config). c.name) may.behind.config_is
 
   -- the bytes of its config are those that an import of the view writes
-  config_same : config_block w.config ≡ config_content w.size v.u.guid (v.u.group + 4) v.name
+  config_same : config_block w.config ≡ config_content w.size v.u.guid (v.u.group + 4) tree.contents.name
   config_same = ap (λ (c : Config). config_block c) may.behind.config_is
 
   spare_block : (b : PlannedBlock) → IsSpareFor v b → IsSpareBlock views b
@@ -72,19 +72,19 @@ module _ (w : ImportWrites) (first : Stage) (created : ℕ) (at : FixedLabels) (
   no_log_block = All-each (λ (b : PlannedBlock). number_at b.block 0 ≢ 6) w.blocks (λ i b there. (All-at (IsSpareFor v) w.blocks i b may.apart there).not_log)
 
   -- what an import may write is of the one config that the new view has
-  own_config : (group : ℕ) (content : List ℕ) → (group ≡ v.u.group + 4) × (content ≡ config_content w.size v.u.guid group v.name) → content ≡ config_block w.config
-  own_config group content other = other.1 ∙ ap (λ (g : ℕ). config_content w.size v.u.guid g v.name) other.0 ∙ sym config_same
+  own_config : (group : ℕ) (content : List ℕ) → (group ≡ v.u.group + 4) × (content ≡ config_content w.size v.u.guid group tree.contents.name) → content ≡ config_block w.config
+  own_config group content other = other.1 ∙ ap (λ (g : ℕ). config_content w.size v.u.guid g tree.contents.name) other.0 ∙ sym config_same
 
   before : IsBefore views w.size start.now
   before = record {
     rest = may.ready.rest;
-    configs = configs_of_stage w.size created (handed start.now) new (v.u.group + 3) (λ group content. (group ≡ v.u.group + 4) × (content ≡ config_content w.size v.u.guid group v.name)) own_config
+    configs = configs_of_stage w.size created (handed start.now) new (v.u.group + 3) (λ group content. (group ≡ v.u.group + 4) × (content ≡ config_content w.size v.u.guid group tree.contents.name)) own_config
         (omega (arith, config_group)) (subst (λ (guid : ℕ). Known guid) (sym may.behind.guid) may.ready.configs);
     logs = logs_of_import w.size created (handed start.now) v new may.behind.guid (omega (arith, may.behind.import_number)) may.ready.rest.rest.laid.logs;
   }
     where
       Known : ℕ → Type 0
-      Known guid = AreConfigsUpTo w.size created (handed start.now) guid (v.u.group + 3) (λ group content. (group ≡ v.u.group + 4) × (content ≡ config_content w.size v.u.guid group v.name))
+      Known guid = AreConfigsUpTo w.size created (handed start.now) guid (v.u.group + 3) (λ group content. (group ≡ v.u.group + 4) × (content ≡ config_content w.size v.u.guid group tree.contents.name))
 
   -- a sync of it leads from the view to the new one
   module _ (run : SyncRun) (is : IsGroupSync w first run) where
@@ -98,7 +98,7 @@ module _ (w : ImportWrites) (first : Stage) (created : ℕ) (at : FixedLabels) (
         fields = is.is_config.fields;
       };
       not_above = omega (arith, config_group, may.behind.group);
-      name = may.behind.name ∙ sym config_name;
+      name = sym config_name;
       root = may.behind.root;
       linked = tt;
     }
@@ -130,7 +130,7 @@ pub record HasImportSince (w : ImportWrites) (created : ℕ) (at : FixedLabels) 
   pub way : IsUnderWay (bytes_of start.now) (views_of w created at v tree) run now.now
   pub each : EachMoment (λ m. IsPhase w.size created (length v.logged) 0 m v (view_of w tree)) start now
   pub fair : EachMoment (HasFairBytes w.size created) start now
-  pub configs : EachMoment (λ m. AreConfigsBelowImport w.size created (handed m) v) start now
+  pub configs : EachMoment (λ m. AreConfigsBelowImport w.size created (handed m) v tree.contents.name) start now
   pub chains : EachMoment (λ m. AreChainsUpTo w.size created (handed m) v.u.guid v.u.import_number) start now
 
 module _ (w : ImportWrites) (first : Stage) (created : ℕ) (at : FixedLabels) (v : View) (tree : ViewTree) (start : Disk) (may : MayBeWritten w first created at v tree start)
@@ -139,7 +139,7 @@ module _ (w : ImportWrites) (first : Stage) (created : ℕ) (at : FixedLabels) (
   new_of = view_of w tree
 
   abbrev Below : List Write → Type 0
-  Below ws = AreConfigsBelowImport w.size created ws v
+  Below ws = AreConfigsBelowImport w.size created ws v tree.contents.name
 
   abbrev UpTo : List Write → Type 0
   UpTo ws = AreChainsUpTo w.size created ws v.u.guid v.u.import_number
@@ -160,15 +160,15 @@ module _ (w : ImportWrites) (first : Stage) (created : ℕ) (at : FixedLabels) (
 
   -- what the sync writes at the place of a config is that of the import
   written_config : IsGeometry run.geometry → (label group : ℕ) (name content : List ℕ) → label < 4 → IsWrittenNext run (config_place w.size label) content → IsConfigContent content w.size v.u.guid group name
-      → (group ≡ v.u.group + 4) × (content ≡ config_content w.size v.u.guid group v.name)
+      → (group ≡ v.u.group + 4) × (content ≡ config_content w.size v.u.guid group tree.contents.name)
   written_config g label group name content below written told =
       let (stages, stand, same) = configs_staged run g label content below (subst (λ (n : ℕ). IsWrittenNext run (config_place n label) content) (sym is.geometry) written) in
       let given : run.stages ≡ Some (record { config = config_block w.config; first = first }) = is.stages in
       let one : stages ≡ record { config = config_block w.config; first = first } = cc in
       let bytes : content ≡ config_block w.config = same ∙ ap (λ (s : LabelStages). s.config) one in
-      let config_is : w.config ≡ record { guid = v.u.guid; group = v.u.group + 4; size = w.size; name = v.name } = may.behind.config_is in
+      let config_is : w.config ≡ record { guid = v.u.guid; group = v.u.group + 4; size = w.size; name = tree.contents.name } = may.behind.config_is in
       let group_is : group ≡ v.u.group + 4 = sym told.block.group_is ∙ ap (λ (l : List ℕ). number_at l 16) bytes ∙ is.is_config.sealed.group_is ∙ ap (λ (c : Config). c.group) config_is in
-      (group_is, bytes ∙ ap (λ (c : Config). config_block c) config_is ∙ ap (λ (g : ℕ). config_content w.size v.u.guid g v.name) (sym group_is))
+      (group_is, bytes ∙ ap (λ (c : Config). config_block c) config_is ∙ ap (λ (g : ℕ). config_content w.size v.u.guid g tree.contents.name) (sym group_is))
 
   import_goes_on : IsGeometry run.geometry → (old new : Disk) (later : SyncRun) → SameSync run later → KeepsWritten run later old.now new.now → KeepsPhases run later old new
       → HasImportSince w created at v tree run start old → HasImportSince w created at v tree later start new
@@ -201,9 +201,9 @@ module _ (w : ImportWrites) (first : Stage) (created : ℕ) (at : FixedLabels) (
           ⊎_elim (λ now. absurd (writes_no_log w first run is (no_log_block w first created at v tree start may) v.u.guid chain number (block_address k) content block now log))
           (λ earlier. latest (λ m. UpTo (handed m)) start old since.chains k chain number content block below earlier log) (hands (block_address k) content some)
 
-  import_moments : (now : Disk) → HasImportSince w created at v tree run start now → EachMoment (IsImportMoment w.size created v new_of) start now
+  import_moments : (now : Disk) → HasImportSince w created at v tree run start now → EachMoment (IsImportMoment w.size created v new_of tree.contents.name) start now
   import_moments now since =
-      weaker (λ m. (HasFairBytes w.size created m × Below (handed m)) × (UpTo (handed m) × InPhase m)) (IsImportMoment w.size created v new_of) start now
+      weaker (λ m. (HasFairBytes w.size created m × Below (handed m)) × (UpTo (handed m) × InPhase m)) (IsImportMoment w.size created v new_of tree.contents.name) start now
       (λ m here. record { bytes = here.0.0; configs = here.0.1; chains = here.1.0; phase = here.1.1 })
       (both (λ m. HasFairBytes w.size created m × Below (handed m)) (λ m. UpTo (handed m) × InPhase m) start now
       (both (HasFairBytes w.size created) (λ m. Below (handed m)) start now since.fair since.configs)
@@ -224,7 +224,7 @@ module _ (w : ImportWrites) (first : Stage) (run : SyncRun) (is : IsGroupSync w 
   is_later = sync_goes_on w first run later same is
 
   -- each moment so far is one of the import
-  pub moments_next : EachMoment (IsImportMoment w.size created v (view_of w tree)) start new
+  pub moments_next : EachMoment (IsImportMoment w.size created v (view_of w tree) tree.contents.name) start new
   moments_next = import_moments w first created at v tree start may later is_later new since_next
 
   -- after the last call the disk is at rest on the view that was written

@@ -90,12 +90,12 @@ group-within group import_number within = ltb-false last_number (group + 5) (or_
 pub import-within : (group import_number : ℕ) → is_past_last group import_number ≡ false → import_number + 1 ≤ last_number
 import-within group import_number within = ltb-false last_number (import_number + 1) (or_parts (nat_lt last_number (group + 5)) (nat_lt last_number (import_number + 1)) within).1
 
-module _ (size : ℕ) (u : Uberblock) (name : List ℕ) (p : PoolParts) (dirty_max : ℕ) (m : Mounted) (from : IsMountedFrom size u p dirty_max m) (parts : ArePartsFor size name p) where
+module _ (size : ℕ) (u : Uberblock) (p : PoolParts) (dirty_max : ℕ) (m : Mounted) (from : IsMountedFrom size u p dirty_max m) (parts : ArePartsFor size p) where
   abbrev shown : Shown
   shown = shown_of_import m
 
-  mine : ArePartsFor m.geometry name (parts_mounted m)
-  mine = subst (λ (n : ℕ). ArePartsFor n name (parts_mounted m)) (sym from.geometry) (subst (λ (q : PoolParts). ArePartsFor size name q) (sym from.parts) parts)
+  mine : ArePartsFor m.geometry (parts_mounted m)
+  mine = subst (λ (n : ℕ). ArePartsFor n (parts_mounted m)) (sym from.geometry) (subst (λ (q : PoolParts). ArePartsFor size q) (sym from.parts) parts)
 
   is_imported : IsImported u (block_count size) (contents_of m.contents) dirty_max shown
   is_imported = record {
@@ -126,9 +126,9 @@ module _ (size : ℕ) (u : Uberblock) (name : List ℕ) (p : PoolParts) (dirty_m
   within_last = group-within u.group u.import_number from.within
 
   -- what the import gives on any device: what is shown of it is exact, with the empty past
-  pub mounted_anew : CanImport size dirty_max → IsName name → IsMountedAnew size dirty_max m
-  mounted_anew can named =
-      let bounded : IsBounded (contents_of m.contents) = record { name = subst (λ (n : List ℕ). IsName n) (sym mine.name_is) named; objects = mine.bounded } in
+  pub mounted_anew : CanImport size dirty_max → IsMountedAnew size dirty_max m
+  mounted_anew can =
+      let bounded : IsBounded (contents_of m.contents) = record { name = mine.named; objects = mine.bounded } in
       record {
         geometry = from.geometry;
         limit = from.limit;

@@ -44,7 +44,7 @@ use Rattle.group_plans.proofs.GroupChanges.{lengths_told}
 use Rattle.group_plans.proofs.GroupCounts.{plans_fit_estimates, short_plans_lack_blocks}
 use Rattle.group_plans.proofs.GroupTrees.{plans_make_trees}
 use Rattle.intent_log.specs.Chains.{IsSoundBlock}
-use Rattle.log_replay.specs.Replays.{IsBlockAllowed, IsChainAllowed, IsNameKept, IsReplayCause, IsReplayRefusal}
+use Rattle.log_replay.specs.Replays.{IsBlockAllowed, IsChainAllowed, IsReplayCause, IsReplayRefusal}
 use Rattle.object_maps.specs.ContentsShown.{contents_of}
 use Rattle.object_maps.specs.Loading.{IsLimitedObject}
 use Rattle.object_maps.specs.Pointers.{objects_of, pointers_of}
@@ -122,11 +122,10 @@ pub loaded_placed : (size : ℕ) (u : Uberblock) (name : List ℕ) (tree : Tree)
     → IsReplayedPool size u.group name tree slots chain pool → ∥ ArePlaced (block_count size) (pointers_of pool.tree) ∥₁
 loaded_placed size u name tree slots chain pool loaded r = ∣ subst (λ (t : Tree). ArePlaced (block_count size) (pointers_of t)) (sym r.tree_is) loaded.placed ∣₁
 
--- if a record is refused and none names the pool, the chain is damaged
+-- if a record is refused, the chain is damaged
 pub reason_of_replay : (image : List ℕ) (size : ℕ) (u : Uberblock) (name : List ℕ) (tree : Tree) (slots : List Slot) (chain : List LogPiece) → IsReadPool image size u name tree slots chain → (e : PoolError)
-    → IsReplayCause e → (IsNameKept u.group chain → IsReplayRefusal (records_above u.group chain) (synced_with name slots) e) → IsReason image e
-reason_of_replay image size u name tree slots chain read e cause refused = reason-record image e cause (λ address is kept.
-    by_refusal address is (refused (kept u chain read.pool.active read.chain_is)))
+    → IsReplayCause e → IsReplayRefusal (records_above u.group chain) (synced_with name slots) e → IsReason image e
+reason_of_replay image size u name tree slots chain read e cause refused = reason-record image e cause (λ address is. by_refusal address is refused)
   where
     by_refusal : (address : ℕ) → e ≡ Damaged 6 address → IsReplayRefusal (records_above u.group chain) (synced_with name slots) e → IsChainDamaged image address
     by_refusal address is (inl memory) = absurd (let no_way : Damaged 6 address ≡ NoMemory = sym is ∙ memory in cc)
@@ -290,9 +289,9 @@ module _ (size : ℕ) (u : Uberblock) (name : List ℕ) (tree : Tree) (slots : L
   contents_left = is.planned.contents_are
 
   -- its parts are those of a pool
-  pub prepared_parts : ArePartsFor size name (parts_of next)
+  pub prepared_parts : ArePartsFor size (parts_of next)
   prepared_parts = record {
-    name_is = ap (λ (c : Contents). c.name) contents_left ∙ is.replayed.name_is;
+    named = subst (λ (c : Contents). IsName c.name) (sym contents_left) (replays.bounded size u name tree slots chain pool is.named is.loaded is.replayed).name;
     bounded = subst (λ (c : Contents). (n : ℕ) → IfSome (finite.get c.objects n) (IsLimitedObject n)) (sym contents_left) (replays.bounded size u name tree slots chain pool is.named is.loaded is.replayed).objects;
     lengths = λ n below.
         is.planned.lengths n below
@@ -362,9 +361,9 @@ module _ (size : ℕ) (u : Uberblock) (name : List ℕ) (tree : Tree) (slots : L
     pub is_import : (dirty_max moment : ℕ) (m : Mounted) → IsMountedFrom size u (parts_of next) dirty_max m → is_dirty_max_allowed dirty_max ≡ true
         → (even_first : Bool) (before after : Disk) → bytes_of before.now ≡ image → IsGroupSynced (writes_of_next size u moment next) even_first before after → IsImport image (bytes_of after.now) dirty_max m
     is_import dirty_max moment m from limit even_first before after same done = record {
-      imported = import_of size u name (parts_of next) dirty_max m from prepared_parts image now chain next.blocks.items read.long prepared_over long written limit
+      imported = import_of size u (parts_of next) dirty_max m from prepared_parts image now chain next.blocks.items read.long prepared_over long written limit
           (subst (λ (p : PoolParts). Mounts image u chain (contents_of p.contents)) (sym from.parts) prepared_mounts);
-      stands = stands_on size u name (parts_of next) dirty_max m from prepared_parts image now chain next.blocks.items read.long prepared_over long written;
+      stands = stands_on size u (parts_of next) dirty_max m from prepared_parts image now chain next.blocks.items read.long prepared_over long written;
       size = long;
       no_log = no_log_written size u name pool.tree (objects_of pool.synced.slots.items) chain image now next.blocks.items is.loaded.sound mine prepared_over.unused prepared_ready.apart long written;
       kept = used_kept size u name pool.tree (objects_of pool.synced.slots.items) chain image now next.blocks.items is.loaded.sound mine prepared_over.unused prepared_ready.apart long written;

@@ -25,7 +25,6 @@ use Rattle.base.specs.history.Contents.{Contents}
 use Rattle.base.specs.history.Past.{new_past}
 use Rattle.base.specs.steps.Explains.{IsLeftBy}
 use Rattle.base.specs.tree.Places.{Place}
-use Rattle.base.specs.tree.Syncs.{is_rename}
 use Rattle.base.specs.tree.Places.Place.{Root, Directory, Indirect, Data}
 use Rattle.base.specs.tree.PlacedTrees.{HoldsTree, StandsAt}
 use Rattle.base.specs.tree.Tree.{IsRecord}
@@ -107,7 +106,6 @@ module _ (size t guid moment : ℕ) (name : List ℕ) (disk : Disk) (g : IsGeome
       record { not_in_tree = λ p in_range some. absurd (some refl); not_logged = λ i l at. absurd (let no_way : None ≡ Some l = at in cc) },
     );
     enough = omega (arith, one_spare);
-    name_kept = All-nil (λ (p : Placed). list_any is_rename p.logged.ops ≡ false);
   }
 
   fixed : (place n : ℕ) (content : List ℕ) → length content ≡ n → part image place n ≡ content → IsFixed disk.now place content

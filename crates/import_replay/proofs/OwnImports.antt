@@ -10,7 +10,7 @@ use Rattle.std.proofs.lemmas.Bool.{false≢true}
 use Rattle.std.proofs.lemmas.List.Elements.{All-nil}
 use Rattle.base.specs.crash.CallStages.{FixedLabels}
 use Rattle.base.specs.crash.CrashRule.{AreImportViews, HasSteadyPhases, IsImportMoment, IsOwnOnceFlushed, KeepsOwn}
-use Rattle.base.specs.crash.LogRoom.{AreNoRenames, HasImportRoom, records_estimate}
+use Rattle.base.specs.crash.LogRoom.{HasImportRoom, records_estimate}
 use Rattle.base.specs.crash.LogRule.{AreChainsUpTo, IsLogHeld}
 use Rattle.base.specs.crash.LogSteps.{IsSpareOf}
 use Rattle.base.specs.crash.Mount.{HasPool, Mounts, Placed, apply_records, records_above}
@@ -27,7 +27,6 @@ use Rattle.base.specs.formats.Uberblocks.{Uberblock}
 use Rattle.base.specs.history.Contents.{Contents}
 use Rattle.base.specs.history.Past.{Past, new_past}
 use Rattle.base.specs.steps.Shown.{Shown}
-use Rattle.base.specs.tree.Syncs.{is_rename}
 use Rattle.base.proofs.common.KeptLists.{All-at, All-each}
 use Rattle.base.proofs.crash.LogImports.{begun_held, chains_of_view}
 use Rattle.base.proofs.crash.LogRoom.{in-with_all, len-with_all, with_all}
@@ -72,12 +71,11 @@ after_unwritten blocks contents v room = record {
     spare = room.spare;
     each = λ address is. let old = room.each address is in (old.0, record { not_in_tree = old.1.not_in_tree; not_logged = λ i l at. absurd (let no_way : None ≡ Some l = at in cc) });
     enough = omega (arith, room.enough);
-    name_kept = All-nil (λ (p : Placed). list_any is_rename p.logged.ops ≡ false);
   };
 }
 
-unwritten_moment : (size created : ℕ) (contents : Contents) (v : View) (m : Moment) → HasFairBytes size created m → AreConfigsBelowImport size created (handed m) v → IsAtRest size created (length v.logged) m v
-    → IsImportMoment size created v (unwritten contents v) m
+unwritten_moment : (size created : ℕ) (contents : Contents) (v : View) (m : Moment) → HasFairBytes size created m → AreConfigsBelowImport size created (handed m) v contents.name → IsAtRest size created (length v.logged) m v
+    → IsImportMoment size created v (unwritten contents v) contents.name m
 unwritten_moment size created contents v m fair configs rest = record { bytes = fair; configs = configs; chains = chains_of_view size created (handed m) v rest.laid.logs; phase = inl rest }
 
 one_at : (address i other : ℕ) → slice_get (address ∷ []) i ≡ Some other → (i ≡ 0) × (address ≡ other)
@@ -90,7 +88,6 @@ room_of_one blocks address v none block is = record {
   spare = one;
   each = λ other there. ⊎_elim (λ at. same other (one_at address at.0 other at.1).1) (λ no. absurd (nothing other no)) (in-with_all (address ∷ []) set.empty other there);
   enough = subst (λ (ls : List Logged). records_estimate (records_above v.u.group (map (λ (l : Logged). l.block) ls)) < set.len one) (sym none) (omega (arith, long, len-empty nat_cmp));
-  name_kept = subst (λ (ls : List Logged). AreNoRenames (records_above v.u.group (map (λ (l : Logged). l.block) ls))) (sym none) (All-nil (λ (p : Placed). list_any is_rename p.logged.ops ≡ false));
 }
   where
     one : FinSet nat_cmp
@@ -128,7 +125,7 @@ module _ (old mid : Disk) (flushes : Flushes old (Ok tt) mid) where
   long = ap (λ (l : List ℕ). length l) (flushed_clean old mid flushes).1
 
   steady : (new : Disk) (created guid : ℕ) (contents : Contents) (v later : View) → IsRestedOwn (disk_size mid) created guid contents v mid.now → IsViewAfter (block_count (disk_size mid)) contents v later
-      → EachMoment (IsImportMoment (disk_size mid) created v later) mid new → HasSteadyPhases (disk_size old) created (certain (bytes_of old.now) old) new guid contents
+      → EachMoment (IsImportMoment (disk_size mid) created v later contents.name) mid new → HasSteadyPhases (disk_size old) created (certain (bytes_of old.now) old) new guid contents
   steady new created guid contents v later own after each =
       subst (λ (d : Disk). HasSteadyPhases (disk_size old) created d new guid contents) flushes
       (subst (λ (n : ℕ). HasSteadyPhases n created mid new guid contents) long
@@ -149,12 +146,12 @@ module _ (old mid : Disk) (flushes : Flushes old (Ok tt) mid) where
       let here = unwritten_moment (disk_size mid) created contents v mid.now r.1.bytes r.1.configs r.1.rest in
       inr (import_kept old new created guid contents own
       (subst (λ (d : Disk). HasSteadyPhases (disk_size old) created (certain (bytes_of old.now) old) d guid contents) (sym same)
-      (steady mid created guid contents v later r.1 (after_unwritten (block_count (disk_size mid)) contents v r.1.room) (starts (IsImportMoment (disk_size mid) created v later) mid here))))
+      (steady mid created guid contents v later r.1 (after_unwritten (block_count (disk_size mid)) contents v r.1.room) (starts (IsImportMoment (disk_size mid) created v later contents.name) mid here))))
 
   module _ (size : ℕ) (u : Uberblock) (name : List ℕ) (first : Stage) (sized : length (bytes_of mid.now) ≡ size) (pool : HasPool (bytes_of mid.now) u name)
       (stage : HasFirstStage (bytes_of mid.now) u.guid u.group name (is_even first)) where
     -- A pool that is synced, made over this image and chain, of which the image mounts its contents.
-    module _ (next : NextPool) (moment : ℕ) (chain : List LogPiece) (parts : ArePartsFor size name (parts_of next)) (over : AreMadeOver (bytes_of mid.now) u chain size next.blocks.items (parts_of next))
+    module _ (next : NextPool) (moment : ℕ) (chain : List LogPiece) (parts : ArePartsFor size (parts_of next)) (over : AreMadeOver (bytes_of mid.now) u chain size next.blocks.items (parts_of next))
         (mounts : Mounts (bytes_of mid.now) u chain (contents_of next.contents)) where
       abbrev w : ImportWrites
       w = writes_of_next size u moment next
@@ -187,14 +184,14 @@ module _ (old mid : Disk) (flushes : Flushes old (Ok tt) mid) where
               at = spared.0;
               may = record {
                 began = (own_flushed created guid contents own).began;
-                ready = subst (λ (n : ℕ). IsReadyBehind n created spared.0 v mid.now) sized spared.2;
+                ready = subst (λ (c : Contents). IsReadyBehind size created spared.0 v c.name mid.now) (sym whole.1)
+                    (subst (λ (n : ℕ). IsReadyBehind n created spared.0 v contents.name mid.now) sized spared.2);
                 behind = record {
                   guid = ap (λ (x : Uberblock). x.guid) same;
                   group = ap (λ (x : Uberblock). x.group + 4) same;
                   import_number = ap (λ (x : Uberblock). x.import_number + 1) same;
                   root = refl;
-                  name = parts.name_is ∙ sym named;
-                  config_is = λ i. next_config (same i) ((parts.name_is ∙ sym named) i) size;
+                  config_is = λ i. next_config (same i) next.contents.name size;
                 };
                 spares = spared.1;
                 apart = All-each (IsSpareFor v) next.blocks.items (λ i b there.
@@ -225,7 +222,8 @@ module _ (old mid : Disk) (flushes : Flushes old (Ok tt) mid) where
             inr (import_kept old new created guid contents own
             (steady new created guid contents v (view_of w tree) (subst (λ (n : ℕ). IsRestedOwn n created guid contents v mid.now) (sym sized) f.own)
             (subst (λ (n : ℕ). IsViewAfter (block_count n) contents v (view_of w tree)) (sym sized) (later_after created guid contents v f))
-            (subst (λ (n : ℕ). EachMoment (IsImportMoment n created v (view_of w tree)) mid new) (sym sized) (kept created f.at v tree f.may))))
+            (subst (λ (n : ℕ). EachMoment (IsImportMoment n created v (view_of w tree) contents.name) mid new) (sym sized)
+            (subst (λ (c : Contents). EachMoment (IsImportMoment size created v (view_of w tree) c.name) mid new) f.contents_are (kept created f.at v tree f.may)))))
 
         module _ (dirty_max : ℕ) (m : Mounted) (from : IsMountedFrom size u (parts_of next) dirty_max m) (ends : EndsBehind w first mid new) where
           abbrev shown : Shown
@@ -269,14 +267,14 @@ module _ (old mid : Disk) (flushes : Flushes old (Ok tt) mid) where
 
           run_start : (created guid : ℕ) (contents : Contents) (v : View) → IsFoundFor created guid contents v → IsRunStart created guid contents dirty_max m new.now
           run_start created guid contents v f =
-              let here = latest (IsImportMoment size created v (view_of w tree)) mid new (kept created f.at v tree f.may) in
+              let here = latest (IsImportMoment size created v (view_of w tree) tree.contents.name) mid new (kept created f.at v tree f.may) in
               let guid_same : m.guid ≡ v.u.guid = from.guid ∙ ap (λ (x : Uberblock). x.guid) (sym f.uberblock) in
               let group_same : m.group.0 ≡ v.u.group + 4 = from.group ∙ ap (λ (x : Uberblock). x.group + 4) (sym f.uberblock) in
               record {
                 disk = subst (λ (n : ℕ). IsPoolDisk n new.now shown (past_of created)) (sym from.geometry) (record {
                   bytes = here.bytes;
                   configs = subst (λ (g : ℕ). AreConfigsUpTo size created (handed new.now) g m.group.0 (IsSyncConfig size shown (past_of created))) (sym guid_same)
-                      (configs_weaker size created (handed new.now) v.u.guid (v.u.group + 3) m.group.0 (λ group content. (group ≡ v.u.group + 4) × (content ≡ config_content size v.u.guid group v.name))
+                      (configs_weaker size created (handed new.now) v.u.guid (v.u.group + 3) m.group.0 (λ group content. (group ≡ v.u.group + 4) × (content ≡ config_content size v.u.guid group tree.contents.name))
                       (IsSyncConfig size shown (past_of created)) (omega (arith, group_same)) (λ group content other. inl (omega (arith, group_same, other.0))) here.configs);
                   laid = inl (record {
                     v = mine;

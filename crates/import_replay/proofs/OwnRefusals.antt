@@ -28,8 +28,7 @@ use Rattle.base.proofs.disk.Moments.{bytes_may_be_left}
 use Rattle.base.proofs.disk.Regions.{flushed_clean}
 use Rattle.base.proofs.tree.PlacedTrees.{in-tree}
 use Rattle.base.proofs.tree.SoundTrees.{no_damage}
-use Rattle.log_replay.specs.Replays.{IsNameKept}
-use Rattle.import_replay.specs.ImportRefusals.{FindsOwn, LacksImportRoom, IsNameKeptIn, IsReason}
+use Rattle.import_replay.specs.ImportRefusals.{FindsOwn, LacksImportRoom, IsReason}
 
 module _ (image : List ℕ) (u : Uberblock) (chain : List LogPiece) (contents : Contents) (mounts : Mounts image u chain contents) where
   has_pool : HasNoPool image → ⊥
@@ -97,11 +96,6 @@ module _ (disk : Disk) (created guid : ℕ) (contents : Contents) (own : IsOwnWi
       (λ is_logged. not_logged here.v.logged address spare.1.not_logged (subst (λ (bs : List LogPiece). Contains (flat_map addresses_of bs) address) chains is_logged)) used)) in
       omega (arith, within, few, full.few, here.room.enough)
 
-  name_kept : IsNameKeptIn image
-  name_kept u chain active is =
-      subst (λ (bs : List LogPiece). IsNameKept u.group bs) (sym (chain_is u chain active is))
-      (subst (λ (w : Uberblock). IsNameKept w.group logged) (sym (uberblock_is u active)) here.room.name_kept)
-
 pub finds_own : (disk : Disk) (e : PoolError) → IsReason (bytes_of disk.now) e → FindsOwn disk e
 finds_own disk e reason created guid contents own =
     let flushed : Disk = certain (bytes_of disk.now) disk in
@@ -111,6 +105,5 @@ finds_own disk e reason created guid contents own =
       not_missing = λ is. has_pool (bytes_of disk.now) u chain contents mounts (reason.no_pool is);
       not_full = λ is. has_room flushed created guid contents own (subst (λ (image : List ℕ). LacksImportRoom image) (sym same) (reason.no_space is));
       not_damaged = λ kind address is. ⊎_elim (is_sound (bytes_of disk.now) u chain contents mounts kind address)
-          (λ refused. mounted_not_damaged (bytes_of disk.now) contents address (u, chain, mounts)
-          (refused.1 (subst IsNameKeptIn same (name_kept flushed created guid contents own)))) (reason.damaged kind address is);
+          (λ refused. mounted_not_damaged (bytes_of disk.now) contents address (u, chain, mounts) refused.1) (reason.damaged kind address is);
     }

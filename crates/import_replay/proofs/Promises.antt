@@ -22,7 +22,7 @@ use Rattle.object_maps.specs.ContentsShown.{contents_of}
 use Rattle.object_maps.specs.Surveys.{listed}
 use Rattle.import_replay.specs.CreateRefusals.{IsCreateRefusal}
 use Rattle.import_replay.specs.Creations.{IsCreatedOn, IsNewPool, first_uberblock}
-use Rattle.import_replay.specs.ImportRefusals.{CanImport, IsImportRefusal, IsInspectionReason, IsInspectionRefusal, IsReadingRefusal, IsReason}
+use Rattle.import_replay.specs.ImportRefusals.{CanImport, IsImportRefusal, IsReason, IsInspectionRefusal, IsReadingRefusal}
 use Rattle.import_replay.specs.ImportSyncs.{IsImportSynced, uberblock_of_import}
 use Rattle.import_replay.specs.Inspections.{IsInspectionOf}
 use Rattle.import_replay.specs.Mounts.{shown_of_import}
@@ -154,7 +154,7 @@ module _ (image : List ℕ) (u : Uberblock) (chain : List LogPiece) (contents : 
         sym import.records_are ∙ (λ i. length (records_above (same i).group (chains i))),
       )
 
-  pub mounted_found : (e : PoolError) → IsInspectionReason image e → e ≢ NoPool
+  pub mounted_found : (e : PoolError) → IsReason image e → e ≢ NoPool
   mounted_found e reason is =
       let active = mounts.found.pool.active in
       let chosen = mounts.found.pool.chosen in
@@ -172,7 +172,7 @@ tree_kind (Directory d) is = omega (arith, is)
 tree_kind (Indirect n) is = omega (arith, is)
 tree_kind (Data n r) is = omega (arith, is)
 
-pub record_damaged : (image : List ℕ) (e : PoolError) → IsInspectionReason image e → (address : ℕ) → e ≡ Damaged 6 address → IsChainDamaged image address
+pub record_damaged : (image : List ℕ) (e : PoolError) → IsReason image e → (address : ℕ) → e ≡ Damaged 6 address → IsChainDamaged image address
 record_damaged image e reason address is = ⊎_elim (λ tree. absurd (tree_kind tree.damage.place tree.damage.kind_is)) (λ chain. chain.1) (reason.damaged 6 address is)
 
 -- and what is inspected has none

@@ -51,7 +51,7 @@ pub record IsRestedOwn (size created guid : ℕ) (contents : Contents) (v : View
   pub none : m.unflushed ≡ []
   pub rest : IsAtRest size created (length v.logged) m v
   pub bytes : HasFairBytes size created m
-  pub configs : AreConfigsBelowImport size created (handed m) v
+  pub configs : AreConfigsBelowImport size created (handed m) v contents.name
 
 pub rested_own : (disk : Disk) (created guid : ℕ) (contents : Contents) → disk.now.unflushed ≡ [] → IsOwnWith disk created guid contents
     → (v : View) × IsRestedOwn (disk_size disk) created guid contents v disk.now
@@ -183,7 +183,7 @@ module _ (m : Moment) (created guid : ℕ) (contents : Contents) (v : View) (own
   rest_at label below there = record { rest = own.rest; config = fixed_config label there; slot = own.rest.slot.fixed }
 
   abbrev pub SparedAt : Stage → Type 0
-  SparedAt first = (at : FixedLabels) × SparesConfig first at × IsReadyBehind size created at v m
+  SparedAt first = (at : FixedLabels) × SparesConfig first at × IsReadyBehind size created at v contents.name m
 
   ready_at : (first : Stage) (label : ℕ) (below : label < 4) → SparesConfig first (labels_at label below) → HasConfig label → SparedAt first
   ready_at first label below spares there =

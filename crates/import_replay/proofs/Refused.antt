@@ -7,12 +7,12 @@ use Rattle.base.specs.disk.Disk.{Disk, bytes_of}
 use Rattle.base.specs.formats.Geometry.{IsGeometry}
 use Rattle.device_model.specs.declared.device.SectorDevice.{Ghosts}
 use Rattle.log_replay.specs.Replays.{IsReplayCause}
-use Rattle.import_replay.specs.ImportRefusals.{CanImport, HasLastNumbers, LacksImportRoom, IsImportRefusal, IsInspectionReason, IsInspectionRefusal, IsMountRefusal, IsReadingRefusal, IsReason, IsSyncRefusal, IsWalkRefusal}
+use Rattle.import_replay.specs.ImportRefusals.{CanImport, HasLastNumbers, LacksImportRoom, IsImportRefusal, IsReason, IsInspectionRefusal, IsMountRefusal, IsReadingRefusal, IsSyncRefusal, IsWalkRefusal}
 use Rattle.import_replay.specs.ImportStops.{IsImportStopped}
 use Rattle.import_replay.specs.Refused.{IsImportRefused, IsInspectionRefused, IsMountRefused}
 use Rattle.import_replay.proofs.OwnRefusals.{finds_own}
 use Rattle.import_replay.proofs.ReadPools.{flushed}
-use Rattle.import_replay.proofs.Reasons.{not_both, of_import, reason-many, reason-open}
+use Rattle.import_replay.proofs.Reasons.{not_both, reason-many, reason-open}
 
 not_full : (e : PoolError) → IsSyncRefusal e → e ≡ NoSpace → ⊥
 not_full e (inl is) full = let no : Write ≡ NoSpace = sym is ∙ full in cc
@@ -24,7 +24,7 @@ module _ (keeps : Bool) (moment : ℕ) (old mid new : Disk) (e : PoolError) wher
   pub flush_refused : e ≡ Flush → (IsTrue keeps → new ≡ old) → IsMountRefused keeps moment old new e
   flush_refused is same = record {
     kind = subst IsMountRefusal (sym is) tt;
-    reason = λ keep. of_import (bytes_of old.now) e (reason-open (bytes_of old.now) e (inr (inr (inr is))) (λ full. let no : Flush ≡ NoSpace = sym is ∙ full in cc));
+    reason = λ keep. (reason-open (bytes_of old.now) e (inr (inr (inr is))) (λ full. let no : Flush ≡ NoSpace = sym is ∙ full in cc));
     unchanged = λ keep reading. absurd (not_both e reading (inr is));
     stopped = λ keep sync. inl (is, same keep);
   }
@@ -47,10 +47,10 @@ module _ (keeps : Bool) (moment : ℕ) (old mid new : Disk) (e : PoolError) wher
     }
 
     -- the labels or the tree were refused
-    pub reading_refused : IsWalkRefusal e → (IsTrue keeps → IsInspectionReason (bytes_of mid.now) e) → (IsTrue keeps → new ≡ mid) → IsMountRefused keeps moment old new e
+    pub reading_refused : IsWalkRefusal e → (IsTrue keeps → IsReason (bytes_of mid.now) e) → (IsTrue keeps → new ≡ mid) → IsMountRefused keeps moment old new e
     reading_refused walk reason same =
         let kinds = of_walk e walk in
-        unwritten kinds.0 kinds.1 (λ keep. of_import (bytes_of old.now) e (subst (λ (image : List ℕ). IsInspectionReason image e) (flushed old mid (flushes keep)) (reason keep))) same
+        unwritten kinds.0 kinds.1 (λ keep. (subst (λ (image : List ℕ). IsReason image e) (flushed old mid (flushes keep)) (reason keep))) same
 
     -- there was no memory for the records, or one can't take place
     pub replay_refused : IsReplayCause e → (IsTrue keeps → IsReason (bytes_of old.now) e) → (IsTrue keeps → new ≡ mid) → IsMountRefused keeps moment old new e
@@ -61,14 +61,14 @@ module _ (keeps : Bool) (moment : ℕ) (old mid new : Disk) (e : PoolError) wher
     pub numbers_refused : e ≡ TooMany → (IsTrue keeps → HasLastNumbers (bytes_of old.now)) → (IsTrue keeps → new ≡ mid) → IsMountRefused keeps moment old new e
     numbers_refused is last same =
         unwritten (subst IsMountRefusal (sym is) tt) (subst IsReadingRefusal (sym is) tt)
-        (λ keep. of_import (bytes_of old.now) e (subst (λ (x : PoolError). IsInspectionReason (bytes_of old.now) x) (sym is) (reason-many (bytes_of old.now) (last keep)))) same
+        (λ keep. (subst (λ (x : PoolError). IsReason (bytes_of old.now) x) (sym is) (reason-many (bytes_of old.now) (last keep)))) same
 
     -- there was no memory for the pool to be synced, or no room
     pub next_refused : (e ≡ NoMemory) ⊎ (e ≡ NoSpace) → (IsTrue keeps → e ≡ NoSpace → LacksImportRoom (bytes_of old.now)) → (IsTrue keeps → new ≡ mid) → IsMountRefused keeps moment old new e
     next_refused (inl is) full same =
-        unwritten (subst IsMountRefusal (sym is) tt) (subst IsReadingRefusal (sym is) tt) (λ keep. of_import (bytes_of old.now) e (reason-open (bytes_of old.now) e (inl is) (full keep))) same
+        unwritten (subst IsMountRefusal (sym is) tt) (subst IsReadingRefusal (sym is) tt) (λ keep. (reason-open (bytes_of old.now) e (inl is) (full keep))) same
     next_refused (inr is) full same =
-        unwritten (subst IsMountRefusal (sym is) tt) (subst IsReadingRefusal (sym is) tt) (λ keep. of_import (bytes_of old.now) e (reason-open (bytes_of old.now) e (inr (inl is)) (full keep))) same
+        unwritten (subst IsMountRefusal (sym is) tt) (subst IsReadingRefusal (sym is) tt) (λ keep. (reason-open (bytes_of old.now) e (inr (inl is)) (full keep))) same
 
   of_sync : (x : PoolError) → IsSyncRefusal x → IsMountRefusal x
   of_sync x (inl is) = subst IsMountRefusal (sym is) tt
@@ -78,7 +78,7 @@ module _ (keeps : Bool) (moment : ℕ) (old mid new : Disk) (e : PoolError) wher
   pub open_refused : IsSyncRefusal e → (IsTrue keeps → IsImportStopped old new moment e) → IsMountRefused keeps moment old new e
   open_refused sync stops = record {
     kind = of_sync e sync;
-    reason = λ keep. of_import (bytes_of old.now) e (reason-open (bytes_of old.now) e (inr (inr sync)) (λ full. absurd (not_full e sync full)));
+    reason = λ keep. (reason-open (bytes_of old.now) e (inr (inr sync)) (λ full. absurd (not_full e sync full)));
     unchanged = λ keep reading. absurd (not_both e reading sync);
     stopped = λ keep again. stops keep;
   }
@@ -107,7 +107,7 @@ module _ {Dev : Type 0} (D : Ghosts Dev) where
       }
 
   -- by size or limit
-  no_reason : (image : List ℕ) (e : PoolError) → (e ≡ BadGeometry) ⊎ (e ≡ BadRange) → IsInspectionReason image e
+  no_reason : (image : List ℕ) (e : PoolError) → (e ≡ BadGeometry) ⊎ (e ≡ BadRange) → IsReason image e
   no_reason image e (inl is) = record { no_pool = λ f. let no : BadGeometry ≡ NoPool = sym is ∙ f in cc; damaged = λ k a f. let no : BadGeometry ≡ Damaged k a = sym is ∙ f in cc; too_many = λ f. let no : BadGeometry ≡ TooMany = sym is ∙ f in cc; no_space = λ f. let no : BadGeometry ≡ NoSpace = sym is ∙ f in cc }
   no_reason image e (inr is) = record { no_pool = λ f. let no : BadRange ≡ NoPool = sym is ∙ f in cc; damaged = λ k a f. let no : BadRange ≡ Damaged k a = sym is ∙ f in cc; too_many = λ f. let no : BadRange ≡ TooMany = sym is ∙ f in cc; no_space = λ f. let no : BadRange ≡ NoSpace = sym is ∙ f in cc }
 
@@ -118,8 +118,8 @@ module _ {Dev : Type 0} (D : Ghosts Dev) where
   pub bounds_refused : (dirty_max moment : ℕ) (old : Dev) (e : PoolError) → (e ≡ BadGeometry) ⊎ (e ≡ BadRange) → IsImportRefusal (D.size old) dirty_max e → IsImportRefused D dirty_max moment old old e
   bounds_refused dirty_max moment old e bad kind = record {
     kind = kind;
-    reason = λ keep. of_import (bytes_of (D.disk old).now) e (no_reason (bytes_of (D.disk old).now) e bad);
-    found = λ keep. finds_own (D.disk old) e (of_import (bytes_of (D.disk old).now) e (no_reason (bytes_of (D.disk old).now) e bad));
+    reason = λ keep. (no_reason (bytes_of (D.disk old).now) e bad);
+    found = λ keep. finds_own (D.disk old) e ((no_reason (bytes_of (D.disk old).now) e bad));
     untouched = λ again. refl;
     unchanged = λ keep reading. absurd ((not_begun e bad).0 reading);
     stopped = λ keep sync. absurd ((not_begun e bad).1 sync);
@@ -130,7 +130,7 @@ module _ {Dev : Type 0} (D : Ghosts Dev) where
   size_refused old e is not_sized = record {
     kind = subst (IsInspectionRefusal (D.size old)) (sym is) not_sized;
     reason = λ keep. no_reason (bytes_of (D.disk old).now) e (inl is);
-    found = λ keep. finds_own (D.disk old) e (of_import (bytes_of (D.disk old).now) e (no_reason (bytes_of (D.disk old).now) e (inl is)));
+    found = λ keep. finds_own (D.disk old) e ((no_reason (bytes_of (D.disk old).now) e (inl is)));
     untouched = λ again. refl;
   }
 
@@ -141,10 +141,10 @@ module _ {Dev : Type 0} (D : Ghosts Dev) where
   of_inspection size (Damaged kind address) sized walk = ((sized, tt), λ is. let no : Damaged kind address ≡ BadGeometry = is in cc)
   of_inspection size _ sized walk = absurd walk
 
-  pub walk_refused : (old new : Dev) (e : PoolError) → IsGeometry (D.size old) → IsWalkRefusal e → (IsTrue D.keeps_model → IsInspectionReason (bytes_of (D.disk old).now) e) → IsInspectionRefused D old new e
+  pub walk_refused : (old new : Dev) (e : PoolError) → IsGeometry (D.size old) → IsWalkRefusal e → (IsTrue D.keeps_model → IsReason (bytes_of (D.disk old).now) e) → IsInspectionRefused D old new e
   walk_refused old new e sized walk reason =
       let kinds = of_inspection (D.size old) e sized walk in
-      record { kind = kinds.0; reason = reason; found = λ keep. finds_own (D.disk old) e (of_import (bytes_of (D.disk old).now) e (reason keep)); untouched = λ bad. absurd (kinds.1 bad) }
+      record { kind = kinds.0; reason = reason; found = λ keep. finds_own (D.disk old) e ((reason keep)); untouched = λ bad. absurd (kinds.1 bad) }
 
   pub memory_refused : (old new : Dev) (e : PoolError) → IsGeometry (D.size old) → e ≡ NoMemory → IsInspectionRefused D old new e
   memory_refused old new e sized is =

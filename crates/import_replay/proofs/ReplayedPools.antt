@@ -22,7 +22,7 @@ use Rattle.base.specs.history.Sequences.{in_turn}
 use Rattle.base.specs.steps.Exact.{IsBounded}
 use Rattle.base.proofs.common.Sequences.{in_turn-append, parted}
 use Rattle.extents.specs.Synced.{patched_contents}
-use Rattle.extents.specs.Tables.{patches_of}
+use Rattle.extents.specs.Tables.{name_of, patches_of}
 use Rattle.group_plans.specs.Operations.{AreSized, TakesPlace}
 use Rattle.group_plans.proofs.GroupChanges.{allowed_ops_take_place}
 use Rattle.group_plans.proofs.GroupCounts.{all_pending, estimates_add}
@@ -114,7 +114,7 @@ module _ (size : ℕ) (u : Uberblock) (name : List ℕ) (tree : Tree) (slots : L
   synced = contents_of pool.synced
 
   abbrev pub after : Contents
-  after = patched_contents (patches_of pool.replayed.extents) synced
+  after = patched_contents (patches_of pool.replayed.extents) (name_of pool.replayed.extents) synced
 
   abbrev pub records : List Record
   records = pool.replayed.records.items

@@ -34,13 +34,12 @@ stopped_import size old mid before new u name slots tree chain pool next moment 
       chain = chain;
       blocks = next.blocks.items;
       parts = parts_of next;
-      are = subst (λ (n : ℕ). ArePartsFor n name (parts_of next)) (sym read.long) parts;
+      are = subst (λ (n : ℕ). ArePartsFor n (parts_of next)) (sym read.long) parts;
       made = subst (λ (n : ℕ). AreMadeOver (bytes_of old.now) u chain n next.blocks.items (parts_of next)) (sym read.long) (prepared_over size u name tree slots chain pool next is (bytes_of old.now) read);
       mounts = prepared_mounts size u name tree slots chain pool next is (bytes_of old.now) read;
-      stopped = subst (λ (n : ℕ). IsStoppedSync (writes n name) even_first e (certain (bytes_of old.now) old) new) (sym read.long)
-          (subst (λ (d : Disk). IsStoppedSync (writes size name) even_first e d new) (same ∙ flushed)
-          (subst (λ (l : List ℕ). IsStoppedSync (writes size l) even_first e before new) parts.name_is stopped));
+      stopped = subst (λ (n : ℕ). IsStoppedSync (writes n) even_first e (certain (bytes_of old.now) old) new) (sym read.long)
+          (subst (λ (d : Disk). IsStoppedSync (writes size) even_first e d new) (same ∙ flushed) stopped);
     })
   where
-    writes : ℕ → List ℕ → ImportWrites
-    writes n l = next_writes n u l next.tree.root moment next.log_address next.blocks.items
+    writes : ℕ → ImportWrites
+    writes n = next_writes n u next.contents.name next.tree.root moment next.log_address next.blocks.items

@@ -41,13 +41,10 @@ written_same size u next dirty_max moment m from = λ i. record {
 
 module _ (size : ℕ) (old mid new : Disk) (u : Uberblock) (name : List ℕ) (chain : List LogPiece) (next : NextPool) (dirty_max moment : ℕ) (even_first : Bool)
     (flushed : Flushes old (Ok tt) mid) (long : length (bytes_of old.now) ≡ size) (same_long : length (bytes_of new.now) ≡ size)
-    (is_active : IsActive (bytes_of old.now) u) (first : HasFirstStage (bytes_of old.now) u.guid u.group name even_first) (chain_is : IsChainOf (bytes_of old.now) u chain) (parts : ArePartsFor size name (parts_of next))
+    (is_active : IsActive (bytes_of old.now) u) (first : HasFirstStage (bytes_of old.now) u.guid u.group name even_first) (chain_is : IsChainOf (bytes_of old.now) u chain)
     (over : AreMadeOver (bytes_of old.now) u chain size next.blocks.items (parts_of next))
     (m : Mounted) (from : IsMountedFrom size u (parts_of next) dirty_max m)
     (done : IsGroupSynced (writes_of_next size u moment next) even_first mid new) where
-  name_is : m.contents.name ≡ name
-  name_is = ap (λ (p : PoolParts). p.contents.name) from.parts ∙ parts.name_is
-
   mine : IsGroupSynced (writes_of_import moment next.blocks.items m) even_first mid new
   mine = subst (λ (w : ImportWrites). IsGroupSynced w even_first mid new) (written_same size u next dirty_max moment m from) done
 
@@ -59,7 +56,8 @@ module _ (size : ℕ) (old mid new : Disk) (u : Uberblock) (name : List ℕ) (ch
     group = from.group;
     import_number = from.import_number;
     even_first = even_first;
-    first = subst (λ (n : List ℕ). HasFirstStage (bytes_of old.now) u.guid u.group n even_first) (sym name_is) first;
+    name = name;
+    first = first;
     chain = chain;
     chain_is = chain_is;
     blocks = next.blocks.items;
@@ -82,12 +80,12 @@ module _ (size : ℕ) (old mid new : Disk) (u : Uberblock) (name : List ℕ) (ch
 -- the same of an answer
 pub ok_written : (old before mid new : Disk) (size : ℕ) (u : Uberblock) (name : List ℕ) (chain : List LogPiece) (next : NextPool) (dirty_max moment : ℕ) (even_first : Bool) (r : Result Mounted PoolError)
     → before ≡ mid → Flushes old (Ok tt) mid → length (bytes_of old.now) ≡ size → length (bytes_of new.now) ≡ size
-    → IsActive (bytes_of old.now) u → HasFirstStage (bytes_of old.now) u.guid u.group name even_first → IsChainOf (bytes_of old.now) u chain → ArePartsFor size name (parts_of next)
+    → IsActive (bytes_of old.now) u → HasFirstStage (bytes_of old.now) u.guid u.group name even_first → IsChainOf (bytes_of old.now) u chain
     → AreMadeOver (bytes_of old.now) u chain size next.blocks.items (parts_of next)
     → IfOk r (IsMountedFrom size u (parts_of next) dirty_max)
     → OnOk r (IsGroupSynced (writes_of_next size u moment next) even_first before new)
     → IfOk r (IsImportWritten old new moment)
-ok_written old before mid new size u name chain next dirty_max moment even_first (Err e) same flushed long same_long active first chain_is parts over from done = tt
-ok_written old before mid new size u name chain next dirty_max moment even_first (Ok m) same flushed long same_long active first chain_is parts over from done =
-    import_written size old mid new u name chain next dirty_max moment even_first flushed long same_long active first chain_is parts over m from
+ok_written old before mid new size u name chain next dirty_max moment even_first (Err e) same flushed long same_long active first chain_is over from done = tt
+ok_written old before mid new size u name chain next dirty_max moment even_first (Ok m) same flushed long same_long active first chain_is over from done =
+    import_written size old mid new u name chain next dirty_max moment even_first flushed long same_long active first chain_is over m from
     (subst (λ (d : Disk). IsGroupSynced (writes_of_next size u moment next) even_first d new) same done)

@@ -16,7 +16,6 @@ use Rattle.base.specs.crash.CrashRule.{IsOwnOnceFlushed}
 use Rattle.base.specs.crash.LogRoom.{records_estimate}
 use Rattle.base.specs.disk.Disk.{Disk}
 use Rattle.base.specs.history.Contents.{Contents}
-use Rattle.log_replay.specs.Replays.{IsNameKept}
 
 -- an import of a device of so many bytes with this limit may begin
 abbrev pub CanImport : ℕ → ℕ → Type 0
@@ -103,10 +102,6 @@ pub record LacksImportRoom (image : List ℕ) : Type 0 where
   pub all : (address : ℕ) → IsBlockAddress (block_count (length image)) address → (IsUsed image u.root chain address → ⊥) → set.contains spare address ≡ true
   pub few : set.len spare ≤ records_estimate (records_above u.group chain)
 
--- no record of the active pool's chain that an import applies names the pool
-abbrev pub IsNameKeptIn : List ℕ → Type 0
-IsNameKeptIn image = (u : Uberblock) (chain : List LogPiece) → IsActive image u → IsChainOf image u chain → IsNameKept u.group chain
-
 -- the tree of the image's pool has this first damage, or a log block of its chain, at this address, is refused
 abbrev pub IsDamagedWith : (ℕ → Type 0) → List ℕ → ℕ → ℕ → Type 0
 IsDamagedWith IsBlockRefused image kind address = IsTreeDamaged image kind address ⊎ ((kind ≡ 6) × IsBlockRefused address)
@@ -114,19 +109,11 @@ IsDamagedWith IsBlockRefused image kind address = IsTreeDamaged image kind addre
 -- What a refusal says of the image, in the order in which they come: that there is no pool, that this is the first
 -- damage of the active tree or a log block of its chain that is refused, that the numbers would pass the last one, or
 -- that there is no room.
-pub record IsReasonWith (IsBlockRefused : ℕ → Type 0) (image : List ℕ) (e : PoolError) : Type 0 where
+pub record IsReason (image : List ℕ) (e : PoolError) : Type 0 where
   pub no_pool : e ≡ NoPool → HasNoPool image
-  pub damaged : (kind address : ℕ) → e ≡ Damaged kind address → IsDamagedWith IsBlockRefused image kind address
+  pub damaged : (kind address : ℕ) → e ≡ Damaged kind address → IsDamagedWith (IsChainDamaged image) image kind address
   pub too_many : e ≡ TooMany → HasLastNumbers image
   pub no_space : e ≡ NoSpace → LacksImportRoom image
-
--- of an inspection: a record of a log block can't take place after those before it
-abbrev pub IsInspectionReason : List ℕ → PoolError → Type 0
-IsInspectionReason image e = IsReasonWith (λ address. IsChainDamaged image address) image e
-
--- of an import: the same, where no record names the pool; a record that does is refused too
-abbrev pub IsReason : List ℕ → PoolError → Type 0
-IsReason image e = IsReasonWith (λ address. IsNameKeptIn image → IsChainDamaged image address) image e
 
 -- the refusal says neither that there is no pool, nor that a tree or a chain has a damage, nor that there is no room
 pub record IsOfSoundPool (e : PoolError) : Type 0 where

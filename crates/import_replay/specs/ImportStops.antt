@@ -47,10 +47,10 @@ pub record IsStoppedInLabels (old new : Disk) (moment : ℕ) (e : PoolError) : T
   pub chain : List LogPiece
   pub blocks : List PlannedBlock
   pub parts : PoolParts
-  pub are : ArePartsFor (disk_size old) name parts
+  pub are : ArePartsFor (disk_size old) parts
   pub made : AreMadeOver (bytes_of old.now) u chain (disk_size old) blocks parts
   pub mounts : Mounts (bytes_of old.now) u chain (contents_of parts.contents)
-  pub stopped : IsStoppedSync (next_writes (disk_size old) u name parts.tree.root moment parts.log_address blocks) even_first e (certain (bytes_of old.now) old) new
+  pub stopped : IsStoppedSync (next_writes (disk_size old) u parts.contents.name parts.tree.root moment parts.log_address blocks) even_first e (certain (bytes_of old.now) old) new
 
 -- the device refused a write or a flush of an import: its first flush, which left the disk as it was, or a call of its
 -- sync

@@ -37,8 +37,8 @@ abbrev pub writes_of_import : ℕ → List PlannedBlock → Mounted → ImportWr
 writes_of_import moment blocks m = record { size = m.geometry; config = config_of_import m; u = uberblock_of_import moment m; blocks = blocks }
 
 -- The disk after an import is what its calls make of the disk before, each answered Ok: a flush, and then just those of
--- a sync of these blocks. What was mounted, and is written, is of the active uberblock, with the chosen name, four
--- groups and an import later. The even labels come first exactly if an odd one has the chosen config. The blocks are
+-- a sync of these blocks. What was mounted, and is written, is of the active uberblock, four groups and an import
+-- later. The even labels come first exactly if an odd one has the config that gives the image its name. The blocks are
 -- none of the tree or the chain, and no more than the chain's records above the group are estimated at.
 pub record IsImportSynced (old new : Disk) (moment : ℕ) (m : Mounted) : Type 0 where
   pub u : Uberblock
@@ -47,7 +47,8 @@ pub record IsImportSynced (old new : Disk) (moment : ℕ) (m : Mounted) : Type 0
   pub group : m.group.0 ≡ u.group + 4
   pub import_number : m.import_number ≡ u.import_number + 1
   pub even_first : Bool
-  pub first : HasFirstStage (bytes_of old.now) u.guid u.group m.contents.name even_first
+  pub name : List ℕ
+  pub first : HasFirstStage (bytes_of old.now) u.guid u.group name even_first
   pub chain : List LogPiece
   pub chain_is : IsChainOf (bytes_of old.now) u chain
   pub blocks : List PlannedBlock

@@ -51,15 +51,14 @@ view_of w tree = view_behind w.config w.u tree
 abbrev pub SparesConfig : Stage → FixedLabels → Type 0
 SparesConfig first at = (k label : ℕ) → slice_get (labels_of first) k ≡ Some label → label ≢ at.config
 
--- What is written comes after the view: four groups and an import later, of its pool, with its name. The uberblock has
--- the root of this tree.
+-- What is written comes after the view: four groups and an import later, of its pool, with the name of what was
+-- mounted. The uberblock has the root of this tree.
 pub record ComesBehind (w : ImportWrites) (tree : ViewTree) (v : View) : Type 0 where
   pub guid : w.u.guid ≡ v.u.guid
   pub group : w.u.group ≡ v.u.group + 4
   pub import_number : w.u.import_number ≡ v.u.import_number + 1
   pub root : tree.pointers Root ≡ w.u.root
-  pub name : tree.contents.name ≡ v.name
-  pub config_is : w.config ≡ record { guid = v.u.guid; group = v.u.group + 4; size = w.size; name = v.name }
+  pub config_is : w.config ≡ record { guid = v.u.guid; group = v.u.group + 4; size = w.size; name = tree.contents.name }
 
 -- a block of a tree, at an address that the view has neither in its tree nor in its log
 pub record IsSpareFor (v : View) (b : PlannedBlock) : Type 0 where
@@ -72,17 +71,17 @@ abbrev pub IsTreeMade : (base : List ℕ) (size : ℕ) → List PlannedBlock →
 IsTreeMade base size blocks frame tree =
     (image : List ℕ) → length image ≡ length base → BlocksWritten base size blocks (length blocks) image → HoldsTree image frame tree.pointers tree.contents.objects
 
--- An import may write after the view: the disk is at rest on it, with what these labels have, and all else is as an
--- import leaves it.
-pub record IsReadyBehind (size created : ℕ) (at : FixedLabels) (v : View) (m : Moment) : Type 0 where
+-- An import that mounts this name may write after the view: the disk is at rest on it, with what these labels have, and
+-- all else is as an import leaves it.
+pub record IsReadyBehind (size created : ℕ) (at : FixedLabels) (v : View) (name : List ℕ) (m : Moment) : Type 0 where
   pub rest : IsAtRestAt size created (length v.logged) at v m
   pub bytes : HasFairBytes size created m
-  pub configs : AreConfigsBelowImport size created (handed m) v
+  pub configs : AreConfigsBelowImport size created (handed m) v name
 
 -- This may be written after the view, this stage first: it comes after the view and spares it, and it makes the tree.
 pub record MayBeWritten (w : ImportWrites) (first : Stage) (created : ℕ) (at : FixedLabels) (v : View) (tree : ViewTree) (start : Disk) : Type 0 where
   pub began : created ≤ moments start
-  pub ready : IsReadyBehind w.size created at v start.now
+  pub ready : IsReadyBehind w.size created at v tree.contents.name start.now
   pub behind : ComesBehind w tree v
   pub spares : SparesConfig first at
   pub apart : All (IsSpareFor v) w.blocks
@@ -95,7 +94,7 @@ ForEachView w first start P = (created : ℕ) (at : FixedLabels) (v : View) (tre
 -- each moment from the one disk to the other is one of an import, from the view that it began on to the one that it
 -- writes
 abbrev pub KeepsViews : ImportWrites → Stage → Disk → Disk → Type 0
-KeepsViews w first start now = ForEachView w first start (λ created at v tree. EachMoment (IsImportMoment w.size created v (view_of w tree)) start now)
+KeepsViews w first start now = ForEachView w first start (λ created at v tree. EachMoment (IsImportMoment w.size created v (view_of w tree) tree.contents.name) start now)
 
 -- and at last the disk is at rest on that one
 abbrev pub EndsBehind : ImportWrites → Stage → Disk → Disk → Type 0

@@ -17,10 +17,11 @@ use Rattle.base.specs.formats.Limits.{object_count}
 use Rattle.base.specs.formats.Uberblocks.{Uberblock}
 use Rattle.base.specs.formats.Versions.{written_version}
 use Rattle.base.specs.history.Contents as history
+use Rattle.base.specs.formats.Names.{IsName}
 use Rattle.base.specs.tree.PlacedTrees.{ArePlaced}
 use Rattle.base.specs.tree.Places.{IsPlace, Place}
 use Rattle.extents.specs.Synced.{patched_contents}
-use Rattle.extents.specs.Tables.{patches_of}
+use Rattle.extents.specs.Tables.{name_of, patches_of}
 use Rattle.group_plans.specs.GroupPlans.{FitsIn, IsShortOfBlocks, MakesGroupTree, TakesLowest, objects_with, plan_pointers}
 use Rattle.group_plans.specs.Pointers.{lengths_after}
 use Rattle.log_replay.specs.Replays.{IsReplay}
@@ -59,10 +60,10 @@ tree_of p = record { pointers = pointers_of p.tree; contents = contents_of p.con
 abbrev pub next_frame : Uberblock → ℕ → Frame
 next_frame u size = record { version = written_version; guid = u.guid; blocks = block_count size; group = u.group + 4 }
 
--- On a device of so many bytes the pool has this name, contents within the limits, and a tree of blocks of the area
--- that has their lengths. The first log block lies in the area, and the free blocks are all others.
-pub record ArePartsFor (size : ℕ) (name : List ℕ) (p : PoolParts) : Type 0 where
-  pub name_is : p.contents.name ≡ name
+-- On a device of so many bytes the pool has contents within the limits, and a tree of blocks of the area that has their
+-- lengths. The first log block lies in the area, and the free blocks are all others.
+pub record ArePartsFor (size : ℕ) (p : PoolParts) : Type 0 where
+  pub named : IsName p.contents.name
   pub bounded : (n : ℕ) → IfSome (finite.get (objects_of p.contents.slots.items) n) (IsLimitedObject n)
   pub lengths : HasLengthsOf p.tree (objects_of p.contents.slots.items)
   pub log_block : IsBlockAddress (block_count size) p.log_address
@@ -132,7 +133,7 @@ pub record IsPlannedFrom (size : ℕ) (u : Uberblock) (pool : ReplayedPool) (nex
   pub blocks_are : next.blocks.items ≡ plan.blocks.items
   pub pointers : (place : Place) → IsPlace place → pointers_of next.tree place ≡ plan_pointers pool.tree plan place
   pub lengths : (n : ℕ) → n < object_count → lengths_of next.tree n ≡ lengths_after plan.maps pool.tree n
-  pub contents_are : contents_of next.contents ≡ patched_contents (patches_of pool.replayed.extents) (contents_of pool.synced)
+  pub contents_are : contents_of next.contents ≡ patched_contents (patches_of pool.replayed.extents) (name_of pool.replayed.extents) (contents_of pool.synced)
   pub log_block : ℕ
   pub log_is : next.log_address ≡ block_address log_block
   pub lowest : IsLowestLeft pool.spare plan.blocks.items log_block

@@ -6,7 +6,7 @@ use Rattle.base.specs.disk.Disk.{Disk, bytes_of, certain}
 use Rattle.device_model.specs.declared.device.SectorDevice.{Ghosts}
 use Rattle.import_replay.specs.CreateCalls.{IsStoppedIn, create_calls}
 use Rattle.import_replay.specs.CreateRefusals.{IsCreateRefusal}
-use Rattle.import_replay.specs.ImportRefusals.{FindsOwn, IsImportRefusal, IsInspectionReason, IsInspectionRefusal, IsMountRefusal, IsReadingRefusal, IsReason, IsSyncRefusal}
+use Rattle.import_replay.specs.ImportRefusals.{FindsOwn, IsImportRefusal, IsReason, IsInspectionRefusal, IsMountRefusal, IsReadingRefusal, IsSyncRefusal}
 use Rattle.import_replay.specs.ImportStops.{IsImportStopped}
 use Rattle.import_replay.specs.LabelSyncs.{ImportWrites, IsStoppedSync}
 
@@ -42,6 +42,6 @@ pub record IsImportRefused {Dev : Type 0} (D : Ghosts Dev) (dirty_max moment : �
 -- An inspection was refused: by size the device is as it was.
 pub record IsInspectionRefused {Dev : Type 0} (D : Ghosts Dev) (old new : Dev) (e : PoolError) : Type 0 where
   pub kind : IsInspectionRefusal (D.size old) e
-  pub reason : IsTrue D.keeps_model → IsInspectionReason (bytes_of (D.disk old).now) e
+  pub reason : IsTrue D.keeps_model → IsReason (bytes_of (D.disk old).now) e
   pub found : IsTrue D.keeps_model → FindsOwn (D.disk old) e
   pub untouched : e ≡ BadGeometry → new ≡ old

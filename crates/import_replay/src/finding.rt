@@ -13,7 +13,7 @@ ghost use Rattle.uberblocks.specs.Rings.{array_size, ring_size};
 ghost use Rattle.uberblocks.specs.Slots.{IsWithinLimits, fields_of};
 ghost use Rattle.labels.specs.Choices.{AreRead, IsRead};
 ghost use Rattle.import_replay.specs.Devices.{IsSizedFor};
-ghost use Rattle.import_replay.specs.ImportRefusals.{IsFindRefusal, IsInspectionReason};
+ghost use Rattle.import_replay.specs.ImportRefusals.{IsFindRefusal, IsReason};
 ghost use Rattle.import_replay.specs.Found.{HasChosen, HasChosenFirst, HasFirstStage, HasName, LacksName, LacksUberblock};
 ghost use Rattle.import_replay.specs.LabelSyncs.{is_even};
 
@@ -51,7 +51,7 @@ pub(crate) fn find_pool<D: SectorDevice>(
         (λ f. HasFirstStage (bytes_of (D.disk device.old).now) f.uberblock.guid
         f.uberblock.group.0 f.name (is_even f.first)) }
     ensures reason { IsTrue D.keeps_model
-        → IfErr result (IsInspectionReason (bytes_of (D.disk device.old).now)) }
+        → IfErr result (IsReason (bytes_of (D.disk device.old).now)) }
 {
     let uberblock = read_uberblock(alloc, device, geometry)?;
     let (name, first) = read_name(device, geometry, &uberblock)?;

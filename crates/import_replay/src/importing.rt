@@ -68,7 +68,7 @@ use uberblocks::Uberblock;
 /// - `NoPool`; `Damaged` with the first damage of the tree, or with kind 6 and the address of the block of the first
 ///   log record that can't take place; `TooMany` if u + 5 or i + 1 would pass 2^60; `NoSpace` if the blocks of the
 ///   records and the first log block find no room. `NoMemory` and `Read` when they happen. The device is flushed and
-///   else as it was. A record that names the pool isn't built: it is refused as one that can't take place.
+///   else as it was.
 /// - `Write` and `Flush`, if the device refused such a call. The calls before it are made.
 pub fn import<D: SectorDevice>(
     alloc: Global,

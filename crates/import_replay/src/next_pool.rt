@@ -13,10 +13,10 @@ ghost use Rattle.base.specs.formats.Limits.{object_count};
 ghost use Rattle.base.specs.tree.PlacedTrees.{ArePlaced};
 ghost use Rattle.base.specs.tree.Places.{IsPlace, Place};
 ghost use Rattle.extents.specs.Synced.{patched_contents};
-ghost use Rattle.extents.specs.Tables.{patches_of};
+ghost use Rattle.extents.specs.Tables.{name_of, patches_of};
 ghost use Rattle.group_plans.specs.GroupPlans.{FitsIn, TakesLowest, plan_pointers};
 ghost use Rattle.group_plans.specs.Pointers.{lengths_after};
-ghost use Rattle.log_replay.specs.Replays.{IsChainAllowed, IsNameKept, IsReplayCause, IsReplayRefusal};
+ghost use Rattle.log_replay.specs.Replays.{IsChainAllowed, IsReplayCause, IsReplayRefusal};
 ghost use Rattle.object_maps.specs.ContentsShown.{contents_of};
 ghost use Rattle.object_maps.specs.Lengths.{lengths_of};
 ghost use Rattle.object_maps.specs.Pointers.{pointers_of};
@@ -66,7 +66,7 @@ pub(crate) struct NextPool {
     pub records: u64,
 }
 
-// Replays the records of the chain on the objects of the tree.
+// Replays the records of the chain on the objects of the tree and the chosen name.
 pub(crate) fn replay_pool(
     alloc: Global,
     geometry: Geometry,
@@ -77,8 +77,8 @@ pub(crate) fn replay_pool(
     requires { IsChainAllowed logged.items }
     ensures replayed { IfOk result (IsReplayedPool geometry found.now.uberblock.group.0
         found.now.name loaded.tree loaded.slots.items logged.items) }
-    ensures refused { IsNameKept found.now.uberblock.group.0 logged.items → IfErr result
-        (IsReplayRefusal (records_above found.now.uberblock.group.0 logged.items)
+    ensures refused { IfErr result (IsReplayRefusal
+        (records_above found.now.uberblock.group.0 logged.items)
         (synced_with found.now.name loaded.slots.items)) }
     ensures cause { IfErr result IsReplayCause }
 {
@@ -186,10 +186,11 @@ fn with_plan(mut tree: Tree, planned: TreePlan) -> (Tree, Vec<PlannedBlock>)
     (tree, blocks)
 }
 
-// Lays what the records change into the objects.
+// Lays what the records change into the objects and the name.
 fn lay_records(replayed: &Replayed, synced: &mut Contents) -> Result<(), PoolError>
     ensures laid { OnOk result (contents_of synced.new
-        ≡ patched_contents (patches_of replayed.now.extents) (contents_of synced.old)) }
+        ≡ patched_contents (patches_of replayed.now.extents) (name_of replayed.now.extents)
+        (contents_of synced.old)) }
     ensures refused { IfErr result (λ e. e ≡ PoolError.NoMemory) }
 {
     replayed.extents.reserve_in(synced)?;

@@ -10,7 +10,7 @@ ghost use Rattle.uberblocks.specs.Slots.{fields_of};
 ghost use Rattle.intent_log.specs.Chains.{IsChainRefusal, IsSoundBlock};
 ghost use Rattle.import_replay.specs.Devices.{IsSizedFor};
 ghost use Rattle.import_replay.specs.Found.{HasFirstStage};
-ghost use Rattle.import_replay.specs.ImportRefusals.{IsInspectionReason, IsWalkRefusal};
+ghost use Rattle.import_replay.specs.ImportRefusals.{IsReason, IsWalkRefusal};
 ghost use Rattle.import_replay.specs.LabelSyncs.{is_even};
 ghost use Rattle.import_replay.specs.ReadPools.{IsLoadedFor, IsReadPool, IsSurveyedFor, frame_with};
 
@@ -42,7 +42,7 @@ pub(crate) fn read_pool<D: SectorDevice>(
         (λ r. HasFirstStage (bytes_of (D.disk device.old).now) r.0.uberblock.guid
         r.0.uberblock.group.0 r.0.name (is_even r.0.first)) }
     ensures reason { IsTrue D.keeps_model
-        → IfErr result (IsInspectionReason (bytes_of (D.disk device.old).now)) }
+        → IfErr result (IsReason (bytes_of (D.disk device.old).now)) }
 {
     let found = find_pool(alloc, device, geometry)?;
     let frame = frame_of(&found, geometry);
@@ -65,7 +65,7 @@ pub(crate) fn survey_pool<D: SectorDevice>(
         (bytes_of (D.disk device.old).now) geometry (fields_of r.0.uberblock) r.0.name r.1
         r.2.items) }
     ensures reason { IsTrue D.keeps_model
-        → IfErr result (IsInspectionReason (bytes_of (D.disk device.old).now)) }
+        → IfErr result (IsReason (bytes_of (D.disk device.old).now)) }
 {
     let found = find_pool(alloc, device, geometry)?;
     let frame = frame_of(&found, geometry);

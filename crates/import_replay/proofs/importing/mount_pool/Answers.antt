@@ -51,7 +51,7 @@ returns-clause-mounted g c =
     let is : IsPrepared size u name tree slots chain pool next =
     record { named = c.in_ok-found.found.named; loaded = c.in_ok-found.ensures.loaded; replayed = c.in_ok-replayed.ensures.replayed; planned = c.in_ok-next.ensures.planned } in
     ok_weaker c.open_pool.result _ (IsMountedAnew size c.args.dirty_max)
-    (λ m h. mounted_anew size u name (parts_of next) c.args.dirty_max m h (prepared_parts size u name tree slots chain pool next is) c.requires.can.allowed is.named) c.open_pool.ensures.mounted
+    (λ m h. mounted_anew size u (parts_of next) c.args.dirty_max m h (prepared_parts size u name tree slots chain pool next is) c.requires.can.allowed) c.open_pool.ensures.mounted
 
 pub returns-clause-imported : goal.returns-clause-imported
 returns-clause-imported g c = λ keeps.
@@ -96,7 +96,7 @@ returns-clause-written g c = λ keeps.
     let same_long = g.met.D.SectorDevice.sized keeps c.open_pool.new.device ∙ c.open_pool.ensures.device.size ∙ c.read_pool.ensures.reads.size ∙ c.flush.ensures.size ∙ c.requires.can.size in
     let first = subst (λ (b : List ℕ). HasFirstStage b u.guid u.group name even) (flushed old mid flushes) (c.in_ok-found.ensures.first keeps) in
     ok_written old _ mid _ size u name chain next c.args.dirty_max c.args.moment even c.open_pool.result (c.read_pool.ensures.reads.disk keeps) flushes read.long same_long
-    read.pool.active first read.chain_is (prepared_parts size u name tree slots chain pool next is) (prepared_over size u name tree slots chain pool next is (bytes_of old.now) read)
+    read.pool.active first read.chain_is (prepared_over size u name tree slots chain pool next is (bytes_of old.now) read)
     c.open_pool.ensures.mounted (c.open_pool.ensures.written keeps)
 
 pub returns-in_err-flush-clause-refused : goal.returns-in_err-flush-clause-refused

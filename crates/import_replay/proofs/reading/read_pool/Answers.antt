@@ -2,7 +2,7 @@ use Rattle.std.proofs.Common.{ℕ, List, ap, subst, ◌∙◌}
 use Rattle.base.specs.crash.Mount.{IsChainOf}
 use Rattle.base.specs.disk.Disk.{Disk, bytes_of}
 use Rattle.uberblocks.specs.Slots.{fields_of}
-use Rattle.import_replay.specs.ImportRefusals.{IsInspectionReason}
+use Rattle.import_replay.specs.ImportRefusals.{IsReason}
 use Rattle.object_maps.specs.Pointers.{objects_of}
 use Rattle.import_replay.proofs.ReadPools.{is_read_damaged, is_read_pool}
 use Rattle.import_replay.proofs.Reasons.{passed_on, reason-chain, reason-load}
@@ -13,7 +13,7 @@ returns-in_err-loaded-clause-reason g c = λ keeps.
     let image : List ℕ = bytes_of (g.D.SectorDevice.disk c.args.device.now).now in
     let u = fields_of c.in_ok-found.found.uberblock in
     let x = c.in_err-loaded.field-0.0 in
-    passed_on c.from_residual-in_err-loaded.result x (IsInspectionReason image) c.from_residual-in_err-loaded.ensures.1
+    passed_on c.from_residual-in_err-loaded.result x (IsReason image) c.from_residual-in_err-loaded.ensures.1
     (reason-load image x c.in_err-loaded.ensures.cause (λ kind address is.
     is_read_damaged image (g.D.SectorDevice.disk c.find_pool.new.device) c.args.geometry _ u c.in_ok-found.found.name
     (g.met.D.SectorDevice.sized keeps c.args.device.now ∙ c.requires.sized.size) (ap (λ (d : Disk). bytes_of d.now) (c.find_pool.ensures.reads.disk keeps))
@@ -23,7 +23,7 @@ pub returns-in_err-logged-clause-reason : goal.returns-in_err-logged-clause-reas
 returns-in_err-logged-clause-reason g c = λ keeps.
     let image : List ℕ = bytes_of (g.D.SectorDevice.disk c.args.device.now).now in
     let x = c.in_err-logged.field-0.0 in
-    passed_on c.from_residual-in_err-logged.result x (IsInspectionReason image) c.from_residual-in_err-logged.ensures.1 (reason-chain image x c.in_err-logged.ensures.refused)
+    passed_on c.from_residual-in_err-logged.result x (IsReason image) c.from_residual-in_err-logged.ensures.1 (reason-chain image x c.in_err-logged.ensures.refused)
 
 pub returns-clause-pool : goal.returns-clause-pool
 returns-clause-pool g c = λ keeps.

@@ -2,7 +2,7 @@ use Rattle.std.proofs.Common.{ℕ, List, ap, subst, ◌∙◌}
 use Rattle.base.specs.crash.Mount.{IsChainOf}
 use Rattle.base.specs.disk.Disk.{Disk, bytes_of}
 use Rattle.uberblocks.specs.Slots.{fields_of}
-use Rattle.import_replay.specs.ImportRefusals.{IsInspectionReason}
+use Rattle.import_replay.specs.ImportRefusals.{IsReason}
 use Rattle.import_replay.proofs.ReadPools.{is_read_damaged, is_read_pool, is_surveyed}
 use Rattle.import_replay.proofs.Reasons.{passed_on, reason-chain, reason-load}
 use Rattle.import_replay.proofs.reading.survey_pool.Goals as goal
@@ -12,7 +12,7 @@ returns-in_err-tree-clause-reason g c = λ keeps.
     let image : List ℕ = bytes_of (g.D.SectorDevice.disk c.args.device.now).now in
     let u = fields_of c.in_ok-found.found.uberblock in
     let x = c.in_err-tree.field-0.0 in
-    passed_on c.from_residual-in_err-tree.result x (IsInspectionReason image) c.from_residual-in_err-tree.ensures.1
+    passed_on c.from_residual-in_err-tree.result x (IsReason image) c.from_residual-in_err-tree.ensures.1
     (reason-load image x c.in_err-tree.ensures.cause (λ kind address is.
     is_read_damaged image (g.D.SectorDevice.disk c.find_pool.new.device) c.args.geometry _ u c.in_ok-found.found.name
     (g.met.D.SectorDevice.sized keeps c.args.device.now ∙ c.requires.sized.size) (ap (λ (d : Disk). bytes_of d.now) (c.find_pool.ensures.reads.disk keeps))
@@ -22,7 +22,7 @@ pub returns-in_err-logged-clause-reason : goal.returns-in_err-logged-clause-reas
 returns-in_err-logged-clause-reason g c = λ keeps.
     let image : List ℕ = bytes_of (g.D.SectorDevice.disk c.args.device.now).now in
     let x = c.in_err-logged.field-0.0 in
-    passed_on c.from_residual-in_err-logged.result x (IsInspectionReason image) c.from_residual-in_err-logged.ensures.1 (reason-chain image x c.in_err-logged.ensures.refused)
+    passed_on c.from_residual-in_err-logged.result x (IsReason image) c.from_residual-in_err-logged.ensures.1 (reason-chain image x c.in_err-logged.ensures.refused)
 
 pub returns-clause-surveyed : goal.returns-clause-surveyed
 returns-clause-surveyed g c =
