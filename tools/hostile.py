@@ -179,7 +179,7 @@ class Expected:
         found = outcome(read_pool, image)
         is_read = not isinstance(found, Refusal)
         self.inspected = outcome(mount, found) if is_read else found
-        self.imported = outcome(mount, found, takes_names=False) if is_read else found
+        self.imported = self.inspected
         self.is_whole = not isinstance(self.inspected, Refusal)
 
     def check(self):

@@ -399,15 +399,13 @@ def read_chain(image, active):
     return found
 
 
-def replay_entry(name, objects, entry, takes_names):
+def replay_entry(name, objects, entry):
     """The name and the objects after an entry, or None if one of its operations is refused."""
     for op in entry.ops:
         if op[0] != "n":
             objects = apply(objects, [op])
-        elif takes_names:
-            name = op[3]
         else:
-            return None
+            name = op[3]
         if objects is None:
             return None
     return name, objects
@@ -426,16 +424,13 @@ def read_pool(image):
     return Found(image, active, name, Walk(image, active), read_chain(image, active))
 
 
-def mount(found, takes_names=True):
-    """What a pool that was read mounts. It raises `Damaged` for the first record that can't take place.
-
-    An inspection takes records that name the pool. An import refuses them, as records that can't take place.
-    """
+def mount(found):
+    """What a pool that was read mounts. It raises `Damaged` for the first record that can't take place."""
     active, walk, chain = found.uberblock, found.walk, found.chain
     above = [(node, entry) for node, entries in chain for entry in entries if entry.group > active.group]
     name, objects = found.name, walk.objects
     for node, entry in above:
-        done = replay_entry(name, objects, entry, takes_names)
+        done = replay_entry(name, objects, entry)
         if done is None:
             raise Damaged(LOG, node.address)
         name, objects = done
