@@ -16,9 +16,8 @@ use Rattle.transactions.specs.Open.{Open, admission_of_name}
 use Rattle.transactions.proofs.OpenChanges.{all_stay}
 use Rattle.pool_tables.specs.declared.pool.PoolTables.{PoolTables}
 use Rattle.pool_tables.specs.Meets.{Meets}
-use Rattle.pool_tables.proofs.BeginTests.{built_allowed}
 use Rattle.pool_tables.proofs.HeldGroups.{has_hold, may_hold}
-use Rattle.pool_tables.proofs.Opens.{IsSmall, found_built, found_index, found_name, found_small}
+use Rattle.pool_tables.proofs.Opens.{IsSmall, found_allowed, found_index, found_name, found_small}
 
 pub abort_suspended : (tx : ℕ) (s : Shown) → s.suspended ≡ true → Meets (Abort tx) (Err error.Suspended) s s
 abort_suspended tx s h = λ past. (past, rw h (refl, refl))
@@ -51,7 +50,7 @@ module _ (p : PoolTables) (tx : ℕ) (a : Admission) (found : admission_of_name 
   ts = p.transactions.transactions
 
   pub ended_allowed : is_plan_allowed a.plan ≡ true
-  ended_allowed = built_allowed a.plan (found_built tx ts a found p.accounted.plans_built)
+  ended_allowed = found_allowed tx ts a found p.accounted.plans_allowed
 
   pub ended_small : IsSmall a
   ended_small = found_small tx ts a found p.accounted.plans_small

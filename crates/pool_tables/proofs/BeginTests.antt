@@ -10,10 +10,9 @@ use Rattle.base.specs.declared.operation.Shape.{Shape}
 use Rattle.base.specs.formats.Limits.{max_log_record, max_transactions}
 use Rattle.base.specs.history.Plans.{charge_of, is_plan_allowed, is_shape_allowed, log_record_size}
 use Rattle.base.specs.steps.Locks.{Grant}
-use Rattle.base.specs.steps.Refusals.{Test, blocks_wanted, first_refusal, is_plan_blocked, is_plan_covered}
+use Rattle.base.specs.steps.Refusals.{Test, begin_refusal, begin_tests, blocks_wanted, first_refusal, is_plan_blocked, is_plan_covered}
 use Rattle.base.specs.steps.Shown.{Shown, available, dirty_total}
-use Rattle.base.specs.steps.BuiltSteps.{is_plan_built, is_shape_built, begin_refusal, begin_tests, Begin}
-use Rattle.base.specs.steps.Steps.{State, next_admission, state_after_charged_admission}
+use Rattle.base.specs.steps.Steps.{Begin, State, next_admission, state_after_charged_admission}
 use Rattle.throttle.specs.Blocks.{ShowsSums, blocks_of}
 use Rattle.throttle.specs.DirtyBytes.{DirtyBytes, after_admit}
 use Rattle.throttle.proofs.ShownSums.{admissions_are_shown}
@@ -23,10 +22,6 @@ use Rattle.pool_tables.specs.BeginTests.{plan_tests, range_tests, room_tests}
 use Rattle.pool_tables.specs.Meets.{Meets, Passes}
 use Rattle.pool_tables.specs.Targets.{is_kept_covered}
 use Rattle.pool_tables.proofs.Flags.{from_not_false}
-
--- a plan that is built is allowed
-pub built_allowed : (plan : List Shape) → is_plan_built plan ≡ true → is_plan_allowed plan ≡ true
-built_allowed plan built = (and_parts (is_plan_allowed plan) (list_all is_shape_built plan) built).0
 
 -- tests after others that don't apply, and the first refusal of a list stays where others come after it
 passed_before : (ts us : List Test) → first_refusal ts ≡ None → first_refusal (ts ++ us) ≡ first_refusal us
@@ -68,7 +63,7 @@ all_pass (t ∷ ts) none = go t.applies none (all_pass ts)
 
 -- a plan has passed the tests of a begin
 pub record MayBegin (plan : List Shape) (s : Shown) : Type 0 where
-  pub built : is_plan_built plan ≡ true
+  pub allowed : is_plan_allowed plan ≡ true
   pub small : log_record_size plan ≤ max_log_record
   pub free : is_plan_blocked plan s.transactions ≡ false
   pub few : length s.transactions < max_transactions
@@ -110,7 +105,7 @@ module _ (owner : ℕ) (plan : List Shape) (s : Shown) where
       let passed = (all_pass (begin_tests owner plan s) none).1 in
       let ranges = passed.1.1.1 in
       record {
-        built = from_not_false _ _ refl passed.0;
+        allowed = from_not_false _ _ refl passed.0;
         small = not_above _ _ passed.1.0;
         few = below_most _ _ ranges.1.0;
         free = ranges.0;
@@ -140,7 +135,7 @@ module _ (owner : ℕ) (plan : List Shape) (s : Shown) where
   begin_done d n none shows same = λ past.
       let a = next_admission owner plan s in
       let before : State = record { shown = s; past = past } in
-      let charged = admissions_are_shown before d a (built_allowed plan (may_begin none).built) shows in
+      let charged = admissions_are_shown before d a (may_begin none).allowed shows in
       let all : n ≡ (state_after_charged_admission a before).shown =
       same ∙ (λ k. record s { transactions = s.transactions ++ a ∷ []; next_tx = s.next_tx + 1; dirty = sym charged.dirty k; reserved = sym charged.reserved k }) in
       (record past { admissions = past.admissions ++ a ∷ [] }, rw none (refl, λ k. record { shown = all k; past = record past { admissions = past.admissions ++ a ∷ [] } }))
@@ -152,5 +147,5 @@ all_covered owner grants (x ∷ plan) all =
     let parts = and_parts (is_shape_allowed x) (list_all is_shape_allowed plan) all in
     rw (kept_same x parts.0, all_covered owner grants plan parts.1) refl
 
-pub covered_same : (owner : ℕ) (grants : List Grant) (plan : List Shape) → is_plan_built plan ≡ true → is_kept_covered owner grants plan ≡ is_plan_covered owner plan grants
-covered_same owner grants plan built = all_covered owner grants plan (allowed_shapes plan (built_allowed plan built))
+pub covered_same : (owner : ℕ) (grants : List Grant) (plan : List Shape) → is_plan_allowed plan ≡ true → is_kept_covered owner grants plan ≡ is_plan_covered owner plan grants
+covered_same owner grants plan allowed = all_covered owner grants plan (allowed_shapes plan allowed)

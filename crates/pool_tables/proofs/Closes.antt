@@ -56,7 +56,7 @@ accounts_move_on ts old new dirty kept moves was = record {
   holds_exact = kept.1;
   charged = (sums_stay_on_lines old.line dirty was.charged).moved new.line moves.0 moves.1;
   open_charged = was.open_charged;
-  plans_built = was.plans_built;
+  plans_allowed = was.plans_allowed;
   plans_small = was.plans_small;
 }
 

@@ -1,44 +1,25 @@
 -- A commit that takes place: its operations lead to the contents that are shown then, in whatever order groups commit.
-use Rattle.std.proofs.Common.{◌≡◌, ℕ, ◌+◌, true, false, List, [], ◌∷◌, map, refl, ap, sym, subst, ◌∙◌}
+use Rattle.std.proofs.Common.{◌≡◌, ℕ, ◌+◌, true, List, [], map, refl, ap, sym, subst, ◌∙◌}
 use Rattle.std.specs.Prelude.{Ok}
 use Rattle.std.specs.List.{list_all}
-use Rattle.std.proofs.lemmas.Bool.{and_from}
-use Rattle.std.proofs.lemmas.List.Elements.{All-head, All-tail}
 use Rattle.base.specs.declared.operation.Op.{Op}
-use Rattle.base.specs.declared.operation.Op.TheVariants as op
 use Rattle.base.specs.declared.step.Step.TheVariants as step
 use Rattle.base.specs.formats.Records.{is_content_allowed}
 use Rattle.base.specs.history.Past.{Past}
-use Rattle.base.specs.history.Plans.{shape_of}
 use Rattle.base.specs.steps.ExactNow.{IsExplainedNow}
 use Rattle.base.specs.steps.Runs.{receipt_reply}
 use Rattle.base.specs.steps.Logs.{log_after_commit}
 use Rattle.base.specs.steps.Shown.{Shown}
-use Rattle.base.specs.steps.BuiltSteps.{is_shape_built}
 use Rattle.base.specs.steps.Steps.{Commit, State, state_after_commit, transactions_without}
-use Rattle.base.proofs.history.BuiltNames.{name-apply_all}
 use Rattle.base.proofs.steps.KeptTables.{steps_keep_tables}
-use Rattle.extents.specs.Unsynced.{laid_all}
-use Rattle.object_maps.specs.Ops.{AreOpsAllowed, IsOpAllowed}
+use Rattle.extents.specs.Unsynced.{laid_all, name_over}
 use Rattle.pool_tables.specs.declared.pool.PoolTables.{PoolTables}
 use Rattle.pool_tables.specs.Entries.{shown_after_entry}
 use Rattle.pool_tables.specs.Meets.{MayCommit, MeetsExplained}
-use Rattle.pool_tables.specs.Unsynced.{AreChangesOfUnsynced}
+use Rattle.pool_tables.specs.Unsynced.{AreChangesOfUnsynced, AreNamesOfUnsynced}
 use Rattle.transactions.specs.Records.{record_fields}
-use Rattle.pool_tables.specs.Shows.{pool_shown, shown_objects}
-use Rattle.pool_tables.proofs.ReadContents.{read_as_explained}
-
--- allowed operations are of shapes that are built
-built_op : (o : Op) → IsOpAllowed o → is_shape_built (shape_of o) ≡ true
-built_op (op.Create n) h = refl
-built_op (op.Remove n) h = refl
-built_op (op.Write n offset bytes) h = refl
-built_op (op.SetLength n new) h = refl
-built_op (op.SetName bytes) h = absurd (let no_way : true ≡ false = h.0 in cc)
-
-built_ops : (ops : List Op) → AreOpsAllowed ops → list_all is_shape_built (map shape_of ops) ≡ true
-built_ops [] all = refl
-built_ops (o ∷ ops) all = and_from (is_shape_built (shape_of o)) (list_all is_shape_built (map shape_of ops)) (built_op o (All-head IsOpAllowed o ops all)) (built_ops ops (All-tail IsOpAllowed o ops all))
+use Rattle.pool_tables.specs.Shows.{pool_shown, shown_contents, shown_objects}
+use Rattle.pool_tables.proofs.ReadContents.{named_as_explained, read_as_explained}
 
 -- A commit of operations that no test refuses, as the definitions have it.
 module _ (tx : ℕ) (ops : List Op) (group : ℕ) (s : Shown) (may : MayCommit tx ops group s) (bytes : list_all is_content_allowed ops ≡ true) (past : Past) where
@@ -56,17 +37,19 @@ module _ (tx : ℕ) (ops : List Op) (group : ℕ) (s : Shown) (may : MayCommit t
   after_explained explained = steps_keep_tables ⊥ [] (step.Commit (record { 0 = tx }) ops) (receipt_reply (s.next_ordinal, group)) before after (Ok (s.next_ordinal, group), refl, defined) explained
 
 -- So it is a step of the definitions, where the pool shows its changes laid over the synced contents.
-pub entered : (tx : ℕ) (ops : List Op) (group : ℕ) (s : Shown) → MayCommit tx ops group s → list_all is_content_allowed ops ≡ true → AreOpsAllowed ops → (pool : PoolTables)
-    → pool_shown pool ≡ shown_after_entry tx group ops (shown_objects pool) s → MeetsExplained (Commit tx ops) (Ok (s.next_ordinal, group)) s (pool_shown pool)
-entered tx ops group s may bytes allowed pool is past explained =
+pub entered : (tx : ℕ) (ops : List Op) (group : ℕ) (s : Shown) → MayCommit tx ops group s → list_all is_content_allowed ops ≡ true → (pool : PoolTables)
+    → pool_shown pool ≡ shown_after_entry tx group ops (shown_contents pool) s → MeetsExplained (Commit tx ops) (Ok (s.next_ordinal, group)) s (pool_shown pool)
+entered tx ops group s may bytes pool is past explained =
     let mid : State = after tx ops group s may bytes past in
     let x : IsExplainedNow mid.shown mid.past = after_explained tx ops group s may bytes past explained in
     let log : mid.shown.log.unsynced ≡ map record_fields pool.unsynced.items = sym (ap (λ (u : Shown). u.log.unsynced) is) in
-    let changes : AreChangesOfUnsynced mid.shown.line.synced pool.unsynced.items pool.changes =
-    subst (λ (g : ℕ). AreChangesOfUnsynced g pool.unsynced.items pool.changes) (ap (λ (u : Shown). u.line.synced) is) pool.unsynced_kept.changed in
+    let synced = ap (λ (u : Shown). u.line.synced) is in
+    let changes : AreChangesOfUnsynced mid.shown.line.synced pool.unsynced.items pool.changes = subst (λ (g : ℕ). AreChangesOfUnsynced g pool.unsynced.items pool.changes) synced pool.unsynced_kept.changed in
+    let names : AreNamesOfUnsynced mid.shown.line.synced pool.unsynced.items pool.changes = subst (λ (g : ℕ). AreNamesOfUnsynced g pool.unsynced.items pool.changes) synced pool.unsynced_kept.named in
     let objects : shown_objects pool ≡ may.after.objects = ap (λ (u : Shown). laid_all pool.changes u.synced_contents.objects) is
     ∙ read_as_explained mid.shown mid.past x pool.unsynced.items log pool.changes changes in
-    let name : s.contents.name ≡ may.after.name = sym (name-apply_all ops s.contents may.after (built_ops ops allowed) may.applied) in
+    let name : name_over pool.changes pool.synced.name ≡ may.after.name = ap (λ (u : Shown). name_over pool.changes u.synced_contents.name) is
+    ∙ named_as_explained mid.shown mid.past x pool.unsynced.items log pool.changes changes names in
     let whole : pool_shown pool ≡ mid.shown = is ∙ (λ k. record s {
       transactions = transactions_without tx s.transactions;
       contents = record { name = name k; objects = objects k };

@@ -73,11 +73,11 @@ module _ (written count : ℕ) (records : List code.Record) where
   pub unsynced_logged : (line : Line) (address : ℕ) (log : Log) (synced : Contents) (changes : UnsyncedExtents) → count ≤ length (map record_fields (drop written records)) → KeepsUnsynced line records written log synced changes
       → KeepsUnsynced line records (written + count) (log_after_write taken [] address log) synced changes
   unsynced_logged line address log synced changes within x = record {
-    built = x.built;
     above = x.above;
     open_or_before = x.open_or_before;
     within = x.within;
     changed = x.changed;
+    named = x.named;
     allowed = x.allowed;
     front = let long = length-map (drop written records) record_fields ∙ length-drop written records in let front = x.front in omega (arith, within, long, front);
     noted = noted-logged line.synced address log x.above x.noted;
@@ -159,11 +159,11 @@ committed-flushed log = flat_map-map (λ (b : KeptBlock). b.ends) (λ (b : KeptB
 pub unsynced_flushed : (line : Line) (records : List code.Record) (written : ℕ) (log : Log) (synced : Contents) (changes : UnsyncedExtents) → KeepsUnsynced line records written log synced changes
     → KeepsUnsynced line records written (log_after_flush log) synced changes
 unsynced_flushed line records written log synced changes x = record {
-  built = x.built;
   above = x.above;
   open_or_before = x.open_or_before;
   within = x.within;
   changed = x.changed;
+  named = x.named;
   allowed = x.allowed;
   front = x.front;
   noted = ap (committed_above line.synced) (committed-flushed log) ∙ x.noted;

@@ -16,7 +16,7 @@ use Rattle.base.specs.history.Contents.{Contents, apply, created, removed, chang
 use Rattle.base.specs.history.History.{apply_all}
 use Rattle.base.specs.history.Past.{Past, new_past}
 use Rattle.base.specs.history.Plans.{NumberRange}
-use Rattle.base.specs.steps.Refusals.{Test, first_refusal, abort_tests, append_tests, digest_tests, length_tests, ops_tests, lock_tests, unlock_tests, read_tests, commit_tests, close_tests, quiesce_tests, commit_refusal}
+use Rattle.base.specs.steps.Refusals.{Test, first_refusal, abort_tests, append_tests, begin_tests, digest_tests, length_tests, ops_tests, lock_tests, unlock_tests, read_tests, commit_tests, close_tests, quiesce_tests, commit_refusal}
 use Rattle.base.specs.history.Sequences.{and_then, in_turn}
 use Rattle.base.specs.steps.Shown.{Shown}
 use Rattle.base.specs.steps.BuiltSteps as as_built
@@ -106,8 +106,8 @@ module _ (old new : Shown) where
   pub unlock_own : (owner id : ℕ) (answer : Result (Unit {0}) PoolError) → Meets (steps.Unlock owner id) answer old new → is_own_answer answer ≡ true
   unlock_own owner id answer meets = own_answer (unlock_tests owner id old) _ answer _ _ _ _ refl refl (λ e own. absurd own) (meets (some_past old)).1
 
-  pub begin_own : (owner : ℕ) (plan : List Shape) (answer : Result (ℕ × ℕ) PoolError) → Meets (as_built.Begin owner plan) answer old new → is_own_answer answer ≡ true
-  begin_own owner plan answer meets = own_answer (as_built.begin_tests owner plan old) _ answer _ _ _ _ refl refl (λ e own. wants_memory e own.0) (meets (some_past old)).1
+  pub begin_own : (owner : ℕ) (plan : List Shape) (answer : Result (ℕ × ℕ) PoolError) → Meets (steps.Begin owner plan) answer old new → is_own_answer answer ≡ true
+  begin_own owner plan answer meets = own_answer (begin_tests owner plan old) _ answer _ _ _ _ refl refl (λ e own. wants_memory e own.0) (meets (some_past old)).1
 
   pub abort_own : (tx : ℕ) (answer : Result (Unit {0}) PoolError) → Meets (steps.Abort tx) answer old new → is_own_answer answer ≡ true
   abort_own tx answer meets = own_answer (abort_tests tx old) _ answer _ _ _ _ refl refl (λ e own. absurd own) (meets (some_past old)).1

@@ -7,8 +7,7 @@ use Rattle.std.proofs.lemmas.Bool.Decides.{nat_tests}
 use Rattle.std.proofs.lemmas.List.Folds.{find_at}
 use Rattle.base.specs.steps.Groups.{Admission}
 use Rattle.base.specs.formats.Limits.{last_number, max_log_record}
-use Rattle.base.specs.history.Plans.{log_record_size}
-use Rattle.base.specs.steps.BuiltSteps.{is_plan_built}
+use Rattle.base.specs.history.Plans.{is_plan_allowed, log_record_size}
 
 -- what is found passes the test, and has what all elements have
 found_has : {X : Type 0} (P : X → Type 0) (p : X → Bool) (xs : List X) (x : X) → All P xs → find p xs ≡ Some x → (p x ≡ true) × P x
@@ -19,15 +18,15 @@ found_has {X} P p (y ∷ ys) x all h = go (p y) refl (λ e. found_has P p ys x (
     go true is later e = let same : y ≡ x = cc in (ap p (sym same) ∙ is, subst P same (all 0 y (omega arith)))
     go false is later e = later e
 
-abbrev pub IsBuilt : Admission → Type 0
-IsBuilt a = is_plan_built a.plan ≡ true
+abbrev pub HasAllowedPlan : Admission → Type 0
+HasAllowedPlan a = is_plan_allowed a.plan ≡ true
 
 abbrev pub IsSmall : Admission → Type 0
 IsSmall a = log_record_size a.plan ≤ max_log_record
 
 module _ (tx : ℕ) (ts : List Admission) (a : Admission) (found : find (λ (x : Admission). x.tx == tx) ts ≡ Some a) where
-  pub found_built : All IsBuilt ts → IsBuilt a
-  found_built all = (found_has IsBuilt (λ (x : Admission). x.tx == tx) ts a all found).1
+  pub found_allowed : All HasAllowedPlan ts → HasAllowedPlan a
+  found_allowed all = (found_has HasAllowedPlan (λ (x : Admission). x.tx == tx) ts a all found).1
 
   pub found_small : All IsSmall ts → IsSmall a
   found_small all = (found_has IsSmall (λ (x : Admission). x.tx == tx) ts a all found).1

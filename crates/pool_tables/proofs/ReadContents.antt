@@ -1,8 +1,9 @@
 -- What the changes of the unsynced groups make of the synced contents: for each past that explains a pool, the contents
 -- that are shown.
-use Rattle.std.proofs.Common.{◌≡◌, ℕ, ◌+◌, ◌<◌, ◌≤◌, List, map, sym, subst, arith}
-use Rattle.std.specs.Prelude.{All}
+use Rattle.std.proofs.Common.{◌≡◌, ℕ, ◌+◌, ◌<◌, ◌≤◌, List, map, ap, sym, subst, ◌∙◌, arith}
+use Rattle.std.specs.Prelude.{All, None}
 use Rattle.base.specs.declared.operation.Op.{Op}
+use Rattle.base.specs.history.Contents.{name_given_by_all}
 use Rattle.base.specs.history.History.{Entry}
 use Rattle.base.specs.history.Past.{Past}
 use Rattle.base.specs.steps.ExactNow.{IsExplainedNow}
@@ -12,11 +13,11 @@ use Rattle.base.proofs.common.KeptLists.{All-each}
 use Rattle.base.proofs.history.KeptContents.{bounded-no_others}
 use Rattle.extents.specs.declared.unsynced.UnsyncedExtents.{UnsyncedExtents}
 use Rattle.extents.specs.Patches.{ArePatchesOf}
-use Rattle.extents.specs.Unsynced.{changes_at, laid_all}
-use Rattle.extents.proofs.UnsyncedGroups.{unsynced_are_read}
+use Rattle.extents.specs.Unsynced.{changes_at, laid_all, name_over}
+use Rattle.extents.proofs.UnsyncedGroups.{names_are_read, unsynced_are_read}
 use Rattle.throttle.proofs.SumLaws.{open_within}
 use Rattle.transactions.specs.declared.record.Record.{Record}
-use Rattle.pool_tables.specs.Unsynced.{AreChangesOfUnsynced}
+use Rattle.pool_tables.specs.Unsynced.{AreChangesOfUnsynced, AreNamesOfUnsynced}
 use Rattle.transactions.specs.Records.{record_fields}
 use Rattle.pool_tables.proofs.PendingOps.{unsynced_are}
 
@@ -37,3 +38,8 @@ module _ (s : Shown) (p : Past) (explained : IsExplainedNow s p) (unsynced : Lis
   pub read_as_explained : laid_all changes s.synced_contents.objects ≡ s.contents.objects
   read_as_explained = unsynced_are_read p.entries s.line.synced p.base s.synced_contents s.contents changes explained.history all_within explained.trees.synced.replayed of_entries
       (bounded-no_others s.synced_contents explained.trees.synced.bounded) (bounded-no_others s.contents explained.exact.bounded)
+
+  -- and the name that its newest unsynced group gives that gives one, over the synced one
+  pub named_as_explained : AreNamesOfUnsynced s.line.synced unsynced changes → name_over changes s.synced_contents.name ≡ s.contents.name
+  named_as_explained named = names_are_read p.entries s.line.synced p.base s.synced_contents s.contents changes explained.history all_within explained.trees.synced.replayed
+      (λ place below. named place below ∙ ap (λ (ops : List Op). name_given_by_all ops None) (sym (unsynced_are s p explained unsynced log (s.line.synced + 1 + place) (omega arith))))

@@ -9,20 +9,20 @@ use Rattle.std.specs.FinMap as finite
 use Rattle.std.specs.FinMap.{FinMap}
 use Rattle.std.specs.List.{flat_map}
 use Rattle.std.specs.Ordering.{nat_cmp}
-use Rattle.std.specs.Prelude.{All, IfSome, None, Option, Some, fold, length, option_map}
+use Rattle.std.specs.Prelude.{All, IfSome, None, Option, Some, fold, length, option_map, unwrap_or}
 use Rattle.base.specs.declared.operation.Op.{Op}
 use Rattle.base.specs.formats.Limits.{max_length, object_count}
-use Rattle.base.specs.history.Contents.{Contents, object_after}
+use Rattle.base.specs.history.Contents.{Contents, name_given_by_all, object_after}
 use Rattle.base.specs.steps.Groups.{IsLine, Line}
 use Rattle.base.specs.steps.Logs.{Log, committed_above, committed_in}
 use Rattle.extents.specs.declared.unsynced.UnsyncedExtents.{UnsyncedExtents}
 use Rattle.extents.specs.Patches.{Patches, laid_over, length_over, no_patch, patched}
 use Rattle.extents.specs.Synced.{FitsPatched, HasRoomForPatches, patched_contents}
-use Rattle.extents.specs.Unsynced.{MovesUp, changes_at, laid_all}
+use Rattle.extents.specs.Unsynced.{MovesUp, changes_at, laid_all, name_at, name_over}
 use Rattle.extents.proofs.LaidObjects.{laid_nothing}
 use Rattle.extents.proofs.LaidWithin.{stay_within}
 use Rattle.extents.proofs.PatchedObjects.{patched_nothing}
-use Rattle.extents.proofs.UnsyncedGroups.{oldest_is_laid}
+use Rattle.extents.proofs.UnsyncedGroups.{oldest_is_laid, oldest_name_is_laid}
 use Rattle.object_maps.specs.declared.contents.Contents as declared
 use Rattle.object_maps.specs.declared.contents.Slot.{Slot}
 use Rattle.object_maps.specs.ContentsShown.{contents_of, object_in}
@@ -32,7 +32,7 @@ use Rattle.object_maps.specs.Sources.{AreWithin}
 use Rattle.throttle.proofs.SumLaws.{open_within}
 use Rattle.transactions.specs.declared.record.Record.{Record}
 use Rattle.tree_plans.specs.Marks.{pending_ops}
-use Rattle.pool_tables.specs.Unsynced.{AreChangesOfUnsynced, KeepsUnsynced, unsynced_after}
+use Rattle.pool_tables.specs.Unsynced.{AreChangesOfUnsynced, AreNamesOfUnsynced, KeepsUnsynced, unsynced_after}
 
 -- where the open group is a later one, each pending transaction is still of a group up to it
 stay_open : (before after : ℕ) (pending : List Record) → before ≤ after → All (λ (c : Record). c.group.0 ≤ before) pending → All (λ (c : Record). c.group.0 ≤ after) pending
@@ -42,11 +42,11 @@ stay_open before after pending later = All-weaker (λ (c : Record). c.group.0 �
 pub moved_on : (old new : Line) (unsynced : List Record) (written : ℕ) (log : Log) (synced : declared.Contents) (changes : UnsyncedExtents) → (new.synced ≡ old.synced) × (old.open_group ≤ new.open_group)
     → KeepsUnsynced old unsynced written log synced changes → KeepsUnsynced new unsynced written log synced changes
 moved_on old new unsynced written log synced changes (same, later) x = record {
-  built = x.built;
   above = subst (λ (g : ℕ). All (λ (c : Record). g < c.group.0) unsynced) (sym same) x.above;
   open_or_before = stay_open old.open_group new.open_group unsynced later x.open_or_before;
   within = x.within;
   changed = subst (λ (g : ℕ). AreChangesOfUnsynced g unsynced changes) (sym same) x.changed;
+  named = subst (λ (g : ℕ). AreNamesOfUnsynced g unsynced changes) (sym same) x.named;
   allowed = x.allowed;
   front = x.front;
   noted = ap (λ (g : ℕ). committed_above g (committed_in log)) same ∙ x.noted;
@@ -86,7 +86,7 @@ later_ops group later pending below =
 pub synced_changes : (synced group : ℕ) (pending : List Record) (old new : UnsyncedExtents) → group ≡ synced + 1 → AreChangesOfUnsynced synced pending old
     → All (λ (c : Record). c.group.0 ≤ synced + 3) pending → MovesUp old new → AreChangesOfUnsynced group (unsynced_after group pending) new
 synced_changes synced group pending old new next changed within moves place low n below =
-    ap (λ p. patched p below) (moves place n) ∙ at (cases_lt place 2) ∙ ap after (sym (later_ops group (group + 1 + place) pending (omega arith)))
+    ap (λ p. patched p below) (moves.patches place n) ∙ at (cases_lt place 2) ∙ ap after (sym (later_ops group (group + 1 + place) pending (omega arith)))
   where
     after : List Op → Option (List ℕ)
     after ops = fold (λ object op. object_after n op object) below ops
@@ -100,6 +100,20 @@ synced_changes synced group pending old new next changed within moves place low 
         ap (λ (k : ℕ). patched (changes_at old (k + 1) n) below) is ∙ patched_nothing below
         ∙ sym (ap after (none_pending (group + 1 + place) pending (All-weaker (λ (c : Record). c.group.0 ≤ synced + 3) (λ (c : Record). c.group.0 < group + 1 + place) (λ c up_to. omega (arith, up_to, next, is)) pending within)))
 
+pub synced_names : (synced group : ℕ) (pending : List Record) (old new : UnsyncedExtents) → group ≡ synced + 1 → AreNamesOfUnsynced synced pending old
+    → All (λ (c : Record). c.group.0 ≤ synced + 3) pending → MovesUp old new → AreNamesOfUnsynced group (unsynced_after group pending) new
+synced_names synced group pending old new next named within moves place low =
+    moves.names place ∙ at (cases_lt place 2) ∙ ap (λ (ops : List Op). name_given_by_all ops None) (sym (later_ops group (group + 1 + place) pending (omega arith)))
+  where
+    at : (place < 2) ⊎ (2 ≤ place) → name_at old (place + 1) ≡ name_given_by_all (pending_ops (group + 1 + place) pending) None
+    at (inl moved) =
+        let same : synced + 1 + (place + 1) ≡ group + 1 + place = omega (arith, next) in
+        named (place + 1) (omega (arith, moved)) ∙ ap (λ (g : ℕ). name_given_by_all (pending_ops g pending) None) same
+    at (inr last) =
+        let is : place ≡ 2 = omega (arith, low, last) in
+        ap (λ (k : ℕ). name_at old (k + 1)) is
+        ∙ sym (ap (λ (ops : List Op). name_given_by_all ops None) (none_pending (group + 1 + place) pending (All-weaker (λ (c : Record). c.group.0 ≤ synced + 3) (λ (c : Record). c.group.0 < group + 1 + place) (λ c up_to. omega (arith, up_to, next, is)) pending within)))
+
 -- the syncing group is the one after the synced one
 pub syncing_follows : (l : Line) (group : ℕ) → IsLine l → l.syncing ≡ Some group → group ≡ l.synced + 1
 syncing_follows l group line is = subst (λ (o : Option ℕ). IfSome o (λ g. g ≡ l.synced + 1)) is line.syncing
@@ -107,6 +121,16 @@ syncing_follows l group line is = subst (λ (o : Option ℕ). IfSome o (λ g. g 
 -- at most three groups are unsynced, so each pending transaction is of one with a place
 pub open_three : (l : Line) (pending : List Record) → IsLine l → All (λ (c : Record). c.group.0 ≤ l.open_group) pending → All (λ (c : Record). c.group.0 ≤ l.synced + 3) pending
 open_three l pending line = stay_open l.open_group (l.synced + 3) pending (open_within l line)
+
+-- at first no group gives a name
+pub first_names : (changes : UnsyncedExtents) → ((place : ℕ) → name_at changes place ≡ None) → (synced : ℕ) → AreNamesOfUnsynced synced [] changes
+first_names changes none synced place low = none place
+
+pub first_name : (changes : UnsyncedExtents) → ((place : ℕ) → name_at changes place ≡ None) → (name : List ℕ) → name_over changes name ≡ name
+first_name changes none name =
+    ap (λ (o : Option (List ℕ)). unwrap_or o (unwrap_or (name_at changes 1) (unwrap_or (name_at changes 0) name))) (none 2)
+    ∙ ap (λ (o : Option (List ℕ)). unwrap_or o (unwrap_or (name_at changes 0) name)) (none 1)
+    ∙ ap (λ (o : Option (List ℕ)). unwrap_or o name) (none 0)
 
 -- at first no group has changes, nor pending operations
 module _ (changes : UnsyncedExtents) (none : (place n : ℕ) → changes_at changes place n ≡ no_patch) where
@@ -129,14 +153,16 @@ laid_stay_within changes objects within =
     (stay_within changes.third).1 _ ((stay_within changes.second).1 _ ((stay_within changes.oldest).1 objects within))
 
 -- The oldest group's changes were laid into the synced contents, and the others moved up.
-module _ (old : UnsyncedExtents) (before after : declared.Contents) (laid : contents_of after ≡ patched_contents (changes_at old 0) (contents_of before)) where
+module _ (old : UnsyncedExtents) (before after : declared.Contents) (laid : contents_of after ≡ patched_contents (changes_at old 0) (name_at old 0) (contents_of before)) where
   pub synced_within : AreWithin (contents_of before).objects → AreWithin (contents_of after).objects
   synced_within within = subst (λ (c : Contents). AreWithin c.objects) (sym laid) ((stay_within old.oldest).1 (contents_of before).objects within)
 
   -- the contents that are shown are those of before
-  pub same_contents : (new : UnsyncedExtents) → MovesUp old new → with_name (laid_all new (contents_of after).objects) after.name ≡ with_name (laid_all old (contents_of before).objects) before.name
+  pub same_contents : (new : UnsyncedExtents) → MovesUp old new
+      → with_name (laid_all new (contents_of after).objects) (name_over new after.name) ≡ with_name (laid_all old (contents_of before).objects) (name_over old before.name)
   same_contents new moves =
-      ap (λ (c : Contents). with_name (laid_all new c.objects) c.name) laid ∙ ap (λ (objects : FinMap nat_cmp (List ℕ)). with_name objects before.name) (oldest_is_laid old new (contents_of before).objects moves)
+      ap (λ (c : Contents). with_name (laid_all new c.objects) (name_over new c.name)) laid
+      ∙ (λ i. with_name (oldest_is_laid old new (contents_of before).objects moves i) (oldest_name_is_laid old new before.name moves i))
 
 -- the room that is taken before a sync is there
 pub has_room : (patches : Patches) (slots : List Slot) → ∥ HasRoomForPatches patches slots ∥₁ → HasRoomForPatches patches slots

@@ -4,14 +4,13 @@ use Rattle.std.specs.Prelude.{ℕ, ◌+◌, ◌&&◌, ◌||◌, Bool, List, [], 
 use Rattle.base.specs.declared.error.PoolError.TheVariants as error
 use Rattle.base.specs.declared.operation.Shape.{Shape}
 use Rattle.base.specs.formats.Limits.{last_number, max_log_record, max_transactions}
-use Rattle.base.specs.history.Plans.{charge_of, log_record_size}
+use Rattle.base.specs.history.Plans.{charge_of, is_plan_allowed, log_record_size}
 use Rattle.base.specs.steps.Refusals.{Test, blocks_wanted, first_refusal, refused_if, is_plan_covered, is_plan_blocked}
 use Rattle.base.specs.steps.Shown.{Shown, available, dirty_total}
-use Rattle.base.specs.steps.BuiltSteps.{is_plan_built}
 
 abbrev pub plan_tests : List Shape → List Test
 plan_tests plan =
-    refused_if (not (is_plan_built plan)) error.BadRange
+    refused_if (not (is_plan_allowed plan)) error.BadRange
     ∷ refused_if (nat_lt max_log_record (log_record_size plan)) error.TooLarge ∷ []
 
 abbrev pub range_tests : ℕ → List Shape → Shown → List Test

@@ -1,9 +1,8 @@
 -- What a commit makes of what a pool shows, and what it needs.
 use Rattle.std.specs.Prelude.{ℕ, ◌≡◌, ◌+◌, ◌<◌, ◌≤◌, true, List, map, vec_capacity, vec_len}
-use Rattle.std.specs.FinMap.{FinMap}
-use Rattle.std.specs.Ordering.{nat_cmp}
 use Rattle.base.specs.declared.operation.Op.{Op}
 use Rattle.base.specs.formats.Limits.{max_log_record}
+use Rattle.base.specs.history.Contents.{Contents}
 use Rattle.base.specs.history.Plans.{is_plan_allowed, log_record_size, shape_of}
 use Rattle.base.specs.steps.Groups.{Line}
 use Rattle.base.specs.steps.Logs.{log_after_commit}
@@ -27,11 +26,11 @@ pub record FitsRecord (ops : List Op) : Type 0 where
   pub shapes : is_plan_allowed (map shape_of ops) ≡ true
   pub size : log_record_size (map shape_of ops) ≤ max_log_record
 
--- what is shown once a transaction of a group has committed and left these objects
-abbrev pub shown_after_entry : ℕ → ℕ → List Op → FinMap nat_cmp (List ℕ) → Shown → Shown
-shown_after_entry tx group ops objects s = record s {
+-- what is shown once a transaction of a group has committed and left these contents
+abbrev pub shown_after_entry : ℕ → ℕ → List Op → Contents → Shown → Shown
+shown_after_entry tx group ops contents s = record s {
   transactions = transactions_without tx s.transactions;
-  contents = record s.contents { objects = objects };
+  contents = contents;
   next_ordinal = s.next_ordinal + 1;
   log = log_after_commit (record { group = group; ordinal = s.next_ordinal; ops = ops }) s.log;
 }

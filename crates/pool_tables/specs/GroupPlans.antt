@@ -7,6 +7,7 @@ use Rattle.base.specs.steps.Logs.{header_for}
 use Rattle.base.specs.steps.Shown.{SyncPlan}
 use Rattle.base.specs.stored.Stored.{frame_at}
 use Rattle.sync.specs.Runs.{call_count}
+use Rattle.extents.specs.Unsynced.{name_at}
 use Rattle.tree_plans.specs.declared.planner.TreePlan.{TreePlan}
 use Rattle.tree_plans.specs.Plans.{address_of}
 use Rattle.group_plans.specs.GroupPlans.{IsRefusedShort, MakesGroupTree}
@@ -35,7 +36,7 @@ pub record BeginsPlan (p : TreePlan) (r : RunningSync) : Type 0 where
 
 -- what is shown of it, with this moment and the log header for its group, and its uberblock
 abbrev pub begun_plan : PoolTables → ℕ → ℕ → TreePlan → SyncPlan
-begun_plan pool group moment p = new_plan moment (header_for group (pool_shown pool).log) (map address_of p.blocks.items) p.freed.items p.root (contents_after_oldest pool) (lengths_after p.maps pool.tree)
+begun_plan pool group moment p = new_plan moment (name_at pool.changes 0) (header_for group (pool_shown pool).log) (map address_of p.blocks.items) p.freed.items p.root (contents_after_oldest pool) (lengths_after p.maps pool.tree)
 
 abbrev pub uberblock_for : PoolTables → ℕ → ℕ → Pointer → Uberblock
 uberblock_for pool group moment root = uberblock_with pool.guid pool.import_number (header_for group (pool_shown pool).log) group moment root

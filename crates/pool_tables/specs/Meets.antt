@@ -13,9 +13,8 @@ use Rattle.base.specs.steps.ExactNow.{IsExplainedNow}
 use Rattle.base.specs.steps.Groups.{Admission}
 use Rattle.base.specs.history.History.{apply_all}
 use Rattle.base.specs.history.Past.{Past}
-use Rattle.base.specs.steps.Refusals.{Test, commit_refusal, first_refusal, refused_if, transaction_of}
+use Rattle.base.specs.steps.Refusals.{Test, begin_tests, commit_refusal, first_refusal, refused_if, transaction_of}
 use Rattle.base.specs.steps.Shown.{Shown}
-use Rattle.base.specs.steps.BuiltSteps.{begin_tests}
 use Rattle.base.specs.steps.Steps.{State}
 
 -- whatever the past of a run, the step leads with this answer from what was shown before to what is shown after, and to

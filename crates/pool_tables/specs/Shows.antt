@@ -11,7 +11,7 @@ use Rattle.base.specs.steps.Logs.{Log}
 use Rattle.base.specs.steps.Shown.{Shown, SyncPlan}
 use Rattle.intent_log.specs.Kept.{KeptLog, header_fields}
 use Rattle.extents.specs.Synced.{patched_contents}
-use Rattle.extents.specs.Unsynced.{changes_at, laid_all}
+use Rattle.extents.specs.Unsynced.{changes_at, laid_all, name_at, name_over}
 use Rattle.object_maps.specs.declared.tree.Tree.{Tree}
 use Rattle.object_maps.specs.ContentsShown.{contents_of}
 use Rattle.object_maps.specs.Lengths.{lengths_of}
@@ -21,7 +21,7 @@ use Rattle.tree_plans.specs.declared.planner.PlannedBlock.{PlannedBlock}
 use Rattle.pool_tables.specs.declared.pool.RunningSync.{RunningSync}
 use Rattle.pool_tables.specs.declared.pool.PoolTables.{PoolTables}
 use Rattle.group_plans.specs.Pointers.{lengths_after}
-use Rattle.sync.specs.Runs.{call_count}
+use Rattle.sync.specs.Runs.{call_count, other_calls}
 use Rattle.throttle.specs.Blocks.{blocks_of}
 
 -- the size of its device, its tree, and the sync that runs
@@ -51,11 +51,11 @@ plan_of tree contents r = record {
   lengths = lengths_after r.maps tree;
 }
 
--- the plan of a sync that starts, with this log header, the addresses that it takes and those that come back, and the
--- contents that it writes
-abbrev pub new_plan : ℕ → Header → List ℕ → List ℕ → Pointer → Contents → (ℕ → Option ℕ) → SyncPlan
-new_plan moment header taken freed root contents lengths = record {
-  steps_left = length taken + 6;
+-- the plan of a sync that starts, of a group that gives this name, if it gives one, with this log header, the addresses
+-- that it takes and those that come back, and the contents that it writes
+abbrev pub new_plan : ℕ → Option (List ℕ) → Header → List ℕ → List ℕ → Pointer → Contents → (ℕ → Option ℕ) → SyncPlan
+new_plan moment given header taken freed root contents lengths = record {
+  steps_left = length taken + other_calls given;
   taken = taken;
   freed = freed;
   moment = moment;
@@ -70,7 +70,7 @@ abbrev pub synced_of : PoolTables → Contents
 synced_of p = contents_of p.synced
 
 abbrev pub contents_after_oldest : PoolTables → Contents
-contents_after_oldest p = patched_contents (changes_at p.changes 0) (synced_of p)
+contents_after_oldest p = patched_contents (changes_at p.changes 0) (name_at p.changes 0) (synced_of p)
 
 -- what is shown of a pool that has these objects
 abbrev pub shown_of : FinMap nat_cmp (List ℕ) → PoolTables → Shown
@@ -85,7 +85,7 @@ shown_of objects p = record {
   line = p.groups.line;
   transactions = p.transactions.transactions;
   next_tx = p.transactions.next;
-  contents = record { name = p.synced.name; objects = objects };
+  contents = record { name = name_over p.changes p.synced.name; objects = objects };
   next_ordinal = p.next_ordinal;
   dirty = p.dirty.sums;
   reserved = blocks_of p.dirty.sums;
@@ -100,6 +100,10 @@ shown_of objects p = record {
 -- the objects that a pool shows are those of its synced tree with the changes of its unsynced groups laid over
 abbrev pub shown_objects : PoolTables → FinMap nat_cmp (List ℕ)
 shown_objects p = laid_all p.changes (synced_of p).objects
+
+-- with the name that its newest unsynced group gives that gives one, else the synced one
+abbrev pub shown_contents : PoolTables → Contents
+shown_contents p = record { name = name_over p.changes p.synced.name; objects = shown_objects p }
 
 abbrev pub pool_shown : PoolTables → Shown
 pool_shown p = shown_of (shown_objects p) p

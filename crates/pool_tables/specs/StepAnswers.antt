@@ -46,7 +46,7 @@ abbrev pub Unlocks : Owner → LockId → Result (Unit {0}) PoolError → Shown 
 Unlocks owner id answer = Meets (steps.Unlock owner.0 id.0) answer
 
 abbrev pub Begins : Owner → List Shape → Result (TxId × Group) PoolError → Shown → Shown → Type 0
-Begins owner plan answer = Meets (as_built.Begin owner.0 plan) (result_map admitted_numbers answer)
+Begins owner plan answer = Meets (steps.Begin owner.0 plan) (result_map admitted_numbers answer)
 
 -- for each past that explains what was shown: in whatever order groups commit, their history tells the contents
 abbrev pub Commits : TxId → List Op → Result Receipt PoolError → Shown → Shown → Type 0

@@ -32,10 +32,14 @@ pub record ShownPool : Type 0 where
   pub pointers : Place → Pointer
   pub running : Option NewTree
 
+-- the config that a sync with label stages writes
+abbrev pub config_of : Option LabelStages → Option (List ℕ)
+config_of stages = option_map (λ (s : LabelStages). s.config) stages
+
 -- the tree of these pointers that a sync makes, its blocks as they are written, its uberblock, its config if it has
 -- label stages, and how many of its calls it has made
 abbrev pub made_by : (Place → Pointer) → SyncRun → NewTree
-made_by pointers run = record { pointers = pointers; blocks = map new_block run.blocks.items; slot = run.uberblock; stages = option_map (λ (stages : LabelStages). stages.config) run.stages; done = run.done }
+made_by pointers run = record { pointers = pointers; blocks = map new_block run.blocks.items; slot = run.uberblock; stages = config_of run.stages; done = run.done }
 
 -- the one that a running sync makes of this tree, and its pointers
 abbrev pub tree_after : RunningSync → Tree → Place → Pointer

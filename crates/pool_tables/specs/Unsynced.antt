@@ -1,13 +1,12 @@
 -- The transactions of the unsynced groups, the changes that their operations make, and how many of them are in the log.
-use Rattle.std.specs.Prelude.{ℕ, ◌≡◌, ◌+◌, ◌<◌, ◌≤◌, Bool, false, All, List, filter, length, map, nat_lt, take}
-use Rattle.std.specs.List.{list_any}
+use Rattle.std.specs.Prelude.{ℕ, ◌≡◌, ◌+◌, ◌<◌, ◌≤◌, Bool, All, None, List, filter, length, map, nat_lt, take}
 use Rattle.base.specs.formats.Records.{IsAllowed}
+use Rattle.base.specs.history.Contents.{name_given_by_all}
 use Rattle.base.specs.steps.Groups.{Line}
 use Rattle.base.specs.steps.Logs.{AreWhole, Log, committed_above, committed_in, committed_of}
-use Rattle.base.specs.tree.Syncs.{is_rename}
 use Rattle.extents.specs.declared.unsynced.UnsyncedExtents.{UnsyncedExtents}
 use Rattle.extents.specs.Patches.{ArePatchesOf}
-use Rattle.extents.specs.Unsynced.{changes_at}
+use Rattle.extents.specs.Unsynced.{changes_at, name_at}
 use Rattle.object_maps.specs.declared.contents.Contents.{Contents}
 use Rattle.object_maps.specs.ContentsShown.{contents_of}
 use Rattle.object_maps.specs.Sources.{AreWithin}
@@ -27,16 +26,20 @@ unsynced_after group records = filter (is_after group) records
 abbrev pub AreChangesOfUnsynced : ℕ → List Record → UnsyncedExtents → Type 0
 AreChangesOfUnsynced synced unsynced changes = (place : ℕ) → place < 3 → ArePatchesOf (pending_ops (synced + 1 + place) unsynced) (changes_at changes place)
 
--- The unsynced transactions are of groups after the synced one and up to the open one, and give no name. The synced
--- objects are within the limits, and the changes of each unsynced group are those of its operations. Each transaction
+-- and gives the name that they give last
+abbrev pub AreNamesOfUnsynced : ℕ → List Record → UnsyncedExtents → Type 0
+AreNamesOfUnsynced synced unsynced changes = (place : ℕ) → place < 3 → name_at changes place ≡ name_given_by_all (pending_ops (synced + 1 + place) unsynced) None
+
+-- The unsynced transactions are of groups after the synced one and up to the open one. The synced objects are within
+-- the limits, and the changes and the name of each unsynced group are those of its operations. Each transaction
 -- has a record of the log. So many of them from the front are written: of the groups after the synced one, the kept
 -- blocks have just these, and each of them has whole records.
 pub record KeepsUnsynced (line : Line) (unsynced : List Record) (written : ℕ) (log : Log) (synced : Contents) (changes : UnsyncedExtents) : Type 0 where
-  pub built : All (λ (r : Record). list_any is_rename r.ops ≡ false) unsynced
   pub above : All (λ (r : Record). line.synced < r.group.0) unsynced
   pub open_or_before : All (λ (r : Record). r.group.0 ≤ line.open_group) unsynced
   pub within : AreWithin (contents_of synced).objects
   pub changed : AreChangesOfUnsynced line.synced unsynced changes
+  pub named : AreNamesOfUnsynced line.synced unsynced changes
   pub allowed : All (λ (r : Record). IsAllowed (record_fields r)) unsynced
   pub front : written ≤ length unsynced
   pub noted : committed_above line.synced (committed_in log) ≡ map committed_of (map record_fields (take written unsynced))

@@ -4,7 +4,6 @@
 mod blocks;
 mod clients;
 mod duty;
-mod plans;
 mod pool;
 
 pub use duty::Duty;

@@ -40,7 +40,7 @@ ghost use Rattle.base.specs.tree.PlacedTrees.{ArePlaced};
 ghost use Rattle.base.specs.steps.Exact.{log_addresses};
 ghost use Rattle.base.specs.steps.Refusals.{is_lock_in_use};
 ghost use Rattle.base.specs.steps.Shown as show;
-ghost use Rattle.extents.specs.Unsynced.{changes_at};
+ghost use Rattle.extents.specs.Unsynced.{changes_at, name_at};
 ghost use Rattle.object_maps.specs.ContentsShown.{contents_of};
 ghost use Rattle.object_maps.specs.Sources.{AreWithin};
 ghost use Rattle.object_maps.specs.Pointers.{pointers_of};
@@ -101,7 +101,6 @@ struct RunningSync {
     // the addresses of the blocks that come back
     freed: Vec<u64>,
     ghost all_directories: { vec_len directories ≡ pointer_count },
-    ghost no_stages: { is_some run.stages ≡ false },
     ghost sized: { IsGeometry run.geometry },
     ghost coded: { length run.uberblock ≡ 1024 },
     ghost freed_placed: { All (λ address. is_block_of (block_count run.geometry) address ≡ true) freed.items },
@@ -122,7 +121,7 @@ pub struct PoolTables {
     dirty: Dirty,
     // the objects of the synced tree
     synced: Contents,
-    // what the unsynced groups made of them
+    // what the unsynced groups made of them and of the name
     changes: UnsyncedExtents,
     next_ordinal: u64,
     // the committed transactions of unsynced groups, in order
@@ -144,7 +143,7 @@ pub struct PoolTables {
     ghost running: { ForSome sync (λ r. IsRunning geometry
         (uberblock_with guid import_number (header_fields r.header) r.group.0 r.moment r.root)
         (pointers_after r.root r.directories.items r.maps tree)
-        (changes_at changes 0) synced.slots.items r.run) } by { Prim.hlevel props },
+        (changes_at changes 0) (name_at changes 0) synced.slots.items r.run) } by { Prim.hlevel props },
     ghost sync_line: { option_map (λ r. r.group.0) sync ≡ groups.line.syncing } by { Prim.hlevel props },
     ghost tree_placed: { ∥ ArePlaced (block_count geometry) (pointers_of tree) ∥₁ },
     ghost unsynced_kept: { KeepsUnsynced groups.line unsynced.items written (log_shown log) synced changes } by { Prim.hlevel props },
@@ -382,14 +381,21 @@ impl PoolTables {
         ensures { TellsDigest result (pool_shown self.now) }
     {
         self.check_running()?;
-        digest(&self.synced.name, &mut self.objects())
+        digest(self.shown_name(), &mut self.objects())
     }
 
     /// The name of the pool. It is never refused.
     pub fn name(&self) -> PoolName
         ensures { result ≡ (pool_shown self.now).contents.name }
     {
-        self.synced.name.copy()
+        self.shown_name().copy()
+    }
+
+    // The name as the last commit left it: that of the newest unsynced group that gives one, else the synced one.
+    fn shown_name(&self) -> &PoolName
+        ensures { result.now ≡ (pool_shown self.now).contents.name }
+    {
+        self.changes.name_over(&self.synced.name)
     }
 
     /// Whether a committed transaction survives a crash. It is never refused.

@@ -1,16 +1,16 @@
 -- What a sync is planned to write: its group's changes over the synced contents are what the entries up to the group
 -- leave.
-use Rattle.std.proofs.Common.{◌≡◌, ℕ, ◌+◌, ◌<◌, true, List, map, sym, subst, ◌∙◌, arith}
-use Rattle.std.specs.Prelude.{Some, None, Ok}
+use Rattle.std.proofs.Common.{◌≡◌, ℕ, ◌+◌, ◌<◌, true, List, map, refl, ap, sym, subst, ◌∙◌, arith}
+use Rattle.std.specs.Prelude.{Option, Some, None, Ok, unwrap_or}
 use Rattle.base.specs.declared.operation.Op.{Op}
-use Rattle.base.specs.history.Contents.{Contents}
+use Rattle.base.specs.history.Contents.{Contents, name_given_by_all}
 use Rattle.base.specs.history.History.{apply_all, entries_in}
 use Rattle.base.specs.history.Past.{Past}
 use Rattle.base.specs.steps.Exact.{IsBounded}
 use Rattle.base.specs.steps.ExactNow.{IsExplainedNow}
 use Rattle.base.specs.steps.Shown.{Shown}
 use Rattle.base.specs.steps.Steps.{IsReplayUpTo}
-use Rattle.base.proofs.history.BuiltNames.{name-up_to}
+use Rattle.base.proofs.history.Names.{name-apply_all}
 use Rattle.base.proofs.history.KeptContents.{bounded-no_others}
 use Rattle.base.proofs.steps.KeptTrees.{explained-allowed, next_bounded}
 use Rattle.base.proofs.steps.WaitingGroups.{group-follows, next-group}
@@ -49,11 +49,13 @@ module _ (s : Shown) (p : Past) (explained : IsExplainedNow s p) (group : ℕ) (
       )
 
   -- its changes give just what it leads to
-  pub changes_lead : (patches : Patches) → ArePatchesOf (pending_ops group unsynced) patches → LeadsTo s p group unsynced (patched_contents patches s.synced_contents)
-  changes_lead patches are =
+  pub changes_lead : (patches : Patches) (given : Option (List ℕ)) → ArePatchesOf (pending_ops group unsynced) patches → given ≡ name_given_by_all (pending_ops group unsynced) None
+      → LeadsTo s p group unsynced (patched_contents patches given s.synced_contents)
+  changes_lead patches given are named =
       let after = group_leads in
       let objects : laid_over patches s.synced_contents.objects ≡ after.0.objects = group_is_read (pending_ops group unsynced) patches s.synced_contents after.0 are after.1.leads
       (bounded-no_others s.synced_contents explained.trees.synced.bounded) (bounded-no_others after.0 after.1.bounded) in
-      let name = name-up_to s p explained s.line.synced s.synced_contents explained.trees.synced.replayed ∙ sym (name-up_to s p explained group after.0 after.1.replayed) in
-      let same : after.0 ≡ patched_contents patches s.synced_contents = λ k. record { name = sym name k; objects = sym objects k } in
+      let name : after.0.name ≡ unwrap_or given s.synced_contents.name = name-apply_all (pending_ops group unsynced) None s.synced_contents.name s.synced_contents after.0 refl after.1.leads
+      ∙ ap (λ (o : Option (List ℕ)). unwrap_or o s.synced_contents.name) (sym named) in
+      let same : after.0 ≡ patched_contents patches given s.synced_contents = λ k. record { name = name k; objects = sym objects k } in
       subst (LeadsTo s p group unsynced) same after.1

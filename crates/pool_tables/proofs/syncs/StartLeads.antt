@@ -1,13 +1,14 @@
 -- The start of a sync, with what is planned of its tree.
 use Rattle.std.proofs.Common.{◌≡◌, ◌<◌, ◌≤◌, ◌+◌, ℕ, true, false, arith, List, length, map, refl, ap, sym, subst, ◌∙◌}
-use Rattle.std.specs.Prelude.{Option, Some, None, is_some, option_map}
+use Rattle.std.specs.Prelude.{Option, Some, None, Ok, is_some, option_map, unwrap_or}
 use Rattle.std.specs.BTreeMap.{BTreeMap}
 use Rattle.std.specs.Global.{Vec}
 use Rattle.std.proofs.lemmas.List.{length-map}
 use Rattle.base.specs.common.Rising.{rising}
 use Rattle.base.specs.declared.names.ObjectId.{ObjectId}
 use Rattle.base.specs.declared.pointer.Pointer.{Pointer}
-use Rattle.base.specs.history.Contents.{Contents}
+use Rattle.base.specs.formats.Geometry.{IsGeometry, block_count}
+use Rattle.base.specs.history.Contents.{Contents, name_given_by_all}
 use Rattle.base.specs.history.Past.{Past}
 use Rattle.base.specs.history.Plans.{estimate_of, shape_of}
 use Rattle.base.specs.steps.ExactNow.{IsExplainedNow}
@@ -15,18 +16,19 @@ use Rattle.base.specs.tree.Places.{Place, has_block}
 use Rattle.base.specs.steps.Shown.{SyncPlan}
 use Rattle.base.specs.steps.Steps.{AreLengthsOf, TakesForEach, ops_of_group}
 use Rattle.base.specs.stored.Stored.{IsHeld, IsPlannedSync, frame_at}
-use Rattle.base.specs.tree.Syncs.{written_places}
-use Rattle.base.proofs.history.BuiltNames.{name-up_to}
+use Rattle.base.specs.stored.LabelConfigs.{WritesName}
+use Rattle.base.specs.tree.Syncs.{other_step_count, written_places}
+use Rattle.base.proofs.formats.Geometry.{IsGeometry-IsSize}
 use Rattle.base.proofs.steps.KeptGroups.{none_there, quiesced_is}
 use Rattle.base.proofs.steps.WaitingGroups.{next-group}
 use Rattle.object_maps.specs.declared.tree.ObjectMap.{ObjectMap}
 use Rattle.object_maps.specs.declared.tree.Tree.{Tree}
 use Rattle.extents.specs.Patches.{ArePatchesOf}
 use Rattle.extents.specs.Synced.{patched_contents}
-use Rattle.extents.specs.Unsynced.{changes_at, laid_all}
+use Rattle.extents.specs.Unsynced.{changes_at, laid_all, name_at, name_over}
 use Rattle.object_maps.specs.Pointers.{pointers_of}
 use Rattle.space.proofs.FreeLists.{length-rising}
-use Rattle.sync.specs.declared.run.LabelStages.{LabelStages}
+use Rattle.sync.specs.Runs.{other_calls}
 use Rattle.tree_plans.specs.declared.planner.PlannedBlock.{PlannedBlock}
 use Rattle.tree_plans.specs.declared.planner.TreePlan.{TreePlan}
 use Rattle.tree_plans.specs.Marks.{pending_ops}
@@ -39,21 +41,29 @@ use Rattle.group_plans.proofs.PlannedBlocks.{addresses_are}
 use Rattle.pool_tables.specs.declared.pool.PoolTables.{PoolTables}
 use Rattle.pool_tables.specs.declared.pool.RunningSync.{RunningSync}
 use Rattle.pool_tables.specs.GroupPlans.{MakesOldestTree, begun_plan}
-use Rattle.pool_tables.specs.Told.{ShownPool, held_with, new_tree_of, pool_told}
+use Rattle.pool_tables.specs.Told.{ShownPool, config_of, held_with, new_tree_of, pool_told}
 use Rattle.pool_tables.specs.Lines.{MayStart}
 use Rattle.pool_tables.specs.Shows.{contents_after_oldest, plan_of, pool_shown, synced_of}
 use Rattle.pool_tables.proofs.Flags.{is_some-map}
 use Rattle.pool_tables.proofs.syncs.SameSyncs.{taken_count}
+use Rattle.pool_tables.proofs.syncs.Starts.{steps-given}
 use Rattle.pool_tables.proofs.syncs.PlannedContents.{LeadsTo, changes_lead, next_above}
 use Rattle.pool_tables.proofs.syncs.PlannedCounts.{enough_blocks, taken_fit, takes_for_each, takes_in_order}
 use Rattle.pool_tables.proofs.syncs.PlannedGroups.{group_takes_place, ops_are, planned_sync}
 
+-- a device of so many blocks has one size
+one_geometry : (m n : ℕ) → IsGeometry m → IsGeometry n → block_count m ≡ block_count n → m ≡ n
+one_geometry m n first second same =
+    let a = IsGeometry-IsSize m first in
+    let b = IsGeometry-IsSize n second in
+    omega (arith, a.least, a.whole, b.least, b.whole, same)
+
 -- a sync that has made no call yet
 pub nothing_made : (tree : Tree) (r : RunningSync) (root : Pointer) (directories : Vec Pointer) (maps : BTreeMap ObjectId ObjectMap) (blocks : Vec PlannedBlock) → r.root ≡ root → r.directories ≡ directories → r.maps ≡ maps
     → r.run.blocks ≡ blocks → r.run.done ≡ 0
-    → new_tree_of tree r ≡ record { pointers = pointers_after root directories.items maps tree; blocks = map new_block blocks.items; slot = r.run.uberblock; stages = None; done = 0 }
+    → new_tree_of tree r ≡ record { pointers = pointers_after root directories.items maps tree; blocks = map new_block blocks.items; slot = r.run.uberblock; stages = config_of r.run.stages; done = 0 }
 nothing_made tree r root directories maps blocks root_is directories_are maps_are blocks_are none =
-    λ k. record { pointers = pointers_after (root_is k) (directories_are k).items (maps_are k) tree; blocks = map new_block (blocks_are k).items; slot = r.run.uberblock; stages = option_map (λ (stages : LabelStages). stages.config) (none_there r.run.stages r.no_stages k); done = none k }
+    λ k. record { pointers = pointers_after (root_is k) (directories_are k).items (maps_are k) tree; blocks = map new_block (blocks_are k).items; slot = r.run.uberblock; stages = config_of r.run.stages; done = none k }
 
 -- the blocks that it writes are those of its plan
 pub blocks_kept : (r : RunningSync) (planned : Vec PlannedBlock) (told : List PlannedBlock) → r.run.blocks ≡ planned → told ≡ r.run.blocks.items → told ≡ planned.items
@@ -71,9 +81,9 @@ taken_anew pool blocks idle = omega (arith, none_counted pool idle, length-map b
 abbrev pub told_with : Contents → PoolTables → List ℕ → ShownPool
 told_with synced pool now = record (pool_told pool now) {
   shown = record (pool_shown pool) {
-    contents = record { name = synced.name; objects = laid_all pool.changes synced.objects };
+    contents = record { name = name_over pool.changes synced.name; objects = laid_all pool.changes synced.objects };
     synced_contents = synced;
-    sync = option_map (plan_of pool.tree (patched_contents (changes_at pool.changes 0) synced)) pool.sync;
+    sync = option_map (plan_of pool.tree (patched_contents (changes_at pool.changes 0) (name_at pool.changes 0) synced)) pool.sync;
   };
 }
 
@@ -99,9 +109,16 @@ module _ (past : Past) (pool : PoolTables) (group : ℕ) (may : MayStart group p
       let same : pool.groups.line.synced + 1 + 0 ≡ group = omega (arith, next) in
       subst (λ (g : ℕ). ArePatchesOf (pending_ops g pool.unsynced.items) (changes_at pool.changes 0)) same (pool.unsynced_kept.changed 0 (omega arith))
 
+  -- and the name is the one that they give last
+  pub oldest_name : name_at pool.changes 0 ≡ name_given_by_all (pending_ops group pool.unsynced.items) None
+  oldest_name =
+      let next : group ≡ pool.groups.line.synced + 1 = next-group (pool_shown pool) past explained group idle middle in
+      let same : pool.groups.line.synced + 1 + 0 ≡ group = omega (arith, next) in
+      subst (λ (g : ℕ). name_at pool.changes 0 ≡ name_given_by_all (pending_ops g pool.unsynced.items) None) same (pool.unsynced_kept.named 0 (omega arith))
+
   -- so its operations lead to what they make of the synced contents
   pub oldest_leads : LeadsTo (pool_shown pool) past group pool.unsynced.items (contents_after_oldest pool)
-  oldest_leads = changes_lead (pool_shown pool) past explained group idle middle pool.unsynced.items refl (changes_at pool.changes 0) oldest_changes
+  oldest_leads = changes_lead (pool_shown pool) past explained group idle middle pool.unsynced.items refl (changes_at pool.changes 0) (name_at pool.changes 0) oldest_changes oldest_name
 
   -- and take place; the history has the same ones
   pub oldest_ops : ops_of_group group past.entries ≡ pending_ops group pool.unsynced.items
@@ -116,6 +133,12 @@ module _ (past : Past) (pool : PoolTables) (group : ℕ) (may : MayStart group p
       let fits = taken_fit (pool_shown pool) past explained group pool.unsynced.items oldest_ops (contents_after_oldest pool) pool.tree.maps.items oldest_takes_place (pointers_of pool.tree)
       (plan_pointers pool.tree p) (map new_block p.blocks.items) makes.planned in
       subst (λ (n : ℕ). n ≤ estimate_of (map shape_of (ops_of_group group past.entries))) (length-map p.blocks.items new_block ∙ sym (length-map p.blocks.items address_of)) fits
+
+  -- it has a step for each block, and its other steps
+  pub group_steps : (moment : ℕ) (p : TreePlan) → (begun_plan pool group moment p).steps_left ≡ length (map address_of p.blocks.items) + other_step_count (ops_of_group group past.entries)
+  group_steps moment p =
+      ap (λ (given : Option (List ℕ)). length (map address_of p.blocks.items) + other_calls given) oldest_name
+      ∙ ap (λ (n : ℕ). length (map address_of p.blocks.items) + n) (steps-given (pending_ops group pool.unsynced.items) ∙ ap other_step_count (sym oldest_ops))
 
   -- its lengths are those after the group
   pub group_lengths : (p : TreePlan) → MakesOldestTree pool group p → AreLengthsOf (contents_after_oldest pool) (lengths_after p.maps pool.tree)
@@ -138,9 +161,15 @@ module _ (now : List ℕ) (past : Past) (pool : PoolTables) (group moment : ℕ)
   takes_place : TakesPlace (pending_ops group pool.unsynced.items) pool.tree.maps.items (synced_of pool) (contents_after_oldest pool)
   takes_place = oldest_takes_place past pool group may x.explained
 
-  -- the contents that it leaves have the name that they had
-  pub group_named : (contents_after_oldest pool).name ≡ x.kept.stored.synced.name
-  group_named = name-up_to (pool_shown pool) past x.explained group (contents_after_oldest pool) to.replayed ∙ sym (name-up_to (pool_shown pool) past x.explained (pool_shown pool).line.synced x.kept.stored.synced x.kept.stored.replayed)
+  -- its stages write the name of the contents that it leaves
+  pub group_named : (stages : Option (List ℕ)) → ((before : List ℕ) → WritesName stages pool.geometry pool.guid group before (unwrap_or (name_at pool.changes 0) before))
+      → WritesName stages (length now) pool.guid group x.kept.stored.synced.name (contents_after_oldest pool).name
+  group_named stages writes =
+      let both : Ok (synced_of pool) ≡ Ok x.kept.stored.synced = sym x.explained.trees.synced.replayed ∙ x.kept.stored.replayed in
+      let same : synced_of pool ≡ x.kept.stored.synced = cc in
+      let long : pool.geometry ≡ length now = one_geometry pool.geometry (length now) pool.sized x.kept.geometry x.kept.stored.blocks in
+      subst (λ (c : Contents). WritesName stages (length now) pool.guid group c.name (contents_after_oldest pool).name) same
+      (subst (λ (n : ℕ). WritesName stages n pool.guid group pool.synced.name (contents_after_oldest pool).name) long (writes pool.synced.name))
 
   pub group_planned : IsPlannedSync (frame_at (pool_shown pool) group) (pointers_of pool.tree) (plan_pointers pool.tree p) (map new_block p.blocks.items) x.kept.stored.synced.objects (contents_after_oldest pool).objects plan
   group_planned =

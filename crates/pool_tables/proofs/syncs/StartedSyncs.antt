@@ -1,6 +1,6 @@
 -- A sync that starts by the plan of its group, or is refused, over a pool that tells what another one told before.
 use Rattle.std.proofs.Common.{◌≡◌, ◌∙◌, ◌⊎◌, ℕ, true, false, List, [], map, ap, sym, subst, refl}
-use Rattle.std.specs.Prelude.{None, Some, Ok, Err}
+use Rattle.std.specs.Prelude.{None, Some, Ok, Err, unwrap_or}
 use Rattle.std.specs.FinSet as set
 use Rattle.base.specs.common.Rising.{rising}
 use Rattle.base.specs.declared.error.PoolError.{PoolError}
@@ -13,7 +13,9 @@ use Rattle.base.specs.history.Past.{Past}
 use Rattle.base.specs.steps.ExactNow.{IsExplainedNow}
 use Rattle.base.specs.steps.Shown.{Shown, SyncPlan, uberblock_of}
 use Rattle.base.specs.steps.Steps.{TakesForEach}
+use Rattle.base.specs.stored.LabelConfigs.{WritesName}
 use Rattle.base.specs.stored.Stored.{NewTree}
+use Rattle.extents.specs.Unsynced.{name_at}
 use Rattle.groups.specs.CountedLines.{CountedLine, after_start}
 use Rattle.object_maps.specs.Pointers.{pointers_of}
 use Rattle.space.specs.FreeSets.{FreeSpace}
@@ -25,13 +27,13 @@ use Rattle.pool_tables.specs.declared.pool.PoolTables.{PoolTables}
 use Rattle.pool_tables.specs.declared.pool.RunningSync.{RunningSync}
 use Rattle.pool_tables.specs.Areas.{after_sync_takes}
 use Rattle.pool_tables.specs.GroupPlans.{BeginsPlan, IsPoolShort, MakesOldestTree, begun_plan}
-use Rattle.pool_tables.specs.Told.{ShownPool, new_tree_of, pool_told, start_reply}
+use Rattle.pool_tables.specs.Told.{ShownPool, config_of, new_tree_of, pool_told, start_reply}
 use Rattle.pool_tables.specs.Lines.{MayNotStart, MayStart}
 use Rattle.pool_tables.specs.Shows.{contents_after_oldest, plan_of, pool_shown, synced_of}
 use Rattle.pool_tables.specs.SyncStarts.{IsSyncStart}
-use Rattle.pool_tables.proofs.syncs.StartLeads.{blocks_kept, group_fits, group_lengths, group_named, group_planned, group_takes, group_takes_each, never_short, nothing_made, oldest_leads}
+use Rattle.pool_tables.proofs.syncs.StartLeads.{blocks_kept, group_fits, group_lengths, group_named, group_planned, group_steps, group_takes, group_takes_each, never_short, nothing_made, oldest_leads}
 use Rattle.pool_tables.proofs.OfNoDevice.{plan_own}
-use Rattle.pool_tables.proofs.syncs.Starts.{StartsAt, lowest_taken, start_done, start_not_ready, start_suspended, start_wants, unsynced_names, wants_only}
+use Rattle.pool_tables.proofs.syncs.Starts.{StartsAt, lowest_taken, start_done, start_not_ready, start_suspended, start_wants, wants_only}
 use Rattle.pool_tables.proofs.StillSteps.{still_pool}
 
 -- a group whose sync may start, by what was told before
@@ -94,12 +96,13 @@ module _ (pool : PoolTables) (g : Group) (moment : ℕ) (planned : TreePlan) whe
     starts_at keeps now past n is x takes =
         start_done keeps now past (pool_shown pool) moment n g.0 plan x takes (ap (λ (f : List ℕ → ShownPool). (f []).shown.suspended) kept ∙ stands) may.0 may.1
         (group_fits past pool g.0 may x planned makes) (oldest_leads past pool g.0 may x).replayed
-        (group_lengths past pool g.0 may x planned makes) (unsynced_names pool.unsynced.items pool.unsynced_kept.built) refl (lowest_taken planned.blocks.items (rising pool.free.free) lowest) refl refl is
+        (group_lengths past pool g.0 may x planned makes) refl (lowest_taken planned.blocks.items (rising pool.free.free) lowest) (group_steps past pool g.0 may x moment planned) refl is
 
     -- its blocks are in the order of the places that it writes; it moves no byte, and its tree is that of the plan
     pub plan_starts_sync : (line : CountedLine) (free : FreeSpace) (r : RunningSync) (told : List PlannedBlock) → line ≡ after_start g.0 pool.groups → free ≡ after_sync_takes (map address_of told) pool.free → told ≡ r.run.blocks.items
-        → BeginsPlan planned r → plan_of pool.tree (contents_after_oldest pool) r ≡ plan → IsUberblock r.run.uberblock (uberblock_of (pool_shown pool) g.0 plan) → IsSyncStart moment (Ok g) old (told_started line free r)
-    plan_starts_sync line free r told line_is free_is told_is begins plan_is slot_is =
+        → BeginsPlan planned r → plan_of pool.tree (contents_after_oldest pool) r ≡ plan → IsUberblock r.run.uberblock (uberblock_of (pool_shown pool) g.0 plan)
+        → ((before : List ℕ) → WritesName (config_of r.run.stages) pool.geometry pool.guid g.0 before (unwrap_or (name_at pool.changes 0) before)) → IsSyncStart moment (Ok g) old (told_started line free r)
+    plan_starts_sync line free r told line_is free_is told_is begins plan_is slot_is writes =
         let blocks = blocks_kept r planned.blocks told begins.blocks told_is in
         let taken : free ≡ after_sync_takes (map address_of planned.blocks.items) pool.free = free_is ∙ ap (λ (l : List PlannedBlock). after_sync_takes (map address_of l) pool.free) blocks in
         let is : (told_started line free r []).shown ≡ shown_started = λ k. record (pool_shown pool) { line = (line_is k).line; free = (taken k).free; sync = Some (plan_is k) } in
@@ -128,13 +131,13 @@ module _ (pool : PoolTables) (g : Group) (moment : ℕ) (planned : TreePlan) whe
             tree = plan_pointers pool.tree planned;
             bs = map new_block planned.blocks.items;
             slot = r.run.uberblock;
-            stages = None;
+            stages = config_of r.run.stages;
             plan = plan;
             running = running;
             plan_is = shows;
             slot_is = slot_is;
             planned = λ x. group_planned now past pool g.0 moment planned may makes x;
-            named = λ x. group_named now past pool g.0 moment planned may makes x;
+            named = λ x. group_named now past pool g.0 moment planned may makes x (config_of r.run.stages) writes;
           };
           own = λ calls. refl;
         })

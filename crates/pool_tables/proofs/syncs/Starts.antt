@@ -1,73 +1,57 @@
 -- A sync that starts, step by step.
-use Rattle.std.proofs.Common.{ℕ, ◌≡◌, ◌+◌, ◌<◌, ◌≤◌, Bool, true, false, ◌||◌, cond, List, [], ◌∷◌, map, length, nat_lt, refl, ap, sym, subst, ◌∙◌, ◌⊎◌, inl, inr, arith, take, All}
-use Rattle.std.specs.Prelude.{Option, Some, None, Result, Ok, Err, filter, ◌==◌, is_some, IfSome, unwrap_or, if◌then◌else◌}
-use Rattle.std.specs.List.{list_any, enumerate_from, flat_map}
+use Rattle.std.proofs.Common.{ℕ, ◌≡◌, ◌+◌, ◌≤◌, Bool, true, false, List, [], ◌∷◌, map, length, refl, ap, sym, ◌∙◌, ◌⊎◌, inl, inr, take}
+use Rattle.std.specs.Prelude.{Option, Some, None, Result, Ok, Err, is_some, if◌then◌else◌}
+use Rattle.std.specs.List.{list_any}
 use Rattle.std.specs.FinSet as set
-use Rattle.std.proofs.lemmas.Bool.{eqb-true, false≢true, lt-ltb, true≢false}
+use Rattle.std.proofs.lemmas.Bool.{false≢true}
 use Rattle.std.proofs.lemmas.List.{length-map}
-use Rattle.std.proofs.lemmas.List.Elements.{All-cons, All-head, All-tail}
-use Rattle.std.proofs.lemmas.List.Folds.{list_any-append}
 use Rattle.base.specs.declared.error.PoolError.{PoolError}
 use Rattle.base.specs.declared.error.PoolError.TheVariants as error
 use Rattle.base.specs.steps.ExactNow.{IsExplainedNow}
-use Rattle.base.specs.steps.Groups.{Line, Middle, IsLine, before_middle}
-use Rattle.base.specs.history.History.{Entry, entries_in}
 use Rattle.base.specs.history.Plans.{estimate_of, shape_of}
-use Rattle.base.specs.steps.Logs.{header_for, record_of_entry}
+use Rattle.base.specs.steps.Logs.{header_for}
 use Rattle.base.specs.history.Past.{Past}
-use Rattle.base.specs.formats.Records.{Record}
 use Rattle.base.specs.steps.Refusals.{quiesced_group, start_refusal}
 use Rattle.base.specs.steps.Shown.{Shown, SyncPlan}
 use Rattle.base.specs.steps.BuiltSteps.{StartSync}
 use Rattle.base.specs.steps.Steps.{AreLengthsOf, IsPlanned, IsReplayUpTo, TakesForEach, lowest_free, ops_of_group, State}
 use Rattle.base.specs.tree.Syncs.{is_rename, other_step_count}
-use Rattle.base.proofs.steps.KeptGroups.{quiesced_is}
-use Rattle.transactions.specs.declared.record.Record as code
+use Rattle.base.specs.declared.operation.Op.{Op}
+use Rattle.base.specs.declared.operation.Op.TheVariants.{Create, Remove, Write, SetLength, SetName}
+use Rattle.base.specs.history.Contents.{name_given_by_all}
+use Rattle.base.proofs.history.Names.{name-unnamed}
+use Rattle.sync.specs.Runs.{other_calls}
 use Rattle.tree_plans.specs.declared.planner.PlannedBlock.{PlannedBlock}
 use Rattle.tree_plans.specs.Plans.{address_of}
 use Rattle.pool_tables.specs.Lines.{MayNotStart}
-use Rattle.transactions.specs.Records.{record_fields}
 
--- no operation of a record gives a new name
-abbrev pub HasNoName : Record → Type 0
-HasNoName r = list_any is_rename r.ops ≡ false
-
-module _ (synced group : ℕ) (below : synced < group) where
-  abbrev is_above : Record → Bool
-  is_above r = nat_lt synced r.group
-
-  tail_of : (b : Bool) (r : Record) (rs : List Record) → All HasNoName (cond b (r ∷ rs) rs) → All HasNoName rs
-  tail_of true r rs h = All-tail HasNoName r rs h
-  tail_of false r rs h = h
-
-  head_of : (b : Bool) (r : Record) (rs : List Record) → b ≡ true → All HasNoName (cond b (r ∷ rs) rs) → HasNoName r
-  head_of true r rs is h = All-head HasNoName r rs h
-  head_of false r rs is h = absurd (false≢true is)
-
-  -- where the records of unsynced entries give no new name, no operation of a group above the synced one does
-  no_names : (n : ℕ) (entries : List Entry) → All HasNoName (filter is_above (map record_of_entry (enumerate_from n entries))) → list_any is_rename (ops_of_group group entries) ≡ false
-  no_names n [] h = refl
-  no_names n (e ∷ es) h =
-      let r = record_of_entry (n, e) in
-      let others = filter is_above (map record_of_entry (enumerate_from (n + 1) es)) in
-      by (e.group == group) refl (no_names (n + 1) es (tail_of (is_above r) r others h))
-      (λ here. head_of (is_above r) r others (ap (λ g. nat_lt synced g) (eqb-true e.group group here) ∙ lt-ltb synced group below) h)
-    where
-      by : (b : Bool) → (e.group == group) ≡ b → list_any is_rename (ops_of_group group es) ≡ false → ((e.group == group) ≡ true → list_any is_rename e.ops ≡ false)
-          → list_any is_rename (flat_map (λ (x : Entry). x.ops) (cond b (e ∷ entries_in group es) (entries_in group es))) ≡ false
-      by true is rest own = list_any-append is_rename e.ops (flat_map (λ (x : Entry). x.ops) (entries_in group es)) ∙ ap (λ b. b || list_any is_rename (ops_of_group group es)) (own is) ∙ rest
-      by false is rest own = rest
-
--- a quiesced group is above the synced one
-quiesced_above : (l : Line) (group : ℕ) → IsLine l → is_some l.syncing ≡ false → quiesced_group l ≡ Some group → l.synced < group
-quiesced_above l group x none is =
-    let middle = subst (λ o. IfSome o (λ (m : Middle). m.group ≡ before_middle l + 1)) (quiesced_is l group is) x.middle in
-    let before : unwrap_or l.syncing l.synced ≡ l.synced = no_sync l.syncing none in
-    omega (arith, middle, before)
+-- a group has label stages exactly if its operations give a name
+given-some : (ops : List Op) (given : Option (List ℕ)) → list_any is_rename ops ≡ true → is_some (name_given_by_all ops given) ≡ true
+given-some [] given some = absurd (false≢true some)
+given-some (Create n ∷ ops) given some = given-some ops given some
+given-some (Remove n ∷ ops) given some = given-some ops given some
+given-some (Write n offset bytes ∷ ops) given some = given-some ops given some
+given-some (SetLength n size ∷ ops) given some = given-some ops given some
+given-some (SetName bytes ∷ ops) given some = stays ops bytes
   where
-    no_sync : (o : Option ℕ) → is_some o ≡ false → unwrap_or o l.synced ≡ l.synced
-    no_sync None e = refl
-    no_sync (Some g) e = absurd (true≢false e)
+    stays : (ops : List Op) (name : List ℕ) → is_some (name_given_by_all ops (Some name)) ≡ true
+    stays [] name = refl
+    stays (Create n ∷ ops) name = stays ops name
+    stays (Remove n ∷ ops) name = stays ops name
+    stays (Write n offset bytes ∷ ops) name = stays ops name
+    stays (SetLength n size ∷ ops) name = stays ops name
+    stays (SetName bytes ∷ ops) name = stays ops bytes
+
+calls-given : (given : Option (List ℕ)) → other_calls given ≡ 6 + (if is_some given then 6 else 0)
+calls-given None = refl
+calls-given (Some name) = refl
+
+pub steps-given : (ops : List Op) → other_calls (name_given_by_all ops None) ≡ other_step_count ops
+steps-given ops = calls-given (name_given_by_all ops None) ∙ ap (λ b. 6 + (if b then 6 else 0)) (go (list_any is_rename ops) refl)
+  where
+    go : (b : Bool) → list_any is_rename ops ≡ b → is_some (name_given_by_all ops None) ≡ list_any is_rename ops
+    go true some = given-some ops None some ∙ sym some
+    go false none = ap is_some (name-unnamed ops None none) ∙ sym none
 
 -- a step from one of the states of a past to another
 abbrev pub StartsAt : Type 0 → List ℕ → ℕ → Result ℕ PoolError → Past → Shown → Shown → Type 0
@@ -91,23 +75,12 @@ module _ (keeps : Type 0) (now : List ℕ) (past : Past) (s : Shown) (moment : �
   pub start_done : (n : Shown) (group : ℕ) (plan : SyncPlan) → IsExplainedNow s past → (keeps → TakesForEach now (record { shown = s; past = past }) group plan)
       → s.suspended ≡ false → quiesced_group s.line ≡ Some group → is_some s.line.syncing ≡ false
       → length plan.taken ≤ estimate_of (map shape_of (ops_of_group group past.entries)) → IsReplayUpTo group past plan.contents → AreLengthsOf plan.contents plan.lengths
-      → All HasNoName s.log.unsynced → plan.moment ≡ moment → plan.taken ≡ lowest_free (length plan.taken) s → plan.steps_left ≡ length plan.taken + 6 → plan.header ≡ header_for group s.log
+      → plan.moment ≡ moment → plan.taken ≡ lowest_free (length plan.taken) s → plan.steps_left ≡ length plan.taken + other_step_count (ops_of_group group past.entries) → plan.header ≡ header_for group s.log
       → n ≡ record s { line = record s.line { syncing = Some group; middle = None }; free = set.difference s.free (set.from_list plan.taken); sync = Some plan }
       → StartsAt keeps now moment (Ok group) past s n
-  start_done n group plan explained takes h is none fits replayed lengths built at_moment taken left header same =
-      let above = quiesced_above s.line group explained.exact.groups.line none is in
-      let names = no_names s.line.synced group above 0 past.entries (subst (All HasNoName) explained.exact.log.unsynced built) in
-      let steps : plan.steps_left ≡ length plan.taken + other_step_count (ops_of_group group past.entries) =
-      left ∙ ap (λ b. length plan.taken + (6 + (if b then 6 else 0))) (sym names) in
+  start_done n group plan explained takes h is none fits replayed lengths at_moment taken steps header same =
       let planned : IsPlanned (record { shown = s; past = past }) moment group plan = record { moment_is = at_moment; taken = taken; steps = steps; fits = fits; header = header; contents = replayed; lengths = lengths } in
       rw (starts group h is none) (plan, is, planned, takes, ap (λ (x : Shown). let state : State = record { shown = x; past = past } in state) same)
-
--- the unsynced transactions of a pool give no new name
-pub unsynced_names : (records : List code.Record) → All (λ (c : code.Record). list_any is_rename c.ops ≡ false) records → All HasNoName (map record_fields records)
-unsynced_names [] h = λ k d low. absurd (omega (arith, low))
-unsynced_names (c ∷ cs) h =
-    let Built : code.Record → Type 0 = λ (x : code.Record). list_any is_rename x.ops ≡ false in
-    All-cons HasNoName (record_fields c) (map record_fields cs) (All-head Built c cs h) (unsynced_names cs (All-tail Built c cs h))
 
 -- the addresses of planned blocks are the lowest free ones
 pub lowest_taken : (blocks : List PlannedBlock) (free : List ℕ) → map address_of blocks ≡ take (length blocks) free → map address_of blocks ≡ take (length (map address_of blocks)) free

@@ -1,7 +1,7 @@
 -- What a device call of a running sync makes of the bytes of the device.
-use Rattle.std.proofs.Common.{◌≡◌, ℕ, zero, suc, ◌+◌, ◌-◌, ◌<◌, ◌≤◌, false, List, [], ◌∷◌, length, map, refl, ap, sym, subst, ◌∙◌, ◌⊎◌, arith, inl, inr, vec_len}
+use Rattle.std.proofs.Common.{◌≡◌, ℕ, zero, suc, ◌+◌, ◌-◌, ◌<◌, ◌≤◌, List, [], ◌∷◌, length, map, refl, ap, sym, subst, ◌∙◌, arith, inl, inr, vec_len}
 use Rattle.std.specs.Prelude.{Option, Some, None, Ok, Err, is_some, option_map, slice_get}
-use Rattle.std.proofs.lemmas.Bool.{cases_lt, true≢false}
+use Rattle.std.proofs.lemmas.Bool.{cases_lt}
 use Rattle.std.proofs.lemmas.List.{length-map}
 use Rattle.std.proofs.lemmas.Option.{slice_get-map}
 use Rattle.base.specs.declared.error.PoolError.{PoolError}
@@ -31,7 +31,9 @@ use Rattle.tree_plans.specs.Plans.{new_block}
 use Rattle.object_maps.specs.Pointers.{pointers_of}
 use Rattle.pool_tables.specs.declared.pool.PoolTables.{PoolTables}
 use Rattle.pool_tables.specs.declared.pool.RunningSync.{RunningSync}
-use Rattle.pool_tables.specs.Told.{Leads, SamePlaces, ShownPool, made_by, new_tree_of, pool_told}
+use Rattle.extents.specs.Unsynced.{name_at}
+use Rattle.pool_tables.specs.Running.{stages_for}
+use Rattle.pool_tables.specs.Told.{Leads, SamePlaces, config_of, ShownPool, made_by, new_tree_of, pool_told}
 use Rattle.group_plans.specs.Pointers.{pointers_after}
 use Rattle.pool_tables.specs.Shows.{contents_after_oldest, plan_of, pool_shown}
 use Rattle.pool_tables.proofs.syncs.SameSyncs.{same_taken}
@@ -46,18 +48,15 @@ call_at P n [] k call each at = absurd (let no_way : None ≡ Some call = at in 
 call_at P n (c ∷ calls) zero call each at = let same : c ≡ call = cc in let place : n ≡ n + zero = omega arith in subst (λ (m : ℕ). P m call) place (subst (P n) same each.0)
 call_at P n (c ∷ calls) (suc k) call each at = let place : n + 1 + k ≡ n + suc k = omega arith in subst (λ (m : ℕ). P m call) place (call_at P (n + 1) calls k call each.1 at)
 
--- the config that a sync with label stages writes
-abbrev config_of : Option LabelStages → Option (List ℕ)
-config_of stages = option_map (λ (s : LabelStages). s.config) stages
-
 -- label stages of which the even labels are the first
 abbrev AreEvenFirst : Option LabelStages → Type 0
 AreEvenFirst None = Unit {0}
 AreEvenFirst (Some stages) = stages.first ≡ Even
 
-none_even : (stages : Option LabelStages) → is_some stages ≡ false → AreEvenFirst stages
-none_even None none = tt
-none_even (Some stages) none = absurd (true≢false none)
+-- those of a running sync
+stages_even : (guid group size : ℕ) (given : Option (List ℕ)) → AreEvenFirst (stages_for guid group size given)
+stages_even guid group size None = tt
+stages_even guid group size (Some name) = refl
 
 -- what a call after the blocks is, by its offset: a config of a label stage, the uberblock of a label, or a flush
 abbrev IsBehind : Option LabelStages → ℕ → DeviceCall → Type 0
@@ -242,7 +241,7 @@ module _ (pool : PoolTables) (r : RunningSync) (next : SyncRun) (before after : 
 
   pub advanced : next.done ≡ r.run.done + 1 → IsMade → Advances r.group.0 (bytes_of before.now) (bytes_of after.now) (made_by pointers r.run) (made_by pointers next)
   advanced done makes =
-      call_advances r.run next same pointers (none_even r.run.stages r.no_stages) done before after (sized ∙ sym size) r.group.0 (pool.running r is).uberblock.slot call at makes
+      call_advances r.run next same pointers (subst AreEvenFirst (sym (pool.running r is).stages) (stages_even pool.guid r.group.0 pool.geometry (name_at pool.changes 0))) done before after (sized ∙ sym size) r.group.0 (pool.running r is).uberblock.slot call at makes
 
   pub synced_told : (new : PoolTables) → next.done ≡ r.run.done + 1 → next.done ≡ call_count next → IsMade → new.sync ≡ None → SamePlaces (pointers_of new.tree) pointers
       → Leads (reply.Synced r.group) (pool_told pool (bytes_of before.now)) (pool_told new (bytes_of after.now))

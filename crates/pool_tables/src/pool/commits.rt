@@ -1,30 +1,35 @@
 //! The transactions of a pool: they begin, commit and are given up. A call that is refused leaves the pool unchanged.
 
 ghost use Rattle.std.specs.Prelude.{◌≡◌, ◌<◌, ◌+◌, ◌≤◌, OnOk, nat_lt, option_map, true, vec_capacity, vec_len};
-ghost use Rattle.std.specs.List.{list_all};
+ghost use Rattle.std.specs.List.{list_all, list_any};
 ghost use Rattle.base.specs.formats.Limits.{last_number, max_log_record};
 ghost use Rattle.base.specs.formats.Records.{is_content_allowed};
+ghost use Rattle.base.specs.history.Plans as plans;
 ghost use Rattle.base.specs.history.Plans.{estimate_of, log_record_size};
 ghost use Rattle.base.specs.steps.Groups.{Admission};
+ghost use Rattle.base.specs.steps.Refusals as refusals;
 ghost use Rattle.base.specs.steps.Refusals.{blocks_wanted, transaction_of};
 ghost use Rattle.base.specs.steps.Shown as show;
-ghost use Rattle.base.specs.steps.BuiltSteps.{is_plan_built};
 ghost use Rattle.object_maps.specs.Ops.{AreOpsAllowed};
 ghost use Rattle.transactions.specs.declared.record.Record.{Record};
+ghost use Rattle.pool_tables.specs.BeginTests.{plan_tests};
+ghost use Rattle.pool_tables.specs.Meets.{Passes};
 
-use crate::plans::check_plan;
 use crate::pool::PoolTables;
 use base::{
     Group, KEPT_BACK, LAST_NUMBER, Op, Ops, Ordinal, Owner, Plan, PoolError, Receipt, Shape, TxId,
+    is_name,
 };
 use object_maps::judge;
-use transactions::{Record, charge, estimate, is_in_plan, is_shrinking, range_of};
+use transactions::{
+    Record, charge, estimate, is_in_plan, is_plan_allowed, is_shrinking, is_too_large, range_of,
+};
 
 impl PoolTables {
     ghost use Rattle.pool_tables.specs.Entries.{FitsRecord, HasRoomToEnter, IsUnsynced, shown_after_entry};
     ghost use Rattle.pool_tables.specs.BeginTests.{is_above_limit, range_tests, room_tests};
-    ghost use Rattle.pool_tables.specs.Meets.{ChecksBegin, ChecksCommit, MayCommit, Passes};
-    ghost use Rattle.pool_tables.specs.Shows.{shown_objects, pool_shown};
+    ghost use Rattle.pool_tables.specs.Meets.{ChecksBegin, ChecksCommit, MayCommit};
+    ghost use Rattle.pool_tables.specs.Shows.{pool_shown, shown_contents};
     ghost use Rattle.pool_tables.specs.KeptTrees.{IsOfNoDevice, KeepsTree};
     ghost use Rattle.pool_tables.specs.StepAnswers.{Aborts, Begins, Commits};
     ghost use Rattle.pool_tables.specs.Targets.{is_kept_covered};
@@ -75,7 +80,7 @@ impl PoolTables {
 
     // Each range of a plan lies in a writer lock of the owner, and overlaps none of an open transaction (rule 3).
     fn check_ranges(&self, owner: Owner, plan: &[Shape]) -> Result<(), PoolError>
-        requires { is_plan_built plan.now ≡ true }
+        requires { plans.is_plan_allowed plan.now ≡ true }
         ensures { Passes (range_tests owner.0 plan.now (pool_shown self.now)) result }
     {
         if !self.is_covered(owner, plan) {
@@ -90,7 +95,7 @@ impl PoolTables {
     // One more transaction may be open, its charge passes no limit, and the blocks that it may take are available (rule
     // 5).
     fn check_room(&self, plan: &[Shape]) -> Result<(), PoolError>
-        requires built { is_plan_built plan.now ≡ true }
+        requires allowed { plans.is_plan_allowed plan.now ≡ true }
         requires small { log_record_size plan.now ≤ max_log_record }
         ensures { Passes (room_tests plan.now (pool_shown self.now)) result }
     {
@@ -108,7 +113,7 @@ impl PoolTables {
 
     // Whether fewer blocks are available than a plan may take and, unless it shrinks, 16 more.
     fn is_short_for(&self, plan: &[Shape]) -> bool
-        requires built { is_plan_built plan.now ≡ true }
+        requires allowed { plans.is_plan_allowed plan.now ≡ true }
         requires small { log_record_size plan.now ≤ max_log_record }
         ensures { result ≡ nat_lt (show.available (pool_shown self.now))
             (blocks_wanted (pool_shown self.now).contents plan.now) }
@@ -161,6 +166,9 @@ impl PoolTables {
         if !is_in_plan(ops, transaction.plan.as_slice()) {
             return Err(PoolError::OutOfPlan);
         }
+        if give_bad_name(ops) {
+            return Err(PoolError::BadRange);
+        }
         judge(&self.objects(), ops)?;
         if self.next_ordinal > LAST_NUMBER {
             return Err(PoolError::TooMany);
@@ -178,8 +186,8 @@ impl PoolTables {
     }
 
     /// Commits a transaction whole, in its own group. Refused, in this order, `Suspended`, `NoSuchTransaction`,
-    /// `OutOfPlan`, `NoObject` or `Exists` for the first operation that cannot take place, `TooMany` or `NoMemory`; the
-    /// transaction stays open then.
+    /// `OutOfPlan`, `BadRange` for a name that is none, `NoObject` or `Exists` for the first operation that cannot take
+    /// place, `TooMany` or `NoMemory`; the transaction stays open then.
     pub fn commit(&mut self, tx: TxId, ops: Ops) -> Result<Receipt, PoolError>
         ensures step { Commits tx ops result (pool_shown self.old) (pool_shown self.new) }
         ensures tree { KeepsTree self.old self.new }
@@ -205,7 +213,7 @@ impl PoolTables {
         ensures ordinal { result.0 ≡ self.old.next_ordinal }
         ensures tree { KeepsTree self.old self.new }
         ensures shown { pool_shown self.new
-            ≡ shown_after_entry tx.0 group.0 ops (shown_objects self.new) (pool_shown self.old) }
+            ≡ shown_after_entry tx.0 group.0 ops (shown_contents self.new) (pool_shown self.old) }
     {
         self.changes.apply(place, ops.as_slice());
         self.transactions.end(tx);
@@ -240,4 +248,36 @@ impl PoolTables {
         };
         Ok(())
     }
+}
+
+// Whether one of the operations gives the pool something that is no name.
+fn give_bad_name(ops: &[Op]) -> bool
+    ensures { result ≡ list_any refusals.gives_bad_name ops.now }
+{
+    ops.iter().any(|op| gives_bad_name(op))
+}
+
+fn gives_bad_name(op: &Op) -> bool
+    ensures { result ≡ refusals.gives_bad_name op.now }
+{
+    match op {
+        Op::SetName(name) => !is_name(name.as_slice()),
+        _ => false,
+    }
+}
+
+// A transaction may have this plan. Refused `BadRange` where it has no shape, or one that is outside its limits;
+// `TooLarge` where its log record would have more than 4,008 bytes.
+fn check_plan(plan: &[Shape]) -> Result<(), PoolError>
+    ensures refusal { Passes (plan_tests plan.now) result }
+    ensures allowed { OnOk result (plans.is_plan_allowed plan.now ≡ true) }
+    ensures small { OnOk result (log_record_size plan.now ≤ max_log_record) }
+{
+    if !is_plan_allowed(plan) {
+        return Err(PoolError::BadRange);
+    }
+    if is_too_large(plan) {
+        return Err(PoolError::TooLarge);
+    }
+    Ok(())
 }

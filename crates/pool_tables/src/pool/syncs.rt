@@ -1,18 +1,19 @@
 //! The groups of a pool and their syncs. A group closes, is quiesced, and is written out call by call; after the last
 //! call the pool lays its changes into the synced objects, and what the sync replaced is free.
 
-ghost use Rattle.std.specs.Prelude.{◌≡◌, ◌≤◌, ◌⊎◌, count_by, length, take, IfErr, IfOk, IsTrue, OnErr, OnOk, false, is_some};
+ghost use Rattle.std.specs.Prelude.{◌≡◌, ◌≤◌, ◌⊎◌, ℕ, List, count_by, length, take, IfErr, IfOk, IsTrue, OnErr, OnOk, false, is_some, unwrap_or};
 ghost use Rattle.base.specs.formats.Geometry.{block_count};
+ghost use Rattle.base.specs.stored.LabelConfigs.{WritesName};
 ghost use Rattle.base.specs.tree.PlacedTrees.{ArePlaced};
 ghost use Rattle.extents.specs.Synced.{HasRoomForPatches, patched_contents};
-ghost use Rattle.extents.specs.Unsynced.{MovesUp, changes_at};
+ghost use Rattle.extents.specs.Unsynced.{MovesUp, changes_at, name_at};
 ghost use Rattle.object_maps.specs.ContentsShown.{contents_of};
 ghost use Rattle.object_maps.specs.Pointers.{pointers_of};
 ghost use Rattle.transactions.specs.declared.record.Record.{Record};
 ghost use Rattle.pool_tables.specs.Numbers.{IsGroup};
 ghost use Rattle.pool_tables.specs.Unsynced.{is_after, unsynced_after};
 ghost use Rattle.intent_log.specs.Kept.{header_fields, log_shown};
-ghost use Rattle.pool_tables.specs.Running.{KeepsHeader};
+ghost use Rattle.pool_tables.specs.Running.{KeepsHeader, stages_for};
 ghost use Rattle.pool_tables.specs.RunningUberblocks.{WritesUberblock};
 
 use crate::blocks::{end_charges, give_all, give_log, take_all};
@@ -21,8 +22,9 @@ use base::{Group, PoolError, WRITTEN_VERSION};
 use device_model::SectorDevice;
 use extents::UnsyncedExtents;
 use group_plans::plan_group;
+use labels::{LabelConfig, Stage};
 use object_maps::Contents;
-use sync::{SyncCall, SyncRun};
+use sync::{LabelStages, SyncCall, SyncRun};
 use transactions::Record;
 use tree_plans::{PlanSource, TreePlan};
 use uberblocks::{Uberblock, slot};
@@ -34,7 +36,7 @@ impl PoolTables {
     ghost use Rattle.pool_tables.specs.NextCalls.{MakesNextOf};
     ghost use Rattle.group_plans.specs.GroupPlans.{FitsIn, TakesLowest};
     ghost use Rattle.pool_tables.specs.GroupPlans.{BeginsPlan, IsPoolShort, MakesOldestTree, begun_plan, uberblock_for};
-    ghost use Rattle.pool_tables.specs.Told.{Leads, SamePlaces, sync_step_reply, pool_told, tree_after};
+    ghost use Rattle.pool_tables.specs.Told.{Leads, SamePlaces, config_of, sync_step_reply, pool_told, tree_after};
     ghost use Rattle.pool_tables.specs.SyncPhases.{StepsPhases, run_in};
     ghost use Rattle.pool_tables.specs.Lines.{ChecksStart};
     ghost use Rattle.pool_tables.specs.Shows.{contents_after_oldest, geometry_of, plan_of, pool_shown, shown_after_tree};
@@ -134,7 +136,13 @@ impl PoolTables {
         ensures header { KeepsHeader group.0 (header_fields result.header) (log_shown self.now.log) }
         ensures uberblock { WritesUberblock
             (uberblock_for self.now group.0 moment planned.root) result.run }
+        ensures stages { result.run.stages ≡ stages_for self.now.guid group.0 self.now.geometry
+            (name_at self.now.changes 0) }
+        ensures named { (before : List ℕ) → WritesName (config_of result.run.stages)
+            self.now.geometry self.now.guid group.0 before
+            (unwrap_or (name_at self.now.changes 0) before) }
     {
+        let stages = self.label_stages(group);
         let TreePlan {
             blocks,
             maps,
@@ -157,12 +165,34 @@ impl PoolTables {
             group,
             moment,
             header,
-            run: SyncRun::new(self.geometry, blocks, uberblock.encode(), slot(group), None),
+            run: SyncRun::new(
+                self.geometry,
+                blocks,
+                uberblock.encode(),
+                slot(group),
+                stages,
+            ),
             maps,
             directories,
             root,
             freed,
         }
+    }
+
+    // If the oldest group gives a name, the configs with it. The even labels come first, since label 1 has the config
+    // that is chosen so far.
+    fn label_stages(&self, group: Group) -> Option<LabelStages>
+        ensures stages { result ≡ stages_for self.now.guid group.0 self.now.geometry
+            (name_at self.now.changes 0) }
+        ensures named { (before : List ℕ) → WritesName (config_of result) self.now.geometry
+            self.now.guid group.0 before (unwrap_or (name_at self.now.changes 0) before) }
+    {
+        let name = self.changes.oldest().name()?;
+        let config = LabelConfig::new(self.guid, group, self.geometry.size(), name.copy());
+        Some(LabelStages {
+            config: config.encode(),
+            first: Stage::Even,
+        })
     }
 
     /// Makes the next device call of the running sync; after the last one its group is synced. Refused, in this order,
@@ -265,7 +295,8 @@ fn count_after(records: &[Record], group: Group) -> usize
 fn lay_oldest(changes: &mut UnsyncedExtents, synced: &mut Contents)
     requires { HasRoomForPatches (changes_at changes.old 0) synced.old.slots.items }
     ensures contents { contents_of synced.new
-        ≡ patched_contents (changes_at changes.old 0) (contents_of synced.old) }
+        ≡ patched_contents (changes_at changes.old 0) (name_at changes.old 0)
+        (contents_of synced.old) }
     ensures changes { MovesUp changes.old changes.new }
 {
     changes.oldest().lay_into(synced);

@@ -12,7 +12,7 @@ use Rattle.pool_tables.specs.Shows.{pool_shown}
 use Rattle.pool_tables.proofs.Aborts.{abort_done, abort_none, abort_suspended, ended_allowed, ended_charged, ended_held, ended_reserved, ended_small, ended_unsynced, none_ended, others_charged, others_reserved}
 use Rattle.pool_tables.proofs.Charges.{shows_sums}
 use Rattle.pool_tables.proofs.HeldGroups.{counted_release, exact_end, line-after_release, may_release, where_passed}
-use Rattle.pool_tables.proofs.Opens.{IsBuilt, IsSmall}
+use Rattle.pool_tables.proofs.Opens.{HasAllowedPlan, IsSmall}
 use Rattle.pool_tables.proofs.pool.PoolTables.abort.Goals as goal
 
 pub returns-in_err-check_running-clause-step : goal.returns-in_err-check_running-clause-step
@@ -79,7 +79,7 @@ invariant_of-self-2-clause-accounted c =
           ((sums_stay_on_lines pool.groups.line pool.dirty pool.accounted.charged).cancel a.group c.as_slice-shapes.result.now);
       open_charged = rw (c.in-Some.ensures.others, c.cancel.ensures.canceled, c.charge.ensures, c.as_slice-shapes.ensures)
           (others_charged pool c.args.tx.0 a (sym c.in-Some.ensures.ended));
-      plans_built = rw c.in-Some.ensures.others (All-filter others IsBuilt all pool.accounted.plans_built);
+      plans_allowed = rw c.in-Some.ensures.others (All-filter others HasAllowedPlan all pool.accounted.plans_allowed);
       plans_small = rw c.in-Some.ensures.others (All-filter others IsSmall all pool.accounted.plans_small);
     }
 

@@ -6,17 +6,17 @@ use Rattle.std.proofs.lemmas.Result.{err_from_is_err_and}
 use Rattle.base.specs.declared.operation.Shape.{Shape}
 use Rattle.base.specs.formats.Limits.{max_log_record}
 use Rattle.base.specs.history.Plans.{is_plan_allowed, log_record_size}
-use Rattle.base.specs.steps.BuiltSteps.{begin_refusal, is_plan_built}
+use Rattle.base.specs.steps.Refusals.{begin_refusal}
 use Rattle.groups.specs.CountedLines.{after_hold}
 use Rattle.groups.specs.Laws.{AreHoldsExact}
 use Rattle.transactions.specs.Open.{Open}
 use Rattle.throttle.proofs.OpenCharges.{stay_charged}
 use Rattle.throttle.proofs.ShownSums.{sums_stay_on_lines}
 use Rattle.pool_tables.specs.Shows.{pool_shown}
-use Rattle.pool_tables.proofs.BeginTests.{begin_admits, begin_done, begin_refused, begin_wants, built_allowed, may_begin}
+use Rattle.pool_tables.proofs.BeginTests.{begin_admits, begin_done, begin_refused, begin_wants, may_begin}
 use Rattle.pool_tables.proofs.Charges.{charge_throttled, enough_free, open_charged, shows_sums}
 use Rattle.pool_tables.proofs.HeldGroups.{counted_hold, exact_begin, may_begin_hold, where_passed}
-use Rattle.pool_tables.proofs.Opens.{IsBuilt, IsSmall}
+use Rattle.pool_tables.proofs.Opens.{HasAllowedPlan, IsSmall}
 use Rattle.pool_tables.proofs.pool.PoolTables.begin.Goals as goal
 
 pub returns-in_err-check_begin-clause-step : goal.returns-in_err-check_begin-clause-step
@@ -45,13 +45,13 @@ returns-in_err-tx-clause-step c =
 pub admit-requires : goal.admit-requires
 admit-requires c =
     let may = may_begin c.args.owner.0 c.as_slice-shapes.result.now (pool_shown c.args.self.now) c.in_ok-check_begin.ensures in
-    let allowed = built_allowed c.as_slice-shapes.result.now may.built in
+    let allowed = may.allowed in
     subst (λ (l : List Shape). is_plan_allowed l ≡ true) (c.as_slice-shapes.ensures ∙ sym c.in_ok-plan.ensures) allowed
 
 pub charge-requires-clause-allowed : goal.charge-requires-clause-allowed
 charge-requires-clause-allowed c =
     let may = may_begin c.args.owner.0 c.as_slice-shapes.result.now (pool_shown c.args.self.now) c.in_ok-check_begin.ensures in
-    built_allowed c.as_slice-shapes.result.now may.built
+    may.allowed
 
 pub charge-requires-clause-small : goal.charge-requires-clause-small
 charge-requires-clause-small c = (may_begin c.args.owner.0 c.as_slice-shapes.result.now (pool_shown c.args.self.now) c.in_ok-check_begin.ensures).small
@@ -69,7 +69,7 @@ unreachable-requires c =
 pub estimate-requires-clause-allowed : goal.estimate-requires-clause-allowed
 estimate-requires-clause-allowed c =
     let may = may_begin c.args.owner.0 c.as_slice-shapes.result.now (pool_shown c.args.self.now) c.in_ok-check_begin.ensures in
-    built_allowed c.as_slice-shapes.result.now may.built
+    may.allowed
 
 pub estimate-requires-clause-small : goal.estimate-requires-clause-small
 estimate-requires-clause-small c = (may_begin c.args.owner.0 c.as_slice-shapes.result.now (pool_shown c.args.self.now) c.in_ok-check_begin.ensures).small
@@ -105,8 +105,8 @@ invariant_of-self-2-clause-accounted c =
           ((sums_stay_on_lines pool.groups.line pool.dirty pool.accounted.charged).admit pool.groups.line.open_group c.as_slice-shapes.result.now (omega arith));
       open_charged = rw (c.in_ok-tx.ensures.admitted, c.in-Ok.ensures.admitted, c.charge.ensures, c.as_slice-shapes.ensures, ← c.in_ok-plan.ensures)
           ((stay_charged all pool.dirty pool.accounted.open_charged).admitted _);
-      plans_built = subst (λ (o : Open). All IsBuilt o.transactions) admitted
-          (All-push IsBuilt all _ pool.accounted.plans_built (subst (λ (l : List Shape). is_plan_built l ≡ true) same may.built));
+      plans_allowed = subst (λ (o : Open). All HasAllowedPlan o.transactions) admitted
+          (All-push HasAllowedPlan all _ pool.accounted.plans_allowed (subst (λ (l : List Shape). is_plan_allowed l ≡ true) same may.allowed));
       plans_small = subst (λ (o : Open). All IsSmall o.transactions) admitted
           (All-push IsSmall all _ pool.accounted.plans_small (subst (λ (l : List Shape). log_record_size l ≤ max_log_record) same may.small));
     }

@@ -9,14 +9,14 @@ use Rattle.base.specs.steps.Shown.{Shown}
 use Rattle.base.specs.steps.Steps.{Commit}
 use Rattle.extents.specs.Patches.{Patches}
 use Rattle.extents.specs.Synced.{HasRoomForPatches}
-use Rattle.object_maps.specs.Ops.{AreOpsAllowed}
 use Rattle.pool_tables.specs.Meets.{MayCommit, MeetsExplained}
 use Rattle.pool_tables.specs.Entries.{shown_after_entry}
-use Rattle.pool_tables.specs.Shows.{pool_shown, shown_objects}
+use Rattle.pool_tables.specs.Running.{stages_for}
+use Rattle.pool_tables.specs.Shows.{pool_shown, shown_contents}
 use Rattle.pool_tables.proofs.CommitSteps.{commit_refused, commit_wants}
 use Rattle.pool_tables.proofs.Entered.{entered}
 use Rattle.pool_tables.proofs.OfNoDevice.{commit_own}
-use Rattle.pool_tables.proofs.PendingChanges.{changes_left_at, committed_behind, same_changes, shown_left}
+use Rattle.pool_tables.proofs.PendingChanges.{changes_left_at, names_left_at, committed_behind, same_changes, shown_left}
 use Rattle.pool_tables.proofs.pool.PoolTables.commit.Goals as goal
 
 pub returns-in_err-group-clause-step : goal.returns-in_err-group-clause-step
@@ -61,6 +61,7 @@ invariant_of-self-2 c =
       accounted = pool.accounted;
       running = λ r is. let was = pool.running r is in record {
         geometry = was.geometry;
+        stages = was.stages ∙ ap (stages_for pool.guid r.group.0 pool.geometry) (sym (c.reserve-2.ensures.same.names 0));
         left = was.left;
         uberblock = was.uberblock;
         placed = was.placed;
@@ -71,11 +72,11 @@ invariant_of-self-2 c =
       log_placed = pool.log_placed;
       sync_header = pool.sync_header;
       unsynced_kept = record {
-        built = rw c.in_ok-reserve.ensures.items pool.unsynced_kept.built;
         above = rw c.in_ok-reserve.ensures.items pool.unsynced_kept.above;
         open_or_before = rw c.in_ok-reserve.ensures.items pool.unsynced_kept.open_or_before;
         within = pool.unsynced_kept.within;
         changed = rw c.in_ok-reserve.ensures.items (changes_left_at pool.groups.line.synced pool.unsynced.items pool.changes c.reserve-2.new.self pool.unsynced_kept.changed c.reserve-2.ensures.same);
+        named = rw c.in_ok-reserve.ensures.items (names_left_at pool.groups.line.synced pool.unsynced.items pool.changes c.reserve-2.new.self pool.unsynced_kept.named c.reserve-2.ensures.same);
         allowed = rw c.in_ok-reserve.ensures.items pool.unsynced_kept.allowed;
         front = rw c.in_ok-reserve.ensures.items pool.unsynced_kept.front;
         noted = rw c.in_ok-reserve.ensures.items pool.unsynced_kept.noted;
@@ -113,7 +114,6 @@ returns-clause-step c =
     let new = c.enter-ordinal.new.self in
     let may : MayCommit tx ops group s = subst (λ (l : List Op). MayCommit tx l group s) c.as_slice.ensures c.in_ok-group.ensures.refusal in
     let bytes = subst (λ (l : List Op). list_all is_content_allowed l ≡ true) c.as_slice-2.ensures c.in_ok-reserve-2.ensures.bytes in
-    let allowed = subst AreOpsAllowed c.as_slice.ensures c.in_ok-group.ensures.allowed in
-    let shown : pool_shown new ≡ shown_after_entry tx group ops (shown_objects new) s = c.enter-ordinal.ensures.shown
-    ∙ ap (λ (x : Shown). shown_after_entry tx group ops (shown_objects new) x) (shown_left pool c.reserve-2.new.self c.reserve.new.self.items c.in_ok-reserve-2.ensures.same c.in_ok-reserve.ensures.items) in
-    rw c.enter-ordinal.ensures.ordinal (entered tx ops group s may bytes allowed new shown)
+    let shown : pool_shown new ≡ shown_after_entry tx group ops (shown_contents new) s = c.enter-ordinal.ensures.shown
+    ∙ ap (λ (x : Shown). shown_after_entry tx group ops (shown_contents new) x) (shown_left pool c.reserve-2.new.self c.reserve.new.self.items c.in_ok-reserve-2.ensures.same c.in_ok-reserve.ensures.items) in
+    rw c.enter-ordinal.ensures.ordinal (entered tx ops group s may bytes new shown)

@@ -18,4 +18,4 @@ digest-requires c =
     record { within = subst AreWithin (sym c.objects.ensures) (laid_stay_within pool.changes (synced_of pool).objects pool.unsynced_kept.within) }
 
 pub returns : goal.returns
-returns c = digest_told c.digest.result (pool_shown c.args.self.now) c.in_ok-check_running.ensures (rw c.objects.ensures at c.digest.ensures.digest) c.digest.ensures.refused
+returns c = digest_told c.digest.result (pool_shown c.args.self.now) c.in_ok-check_running.ensures (rw (c.objects.ensures, c.shown_name.ensures) at c.digest.ensures.digest) c.digest.ensures.refused

@@ -1,15 +1,13 @@
-use Rattle.std.proofs.Common.{◌≡◌, ◌∙◌, ◌==◌, Bool, false, not, List, length, ap, refl, sym, subst, arith}
+use Rattle.std.proofs.Common.{◌≡◌, ◌∙◌, ◌==◌, Bool, not, List, length, ap, refl, sym, subst, arith}
 use Rattle.std.specs.Prelude.{◌<◌, ◌≤◌}
-use Rattle.std.specs.List.{list_any}
 use Rattle.std.proofs.lemmas.Bool.{false≢true}
 use Rattle.std.proofs.lemmas.List.{length_push, map-append}
 use Rattle.std.proofs.lemmas.List.Elements.{All-filter, All-push}
 use Rattle.base.specs.formats.Records.{IsAllowed}
 use Rattle.base.specs.steps.Groups.{Admission}
-use Rattle.base.specs.tree.Syncs.{is_rename}
 use Rattle.extents.specs.Patches.{Patches}
 use Rattle.extents.specs.Synced.{HasRoomForPatches}
-use Rattle.extents.specs.Unsynced.{laid_all}
+use Rattle.extents.specs.Unsynced.{laid_all, name_over}
 use Rattle.groups.specs.CountedLines.{CountedLine, after_release}
 use Rattle.groups.specs.Laws.{AreHoldsExact}
 use Rattle.throttle.proofs.OpenCharges.{stay_charged}
@@ -17,11 +15,11 @@ use Rattle.throttle.specs.Blocks.{AreSumsOn}
 use Rattle.transactions.specs.declared.record.Record.{Record}
 use Rattle.transactions.specs.Records.{record_fields}
 use Rattle.pool_tables.specs.Entries.{shown_after_entry}
+use Rattle.pool_tables.specs.Running.{stages_for}
 use Rattle.pool_tables.specs.Shows.{pool_shown, synced_of}
 use Rattle.pool_tables.proofs.HeldGroups.{counted_release, exact_end, has_hold, line-after_release, may_release}
-use Rattle.pool_tables.proofs.Opens.{IsBuilt, IsSmall}
-use Rattle.pool_tables.proofs.PendingChanges.{changes_entered, entered_behind, kept_oldest, same_plan}
-use Rattle.pool_tables.proofs.SamePlans.{built_names}
+use Rattle.pool_tables.proofs.Opens.{HasAllowedPlan, IsSmall}
+use Rattle.pool_tables.proofs.PendingChanges.{changes_entered, entered_behind, kept_oldest, names_entered, same_plan}
 use Rattle.pool_tables.proofs.WrittenRecords.{pending-entered, written-entered}
 use Rattle.pool_tables.proofs.pool.PoolTables.enter.Goals as goal
 
@@ -54,28 +52,31 @@ invariant_of-self c =
             (exact_end pool.transactions.transactions pool.groups c.args.tx.0 may.admission group pool.accounted.holds_exact c.end.ensures.apart may.found may.group_is));
         charged = subst (λ l. AreSumsOn l pool.dirty) (sym line) pool.accounted.charged;
         open_charged = rw c.end.ensures.others ((stay_charged pool.transactions.transactions pool.dirty pool.accounted.open_charged).ended c.args.tx.0);
-        plans_built = rw c.end.ensures.others (All-filter p IsBuilt pool.transactions.transactions pool.accounted.plans_built);
+        plans_allowed = rw c.end.ensures.others (All-filter p HasAllowedPlan pool.transactions.transactions pool.accounted.plans_allowed);
         plans_small = rw c.end.ensures.others (All-filter p IsSmall pool.transactions.transactions pool.accounted.plans_small);
       };
       running = λ r is. let was = pool.running r is in record {
         geometry = was.geometry;
+        stages = was.stages ∙ ap (stages_for pool.guid r.group.0 pool.geometry) (sym (kept_oldest pool group hold c.args.place c.apply.new.self c.requires.place r is c.apply.ensures.others).1);
         left = was.left;
         uberblock = was.uberblock;
         placed = was.placed;
         room = subst (λ (patches : Patches). ∥ HasRoomForPatches patches pool.synced.slots.items ∥₁)
-            (sym (kept_oldest pool group hold c.args.place c.apply.new.self c.requires.place r is c.apply.ensures.others)) was.room;
+            (sym (kept_oldest pool group hold c.args.place c.apply.new.self c.requires.place r is c.apply.ensures.others).0) was.room;
       };
       sync_line = pool.sync_line ∙ ap (λ l. l.syncing) (sym line);
       tree_placed = pool.tree_placed;
       log_placed = pool.log_placed;
       sync_header = pool.sync_header;
       unsynced_kept = record {
-        built = rw c.push_reserved.ensures.items (All-push (λ (x : Record). list_any is_rename x.ops ≡ false) pool.unsynced.items _ pool.unsynced_kept.built (built_names ops c.requires.allowed));
         above = rw (line, c.push_reserved.ensures.items) (All-push (λ (x : Record). pool.groups.line.synced < x.group.0) pool.unsynced.items _ pool.unsynced_kept.above behind.above);
         open_or_before = rw (line, c.push_reserved.ensures.items) (All-push (λ (x : Record). x.group.0 ≤ pool.groups.line.open_group) pool.unsynced.items _ pool.unsynced_kept.open_or_before behind.open_or_before);
         within = pool.unsynced_kept.within;
         changed = rw (line, c.push_reserved.ensures.items)
             (changes_entered pool.groups.line.synced c.args.place pool.unsynced.items _ pool.changes c.apply.new.self c.requires.place pool.unsynced_kept.changed
+            (rw c.as_slice.ensures at c.apply.ensures.applied) c.apply.ensures.others);
+        named = rw (line, c.push_reserved.ensures.items)
+            (names_entered pool.groups.line.synced c.args.place pool.unsynced.items _ pool.changes c.apply.new.self c.requires.place pool.unsynced_kept.named
             (rw c.as_slice.ensures at c.apply.ensures.applied) c.apply.ensures.others);
         allowed = rw c.push_reserved.ensures.items (All-push (λ (x : Record). IsAllowed (record_fields x)) pool.unsynced.items _ pool.unsynced_kept.allowed (record {
           group = let last = pool.accounted.counted.line.last in let low = behind.open_or_before in omega (arith, last, low);
@@ -99,4 +100,4 @@ returns-clause-shown c =
     let hold = has_hold pool.transactions.transactions pool.groups c.args.tx.0 may.admission group pool.accounted.holds_exact c.end.ensures.apart may.found may.group_is in
     let same = same_plan pool c.apply.new.self (λ r is. kept_oldest pool group hold c.args.place c.apply.new.self c.requires.place r is c.apply.ensures.others) in
     rw (c.end.ensures.others, c.end.ensures.next, c.in-Ok.ensures.released, line-after_release pool.groups pool.accounted.counted group, c.push_reserved.ensures.items, pending-entered pool.written pool.unsynced.items _ pool.unsynced_kept.front, map-append record_fields pool.unsynced.items _)
-    (λ k. record (shown_after_entry c.args.tx.0 group c.args.ops (laid_all c.apply.new.self (synced_of pool).objects) s) { sync = same k })
+    (λ k. record (shown_after_entry c.args.tx.0 group c.args.ops (record { name = name_over c.apply.new.self pool.synced.name; objects = laid_all c.apply.new.self (synced_of pool).objects }) s) { sync = same k })

@@ -1,5 +1,4 @@
-use Rattle.std.proofs.Common.{◌≡◌, ◌∙◌, ◌<◌, ◌≤◌, ℕ, [], ◌∷◌, ap, arith, false, true, refl, subst, sym}
-use Rattle.std.specs.List.{list_any}
+use Rattle.std.proofs.Common.{◌≡◌, ◌∙◌, ◌<◌, ◌≤◌, ℕ, [], ◌∷◌, ap, arith, true, refl, subst, sym}
 use Rattle.std.proofs.Math.Logic.{∥∥₁_elim}
 use mathlib.Core.Bool.{Bool-set}
 use Rattle.std.proofs.lemmas.List.Elements.{All-cons, All-nil}
@@ -7,7 +6,6 @@ use Rattle.base.proofs.common.KeptLists.{none_at}
 use Rattle.base.specs.formats.Chain.{Header}
 use Rattle.base.specs.formats.Geometry.{block_count}
 use Rattle.base.specs.formats.Records.{IsAllowed}
-use Rattle.base.specs.tree.Syncs.{is_rename}
 use Rattle.groups.specs.CountedLines.{counted_behind}
 use Rattle.transactions.specs.declared.record.Record.{Record}
 use Rattle.transactions.specs.Records.{record_fields}
@@ -19,8 +17,8 @@ use Rattle.group_plans.specs.Areas.{AreBlocksOf, is_block_of}
 use Rattle.group_plans.proofs.PlannedBlocks.{block_passes}
 use Rattle.pool_tables.proofs.Charges.{total-behind}
 use Rattle.pool_tables.proofs.HeldGroups.{counted_new, exact_new}
-use Rattle.pool_tables.proofs.Opens.{IsBuilt, IsSmall}
-use Rattle.pool_tables.proofs.UnsyncedChanges.{first_changes, first_objects}
+use Rattle.pool_tables.proofs.Opens.{HasAllowedPlan, IsSmall}
+use Rattle.pool_tables.proofs.UnsyncedChanges.{first_changes, first_name, first_names, first_objects}
 use Rattle.pool_tables.proofs.pool.PoolTables.new.Goals as goal
 
 pub invariant_of-result-clause-accounted : goal.invariant_of-result-clause-accounted
@@ -31,7 +29,7 @@ invariant_of-result-clause-accounted c =
       holds_exact = exact_new group;
       charged = new_sums_are_on_lines (counted_behind group).line c.args.mounted.dirty_max;
       open_charged = λ other. omega arith;
-      plans_built = All-nil IsBuilt;
+      plans_allowed = All-nil HasAllowedPlan;
       plans_small = All-nil IsSmall;
     })
 
@@ -46,11 +44,11 @@ invariant_of-result-clause-free_counted c =
 
 pub invariant_of-result-clause-unsynced_kept : goal.invariant_of-result-clause-unsynced_kept
 invariant_of-result-clause-unsynced_kept c = rw (c.new-2.ensures, c.new-6.ensures.items, c.new-7.ensures.none) (record {
-  built = All-nil (λ (x : Record). list_any is_rename x.ops ≡ false);
   above = All-nil (λ (x : Record). c.args.mounted.group.0 < x.group.0);
   open_or_before = All-nil (λ (x : Record). x.group.0 ≤ (counted_behind c.args.mounted.group.0).line.open_group);
   within = c.requires;
-  changed = first_changes c.new-5.result c.new-5.ensures c.args.mounted.group.0;
+  changed = first_changes c.new-5.result c.new-5.ensures.patches c.args.mounted.group.0;
+  named = first_names c.new-5.result c.new-5.ensures.names c.args.mounted.group.0;
   allowed = All-nil (λ (x : Record). IsAllowed (record_fields x));
   front = omega arith;
   noted = refl;
@@ -67,5 +65,6 @@ invariant_of-result-clause-log_placed c =
 
 pub returns-clause-shown : goal.returns-clause-shown
 returns-clause-shown c =
-    let objects = first_objects c.new-5.result c.new-5.ensures (contents_of c.args.mounted.contents).objects c.requires in
-    rw (c.new.ensures.none, c.new.ensures.next, c.new-2.ensures, c.new-3.ensures.none, c.new-3.ensures.first, c.new-4.ensures, c.new-6.ensures.items, c.new-7.ensures.none, c.new-7.ensures.next, blocks_of-empty, objects) refl
+    let objects = first_objects c.new-5.result c.new-5.ensures.patches (contents_of c.args.mounted.contents).objects c.requires in
+    let name = first_name c.new-5.result c.new-5.ensures.names c.args.mounted.contents.name in
+    rw (c.new.ensures.none, c.new.ensures.next, c.new-2.ensures, c.new-3.ensures.none, c.new-3.ensures.first, c.new-4.ensures, c.new-6.ensures.items, c.new-7.ensures.none, c.new-7.ensures.next, blocks_of-empty, objects, name) refl

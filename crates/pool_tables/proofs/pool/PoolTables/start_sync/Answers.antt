@@ -96,6 +96,7 @@ invariant_of-self c =
           (counted_start pool.groups pool.accounted.counted group may.0 may.1, (exact_moves ts pool.groups pool.accounted.counted pool.accounted.holds_exact).start group may.0) (refl, omega arith) pool.accounted);
       running = λ x e. subst (RunsIn pool) (kept_sync rs x e) (record {
         geometry = ens.geometry;
+        stages = rw (ens.group) ens.stages;
         left = ens.begins.left;
         uberblock = subst (λ (h : Header). WritesUberblock (uberblock_with pool.guid pool.import_number h rs.group.0 rs.moment rs.root) rs.run) (sym (ap (λ (p : SyncPlan). p.header) ens.plan))
             (rw (ens.group, ens.moment, ens.begins.root) ens.uberblock);
@@ -121,4 +122,4 @@ returns-clause-start c =
     let told = c.start_sync.ensures in
     let line = started c.start_sync.result pool.groups c.start_sync.new.self g.0 may told.refused told.started told.group in
     plan_starts_sync pool g c.args.moment c.in_ok-planned.planned old c.reserve_synced.ensures.unchanged c.in_ok-check_running.ensures may c.in_ok-planned.ensures.taken c.in_ok-planned.ensures.tree
-    c.start_sync.new.self c.take_all.new.free c.running_sync-running.result c.deref.result.now line c.take_all.ensures c.deref.ensures.value ens.begins ens.plan ens.uberblock.bytes
+    c.start_sync.new.self c.take_all.new.free c.running_sync-running.result c.deref.result.now line c.take_all.ensures c.deref.ensures.value ens.begins ens.plan ens.uberblock.bytes ens.named

@@ -1,4 +1,4 @@
-use Rattle.std.proofs.Common.{◌≡◌, ◌∙◌, ◌≤◌, List, arith, drop, ap, filter, inl, inr, map, nat_lt, sym, subst, refl, true, false, Some, None}
+use Rattle.std.proofs.Common.{◌≡◌, ◌∙◌, ◌≤◌, List, arith, drop, ap, filter, inl, inr, map, nat_lt, sym, subst, refl, true, Some, None}
 use Rattle.std.specs.Prelude.{Bool, Option, Result, option_map}
 use Rattle.std.proofs.lemmas.Result.{err_from_is_err_and}
 use Rattle.base.specs.formats.Geometry.{block_count}
@@ -17,13 +17,11 @@ use Rattle.pool_tables.proofs.FreeBlocks.{union_both}
 use Rattle.pool_tables.proofs.Mapped.{filter-map}
 use Rattle.pool_tables.proofs.WholeBlocks.{whole-filter}
 use Rattle.pool_tables.proofs.WrittenRecords.{all_after, front_within, noted-synced, pending-synced}
-use Rattle.pool_tables.proofs.UnsyncedChanges.{has_room, open_three, same_contents, synced_changes, synced_within, syncing_follows}
+use Rattle.pool_tables.proofs.UnsyncedChanges.{has_room, open_three, same_contents, synced_changes, synced_names, synced_within, syncing_follows}
 use Rattle.extents.specs.Unsynced.{changes_at}
 use Rattle.base.specs.formats.Records.{IsAllowed, Record}
 use Rattle.base.specs.steps.Logs.{AreWhole, KeptBlock, committed_above, committed_in}
-use Rattle.base.specs.tree.Syncs.{is_rename}
 use Rattle.transactions.specs.declared.record.Record as code
-use Rattle.std.specs.List.{list_any}
 use Rattle.std.proofs.lemmas.List.Elements.{All-filter}
 use Rattle.pool_tables.proofs.syncs.SameSyncs.{RunsIn, as_many, counted_still, kept_sync, left_as_before, more_left, one_left, one_less, refused_as, runs_on}
 use Rattle.base.specs.disk.Disk.{bytes_of}
@@ -88,7 +86,7 @@ invariant_of-self-in-Ok-Last-clause-accounted g c =
       charged = subst (λ (l : CountedLine). AreSumsOn l.line c.end_charges.new.dirty) (sym finished)
           (subst (AreSumsOn (line_after_sync group pool.groups.line)) (sym c.end_charges.ensures.dirty) (synced_charged pool group));
       open_charged = subst (AreOpenOnesCharged pool.transactions.transactions) (sym c.end_charges.ensures.dirty) (synced_open_charged pool group was);
-      plans_built = pool.accounted.plans_built;
+      plans_allowed = pool.accounted.plans_allowed;
       plans_small = pool.accounted.plans_small;
     }
 
@@ -109,12 +107,13 @@ invariant_of-self-in-Ok-Last-clause-unsynced_kept g c =
     let next = syncing_follows pool.groups.line group pool.accounted.counted.line syncing in
     let later : code.Record → Bool = is_after group in
     rw (finished, c.drop_synced.ensures.left, c.drop_synced.ensures.written) (record {
-      built = All-filter later (λ (x : code.Record). list_any is_rename x.ops ≡ false) pool.unsynced.items pool.unsynced_kept.built;
       above = all_after group pool.unsynced.items;
       open_or_before = All-filter later (λ (x : code.Record). x.group.0 ≤ pool.groups.line.open_group) pool.unsynced.items pool.unsynced_kept.open_or_before;
       within = synced_within pool.changes pool.synced c.lay_oldest.new.synced c.lay_oldest.ensures.contents pool.unsynced_kept.within;
       changed = synced_changes pool.groups.line.synced group pool.unsynced.items pool.changes c.lay_oldest.new.changes next
           pool.unsynced_kept.changed (open_three pool.groups.line pool.unsynced.items pool.accounted.counted.line pool.unsynced_kept.open_or_before) c.lay_oldest.ensures.changes;
+      named = synced_names pool.groups.line.synced group pool.unsynced.items pool.changes c.lay_oldest.new.changes next
+          pool.unsynced_kept.named (open_three pool.groups.line pool.unsynced.items pool.accounted.counted.line pool.unsynced_kept.open_or_before) c.lay_oldest.ensures.changes;
       allowed = All-filter later (λ (x : code.Record). IsAllowed (record_fields x)) pool.unsynced.items pool.unsynced_kept.allowed;
       front = front_within later pool.written pool.unsynced.items;
       noted = ap (λ (kept : List KeptBlock). committed_above group (committed_in (record (log_shown pool.log) { kept = kept }))) c.give_log.ensures.kept
