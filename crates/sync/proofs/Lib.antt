@@ -22,4 +22,5 @@ pub mod UnderWay
 pub mod LogPhases
 pub mod LogWrites
 pub mod ConfigWrites
+pub mod RenamedViews
 pub mod Promises
