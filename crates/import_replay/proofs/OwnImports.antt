@@ -225,7 +225,7 @@ module _ (old mid : Disk) (flushes : Flushes old (Ok tt) mid) where
             (subst (λ (n : ℕ). EachMoment (IsImportMoment n created v (view_of w tree) contents.name) mid new) (sym sized)
             (subst (λ (c : Contents). EachMoment (IsImportMoment size created v (view_of w tree) c.name) mid new) f.contents_are (kept created f.at v tree f.may)))))
 
-        module _ (dirty_max : ℕ) (m : Mounted) (from : IsMountedFrom size u (parts_of next) dirty_max m) (ends : EndsBehind w first mid new) where
+        module _ (dirty_max : ℕ) (m : Mounted) (from : IsMountedFrom size u (parts_of next) dirty_max m) (ends : EndsBehind w first mid new) (settled : new.now.unflushed ≡ []) where
           abbrev shown : Shown
           shown = shown_of_import m
 
@@ -284,6 +284,7 @@ module _ (old mid : Disk) (flushes : Flushes old (Ok tt) mid) where
                     held = log_held created v guid_same f.uberblock here.chains;
                   });
                 });
+                settled = settled;
                 guid_is = guid_same ∙ f.own.guid_is;
                 contents_are = contents_same ∙ f.contents_are;
               }

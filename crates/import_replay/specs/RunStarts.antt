@@ -1,5 +1,5 @@
 -- What an import gives to the run after it, of a disk that its pool alone wrote.
-use Rattle.std.specs.Prelude.{ℕ, ◌≡◌}
+use Rattle.std.specs.Prelude.{ℕ, ◌≡◌, []}
 use Rattle.base.specs.crash.CrashRule.{IsOwnOnceFlushed}
 use Rattle.base.specs.crash.PoolViews.{IsPoolDisk}
 use Rattle.base.specs.disk.Disk.{Disk, Moment}
@@ -9,10 +9,11 @@ use Rattle.object_maps.specs.ContentsShown.{contents_of}
 use Rattle.import_replay.specs.Mounts.{shown_of_import}
 use Rattle.import_replay.specs.declared.mounted.Mounted.{Mounted}
 
--- The disk has the views of what is shown, with a past in which nothing happened since this create; the pool is that of
--- the guid, and what was mounted are the contents.
+-- The disk has the views of what is shown, with a past in which nothing happened since this create, and nothing is
+-- unflushed; the pool is that of the guid, and what was mounted are the contents.
 pub record IsRunStart (created guid : ℕ) (contents : Contents) (dirty_max : ℕ) (m : Mounted) (now : Moment) : Type 0 where
   pub disk : IsPoolDisk m.geometry now (shown_of_import m) (new_past (contents_of m.contents) created dirty_max)
+  pub settled : now.unflushed ≡ []
   pub guid_is : m.guid ≡ guid
   pub contents_are : contents_of m.contents ≡ contents
 

@@ -267,8 +267,8 @@ returns-clause-starts g c = λ keeps.
     ok_weaker c.open_pool.result _ _
     (λ m h. starts_run old mid flushes size u name first read.long read.pool stage next c.args.moment chain (prepared_parts size u name tree slots chain pool next is)
     (prepared_over size u name tree slots chain pool next is (bytes_of mid.now) read) (prepared_mounts size u name tree slots chain pool next is (bytes_of mid.now) read)
-    new views c.args.dirty_max m h.0 h.1)
-    (ok_both c.open_pool.result _ _ c.open_pool.ensures.mounted ends)
+    new views c.args.dirty_max m h.0 h.1.0 h.1.1.settled)
+    (ok_both c.open_pool.result _ _ c.open_pool.ensures.mounted (ok_both c.open_pool.result _ _ ends (c.open_pool.ensures.written keeps)))
 
 pub open_pool-requires-clause-next : goal.open_pool-requires-clause-next
 open_pool-requires-clause-next g c =
