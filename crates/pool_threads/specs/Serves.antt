@@ -34,7 +34,7 @@ MakesDue keeps d (Some r) v w = (rs : List declared_reply.Reply) × All IsAnswer
 abbrev pub IsServedTurn : Type 0 → Duty → Option declared_reply.Reply → Turn SeenPool → Type 0
 IsServedTurn keeps d r t = MakesDue keeps d r t.took t.left
 
--- a turn with this last reply is not the last one: nothing was refused in it, except perhaps so
+-- after a turn with this last reply a handle goes on: nothing was refused in it, except perhaps so
 abbrev pub GoesOnAfter : Option PoolError → Option declared_reply.Reply → Type 0
 GoesOnAfter passed (Some (reply.Refused e)) = passed ≡ Some e
 GoesOnAfter passed _ = Unit {0}

@@ -27,8 +27,8 @@ pub record FindsReceipt (receipt : Receipt) (result : Result Bool PoolError) (t 
   pub checked : ChecksReceipt receipt result (viewed_state t.left).shown
   pub explained : ∥ IsExplainedNow (viewed_state t.left).shown t.left.past ∥₁
 
--- a turn of a sync up to a group, with this moment: what is due for it, and nothing is refused; and in the last one the
--- group is synced, or a step was refused
+-- A turn of a sync up to a group, with this moment: what is due for it, and nothing is refused. In the last one the
+-- group is synced, or a step is refused.
 abbrev pub IsSyncing : Type 0 → ℕ → Group → Turn SeenPool → Type 0
 IsSyncing keeps moment group = IsDutyTurn keeps (duty.SyncUpTo group moment) None
 
@@ -53,8 +53,8 @@ abbrev pub IsRefusedAfter : ℕ → Receipt → PoolError → State → State �
 IsRefusedAfter moment receipt e looked after = IsRefusedBetween (wait_refusal receipt) e looked after
     ⊎ IsRefusedDuty duty.CommitLog e looked after ⊎ IsSyncingRefusal moment receipt.group e looked after
 
--- A refusal of a wait: the transaction wasn't durable in a state in which the handle looked, which its past explains, and
--- the refusal came then or later.
+-- A refusal of a wait: the transaction wasn't durable in a state in which the handle looked, and the refusal came then
+-- or later. The past of that state explains it.
 pub record IsWaitingRefusal (moment : ℕ) (receipt : Receipt) (e : PoolError) (before after : State) : Type 0 where
   pub looked : State
   pub no_earlier : GoesOn before looked
