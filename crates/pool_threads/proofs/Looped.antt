@@ -2,6 +2,7 @@
 use Rattle.std.proofs.Common.{◌≡◌, ap, sym, subst, ◌∙◌}
 use Rattle.std.specs.Prelude.{IsTrue, Option, Some}
 use Rattle.base.specs.declared.error.PoolError.{PoolError}
+use Rattle.base.specs.declared.error.PoolError.TheVariants.{NotReady}
 use Rattle.base.specs.declared.step.Reply as declared_reply
 use Rattle.base.specs.declared.step.Reply.TheVariants as reply
 use Rattle.device_model.specs.declared.device.SectorDevice.{Ghosts}
@@ -10,7 +11,7 @@ use Rattle.pool_threads.specs.declared.handle.Handle.{Handle}
 use Rattle.pool_threads.specs.Answers.{Sees}
 use Rattle.pool_threads.specs.Handles.{IsUnchanged}
 use Rattle.pool_threads.specs.Loops.{Works, WorksUntil}
-use Rattle.pool_threads.specs.Serves.{IsRefusedDuty, MakesDue}
+use Rattle.pool_threads.specs.Serves.{GoesOnAfter, IsRefusedDuty, MakesDue}
 use Rattle.pool_threads.specs.Turns.{AreUnbroken}
 use Rattle.pool_threads.specs.Views.{GrowsTo, SeenPool, grows_onward}
 use Rattle.pool_threads.proofs.Served.{refused_due}
@@ -38,8 +39,8 @@ module _ {Dev : Type 0} {G : Ghosts Dev} (d : Duty) where
         };
       }
 
-  pub works_on : (r : Option declared_reply.Reply) {old now next : Handle Dev G} → Works d old now → Served d r now next → Works d old next
-  works_on r w m = one_more_turn _ w (served_as (λ t made. (r, made)) m) (served_grows d r m)
+  pub works_on : (r : Option declared_reply.Reply) {old now next : Handle Dev G} → GoesOnAfter (Some NotReady) r → Works d old now → Served d r now next → Works d old next
+  works_on r passed w m = one_more_turn _ w (served_as (λ t made. (r, passed, made)) m) (served_grows d r m)
 
   module _ (e : PoolError) (r : Option declared_reply.Reply) {old now new : Handle Dev G} (is : r ≡ Some (reply.Refused e)) (w : Works d old now) (m : Served d r now new) where
     pub works_until : WorksUntil d e old new

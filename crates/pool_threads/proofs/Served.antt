@@ -1,12 +1,14 @@
 -- What is done for a duty in one turn: steps that were due, one after another.
 use Rattle.std.proofs.Common.{◌≡◌, ◌++◌, ◌∷◌, [], List, refl, sym, ap, subst, ◌∙◌}
 use Rattle.std.specs.Prelude.{Option, Some, None}
+use Rattle.std.proofs.lemmas.List.Elements.{All-nil, All-push}
 use Rattle.std.proofs.Math.Logic.{∥∥₁_elim, ∥∥₁_map, ∥∥₁_prop}
 use Rattle.base.specs.declared.error.PoolError.{PoolError}
 use Rattle.base.specs.declared.step.Step as declared_step
 use Rattle.base.specs.declared.step.Reply as declared_reply
 use Rattle.base.specs.declared.step.Reply.TheVariants as reply
 use Rattle.base.specs.steps.Steps.{State}
+use Rattle.base.specs.steps.SyncEnds.{IsAnswer}
 use Rattle.device_model.specs.declared.device.SectorDevice.{Ghosts}
 use Rattle.pool_core.specs.declared.state.PoolState.{PoolState}
 use Rattle.pool_core.specs.States.{shown}
@@ -38,22 +40,22 @@ module _ (keeps : Type 0) (d : Duty) where
 
   pub grows_by_due : (r : Option declared_reply.Reply) (v w : SeenPool) → MakesDue keeps d r v w → GrowsTo keeps v w
   grows_by_due None v w made = subst (GrowsTo keeps v) (sym made.1) (grows_same keeps v)
-  grows_by_due (Some r) v w made = grows_by_all (made.0 ++ r ∷ []) v w made.1
+  grows_by_due (Some r) v w made = grows_by_all (made.0 ++ r ∷ []) v w made.2
 
   pub grows_from : (r : Option declared_reply.Reply) (had v left : SeenPool) → had ≡ v → MakesDue keeps d r had left → GrowsTo keeps v left
   grows_from r had v left is made = subst (λ (u : SeenPool). GrowsTo keeps u left) is (grows_by_due r had left made)
 
   -- one step
   pub one_due : (s : declared_step.Step) (r : declared_reply.Reply) (v w : SeenPool) → due_of d v ≡ Some s → IsPoolStep keeps s r v w → MakesDue keeps d (Some r) v w
-  one_due s r v w due one = ([], (s, w, due, one, refl))
+  one_due s r v w due one = ([], All-nil IsAnswer, (s, w, due, one, refl))
 
-  -- one step more
+  -- one step more, after an answer
   push_due : (rs : List declared_reply.Reply) (s : declared_step.Step) (r : declared_reply.Reply) (u v w : SeenPool) → AreDue keeps d rs u v → due_of d v ≡ Some s → IsPoolStep keeps s r v w → AreDue keeps d (rs ++ r ∷ []) u w
   push_due [] s r u v w same due one = (s, w, subst (λ (x : SeenPool). due_of d x ≡ Some s) same due, subst (λ (x : SeenPool). IsPoolStep keeps s r x w) same one, refl)
   push_due (q ∷ qs) s r u v w (t, middle, due_t, one_t, rest) due one = (t, middle, due_t, one_t, push_due qs s r middle v w rest due one)
 
-  pub more_due : (q : declared_reply.Reply) (s : declared_step.Step) (r : declared_reply.Reply) (u v w : SeenPool) → MakesDue keeps d (Some q) u v → due_of d v ≡ Some s → IsPoolStep keeps s r v w → MakesDue keeps d (Some r) u w
-  more_due q s r u v w made due one = (made.0 ++ q ∷ [], push_due (made.0 ++ q ∷ []) s r u v w made.1 due one)
+  pub more_due : (q : declared_reply.Reply) (s : declared_step.Step) (r : declared_reply.Reply) (u v w : SeenPool) → IsAnswer q → MakesDue keeps d (Some q) u v → due_of d v ≡ Some s → IsPoolStep keeps s r v w → MakesDue keeps d (Some r) u w
+  more_due q s r u v w answered made due one = (made.0 ++ q ∷ [], All-push IsAnswer made.0 q made.1 answered, push_due (made.0 ++ q ∷ []) s r u v w made.2 due one)
 
   -- the last step that was made, from a view that goes on from the first
   pub record LastDue (r : declared_reply.Reply) (u w : SeenPool) : Type 0 where
@@ -70,7 +72,7 @@ module _ (keeps : Type 0) (d : Duty) where
       record { at = l.at; step = l.step; due = l.due; onward = grows_onward keeps _ _ _ (grows_by_one keeps _ _ _ _ _ refl one) l.onward; made = l.made }
 
   pub last_made : (r : declared_reply.Reply) (u w : SeenPool) → MakesDue keeps d (Some r) u w → LastDue r u w
-  last_made r u w made = last_due made.0 r u w made.1
+  last_made r u w made = last_due made.0 r u w made.2
 
   -- a refusal that ends a turn is that of a step that was due, in some state since any before
   pub refused_due : (e : PoolError) (v u w : SeenPool) → GrowsTo keeps v u → MakesDue keeps d (Some (reply.Refused e)) u w → ∥ IsRefusedDuty d e (viewed_state v) (viewed_state w) ∥₁

@@ -1,7 +1,7 @@
 -- A wait for a receipt and a sync up to a group, turn by turn.
 use Rattle.std.proofs.Common.{◌≡◌, ◌++◌, ◌∷◌, ℕ, [], List, append_assoc, inl, inr, refl, sym, ap, subst, ◌∙◌}
 use Rattle.std.proofs.lemmas.List.Elements.{All-append, All-push, All-weaker}
-use Rattle.std.specs.Prelude.{◌≤◌, Bool, IsErrAnd, IsTrue, Ok, Err, Option, Result, Some, true}
+use Rattle.std.specs.Prelude.{◌≤◌, ◌⊎◌, Bool, IsErrAnd, IsTrue, None, Ok, Err, Option, Result, Some, false, true}
 use Rattle.base.specs.declared.error.PoolError.{PoolError}
 use Rattle.base.specs.declared.error.PoolError.TheVariants.{NoLogSpace}
 use Rattle.base.specs.declared.names.Group.{Group}
@@ -14,10 +14,10 @@ use Rattle.pool_tables.specs.declared.duty.Duty.TheVariants as duty
 use Rattle.pool_threads.specs.declared.handle.Handle.{Handle}
 use Rattle.pool_threads.specs.Answers.{Takes, TakesAtLast, TakesOne, state_seen}
 use Rattle.pool_threads.specs.Handles.{moment_of}
-use Rattle.pool_threads.specs.Serves.{IsServedTurn}
+use Rattle.pool_threads.specs.Serves.{GoesOnAfter, IsServedTurn}
 use Rattle.pool_threads.specs.Turns.{AreUnbroken}
 use Rattle.pool_threads.specs.Views.{GrowsTo, SeenPool, grows_onward, grows_same}
-use Rattle.pool_threads.specs.Waits.{EndsSyncing, EndsWaiting, FindsReceipt, IsSyncing, IsWaiting, SyncsUpTo, Waits, WaitsOr, WaitsUntil}
+use Rattle.pool_threads.specs.Waits.{EndsAfter, EndsSyncing, IsSyncing, Leads, LooksAt, SyncsInstead, SyncsUpTo, Waits, WaitsOnce, WaitsUntil, WritesLog}
 use Rattle.pool_threads.proofs.Made.{met_none_on}
 use Rattle.pool_threads.proofs.Served.{grows_by_due}
 use Rattle.pool_threads.proofs.Tried.{at_last, no_turns, one_more_turn, stays_on, unbroken_push}
@@ -28,6 +28,10 @@ use Rattle.word_lock.specs.Turns.{turn}
 unbroken_join : (u : SeenPool) (xs : List (Turn SeenPool)) (v : SeenPool) (ys : List (Turn SeenPool)) (w : SeenPool) → AreUnbroken u xs v → AreUnbroken v ys w → AreUnbroken u (xs ++ ys) w
 unbroken_join u [] v ys w same line = subst (λ (x : SeenPool). AreUnbroken x ys w) same line
 unbroken_join u (t ∷ ts) v ys w first line = (first.0, unbroken_join t.left ts v ys w first.1 line)
+
+-- a turn that leads on
+abbrev pub LeadsOn : Type 0 → Turn SeenPool → Type 0
+LeadsOn keeps t = GrowsTo keeps t.took t.left
 
 module _ {Dev : Type 0} {G : Ghosts Dev} where
   -- turns of one kind, and then others
@@ -116,73 +120,147 @@ module _ {Dev : Type 0} {G : Ghosts Dev} where
     abbrev Syncs : Handle Dev G → Handle Dev G → Type 0
     Syncs = Takes (IsSyncing (IsTrue G.keeps_model) moment group)
 
-    pub syncs_more : {old now next : Handle Dev G} → Syncs old now → Served (duty.SyncUpTo group moment) r now next → Syncs old next
-    syncs_more t m = one_more_turn _ t (served_as (λ u made. (r, made)) m) (served_grows (duty.SyncUpTo group moment) r m)
+    pub syncs_more : {old now next : Handle Dev G} → GoesOnAfter None r → Syncs old now → Served (duty.SyncUpTo group moment) r now next → Syncs old next
+    syncs_more passed t m = one_more_turn _ t (served_as (λ u made. (r, passed, made)) m) (served_grows (duty.SyncUpTo group moment) r m)
 
-    pub syncs_to_end : {old now new : Handle Dev G} → Syncs old now → Served (duty.SyncUpTo group moment) r now new → group.0 ≤ (state_seen new).shown.line.synced
+    pub syncs_to_end : {old now new : Handle Dev G} → GoesOnAfter None r → Syncs old now → Served (duty.SyncUpTo group moment) r now new → group.0 ≤ (state_seen new).shown.line.synced
         → TakesAtLast (IsSyncing (IsTrue G.keeps_model) moment group) (EndsSyncing (IsTrue G.keeps_model) moment group (Ok tt)) old new
-    syncs_to_end t m there = at_last _ t (record {
+    syncs_to_end passed t m there = at_last _ t (record {
       same_pool = m.same_pool;
-      made = record { took = m.made.took; onward = m.made.onward; made = ((r, m.made.made), there); turn = m.made.turn; met_none = m.made.met_none; alone = m.made.alone };
+      made = record { took = m.made.took; onward = m.made.onward; made = ((r, passed, m.made.made), there); turn = m.made.turn; met_none = m.made.met_none; alone = m.made.alone };
     })
 
     pub syncs_refused : (e : PoolError) {old now new : Handle Dev G} → Syncs old now → r ≡ Some (reply.Refused e) → Served (duty.SyncUpTo group moment) r now new
         → TakesAtLast (IsSyncing (IsTrue G.keeps_model) moment group) (EndsSyncing (IsTrue G.keeps_model) moment group (Err e)) old new
     syncs_refused e t is m = at_last _ t (refused_as (duty.SyncUpTo group moment) r e is m)
 
-  -- a wait for a receipt
+  -- turns that lead on, of which nothing else is said: one, some, and one at last
+  abbrev TakesAnyOne : Handle Dev G → Handle Dev G → Type 0
+  TakesAnyOne = TakesOne (LeadsOn (IsTrue G.keeps_model))
+
+  abbrev pub TakesAny : Handle Dev G → Handle Dev G → Type 0
+  TakesAny = Takes (LeadsOn (IsTrue G.keeps_model))
+
+  abbrev pub TakesAnyAtLast : Handle Dev G → Handle Dev G → Type 0
+  TakesAnyAtLast = TakesAtLast (LeadsOn (IsTrue G.keeps_model)) (LeadsOn (IsTrue G.keeps_model))
+
+  log_turn : (r : Option declared_reply.Reply) {old new : Handle Dev G} → WritesLog r old new → TakesAnyOne old new
+  log_turn r m = served_as (λ t made. grows_by_due (IsTrue G.keeps_model) duty.CommitLog r t.took t.left made) m
+
+  more_leads_on : {old now next : Handle Dev G} → TakesAny old now → TakesAnyOne now next → TakesAny old next
+  more_leads_on t m = one_more_turn _ t m m.made.made
+
+  sync_turns : (group : Group) (result : Result (Unit {0}) PoolError) {old new : Handle Dev G} → SyncsUpTo group result old new → TakesAnyAtLast old new
+  sync_turns group result {old} {new} u = ends_as (λ t made. grows_by_due (IsTrue G.keeps_model) d made.0 t.took t.left made.2) (by result) u
+    where
+      d : Duty
+      d = duty.SyncUpTo group (moment_of old)
+
+      by : (x : Result (Unit {0}) PoolError) (t : Turn SeenPool) → EndsSyncing (IsTrue G.keeps_model) (moment_of old) group x t → LeadsOn (IsTrue G.keeps_model) t
+      by (Ok done) t made = grows_by_due (IsTrue G.keeps_model) d made.0.0 t.took t.left made.0.2
+      by (Err e) t made = grows_by_due (IsTrue G.keeps_model) d (Some (reply.Refused e)) t.took t.left made
+
+  -- a wait for a receipt, turn by turn
   module _ (receipt : Receipt) where
-    abbrev Find : Result Bool PoolError → Handle Dev G → Handle Dev G → Type 0
-    Find result = TakesOne (FindsReceipt receipt result)
+    look_turn : (found : Result Bool PoolError) {old new : Handle Dev G} → LooksAt receipt found old new → TakesAnyOne old new
+    look_turn found m = served_as (λ t f. subst (GrowsTo (IsTrue G.keeps_model) t.took) (sym f.looked) (grows_same (IsTrue G.keeps_model) t.took)) m
 
-    pub no_waits : (h : Handle Dev G) → Waits receipt h h
-    no_waits h = no_turns _ h
+    sync_instead : (result : Result (Unit {0}) PoolError) {old new : Handle Dev G} → SyncsInstead receipt result old new → TakesAnyAtLast old new
+    sync_instead result {old} s = ends_on (more_leads_on (no_turns _ old) (log_turn (Some (reply.Refused NoLogSpace)) s.refused)) (sync_turns receipt.group result s.syncs)
 
-    -- what waits from here on waits from before
-    waits_on : {old now next : Handle Dev G} → Waits receipt old now → Waits receipt now next → Waits receipt old next
-    waits_on {old} {now} {next} t u = takes_on t (subst (λ (m : ℕ). Takes (IsWaiting (IsTrue G.keeps_model) m receipt) now next) t.same_pool.1 u)
+    lead_turns : (result : Result (Unit {0}) PoolError) {old new : Handle Dev G} → Leads receipt result old new → TakesAnyAtLast old new
+    lead_turns (Ok done) {old} (inl (r, passed, m)) = at_last _ (no_turns _ old) (log_turn r m)
+    lead_turns (Ok done) (inr s) = sync_instead (Ok done) s
+    lead_turns (Err e) {old} (inl (other, m)) = at_last _ (no_turns _ old) (log_turn (Some (reply.Refused e)) m)
+    lead_turns (Err e) (inr s) = sync_instead (Err e) s
 
-    waits_to_end : (result : Result (Unit {0}) PoolError) {old now new : Handle Dev G} → Waits receipt old now → WaitsUntil receipt result now new → WaitsUntil receipt result old new
-    waits_to_end result {old} {now} {new} t u =
-        ends_on t (subst (λ (m : ℕ). TakesAtLast (IsWaiting (IsTrue G.keeps_model) m receipt) (EndsWaiting (IsTrue G.keeps_model) m receipt result) now new) t.same_pool.1 u)
+    round_turns : {old new : Handle Dev G} → WaitsOnce receipt old new → TakesAny old new
+    round_turns {old} {new} w = by w.goes_on
+      where
+        looked : TakesAny old w.looked
+        looked = more_leads_on (no_turns _ old) (look_turn (Ok false) w.looks)
 
-    -- a look at the receipt
-    pub looked_for : (result : Result Bool PoolError) {old now next : Handle Dev G} → Waits receipt old now → Find result now next → Waits receipt old next
-    looked_for result {old} {now} {next} t m =
-        one_more_turn _ t (served_as (λ u found. inl found.looked) m) (subst (λ (v : SeenPool). GrowsTo (IsTrue G.keeps_model) m.made.took v) (sym m.made.made.looked) (grows_same (IsTrue G.keeps_model) m.made.took))
+        by : (new ≡ w.looked) ⊎ Leads receipt (Ok tt) w.looked new → TakesAny old new
+        by (inl same) = subst (λ (h : Handle Dev G). TakesAny old h) (sym same) looked
+        by (inr l) = takes_on looked (all_alike (λ t leads. (leads, leads)) (lead_turns (Ok tt) l))
 
-    pub found_durable : (x : Result Bool PoolError) {old now new : Handle Dev G} → x ≡ Ok true → Waits receipt old now → Find x now new → WaitsUntil receipt (Ok tt) old new
-    found_durable x {old} {now} {new} is t m = at_last _ t (subst (λ (y : Result Bool PoolError). Find y now new) is m)
+    pub wait_turns : (rounds : List (Handle Dev G)) {old now : Handle Dev G} → Waits receipt rounds old now → TakesAny old now
+    wait_turns [] {old} same = subst (λ (h : Handle Dev G). TakesAny old h) (sym same) (no_turns _ old)
+    wait_turns (h ∷ hs) (first, rest) = takes_on (round_turns first) (wait_turns hs rest)
 
-    -- the same refusal as a result
-    as_result : (result : Result (Unit {0}) PoolError) (e : PoolError) {old new : Handle Dev G} → IsErrAnd result (λ f. f ≡ e) → WaitsUntil receipt (Err e) old new → WaitsUntil receipt result old new
-    as_result (Ok done) e is w = absurd is
-    as_result (Err f) e {old} {new} is w = subst (λ (x : PoolError). WaitsUntil receipt (Err x) old new) (sym is) w
+    pub whole_wait : (result : Result (Unit {0}) PoolError) {old new : Handle Dev G} → WaitsUntil receipt result old new → TakesAnyAtLast old new
+    whole_wait result {old} {new} w = by w.found w.looks w.ends
+      where
+        before : TakesAny old w.last
+        before = wait_turns w.rounds w.waits
 
-    pub found_refused : (result : Result (Unit {0}) PoolError) (x : Result Bool PoolError) (e : PoolError) {old now new : Handle Dev G} → x ≡ Err e → IsErrAnd result (λ f. f ≡ e) → Waits receipt old now → Find x now new
-        → WaitsUntil receipt result old new
-    found_refused result x e {old} {now} {new} is same t m =
-        as_result result e same (at_last _ t (served_as (λ u found. inl found) (subst (λ (y : Result Bool PoolError). Find y now new) is m)))
+        there : (found : Result Bool PoolError) → LooksAt receipt found w.last w.looked → new ≡ w.looked → TakesAnyAtLast old new
+        there found look same = subst (λ (h : Handle Dev G). TakesAnyAtLast old h) (sym same) (at_last _ before (look_turn found look))
 
-    -- after a look, what one does who leads
-    pub led_on : (x : Result (Unit {0}) PoolError) {old now new : Handle Dev G} → x ≡ Ok tt → Waits receipt old now → WaitsOr receipt x now new → Waits receipt old new
-    led_on x {old} {now} {new} is t u = waits_on t (subst (λ (y : Result (Unit {0}) PoolError). WaitsOr receipt y now new) is u)
+        by : (found : Result Bool PoolError) → LooksAt receipt found w.last w.looked → EndsAfter receipt found result w.looked new → TakesAnyAtLast old new
+        by (Ok true) look ends = there (Ok true) look ends.1
+        by (Ok false) look ends = ends_on (more_leads_on before (look_turn (Ok false) look)) (lead_turns (Err ends.0) ends.2)
+        by (Err e) look ends = there (Err e) look ends.1
 
-    pub led_to_end : (result x : Result (Unit {0}) PoolError) (e : PoolError) {old now new : Handle Dev G} → x ≡ Err e → IsErrAnd result (λ f. f ≡ e) → Waits receipt old now → WaitsOr receipt x now new
-        → WaitsUntil receipt result old new
-    led_to_end result x e {old} {now} {new} is same t u =
-        as_result result e same (waits_to_end (Err e) t (subst (λ (y : Result (Unit {0}) PoolError). WaitsOr receipt y now new) is u))
+  -- a wait for a receipt, round by round
+  module _ (receipt : Receipt) where
+    one_more_round : (rounds : List (Handle Dev G)) (old now next : Handle Dev G) → Waits receipt rounds old now → WaitsOnce receipt now next → Waits receipt (rounds ++ next ∷ []) old next
+    one_more_round [] old now next same once = (subst (λ (h : Handle Dev G). WaitsOnce receipt h next) same once, refl)
+    one_more_round (h ∷ hs) old now next (first, rest) once = (first, one_more_round hs h now next rest once)
 
-    -- the log was written and flushed
-    pub logged : (r : Option declared_reply.Reply) {old new : Handle Dev G} → Served duty.CommitLog r old new → Waits receipt old new
-    logged r {old} m = one_more_turn _ (no_waits old) (served_as (λ u made. inr (inl (r, made))) m) (served_grows duty.CommitLog r m)
+    -- so far the handle waited
+    pub record HasWaited (old now : Handle Dev G) : Type 0 where
+      pub rounds : List (Handle Dev G)
+      pub waits : Waits receipt rounds old now
 
-    pub log_refused : (r : Option declared_reply.Reply) (e : PoolError) {old new : Handle Dev G} → r ≡ Some (reply.Refused e) → (e ≡ NoLogSpace → ⊥) → Served duty.CommitLog r old new → WaitsOr receipt (Err e) old new
-    log_refused r e {old} is other m = at_last _ (no_waits old) (served_as (λ u made. inr (inl (other, made))) (refused_as duty.CommitLog r e is m))
+    waited_once : {old now next : Handle Dev G} → HasWaited old now → WaitsOnce receipt now next → HasWaited old next
+    waited_once {old} {now} {next} w once = record { rounds = w.rounds ++ next ∷ []; waits = one_more_round w.rounds old now next w.waits once }
+
+    -- what a look found
+    module _ (x : Result Bool PoolError) {old now next : Handle Dev G} (so_far : HasWaited old now) (m : LooksAt receipt x now next) where
+      found_as : (y : Result Bool PoolError) → x ≡ y → LooksAt receipt y now next
+      found_as y is = subst (λ (z : Result Bool PoolError). LooksAt receipt z now next) is m
+
+      ended : (y : Result Bool PoolError) (result : Result (Unit {0}) PoolError) {new : Handle Dev G} → x ≡ y → EndsAfter receipt y result next new → WaitsUntil receipt result old new
+      ended y result is ends = record { rounds = so_far.rounds; last = now; waits = so_far.waits; found = y; looked = next; looks = found_as y is; ends = ends }
+
+      -- the same refusal as a result
+      as_result : (result : Result (Unit {0}) PoolError) (e : PoolError) → IsErrAnd result (λ f. f ≡ e) → result ≡ Err e
+      as_result (Ok done) e is = absurd is
+      as_result (Err f) e is = ap (λ (g : PoolError). Err g) is
+
+      pub found_durable : x ≡ Ok true → WaitsUntil receipt (Ok tt) old next
+      found_durable is = ended (Ok true) (Ok tt) is (refl, refl)
+
+      pub found_refused : (result : Result (Unit {0}) PoolError) (e : PoolError) → x ≡ Err e → IsErrAnd result (λ f. f ≡ e) → WaitsUntil receipt result old next
+      found_refused result e is same = ended (Err e) result is (as_result result e same, refl)
+
+      -- another handle leads
+      pub looked_for : x ≡ Ok false → HasWaited old next
+      looked_for is = waited_once so_far (record { looked = next; looks = found_as (Ok false) is; goes_on = inl refl })
+
+      -- this one does
+      pub led_on : (y : Result (Unit {0}) PoolError) {new : Handle Dev G} → x ≡ Ok false → y ≡ Ok tt → Leads receipt y next new → HasWaited old new
+      led_on y {new} is done l = waited_once so_far (record { looked = next; looks = found_as (Ok false) is; goes_on = inr (subst (λ (z : Result (Unit {0}) PoolError). Leads receipt z next new) done l) })
+
+      pub led_to_end : (result y : Result (Unit {0}) PoolError) (e : PoolError) {new : Handle Dev G} → x ≡ Ok false → y ≡ Err e → IsErrAnd result (λ f. f ≡ e) → Leads receipt y next new → WaitsUntil receipt result old new
+      led_to_end result y e {new} is failed same l = ended (Ok false) result is (e, as_result result e same, subst (λ (z : Result (Unit {0}) PoolError). Leads receipt z next new) failed l)
+
+    -- one who leads writes and flushes the log
+    pub logged : (r : Option declared_reply.Reply) {old new : Handle Dev G} → GoesOnAfter None r → WritesLog r old new → Leads receipt (Ok tt) old new
+    logged r passed m = inl (r, passed, m)
+
+    pub log_refused : (r : Option declared_reply.Reply) (e : PoolError) {old new : Handle Dev G} → r ≡ Some (reply.Refused e) → (e ≡ NoLogSpace → ⊥) → WritesLog r old new → Leads receipt (Err e) old new
+    log_refused r e is other m = inl (other, refused_as duty.CommitLog r e is m)
 
     -- or groups were synced up to the receipt's
-    pub synced_instead : (r : Option declared_reply.Reply) {old now new : Handle Dev G} (result : Result (Unit {0}) PoolError) → Served duty.CommitLog r old now → SyncsUpTo receipt.group result now new → WaitsOr receipt result old new
-    synced_instead r {now = now} (Ok done) m u =
-        waits_on (logged r m) (all_alike (λ t made. (inr (inr made), grows_by_due (IsTrue G.keeps_model) (duty.SyncUpTo receipt.group (moment_of now)) made.0 t.took t.left made.1))
-        (ends_as (λ t made. inr (inr made)) (λ t made. made.0) u))
-    synced_instead r (Err e) m u = waits_to_end (Err e) (logged r m) (ends_as (λ t made. inr (inr made)) (λ t made. inr (inr made)) u)
+    pub synced_instead : (r : Option declared_reply.Reply) (e : PoolError) {old now new : Handle Dev G} (result : Result (Unit {0}) PoolError) → r ≡ Some (reply.Refused e) → e ≡ NoLogSpace → WritesLog r old now → SyncsUpTo receipt.group result now new
+        → Leads receipt result old new
+    synced_instead r e {old} {now} {new} result is full m u = by result u
+      where
+        refused : WritesLog (Some (reply.Refused NoLogSpace)) old now
+        refused = refused_as duty.CommitLog r NoLogSpace (is ∙ ap (λ (f : PoolError). Some (reply.Refused f)) full) m
+
+        by : (x : Result (Unit {0}) PoolError) → SyncsUpTo receipt.group x now new → Leads receipt x old new
+        by (Ok done) s = inr (record { full = now; refused = refused; syncs = s })
+        by (Err f) s = inr (record { full = now; refused = refused; syncs = s })

@@ -1,6 +1,6 @@
 -- What a wait for a receipt, and a sync up to a group, say to their handle.
-use Rattle.std.proofs.Common.{◌≡◌, ◌≢◌, ◌⊎◌, ◌≤◌, ℕ, [], Bool, true, false, inl, inr, refl, ap, sym, subst, ◌∙◌}
-use Rattle.std.specs.Prelude.{IfErr, IfOk, IsTrue, Ok, Err, Result, Some, nat_le}
+use Rattle.std.proofs.Common.{◌≡◌, ◌≢◌, ◌⊎◌, ◌≤◌, ◌||◌, ℕ, [], Bool, true, false, inl, inr, refl, ap, sym, subst, ◌∙◌}
+use Rattle.std.specs.Prelude.{IfErr, IfOk, IsTrue, None, Ok, Err, Result, Some, if◌then◌else◌, nat_le}
 use Rattle.std.proofs.Math.Logic.{∥∥₁_elim, ∥∥₁_map, ∥∥₁_prop}
 use mathlib.Core.Bool.{Bool-set}
 use Rattle.std.proofs.lemmas.Bool.{false≢true, le-leb, leb-true}
@@ -11,9 +11,13 @@ use Rattle.base.specs.declared.names.Receipt.{Receipt}
 use Rattle.base.specs.declared.step.Step as declared_step
 use Rattle.base.specs.declared.step.Reply.TheVariants as reply
 use Rattle.base.specs.formats.Limits.{last_number}
-use Rattle.base.specs.steps.ExactNow.{GoesOn}
+use Rattle.base.specs.steps.ExactNow.{GoesOn, IsExplainedNow}
+use Rattle.base.specs.steps.Logs.{is_flushed_in}
+use Rattle.base.specs.steps.Refusals.{fsync_refusal}
 use Rattle.base.specs.steps.Runs.{refusal_of_step}
+use Rattle.base.specs.steps.Seen.{IsKnownDurable, IsRefusedBetween}
 use Rattle.base.specs.steps.SeenLaws.{is_untested}
+use Rattle.base.specs.steps.Shown.{is_durable}
 use Rattle.base.specs.steps.Steps.{State}
 use Rattle.base.proofs.steps.SeenGroups.{durable_is_known}
 use Rattle.base.proofs.steps.StepEffects.{Answered, step_does}
@@ -27,9 +31,10 @@ use Rattle.pool_threads.specs.declared.handle.Handle.{Handle}
 use Rattle.pool_threads.specs.Answers.{Sees, state_seen}
 use Rattle.pool_threads.specs.Handles.{HasLooked, moment_of}
 use Rattle.pool_threads.specs.Serves.{IsRefusedTurn, MakesDue}
-use Rattle.pool_threads.specs.Views.{GrowsTo, SeenPool, grows_onward, viewed_state}
-use Rattle.pool_threads.specs.Waits.{EndsWaiting, FindsReceipt, IsSyncingRefusal, IsWaitingRefusal, LeavesDurable, SyncsPool, SyncsUpTo, WaitsUntil, result_of}
-use Rattle.pool_threads.proofs.Served.{LastDue, last_made, refused_due}
+use Rattle.pool_threads.specs.Views.{GrowsTo, SeenPool, grows_onward, grows_same, viewed_state}
+use Rattle.pool_threads.specs.Waits.{EndsAfter, FindsReceipt, IsRefusedAfter, IsSyncingRefusal, IsWaitingRefusal, Leads, LeavesDurable, LooksAt, SyncsPool, SyncsUpTo, WaitsUntil, result_of, wait_refusal}
+use Rattle.pool_threads.proofs.Served.{LastDue, grows_by_due, last_made, refused_due}
+use Rattle.pool_threads.proofs.Waited.{TakesAny, wait_turns}
 use Rattle.word_lock.specs.declared.rule.Turn.{Turn}
 use Rattle.word_lock.specs.Seats.{seen}
 use Rattle.word_lock.specs.Turns.{turn}
@@ -100,60 +105,154 @@ module _ (keeps : Type 0) (u w : SeenPool) where
         by (inl other) = let no_way : error.NoLogSpace ≡ error.Suspended = sym is ∙ other in cc
         by (inr found) = let no_way : error.NoLogSpace ≡ error.NotReady = sym is ∙ found.0 in cc
 
+-- what is known to be durable is shown so
+known-shown : (ordinal group : ℕ) (s : State) → IsExplainedNow s.shown s.past → IsKnownDurable ordinal group s → is_durable s.shown ordinal group ≡ true
+known-shown ordinal group s x (inl low) = ap (λ (b : Bool). b || is_flushed_in s.shown.log (record { ordinal = ordinal; group = group })) (le-leb group s.shown.line.synced low)
+known-shown ordinal group s x (inr (e, at, of_group, is)) = ap (λ (g : ℕ). is_durable s.shown ordinal g) (sym of_group) ∙ sym (x.exact.log.acknowledged ordinal e at) ∙ is
+
+-- a wait for what a pool shows as durable is not refused from then on
+never_refused : (moment : ℕ) (receipt : Receipt) (e : PoolError) (s after : State) → IsExplainedNow s.shown s.past → is_durable s.shown receipt.ordinal.0 receipt.group.0 ≡ true → IsWaitingRefusal moment receipt e s after → ⊥
+never_refused moment receipt e s after x is r =
+    let shown : is_durable r.looked.shown receipt.ordinal.0 receipt.group.0 ≡ true = known-shown receipt.ordinal.0 receipt.group.0 r.looked r.explained (durable_is_known receipt.ordinal.0 receipt.group.0 s r.looked x is r.no_earlier) in
+    false≢true (sym r.not_durable ∙ shown)
+
 -- a look that refuses
-found_refusal : (keeps : Type 0) (receipt : Receipt) (moment : ℕ) (e : PoolError) (v : SeenPool) (t : Turn SeenPool) → GrowsTo keeps v t.took → FindsReceipt receipt (Err e) t → ∥ IsWaitingRefusal moment receipt e (viewed_state v) (viewed_state t.left) ∥₁
-found_refusal keeps receipt moment e v t onward f =
+found_refusal : (keeps : Type 0) (receipt : Receipt) (e : PoolError) (v : SeenPool) (t : Turn SeenPool) → GrowsTo keeps v t.took → FindsReceipt receipt (Err e) t → ∥ IsRefusedBetween (wait_refusal receipt) e (viewed_state v) (viewed_state t.left) ∥₁
+found_refusal keeps receipt e v t onward f =
     ∥∥₁_elim onward.goes_on ∥∥₁_prop (λ before.
-    ∥∥₁_map {B = IsWaitingRefusal moment receipt e (viewed_state v) (viewed_state t.left)} f.explained (λ x. inl (record {
+    ∥∥₁_map {B = IsRefusedBetween (wait_refusal receipt) e (viewed_state v) (viewed_state t.left)} f.explained (λ x. record {
       state = viewed_state t.left;
       no_earlier = subst (λ (u : SeenPool). GoesOn (viewed_state v) (viewed_state u)) (sym f.looked) before;
       no_later = ([], [], refl);
       explained = x;
-      refused = f.checked.1;
+      refused = ap (λ (b : Bool). if b then None else fsync_refusal receipt.ordinal.0 receipt.group.0 (viewed_state t.left).shown) f.checked.0 ∙ f.checked.1;
       suspended = λ is. receipt_suspends receipt.ordinal.0 receipt.group.0 (viewed_state t.left).shown (f.checked.1 ∙ ap (λ (y : PoolError). Some y) is);
-    })))
+    }))
+
+-- the last turn of a wait that is refused: of a look, of the log, or of a sync
+abbrev LastTurn : Type 0 → Receipt → PoolError → Turn SeenPool → Type 0
+LastTurn keeps receipt e t = FindsReceipt receipt (Err e) t
+    ⊎ ((e ≢ error.NoLogSpace) × IsRefusedTurn keeps duty.CommitLog e t)
+    ⊎ ((moment : ℕ) × IsRefusedTurn keeps (duty.SyncUpTo receipt.group moment) e t)
 
 module _ {Dev : Type 0} {G : Ghosts Dev} where
   module _ (receipt : Receipt) where
+    -- a wait that returns Ok has found the transaction durable, in what the handle has seen then
+    found_last : (old new : Handle Dev G) → WaitsUntil receipt (Ok tt) old new → ∥ IsExplainedNow (state_seen new).shown (state_seen new).past ∥₁ × (is_durable (state_seen new).shown receipt.ordinal.0 receipt.group.0 ≡ true)
+    found_last old new w = by w.found w.looks w.ends
+      where
+        by : (found : Result Bool PoolError) → LooksAt receipt found w.last w.looked → EndsAfter receipt found (Ok tt) w.looked new → ∥ IsExplainedNow (state_seen new).shown (state_seen new).past ∥₁ × (is_durable (state_seen new).shown receipt.ordinal.0 receipt.group.0 ≡ true)
+        by (Ok true) look ends =
+            subst (λ (h : Handle Dev G). ∥ IsExplainedNow (state_seen h).shown (state_seen h).past ∥₁ × (is_durable (state_seen h).shown receipt.ordinal.0 receipt.group.0 ≡ true)) (sym ends.1) (look.made.made.explained, sym look.made.made.checked.0)
+        by (Ok false) look ends = absurd (let no_way : Ok tt ≡ Err ends.0 = ends.1 in cc)
+        by (Err e) look ends = absurd (let no_way : Ok tt ≡ Err e = ends.0 in cc)
+
     pub durable_seen : (result : Result (Unit {0}) PoolError) (old new : Handle Dev G) → WaitsUntil receipt result old new → IfOk result (λ _. Sees (LeavesDurable receipt) old new)
     durable_seen (Ok done) old new w =
-        ∥∥₁_map {B = LeavesDurable receipt (state_seen old) (state_seen new)} w.made.made.explained (λ x. durable_is_known receipt.ordinal.0 receipt.group.0 (state_seen new) (state_seen new) x (sym w.made.made.checked.0) ([], [], refl))
+        let there = found_last old new w in
+        ∥∥₁_map {B = LeavesDurable receipt (state_seen old) (state_seen new)} there.0 (λ x. durable_is_known receipt.ordinal.0 receipt.group.0 (state_seen new) (state_seen new) x there.1 ([], [], refl))
     durable_seen (Err e) old new w = tt
+
+    -- a wait after one that returned Ok is not refused
+    pub durable_twice : (e : PoolError) (old middle new : Handle Dev G) → WaitsUntil receipt (Ok tt) old middle → Sees (IsWaitingRefusal (moment_of middle) receipt e) middle new → ⊥
+    durable_twice e old middle new w refused =
+        let there = found_last old middle w in
+        ∥∥₁_elim there.0 none (λ x.
+        ∥∥₁_elim refused none (λ r. never_refused (moment_of middle) receipt e (state_seen middle) (state_seen new) x there.1 r))
+      where
+        none : (x y : ⊥) → x ≡ y
+        none x y = absurd x
+
+    -- the refusals of one who leads
+    led_refusal : (e : PoolError) (moment : ℕ) (looked new : Handle Dev G) → moment_of looked ≡ moment → Leads receipt (Err e) looked new → ∥ IsRefusedAfter moment receipt e (state_seen looked) (state_seen new) ∥₁
+    led_refusal e moment looked new at (inl (other, m)) =
+        ∥∥₁_map {B = IsRefusedAfter moment receipt e (state_seen looked) (state_seen new)} (refused_due (IsTrue G.keeps_model) duty.CommitLog e (seen looked.seat) m.made.took (seen new.seat) m.made.onward m.made.made) (λ r. inr (inl r))
+    led_refusal e moment looked new at (inr s) =
+        let u = s.syncs in
+        let refused = subst (λ (x : ℕ). IsRefusedTurn (IsTrue G.keeps_model) (duty.SyncUpTo receipt.group x) e (turn u.made.took (seen new.seat))) (s.refused.same_pool.1 ∙ at) u.made.made in
+        let full = grows_by_due (IsTrue G.keeps_model) duty.CommitLog (Some (reply.Refused error.NoLogSpace)) s.refused.made.took (seen s.full.seat) s.refused.made.made in
+        let onward = grows_onward _ _ _ _ s.refused.made.onward (grows_onward _ _ _ _ full u.made.onward) in
+        ∥∥₁_map {B = IsRefusedAfter moment receipt e (state_seen looked) (state_seen new)} (refused_due (IsTrue G.keeps_model) (duty.SyncUpTo receipt.group moment) e (seen looked.seat) u.made.took (seen new.seat) onward refused) (λ r. inr (inr r))
+
+    -- a refusal of the last look
+    look_refusal : (e : PoolError) (moment : ℕ) (earlier looked : Handle Dev G) → LooksAt receipt (Err e) earlier looked → ∥ IsRefusedAfter moment receipt e (state_seen looked) (state_seen looked) ∥₁
+    look_refusal e moment earlier looked l =
+        ∥∥₁_map {B = IsRefusedAfter moment receipt e (state_seen looked) (state_seen looked)}
+        (found_refusal (IsTrue G.keeps_model) receipt e (seen looked.seat) (turn l.made.took (seen looked.seat)) (subst (GrowsTo (IsTrue G.keeps_model) (seen looked.seat)) l.made.made.looked (grows_same (IsTrue G.keeps_model) (seen looked.seat))) l.made.made)
+        (λ r. inl r)
+
+    -- what the last look found, and what came after it
+    refusal_from : (e : PoolError) (found : Result Bool PoolError) (moment : ℕ) (old earlier looked new : Handle Dev G) (onward : GrowsTo (IsTrue G.keeps_model) (seen old.seat) (seen earlier.seat)) (l : LooksAt receipt found earlier looked)
+        → is_durable (state_seen looked).shown receipt.ordinal.0 receipt.group.0 ≡ false → ∥ IsRefusedAfter moment receipt e (state_seen looked) (state_seen new) ∥₁ → Sees (IsWaitingRefusal moment receipt e) old new
+    refusal_from e found moment old earlier looked new onward l none after =
+        ∥∥₁_elim (grows_onward _ _ _ _ onward l.made.onward).goes_on ∥∥₁_prop (λ before.
+        ∥∥₁_elim l.made.made.explained ∥∥₁_prop (λ x.
+        ∥∥₁_map {B = IsWaitingRefusal moment receipt e (state_seen old) (state_seen new)} after (λ r. record {
+          looked = state_seen looked;
+          no_earlier = subst (λ (u : SeenPool). GoesOn (state_seen old) (viewed_state u)) (sym l.made.made.looked) before;
+          explained = x;
+          not_durable = none;
+          refused = r;
+        })))
 
     pub refusal_seen : (result : Result (Unit {0}) PoolError) (old new : Handle Dev G) → WaitsUntil receipt result old new → IfErr result (λ e. Sees (IsWaitingRefusal (moment_of old) receipt e) old new)
     refusal_seen (Ok done) old new w = tt
-    refusal_seen (Err e) old new w = by w.made.made
+    refusal_seen (Err e) old new w = by w.found w.looks w.ends
       where
-        by : EndsWaiting (IsTrue G.keeps_model) (moment_of old) receipt (Err e) (turn w.made.took (seen new.seat)) → ∥ IsWaitingRefusal (moment_of old) receipt e (state_seen old) (state_seen new) ∥₁
-        by (inl f) = found_refusal (IsTrue G.keeps_model) receipt (moment_of old) e (seen old.seat) (turn w.made.took (seen new.seat)) w.made.onward f
-        by (inr (inl m)) = ∥∥₁_map {B = IsWaitingRefusal (moment_of old) receipt e (state_seen old) (state_seen new)} (refused_due (IsTrue G.keeps_model) duty.CommitLog e (seen old.seat) w.made.took (seen new.seat) w.made.onward m.1) (λ r. inr (inl r))
-        by (inr (inr m)) = ∥∥₁_map {B = IsWaitingRefusal (moment_of old) receipt e (state_seen old) (state_seen new)} (refused_due (IsTrue G.keeps_model) (duty.SyncUpTo receipt.group (moment_of old)) e (seen old.seat) w.made.took (seen new.seat) w.made.onward m) (λ r. inr (inr r))
+        so_far : TakesAny old w.last
+        so_far = wait_turns receipt w.rounds w.waits
+
+        by : (found : Result Bool PoolError) → LooksAt receipt found w.last w.looked → EndsAfter receipt found (Err e) w.looked new → Sees (IsWaitingRefusal (moment_of old) receipt e) old new
+        by (Ok true) l ends = absurd (let no_way : Err e ≡ Ok tt = ends.0 in cc)
+        by (Ok false) l ends =
+            let same : ends.0 ≡ e = (let is : Err e ≡ Err ends.0 = ends.1 in cc) in
+            let leads = subst (λ (x : PoolError). Leads receipt (Err x) w.looked new) same ends.2 in
+            refusal_from e (Ok false) (moment_of old) old w.last w.looked new so_far.made.onward l (sym l.made.made.checked.0) (led_refusal e (moment_of old) w.looked new (l.same_pool.1 ∙ so_far.same_pool.1) leads)
+        by (Err f) l ends =
+            let same : f ≡ e = (let is : Err e ≡ Err f = ends.0 in cc) in
+            let look = subst (λ (x : PoolError). LooksAt receipt (Err x) w.last w.looked) same l in
+            subst (λ (h : Handle Dev G). Sees (IsWaitingRefusal (moment_of old) receipt e) old h) (sym ends.1) (refusal_from e (Err e) (moment_of old) old w.last w.looked w.looked so_far.made.onward look look.made.made.checked.0 (look_refusal e (moment_of old) w.last w.looked look))
+
+    last_turn : (e : PoolError) (old new : Handle Dev G) → WaitsUntil receipt (Err e) old new → (took : SeenPool) × LastTurn (IsTrue G.keeps_model) receipt e (turn took (seen new.seat))
+    last_turn e old new w = by w.found w.looks w.ends
+      where
+        of_lead : (f : PoolError) → f ≡ e → Leads receipt (Err f) w.looked new → (took : SeenPool) × LastTurn (IsTrue G.keeps_model) receipt e (turn took (seen new.seat))
+        of_lead f same (inl (other, m)) = subst (λ (x : PoolError). (took : SeenPool) × LastTurn (IsTrue G.keeps_model) receipt x (turn took (seen new.seat))) same (m.made.took, inr (inl (other, m.made.made)))
+        of_lead f same (inr s) = subst (λ (x : PoolError). (took : SeenPool) × LastTurn (IsTrue G.keeps_model) receipt x (turn took (seen new.seat))) same (s.syncs.made.took, inr (inr (moment_of s.full, s.syncs.made.made)))
+
+        by : (found : Result Bool PoolError) → LooksAt receipt found w.last w.looked → EndsAfter receipt found (Err e) w.looked new → (took : SeenPool) × LastTurn (IsTrue G.keeps_model) receipt e (turn took (seen new.seat))
+        by (Ok true) l ends = absurd (let no_way : Err e ≡ Ok tt = ends.0 in cc)
+        by (Ok false) l ends = of_lead ends.0 (let is : Err e ≡ Err ends.0 = ends.1 in cc) ends.2
+        by (Err f) l ends =
+            let same : f ≡ e = (let is : Err e ≡ Err f = ends.0 in cc) in
+            let look = subst (λ (x : PoolError). LooksAt receipt (Err x) w.last w.looked) same l in
+            subst (λ (h : Handle Dev G). (took : SeenPool) × LastTurn (IsTrue G.keeps_model) receipt e (turn took (seen h.seat))) (sym ends.1) (look.made.took, inl look.made.made)
 
     pub log_space_never : (result : Result (Unit {0}) PoolError) (old new : Handle Dev G) → WaitsUntil receipt result old new → IfErr result (λ e. e ≢ error.NoLogSpace)
     log_space_never (Ok done) old new w = tt
-    log_space_never (Err e) old new w = λ is. by is w.made.made
+    log_space_never (Err e) old new w = λ is. let ended = last_turn e old new w in by is ended.0 ended.1
       where
-        by : e ≡ error.NoLogSpace → EndsWaiting (IsTrue G.keeps_model) (moment_of old) receipt (Err e) (turn w.made.took (seen new.seat)) → ⊥
-        by is (inl f) = other (receipt_refusals receipt.ordinal.0 receipt.group.0 (state_seen new).shown e f.checked.1)
+        by : e ≡ error.NoLogSpace → (took : SeenPool) → LastTurn (IsTrue G.keeps_model) receipt e (turn took (seen new.seat)) → ⊥
+        by is took (inl f) = other (receipt_refusals receipt.ordinal.0 receipt.group.0 (state_seen new).shown e f.checked.1)
           where
             other : (e ≡ error.Suspended) ⊎ (e ≡ error.BadRange) → ⊥
             other (inl one) = let no_way : error.NoLogSpace ≡ error.Suspended = sym is ∙ one in cc
             other (inr one) = let no_way : error.NoLogSpace ≡ error.BadRange = sym is ∙ one in cc
-        by is (inr (inl m)) = m.0 is
-        by is (inr (inr m)) = syncs_without_log (IsTrue G.keeps_model) w.made.took (seen new.seat) receipt.group (moment_of old) e m is
+        by is took (inr (inl (other, m))) = other is
+        by is took (inr (inr (moment, m))) = syncs_without_log (IsTrue G.keeps_model) took (seen new.seat) receipt.group moment e m is
 
     pub at_last_group : (result : Result (Unit {0}) PoolError) (old new : Handle Dev G) → WaitsUntil receipt result old new → IfErr result (λ e. e ≡ error.NotReady → last_number ≤ (state_seen new).shown.line.open_group)
     at_last_group (Ok done) old new w = tt
-    at_last_group (Err e) old new w = λ is. by is w.made.made
+    at_last_group (Err e) old new w = λ is. let ended = last_turn e old new w in by is ended.0 ended.1
       where
-        by : e ≡ error.NotReady → EndsWaiting (IsTrue G.keeps_model) (moment_of old) receipt (Err e) (turn w.made.took (seen new.seat)) → last_number ≤ (state_seen new).shown.line.open_group
-        by is (inl f) = absurd (other (receipt_refusals receipt.ordinal.0 receipt.group.0 (state_seen new).shown e f.checked.1))
+        by : e ≡ error.NotReady → (took : SeenPool) → LastTurn (IsTrue G.keeps_model) receipt e (turn took (seen new.seat)) → last_number ≤ (state_seen new).shown.line.open_group
+        by is took (inl f) = absurd (other (receipt_refusals receipt.ordinal.0 receipt.group.0 (state_seen new).shown e f.checked.1))
           where
             other : (e ≡ error.Suspended) ⊎ (e ≡ error.BadRange) → ⊥
             other (inl one) = let no_way : error.NotReady ≡ error.Suspended = sym is ∙ one in cc
             other (inr one) = let no_way : error.NotReady ≡ error.BadRange = sym is ∙ one in cc
-        by is (inr (inl m)) = absurd (log_is_ready (IsTrue G.keeps_model) w.made.took (seen new.seat) e is m.1)
-        by is (inr (inr m)) = leb-true last_number _ (syncs_to_last (IsTrue G.keeps_model) w.made.took (seen new.seat) receipt.group (moment_of old) e m is)
+        by is took (inr (inl (other, m))) = absurd (log_is_ready (IsTrue G.keeps_model) took (seen new.seat) e is m)
+        by is took (inr (inr (moment, m))) = leb-true last_number _ (syncs_to_last (IsTrue G.keeps_model) took (seen new.seat) receipt.group moment e m is)
 
   -- a sync of the whole pool, by its look and its turns
   pub pool_ended : (group : Group) (old looked new : Handle Dev G) (answer : Result Group PoolError) (result : Result (Unit {0}) PoolError) → HasLooked old looked → group.0 ≡ (state_seen looked).shown.line.open_group

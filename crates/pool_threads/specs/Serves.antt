@@ -1,11 +1,12 @@
 -- What a handle does for a duty: in one turn the steps that are due then, or none.
-use Rattle.std.specs.Prelude.{◌≡◌, ◌++◌, List, [], ◌∷◌, Option, Some, None}
+use Rattle.std.specs.Prelude.{◌≡◌, ◌++◌, All, List, [], ◌∷◌, Option, Some, None}
 use Rattle.base.specs.declared.error.PoolError.{PoolError}
 use Rattle.base.specs.declared.step.Step as declared_step
 use Rattle.base.specs.declared.step.Reply as declared_reply
 use Rattle.base.specs.declared.step.Reply.TheVariants as reply
 use Rattle.base.specs.steps.ExactNow.{GoesOn}
 use Rattle.base.specs.steps.Steps.{State}
+use Rattle.base.specs.steps.SyncEnds.{IsAnswer}
 use Rattle.pool_tables.specs.declared.duty.Duty.{Duty}
 use Rattle.pool_tables.specs.Duties.{due_step}
 use Rattle.pool_threads.specs.Answers.{IsRefusal}
@@ -23,20 +24,26 @@ abbrev pub AreDue : Type 0 → Duty → List declared_reply.Reply → SeenPool �
 AreDue keeps d [] v w = w ≡ v
 AreDue keeps d (r ∷ rs) v w = (s : declared_step.Step) × (middle : SeenPool) × (due_of d v ≡ Some s) × IsPoolStep keeps s r v middle × AreDue keeps d rs middle w
 
--- steps that were due were made, the last with this reply; or none was due, and nothing has changed
+-- Steps that were due were made, the last with this reply, and none before it was refused; or none was due, and nothing
+-- has changed.
 abbrev pub MakesDue : Type 0 → Duty → Option declared_reply.Reply → SeenPool → SeenPool → Type 0
 MakesDue keeps d None v w = (due_of d v ≡ None) × (w ≡ v)
-MakesDue keeps d (Some r) v w = (rs : List declared_reply.Reply) × AreDue keeps d (rs ++ r ∷ []) v w
+MakesDue keeps d (Some r) v w = (rs : List declared_reply.Reply) × All IsAnswer rs × AreDue keeps d (rs ++ r ∷ []) v w
 
 -- in this turn that was done for a duty, the last step with this reply
 abbrev pub IsServedTurn : Type 0 → Duty → Option declared_reply.Reply → Turn SeenPool → Type 0
 IsServedTurn keeps d r t = MakesDue keeps d r t.took t.left
 
--- in this turn that was done for a duty
-abbrev pub IsDutyTurn : Type 0 → Duty → Turn SeenPool → Type 0
-IsDutyTurn keeps d t = (r : Option declared_reply.Reply) × IsServedTurn keeps d r t
+-- after a turn with this last reply a handle goes on: nothing was refused in it, except perhaps so
+abbrev pub GoesOnAfter : Option PoolError → Option declared_reply.Reply → Type 0
+GoesOnAfter passed (Some (reply.Refused e)) = passed ≡ Some e
+GoesOnAfter passed _ = Unit {0}
 
--- in this turn the last step that was due was refused so
+-- in this turn that was done for a duty, and nothing was refused, except perhaps so
+abbrev pub IsDutyTurn : Type 0 → Duty → Option PoolError → Turn SeenPool → Type 0
+IsDutyTurn keeps d passed t = (r : Option declared_reply.Reply) × GoesOnAfter passed r × IsServedTurn keeps d r t
+
+-- in this turn the last step that was due was refused so, and none before it was
 abbrev pub IsRefusedTurn : Type 0 → Duty → PoolError → Turn SeenPool → Type 0
 IsRefusedTurn keeps d e t = IsServedTurn keeps d (Some (reply.Refused e)) t
 

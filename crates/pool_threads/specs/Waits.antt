@@ -1,66 +1,66 @@
 -- What a handle does that waits until a transaction is durable, or until groups are synced.
-use Rattle.std.specs.Prelude.{ℕ, ◌≡◌, ◌≢◌, ◌≤◌, ◌⊎◌, Bool, IsTrue, Result, Ok, Err, true}
+use Rattle.std.specs.Prelude.{ℕ, ◌≡◌, ◌≢◌, ◌≤◌, ◌⊎◌, Bool, IsTrue, List, [], ◌∷◌, None, Option, Result, Ok, Err, Some, false, if◌then◌else◌, true}
 use Rattle.base.specs.declared.error.PoolError.{PoolError}
 use Rattle.base.specs.declared.error.PoolError.TheVariants.{NoLogSpace}
 use Rattle.base.specs.declared.names.Group.{Group}
 use Rattle.base.specs.declared.names.Receipt.{Receipt}
-use Rattle.base.specs.steps.ExactNow.{IsExplainedNow}
+use Rattle.base.specs.declared.step.Reply as declared_reply
+use Rattle.base.specs.declared.step.Reply.TheVariants as reply
+use Rattle.base.specs.steps.ExactNow.{GoesOn, IsExplainedNow}
 use Rattle.base.specs.steps.Refusals.{fsync_refusal}
 use Rattle.base.specs.steps.Seen.{IsKnownDurable, IsRefusedBetween}
+use Rattle.base.specs.steps.Shown.{Shown, is_durable}
 use Rattle.base.specs.steps.Steps.{State}
 use Rattle.device_model.specs.declared.device.SectorDevice.{Ghosts}
 use Rattle.pool_tables.specs.declared.duty.Duty.TheVariants as duty
 use Rattle.pool_tables.specs.Receipts.{ChecksReceipt}
 use Rattle.pool_threads.specs.declared.handle.Handle.{Handle}
-use Rattle.pool_threads.specs.Answers.{Takes, TakesAtLast, state_seen}
+use Rattle.pool_threads.specs.Answers.{TakesAtLast, TakesOne, state_seen}
 use Rattle.pool_threads.specs.Handles.{HasLooked, moment_of}
-use Rattle.pool_threads.specs.Serves.{IsDutyTurn, IsRefusedDuty, IsRefusedTurn}
+use Rattle.pool_threads.specs.Serves.{GoesOnAfter, IsDutyTurn, IsRefusedDuty, IsRefusedTurn, IsServedTurn}
 use Rattle.pool_threads.specs.Views.{SeenPool, viewed_state}
 use Rattle.word_lock.specs.declared.rule.Turn.{Turn}
 
--- this turn changed nothing
-abbrev pub IsLook : Turn SeenPool → Type 0
-IsLook t = t.left ≡ t.took
-
--- so it was, and the receipt was checked with this result, of a pool that its past explains
+-- This turn changed nothing, and the receipt was checked in it with this result, of a pool that its past explains.
 pub record FindsReceipt (receipt : Receipt) (result : Result Bool PoolError) (t : Turn SeenPool) : Type 0 where
-  pub looked : IsLook t
+  pub looked : t.left ≡ t.took
   pub checked : ChecksReceipt receipt result (viewed_state t.left).shown
   pub explained : ∥ IsExplainedNow (viewed_state t.left).shown t.left.past ∥₁
 
--- a turn of a sync up to a group, with this moment: what is due for it, and then the group is synced, or a step was
--- refused
+-- A turn of a sync up to a group, with this moment: what is due for it, and nothing is refused. In the last one the
+-- group is synced, or a step is refused.
 abbrev pub IsSyncing : Type 0 → ℕ → Group → Turn SeenPool → Type 0
-IsSyncing keeps moment group = IsDutyTurn keeps (duty.SyncUpTo group moment)
+IsSyncing keeps moment group = IsDutyTurn keeps (duty.SyncUpTo group moment) None
 
 abbrev pub EndsSyncing : Type 0 → ℕ → Group → Result (Unit {0}) PoolError → Turn SeenPool → Type 0
 EndsSyncing keeps moment group (Ok done) t = IsSyncing keeps moment group t × (group.0 ≤ (viewed_state t.left).shown.line.synced)
 EndsSyncing keeps moment group (Err e) t = IsRefusedTurn keeps (duty.SyncUpTo group moment) e t
 
--- A turn of a wait for a receipt: a look at it; or what is due for the log, or for a sync up to the receipt's group.
-abbrev pub IsWaiting : Type 0 → ℕ → Receipt → Turn SeenPool → Type 0
-IsWaiting keeps moment receipt t = IsLook t ⊎ IsDutyTurn keeps duty.CommitLog t ⊎ IsSyncing keeps moment receipt.group t
-
--- The turn in which it ends: it finds the transaction durable, or refused by the tests of such a wait; or a step that
--- was due is refused, of the log otherwise than for space.
-abbrev pub EndsWaiting : Type 0 → ℕ → Receipt → Result (Unit {0}) PoolError → Turn SeenPool → Type 0
-EndsWaiting keeps moment receipt (Ok done) t = FindsReceipt receipt (Ok true) t
-EndsWaiting keeps moment receipt (Err e) t = FindsReceipt receipt (Err e) t
-    ⊎ ((e ≢ NoLogSpace) × IsRefusedTurn keeps duty.CommitLog e t)
-    ⊎ IsRefusedTurn keeps (duty.SyncUpTo receipt.group moment) e t
-
 -- the transaction of the receipt is durable then, and stays so
 abbrev pub LeavesDurable : Receipt → State → State → Type 0
 LeavesDurable receipt before after = IsKnownDurable receipt.ordinal.0 receipt.group.0 after
 
--- A refusal of a sync up to a group is that of a step that was due. A refusal of a wait is that of the tests of a wait
--- in some state, or of a step that was due for the log or for the sync.
+-- a refusal of a sync up to a group is that of a step that was due
 abbrev pub IsSyncingRefusal : ℕ → Group → PoolError → State → State → Type 0
 IsSyncingRefusal moment group = IsRefusedDuty (duty.SyncUpTo group moment)
 
-abbrev pub IsWaitingRefusal : ℕ → Receipt → PoolError → State → State → Type 0
-IsWaitingRefusal moment receipt e before after = IsRefusedBetween (fsync_refusal receipt.ordinal.0 receipt.group.0) e before after
-    ⊎ IsRefusedDuty duty.CommitLog e before after ⊎ IsSyncingRefusal moment receipt.group e before after
+-- how the tests of a wait refuse it: never if the transaction is durable
+abbrev pub wait_refusal : Receipt → Shown → Option PoolError
+wait_refusal receipt s = if is_durable s receipt.ordinal.0 receipt.group.0 then None else fsync_refusal receipt.ordinal.0 receipt.group.0 s
+
+-- the refusal of the tests of a wait in some state, or of a step that was due for the log or for a sync
+abbrev pub IsRefusedAfter : ℕ → Receipt → PoolError → State → State → Type 0
+IsRefusedAfter moment receipt e looked after = IsRefusedBetween (wait_refusal receipt) e looked after
+    ⊎ IsRefusedDuty duty.CommitLog e looked after ⊎ IsSyncingRefusal moment receipt.group e looked after
+
+-- A refusal of a wait: the transaction wasn't durable in a state in which the handle looked, and the refusal came then
+-- or later. The past of that state explains it.
+pub record IsWaitingRefusal (moment : ℕ) (receipt : Receipt) (e : PoolError) (before after : State) : Type 0 where
+  pub looked : State
+  pub no_earlier : GoesOn before looked
+  pub explained : IsExplainedNow looked.shown looked.past
+  pub not_durable : is_durable looked.shown receipt.ordinal.0 receipt.group.0 ≡ false
+  pub refused : IsRefusedAfter moment receipt e looked after
 
 -- the group, or the refusal
 abbrev pub result_of : Group → Result (Unit {0}) PoolError → Result Group PoolError
@@ -68,22 +68,56 @@ result_of group (Ok done) = Ok group
 result_of group (Err e) = Err e
 
 module _ {Dev : Type 0} {G : Ghosts Dev} where
-  -- so far the handle waited for a receipt, and had no other turn
-  abbrev pub Waits : Receipt → Handle Dev G → Handle Dev G → Type 0
-  Waits receipt old = Takes (IsWaiting (IsTrue G.keeps_model) (moment_of old) receipt) old
-
-  -- and then its wait ended so
-  abbrev pub WaitsUntil : Receipt → Result (Unit {0}) PoolError → Handle Dev G → Handle Dev G → Type 0
-  WaitsUntil receipt result old = TakesAtLast (IsWaiting (IsTrue G.keeps_model) (moment_of old) receipt) (EndsWaiting (IsTrue G.keeps_model) (moment_of old) receipt result) old
-
   -- the handle synced groups up to this one, and had no other turn
   abbrev pub SyncsUpTo : Group → Result (Unit {0}) PoolError → Handle Dev G → Handle Dev G → Type 0
   SyncsUpTo group result old = TakesAtLast (IsSyncing (IsTrue G.keeps_model) (moment_of old) group) (EndsSyncing (IsTrue G.keeps_model) (moment_of old) group result) old
 
-  -- so far it waited, or its wait ended in this refusal
-  abbrev pub WaitsOr : Receipt → Result (Unit {0}) PoolError → Handle Dev G → Handle Dev G → Type 0
-  WaitsOr receipt (Ok done) old new = Waits receipt old new
-  WaitsOr receipt (Err e) old new = WaitsUntil receipt (Err e) old new
+  -- in one turn and no other the handle looked at a receipt with this result
+  abbrev pub LooksAt : Receipt → Result Bool PoolError → Handle Dev G → Handle Dev G → Type 0
+  LooksAt receipt found = TakesOne (FindsReceipt receipt found)
+
+  -- in one turn and no other it made the steps that were due for the log, the last with this reply
+  abbrev pub WritesLog : Option declared_reply.Reply → Handle Dev G → Handle Dev G → Type 0
+  WritesLog r = TakesOne (IsServedTurn (IsTrue G.keeps_model) duty.CommitLog r)
+
+  -- the log found no space, and then the handle synced groups up to the receipt's, with this result
+  pub record SyncsInstead (receipt : Receipt) (result : Result (Unit {0}) PoolError) (old new : Handle Dev G) : Type 0 where
+    pub full : Handle Dev G
+    pub refused : WritesLog (Some (reply.Refused NoLogSpace)) old full
+    pub syncs : SyncsUpTo receipt.group result full new
+
+  -- What a handle does that leads, with this result: it writes and flushes the log, or syncs groups instead.
+  abbrev pub Leads : Receipt → Result (Unit {0}) PoolError → Handle Dev G → Handle Dev G → Type 0
+  Leads receipt (Ok done) old new = ((r : Option declared_reply.Reply) × GoesOnAfter None r × WritesLog r old new) ⊎ SyncsInstead receipt (Ok done) old new
+  Leads receipt (Err e) old new = ((e ≢ NoLogSpace) × WritesLog (Some (reply.Refused e)) old new) ⊎ SyncsInstead receipt (Err e) old new
+
+  -- A round of a wait: a look, which finds the transaction not durable; and then the handle leads, or another does.
+  pub record WaitsOnce (receipt : Receipt) (old new : Handle Dev G) : Type 0 where
+    pub looked : Handle Dev G
+    pub looks : LooksAt receipt (Ok false) old looked
+    pub goes_on : (new ≡ looked) ⊎ Leads receipt (Ok tt) looked new
+
+  -- such rounds, which left the handle so
+  abbrev pub Waits : Receipt → List (Handle Dev G) → Handle Dev G → Handle Dev G → Type 0
+  Waits receipt [] old now = now ≡ old
+  Waits receipt (h ∷ hs) old now = WaitsOnce receipt old h × Waits receipt hs h now
+
+  -- How a wait ends after its last look: that is the result, unless the transaction isn't durable and the handle is
+  -- refused as it leads.
+  abbrev pub EndsAfter : Receipt → Result Bool PoolError → Result (Unit {0}) PoolError → Handle Dev G → Handle Dev G → Type 0
+  EndsAfter receipt (Ok true) result looked new = (result ≡ Ok tt) × (new ≡ looked)
+  EndsAfter receipt (Ok false) result looked new = (e : PoolError) × (result ≡ Err e) × Leads receipt (Err e) looked new
+  EndsAfter receipt (Err e) result looked new = (result ≡ Err e) × (new ≡ looked)
+
+  -- A wait for a receipt: rounds, and a last look after them, with this result.
+  pub record WaitsUntil (receipt : Receipt) (result : Result (Unit {0}) PoolError) (old new : Handle Dev G) : Type 0 where
+    pub rounds : List (Handle Dev G)
+    pub last : Handle Dev G
+    pub waits : Waits receipt rounds old last
+    pub found : Result Bool PoolError
+    pub looked : Handle Dev G
+    pub looks : LooksAt receipt found last looked
+    pub ends : EndsAfter receipt found result looked new
 
   -- The handle looked which group was open, and then synced groups up to that one.
   pub record SyncsPool (answer : Result Group PoolError) (old new : Handle Dev G) : Type 0 where

@@ -1,6 +1,6 @@
 //! What callers rest on: one function for each promise of this crate's calls, proved from the contract of the call
 //! alone. So it is refused as soon as that contract says less.
-ghost use Rattle.std.specs.Prelude.{ℕ, ◌≡◌, ◌≢◌, ◌≤◌, [], ◌∷◌, ◌+◌, ◌++◌, IfErr, IfNone, IfOk, IfSome, IsSome, IsTrue, List, false};
+ghost use Rattle.std.specs.Prelude.{ℕ, ◌≡◌, ◌≢◌, ◌≤◌, [], ◌∷◌, ◌+◌, ◌++◌, IfErr, IfNone, IfOk, IfSome, IsSome, IsTrue, List, false, true};
 ghost use Rattle.base.specs.declared.error.PoolError.TheVariants as error;
 ghost use Rattle.base.specs.declared.names.Group.{Group};
 ghost use Rattle.base.specs.declared.names.LockId.{LockId};
@@ -404,19 +404,27 @@ fn a_transact_of_the_only_handle_leaves_the_locks_as_they_were<D: SectorDevice, 
     handle.transact(rt, Owner(3), ops)
 }
 
-// A wait that returns Ok has found the transaction durable.
+// A wait that returns Ok has found the transaction durable. So the next one is not refused, also on a pool that is
+// suspended by then.
 fn a_wait_ends_with_a_durable_commit<D: SectorDevice, W: Wait>(
     rt: &W,
     handle: &mut Handle<'_, D>,
-) -> Result<(), PoolError>
-    ensures { IfOk result
+) -> Option<bool>
+    ensures durable { IfSome result
         (λ _. Sees (λ before after. IsKnownDurable 3 9 after) handle.old handle.new) }
+    ensures again { IfSome result (λ is_durable. is_durable ≡ true) }
 {
     let receipt = Receipt {
         ordinal: Ordinal(3),
         group: Group(9),
     };
-    handle.fsync(rt, receipt)
+    match handle.fsync(rt, receipt) {
+        Ok(()) => match handle.fsync(rt, receipt) {
+            Ok(()) => Some(true),
+            Err(_) => Some(false),
+        },
+        Err(_) => None,
+    }
 }
 
 // It syncs groups instead.

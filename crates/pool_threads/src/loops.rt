@@ -12,7 +12,7 @@ ghost use Rattle.pool_tables.specs.declared.duty.Duty.TheVariants as duty;
 ghost use Rattle.pool_threads.specs.Answers.{Sees, TakesOne};
 ghost use Rattle.pool_threads.specs.Handles.{IsUnchanged, moment_of};
 ghost use Rattle.pool_threads.specs.Loops.{Works, WorksUntil};
-ghost use Rattle.pool_threads.specs.Serves.{IsRefusedDuty, IsServedTurn};
+ghost use Rattle.pool_threads.specs.Serves.{GoesOnAfter, IsRefusedDuty, IsServedTurn};
 
 use crate::handle::Handle;
 use crate::turn::try_serve;
@@ -96,8 +96,9 @@ impl<'p, D: SectorDevice> Handle<'p, D> {
 
 // The refusal that ends a loop.
 fn ending(reply: &Option<Reply>) -> Option<PoolError>
-    ensures { IfSome result (λ e. (reply.now ≡ Some (replied.Refused e))
+    ensures refused { IfSome result (λ e. (reply.now ≡ Some (replied.Refused e))
         × (e ≢ PoolError.NotReady)) }
+    ensures passed { IfNone result (GoesOnAfter (Some PoolError.NotReady) reply.now) }
 {
     match reply {
         Some(Reply::Refused(error)) if *error != PoolError::NotReady => Some(*error),

@@ -4,6 +4,7 @@
 //! `retried_turn` have it made while a seat has the lock, and free the lock.
 ghost use Rattle.std.specs.Prelude.{◌≡◌, IsSome, IsTrue, MatchOption, IfErr, Err, false, true};
 ghost use Rattle.base.specs.steps.Runs.{reply_of};
+ghost use Rattle.base.specs.steps.SyncEnds.{IsAnswer};
 ghost use Rattle.word_lock.specs.Seats.{IsAsBefore, IsHolding, IsIdle, IsSameSeat, kin, lock_table, seat_table, seen};
 ghost use Rattle.pool_core.specs.States.{shown};
 ghost use Rattle.pool_threads.specs.Serves.{HasServed, IsServedTurn, MakesDue};
@@ -196,7 +197,9 @@ fn step_replied<'h, D: SectorDevice>(
 
 // Whether a turn goes on after a step with this reply: it ends with a refusal, and after each flush of the log and each
 // sync, so that other threads get the pool.
-fn goes_on(reply: &Reply) -> bool {
+fn goes_on(reply: &Reply) -> bool
+    ensures answered { result ≡ true → IsAnswer reply.now }
+{
     !matches!(reply, Reply::Refused(_) | Reply::Flushed | Reply::Synced(_))
 }
 

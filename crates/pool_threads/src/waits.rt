@@ -13,7 +13,7 @@ ghost use Rattle.base.specs.formats.Limits.{last_number};
 ghost use Rattle.pool_threads.specs.Answers.{Sees, TakesOne, state_seen};
 ghost use Rattle.pool_threads.specs.Handles.{HasLooked, moment_of};
 ghost use Rattle.pool_threads.specs.Serves.{IsServedTurn};
-ghost use Rattle.pool_threads.specs.Waits.{FindsReceipt, IsSyncingRefusal, IsWaitingRefusal, LeavesDurable, SyncsPool, SyncsUpTo, WaitsOr, WaitsUntil};
+ghost use Rattle.pool_threads.specs.Waits.{IsSyncingRefusal, IsWaitingRefusal, Leads, LeavesDurable, LooksAt, SyncsPool, SyncsUpTo, WaitsUntil};
 
 use crate::handle::Handle;
 use crate::turn::serve_turn;
@@ -79,7 +79,7 @@ impl<'p, D: SectorDevice> Handle<'p, D> {
         rt: &'b W,
         receipt: Receipt,
     ) -> Result<bool, PoolError>
-        ensures { TakesOne (FindsReceipt receipt result) self.old self.new }
+        ensures { LooksAt receipt result self.old self.new }
     {
         let guard = self.seat.acquire(rt, &self.shared.lock);
         let checked = guard.held.value.check_receipt(receipt);
@@ -89,7 +89,7 @@ impl<'p, D: SectorDevice> Handle<'p, D> {
 
     // Writes and flushes the log for all that wait. If the log finds no block, it syncs groups up to the receipt's.
     fn lead<'a, 'b, W: Wait>(&'a mut self, rt: &'b W, receipt: Receipt) -> Result<(), PoolError>
-        ensures { WaitsOr receipt result self.old self.new }
+        ensures { Leads receipt result self.old self.new }
     {
         self.shared.flushers.gather(rt);
         let (reply, _) = self.serve(rt, Duty::CommitLog);

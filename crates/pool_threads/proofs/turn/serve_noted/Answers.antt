@@ -14,4 +14,4 @@ pub loop-preserved : goal.loop-preserved
 loop-preserved g c =
     let found = c.due_step-in-loop.ensures ∙ ap (λ st. due_step c.args.duty (shown st)) c.deref-in-loop.ensures in
     let due = due_then c.args.duty c.loop.held.value.value c.loop.held.view.value c.due_step-in-loop.result c.in-Some.step c.loop.invariant.0 found c.in-Some.is in
-    (c.step_replied-reply-in-Some.ensures.explains, more_due _ _ c.loop.reply _ _ _ _ _ c.loop.invariant.1 due c.step_replied-reply-in-Some.ensures.stepped)
+    (c.step_replied-reply-in-Some.ensures.explains, more_due _ _ c.loop.reply _ _ _ _ _ (c.goes_on.ensures.answered (search rules)) c.loop.invariant.1 due c.step_replied-reply-in-Some.ensures.stepped)
