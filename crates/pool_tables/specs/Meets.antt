@@ -55,7 +55,7 @@ Passes tests (Ok a) = first_refusal tests ≡ None
 Passes tests (Err e) = first_refusal tests ≡ Some e
 
 -- the tests of a begin and of a commit: passed, or the first refusal that applies
-abbrev pub ChecksBegin : Owner → List Shape → Result (Unit {0}) PoolError → Shown → Type 0
+abbrev pub ChecksBegin : {A : Type 0} → Owner → List Shape → Result A PoolError → Shown → Type 0
 ChecksBegin owner plan answer s = Passes (begin_tests owner.0 plan s) answer
 
 abbrev pub ChecksCommit : TxId → List Op → Result Group PoolError → Shown → Type 0

@@ -1,7 +1,13 @@
 -- Rows rise by offset, so the place of an offset among them says what a table of parts has there.
-use Rattle.std.proofs.Common.{◌≡◌, ℕ, zero, suc, ◌+◌, ◌<◌, ◌≤◌, ◌==◌, cond, [], ◌∷◌, length, refl, ap, sym, subst, ◌∙◌, arith, inl, inr}
+use Rattle.std.proofs.Common.{◌≡◌, ℕ, zero, suc, ◌<◌, ◌≤◌, ◌==◌, cond, [], ◌∷◌, get_or, length, Result, Ok, Err, IfOk, IfErr, refl, ap, sym, subst, ◌∙◌, arith, inl, inr}
 use Rattle.std.specs.Prelude.{Option, Some, None, slice_get, slice_index_or, slice_set}
 use Rattle.std.specs.List.{insert, remove}
+use Rattle.std.specs.List.Sorted.{IsBinarySearchResult, IsNonDecreasingBy, IsSearchInRange}
+use Rattle.std.specs.Ordering.{nat_cmp, ordering_index}
+use Rattle.std.proofs.lemmas.Bool.Decides.{nat_tests}
+use Rattle.std.proofs.lemmas.Cmp.{ranked}
+use Rattle.std.proofs.lemmas.List.Sorted.{IsNonDecreasingBy-from_default}
+use Rattle.std.proofs.lemmas.Option.{get_or_from_slice_get, slice_get-get_or, slice_get_within}
 use Rattle.std.proofs.lemmas.Bool.{cases_eq, eq-eqb, ne_eqb}
 use Rattle.base.proofs.common.KeptLists.{Some-injective}
 use Rattle.range_locks.specs.declared.parts.Part.{Part}
@@ -53,16 +59,15 @@ after_at at [] i d after is = absurd (let no_way : ◌≡◌ {A = Option (ℕ ×
 after_at at (e ∷ es) zero d after is = subst (λ (x : ℕ × Part). at < x.0) (Some-injective is) after.0
 after_at at (e ∷ es) (suc i) d after is = after_at at es i d after.1 is
 
+-- a row for lists to fall back on
+no_row : ℕ × Part
+no_row = (0, record { ends = 0; readers = 0; writer = None })
+
 -- the row that is read at a place
 pub row_read : (es : PartRows) (i : ℕ) (d : ℕ × Part) → i < length es → d ≡ slice_index_or es i d → slice_get es i ≡ Some d
 row_read [] i d within is = absurd (omega arith)
 row_read (x ∷ xs) zero d within is = ap Some (sym is)
 row_read (x ∷ xs) (suc i) d within is = row_read xs i d (omega arith) is
-
-pub past_end : (es : PartRows) (i : ℕ) (d : ℕ × Part) → length es ≤ i → slice_get es i ≡ Some d → ⊥
-past_end [] i d past is = let no_way : ◌≡◌ {A = Option (ℕ × Part)} None (Some d) = is in cc
-past_end (x ∷ xs) zero d past is = omega arith
-past_end (x ∷ xs) (suc i) d past is = past_end xs i d (omega arith) is
 
 -- rows at later places don't begin before
 pub rise_up : (es : PartRows) (i j : ℕ) (d e : ℕ × Part) → Rise es → i ≤ j → slice_get es i ≡ Some d → slice_get es j ≡ Some e → d.0 ≤ e.0
@@ -73,13 +78,13 @@ rise_up (x ∷ xs) (suc i) zero d e rise up is at = absurd (omega arith)
 rise_up (x ∷ xs) (suc i) (suc j) d e rise up is at = rise_up xs i j d e rise.1 (omega arith) is at
 
 -- a row that begins at an offset
-pub row_from : (at : ℕ) (es : PartRows) (i : ℕ) (e : ℕ × Part) → Rise es → slice_get es i ≡ Some e → e.0 ≡ at → IsRowAt at es i
+row_from : (at : ℕ) (es : PartRows) (i : ℕ) (e : ℕ × Part) → Rise es → slice_get es i ≡ Some e → e.0 ≡ at → IsRowAt at es i
 row_from at [] i e rise is same = absurd (let no_way : ◌≡◌ {A = Option (ℕ × Part)} None (Some e) = is in cc)
 row_from at (x ∷ xs) zero e rise is same = ap (λ (y : ℕ × Part). y.0) (Some-injective is) ∙ same
 row_from at (x ∷ xs) (suc i) e rise is same = (let below : x.0 < e.0 = after_at x.0 xs i e rise.0 is in omega arith, row_from at xs i e rise.1 is same)
 
 -- a place where a search ends without one
-pub gap_from : (at : ℕ) (es : PartRows) (i : ℕ) → i ≤ length es
+gap_from : (at : ℕ) (es : PartRows) (i : ℕ) → i ≤ length es
     → ((j : ℕ) (e : ℕ × Part) → j < i → slice_get es j ≡ Some e → e.0 < at)
     → ((j : ℕ) (e : ℕ × Part) → i ≤ j → slice_get es j ≡ Some e → at < e.0) → IsGapAt at es i
 gap_from at [] i within before after = omega arith
@@ -87,14 +92,23 @@ gap_from at (x ∷ xs) zero within before after = after 0 x (omega arith) refl
 gap_from at (x ∷ xs) (suc i) within before after =
     (before 0 x (omega arith) refl, gap_from at xs i (omega arith) (λ j e below is. before (suc j) e (omega arith) is) (λ j e from is. after (suc j) e (omega arith) is))
 
--- where each row up to one begins before an offset, or each from one on begins after it
-pub before_row : (at : ℕ) (es : PartRows) (m : ℕ) (d : ℕ × Part) → Rise es → slice_get es m ≡ Some d → d.0 < at
-    → (j : ℕ) (e : ℕ × Part) → j < m + 1 → slice_get es j ≡ Some e → e.0 < at
-before_row at es m d rise is below j e up is_e = let order : e.0 ≤ d.0 = rise_up es j m e d rise (omega arith) is_e is in omega arith
+-- the comparisons with an offset rise along rows that rise, as a search by halves needs them
+comparisons_rise : (at : ℕ) (es : PartRows) → Rise es → IsNonDecreasingBy (λ row. ordering_index (nat_cmp row.0 at)) es
+comparisons_rise at es rise = IsNonDecreasingBy-from_default (λ row. ordering_index (nat_cmp row.0 at)) es no_row (λ i j up within.
+    let order : (get_or es i no_row).0 ≤ (get_or es j no_row).0 = rise_up es i j _ _ rise up (slice_get-get_or es i no_row (omega arith)) (slice_get-get_or es j no_row within) in
+    grind (arith, nat_tests))
 
-pub after_row : (at : ℕ) (es : PartRows) (m : ℕ) (d : ℕ × Part) → Rise es → slice_get es m ≡ Some d → at < d.0
-    → (j : ℕ) (e : ℕ × Part) → m ≤ j → slice_get es j ≡ Some e → at < e.0
-after_row at es m d rise is above j e from is_e = let order : d.0 ≤ e.0 = rise_up es m j d e rise from is is_e in omega arith
+-- so it ends at the row that begins at the offset, or where that would be
+pub searched : (at : ℕ) (es : PartRows) → Rise es → (r : Result ℕ ℕ) → IsSearchInRange r (length es) → IsBinarySearchResult (λ row. nat_cmp row.0 at) es r
+    → IfOk r (λ place. IsRowAt at es place) × IfErr r (λ place. IsGapAt at es place)
+searched at es rise (Ok i) within equal = (row_from at es i _ rise (slice_get-get_or es i no_row within) (ranked _ at _ (sym (equal no_row))), tt)
+searched at es rise (Err i) within parted =
+    let point = parted (comparisons_rise at es rise) in (
+      tt,
+      gap_from at es i within
+          (λ j e below is. subst (λ (x : ℕ × Part). x.0 < at) (get_or_from_slice_get es j e no_row is) (ranked _ at _ (sym (point.0 j no_row (omega arith) below))))
+          (λ j e from is. subst (λ (x : ℕ × Part). at < x.0) (get_or_from_slice_get es j e no_row is) (ranked _ at _ (sym (point.1 j no_row from (slice_get_within es j e is))))),
+    )
 
 module _ (at : ℕ) where
   -- what a row says

@@ -1,5 +1,5 @@
 -- The held ranges of each number, cut at the ends of its locks: what the tables of parts have.
-use Rattle.std.specs.Prelude.{ℕ, ◌≡◌, ◌+◌, ◌-◌, ◌*◌, ◌<◌, ◌≤◌, ◌==◌, ◌&&◌, ◌||◌, Bool, true, false, not, Option, Some, None, IfSome, is_some, List, sum_by, nat_eq, nat_lt, nat_le, if◌then◌else◌}
+use Rattle.std.specs.Prelude.{ℕ, ◌≡◌, ◌+◌, ◌-◌, ◌*◌, ◌<◌, ◌≤◌, ◌==◌, ◌&&◌, ◌||◌, Bool, true, false, not, Option, Some, None, IfSome, is_some, List, sum_by, slice_get, nat_eq, nat_lt, nat_le, if◌then◌else◌}
 use Rattle.std.specs.List.{count_by, find}
 use Rattle.std.specs.Option.{option_map}
 use Rattle.range_locks.specs.Rows.{PartRows, part_in}
@@ -151,6 +151,11 @@ pub record AreCounted (n : ℕ) (held : LockTable) (table : PartRows) : Type 0 w
 -- the parts of a number, where some lock of it is held
 abbrev pub parts_of : {S : Type 0} → HashMap ℕ Parts S → ℕ → Option Parts
 parts_of numbers n = hashes.get nat_eq numbers n
+
+-- the place of a number's parts among all entries, or that it has none
+abbrev pub IsPlaceOf : {S : Type 0} → HashMap ℕ Parts S → ℕ → Option ℕ → Type 0
+IsPlaceOf numbers n None = parts_of numbers n ≡ None
+IsPlaceOf numbers n (Some place) = (parts : Parts) × (slice_get numbers.entries place ≡ Some (n, parts)) × (parts_of numbers n ≡ Some parts)
 
 -- they are those of counts: without parts no lock begins or ends
 abbrev pub IsTableOf : Option Parts → Counts → Type 0

@@ -79,7 +79,8 @@ impl RangeLocks {
         if range.object.0 > OBJECT_COUNT || !range.range.is_allowed() {
             return Err(PoolError::BadRange);
         }
-        if self.is_blocked(&range, mode) {
+        let place = self.numbers.place_of(range.object);
+        if self.numbers.blocks(place, &range, mode) {
             return Err(PoolError::Busy);
         }
         if self.held.len() >= MAX_LOCKS || self.held.next_name().0 > LAST_NUMBER {
@@ -87,16 +88,8 @@ impl RangeLocks {
         }
         self.held.make_room()?;
         let id = self.held.next_name();
-        self.numbers.add(&range, id, mode)?;
+        self.numbers.add(place, &range, id, mode)?;
         Ok(self.held.insert(HeldLock { owner, range, mode }))
-    }
-
-    /// Whether a held lock and one of this mode may not overlap in a range.
-    fn is_blocked(&self, range: &ObjectRange, mode: Mode) -> bool
-        requires { range.now.range.low < range.now.range.high }
-        ensures { result ≡ is_blocked (number_range range.now) mode self.now.locks }
-    {
-        self.numbers.blocks(range, mode)
     }
 
     /// Grants a writer lock from the end of an object to the top of each range, and answers its name and its range. The

@@ -1,10 +1,12 @@
 //! The parts of each number that held locks are of, so that a lock costs the same whatever other numbers have locks.
 
 ghost use Rattle.std.specs.Prelude.{ℕ, ◌≡◌, ◌≢◌, ◌≤◌, ◌<◌, true, false, None, Some, IfSome, IfOk, OnOk, OnErr, IfErr};
+ghost use Rattle.base.specs.history.Plans.{number_range};
+ghost use Rattle.base.specs.steps.Locks.{is_blocked};
 ghost use Rattle.range_locks.specs.declared.parts.Parts.{Parts};
 ghost use Rattle.range_locks.specs.Locks.{LockTable};
 ghost use Rattle.range_locks.specs.Pieces.{pieces_of};
-ghost use Rattle.range_locks.specs.Parts.{AreAllCounted, BecomesOf, CanRecount, change_of_grant, change_of_release, HasCounts, HasNoParts, HoldsOf, IsBlockedIn, IsFreeIn, IsTableOf, most_counted, parts_of, with_lock, without_lock};
+ghost use Rattle.range_locks.specs.Parts.{AreAllCounted, BecomesOf, CanRecount, change_of_grant, change_of_release, HasCounts, HasNoParts, HoldsOf, IsPlaceOf, IsTableOf, most_counted, parts_of, with_lock, without_lock};
 
 use crate::held::HeldPiece;
 use crate::parts::{NOTHING, Part, Parts};
@@ -39,8 +41,26 @@ impl Numbers {
         }
     }
 
-    /// One more lock covers a range. It is refused where there is no memory, and then nothing has changed.
-    pub fn add(&mut self, range: &ObjectRange, id: LockId, mode: Mode) -> Result<(), PoolError>
+    /// The place of a number's parts in the table, if it has some. A call that is handed it needn't find them again.
+    pub fn place_of(&self, number: ObjectId) -> Option<usize>
+        ensures { IsPlaceOf self.now.parts number.0 result }
+    {
+        match self.parts.get_full(&number.0) {
+            Some((place, _, _)) => Some(place),
+            None => None,
+        }
+    }
+
+    /// One more lock covers a range of the number whose place is given. It is refused where there is no memory, and then
+    /// nothing has changed.
+    pub fn add(
+        &mut self,
+        place: Option<usize>,
+        range: &ObjectRange,
+        id: LockId,
+        mode: Mode,
+    ) -> Result<(), PoolError>
+        requires place { IsPlaceOf self.old.parts range.now.object.0 place }
         requires ordered { range.now.range.low ≤ range.now.range.high }
         requires counted { IfSome (parts_of self.old.parts range.now.object.0)
             (λ parts. HasCounts most_counted parts.table) }
@@ -53,7 +73,8 @@ impl Numbers {
             → parts_of self.new.parts n ≡ parts_of self.old.parts n }
         ensures refused { IfErr result (λ e. e ≡ PoolError.NoMemory) }
     {
-        if let Some(parts) = self.parts.get_mut(&range.object.0) {
+        if let Some(place) = place {
+            let parts = self.parts.get_index_mut(place).unwrap();
             return parts.add(range.range, id, mode);
         }
         self.parts.reserve(1)?;
@@ -74,27 +95,25 @@ impl Numbers {
         ensures others { (n : ℕ) → n ≢ range.now.object.0
             → parts_of self.new.parts n ≡ parts_of self.old.parts n }
     {
-        let Some(parts) = self.parts.get_mut(&range.object.0) else {
+        let Some(place) = self.place_of(range.object) else {
             return;
         };
+        let parts = self.parts.get_index_mut(place).unwrap();
         parts.remove(range.range, mode);
         if parts.is_empty() {
-            self.parts.swap_remove(&range.object.0);
+            self.parts.swap_remove_index(place);
         }
     }
 
-    /// Whether some part of a range keeps a lock of this mode away.
-    pub fn blocks(&self, range: &ObjectRange, mode: Mode) -> bool
-        requires { range.now.range.low < range.now.range.high }
-        ensures some { result ≡ true
-            → HoldsOf (parts_of self.now.parts range.now.object.0)
-            (IsBlockedIn range.now.range mode) }
-        ensures none { result ≡ false
-            → HoldsOf (parts_of self.now.parts range.now.object.0)
-            (IsFreeIn range.now.range mode) }
+    /// Whether some part of a range keeps a lock of this mode away. The place is that of the range's number.
+    pub fn blocks(&self, place: Option<usize>, range: &ObjectRange, mode: Mode) -> bool
+        requires place { IsPlaceOf self.now.parts range.now.object.0 place }
+        requires some_bytes { range.now.range.low < range.now.range.high }
+        ensures { (held : LockTable) → AreAllCounted held self.now.parts
+            → result ≡ is_blocked (number_range range.now) mode held.locks }
     {
-        match self.parts.get(&range.object.0) {
-            Some(parts) => parts.blocks(range.range, mode),
+        match place {
+            Some(place) => self.parts[place].blocks(range.range, mode),
             None => false,
         }
     }

@@ -59,21 +59,7 @@ impl PartTable {
         ensures absent { IfErr result (λ place. IsGapAt at self.now place) }
         ensures rise { Rise self.now }
     {
-        let mut low = 0;
-        let mut high = self.rows.len();
-        while low < high {
-            let middle = low + (high - low) / 2;
-            let begin = self.rows[middle].0;
-            if begin == at {
-                return Ok(middle);
-            }
-            if begin < at {
-                low = middle + 1;
-            } else {
-                high = middle;
-            }
-        }
-        Err(low)
+        self.rows.binary_search_by_key(&at, |&(begin, _)| begin)
     }
 
     /// The part that begins at an offset.

@@ -1,11 +1,11 @@
 //! The transactions of a pool: they begin, commit and are given up. A call that is refused leaves the pool unchanged.
 
-ghost use Rattle.std.specs.Prelude.{◌≡◌, ◌<◌, ◌+◌, ◌≤◌, OnOk, nat_lt, option_map, true, vec_capacity, vec_len};
+ghost use Rattle.std.specs.Prelude.{◌≡◌, ◌<◌, ◌+◌, ◌≤◌, IfOk, OnOk, nat_lt, option_map, true, vec_capacity, vec_len};
 ghost use Rattle.std.specs.List.{list_all, list_any};
 ghost use Rattle.base.specs.formats.Limits.{last_number, max_log_record};
 ghost use Rattle.base.specs.formats.Records.{is_content_allowed};
 ghost use Rattle.base.specs.history.Plans as plans;
-ghost use Rattle.base.specs.history.Plans.{estimate_of, log_record_size};
+ghost use Rattle.base.specs.history.Plans.{charge_of, estimate_of, log_record_size};
 ghost use Rattle.base.specs.steps.Groups.{Admission};
 ghost use Rattle.base.specs.steps.Refusals as refusals;
 ghost use Rattle.base.specs.steps.Refusals.{blocks_wanted, transaction_of};
@@ -17,13 +17,38 @@ ghost use Rattle.pool_tables.specs.Meets.{Passes};
 
 use crate::pool::PoolTables;
 use base::{
-    Group, KEPT_BACK, LAST_NUMBER, Op, Ops, Ordinal, Owner, Plan, PoolError, Receipt, Shape, TxId,
-    is_name,
+    BLOCK_SIZE, Group, KEPT_BACK, LAST_NUMBER, Op, Ops, Ordinal, Owner, Plan, PoolError, Receipt,
+    Shape, TxId, is_name,
 };
 use object_maps::judge;
 use transactions::{
     Record, charge, estimate, is_in_plan, is_plan_allowed, is_shrinking, is_too_large, range_of,
 };
+
+/// What an open transaction costs, by its plan.
+#[derive(Clone, Copy, Debug, PartialEq, Eq)]
+struct Cost {
+    /// The blocks that its plan is estimated at.
+    blocks: u64,
+    /// The bytes that it is charged.
+    charge: u64,
+}
+
+impl Cost {
+    // That of a plan.
+    fn of(plan: &[Shape]) -> Self
+        requires allowed { plans.is_plan_allowed plan.now ≡ true }
+        requires small { log_record_size plan.now ≤ max_log_record }
+        ensures blocks { result.blocks ≡ estimate_of plan.now }
+        ensures charge { result.charge ≡ charge_of plan.now }
+    {
+        let blocks = estimate(plan);
+        Cost {
+            blocks,
+            charge: BLOCK_SIZE as u64 * blocks,
+        }
+    }
+}
 
 impl PoolTables {
     ghost use Rattle.pool_tables.specs.Entries.{FitsRecord, HasRoomToEnter, IsUnsynced, shown_after_entry};
@@ -41,15 +66,14 @@ impl PoolTables {
         ensures step { Begins owner plan.now result (pool_shown self.old) (pool_shown self.new) }
         ensures tree { KeepsTree self.old self.new }
     {
-        let shapes = plan.as_slice();
-        self.check_begin(owner, shapes)?;
+        let cost = self.check_begin(owner, plan.as_slice())?;
         let plan = plan.try_clone(self.alloc)?;
         let group = self.groups.open_group();
         let tx = self.transactions.admit(owner, group, plan)?;
-        let Ok(()) = self.dirty.admit(group, charge(shapes)) else {
+        let Ok(()) = self.dirty.admit(group, cost.charge) else {
             unreachable!();
         };
-        let Ok(()) = self.free.reserve(estimate(shapes), 0) else {
+        let Ok(()) = self.free.reserve(cost.blocks, 0) else {
             unreachable!();
         };
         let Ok(_) = self.groups.hold() else {
@@ -68,9 +92,11 @@ impl PoolTables {
         charge(plan) > self.dirty.limit()
     }
 
-    // Refused as a begin is, except for want of memory.
-    fn check_begin(&self, owner: Owner, plan: &[Shape]) -> Result<(), PoolError>
-        ensures { ChecksBegin owner plan.now result (pool_shown self.now) }
+    // What a transaction of this plan costs. Refused as a begin is, except for want of memory.
+    fn check_begin(&self, owner: Owner, plan: &[Shape]) -> Result<Cost, PoolError>
+        ensures refusal { ChecksBegin owner plan.now result (pool_shown self.now) }
+        ensures blocks { IfOk result (λ cost. cost.blocks ≡ estimate_of plan.now) }
+        ensures charge { IfOk result (λ cost. cost.charge ≡ charge_of plan.now) }
     {
         self.check_running()?;
         check_plan(plan)?;
@@ -94,32 +120,33 @@ impl PoolTables {
 
     // One more transaction may be open, its charge passes no limit, and the blocks that it may take are available (rule
     // 5).
-    fn check_room(&self, plan: &[Shape]) -> Result<(), PoolError>
+    fn check_room(&self, plan: &[Shape]) -> Result<Cost, PoolError>
         requires allowed { plans.is_plan_allowed plan.now ≡ true }
         requires small { log_record_size plan.now ≤ max_log_record }
-        ensures { Passes (room_tests plan.now (pool_shown self.now)) result }
+        ensures refusal { Passes (room_tests plan.now (pool_shown self.now)) result }
+        ensures blocks { IfOk result (λ cost. cost.blocks ≡ estimate_of plan.now) }
+        ensures charge { IfOk result (λ cost. cost.charge ≡ charge_of plan.now) }
     {
         if self.transactions.is_full() {
             return Err(PoolError::TooMany);
         }
-        if self.dirty.is_throttled(charge(plan)) {
+        let cost = Cost::of(plan);
+        if self.dirty.is_throttled(cost.charge) {
             return Err(PoolError::Throttled);
         }
-        if self.is_short_for(plan) {
+        if self.is_short_for(plan, cost.blocks) {
             return Err(PoolError::NoSpace);
         }
-        Ok(())
+        Ok(cost)
     }
 
-    // Whether fewer blocks are available than a plan may take and, unless it shrinks, 16 more.
-    fn is_short_for(&self, plan: &[Shape]) -> bool
-        requires allowed { plans.is_plan_allowed plan.now ≡ true }
-        requires small { log_record_size plan.now ≤ max_log_record }
+    // Whether fewer blocks are available than a plan is estimated at and, unless it shrinks, 16 more.
+    fn is_short_for(&self, plan: &[Shape], blocks: u64) -> bool
+        requires { blocks ≡ estimate_of plan.now }
         ensures { result ≡ nat_lt (show.available (pool_shown self.now))
             (blocks_wanted (pool_shown self.now).contents plan.now) }
     {
         let kept_back = self.kept_back(plan);
-        let blocks = estimate(plan);
         let available = self.available();
         available < blocks || available - blocks < kept_back
     }

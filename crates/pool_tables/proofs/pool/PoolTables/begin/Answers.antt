@@ -19,71 +19,55 @@ use Rattle.pool_tables.proofs.HeldGroups.{counted_hold, exact_begin, may_begin_h
 use Rattle.pool_tables.proofs.Opens.{HasAllowedPlan, IsSmall}
 use Rattle.pool_tables.proofs.pool.PoolTables.begin.Goals as goal
 
-pub returns-in_err-check_begin-clause-step : goal.returns-in_err-check_begin-clause-step
-returns-in_err-check_begin-clause-step c =
+pub returns-in_err-cost-clause-step : goal.returns-in_err-cost-clause-step
+returns-in_err-cost-clause-step c =
     let p = err_from_is_err_and c.from_residual.result c.from_residual.ensures.1 in
     let s = pool_shown c.args.self.now in
-    let e = c.in_err-check_begin.field-0.0 in
-    rw (p.1, p.2) (begin_refused c.args.owner.0 c.args.plan.now s e (subst (λ (l : List Shape). begin_refusal c.args.owner.0 l s ≡ Some e) c.as_slice-shapes.ensures c.in_err-check_begin.ensures))
+    let e = c.in_err-cost.field-0.0 in
+    rw (p.1, p.2) (begin_refused c.args.owner.0 c.args.plan.now s e (subst (λ (l : List Shape). begin_refusal c.args.owner.0 l s ≡ Some e) c.as_slice.ensures c.in_err-cost.ensures.refusal))
 
 pub returns-in_err-plan-clause-step : goal.returns-in_err-plan-clause-step
 returns-in_err-plan-clause-step c =
     let p = err_from_is_err_and c.from_residual-in_err-plan.result c.from_residual-in_err-plan.ensures.1 in
     let s = pool_shown c.args.self.now in
-    let none = subst (λ (l : List Shape). begin_refusal c.args.owner.0 l s ≡ None) c.as_slice-shapes.ensures c.in_ok-check_begin.ensures in
+    let none = subst (λ (l : List Shape). begin_refusal c.args.owner.0 l s ≡ None) c.as_slice.ensures c.in_ok-cost.ensures.refusal in
     rw (p.1, p.2) (begin_wants c.args.owner.0 c.args.plan.now s none)
 
 pub returns-in_err-tx-clause-step : goal.returns-in_err-tx-clause-step
 returns-in_err-tx-clause-step c =
     let p = err_from_is_err_and c.from_residual-in_err-tx.result c.from_residual-in_err-tx.ensures.1 in
     let s = pool_shown c.args.self.now in
-    let none = subst (λ (l : List Shape). begin_refusal c.args.owner.0 l s ≡ None) c.as_slice-shapes.ensures c.in_ok-check_begin.ensures in
+    let none = subst (λ (l : List Shape). begin_refusal c.args.owner.0 l s ≡ None) c.as_slice.ensures c.in_ok-cost.ensures.refusal in
     let may = may_begin c.args.owner.0 c.args.plan.now s none in
     let wants = rw (c.in_ok-plan.ensures, begin_admits c.args.owner.0 c.args.plan.now s may) at c.in_err-tx.ensures.refused in
     rw (p.1, p.2, c.in_err-tx.ensures.unchanged, wants) (begin_wants c.args.owner.0 c.args.plan.now s none)
 
 pub admit-requires : goal.admit-requires
 admit-requires c =
-    let may = may_begin c.args.owner.0 c.as_slice-shapes.result.now (pool_shown c.args.self.now) c.in_ok-check_begin.ensures in
+    let may = may_begin c.args.owner.0 c.as_slice.result.now (pool_shown c.args.self.now) c.in_ok-cost.ensures.refusal in
     let allowed = may.allowed in
-    subst (λ (l : List Shape). is_plan_allowed l ≡ true) (c.as_slice-shapes.ensures ∙ sym c.in_ok-plan.ensures) allowed
-
-pub charge-requires-clause-allowed : goal.charge-requires-clause-allowed
-charge-requires-clause-allowed c =
-    let may = may_begin c.args.owner.0 c.as_slice-shapes.result.now (pool_shown c.args.self.now) c.in_ok-check_begin.ensures in
-    may.allowed
-
-pub charge-requires-clause-small : goal.charge-requires-clause-small
-charge-requires-clause-small c = (may_begin c.args.owner.0 c.as_slice-shapes.result.now (pool_shown c.args.self.now) c.in_ok-check_begin.ensures).small
+    subst (λ (l : List Shape). is_plan_allowed l ≡ true) (c.as_slice.ensures ∙ sym c.in_ok-plan.ensures) allowed
 
 pub admit-requires-2 : goal.admit-requires-2
 admit-requires-2 c = rw c.open_group-group.ensures.open_group (open_charged c.args.self.now)
 
 pub unreachable-requires : goal.unreachable-requires
 unreachable-requires c =
-    let shapes = c.as_slice-shapes.result.now in
-    let may = may_begin c.args.owner.0 shapes (pool_shown c.args.self.now) c.in_ok-check_begin.ensures in
-    let passes = sym (charge_throttled c.args.self.now shapes c.charge.result _ c.charge.ensures refl) ∙ may.charge in
+    let shapes = c.as_slice.result.now in
+    let may = may_begin c.args.owner.0 shapes (pool_shown c.args.self.now) c.in_ok-cost.ensures.refusal in
+    let passes = sym (charge_throttled c.args.self.now shapes c.in_ok-cost.cost.charge _ c.in_ok-cost.ensures.charge refl) ∙ may.charge in
     false≢true (sym passes ∙ c.in_default.ensures.throttled.0 refl)
-
-pub estimate-requires-clause-allowed : goal.estimate-requires-clause-allowed
-estimate-requires-clause-allowed c =
-    let may = may_begin c.args.owner.0 c.as_slice-shapes.result.now (pool_shown c.args.self.now) c.in_ok-check_begin.ensures in
-    may.allowed
-
-pub estimate-requires-clause-small : goal.estimate-requires-clause-small
-estimate-requires-clause-small c = (may_begin c.args.owner.0 c.as_slice-shapes.result.now (pool_shown c.args.self.now) c.in_ok-check_begin.ensures).small
 
 pub unreachable-requires-in_default-reserve : goal.unreachable-requires-in_default-reserve
 unreachable-requires-in_default-reserve c =
-    let shapes = c.as_slice-shapes.result.now in
-    let may = may_begin c.args.owner.0 shapes (pool_shown c.args.self.now) c.in_ok-check_begin.ensures in
-    enough_free c.args.self.now shapes c.estimate.result c.estimate.ensures may.blocks (c.in_default-reserve.ensures.refused.0 refl)
+    let shapes = c.as_slice.result.now in
+    let may = may_begin c.args.owner.0 shapes (pool_shown c.args.self.now) c.in_ok-cost.ensures.refusal in
+    enough_free c.args.self.now shapes c.in_ok-cost.cost.blocks c.in_ok-cost.ensures.blocks may.blocks (c.in_default-reserve.ensures.refused.0 refl)
 
 pub unreachable-requires-in_default-hold : goal.unreachable-requires-in_default-hold
 unreachable-requires-in_default-hold c =
     let pool = c.args.self.now in
-    let may = may_begin c.args.owner.0 c.as_slice-shapes.result.now (pool_shown pool) c.in_ok-check_begin.ensures in
+    let may = may_begin c.args.owner.0 c.as_slice.result.now (pool_shown pool) c.in_ok-cost.ensures.refusal in
     let passes = may_begin_hold pool.groups pool.accounted.counted pool.transactions.transactions pool.accounted.holds_exact may.few in
     false≢true (sym passes ∙ c.in_default-hold.ensures.refused.0 refl)
 
@@ -91,9 +75,9 @@ pub invariant_of-self-2-clause-accounted : goal.invariant_of-self-2-clause-accou
 invariant_of-self-2-clause-accounted c =
     let pool = c.args.self.now in
     let all = pool.transactions.transactions in
-    let may = may_begin c.args.owner.0 c.as_slice-shapes.result.now (pool_shown pool) c.in_ok-check_begin.ensures in
+    let may = may_begin c.args.owner.0 c.as_slice.result.now (pool_shown pool) c.in_ok-cost.ensures.refusal in
     let opened = c.open_group-group.ensures.open_group in
-    let same = c.as_slice-shapes.ensures ∙ sym c.in_ok-plan.ensures in
+    let same = c.as_slice.ensures ∙ sym c.in_ok-plan.ensures in
     let admitted = sym c.in_ok-tx.ensures.admitted in
     let held : c.hold.new.self ≡ after_hold pool.groups = where_passed c.hold.result _ _ c.hold.ensures.refused
     (may_begin_hold pool.groups pool.accounted.counted pool.transactions.transactions pool.accounted.holds_exact may.few) c.hold.ensures.held in
@@ -101,9 +85,9 @@ invariant_of-self-2-clause-accounted c =
       counted = rw held (counted_hold pool.groups pool.accounted.counted);
       holds_exact = subst (AreHoldsExact c.admit.new.self.transactions) (sym held)
           (subst (λ (o : Open). AreHoldsExact o.transactions (after_hold pool.groups)) admitted (exact_begin all pool.groups _ pool.accounted.holds_exact opened));
-      charged = rw (held, c.in-Ok.ensures.admitted, c.charge.ensures, opened)
-          ((sums_stay_on_lines pool.groups.line pool.dirty pool.accounted.charged).admit pool.groups.line.open_group c.as_slice-shapes.result.now (omega arith));
-      open_charged = rw (c.in_ok-tx.ensures.admitted, c.in-Ok.ensures.admitted, c.charge.ensures, c.as_slice-shapes.ensures, ← c.in_ok-plan.ensures)
+      charged = rw (held, c.in-Ok.ensures.admitted, c.in_ok-cost.ensures.charge, opened)
+          ((sums_stay_on_lines pool.groups.line pool.dirty pool.accounted.charged).admit pool.groups.line.open_group c.as_slice.result.now (omega arith));
+      open_charged = rw (c.in_ok-tx.ensures.admitted, c.in-Ok.ensures.admitted, c.in_ok-cost.ensures.charge, c.as_slice.ensures, ← c.in_ok-plan.ensures)
           ((stay_charged all pool.dirty pool.accounted.open_charged).admitted _);
       plans_allowed = subst (λ (o : Open). All HasAllowedPlan o.transactions) admitted
           (All-push HasAllowedPlan all _ pool.accounted.plans_allowed (subst (λ (l : List Shape). is_plan_allowed l ≡ true) same may.allowed));
@@ -114,7 +98,7 @@ invariant_of-self-2-clause-accounted c =
 pub invariant_of-self-2-clause-unsynced_kept : goal.invariant_of-self-2-clause-unsynced_kept
 invariant_of-self-2-clause-unsynced_kept c =
     let pool = c.args.self.now in
-    let may = may_begin c.args.owner.0 c.as_slice-shapes.result.now (pool_shown pool) c.in_ok-check_begin.ensures in
+    let may = may_begin c.args.owner.0 c.as_slice.result.now (pool_shown pool) c.in_ok-cost.ensures.refusal in
     let held : c.hold.new.self ≡ after_hold pool.groups = where_passed c.hold.result _ _ c.hold.ensures.refused
     (may_begin_hold pool.groups pool.accounted.counted pool.transactions.transactions pool.accounted.holds_exact may.few) c.hold.ensures.held in
     rw held pool.unsynced_kept
@@ -123,7 +107,7 @@ pub returns-clause-step : goal.returns-clause-step
 returns-clause-step c =
     let pool = c.args.self.now in
     let s = pool_shown pool in
-    let none = subst (λ (l : List Shape). begin_refusal c.args.owner.0 l s ≡ None) c.as_slice-shapes.ensures c.in_ok-check_begin.ensures in
+    let none = subst (λ (l : List Shape). begin_refusal c.args.owner.0 l s ≡ None) c.as_slice.ensures c.in_ok-cost.ensures.refusal in
     let opened = c.open_group-group.ensures.open_group in
     rw (c.in_ok-tx.ensures.name, opened)
-    (begin_done c.args.owner.0 c.args.plan.now s pool.dirty _ none (shows_sums pool) (rw (c.in-Ok-hold.ensures.held, c.in_ok-tx.ensures.admitted, c.in_ok-plan.ensures, c.in-Ok.ensures.admitted, c.charge.ensures, c.as_slice-shapes.ensures, c.in-Ok-reserve.ensures.reserved, opened) refl))
+    (begin_done c.args.owner.0 c.args.plan.now s pool.dirty _ none (shows_sums pool) (rw (c.in-Ok-hold.ensures.held, c.in_ok-tx.ensures.admitted, c.in_ok-plan.ensures, c.in-Ok.ensures.admitted, c.in_ok-cost.ensures.charge, c.as_slice.ensures, c.in-Ok-reserve.ensures.reserved, opened) refl))

@@ -22,7 +22,7 @@ invariant_of-self-2 c =
     let id : c.next_name-id.result ≡ record { 0 = c.self.inside.held.next } = ap (λ n. record { 0 = n }) (c.next_name-id.ensures ∙ c.make_room.ensures.next) in
     let count = length-map c.self.inside.held.entries grant_of in
     rw (c.insert.ensures.entries, c.insert.ensures.next, c.make_room.ensures.entries, c.make_room.ensures.next, last, name) (granted_counted _ c.self.inside.numbers.parts c.self.invariant c.add.new.self.parts c.args.owner.0 (number_range c.args.range) c.args.mode
-    (sym c.is_allowed.ensures.allowed ∙ c.if-not-is_allowed.false) (rw (← c.self.view_is) at (sym c.is_blocked.ensures ∙ c.if-is_blocked.false)) (omega (arith, count)) (omega arith)
+    (sym c.is_allowed.ensures.allowed ∙ c.if-not-is_allowed.false) (sym (c.blocks-2.ensures _ c.self.invariant) ∙ c.if-blocks.false) (omega (arith, count)) (omega arith)
     (rw id at (c.in_ok-add.ensures.added _ (c.self.invariant.is c.args.range.object.0) (counts_still c.args.range.object.0 (map grant_of c.self.inside.held.entries)))) c.add.ensures.others)
 
 pub returns-clause-granted : goal.returns-clause-granted
