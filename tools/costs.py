@@ -7,11 +7,12 @@ PROGRAM is a built `ztxg`. Each row of a table is a pool on which a script runs 
 number is the mean of the instructions that the pool spends on a counted line, and `all` is the sum of those of a row.
 The lines that make a pool ready don't count. With a WORD only the tables run whose names have it.
 
-The compiler puts the calls of the pool into one large function, so no function of the program marks where a line begins
-or ends. The C library's `write` does: the program calls it once for each line, with the answer. Callgrind starts a part
-of its file at each call, so a part is what was spent between two answers. It has the reading of its line and the making
-of its answer, too. What these cost is measured by the same lines on a suspended pool, which refuses them at once, and
-taken off. A question whether a commit is durable isn't refused there, but then the pool keeps no log block.
+The compiler puts the pool's calls into the function that runs the lines, so none of them can be counted by its name.
+What stays a function of its own is the reading of a command, and what prints an answer. Callgrind starts a part of its
+file where a command was read, and the next one where a part of the answer is printed first, or at the latest where the
+program calls `write`. In between lies what the session and the pool do. What the session does is measured by the same
+lines on a suspended pool, which refuses them at once, and taken off. A question whether a commit is durable isn't
+refused there, but that pool keeps no log block.
 
 - Commits: 1,000 small transactions, 50 in a group, each by four lines: lock, begin, commit, unlock. Before each, the
   lock of another owner that was granted first is let go and granted anew. `sync` is the mean of the lines that sync a
@@ -20,7 +21,7 @@ taken off. A question whether a commit is durable isn't refused there, but then 
   transaction on an object of its own.
 - Unsynced groups: as these, with 100 writes in each group; with three, the oldest one is being synced and the next one
   waits.
-- Reads: of 100 bytes of an object that each unsynced group has written to. The digits of the answer count.
+- Reads: of 100 bytes of an object that each unsynced group has written to.
 - Syncs of a group of one write, while the open group has so many.
 - Syncs of a group that writes so many objects, with the blocks that this takes.
 - Log writes of ten records, with so many records pending. Log flushes of one block, and the question whether a commit
@@ -33,14 +34,16 @@ some minutes.
 """
 
 import collections
+import os
 import pathlib
 import re
 import subprocess
 import sys
 import tempfile
 
-# Callgrind starts a part of its file at each call of this function, one for an answer.
-ANSWER = "write"
+# A line's command was read where the one function returns. One of the others prints its answer.
+READ = "script_lines::command::parse_command*"
+PRINTED = ["core::fmt::formatter::Formatter::pad::*", "core::fmt::tuples::*", "write"]
 # The lines that suspend a pool, and how many lines of a kind are then measured.
 SUSPENDED = ["create tank 77", f"import {2**40}", "fail flush 1", "sync"]
 REFUSED = 20
@@ -391,21 +394,26 @@ def fail(reason):
 
 
 def run(program, size, lines, folder):
-    """The answers of a script, and the instructions up to each from the one before."""
+    """The answers of a script, and the instructions of each line from its command to its answer."""
     script, counts = folder / "script", folder / "counts"
     script.write_text("\n".join(lines) + "\n")
     words = ["valgrind", "--tool=callgrind", f"--callgrind-out-file={counts}", "--combine-dumps=yes"]
-    words += [f"--dump-before={ANSWER}", program, "script", str(size), str(script)]
+    words += [f"--dump-after={READ}", *(f"--dump-before={name}" for name in PRINTED)]
+    words += [program, "script", str(size), str(script)]
     ran = subprocess.run(words, capture_output=True, text=True)
     answers = ran.stdout.splitlines()
     if ran.returncode or len(answers) != len(lines):
         fail(ran.stderr[-1000:])
+    totals, ended, began = [], "", ""
     with open(counts) as parts:
-        totals = [int(line.split()[1]) for line in parts if line.startswith("totals:")]
-    # The last part is what comes after the last answer.
-    if len(totals) != len(lines) + 1:
-        fail(f"the program doesn't call {ANSWER} once for each line")
-    return answers, totals[:-1]
+        for line in parts:
+            if line.startswith("desc: Trigger:"):
+                began, ended = ended, line
+            elif line.startswith("totals:") and "--dump-after" in began:
+                totals.append(int(line.split()[1]))
+    if len(totals) != len(lines):
+        fail(f"the program doesn't call {READ} once for each line")
+    return answers, totals
 
 
 def count(program, size, made, folder):
@@ -468,7 +476,7 @@ def main():
     word = "".join(sys.argv[2:]).lower()
     with tempfile.TemporaryDirectory() as folder:
         tables = [table for table in TABLES if word in table.name.lower()]
-        too_far = [run_table(sys.argv[1], table, pathlib.Path(folder)) for table in tables]
+        too_far = [run_table(os.path.abspath(sys.argv[1]), table, pathlib.Path(folder)) for table in tables]
     sys.exit(1 if any(too_far) else 0)
 
 
