@@ -1,12 +1,18 @@
 #!/usr/bin/env python3
-"""Instruction counts of commits, reads and syncs, by callgrind of valgrind.
+"""Instruction counts of commits, reads, syncs and the log, by callgrind of valgrind.
 
     python3 tools/costs.py PROGRAM [WORD]
 
 PROGRAM is a built `ztxg`. Each row of a table is a pool on which a script runs (docs/FORMATS.md, "The script"). A
 number is the mean of the instructions that the pool spends on a counted line, and `all` is the sum of those of a row.
-The reading of lines and the printing of answers don't count, nor do the lines that make a pool ready. With a WORD only
-the tables run whose names have it.
+The lines that make a pool ready don't count. With a WORD only the tables run whose names have it.
+
+The compiler puts the pool's calls into the function that runs the lines, so none of them can be counted by its name.
+What stays a function of its own is the reading of a command, and what prints an answer. Callgrind starts a part of its
+file where a command was read, and the next one where a part of the answer is printed first, or at the latest where the
+program calls `write`. In between lies what the session and the pool do. What the session does is measured by the same
+lines on a suspended pool, which refuses them at once, and taken off. A question whether a commit is durable isn't
+refused there, but that pool keeps no log block.
 
 - Commits: 1,000 small transactions, 50 in a group, each by four lines: lock, begin, commit, unlock. Before each, the
   lock of another owner that was granted first is let go and granted anew. `sync` is the mean of the lines that sync a
@@ -17,6 +23,7 @@ the tables run whose names have it.
   waits.
 - Reads: of 100 bytes of an object that each unsynced group has written to.
 - Syncs of a group of one write, while the open group has so many.
+- Syncs of a group that writes so many objects, with the blocks that this takes.
 - Log writes of ten records, with so many records pending. Log flushes of one block, and the question whether a commit
   is durable, with so many log blocks kept.
 - The last step of a sync, with so many log blocks that come back and so many that stay.
@@ -27,14 +34,20 @@ some minutes.
 """
 
 import collections
+import os
 import pathlib
+import re
 import subprocess
 import sys
 import tempfile
 
-# Callgrind counts inside of the one function, and starts a part of its file at each call of the other, one for a line.
-STEP = "pool_core::state::PoolState::step*"
-LINE = "scripts::session::Session+R+MemDevice+P::run*"
+# A line's command was read where the one function returns. One of the others prints its answer.
+READ = "script_lines::command::parse_command*"
+PRINTED = ["core::fmt::formatter::Formatter::pad::*", "core::fmt::tuples::*", "write"]
+# The lines that suspend a pool, and how many lines of a kind are then measured.
+SUSPENDED = ["create tank 77", f"import {2**40}", "fail flush 1", "sync"]
+REFUSED = 20
+FREE = re.compile(r"free (\d+)")
 
 COMMITS = 1000
 GROUP = 50
@@ -54,7 +67,8 @@ TOP = 338_688
 
 
 class Script:
-    """The lines of a script, which of them count and as what, and the names of its next lock and its next transaction.
+    """The lines of a script, which of them count and as what, how many blocks some take, and the names of its next lock
+    and its next transaction.
 
     Each transaction is committed before the next one begins, so its name is the ordinal of its commit.
     """
@@ -62,6 +76,7 @@ class Script:
     def __init__(self):
         self.lines = ["create tank 77", f"import {DIRTY_MAX}"]
         self.counted = {}
+        self.takes = {}
         self.next_lock = 0
         self.next_tx = 0
         self.open = 9
@@ -145,6 +160,7 @@ Writes = collections.namedtuple("Writes", "writes")
 Groups = collections.namedtuple("Groups", "groups")
 Reads = collections.namedtuple("Reads", "groups")
 Syncs = collections.namedtuple("Syncs", "writes")
+Blocks = collections.namedtuple("Blocks", "objects blocks")
 LogWrites = collections.namedtuple("LogWrites", "pending")
 LogFlushes = collections.namedtuple("LogFlushes", "kept")
 LogEnds = collections.namedtuple("LogEnds", "back kept")
@@ -232,6 +248,22 @@ def syncs(row):
     return script
 
 
+def blocks(row):
+    """A sync that takes so many blocks: each object has one and a block of pointers, 63 objects share one, and all have
+    a root. The lines before and after a start tell how many it takes."""
+    script = Script()
+    script.create(row.objects)
+    for _ in range(ROUNDS):
+        script.write_many(row.objects)
+        script.close()
+        script.lines += ["status", "start", "status"]
+        script.counted[len(script.lines) - 2] = "start"
+        script.takes[len(script.lines) - 2] = row.blocks
+        script.lines.append("finish")
+        script.count("finish")
+    return script
+
+
 def log_writes(row):
     """Each log write packs ten records, which fill a block."""
     script = Script()
@@ -249,7 +281,7 @@ def log_writes(row):
 
 
 def log_flushes(row):
-    """Each log flush is of one block, and the question is of its commit and of the first one."""
+    """Each log flush is of one block. The question is of the first commit, then of that of this block."""
     script = Script()
     script.create(1)
     for _ in range(ROUNDS):
@@ -259,9 +291,9 @@ def log_flushes(row):
         script.write_logged(1, 1)
         script.lines.append("log-flush")
         script.count("log-flush")
-        for transaction in (first, script.next_tx - 1):
+        for kind, transaction in (("first", first), ("last", script.next_tx - 1)):
             script.lines.append(f"durable {transaction} {script.open}")
-            script.count("durable")
+            script.count(kind)
         script.finish()
     return script
 
@@ -285,7 +317,6 @@ def log_ends(row):
 Table = collections.namedtuple("Table", "name script size kinds pairs rows", defaults=[()])
 SMALL = Commits(MiB=8, locks=1, objects=1)
 LINES = ["lock", "begin", "commit", "unlock"]
-KEPT_BLOCKS = {"1 or 100 kept log blocks": (LogFlushes(1), LogFlushes(100))}
 TABLES = [
     Table(
         "Commits",
@@ -317,14 +348,35 @@ TABLES = [
         {"none or 1000 writes": (Syncs(0), Syncs(1000))},
     ),
     Table(
+        "Syncs by their blocks",
+        blocks,
+        64 * MIB,
+        ["start", "finish"],
+        {},
+        [Blocks(1, 4), Blocks(10, 22), Blocks(100, 203), Blocks(1000, 2017)],
+    ),
+    Table(
         "Log writes of ten records",
         log_writes,
         256 * MIB,
         ["log-write"],
-        {"10 or 10000 pending": (LogWrites(10), LogWrites(10_000))},
+        {f"10 or {many} pending": (LogWrites(10), LogWrites(many)) for many in (100, 1000, 10_000)},
     ),
-    Table("Log flushes of a block", log_flushes, 64 * MIB, ["log-flush"], KEPT_BLOCKS),
-    Table("Whether a commit is durable", log_flushes, 64 * MIB, ["durable"], KEPT_BLOCKS),
+    Table(
+        "Log flushes of a block",
+        log_flushes,
+        64 * MIB,
+        ["log-flush"],
+        {f"1 or {many} kept log blocks": (LogFlushes(1), LogFlushes(many)) for many in (10, 100)},
+    ),
+    Table(
+        "Whether a commit is durable",
+        log_flushes,
+        64 * MIB,
+        ["first", "last"],
+        {},
+        [LogFlushes(1), LogFlushes(10), LogFlushes(100)],
+    ),
     Table(
         "Ends of syncs beside a log",
         log_ends,
@@ -341,29 +393,54 @@ def fail(reason):
     sys.exit(2)
 
 
-def count(program, size, made, folder):
-    """The mean of the instructions of the counted lines, by their kinds."""
+def run(program, size, lines, folder):
+    """The answers of a script, and the instructions of each line from its command to its answer."""
     script, counts = folder / "script", folder / "counts"
-    script.write_text("\n".join(made.lines) + "\n")
+    script.write_text("\n".join(lines) + "\n")
     words = ["valgrind", "--tool=callgrind", f"--callgrind-out-file={counts}", "--combine-dumps=yes"]
-    words += [f"--toggle-collect={STEP}", f"--dump-before={LINE}"]
+    words += [f"--dump-after={READ}", *(f"--dump-before={name}" for name in PRINTED)]
     words += [program, "script", str(size), str(script)]
     ran = subprocess.run(words, capture_output=True, text=True)
     answers = ran.stdout.splitlines()
+    if ran.returncode or len(answers) != len(lines):
+        fail(ran.stderr[-1000:])
+    totals, ended, began = [], "", ""
+    with open(counts) as parts:
+        for line in parts:
+            if line.startswith("desc: Trigger:"):
+                began, ended = ended, line
+            elif line.startswith("totals:") and "--dump-after" in began:
+                totals.append(int(line.split()[1]))
+    if len(totals) != len(lines):
+        fail(f"the program doesn't call {READ} once for each line")
+    return answers, totals
+
+
+def count(program, size, made, folder):
+    """The mean of the instructions of the counted lines, by their kinds."""
+    answers, totals = run(program, size, made.lines, folder)
     for line, answer in zip(made.lines, answers):
         if answer.startswith(("refused", "line")):
             fail(f"`{line[:60]}` is answered `{answer}`")
-    if ran.returncode or len(answers) != len(made.lines):
-        fail(ran.stderr[-1000:])
-    with open(counts) as parts:
-        totals = [int(line.split()[1]) for line in parts if line.startswith("totals:")]
-    # The first part is what comes before the first line.
-    if len(totals) != 1 + len(made.lines) or not any(totals):
-        fail(f"the program lacks a function {STEP} or {LINE}")
-    costs = collections.defaultdict(list)
+    for at, blocks in made.takes.items():
+        before, after = (int(FREE.search(answer)[1]) for answer in (answers[at - 1], answers[at + 1]))
+        if before - after != blocks:
+            fail(f"`{made.lines[at]}` takes {before - after} blocks instead of {blocks}")
+    costs, lines = collections.defaultdict(list), collections.defaultdict(list)
     for at, kind in made.counted.items():
-        costs[kind].append(totals[1 + at])
-    return {kind: sum(some) / len(some) for kind, some in costs.items()}
+        costs[kind].append(totals[at])
+        lines[kind].append(made.lines[at])
+    return {kind: mean(some) - own_cost(program, lines[kind][-REFUSED:], folder) for kind, some in costs.items()}
+
+
+def own_cost(program, lines, folder):
+    """The mean of the instructions of lines that a suspended pool refuses."""
+    _, totals = run(program, 8 * MIB, SUSPENDED + lines, folder)
+    return mean(totals[len(SUSPENDED) :])
+
+
+def mean(numbers):
+    return sum(numbers) / len(numbers)
 
 
 def head(row, kinds):
@@ -399,7 +476,7 @@ def main():
     word = "".join(sys.argv[2:]).lower()
     with tempfile.TemporaryDirectory() as folder:
         tables = [table for table in TABLES if word in table.name.lower()]
-        too_far = [run_table(sys.argv[1], table, pathlib.Path(folder)) for table in tables]
+        too_far = [run_table(os.path.abspath(sys.argv[1]), table, pathlib.Path(folder)) for table in tables]
     sys.exit(1 if any(too_far) else 0)
 
 
