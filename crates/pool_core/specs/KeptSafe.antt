@@ -1,5 +1,5 @@
 -- What a pool keeps of its disk for crashes, step by step.
-use Rattle.std.specs.Prelude.{ℕ, ◌≡◌, ◌≢◌, ◌≤◌, ◌<◌, ◌⊎◌, ◌++◌, ◌∷◌, All, true, List, Option, Some, None}
+use Rattle.std.specs.Prelude.{ℕ, ◌≡◌, ◌≢◌, ◌≤◌, ◌<◌, ◌⊎◌, ⊤, ◌++◌, [], ◌∷◌, All, true, List, Option, Some, None}
 use Rattle.base.specs.declared.step.Step as declared_step
 use Rattle.base.specs.declared.step.Reply as declared_reply
 use Rattle.base.specs.crash.CrashRule.{IsRunLeft}
@@ -7,12 +7,12 @@ use Rattle.base.specs.crash.Layout.{header_now}
 use Rattle.base.specs.crash.LogRoom.{HasImportRoom}
 use Rattle.base.specs.crash.LogRule.{IsLogHeld}
 use Rattle.base.specs.crash.Own.{IsOwnImage}
-use Rattle.base.specs.crash.PoolViews.{IsPoolDisk, IsViewOf}
-use Rattle.base.specs.crash.Views.{AreConfigsUpTo, View, view_frame}
+use Rattle.base.specs.crash.PoolViews.{IsPoolDisk, IsSyncConfig, IsViewOf}
+use Rattle.base.specs.crash.Views.{AreConfigsUpTo, IsConfigContent, IsSettled, View, view_frame}
 use Rattle.base.specs.disk.Disk.{Disk, EachMoment, Moment, bytes_of, disk_size, handed, moments}
 use Rattle.base.specs.disk.Fairness.{HasFairBytes, LeavesFair}
 use Rattle.base.specs.formats.Fields.{no_pointer}
-use Rattle.base.specs.formats.Geometry.{block_address, block_count}
+use Rattle.base.specs.formats.Geometry.{block_address, block_count, block_size, config_place}
 use Rattle.base.specs.history.Contents.{Contents}
 use Rattle.base.specs.history.Past.{Past}
 use Rattle.base.specs.steps.Additions.{past_after}
@@ -24,6 +24,8 @@ use Rattle.base.specs.steps.Runs.{Run}
 use Rattle.base.specs.steps.Shown.{Shown, SyncPlan}
 use Rattle.base.specs.stored.Stored.{Held, IsHeld}
 use Rattle.device_model.specs.declared.device.SectorDevice.{Ghosts}
+use Rattle.labels.specs.declared.stage.Stage.TheVariants.{Even}
+use Rattle.sync.specs.declared.run.LabelStages.{LabelStages}
 use Rattle.sync.specs.declared.run.SyncRun.{SyncRun}
 use Rattle.tree_plans.specs.declared.planner.PlannedBlock.{PlannedBlock}
 use Rattle.sync.specs.Phases.{IsUnderWay, SyncViews}
@@ -52,19 +54,26 @@ pub record AreSyncTrees (base : List ℕ) (run : SyncRun) (v : SyncViews) (taken
   pub new : (place : Place) → IsPlace place → v.new.pointers place ≢ no_pointer → IsOfTree v.old (v.new.pointers place).address ⊎ (is_in (v.new.pointers place).address taken ≡ true)
   pub blocks : All (λ (b : PlannedBlock). is_in (block_address b.index) taken ≡ true) run.blocks.items
 
--- While a sync runs: it is under way from the view of the synced group to that of its own. Of both the log is held, and
--- both leave room for an import. What a read gives is fair, and no config of the pool above the synced group counts.
--- (None writes label stages so far.)
+-- a sync without label stages, or one that writes the config of its group, the even labels first
+abbrev pub WritesConfig : Option LabelStages → ℕ → Shown → Past → ℕ → Type 0
+WritesConfig None size s past group = ⊤
+WritesConfig (Some stages) size s past group =
+    (stages.first ≡ Even) × (c : IsSyncConfig size s past group stages.config) × IsConfigContent stages.config size s.guid group c.contents.name
+
+-- While a sync runs: it is under way from the view of the synced group, whose config label 1 has, to that of its own. Of
+-- both the log is held, and both leave room for an import. What a read gives is fair, and no config of the pool above the
+-- synced group counts but the one that it writes.
 pub record IsSyncOnDisk (run : SyncRun) (disk : Disk) (s : Shown) (past : Past) : Type 0 where
-  pub no_stages : run.stages ≡ None
   pub left : run.done < call_count run
   pub group : ℕ
+  pub stages : WritesConfig run.stages run.geometry s past group
   pub plan : SyncPlan
   pub syncing : s.line.syncing ≡ Some group
   pub running : s.sync ≡ Some plan
   pub base : List ℕ
   pub views : SyncViews
   pub created : views.created ≡ past.created
+  pub odd : views.fixed.config ≡ 1
   pub way : IsUnderWay base views run disk.now
   pub old_is : IsViewOf views.flushed views.old s past s.line.synced s.root (header_now s.log)
   pub new_is : IsViewOf views.new_flushed views.new s past group plan.root plan.header
@@ -74,12 +83,16 @@ pub record IsSyncOnDisk (run : SyncRun) (disk : Disk) (s : Shown) (past : Past) 
   pub new_room : HasImportRoom (block_count run.geometry) views.new
   pub trees : AreSyncTrees base run views plan.taken
   pub bytes : HasFairBytes run.geometry past.created disk.now
-  pub configs : AreConfigsUpTo run.geometry past.created (handed disk.now) s.guid s.line.synced (λ above content. ⊥)
+  pub configs : AreConfigsUpTo run.geometry past.created (handed disk.now) s.guid s.line.synced (IsSyncConfig run.geometry s past)
 
--- the disk is kept: at rest on the view of the synced group while no group is syncing, or on the way of the sync that
--- runs
+-- the config of label 1 is settled
+abbrev pub IsOddSettled : ℕ → Moment → Type 0
+IsOddSettled size m = IsSettled m (config_place size 1) block_size
+
+-- the disk is kept: at rest on the view of the synced group while no group is syncing, with a config in label 1 that is
+-- settled, or on the way of the sync that runs
 abbrev pub IsDiskKept : Option SyncRun → Disk → Shown → Past → Type 0
-IsDiskKept None disk s past = (s.line.syncing ≡ None) × IsPoolDisk (disk_size disk) disk.now s past
+IsDiskKept None disk s past = (s.line.syncing ≡ None) × IsPoolDisk (disk_size disk) disk.now s past × IsOddSettled (disk_size disk) disk.now
 IsDiskKept (Some run) disk s past = IsSyncOnDisk run disk s past
 
 -- The crash rule of a pool with its past: the device holds what it should, a read of its disk gives these bytes, and
@@ -131,10 +144,11 @@ module _ {Dev : Type 0} {G : Ghosts Dev} where
   abbrev pub SafeOn : List declared_step.Step → List declared_reply.Reply → PoolState Dev G → PoolState Dev G → Type 0
   SafeOn ss rs old new = (past : Past) → IsKeptSafe (on_disk old past) → (later : Past) × Run IsSafeStep ss rs (on_disk old past) (on_disk new later) × IsKeptSafe (on_disk new later)
 
-  -- where the disk of a new state is at rest on the view of its group, the crash rule stands with the first past
+  -- where the disk of a new state is at rest on the view of its group, and nothing is unflushed, the crash rule stands
+  -- with the first past
   abbrev pub BeginsSafe : PoolState Dev G → Type 0
   BeginsSafe state = (created : ℕ) → IsHeldAtFirst (told state) → created ≤ moments (disk_of state)
-      → IsPoolDisk (disk_size (disk_of state)) (disk_of state).now (shown state) (first_past (shown state) created)
+      → IsPoolDisk (disk_size (disk_of state)) (disk_of state).now (shown state) (first_past (shown state) created) → (disk_of state).now.unflushed ≡ []
       → IsKeptSafe (on_disk state (first_past (shown state) created))
 
 -- What the crash rule comes to: the past explains the pool, now and after a crash. The pool is exact, its entries are a

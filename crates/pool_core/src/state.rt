@@ -171,7 +171,7 @@ impl<D: SectorDevice> PoolState<D> {
     /// # Errors
     /// In this order:
     /// - `Suspended`.
-    /// - `BadRange` if the plan has no shape, or one that gives a name or is outside its limits.
+    /// - `BadRange` if the plan has no shape, or one that is outside its limits.
     /// - `TooLarge` if its log record would have more than 4,008 bytes.
     /// - `NotLocked` if a range of it does not lie in one writer lock of the owner.
     /// - `Busy` if one overlaps a range of an open transaction.
@@ -210,6 +210,7 @@ impl<D: SectorDevice> PoolState<D> {
     /// - `Suspended`.
     /// - `NoSuchTransaction` if none of this name is open.
     /// - `OutOfPlan` if the operations don't have the plan's shapes, one for one.
+    /// - `BadRange` if one gives a name that no pool may have.
     /// - `NoObject` or `Exists`, that of the first operation that can't take place on the contents after those before
     ///   it.
     /// - `TooMany` if the next ordinal would pass 2^60.
@@ -352,7 +353,8 @@ impl<D: SectorDevice> PoolState<D> {
     }
 
     /// Starts the sync of the quiesced group. It plans its blocks, one for each place of the tree that it writes, and
-    /// takes the memory for all its steps. The moment, in seconds, is stored in its uberblocks.
+    /// takes the memory for all its steps. The moment, in seconds, is stored in its uberblocks. A group that gives a name
+    /// has six steps more: they write it into the configs of the labels.
     ///
     /// # Errors
     /// In this order:

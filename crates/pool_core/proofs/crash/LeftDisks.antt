@@ -65,7 +65,7 @@ module _ {Dev : Type 0} {G : Ghosts Dev} (keep : IsTrue G.keeps_model) (dirty_ma
       subst (λ (n : ℕ). IsPoolDisk n (disk_of state).now (shown state) (first_past (shown state) past.created)) (sym sized)
       (subst (λ (s : Shown). IsPoolDisk m.geometry (disk_of state).now s (first_past (shown state) past.created)) (sym shows)
       (subst (λ (p : Past). IsPoolDisk m.geometry (disk_of state).now (shown_of_import m) p) (sym first_is) run_start.disk)) in
-      begins past.created held left_then.left.1.began laid
+      begins past.created held left_then.left.1.began laid run_start.settled
 
   safe_first : IsKeptSafe (on_disk state first)
   safe_first = subst (λ (p : Past). IsKeptSafe (on_disk state p)) first_is safe_at_first

@@ -1,7 +1,7 @@
 -- A flush of the log that is answered keeps a pool's disk, whether a sync runs or not: all log blocks are fixed then.
 use Rattle.std.proofs.Common.{◌≡◌, ◌∙◌, ℕ, false, List, [], ◌∷◌, ◌++◌, length, Option, Some, None, Ok, refl, ap, sym, subst}
 use Rattle.base.specs.crash.Layout.{header_now}
-use Rattle.base.specs.crash.PoolViews.{IsPoolDisk, IsViewOf}
+use Rattle.base.specs.crash.PoolViews.{IsPoolDisk, IsSyncConfig, IsViewOf}
 use Rattle.base.specs.crash.Views.{AreConfigsUpTo}
 use Rattle.base.specs.disk.Calls.{Flushes}
 use Rattle.base.specs.disk.Disk.{Disk, Moment, Write, bytes_of, certain_with, disk_size, handed}
@@ -24,6 +24,8 @@ use Rattle.sync.proofs.LogFlushes.{log_flushed}
 use Rattle.pool_core.specs.KeptSafe.{IsDiskKept, IsKeptSafe, IsSyncOnDisk, OnDisk}
 use Rattle.pool_core.proofs.crash.HeldLogs.{held_as}
 use Rattle.pool_core.proofs.crash.OwnMoments.{held_of}
+use Rattle.pool_core.proofs.crash.SafeMoments.{odd_settled}
+use Rattle.pool_core.proofs.crash.ViewsKept.{stages_as, sync_configs_as}
 
 -- a flush leaves what a read gives
 pub same_flushed : (before after : Disk) → Flushes before (Ok tt) after → bytes_of after.now ≡ bytes_of before.now
@@ -32,6 +34,14 @@ same_flushed before after flushed = ap (λ (d : Disk). bytes_of d.now) flushed �
     go : (ws : List Write) → bytes_of (certain_with (bytes_of before.now) before ws).now ≡ bytes_of before.now
     go [] = refl
     go (w ∷ ws) = refl
+
+-- and nothing is unflushed then
+all_settled : (before after : Disk) → Flushes before (Ok tt) after → after.now.unflushed ≡ []
+all_settled before after flushed = ap (λ (d : Disk). d.now.unflushed) flushed ∙ go before.now.unflushed refl
+  where
+    go : (ws : List Write) → before.now.unflushed ≡ ws → (certain_with (bytes_of before.now) before ws).now.unflushed ≡ []
+    go [] none = none
+    go (w ∷ ws) some = refl
 
 module _ (x : OnDisk) (safe : IsKeptSafe x) (after : Disk) (flushed : Flushes x.disk (Ok tt) after) (running : x.held.state.shown.suspended ≡ false) where
   abbrev s : Shown
@@ -71,7 +81,7 @@ module _ (x : OnDisk) (safe : IsKeptSafe x) (after : Disk) (flushed : Flushes x.
     way = log_flushed y.base x.disk after y.views run (held_of y running) flushed y.way
 
     abbrev Plain : Moment → Type 0
-    Plain m = HasFairBytes run.geometry p.created m × AreConfigsUpTo run.geometry p.created (handed m) s.guid s.line.synced (λ above content. ⊥)
+    Plain m = HasFairBytes run.geometry p.created m × AreConfigsUpTo run.geometry p.created (handed m) s.guid s.line.synced (IsSyncConfig run.geometry s p)
 
     plain : Plain after.now
     plain = latest Plain x.disk after (each_flush Plain x.disk x.disk after (Ok tt) (starts Plain x.disk (y.bytes, y.configs)) flushed (λ was. (
@@ -87,15 +97,16 @@ module _ (x : OnDisk) (safe : IsKeptSafe x) (after : Disk) (flushed : Flushes x.
 
     sync_flushed : IsSyncOnDisk run after u.shown u.past
     sync_flushed = record {
-      no_stages = y.no_stages;
       left = y.left;
       group = y.group;
+      stages = stages_as run.stages run.geometry run.geometry s u.shown p u.past y.group refl refl refl refl refl y.stages;
       plan = y.plan;
       syncing = y.syncing;
       running = y.running;
       base = y.base;
       views = all;
       created = y.created;
+      odd = y.odd;
       way = way.0;
       old_is = old_is;
       new_is = new_is;
@@ -105,10 +116,10 @@ module _ (x : OnDisk) (safe : IsKeptSafe x) (after : Disk) (flushed : Flushes x.
       new_room = y.new_room;
       trees = record { old = y.trees.old; new = y.trees.new; blocks = y.trees.blocks };
       bytes = plain.0;
-      configs = plain.1;
+      configs = sync_configs_as (handed after.now) run.geometry run.geometry s u.shown p u.past refl refl refl refl refl refl (λ group syncing. refl) plain.1;
     }
 
   -- so the disk is kept
   pub disk_flushed : (o : Option SyncRun) → IsDiskKept o x.disk s p → IsDiskKept o after u.shown u.past
-  disk_flushed None (idle, pool) = (idle, idle_flushed pool)
+  disk_flushed None (idle, pool, odd) = (idle, idle_flushed pool, odd_settled (disk_size after) after.now (all_settled x.disk after flushed))
   disk_flushed (Some run) y = sync_flushed run y

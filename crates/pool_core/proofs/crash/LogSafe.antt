@@ -19,7 +19,6 @@ use Rattle.base.specs.steps.Steps.{Answers, LogFlush, LogWrite, State, ordinals_
 use Rattle.base.proofs.common.KeptLists.{All-at, All-each, at_front}
 use Rattle.base.proofs.crash.LogHeaders.{kept_block}
 use Rattle.base.proofs.disk.Moments.{goes_on, moments_grow, starts}
-use Rattle.base.proofs.disk.Put.{length-put}
 use Rattle.base.proofs.history.CommitOrder.{no_refusal, ok-none}
 use Rattle.base.proofs.steps.KeptTables.{steps_keep_tables}
 use Rattle.base.proofs.stored.StoredSteps.{kept-state}
@@ -57,11 +56,6 @@ flush_joins before after flushed P first last = subst (λ (d : Disk). EachMoment
     go : (ws : List Write) → P (certain_with (bytes_of before.now) before ws).now → EachMoment P before (certain_with (bytes_of before.now) before ws)
     go [] here = starts P before first
     go (w ∷ ws) here = goes_on P before before (settled (bytes_of before.now) before.now) (starts P before first) here
-
-write_size : (before after : Disk) (place : ℕ) (content : List ℕ) (r : Result (Unit {0}) PoolError) → place + length content ≤ disk_size before → Writes before place content r after → disk_size after ≡ disk_size before
-write_size before after place content (Ok u) fits made = ap disk_size made ∙ length-put place content (bytes_of before.now) fits
-write_size before after place content (Err e) fits (inl made) = ap disk_size made
-write_size before after place content (Err e) fits (inr same) = ap disk_size same
 
 -- A moment that is safe with what is acknowledged is safe with less of it, and likewise its own.
 module _ (size guid : ℕ) (p q : Past) (same : record q { acknowledged = p.acknowledged } ≡ p) (fewer : (marks : List Bool) → HasAcknowledged marks q.acknowledged → HasAcknowledged marks p.acknowledged) (m : Moment) where
@@ -155,7 +149,7 @@ module _ (answer : Result ℕ PoolError) (x y : OnDisk) (safe : IsKeptSafe x) (h
     joins = write_joins x.disk y.disk s.log.next.address puts.block.content r puts.writes
 
     size : disk_size y.disk ≡ disk_size x.disk
-    size = write_size x.disk y.disk s.log.next.address puts.block.content r (writes.fits x safe r done told y.held.state.shown y.disk puts running) puts.writes
+    size = writes.write_size x.disk y.disk s.log.next.address puts.block.content r (writes.fits x safe r done told y.held.state.shown y.disk puts running) puts.writes
 
     later : moments x.disk ≤ moments y.disk
     later = moments_grow (λ m. Unit {0}) x.disk y.disk (joins (λ m. Unit {0}) tt tt)
@@ -265,7 +259,7 @@ module _ (x y : OnDisk) (safe : IsKeptSafe x) where
         };
         same_bytes = safe.same_bytes;
         began = safe.began;
-        kept = disk_stays before.shown stopped.shown before.past stopped.past safe.held.explained (suspended_stays before) x.run x.disk safe.kept;
+        kept = disk_stays before.shown stopped.shown before.past stopped.past (suspended_stays before) x.run x.disk safe.kept;
       }))
 
 pub log_flushes_safe : LogFlushesAreSafe

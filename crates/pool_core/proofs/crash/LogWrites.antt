@@ -8,16 +8,16 @@ use Rattle.std.proofs.lemmas.Bool.{false≢true}
 use Rattle.base.specs.crash.Layout.{header_now}
 use Rattle.base.specs.crash.LogRoom.{HasImportRoom}
 use Rattle.base.specs.crash.LogSteps.{IsSpareOf, shown_after_write}
-use Rattle.base.specs.crash.PoolViews.{IsPoolDisk, IsPoolLaid, IsViewOf}
+use Rattle.base.specs.crash.PoolViews.{IsPoolDisk, IsPoolLaid, IsSyncConfig, IsViewOf}
 use Rattle.base.specs.crash.Views.{AreConfigsUpTo, IsConfigContent, Logged, View, view_frame}
 use Rattle.base.specs.declared.error.PoolError.{PoolError}
 use Rattle.base.specs.declared.error.PoolError.TheVariants as error
 use Rattle.base.specs.declared.pointer.Pointer.{Pointer}
 use Rattle.base.specs.disk.Calls.{Writes}
-use Rattle.base.specs.disk.Disk.{Disk, Moment, bytes_of, disk_size, handed, moments, wrote}
+use Rattle.base.specs.disk.Disk.{Apart, Disk, Moment, bytes_of, disk_size, handed, moments, wrote}
 use Rattle.base.specs.disk.Fairness.{HasFairBytes}
 use Rattle.base.specs.formats.Chain.{Header}
-use Rattle.base.specs.formats.Geometry.{IsGeometry, block_address, block_count, block_size}
+use Rattle.base.specs.formats.Geometry.{IsBlockAddress, IsGeometry, block_address, block_count, block_size, config_place}
 use Rattle.base.specs.formats.Records.{Record}
 use Rattle.base.specs.history.Past.{Past}
 use Rattle.base.specs.steps.Exact.{AreDistinctPlaces}
@@ -30,6 +30,7 @@ use Rattle.base.specs.steps.Steps.{Answers, LogWrite, State, TakesForLog, WantsM
 use Rattle.base.specs.stored.Stored.{IsKept}
 use Rattle.base.specs.tree.Places.Place.{Root}
 use Rattle.base.proofs.common.KeptLists.{All-at, All-each}
+use Rattle.base.proofs.crash.KeptViews.{settled_wrote}
 use Rattle.base.proofs.crash.LogHeaders.{header_now-write}
 use Rattle.base.proofs.crash.PoolLogSteps.{log_write_kept}
 use Rattle.base.proofs.crash.PoolLogs.{block_no_config, block_on_device, links, view_written}
@@ -37,6 +38,8 @@ use Rattle.base.proofs.crash.PoolSpares.{next_is_spare}
 use Rattle.base.proofs.crash.PoolViews.{OfEachView}
 use Rattle.base.proofs.disk.FairBytes.{fair_bytes_wrote}
 use Rattle.base.proofs.disk.Moments.{each_write, latest, starts}
+use Rattle.base.proofs.disk.Put.{length-put}
+use Rattle.base.proofs.formats.LabelPlaces.{block-label_apart}
 use Rattle.base.proofs.stored.StoredLogs.{log_put_keeps, log_write_keeps}
 use Rattle.base.proofs.stored.StoredPlaces.{kept_distinct}
 use Rattle.base.proofs.stored.StoredSteps.{kept-state}
@@ -46,13 +49,20 @@ use Rattle.sync.specs.LogCalls.{IsNextBlock, IsNextInBoth, base_with, with_log_b
 use Rattle.sync.specs.Phases.{HoldsLogs, IsUnderWay, SyncViews}
 use Rattle.sync.specs.declared.run.SyncRun.{SyncRun}
 use Rattle.sync.proofs.LogWrites.{log_written}
-use Rattle.pool_core.specs.KeptSafe.{AreSyncTrees, IsDiskKept, IsKeptSafe, IsSyncOnDisk, OnDisk}
+use Rattle.pool_core.specs.KeptSafe.{AreSyncTrees, IsDiskKept, IsKeptSafe, IsOddSettled, IsSyncOnDisk, OnDisk}
 use Rattle.pool_tables.specs.LogBlocks.{PutsLogBlock}
 use Rattle.pool_core.proofs.crash.HeldLogs.{held_as}
 use Rattle.pool_core.proofs.crash.OwnMoments.{held_of}
 use Rattle.pool_core.proofs.crash.SafeMoments.{not_syncing}
 use Rattle.pool_core.proofs.crash.SyncTrees.{new_kept, old_kept, old_now, trees_with}
+use Rattle.pool_core.proofs.crash.ViewsKept.{stages_as, sync_configs_as}
 use Rattle.pool_core.proofs.crash.ViewRooms.{HasKeptBlocks, next_apart, synced_has_room, syncing_has_room}
+
+-- a write leaves the size of its device
+pub write_size : (before after : Disk) (place : ℕ) (content : List ℕ) (r : Result (Unit {0}) PoolError) → place + length content ≤ disk_size before → Writes before place content r after → disk_size after ≡ disk_size before
+write_size before after place content (Ok u) fits made = ap disk_size made ∙ length-put place content (bytes_of before.now) fits
+write_size before after place content (Err e) fits (inl made) = ap disk_size made
+write_size before after place content (Err e) fits (inr same) = ap disk_size same
 
 -- A write leaves the past, whatever it answers. After one that was handed to the device the log has one block more, so
 -- its tests were passed.
@@ -153,6 +163,16 @@ module _ (x : OnDisk) (safe : IsKeptSafe x) (answer : Result (Unit {0}) PoolErro
       (idle_spare idle pool.laid) puts.writes told).1 in
       subst (λ (n : ℕ). IsPoolDisk n after.now t p) (sym then.bytes.size_is) then
 
+  -- a block of the log is apart from the config of label 1
+  odd_written : IsOddSettled size x.disk.now → IsOddSettled (disk_size after) after.now
+  odd_written odd = subst (λ (n : ℕ). IsOddSettled n after.now) (sym (write_size x.disk after place l.content answer fits puts.writes))
+      (latest (IsOddSettled size) x.disk after (each_write (IsOddSettled size) x.disk x.disk after place l.content answer (starts (IsOddSettled size) x.disk odd) puts.writes
+      (λ d was. settled_wrote (moments x.disk) place l.content d x.disk.now fits (config_place size 1) block_size apart was)))
+    where
+      apart : Apart place (length l.content) (config_place size 1) block_size
+      apart = subst (λ (n : ℕ). Apart place n (config_place size 1) block_size) (sym whole)
+          (block-label_apart size 1 (config_place size 1) block_size place g (omega arith) (omega arith) (omega arith) (subst (λ (n : ℕ). IsBlockAddress n place) counted puts.packed.in_area))
+
   -- While a sync runs.
   module _ (explained_then : IsExplainedNow t p) (run : SyncRun) (y : IsSyncOnDisk run x.disk s p) where
     long : size ≡ run.geometry
@@ -227,7 +247,7 @@ module _ (x : OnDisk) (safe : IsKeptSafe x) (answer : Result (Unit {0}) PoolErro
 
     -- what a read gives stays fair, and no config is written
     abbrev Plain : Moment → Type 0
-    Plain m = HasFairBytes run.geometry p.created m × AreConfigsUpTo run.geometry p.created (handed m) s.guid s.line.synced (λ above content. ⊥)
+    Plain m = HasFairBytes run.geometry p.created m × AreConfigsUpTo run.geometry p.created (handed m) s.guid s.line.synced (IsSyncConfig run.geometry s p)
 
     plain_wrote : (d : Bool) → Plain x.disk.now → Plain (wrote (moments x.disk) place l.content d x.disk.now)
     plain_wrote d was =
@@ -236,7 +256,7 @@ module _ (x : OnDisk) (safe : IsKeptSafe x) (answer : Result (Unit {0}) PoolErro
           configs,
         )
       where
-        configs : AreConfigsUpTo run.geometry p.created (handed (wrote (moments x.disk) place l.content d x.disk.now)) s.guid s.line.synced (λ above content. ⊥)
+        configs : AreConfigsUpTo run.geometry p.created (handed (wrote (moments x.disk) place l.content d x.disk.now)) s.guid s.line.synced (IsSyncConfig run.geometry s p)
         configs label group name c below (inl here) is =
             absurd (block_no_config run.geometry run.sized s p explained.exact.log count puts.taken puts.rest puts.address puts.fits.front l puts.packed left (moments x.disk) d x.disk.now long s.guid group name
             (subst (λ (b : List ℕ). IsConfigContent b run.geometry s.guid group name) (sym here.2) is))
@@ -247,15 +267,16 @@ module _ (x : OnDisk) (safe : IsKeptSafe x) (answer : Result (Unit {0}) PoolErro
 
     sync_written : IsSyncOnDisk run after t p
     sync_written = record {
-      no_stages = y.no_stages;
       left = y.left;
       group = y.group;
+      stages = stages_as run.stages run.geometry run.geometry s t p p y.group refl refl refl refl refl y.stages;
       plan = y.plan;
       syncing = y.syncing;
       running = y.running;
       base = base;
       views = with;
       created = y.created;
+      odd = y.odd;
       way = way.0;
       old_is = old_is;
       new_is = new_is;
@@ -265,10 +286,12 @@ module _ (x : OnDisk) (safe : IsKeptSafe x) (answer : Result (Unit {0}) PoolErro
       new_room = new_room;
       trees = trees;
       bytes = plain.0;
-      configs = plain.1;
+      configs = sync_configs_as (handed after.now) run.geometry run.geometry s t p p refl refl refl refl refl refl (λ group syncing. refl) plain.1;
     }
 
   -- so the disk is kept
   pub disk_written : IsExplainedNow t p → (o : Option SyncRun) → IsDiskKept o x.disk s p → IsDiskKept o after t p
-  disk_written explained_then None (idle, pool) = (idle, idle_written idle pool)
+  disk_written explained_then None (idle, pool, odd) =
+      let then : IsPoolDisk (disk_size after) after.now t p = idle_written idle pool in
+      (idle, then, odd_written odd)
   disk_written explained_then (Some run) y = sync_written explained_then run y

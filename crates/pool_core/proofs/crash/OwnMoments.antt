@@ -17,7 +17,7 @@ use Rattle.base.specs.formats.Geometry.{block_count}
 use Rattle.base.specs.history.Past.{Past}
 use Rattle.base.specs.steps.ExactNow.{IsExplainedNow}
 use Rattle.base.specs.steps.Shown.{Shown, SyncPlan}
-use Rattle.base.proofs.crash.OwnDisks.{configs_weaker, image_left}
+use Rattle.base.proofs.crash.OwnDisks.{image_left}
 use Rattle.base.proofs.crash.PoolViews.{OfEachView}
 use Rattle.sync.specs.Calls.{calls_of}
 use Rattle.sync.specs.Phases.{HoldsLogs, SyncViews, all_flushed, is_flush, views_after}
@@ -134,12 +134,12 @@ module _ (size : ℕ) (m : Moment) (s : Shown) (past : Past) (x : HasSyncViews s
     )
   ]
 
-  -- where no config above the synced group counts, it is a moment of the pool's disk
-  module _ (bytes : HasFairBytes size past.created m) (known : AreConfigsUpTo size past.created (handed m) s.guid s.line.synced (λ above content. ⊥)) where
+  -- where no config above the synced group counts but the sync's own, it is a moment of the pool's disk
+  module _ (bytes : HasFairBytes size past.created m) (known : AreConfigsUpTo size past.created (handed m) s.guid s.line.synced (IsSyncConfig size s past)) where
     pub moment_laid : IsPoolDisk size m s past
     moment_laid = record {
       bytes = bytes;
-      configs = configs_weaker size past.created (handed m) s.guid s.line.synced s.line.synced (λ above content. ⊥) (IsSyncConfig size s past) (omega arith) (λ above content no_way. absurd no_way) known;
+      configs = known;
       laid = laid_with_room.0;
     }
 

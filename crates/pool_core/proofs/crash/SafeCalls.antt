@@ -22,18 +22,20 @@ use Rattle.base.proofs.crash.OwnDisks.{configs_weaker}
 use Rattle.base.proofs.crash.PoolLogs.{pool_synced}
 use Rattle.base.proofs.disk.Moments.{both, latest, weaker}
 use Rattle.tree_plans.specs.declared.planner.PlannedBlock.{PlannedBlock}
+use Rattle.sync.specs.declared.run.LabelStages.{LabelStages}
 use Rattle.sync.specs.declared.run.SyncRun.{SyncRun}
 use Rattle.sync.specs.Calls.{calls_of}
 use Rattle.sync.specs.Phases.{HoldsLogs, IsLoggedPhase, IsUnderWay, IsWrittenNext, SyncViews, all_flushed, is_flush, views_after}
 use Rattle.sync.specs.Runs.{SameSync, call_count}
 use Rattle.sync.proofs.ConfigWrites.{configs_staged}
+use Rattle.sync.proofs.RenamedViews.{configs_while}
 use Rattle.sync.proofs.UnderWay.{ends_at_rest, holds_logs}
 use Rattle.pool_tables.specs.SyncPhases.{TriesNext}
-use Rattle.pool_core.specs.KeptSafe.{AreSyncTrees, IsSyncOnDisk, LeavesOwn}
+use Rattle.pool_core.specs.KeptSafe.{AreSyncTrees, IsOddSettled, IsSyncOnDisk, LeavesOwn, WritesConfig}
 use Rattle.pool_core.proofs.crash.HeldLogs.{held_as}
 use Rattle.pool_core.proofs.crash.OwnMoments.{AreViewsOf, HasSyncViews, PhaseOf, held_of, moment_laid, moment_left, views_held, views_of, views_then}
-use Rattle.pool_core.proofs.crash.SafeMoments.{IsSafeMoment, moment_safe}
-use Rattle.pool_core.proofs.crash.ViewsKept.{SameSyncing, configs_as, synced_view, syncing_view}
+use Rattle.pool_core.proofs.crash.SafeMoments.{IsSafeMoment, moment_safe, odd_settled}
+use Rattle.pool_core.proofs.crash.ViewsKept.{SameSyncing, stages_as, sync_configs_as, synced_view, syncing_view}
 
 -- the trees of a sync's views are those of the same sync, with more of their log blocks fixed or not
 trees_then : (base : List ℕ) (run next : SyncRun) (v : SyncViews) (taken later : List ℕ) → SameSync run next → later ≡ taken → AreSyncTrees base run v taken → AreSyncTrees base next (views_after run next v) later
@@ -48,6 +50,11 @@ trees_then base run next v taken later same same_taken trees = subst (λ (l : Li
     go : (b : Bool) → AreSyncTrees base next (if b then all_flushed v else v) taken
     go true = record { old = old; new = trees.new; blocks = blocks }
     go false = record { old = old; new = trees.new; blocks = blocks }
+
+-- and the labels with what is fixed stay
+odd_then : (b : Bool) (v : SyncViews) → (if b then all_flushed v else v).fixed.config ≡ v.fixed.config
+odd_then true v = refl
+odd_then false v = refl
 
 module _ (run next : SyncRun) (before after : Disk) (s : Shown) (p : Past) (began : p.created ≤ moments before) (x : IsSyncOnDisk run before s p) (tries : TriesNext s.suspended run next before after) where
   bytes_each : EachMoment (HasFairBytes run.geometry p.created) before after
@@ -85,15 +92,21 @@ module _ (run next : SyncRun) (before after : Disk) (s : Shown) (p : Past) (bega
   hands_now : Hands after.now
   hands_now = latest Hands before after hands_each
 
-  -- no config is written
+  -- no config is written but that of the sync
   abbrev KnowsConfigs : Moment → Type 0
-  KnowsConfigs m = AreConfigsUpTo run.geometry p.created (handed m) s.guid s.line.synced (λ above content. ⊥)
+  KnowsConfigs m = AreConfigsUpTo run.geometry p.created (handed m) s.guid s.line.synced (IsSyncConfig run.geometry s p)
 
   configs_known : (m : Moment) → Hands m → KnowsConfigs m
-  configs_known m hands label group name content below some is = elim (hands (config_place run.geometry label) content some) as (λ _. (group ≤ s.line.synced) ⊎ ⊥) [
-    | inl written ↦ let staged = configs_staged run run.sized label content below written in let no_way : None ≡ Some staged.0 = sym x.no_stages ∙ staged.1 in cc
-    | inr was ↦ x.configs label group name content below was is
-  ]
+  configs_known m hands = go run.stages refl x.stages
+    where
+      go : (o : Option LabelStages) → run.stages ≡ o → WritesConfig o run.geometry s p x.group → KnowsConfigs m
+      go None plain w = λ label group name content below some is. elim (hands (config_place run.geometry label) content some) as (λ _. (group ≤ s.line.synced) ⊎ IsSyncConfig run.geometry s p group content) [
+        | inl written ↦ let staged = configs_staged run run.sized label content below written in absurd (let no_way : None ≡ Some staged.0 = sym plain ∙ staged.1 in cc)
+        | inr was ↦ x.configs label group name content below was is
+      ]
+      go (Some stages) staged (even, c, own) =
+          configs_while run stages p.created s.guid s.line.synced (IsSyncConfig run.geometry s p) before.now m run.sized staged
+          (λ group name is. let same : x.group ≡ group = sym own.block.group_is ∙ is.block.group_is in subst (λ (g : ℕ). IsSyncConfig run.geometry s p g stages.config) same c) x.configs hands
 
   configs : KnowsConfigs after.now
   configs = configs_known after.now hands_now
@@ -127,15 +140,17 @@ module _ (run next : SyncRun) (before after : Disk) (s : Shown) (p : Past) (bega
   call_kept t q same left =
       let later = same.plans x.plan x.running in
       record {
-        no_stages = tries.same.stages ∙ x.no_stages;
         left = left;
         group = x.group;
+        stages = subst (λ (o : Option LabelStages). WritesConfig o next.geometry t q x.group) (sym tries.same.stages)
+            (stages_as run.stages run.geometry next.geometry s t p q x.group tries.same.geometry same.synced.guid same.line same.synced.base (same.entries x.group x.syncing) x.stages);
         plan = later.0;
         syncing = same.line ∙ x.syncing;
         running = later.1;
         base = x.base;
         views = then_views;
         created = then_are.created ∙ sym same.synced.created;
+        odd = odd_then (is_flush (slice_get (calls_of run) run.done) && nat_lt run.done next.done) x.views ∙ x.odd;
         way = call.1.0;
         old_is = synced_view s t p q then_views.flushed then_views.old same.synced then_are.old_is;
         new_is = syncing_view s t p q then_views.new_flushed then_views.new x.group x.plan later.0 same x.syncing later.2 then_are.new_is;
@@ -145,7 +160,7 @@ module _ (run next : SyncRun) (before after : Disk) (s : Shown) (p : Past) (bega
         new_room = subst (λ (n : ℕ). HasImportRoom (block_count n) then_views.new) (sym tries.same.geometry) then_are.new_room;
         trees = trees_then x.base run next x.views x.plan.taken later.0.taken tries.same later.2.taken x.trees;
         bytes = subst (λ (n : ℕ). HasFairBytes n q.created after.now) (sym tries.same.geometry) (subst (λ (c : ℕ). HasFairBytes run.geometry c after.now) (sym same.synced.created) bytes_now);
-        configs = configs_as (handed after.now) run.geometry next.geometry p.created q.created s.guid t.guid s.line.synced t.line.synced tries.same.geometry same.synced.created same.synced.guid same.synced.synced configs;
+        configs = sync_configs_as (handed after.now) run.geometry next.geometry s t p q tries.same.geometry same.synced.created same.synced.guid same.synced.synced same.line same.synced.base same.entries configs;
       }
 
   -- After the last one it is at rest on the view of the sync's group.
@@ -167,9 +182,14 @@ module _ (run next : SyncRun) (before after : Disk) (s : Shown) (p : Past) (bega
     last_kept : IsPoolDisk (disk_size after) after.now then.shown then.past
     last_kept = subst (λ (n : ℕ). IsPoolDisk n after.now then.shown then.past) (sym bytes_now.size_is) (record {
       bytes = bytes_now;
-      configs = configs_weaker run.geometry p.created (handed after.now) s.guid s.line.synced x.group (λ group content. ⊥) (IsSyncConfig run.geometry then.shown then.past) above (λ group content no_way. absurd no_way) configs;
+      configs = configs_weaker run.geometry p.created (handed after.now) s.guid s.line.synced x.group (IsSyncConfig run.geometry s p) (IsSyncConfig run.geometry then.shown then.past) above
+          (λ group content c. let same : Some group ≡ Some x.group = sym c.syncing ∙ x.syncing in let is : group ≡ x.group = cc in inl (omega (arith, is))) configs;
       laid = inl (pool_synced run.geometry after.now s p x.group x.plan explained.exact.log header then_views.new_flushed then_views.new at_rest then_are.new_is last_held);
     })
+
+  -- the last call is a flush
+  pub last_odd : next.done ≡ call_count next → IsOddSettled (disk_size after) after.now
+  last_odd all = odd_settled (disk_size after) after.now (tries.written.settled all)
 
   pub last_call_kept : (group : ℕ) (plan : SyncPlan) → s.line.syncing ≡ Some group → s.sync ≡ Some plan → IsHeaderIn plan.header s.log → IsExplainedNow s p → next.done ≡ call_count next
       → IsPoolDisk (disk_size after) after.now (steps.state_after_sync group plan (record { shown = s; past = p })).shown (steps.state_after_sync group plan (record { shown = s; past = p })).past

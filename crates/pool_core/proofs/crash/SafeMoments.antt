@@ -5,7 +5,7 @@ use Rattle.base.specs.declared.pointer.Pointer.{Pointer}
 use Rattle.base.specs.crash.CrashRule.{IsRunLeft}
 use Rattle.base.specs.crash.LogRoom.{HasImportRoom}
 use Rattle.base.specs.crash.PoolViews.{IsPoolAtRest, IsPoolDisk, IsPoolLaid}
-use Rattle.base.specs.disk.Disk.{Disk, EachMoment, Moment, bytes_of, disk_size, moments}
+use Rattle.base.specs.disk.Disk.{Disk, EachMoment, IsTouched, Moment, Write, bytes_of, disk_size, moments}
 use Rattle.base.specs.disk.Fairness.{LeavesFair}
 use Rattle.base.specs.formats.Geometry.{block_count}
 use Rattle.base.specs.history.Past.{Past}
@@ -21,7 +21,7 @@ use Rattle.base.proofs.crash.PoolViews.{OfEachView, pool_laid_out}
 use Rattle.base.proofs.disk.Moments.{starts}
 use Rattle.sync.specs.declared.run.SyncRun.{SyncRun}
 use Rattle.sync.proofs.UnderWay.{in_phase}
-use Rattle.pool_core.specs.KeptSafe.{IsDiskKept, IsKeptSafe, IsSyncOnDisk, LeavesOwn, OnDisk}
+use Rattle.pool_core.specs.KeptSafe.{IsDiskKept, IsKeptSafe, IsOddSettled, IsSyncOnDisk, LeavesOwn, OnDisk}
 use Rattle.pool_core.proofs.crash.OwnMoments.{HasSyncViews, PhaseOf, moment_laid, moment_left, views_of, were_left}
 
 -- a safe moment for a past, of a device of so many bytes
@@ -57,6 +57,10 @@ module _ (run : SyncRun) (disk : Disk) (s : Shown) (past : Past) (x : IsSyncOnDi
   pub sync_left : IsExplainedNow s past → LeavesOwn (disk_size disk) past s.guid disk.now
   sync_left explained = subst (λ (n : ℕ). LeavesOwn n past s.guid disk.now) (sym x.bytes.size_is) (moment_left run.geometry disk.now s past views phase x.bytes x.configs explained)
 
+-- where nothing is unflushed the config of label 1 is settled
+pub odd_settled : (size : ℕ) (m : Moment) → m.unflushed ≡ [] → IsOddSettled size m
+odd_settled size m none i from to touched = subst (λ (ws : List Write). IsTouched ws i) none touched
+
 disk_laid : (o : Option SyncRun) (disk : Disk) (s : Shown) (past : Past) → IsDiskKept o disk s past → IsPoolDisk (disk_size disk) disk.now s past
 disk_laid None disk s past kept = kept.1
 disk_laid (Some run) disk s past kept = sync_laid run disk s past kept
@@ -79,13 +83,13 @@ module _ (m : Moment) (s : Shown) (past : Past) (idle : s.line.syncing ≡ None)
 
 disk_left : (o : Option SyncRun) (disk : Disk) (s : Shown) (past : Past) (pointers : Place → Pointer) (running : Option NewTree) → past.created ≤ moments disk → IsExplainedNow s past
     → IsKept (bytes_of disk.now) s pointers running past → IsDiskKept o disk s past → IsRunLeft disk past s.guid
-disk_left None disk s past pointers running began explained held (idle, kept) =
+disk_left None disk s past pointers running began explained held (idle, kept, odd) =
     run_own (disk_size disk) disk s past s.contents began kept explained.exact.log explained.exact.sync explained.exact.groups.line explained.history (idle_room disk.now s past idle pointers running explained held kept.laid)
 disk_left (Some run) disk s past pointers running began explained held kept = record { began = began; left = sync_left run disk s past kept explained }
 
--- without a sync it is kept where it is laid so
-pub idle_kept : (o : Option SyncRun) (disk : Disk) (s : Shown) (past : Past) → o ≡ None → s.line.syncing ≡ None → IsPoolDisk (disk_size disk) disk.now s past → IsDiskKept o disk s past
-idle_kept o disk s past none idle pool = subst (λ (q : Option SyncRun). IsDiskKept q disk s past) (sym none) (idle, pool)
+-- without a sync it is kept where it is laid so, and nothing is unflushed
+pub idle_kept : (o : Option SyncRun) (disk : Disk) (s : Shown) (past : Past) → o ≡ None → s.line.syncing ≡ None → IsPoolDisk (disk_size disk) disk.now s past → disk.now.unflushed ≡ [] → IsDiskKept o disk s past
+idle_kept o disk s past none idle pool quiet = subst (λ (q : Option SyncRun). IsDiskKept q disk s past) (sym none) (idle, pool, odd_settled (disk_size disk) disk.now quiet)
 
 -- so a pool that keeps the crash rule is laid out as one, whether a sync runs or not
 pub kept_laid : (x : OnDisk) → IsKeptSafe x → IsPoolDisk (disk_size x.disk) x.disk.now x.held.state.shown x.held.state.past

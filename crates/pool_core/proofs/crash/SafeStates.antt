@@ -1,5 +1,5 @@
 -- Each step of a state keeps its crash rule: one that moves nothing, the start of a sync, and a step of it.
-use Rattle.std.proofs.Common.{◌≡◌, ◌∙◌, inl, inr, ℕ, ◌<◌, false, length, Option, Some, None, refl, ap, sym, subst}
+use Rattle.std.proofs.Common.{◌≡◌, ◌∙◌, inl, inr, ℕ, ◌<◌, false, length, List, Option, Some, None, refl, ap, sym, subst, arith}
 use Rattle.std.specs.Prelude.{Err, IsTrue, Ok, OnErr, Result, option_map}
 use Rattle.base.specs.declared.error.PoolError.{PoolError}
 use Rattle.base.specs.declared.names.Group.{Group}
@@ -10,10 +10,13 @@ use Rattle.base.specs.declared.step.Reply.TheVariants as reply
 use Rattle.base.specs.disk.Disk.{Disk, bytes_of}
 use Rattle.base.specs.formats.Geometry.{slot_of}
 use Rattle.base.specs.steps.Runs.{is_log_step}
+use Rattle.base.specs.steps.Shown.{SyncPlan}
 use Rattle.base.specs.stored.Stored.{Held, NewTree, is_turn}
 use Rattle.base.proofs.common.KeptLists.{Some-injective}
-use Rattle.base.proofs.steps.KeptGroups.{none_there}
 use Rattle.device_model.specs.declared.device.SectorDevice.{Ghosts}
+use Rattle.extents.specs.Synced.{patched_contents}
+use Rattle.extents.specs.Unsynced.{changes_at, name_at}
+use Rattle.sync.specs.declared.run.LabelStages.{LabelStages}
 use Rattle.sync.specs.declared.run.SyncRun.{SyncRun}
 use Rattle.sync.specs.Runs.{call_count}
 use Rattle.pool_tables.specs.declared.pool.PoolTables.{PoolTables}
@@ -21,12 +24,14 @@ use Rattle.pool_tables.specs.declared.pool.RunningSync.{RunningSync}
 use Rattle.pool_core.specs.declared.state.PoolState.{PoolState}
 use Rattle.pool_tables.specs.declared.pool.Progress.{Progress}
 use Rattle.pool_tables.specs.declared.pool.Progress.TheVariants.{More, Synced}
+use Rattle.pool_tables.specs.Running.{stages_for}
+use Rattle.pool_tables.specs.Shows.{contents_after_oldest, plan_of, pool_shown, synced_of}
 use Rattle.pool_tables.specs.Told.{Leads, new_tree_of, start_reply, sync_step_reply, tree_after}
 use Rattle.pool_tables.specs.SyncPhases.{StepsPhases}
 use Rattle.pool_core.specs.KeptSafe.{IsSafeStep, KeepsSafe, OnDisk, disk_of, on_disk, run_of}
 use Rattle.pool_core.specs.States.{device_of, shown, told}
 use Rattle.pool_core.specs.Turns.{Turns, held_after}
-use Rattle.pool_core.proofs.crash.SafeSteps.{last_safe, more_safe, start_safe, still_safe}
+use Rattle.pool_core.proofs.crash.SafeSteps.{IsStagedFor, last_safe, more_safe, start_safe, still_safe}
 use Rattle.pool_tables.proofs.syncs.SyncLeads.{was_syncing}
 
 -- what is made of something that is there
@@ -39,6 +44,27 @@ left_of : (pool : PoolTables) (run : SyncRun) → option_map (λ (r : RunningSyn
 left_of pool run is =
     let r = made_of (λ (r : RunningSync). r.run) pool.sync run is in
     subst (λ (x : SyncRun). x.done < call_count x) r.2 (pool.running r.0 r.1).left
+
+-- what is shown of the plan of a running sync is its own: its label stages have the name of its contents, and it has a
+-- step for each of its calls
+module _ (pool : PoolTables) (r : RunningSync) (at : pool.sync ≡ Some r) where
+  plan_is : (plan : SyncPlan) → (pool_shown pool).sync ≡ Some plan → plan_of pool.tree (contents_after_oldest pool) r ≡ plan
+  plan_is plan is = Some-injective (sym (ap (λ (o : Option RunningSync). option_map (plan_of pool.tree (contents_after_oldest pool)) o) at) ∙ is)
+
+  counted_plan : (plan : SyncPlan) → r.run.done ≡ 0 → (pool_shown pool).sync ≡ Some plan → plan.steps_left ≡ call_count r.run
+  counted_plan plan none is = subst (λ (l : SyncPlan). l.steps_left ≡ call_count r.run) (plan_is plan is) (omega (arith, none))
+
+  staged_plan : (g : ℕ) (plan : SyncPlan) → r.run.geometry ≡ pool.geometry → r.run.stages ≡ stages_for pool.guid r.group.0 pool.geometry (name_at pool.changes 0) → (pool_shown pool).line.syncing ≡ Some g
+      → (pool_shown pool).sync ≡ Some plan → IsStagedFor r.run.stages r.run.geometry pool.guid g plan.contents.name
+  staged_plan g plan sized stages syncing is =
+      subst (λ (l : SyncPlan). IsStagedFor r.run.stages r.run.geometry pool.guid g l.contents.name) (plan_is plan is)
+      (subst (λ (n : ℕ). IsStagedFor r.run.stages n pool.guid g (contents_after_oldest pool).name) (sym sized)
+      (subst (λ (h : ℕ). IsStagedFor r.run.stages pool.geometry pool.guid h (contents_after_oldest pool).name) (Some-injective (sym (was_syncing pool r at) ∙ syncing))
+      (subst (λ (o : Option LabelStages). IsStagedFor o pool.geometry pool.guid r.group.0 (contents_after_oldest pool).name) (sym stages) (go (name_at pool.changes 0)))))
+    where
+      go : (given : Option (List ℕ)) → IsStagedFor (stages_for pool.guid r.group.0 pool.geometry given) pool.geometry pool.guid r.group.0 (patched_contents (changes_at pool.changes 0) given (synced_of pool)).name
+      go None = tt
+      go (Some name) = (refl, refl)
 
 module _ {Dev : Type 0} {G : Ghosts Dev} where
   module _ (keeps : IsTrue G.keeps_model) (old new : PoolState Dev G) where
@@ -64,7 +90,8 @@ module _ {Dev : Type 0} {G : Ghosts Dev} where
         (λ k. record { held = h; disk = G.disk (sym device k); run = option_map (λ (q : RunningSync). q.run) (sym r.1 k) })
         (start_safe (on_disk old past) x moment group h (r.0).run (tree_after r.0 pool.tree) (turn.over keeps x.held) (turn.held keeps x.held)
         (ap (λ (d : Dev). bytes_of (G.disk d).now) device) (ap (λ (o : Option RunningSync). option_map (new_tree_of pool.tree) o) r.1)
-        (was.geometry ∙ sym new.sized ∙ ap (λ (d : Dev). G.size d) device ∙ sym (sized old.device)) (none_there (r.0).run.stages (r.0).no_stages)
+        (was.geometry ∙ sym new.sized ∙ ap (λ (d : Dev). G.size d) device ∙ sym (sized old.device)) 
+        (λ g plan syncing is. staged_plan pool r.0 r.1 g plan was.geometry was.stages syncing is) (λ plan is. counted_plan pool r.0 r.1 plan (ap (λ (t : NewTree). t.done) r.2) is)
         (λ g syncing. was.uberblock.slot ∙ ap (λ (n : ℕ). slot_of n) (Some-injective (sym (was_syncing pool r.0 r.1) ∙ syncing))) (ap (λ (t : NewTree). t.done) r.2) was.left)
 
     -- started or refused

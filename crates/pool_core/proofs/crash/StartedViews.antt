@@ -11,13 +11,13 @@ use Rattle.base.specs.crash.Layout.{header_now, kept_from}
 use Rattle.base.specs.crash.LogRoom.{HasImportRoom}
 use Rattle.base.specs.crash.LogRule.{IsLogHeld}
 use Rattle.base.specs.crash.Own.{IsAtRest}
-use Rattle.base.specs.crash.PoolViews.{IsViewOf}
-use Rattle.base.specs.crash.Views.{AreConfigsUpTo, AreLinked, IsConfigContent, IsView, Logged, View, view_frame}
-use Rattle.base.specs.disk.Disk.{Disk, bytes_of, handed}
+use Rattle.base.specs.crash.PoolViews.{IsSyncConfig, IsViewOf}
+use Rattle.base.specs.crash.Views.{AreConfigsKnown, AreConfigsUpTo, AreLinked, IsConfigContent, IsFixed, IsView, Logged, View, view_frame}
+use Rattle.base.specs.disk.Disk.{Disk, Write, bytes_of, handed}
 use Rattle.base.specs.disk.Fairness.{HasFairBytes}
 use Rattle.base.specs.formats.Blocks.{Frame}
 use Rattle.base.specs.formats.Fields.{no_pointer, number_at, part}
-use Rattle.base.specs.formats.Geometry.{IsBlockAddress, IsGeometry, block_address, block_area, block_count, block_size, slot_of}
+use Rattle.base.specs.formats.Geometry.{IsBlockAddress, IsGeometry, block_address, block_area, block_count, block_size, config_place, slot_of}
 use Rattle.base.specs.formats.Limits.{object_count}
 use Rattle.base.specs.formats.Versions.{written_version}
 use Rattle.base.specs.history.Contents.{Contents}
@@ -28,6 +28,7 @@ use Rattle.base.specs.steps.ExactNow.{IsExplainedNow}
 use Rattle.base.specs.steps.Locks.{is_in}
 use Rattle.base.specs.steps.Logs.{KeptBlock}
 use Rattle.base.specs.steps.Shown.{Shown, SyncPlan, taken_of, uberblock_of}
+use Rattle.base.specs.stored.LabelConfigs.{WritesName}
 use Rattle.base.specs.stored.Stored.{IsStored, IsSyncing, IsUnwritten, NewTree, frame_at}
 use Rattle.base.specs.tree.PlacedTrees.{HoldsTree}
 use Rattle.base.specs.tree.Places.{IsInTree, IsPlace, Place, kind_of}
@@ -36,26 +37,28 @@ use Rattle.base.specs.tree.PlannedTrees.{NewBlock}
 use Rattle.base.proofs.common.KeptLists.{All-each, at_filter, at_within}
 use Rattle.base.proofs.crash.LogStarts.{IsCutAt, cut_at, drop-at}
 use Rattle.base.proofs.crash.NewViews.{configs_of_old, logs_of_group}
+use Rattle.base.proofs.crash.OwnDisks.{configs_weaker}
 use Rattle.base.proofs.disk.Put.{part_same}
 use Rattle.base.proofs.disk.WrittenBlocks.{blocks-apart, planned-written, put_blocks, new-stand}
 use Rattle.base.proofs.formats.Geometry.{IsGeometry-IsSize}
-use Rattle.base.proofs.history.BuiltNames.{name-up_to}
 use Rattle.base.proofs.history.KeptContents.{bounded-no_others}
 use Rattle.base.proofs.stored.StoredSets.{at-in, at-map, map-at}
 use Rattle.base.proofs.stored.StoredTrees.{stored-placed}
 use Rattle.base.proofs.tree.FreedBlocks.{in-new_tree, new-in_tree}
 use Rattle.base.proofs.tree.PlacedTrees.{in-tree, opens-at, told-in_tree}
 use Rattle.base.proofs.tree.PlannedTrees.{planned-holds}
+use Rattle.labels.specs.declared.stage.Stage.{Stage}
 use Rattle.sync.specs.declared.run.LabelStages.{LabelStages}
 use Rattle.sync.specs.declared.run.SyncRun.{SyncRun}
 use Rattle.sync.specs.Made.{BlocksWritten, HasDistinctBlocks}
 use Rattle.sync.specs.Phases.{HasConfigOf, IsBefore, IsSpareBlock, LeadsViews, SyncViews}
 use Rattle.sync.specs.Runs.{call_count}
+use Rattle.sync.proofs.RenamedViews.{even_first, known_anew}
 use Rattle.sync.proofs.UnderWay.{begins_at_rest}
 use Rattle.tree_plans.specs.declared.planner.PlannedBlock.{PlannedBlock}
 use Rattle.tree_plans.specs.Plans.{new_block}
-use Rattle.pool_tables.specs.Told.{made_by}
-use Rattle.pool_core.specs.KeptSafe.{AreSyncTrees, IsOfTree, IsSyncOnDisk}
+use Rattle.pool_tables.specs.Told.{config_of, made_by}
+use Rattle.pool_core.specs.KeptSafe.{AreSyncTrees, IsOfTree, IsSyncOnDisk, WritesConfig}
 use Rattle.pool_core.proofs.crash.HeldLogs.{held_from}
 use Rattle.pool_core.proofs.crash.ViewRooms.{synced_has_room, syncing_has_room}
 
@@ -179,11 +182,43 @@ module _ (now : List ℕ) (s : Shown) (p : Past) (pointers : Place → Pointer) 
       let t = in-tree now (frame_at s s.line.synced) pointers y.synced.objects olds (old place).address there in
       y.leaves t.0 t.1 t.3 i b at (same ∙ sym t.2)
 
--- A sync without label stages that has made no call yet, on a disk at rest on the view of the synced group.
+-- The new view has the config of the label stages, which is of its group, or the one of before.
+abbrev config_for : Option LabelStages → List ℕ → List ℕ
+config_for None old = old
+config_for (Some stages) old = stages.config
+
+abbrev group_for : Option LabelStages → (old new : ℕ) → ℕ
+group_for None old new = old
+group_for (Some stages) old new = new
+
+config_is : (o : Option LabelStages) (size guid group old : ℕ) (name synced given config : List ℕ) → name ≡ synced → WritesName (config_of o) size guid group synced given → IsConfigContent config size guid old name
+    → IsConfigContent (config_for o config) size guid (group_for o old group) given
+config_is None size guid group old name synced given config same named was = subst (λ (n : List ℕ). IsConfigContent config size guid old n) (same ∙ sym named) was
+config_is (Some stages) size guid group old name synced given config same named was = named
+
+group_within : (o : Option LabelStages) (old top group : ℕ) → old ≤ top → top < group → group_for o old group ≤ group
+group_within None old top group low above = omega (arith, low, above)
+group_within (Some stages) old top group low above = omega arith
+
+-- the even labels come first, where label 1 has the config of before
+has_config : (o : Option LabelStages) (size : ℕ) (s : Shown) (p : Past) (group : ℕ) (v : SyncViews) → v.fixed.config ≡ 1 → v.new.config ≡ config_for o v.old.config → v.new.config_group ≡ group_for o v.old.config_group group
+    → v.old.u.group < group → WritesConfig o size s p group → HasConfigOf o v
+has_config None size s p group v odd config of_group above w = config
+has_config (Some stages) size s p group v odd config of_group above w =
+    subst (λ (first : Stage). HasConfigOf (Some (record { config = stages.config; first = first })) v) (sym w.0) (even_first v stages.config odd (sym config) (omega (arith, of_group, above)))
+
+-- and what counts could pass for no other config
+known_for : (o : Option LabelStages) (size t : ℕ) (ws : List Write) (group : ℕ) (old new : View) → new.u.guid ≡ old.u.guid → new.config ≡ config_for o old.config → new.config_group ≡ group_for o old.config_group group → old.u.group < group
+    → AreConfigsUpTo size t ws old.u.guid old.u.group (λ above content. ⊥) → AreConfigsKnown size t ws old → AreConfigsKnown size t ws new
+known_for None size t ws group old new same config of_group above low known = configs_of_old size t ws old new same config of_group low known
+known_for (Some stages) size t ws group old new same config of_group above low known =
+    known_anew size t ws old.u.group new (omega (arith, of_group, above)) (subst (λ (guid : ℕ). AreConfigsUpTo size t ws guid old.u.group (λ over content. ⊥)) (sym same) low)
+
+-- A sync that has made no call yet, on a disk at rest on the view of the synced group, whose config label 1 has.
 module _ (disk : Disk) (s : Shown) (p : Past) (pointers tree : Place → Pointer) (run : SyncRun) (x : IsStored (bytes_of disk.now) s pointers p) (y : IsSyncing (bytes_of disk.now) s pointers (made_by tree run) p)
-    (explained : IsExplainedNow s p) (places : AreDistinctPlaces (bytes_of disk.now) s) (sized : IsGeometry run.geometry) (long : length (bytes_of disk.now) ≡ run.geometry) (slot : run.slot ≡ slot_of y.group) (stages : run.stages ≡ None)
+    (explained : IsExplainedNow s p) (places : AreDistinctPlaces (bytes_of disk.now) s) (sized : IsGeometry run.geometry) (long : length (bytes_of disk.now) ≡ run.geometry) (slot : run.slot ≡ slot_of y.group) (staged : WritesConfig run.stages run.geometry s p y.group)
     (flushed : ℕ) (old : View) (rest : IsAtRest run.geometry p.created flushed disk.now old) (is : IsViewOf flushed old s p s.line.synced s.root (header_now s.log))
-    (held : IsLogHeld run.geometry p.created flushed s.suspended disk.now old)
+    (odd : IsFixed disk.now (config_place run.geometry 1) old.config) (held : IsLogHeld run.geometry p.created flushed s.suspended disk.now old)
     (configs : AreConfigsUpTo run.geometry p.created (handed disk.now) s.guid s.line.synced (λ above content. ⊥)) where
   abbrev now : List ℕ
   now = bytes_of disk.now
@@ -202,9 +237,9 @@ module _ (disk : Disk) (s : Shown) (p : Past) (pointers tree : Place → Pointer
   new = record {
     u = uberblock_of s y.group y.plan;
     slot = run.uberblock;
-    config_group = old.config_group;
-    name = old.name;
-    config = old.config;
+    config_group = group_for run.stages old.config_group y.group;
+    name = y.plan.contents.name;
+    config = config_for run.stages old.config;
     pointers = tree;
     synced = y.plan.contents;
     logged = drop cut.before old.logged;
@@ -213,7 +248,7 @@ module _ (disk : Disk) (s : Shown) (p : Past) (pointers tree : Place → Pointer
   abbrev views : SyncViews
   views = record {
     created = p.created;
-    fixed = record { config = rest.laid.firm.config.label; config_below = rest.laid.firm.config.in_range; slot = rest.slot.label; slot_below = rest.slot.in_range };
+    fixed = record { config = 1; config_below = omega arith; slot = rest.slot.label; slot_below = rest.slot.in_range };
     old = old;
     flushed = flushed;
     new = new;
@@ -223,13 +258,25 @@ module _ (disk : Disk) (s : Shown) (p : Past) (pointers tree : Place → Pointer
   replayed : replay (entries_up_to y.group p.entries) p.base ≡ Ok y.plan.contents
   replayed = (explained.trees.planned y.group y.plan y.syncing y.running).replayed
 
+  above : old.u.group < y.group
+  above = omega (arith, is.group_is, next)
+
+  -- the old view has the name of before
+  old_name : old.name ≡ y.synced.name
+  old_name =
+      let same : Ok old.synced ≡ Ok y.synced = sym is.replayed ∙ y.replayed in
+      let contents : old.synced ≡ y.synced = cc in
+      sym rest.laid.view.name ∙ ap (λ (c : Contents). c.name) contents
+
   is_view : IsView run.geometry new
   is_view = record {
     geometry = sized;
     uberblock = y.slot;
-    config = subst (λ (g : ℕ). IsConfigContent old.config run.geometry g old.config_group old.name) is.guid rest.laid.view.config;
-    not_above = omega (arith, rest.laid.view.not_above, is.group_is, next);
-    name = name-up_to s p explained y.group y.plan.contents replayed ∙ sym (name-up_to s p explained s.line.synced old.synced is.replayed) ∙ rest.laid.view.name;
+    config = config_is run.stages run.geometry s.guid y.group old.config_group old.name y.synced.name y.plan.contents.name old.config old_name
+        (subst (λ (n : ℕ). WritesName (config_of run.stages) n s.guid y.group y.synced.name y.plan.contents.name) long y.named)
+        (subst (λ (g : ℕ). IsConfigContent old.config run.geometry g old.config_group old.name) is.guid rest.laid.view.config);
+    not_above = group_within run.stages old.config_group old.u.group y.group rest.laid.view.not_above above;
+    name = refl;
     root = y.planned.root;
     linked = subst (λ (guid : ℕ). AreLinked guid (block_count run.geometry) s.import_number y.plan.header (drop cut.before old.logged)) is.guid
         (subst (λ (chain : ℕ). AreLinked old.u.guid (block_count run.geometry) chain y.plan.header (drop cut.before old.logged)) is.import_is cut.linked);
@@ -268,9 +315,6 @@ module _ (disk : Disk) (s : Shown) (p : Past) (pointers tree : Place → Pointer
       (tree_made now s p pointers (made_by tree run) x y explained geometry image (written_stand now image run.geometry run.blocks.items (vec_len run.blocks) all written)
       (λ address area other. others_stay now image run.geometry run.blocks.items (vec_len run.blocks) same written placed address (subst (λ (n : ℕ). IsBlockAddress n address) counted area) other))
 
-  above : old.u.group < y.group
-  above = omega (arith, is.group_is, next)
-
   leads : LeadsViews now run views
   leads = record {
     old_view = rest.laid.view;
@@ -279,7 +323,7 @@ module _ (disk : Disk) (s : Shown) (p : Past) (pointers tree : Place → Pointer
     slot = slot;
     other_slot = λ same. let at : old.u.group ≡ s.line.synced = is.group_is in omega (arith, same, at, next);
     uberblock = refl;
-    config = subst (λ (o : Option LabelStages). HasConfigOf o views) (sym stages) refl;
+    config = has_config run.stages run.geometry s p y.group views refl refl refl above staged;
     blocks = spare;
     tree = makes_tree;
     log = (
@@ -294,8 +338,8 @@ module _ (disk : Disk) (s : Shown) (p : Past) (pointers tree : Place → Pointer
 
   before : IsBefore views run.geometry disk.now
   before = record {
-    rest = record { rest = rest; config = rest.laid.firm.config.fixed; slot = rest.slot.fixed };
-    configs = configs_of_old run.geometry p.created (handed disk.now) old new (sym is.guid) refl refl
+    rest = record { rest = rest; config = odd; slot = rest.slot.fixed };
+    configs = known_for run.stages run.geometry p.created (handed disk.now) y.group old new (sym is.guid) refl refl above
         (subst (λ (g : ℕ). AreConfigsUpTo run.geometry p.created (handed disk.now) g old.u.group (λ above content. ⊥)) (sym is.guid)
         (subst (λ (g : ℕ). AreConfigsUpTo run.geometry p.created (handed disk.now) s.guid g (λ above content. ⊥)) (sym is.group_is) configs)) rest.laid.configs;
     logs = logs_of_group run.geometry p.created cut.before (handed disk.now) old new rest.laid.view (sym is.guid) (sym is.import_is) cut.number_is cut.short refl rest.laid.logs;
@@ -346,15 +390,16 @@ module _ (disk : Disk) (s : Shown) (p : Past) (pointers tree : Place → Pointer
   -- So the disk is kept while the sync runs.
   pub started_kept : run.done ≡ 0 → run.done < call_count run → HasFairBytes run.geometry p.created disk.now → IsSyncOnDisk run disk s p
   started_kept begun left bytes = record {
-    no_stages = stages;
     left = left;
     group = y.group;
+    stages = staged;
     plan = y.plan;
     syncing = y.syncing;
     running = y.running;
     base = now;
     views = views;
     created = refl;
+    odd = refl;
     way = begins_at_rest disk.now views run begun distinct leads before bytes;
     old_is = is;
     new_is = new_is;
@@ -364,5 +409,5 @@ module _ (disk : Disk) (s : Shown) (p : Past) (pointers tree : Place → Pointer
     new_room = new_room;
     trees = trees;
     bytes = bytes;
-    configs = configs;
+    configs = configs_weaker run.geometry p.created (handed disk.now) s.guid s.line.synced s.line.synced (λ over content. ⊥) (IsSyncConfig run.geometry s p) (omega arith) (λ over content no_way. absurd no_way) configs;
   }

@@ -27,12 +27,12 @@ HasKeptBlocks now s v = (place : Place) → IsPlace place → v.pointers place �
 module _ (s : Shown) (p : Past) (explained : IsExplainedNow s p) (now : List ℕ) (free : AreFree now s) (places : AreDistinctPlaces now s) where
   pub next_apart : (flushed : ℕ) (v : View) (group : ℕ) (root : Pointer) (header : Header) → IsViewOf flushed v s p group root header → HasKeptBlocks now s v → IsSpareOf v s.log.next.address
   next_apart flushed v group root header is tree =
-      (next_spare s p explained.exact.log explained.exact.sync explained.exact.charges explained.exact.blocks explained.exact.groups explained.exact.isolated explained.built now free places flushed v group root header is tree).1
+      (next_spare s p explained.exact.log explained.exact.sync explained.exact.charges explained.exact.blocks explained.exact.groups explained.exact.isolated now free places flushed v group root header is tree).1
 
   pub synced_has_room : (flushed : ℕ) (v : View) (frame : Frame) → HoldsTree now frame v.pointers v.synced.objects → v.pointers Root ≡ s.root → IsViewOf flushed v s p s.line.synced s.root (header_now s.log) → HasImportRoom s.blocks v
   synced_has_room flushed v frame holds root is =
-      synced_room s p explained.exact.log explained.exact.sync explained.exact.charges explained.exact.blocks explained.exact.groups explained.exact.isolated explained.built now free places flushed v frame holds root (open_above s.line explained.exact.groups.line) is
+      synced_room s p explained.exact.log explained.exact.sync explained.exact.charges explained.exact.blocks explained.exact.groups explained.exact.isolated now free places flushed v frame holds root (open_above s.line explained.exact.groups.line) is
 
   pub syncing_has_room : (flushed : ℕ) (v : View) (group : ℕ) (plan : SyncPlan) → s.line.syncing ≡ Some group → s.sync ≡ Some plan → HasKeptBlocks now s v → IsViewOf flushed v s p group plan.root plan.header → HasImportRoom s.blocks v
   syncing_has_room flushed v group plan syncing running tree is =
-      syncing_room s p explained.exact.log explained.exact.sync explained.exact.charges explained.exact.blocks explained.exact.groups explained.exact.isolated explained.built now free places flushed v group plan syncing running tree is
+      syncing_room s p explained.exact.log explained.exact.sync explained.exact.charges explained.exact.blocks explained.exact.groups explained.exact.isolated now free places flushed v group plan syncing running tree is

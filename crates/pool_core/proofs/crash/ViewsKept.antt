@@ -1,18 +1,20 @@
 -- Views of a pool stay those of its groups while steps go on.
-use Rattle.std.proofs.Common.{◌≡◌, ◌∙◌, inl, inr, ℕ, false, List, filter, length, Some, refl, ap, sym, subst}
+use Rattle.std.proofs.Common.{◌≡◌, ◌∙◌, ◌⊎◌, inl, inr, ℕ, ◌<◌, ◌≤◌, ◌&&◌, false, List, filter, length, Option, Some, None, refl, ap, sym, subst, arith}
 use Rattle.std.specs.Prelude.{slice_get, unwrap_or, option_map, nat_le, ◌==◌, ◌-◌}
-use Rattle.std.proofs.lemmas.Bool.{false≢true}
+use Rattle.std.specs.List.{flat_map, list_any}
+use Rattle.std.proofs.lemmas.Bool.{cases_order, eq-eqb, false≢true, le-leb, ne_eqb}
 use Rattle.base.specs.declared.operation.Op.{Op}
 use Rattle.base.specs.declared.pointer.Pointer.{Pointer}
 use Rattle.base.specs.declared.step.Step as declared_step
 use Rattle.base.specs.declared.step.Reply as declared_reply
 use Rattle.base.specs.crash.Layout.{IsBlockOf, header_now, kept_from}
-use Rattle.base.specs.crash.PoolViews.{IsViewOf}
-use Rattle.base.specs.crash.Views.{AreConfigsUpTo, View}
-use Rattle.base.specs.disk.Disk.{Write}
+use Rattle.base.specs.crash.PoolViews.{IsSyncConfig, IsViewOf}
+use Rattle.base.specs.crash.Views.{AreConfigsUpTo, IsConfigContent, View, config_content}
+use Rattle.base.specs.disk.Disk.{HandedSince, Write}
 use Rattle.base.specs.formats.Chain.{Header, LogPiece}
+use Rattle.base.specs.formats.Geometry.{config_place}
 use Rattle.base.specs.history.Contents.{Contents}
-use Rattle.base.specs.history.History.{Entry, replay, entries_up_to}
+use Rattle.base.specs.history.History.{Entry, replay, entries_in, entries_up_to}
 use Rattle.base.specs.history.Past.{Past}
 use Rattle.base.specs.steps.Effects.{Effect, MayAddEntry, MayHave, is_logging, is_turning, state_after}
 use Rattle.base.specs.steps.Effects.Effect.{AddsEntry, PlansSync, CountsStep, EndsSync, Suspends, WritesLog, FlushesLog}
@@ -22,12 +24,16 @@ use Rattle.base.specs.steps.Logs.{KeptBlock, Log, header_at}
 use Rattle.base.specs.steps.Runs.{Step, is_log_step}
 use Rattle.base.specs.steps.Shown.{Shown, SyncPlan}
 use Rattle.base.specs.steps.Steps as steps
-use Rattle.base.specs.steps.Steps.{State}
+use Rattle.base.specs.steps.Steps.{State, ops_of_group}
+use Rattle.base.specs.tree.Syncs.{is_rename}
 use Rattle.base.specs.stored.Stored.{is_turn}
 use Rattle.base.proofs.common.KeptLists.{Some-injective, at_old, found_at}
+use Rattle.base.proofs.common.Sieves.{filter-filter}
 use Rattle.base.proofs.history.Cuts.{up_to_push}
 use Rattle.base.proofs.steps.KeptGroups.{held_above, held_above_sync}
 use Rattle.base.proofs.steps.StepEffects.{StepDoes, step_does}
+use Rattle.sync.specs.declared.run.LabelStages.{LabelStages}
+use Rattle.pool_core.specs.KeptSafe.{WritesConfig}
 
 -- each entry of the one history is one of the other, at the same place
 abbrev pub Grows : List Entry → List Entry → Type 0
@@ -118,6 +124,56 @@ configs_as ws size n t c guid g top u of_size of_created of_guid of_top known =
     subst (λ (x : ℕ). AreConfigsUpTo x c ws g u (λ above content. ⊥)) (sym of_size)
     (subst (λ (x : ℕ). AreConfigsUpTo size x ws g u (λ above content. ⊥)) (sym of_created)
     (subst (λ (x : ℕ). AreConfigsUpTo size t ws x u (λ above content. ⊥)) (sym of_guid) (subst (λ (x : ℕ). AreConfigsUpTo size t ws guid x (λ above content. ⊥)) (sym of_top) known)))
+
+-- an entry of a group is up to it
+of_or_below : (g group : ℕ) → (g == group) ≡ ((g == group) && nat_le g group)
+of_or_below g group = go (cases_order g group)
+  where
+    go : (g ≡ group) ⊎ ((g < group) ⊎ (group < g)) → (g == group) ≡ ((g == group) && nat_le g group)
+    go (inl same) = eq-eqb g group same ∙ sym (rw (eq-eqb g group same) (le-leb g group (omega (arith, same))))
+    go (inr (inl less)) = ne_eqb g group (λ same. omega (arith, same, less)) ∙ sym (rw (ne_eqb g group (λ same. omega (arith, same, less))) refl)
+    go (inr (inr more)) = ne_eqb g group (λ same. omega (arith, same, more)) ∙ sym (rw (ne_eqb g group (λ same. omega (arith, same, more))) refl)
+
+-- so the operations of a group are the same where the entries up to it are
+group_ops : (group : ℕ) (before after : List Entry) → entries_up_to group after ≡ entries_up_to group before → ops_of_group group after ≡ ops_of_group group before
+group_ops group before after same = ap (λ (es : List Entry). flat_map (λ (e : Entry). e.ops) es) (sym (of_those after) ∙ ap (λ (es : List Entry). entries_in group es) same ∙ of_those before)
+  where
+    of_those : (es : List Entry) → entries_in group (entries_up_to group es) ≡ entries_in group es
+    of_those es = filter-filter (λ (e : Entry). e.group == group) (λ (e : Entry). nat_le e.group group) (λ (e : Entry). e.group == group) (λ e. of_or_below e.group group) es
+
+-- the config of a running sync is that of the same sync, with the same entries up to its group
+pub config_as : (size n : ℕ) (s t : Shown) (p q : Past) (group : ℕ) (content : List ℕ) → n ≡ size → t.guid ≡ s.guid → t.line.syncing ≡ s.line.syncing → q.base ≡ p.base
+    → entries_up_to group q.entries ≡ entries_up_to group p.entries → IsSyncConfig size s p group content → IsSyncConfig n t q group content
+config_as size n s t p q group content of_size guid line base entries c = record {
+  syncing = line ∙ c.syncing;
+  renamed = ap (λ (ops : List Op). list_any is_rename ops) (group_ops group p.entries q.entries entries) ∙ c.renamed;
+  contents = c.contents;
+  replayed = (λ k. replay (entries k) (base k)) ∙ c.replayed;
+  content_is = c.content_is ∙ (λ k. config_content (sym of_size k) (sym guid k) group c.contents.name);
+}
+
+-- so it is with the label stages of the sync
+pub stages_as : (o : Option LabelStages) (size n : ℕ) (s t : Shown) (p q : Past) (group : ℕ) → n ≡ size → t.guid ≡ s.guid → t.line.syncing ≡ s.line.syncing → q.base ≡ p.base
+    → entries_up_to group q.entries ≡ entries_up_to group p.entries → WritesConfig o size s p group → WritesConfig o n t q group
+unfolding config_as
+stages_as None size n s t p q group of_size guid line base entries w = tt
+stages_as (Some stages) size n s t p q group of_size guid line base entries (even, c, content) = (
+  even,
+  config_as size n s t p q group stages.config of_size guid line base entries c,
+  subst (λ (m : ℕ). IsConfigContent stages.config m t.guid group c.contents.name) (sym of_size) (subst (λ (g : ℕ). IsConfigContent stages.config size g group c.contents.name) (sym guid) content),
+)
+
+-- no config above the synced group counts but that of the running sync
+pub sync_configs_as : (ws : List Write) (size n : ℕ) (s t : Shown) (p q : Past) → n ≡ size → q.created ≡ p.created → t.guid ≡ s.guid → t.line.synced ≡ s.line.synced → t.line.syncing ≡ s.line.syncing → q.base ≡ p.base
+    → ((group : ℕ) → s.line.syncing ≡ Some group → entries_up_to group q.entries ≡ entries_up_to group p.entries)
+    → AreConfigsUpTo size p.created ws s.guid s.line.synced (IsSyncConfig size s p) → AreConfigsUpTo n q.created ws t.guid t.line.synced (IsSyncConfig n t q)
+sync_configs_as ws size n s t p q of_size created guid synced line base entries known label group name content below some is =
+    let there : HandedSince p.created ws (config_place size label) content = subst (λ (c : ℕ). HandedSince c ws (config_place size label) content) created (subst (λ (m : ℕ). HandedSince q.created ws (config_place m label) content) of_size some) in
+    let same : IsConfigContent content size s.guid group name = subst (λ (g : ℕ). IsConfigContent content size g group name) guid (subst (λ (m : ℕ). IsConfigContent content m t.guid group name) of_size is) in
+    elim (known label group name content below there same) as (λ _. (group ≤ t.line.synced) ⊎ IsSyncConfig n t q group content) [
+      | inl low ↦ inl (omega (arith, low, synced))
+      | inr c ↦ inr (config_as size n s t p q group content of_size guid line base (entries group c.syncing) c)
+    ]
 
 abbrev Same : State → State → Type 0
 Same old new = SameSyncing old.shown new.shown old.past new.past

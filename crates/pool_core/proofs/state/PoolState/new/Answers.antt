@@ -27,7 +27,7 @@ returns-clause-held g c =
     held_as m c.new.result now c.new.ensures.shown c.new.ensures.tree c.new.ensures.idle sized (stands keeps) (labels keeps) explained)))
 
 pub returns-clause-safe : goal.returns-clause-safe
-returns-clause-safe g c = λ created held began kept.
+returns-clause-safe g c = λ created held began kept quiet.
     let shown : Shown = pool_shown c.new.result in
     let none : run_in c.new.result ≡ None = ap (λ (o : Option RunningSync). option_map (λ (r : RunningSync). r.run) o) c.new.ensures.idle in
     let idle : shown.line.syncing ≡ None = ap (λ (s : Shown). s.line.syncing) c.new.ensures.shown in
@@ -35,5 +35,5 @@ returns-clause-safe g c = λ created held began kept.
       held = held created;
       same_bytes = refl;
       began = began;
-      kept = idle_kept (run_in c.new.result) (g.D.SectorDevice.disk c.args.imported.device) shown (first_past shown created) none idle kept;
+      kept = idle_kept (run_in c.new.result) (g.D.SectorDevice.disk c.args.imported.device) shown (first_past shown created) none idle kept quiet;
     }
