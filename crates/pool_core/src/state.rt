@@ -353,8 +353,8 @@ impl<D: SectorDevice> PoolState<D> {
     }
 
     /// Starts the sync of the quiesced group. It plans its blocks, one for each place of the tree that it writes, and
-    /// takes the memory for all its steps. The moment, in seconds, is stored in its uberblocks. A group that gives a name
-    /// has six steps more: they write it into the configs of the labels.
+    /// takes the memory for all its steps. The moment, in seconds, is stored in its uberblocks. If the group gives a
+    /// name, six more steps write it into the configs of the labels.
     ///
     /// # Errors
     /// In this order:

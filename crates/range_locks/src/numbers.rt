@@ -51,7 +51,7 @@ impl Numbers {
         }
     }
 
-    /// One more lock covers a range of the number whose place is given. It is refused where there is no memory, and then
+    /// One more lock covers a range of the number whose place is given. If there is no memory, it is refused, and
     /// nothing has changed.
     pub fn add(
         &mut self,

@@ -1,5 +1,6 @@
--- A sync with a new name: where the old view has its config in label 1, the even labels may be written first. No config above the synced group counts
--- but the one that it writes, and at its end label 1 has the config of its group's name, written by it or as it was.
+-- A sync with a new name: if the old view has its config in label 1, the even labels may be written first. No config
+-- above the synced group counts, except for the one that it writes. At its end label 1 has the config of its group's
+-- name, whether written by it or before.
 use Rattle.std.proofs.Common.{◌≡◌, ◌⊎◌, inl, inr, ℕ, zero, suc, ◌+◌, ◌<◌, ◌≤◌, List, [], ◌∷◌, length, Option, Some, None, refl, sym, ◌∙◌, ap, subst, arith, vec_len}
 use Rattle.std.specs.Prelude.{◌≢◌, slice_get, is_some}
 use Rattle.std.specs.Option.{option_map}

@@ -90,7 +90,7 @@ module _ {Dev : Type 0} {G : Ghosts Dev} where
         (λ k. record { held = h; disk = G.disk (sym device k); run = option_map (λ (q : RunningSync). q.run) (sym r.1 k) })
         (start_safe (on_disk old past) x moment group h (r.0).run (tree_after r.0 pool.tree) (turn.over keeps x.held) (turn.held keeps x.held)
         (ap (λ (d : Dev). bytes_of (G.disk d).now) device) (ap (λ (o : Option RunningSync). option_map (new_tree_of pool.tree) o) r.1)
-        (was.geometry ∙ sym new.sized ∙ ap (λ (d : Dev). G.size d) device ∙ sym (sized old.device)) 
+        (was.geometry ∙ sym new.sized ∙ ap (λ (d : Dev). G.size d) device ∙ sym (sized old.device))
         (λ g plan syncing is. staged_plan pool r.0 r.1 g plan was.geometry was.stages syncing is) (λ plan is. counted_plan pool r.0 r.1 plan (ap (λ (t : NewTree). t.done) r.2) is)
         (λ g syncing. was.uberblock.slot ∙ ap (λ (n : ℕ). slot_of n) (Some-injective (sym (was_syncing pool r.0 r.1) ∙ syncing))) (ap (λ (t : NewTree). t.done) r.2) was.left)
 

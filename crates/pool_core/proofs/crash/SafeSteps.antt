@@ -260,8 +260,8 @@ module _ (x : OnDisk) (safe : IsKeptSafe x) where
         let entries : q.entries ≡ p.entries = ap (λ (u : State). u.past.entries) begun.1.2 in
         let planned : syncing.plan.steps_left ≡ length syncing.plan.taken + other_step_count (ops_of_group syncing.group q.entries) =
         subst (λ (es : List Entry). syncing.plan.steps_left ≡ length syncing.plan.taken + other_step_count (ops_of_group syncing.group es)) (sym entries)
-            (subst (λ (g : ℕ). syncing.plan.steps_left ≡ length syncing.plan.taken + other_step_count (ops_of_group g p.entries)) of_group
-            (subst (λ (l : SyncPlan). l.steps_left ≡ length l.taken + other_step_count (ops_of_group begun.1.0 p.entries)) of_plan begun.1.3.steps)) in
+        (subst (λ (g : ℕ). syncing.plan.steps_left ≡ length syncing.plan.taken + other_step_count (ops_of_group g p.entries)) of_group
+        (subst (λ (l : SyncPlan). l.steps_left ≡ length l.taken + other_step_count (ops_of_group begun.1.0 p.entries)) of_plan begun.1.3.steps)) in
         let count : syncing.plan.steps_left ≡ call_count run = counts syncing.plan syncing.running in
         let taken : length syncing.plan.taken ≡ length run.blocks.items = ap (λ (l : List ℕ). length l) (sym syncing.planned.taken) ∙ length-map (map new_block run.blocks.items) (λ (b : NewBlock). b.address) ∙ length-map run.blocks.items new_block in
         omega (arith, planned, count, taken, run.blocks.ok.0)
