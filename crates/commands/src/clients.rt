@@ -142,6 +142,18 @@ fn a_pool_that_is_not_opened_is_loaded_with_status_3<
     run_load(rt, tank_by(4), opened, false, out, errors)
 }
 
+// There are 16 streams, so no more workers.
+fn a_load_by_17_workers_has_status_1<
+    R: Threads + Wait + Sync + Eprint + AllocGlobal,
+    D: SectorDevice + Send + Drop,
+    W: Write,
+    E: Write,
+>(rt: &R, device: D, out: &mut W, errors: &mut E) -> u8
+    ensures { result ≡ 1 }
+{
+    run_load(rt, tank_by(17), Ok(device), false, out, errors)
+}
+
 fn a_pool_that_is_not_opened_is_checked_with_status_3<D: SectorDevice + Drop, W: Write, E: Write>(
     alloc: Global,
     out: &mut W,

@@ -3,7 +3,8 @@
 //! Nothing is written to the output before all of it has gone well. On a terminal standard error shows how much is
 //! done.
 
-ghost use Rattle.std.specs.Prelude.{◌≡◌, ◌≢◌, ◌≤◌, Err, IsErr};
+ghost use Rattle.std.specs.Prelude.{◌≡◌, ◌≢◌, ◌≤◌, Err, IfOk, IsErr, false};
+ghost use Rattle.loads.specs.Orders.{is_order};
 
 use crate::arguments::LoadArguments;
 use crate::failure::{Failure, report_failure};
@@ -21,9 +22,10 @@ use std::thread::Threads;
 /// Opens the pool on a device, makes the writes of a load on it, writes their number and the digest to `out`, and
 /// returns the exit status.
 ///
-/// The status is 0 if all was written, 1 if the engine refused a step, and 3 if the file was not opened as a device or
-/// `out` can't be written. A failure is reported on `errors`, and then nothing is written to `out`. With
-/// `shows_progress` standard error shows how many percent of the writes are durable.
+/// The status is 0 if all was written. It is 1 if the order is outside its limits, which is tested before the device is
+/// called, or if the engine refused a step. It is 3 if the file was not opened as a device or `out` can't be written. A
+/// failure is reported on `errors`, and then nothing is written to `out`. With `shows_progress` standard error shows
+/// how many percent of the writes are durable.
 pub fn run_load<
     R: Threads + Wait + Sync + Eprint + AllocGlobal,
     D: SectorDevice + Send + Drop,
@@ -38,6 +40,7 @@ pub fn run_load<
     errors: &mut E,
 ) -> u8
     ensures unusable { IsErr opened → result ≡ 3 }
+    ensures order { IfOk opened (λ _. is_order arguments.entry.order ≡ false → result ≡ 1) }
     ensures range { result ≤ 3 }
     ensures no_usage { result ≢ 2 }
 {
@@ -59,10 +62,15 @@ fn load_pool<
     out: &mut W,
 ) -> Result<(), Failure>
     ensures unusable { IsErr opened → result ≡ Err Failure.Unusable }
+    ensures order { IfOk opened (λ _. is_order arguments.order ≡ false
+        → result ≡ Err (Failure.Refused PoolError.BadRange)) }
 {
     let Ok(device) = opened else {
         return Err(Failure::Unusable);
     };
+    if !arguments.order.is_allowed() {
+        return Err(Failure::Refused(PoolError::BadRange));
+    }
     let alloc = rt.alloc();
     let pool = Pool::open(alloc, device, arguments.dirty_max, arguments.moment).map_err(
         PoolError::from,
