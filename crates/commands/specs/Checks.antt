@@ -1,11 +1,14 @@
--- What a check of a pool finds, and when it is refused.
-use Rattle.std.specs.Prelude.{ℕ, ◌≡◌, List, Result, Ok, Err}
+-- What a check of a pool finds, when it is refused, and what it leaves.
+use Rattle.std.specs.Prelude.{ℕ, ◌≡◌, ◌⊎◌, IsTrue, List, Result, Ok, Err}
 use Rattle.base.specs.declared.error.PoolError.{PoolError}
 use Rattle.base.specs.declared.error.PoolError.TheVariants as refusal
 use Rattle.base.specs.declared.error.PoolError.TheVariants.{BadGeometry, NoMemory, Read}
+use Rattle.base.specs.disk.Calls.{with_refusal}
 use Rattle.base.specs.formats.Geometry.{IsGeometry}
 use Rattle.base.specs.crash.Mount.{HasNoPool, IsChainDamaged, IsMounted, Mount, MountsTo}
 use Rattle.base.specs.history.Contents.{Contents}
+use Rattle.device_model.specs.declared.device.SectorDevice.{Ghosts}
+use Rattle.device_model.specs.declared.held_file.FileRefusal.{FileRefusal}
 use Rattle.import_replay.specs.ImportRefusals.{IsDamagedWith}
 use Rattle.import_replay.specs.declared.inspection.Inspected.{Inspected}
 use Rattle.commands.specs.declared.checks.Finding.{Finding}
@@ -38,6 +41,18 @@ IsCheckRefusal size BadGeometry = IsGeometry size → ⊥
 IsCheckRefusal size NoMemory = IsGeometry size
 IsCheckRefusal size Read = IsGeometry size
 IsCheckRefusal size _ = ⊥
+
+-- a device was only read: it is as it was, and it refused no call, or one read
+pub record IsOnlyRead {Dev : Type 0} (D : Ghosts Dev) (old new : Dev) : Type 0 where
+  pub size : D.size new ≡ D.size old
+  pub disk : IsTrue D.keeps_model → D.disk new ≡ D.disk old
+  pub refused : (D.refused new ≡ D.refused old) ⊎ (D.refused new ≡ with_refusal Read (D.refused old))
+
+-- what was opened as a device stays one and was only read, and why a file was not opened stays
+abbrev pub StaysOpened : {Dev : Type 0} → Ghosts Dev → Result Dev FileRefusal → Result Dev FileRefusal → Type 0
+StaysOpened D (Ok old) (Ok new) = IsOnlyRead D old new
+StaysOpened D (Ok old) (Err e) = ⊥
+StaysOpened D (Err e) new = new ≡ Err e
 
 -- the exit status of a check
 abbrev pub finding_status : Finding → ℕ

@@ -4,7 +4,7 @@ ghost use Rattle.std.specs.Prelude.{◌≡◌, ◌≢◌, ◌≤◌, Err, IfErr,
 ghost use Rattle.base.specs.disk.Disk.{bytes_of};
 ghost use Rattle.base.specs.formats.Geometry.{IsGeometry};
 ghost use Rattle.device_model.specs.Reading.{OnlyReads};
-ghost use Rattle.commands.specs.Checks.{IsCheckRefusal, IsFoundIn, MountsWhole, finding_status, found_of};
+ghost use Rattle.commands.specs.Checks.{IsCheckRefusal, IsFoundIn, MountsWhole, StaysOpened, finding_status, found_of};
 
 use crate::failure::{Failure, REFUSED, report_failure};
 use base::{Group, PoolError};
@@ -90,21 +90,23 @@ fn finding_of(inspected: Result<Inspected, PoolError>) -> Result<Finding, PoolEr
     }
 }
 
-/// Writes to `out` what a check of the pool in a file found, and returns the exit status. It only reads the file.
+/// Writes to `out` what a check of the pool in a file found, and returns the exit status. It only reads the file: it
+/// makes no write and no flush, whatever it returns.
 ///
 /// The status is 0 if the pool is whole. It is 1 if a block is damaged, if there is no pool, or if the engine refused
 /// the check. It is 3 if the file was not opened as a device or `out` can't be written. A failure is reported on
 /// `errors`.
-pub fn run_check<D: SectorDevice + Drop, W: Write, E: Write>(
+pub fn run_check<D: SectorDevice, W: Write, E: Write>(
     alloc: Global,
     file: &str,
-    opened: Result<D, FileRefusal>,
+    opened: &mut Result<D, FileRefusal>,
     out: &mut W,
     errors: &mut E,
 ) -> u8
-    ensures unusable { IsErr opened → result ≡ 3 }
-    ensures size { IfOk opened (λ device. (IsGeometry (D.size device) → ⊥) → result ≡ 1) }
-    ensures clean { result ≡ 0 → IfOk opened (λ device. IsTrue D.keeps_model
+    ensures only_read { StaysOpened D.SectorDevice opened.old opened.new }
+    ensures unusable { IsErr opened.old → result ≡ 3 }
+    ensures size { IfOk opened.old (λ device. (IsGeometry (D.size device) → ⊥) → result ≡ 1) }
+    ensures clean { result ≡ 0 → IfOk opened.old (λ device. IsTrue D.keeps_model
         → MountsWhole (bytes_of (D.disk device).now)) }
     ensures range { result ≤ 3 }
     ensures no_usage { result ≢ 2 }
@@ -115,21 +117,22 @@ pub fn run_check<D: SectorDevice + Drop, W: Write, E: Write>(
     }
 }
 
-fn check_opened<D: SectorDevice + Drop, W: Write>(
+fn check_opened<D: SectorDevice, W: Write>(
     alloc: Global,
-    opened: Result<D, FileRefusal>,
+    opened: &mut Result<D, FileRefusal>,
     out: &mut W,
 ) -> Result<Finding, Failure>
-    ensures unusable { IsErr opened → result ≡ Err Failure.Unusable }
-    ensures size { IfOk opened (λ device. (IsGeometry (D.size device) → ⊥)
+    ensures only_read { StaysOpened D.SectorDevice opened.old opened.new }
+    ensures unusable { IsErr opened.old → result ≡ Err Failure.Unusable }
+    ensures size { IfOk opened.old (λ device. (IsGeometry (D.size device) → ⊥)
         → result ≡ Err (Failure.Refused PoolError.BadGeometry)) }
-    ensures found { IfOk opened (λ device. IsTrue D.keeps_model
+    ensures found { IfOk opened.old (λ device. IsTrue D.keeps_model
         → IfOk result (IsFoundIn (bytes_of (D.disk device).now))) }
 {
-    let Ok(mut device) = opened else {
+    let Ok(device) = opened else {
         return Err(Failure::Unusable);
     };
-    let finding = check_pool(alloc, &mut device)?;
+    let finding = check_pool(alloc, device)?;
     if writeln!(out, "{finding}").is_err() {
         return Err(Failure::Unwritten);
     }

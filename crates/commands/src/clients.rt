@@ -1,7 +1,7 @@
 //! What callers rely on: one function for each promise of this crate's calls, proved from the contract of the call
 //! alone. So it is refused as soon as that contract promises less.
 
-ghost use Rattle.std.specs.Prelude.{◌≡◌, ◌≢◌, ℕ, IfOk, IsTrue};
+ghost use Rattle.std.specs.Prelude.{◌≡◌, ◌≢◌, ℕ, IfOk, IsOk, IsTrue};
 ghost use Rattle.base.specs.crash.Mount.{IsTreeDamaged, MountsTo};
 ghost use Rattle.base.specs.disk.Disk.{bytes_of};
 ghost use Rattle.base.specs.history.Contents.{Contents};
@@ -161,8 +161,8 @@ fn a_pool_that_is_not_opened_is_checked_with_status_3<D: SectorDevice + Drop, W:
 ) -> u8
     ensures { result ≡ 3 }
 {
-    let opened: Result<D, FileRefusal> = Err(FileRefusal::InUse);
-    run_check(alloc, "tank.pool", opened, out, errors)
+    let mut opened: Result<D, FileRefusal> = Err(FileRefusal::InUse);
+    run_check(alloc, "tank.pool", &mut opened, out, errors)
 }
 
 // If a block of the tree is damaged, the status is not 0.
@@ -175,7 +175,7 @@ fn a_damaged_pool_is_not_clean<D: SectorDevice + Drop, W: Write, E: Write>(
     ensures { IsTrue D.keeps_model → (kind address : ℕ)
         → IsTreeDamaged (bytes_of (D.disk device).now) kind address → result ≢ 0 }
 {
-    run_check(alloc, "tank.pool", Ok(device), out, errors)
+    run_check(alloc, "tank.pool", &mut Ok(device), out, errors)
 }
 
 // A file of 512 bytes can hold no pool.
@@ -188,7 +188,25 @@ fn a_check_of_a_small_file_has_status_1<D: SectorDevice + Drop, W: Write, E: Wri
     requires { D.size device ≡ 512 }
     ensures { result ≡ 1 }
 {
-    run_check(alloc, "tank.pool", Ok(device), out, errors)
+    run_check(alloc, "tank.pool", &mut Ok(device), out, errors)
+}
+
+// Whatever a check finds, it leaves the disk as it was, and the device refused no write and no flush.
+fn a_check_writes_nothing<D: SectorDevice, W: Write, E: Write>(
+    alloc: Global,
+    device: D,
+    out: &mut W,
+    errors: &mut E,
+) -> Result<D, FileRefusal>
+    ensures there { IsOk result }
+    ensures disk { IsTrue D.keeps_model → IfOk result (λ after. D.disk after ≡ D.disk device) }
+    ensures writes { IfOk result (λ after. (D.refused after).writes ≡ (D.refused device).writes) }
+    ensures flushes { IfOk result
+        (λ after. (D.refused after).flushes ≡ (D.refused device).flushes) }
+{
+    let mut opened = Ok(device);
+    run_check(alloc, "tank.pool", &mut opened, out, errors);
+    opened
 }
 
 // If an image mounts contents, a check that isn't refused finds it clean, and changes nothing.

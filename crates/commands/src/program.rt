@@ -49,7 +49,7 @@ where
         Arguments::Check(file) => run_check(
             rt.alloc(),
             file,
-            FileDevice::open_to_read(rt, file),
+            &mut FileDevice::open_to_read(rt, file),
             &mut io::writer(rt),
             errors,
         ),
