@@ -1,7 +1,9 @@
-//! The command `load` on a device in memory: what it prints, and that a printer that fails is reported.
+//! The command `load`: what it prints, that a printer that fails is reported, and which moment its uberblocks have.
 
 use crate::fixture::{new_device, order};
-use commands::{LoadArguments, run_load};
+use commands::{CreateArguments, LoadArguments, run_create, run_load};
+use device_model::FileDevice;
+use std::fs;
 use std::io::{self, ErrorKind, Write};
 use std::test::Fail;
 
@@ -49,5 +51,39 @@ fn a_load_that_cannot_be_printed_has_status_3(rt: HostRuntime) -> Result<(), Fai
     let device = Ok(new_device(rt.alloc())?);
     let status = run_load(&rt, arguments(), device, false, &mut Full, &mut errors);
     assert_eq!(rt; status, 3);
+    Ok(())
+}
+
+// The uberblock of group n lies in the first label at 131,072 + 1,024n, with its moment from byte 32 on. In a new pool
+// group 4 is of the create, group 8 of the first import, and group 9 of the first sync (`docs/FORMATS.md`).
+#[test]
+fn the_uberblocks_of_a_load_have_its_moment(rt: HostRuntime) -> Result<(), Fail> {
+    let mut out = Vec::new(rt.alloc());
+    let mut errors = Vec::new(rt.alloc());
+    let created = CreateArguments {
+        file: "moment.pool",
+        name: "tank",
+        guid: 77,
+        size: 6_291_456,
+        only_new: false,
+        moment: 5,
+    };
+    assert_eq!(rt; run_create(&rt, created, &mut out, &mut errors), 0);
+    let loaded = LoadArguments {
+        file: "moment.pool",
+        order: order(2, 0),
+        dirty_max: 1_048_576,
+        moment: 1_700_000_000,
+    };
+    let opened = FileDevice::open(&rt, "moment.pool");
+    let status = run_load(&rt, loaded, opened, false, &mut out, &mut errors);
+    assert_eq!(rt; status, 0);
+    let image = fs::read(&rt, "moment.pool")?;
+    for (group, moment) in [(4, 5u64), (8, 1_700_000_000), (9, 1_700_000_000)] {
+        let at = 131_104 + 1_024 * group;
+        let stored = image.get(at..at + 8);
+        assert!(rt; stored == Some(moment.to_le_bytes().as_slice()));
+    }
+    fs::remove_file(&rt, "moment.pool")?;
     Ok(())
 }
