@@ -20,7 +20,7 @@ use Rattle.device_model.specs.declared.held_file.FileRefusal.{FileRefusal}
 use Rattle.import_replay.specs.Inspections.{IsInspectionOf, mount_of}
 use Rattle.import_replay.specs.Refused.{IsInspectionRefused}
 use Rattle.import_replay.specs.declared.inspection.Inspected.{Inspected}
-use Rattle.commands.specs.Checks.{IsCheckRefusal, IsFoundIn, IsOnlyRead, MountsWhole, finding_status, found_of}
+use Rattle.commands.specs.Checks.{IsCheckRefusal, IsFoundIn, MountsWhole, finding_status, found_of}
 use Rattle.commands.specs.declared.checks.Finding.{Finding}
 use Rattle.commands.specs.declared.checks.Finding.TheVariants as finding
 
@@ -55,13 +55,6 @@ module _ {Dev : Type 0} (D : Ghosts Dev) where
   is_sized (Err (Damaged kind address)) old new made refused = refused.kind.0
   is_sized (Err NoPool) old new made refused = refused.kind.0
   is_sized (Err _) old new made refused = tt
-
-  pub only_read : (r : Result Finding PoolError) (old new : Dev) → OnlyReads D r old new → IfErr r (IsCheckRefusal (D.size old)) → IsOnlyRead D old new
-  only_read (Ok finding) old new reads refused = record { size = reads.size; disk = reads.disk; refused = inl reads.count }
-  only_read (Err Read) old new reads refused = record { size = reads.size; disk = reads.disk; refused = inr reads.count }
-  only_read (Err BadGeometry) old new reads refused = record { size = reads.size; disk = reads.disk; refused = inl reads.count }
-  only_read (Err NoMemory) old new reads refused = record { size = reads.size; disk = reads.disk; refused = inl reads.count }
-  only_read (Err _) old new reads refused = absurd refused
 
   pub is_whole : (opened : Result Dev FileRefusal) (finding : Finding) → IfOk opened (λ device. IsTrue D.keeps_model → IsFoundIn (bytes_of (D.disk device).now) finding)
       → finding_status finding ≡ 0 → IfOk opened (λ device. IsTrue D.keeps_model → MountsWhole (bytes_of (D.disk device).now))

@@ -62,7 +62,7 @@ fn load_pool<
     out: &mut W,
 ) -> Result<(), Failure>
     ensures unusable { IsErr opened → result ≡ Err Failure.Unusable }
-    ensures order { IfOk opened (λ _. is_order arguments.order ≡ false
+    ensures order { IfOk opened (λ _. is_order arguments.entry.order ≡ false
         → result ≡ Err (Failure.Refused PoolError.BadRange)) }
 {
     let Ok(device) = opened else {
