@@ -20,7 +20,7 @@ class Book(Row):
 
     def __init__(self, title):
         super().__init__(title, 6 * MIB)
-        self.image, self.run, self.begun = Image(Tree(4, {}, {})), None, 0
+        self.image, self.run, self.begun = Image(Tree(4, b"tank", {}, {})), None, 0
         self.say("create tank 77", "ok")
         self.mount()
 
@@ -30,11 +30,15 @@ class Book(Row):
             self.image, self.run = self.run.crash(), None
 
     def mount(self):
-        """An import. After it owner 1 locks all objects, and reads what the serial pool has of them."""
+        """An import, and a look at what it mounted."""
         self.leave()
         self.run, self.begun = Run(self.image.synced), 0
         records = len(self.image.entries)
         self.say(f"import {MIB}", f"synced {self.run.tree.group} open {self.run.open} records {records}")
+        self.look()
+
+    def look(self):
+        """Owner 1 locks all objects, and reads what the serial pool has of them."""
         for number in OBJECTS:
             self.say(f"lock 1 {number} w 0 {TOP}", f"lock {number}")
             self.read(number)
@@ -50,7 +54,8 @@ class Book(Row):
         """A transaction of one operation begins in the open group."""
         entry, name = self.run.begin([(kind, number, place, content)]), self.begun
         rest = {"w": f":{place}:{len(content)}", "l": f":{place}"}.get(kind, "")
-        self.say(f"begin 1 {kind}:{number}{rest}", f"tx {name} group {entry.group}")
+        shape = f"n:{len(content)}" if kind == "n" else f"{kind}:{number}{rest}"
+        self.say(f"begin 1 {shape}", f"tx {name} group {entry.group}")
         self.begun += 1
         return name, entry
 

@@ -4,11 +4,12 @@
     python3 tools/crashes.py PROGRAM [SECONDS [SEED]]
 
 PROGRAM is a built `ztxg`. For SECONDS (60) it makes scripts by chance (docs/FORMATS.md, "The script"), runs each, and
-compares all answers with those that it worked out before. The answers come from a list of entries, a map of objects
-(`serial_pool.py`) and the rules of what is written when; nothing is taken from the program.
+compares all answers with those that it worked out before. The answers come from a list of entries, a map of objects, a
+name (`serial_pool.py`) and the rules of what is written when; nothing is taken from the program.
 
 - A pool of 6 MiB gets rounds, one upon the other. A round is an import, transactions in up to three groups at once, of
-  which one may be committed after entries of a newer group, and a sync. Log writes, log flushes and the question
+  which one may be committed after entries of a newer group, and a sync. Some transactions give the pool a name. Log
+  writes, log flushes and the question
   whether a commit is durable come between all of them, also between the device calls of a sync.
 - The run is stopped after any of the device calls: by a crash, or by a call that fails and then a crash or an import.
   The failing call is one of the sync, a log write or a log flush.
@@ -16,8 +17,8 @@ compares all answers with those that it worked out before. The answers come from
 - Then up to three imports are stopped, each at one of its device calls that fails, and then by a crash or the next
   import.
 - The import after all that mounts a group that the letters tell, and replays the records that they leave in the log.
-  What it shows, by its digest and its lengths, has to be the replay of the entries that are left. All acknowledged
-  entries are among them, and none that is left out conflicts with a later one of them.
+  What it shows, by its name, its digest and its lengths, has to be the replay of the entries that are left. All
+  acknowledged entries are among them, and none that is left out conflicts with a later one of them.
 
 The first difference ends it with status 1, and prints the script up to there. The end prints how much was compared, and
 how many strings over up to six unflushed writes of a run came.
@@ -35,6 +36,7 @@ sys.dont_write_bytecode = True
 from serial_pool import (  # noqa: E402
     LOG_AVAILABLE,
     LOG_ROOM,
+    NAMED,
     TOP,
     Entry,
     Image,
@@ -49,6 +51,7 @@ from serial_pool import (  # noqa: E402
 SIZE = 6 * 2**20
 DIRTY_MAX = 2**40
 OBJECTS = [0, 1, 2, 62, 63, 5_291]
+NAMES = [b"tank", b"pond", b"a", b"Z.9", b"lake-" * 12 + b"_end"]
 FEW = 6
 ROUNDS = 40
 
@@ -59,7 +62,7 @@ class Pool:
     def __init__(self, chance):
         self.chance = chance
         self.script, self.answers = [], []
-        self.image, self.run = Image(Tree(4, {}, {})), None
+        self.image, self.run = Image(Tree(4, b"tank", {}, {})), None
         self.seen, self.counts = set(), collections.Counter()
         self.say("create tank 77", "ok")
         self.start_run()
@@ -74,18 +77,22 @@ class Pool:
         records = len(self.image.entries)
         self.say(f"import {DIRTY_MAX}", f"synced {self.run.tree.group} open {self.run.open} records {records}")
         self.counts["records"] += records
-        self.show(self.run.mounted)
-        for at, number in enumerate(OBJECTS):
+        self.show()
+        for at, number in enumerate([*OBJECTS, NAMED]):
             self.say(f"lock 1 {number} w 0 {TOP}", f"lock {at}")
 
-    def show(self, objects):
-        self.say("digest", f"digest {digest(objects)}")
+    def show(self):
+        name, objects = self.run.name(), self.run.contents()
+        self.say("name", f"name {name.decode()}")
+        self.say("digest", f"digest {digest(name, objects)}")
         for number in OBJECTS:
             shown = f"length {len(objects[number])}" if number in objects else "refused 9 NoObject"
             self.say(f"length {number}", shown)
 
     def some_op(self, objects):
-        """An operation on one of these objects that isn't refused."""
+        """An operation on one of these objects, or a new name, that isn't refused."""
+        if self.chance.random() < 0.07:
+            return self.some_name()
         number = self.chance.choice(OBJECTS)
         if number not in objects:
             return ("c", number, 0, b"")
@@ -98,6 +105,10 @@ class Pool:
         letter = self.chance.choice("abcdefghijklmnopqrstuvwxyz")
         length = self.chance.choice([self.chance.randint(1, 40)] * 9 + [self.chance.randint(1_000, 3_969)])
         return ("w", number, place, letter.encode() * length)
+
+    def some_name(self):
+        """An operation that gives the pool a name, which may be the one that it has."""
+        return ("n", NAMED, 0, self.chance.choice([*NAMES, self.run.name()]))
 
     def some_ops(self):
         """The operations of a transaction that isn't refused."""
@@ -114,16 +125,17 @@ class Pool:
         shapes = []
         for kind, number, place, content in ops:
             rest = {"w": f":{place}:{len(content)}", "l": f":{place}"}.get(kind, "")
-            shapes.append(f"{kind}:{number}{rest}")
+            shapes.append(f"n:{len(content)}" if kind == "n" else f"{kind}:{number}{rest}")
         tx, self.transactions = self.transactions, self.transactions + 1
         entry = self.run.begin(ops)
         self.say(f"begin 1 {' '.join(shapes)}", f"tx {tx} group {entry.group}")
         return tx, entry
 
     def commit(self, tx, entry):
-        words = [content.decode() for kind, _, _, content in entry.ops if kind == "w"]
+        words = [content.decode() for kind, _, _, content in entry.ops if kind in "wn"]
         ordinal = self.run.commit(entry)
         self.say(" ".join(["commit", str(tx), *words]), f"entry {ordinal} group {entry.group}")
+        self.counts["names"] += any(kind == "n" for kind, _, _, _ in entry.ops)
 
     def transact(self):
         """A transaction, and perhaps the log after it."""
@@ -155,11 +167,11 @@ class Pool:
             self.transact()
         old, objects = self.run.open, self.run.contents()
         if self.chance.random() < 0.4 and len(objects) > 1:
-            late, other = self.chance.sample(sorted(objects), 2)
-            held = self.begin([("w", late, 3, b"older")])
+            late, other = self.chance.sample([*sorted(objects), NAMED], 2)
+            held = self.begin([self.some_name() if late == NAMED else ("w", late, 3, b"older")])
             self.run.open += 1
             self.say("close", f"open {self.run.open}")
-            self.commit(*self.begin([("w", other, 3, b"newer")]))
+            self.commit(*self.begin([self.some_name() if other == NAMED else ("w", other, 3, b"newer")]))
             self.use_log(0.4)
             self.say("quiesce", "refused 20 NotReady")
             self.commit(*held)
@@ -226,6 +238,7 @@ class Pool:
 
     def stop_run(self):
         """The run is stopped after some device call of its sync, by a crash or by a call that fails."""
+        self.counts["named runs"] += self.run.sync.tree.name != self.run.tree.name
         self.step_beside_log(self.chance.randint(0, len(self.run.sync.calls)))
         self.use_log(0.3)
         fails = self.chance.random() < 0.3 and self.fail_call()
@@ -256,13 +269,13 @@ class Pool:
                 self.close()
                 for _ in range(self.chance.randint(0, 2)):
                     self.transact()
-                self.show(self.run.contents())
+                self.show()
                 self.finish()
                 self.start()
         if self.chance.random() < 0.5:
             self.close()
             self.transact()
-        self.show(self.run.contents())
+        self.show()
         self.stop_run()
         for _ in range(self.chance.choice([0, 0, 1, 2, 3])):
             self.stop_import()
@@ -310,6 +323,7 @@ def main():
         seen |= pool.seen
     print(f"{scripts} scripts, {answers} answers, {counts['runs']} stopped runs, {counts['imports']} stopped imports")
     print(f"{counts['log writes']} log writes, {counts['records']} replayed records")
+    print(f"{counts['names']} transactions with a name, {counts['named runs']} runs stopped in the sync of a new name")
     print(f"{len(seen)} strings of letters over lists of up to {FEW} unflushed writes")
 
 

@@ -1,4 +1,4 @@
-"""A plain serial pool: a list of entries and a map of objects.
+"""A plain serial pool: a list of entries, a map of objects and a name.
 
 An entry is a committed transaction with the group that it was committed in. What a crash leaves of a run is the replay
 of the entries up to a group, and after them of those whose records stand in the log, in their order. `crashes.py` and
@@ -15,6 +15,8 @@ import struct
 TOP = 338_688
 RECORD = 4_032
 IN_DIRECTORY = 63
+# The number that stands for the pool's name, as an object's does for the object.
+NAMED = 5_292
 
 # The pools here have 6 MiB.
 BLOCKS = 384
@@ -25,7 +27,7 @@ LOG_AVAILABLE = 17
 
 # An entry is a committed transaction: its group, and its operations as (kind, object, place or length, bytes). The
 # kinds are the letters of a script: `c` creates the object, `d` removes it, `w` writes bytes at a place, `l` sets the
-# length.
+# length, `n` gives the pool the bytes as its name, with the number `NAMED` as the object.
 Entry = collections.namedtuple("Entry", "group ops")
 
 
@@ -33,6 +35,8 @@ def apply(objects, ops):
     """The operations of a transaction on a map of objects, or None if one of them is refused."""
     objects = dict(objects)
     for kind, number, place, content in ops:
+        if kind == "n":
+            continue
         if (kind == "c") == (number in objects):
             return None
         if kind == "c":
@@ -55,10 +59,13 @@ def replay(objects, entries):
     return objects
 
 
+def rename(name, entries):
+    """The name after these entries: the last one that they give."""
+    return [name, *(content for entry in entries for kind, _, _, content in entry.ops if kind == "n")][-1]
 
-def digest(objects):
-    """The digest of a pool that is named tank: its name and its objects, by rising number, each with its length."""
-    name = b"tank"
+
+def digest(name, objects):
+    """The digest of a pool: its name and its objects, by rising number, each with its length."""
     parts = [struct.pack("<I", len(name)), name, struct.pack("<I", len(objects))]
     for number, content in sorted(objects.items()):
         parts += [struct.pack("<IQ", number, len(content)), content]
@@ -66,7 +73,7 @@ def digest(objects):
 
 
 def conflict(one, other):
-    """Whether two transactions conflict: they touch a common byte of an object."""
+    """Whether two transactions conflict: they touch a common byte of a number."""
     for kind, number, place, content in one.ops:
         low, high = (place, place + len(content)) if kind == "w" else (0, TOP)
         for kind2, number2, place2, content2 in other.ops:
@@ -86,7 +93,7 @@ def is_cut(entries, is_left):
 
 def record_size(entry):
     """The bytes of an entry's record in the log."""
-    sizes = {"c": 5, "d": 5, "l": 13, "w": 17}
+    sizes = {"c": 5, "d": 5, "l": 13, "w": 17, "n": 5}
     return 22 + sum(sizes[kind] + len(content) for kind, _, _, content in entry.ops)
 
 
@@ -97,7 +104,7 @@ def estimate(entry):
         if kind == "w":
             blocks += (place + len(content) - 1) // RECORD - place // RECORD + 1 + 3
         else:
-            blocks += 4 if kind == "l" else 2
+            blocks += {"c": 2, "d": 2, "l": 4, "n": 1}[kind]
     return blocks
 
 
@@ -109,6 +116,8 @@ def count_blocks(objects, records, entries):
     for entry in entries:
         for op in entry.ops:
             kind, number, place, content = op
+            if kind == "n":
+                continue
             touched.add(number)
             old = len(objects.get(number, b""))
             objects = apply(objects, [op])
@@ -145,8 +154,8 @@ def tree_blocks(objects, records):
     return data + indirect + len({n // IN_DIRECTORY for n in objects}) + bool(objects)
 
 
-# The tree of a synced group: its objects, and of each the records that are no holes.
-Tree = collections.namedtuple("Tree", "group objects records")
+# What a synced group left: the pool's name, its objects, and of each the records that are no holes.
+Tree = collections.namedtuple("Tree", "group name objects records")
 
 # A log block: its number in the chain, and the ordinals of the entries whose records it has.
 LogBlock = collections.namedtuple("LogBlock", "number ordinals")
@@ -162,15 +171,17 @@ def standing(writes, letters):
 
 
 class Sync:
-    """A sync that runs: the tree that it writes, how many blocks it writes for it, and the log's number in its
-    uberblocks.
+    """A sync that runs: the tree that it writes, how many blocks it writes for it, the log's number in its uberblocks,
+    and whether its group gives a name.
 
-    Its calls are the writes of its blocks, a flush, four uberblocks and a flush.
+    Its calls are the writes of its blocks, a flush, four uberblocks and a flush. With a name two configs and a flush
+    come before the uberblocks, and two configs and a flush come last.
     """
 
-    def __init__(self, tree, blocks, header):
+    def __init__(self, tree, blocks, header, is_named):
         self.tree, self.blocks, self.header = tree, blocks, header
-        self.calls = [PART] * blocks + ["flush"] + [UBERBLOCK] * 4 + ["flush"]
+        labels = ([PART] * 2 + ["flush"]) * is_named
+        self.calls = [PART] * blocks + ["flush"] + labels + [UBERBLOCK] * 4 + ["flush"] + labels
         self.made = 0
         # Whether one of its uberblocks is flushed.
         self.is_mounted = False
@@ -185,7 +196,7 @@ class Run:
     """
 
     def __init__(self, tree):
-        self.mounted, self.tree, self.open = tree.objects, tree, tree.group + 1
+        self.mounted_name, self.mounted, self.tree, self.open = tree.name, tree.objects, tree, tree.group + 1
         self.entries, self.begun = [], []
         self.sync = None
         # The log blocks by their numbers; the one that the synced uberblock names, or the next one; and the entry from
@@ -197,6 +208,9 @@ class Run:
 
     def contents(self):
         return replay(self.mounted, self.entries)
+
+    def name(self):
+        return rename(self.mounted_name, self.entries)
 
     def begin(self, ops):
         """A transaction in the open group, until it is committed."""
@@ -254,15 +268,17 @@ class Run:
     def start(self):
         """The sync of the group after the synced one starts. Its header is the first kept log block with a record of a
         group after its own, or else the next one."""
-        group, (_, objects, records) = self.tree.group + 1, self.tree
+        group, (_, name, objects, records) = self.tree.group + 1, self.tree
         entries = self.of_group(group)
         blocks, records = count_blocks(objects, records, entries)
+        is_named = any(kind == "n" for entry in entries for kind, _, _, _ in entry.ops)
         reaching = [
             block.number
             for block in self.log[self.header :]
             if any(self.entries[ordinal].group > group for ordinal in block.ordinals)
         ]
-        self.sync = Sync(Tree(group, replay(objects, entries), records), blocks, [*reaching, len(self.log)][0])
+        tree = Tree(group, rename(name, entries), replay(objects, entries), records)
+        self.sync = Sync(tree, blocks, [*reaching, len(self.log)][0], is_named)
 
     def flush(self):
         """A flush of the device."""
@@ -294,7 +310,7 @@ class Run:
     def free(self):
         """The number of blocks in neither the tree nor the kept log nor its next address, and not taken by the sync."""
         taken = self.sync.blocks if self.sync else 0
-        return BLOCKS - tree_blocks(*self.tree[1:]) - (len(self.log) - self.header) - 1 - taken
+        return BLOCKS - tree_blocks(*self.tree[2:]) - (len(self.log) - self.header) - 1 - taken
 
     def reserved(self):
         return sum(estimate(entry) for entry in [*self.entries, *self.begun] if entry.group > self.tree.group)
@@ -327,7 +343,7 @@ class Run:
         assert all(is_left[at] for at in range(len(is_left)) if self.is_acknowledged(at))
         assert is_cut(self.entries, is_left)
         left = [entry for entry, stays in zip(self.entries, is_left) if stays]
-        assert replay(self.mounted, left) == image.objects
+        assert replay(self.mounted, left) == image.objects and rename(self.mounted_name, left) == image.name
         return image
 
 
@@ -337,15 +353,15 @@ class Image:
 
     def __init__(self, tree, places=0, entries=()):
         self.tree, self.places, self.entries = tree, places, entries
-        self.objects = replay(tree.objects, entries)
-        self.blocks, records = count_blocks(*tree[1:], entries)
-        self.synced = Tree(tree.group + 4, self.objects, records)
+        self.name, self.objects = rename(tree.name, entries), replay(tree.objects, entries)
+        self.blocks, records = count_blocks(*tree[2:], entries)
+        self.synced = Tree(tree.group + 4, self.name, self.objects, records)
 
     def calls(self):
         """The device calls of an import: a flush; the reads of four arrays of uberblocks, four configs, the tree and
         the log; the blocks of the replayed entries, a flush; two configs, a flush; four uberblocks, a flush; two
         configs, a flush."""
-        reads = 8 + tree_blocks(*self.tree[1:]) + self.places
+        reads = 8 + tree_blocks(*self.tree[2:]) + self.places
         labels = [PART] * 2 + ["flush"]
         blocks = [PART] * self.blocks + ["flush"]
         return ["flush"] + ["read"] * reads + blocks + labels + [UBERBLOCK] * 4 + ["flush"] + labels
