@@ -13,6 +13,8 @@ A row is a script with a title, the size of its device and the moment of its ube
 - crashes of whole pools (`crash_rows.py`): rounds of transactions, a sync, the log or an import that is stopped after
   each of its device calls, each string of kept, lost and torn writes, and the next import (`stopped_syncs`,
   `stopped_imports`, `lost_log_blocks`, `syncs_beside_log`, `stopped_replays`);
+- the same of syncs that give the pool a name, and of imports after them (`name_rows.py`: `stopped_names`,
+  `stopped_imports_of_names`);
 - the same of one sync on the least device, where each unflushed write meets the same (`ten_crashes`, `lost_imports`).
 
 The answers to the crashes come from a plain serial pool (`serial_pool.py`) and from the rules of what is written when.
@@ -29,6 +31,7 @@ import sys
 sys.dont_write_bytecode = True
 
 from crash_rows import lost_log_blocks, stopped_imports, stopped_replays, stopped_syncs, syncs_beside_log  # noqa: E402
+from name_rows import stopped_imports_of_names, stopped_names  # noqa: E402
 from script_row import BAD_COMMAND, MIB, Row, read_rows  # noqa: E402
 from serial_pool import TOP  # noqa: E402
 
@@ -423,6 +426,8 @@ def all_rows():
         lost_log_blocks,
         syncs_beside_log,
         stopped_replays,
+        stopped_names,
+        stopped_imports_of_names,
         ten_crashes,
         lost_imports,
     ]:
