@@ -10,7 +10,8 @@ Python alone (`pool_image.py`). Then these have to print exactly that, without a
 - `check FILE` and `show FILE`, which leave the file as it is;
 - a script on the file, which imports the pool and prints its name, its digest and the lengths of objects. A refused
   import leaves the file as it is;
-- after an import `check` and `show` again: the same contents, four groups and one import later.
+- after an import `check` and `show` again: the same contents, four groups and one import later. Each label has a config
+  of that group with the name.
 
 The first difference ends it with status 1, and prints the number of its image. The same SEED (0) makes the same images:
 `N:M` as COUNT judges those from N to before M alone. JOBS (1) processes share them. The end prints how many images were
@@ -32,15 +33,16 @@ from pool_image import (  # noqa: E402
     RECORD,
     TOP,
     BadGeometry,
+    Config,
     Damaged,
     Image,
     NoPool,
-    digest,
     import_line,
     mount,
     read_pool,
     show_lines,
 )
+from serial_pool import NAMED, digest  # noqa: E402
 
 SIZE = 6 * 2**20
 DIRTY_MAX = 2**40
@@ -57,13 +59,13 @@ def transact(tx, shapes, *words):
 
 
 def start(objects):
-    """An import, and locks of objects."""
-    return [f"import {DIRTY_MAX}", *(f"lock 1 {number} w 0 {TOP}" for number in objects)]
+    """An import, and locks of objects and of the name."""
+    return [f"import {DIRTY_MAX}", *(f"lock 1 {number} w 0 {TOP}" for number in [*objects, NAMED])]
 
 
 def several():
     """Objects in three directories, with holes, over two imports. Then a log of four blocks, with records of the synced
-    group and of two later ones."""
+    group and of two later ones. The synced group and one of the later ones give the pool a name."""
     objects = [0, 1, 2, 62, 63, 5_291]
     first = ["create tank 77", *start(objects)]
     first += transact(0, "c:0 w:0:0:5 w:0:8064:10", "hello", "@10:z") + transact(1, "c:1 c:2 w:2:4030:4", "abcd")
@@ -71,9 +73,9 @@ def several():
     first += transact(3, "c:5291 w:5291:338000:600", "@600:q") + transact(4, "w:0:4032:3000", "@3000:m") + ["sync"]
     second = start(objects)
     second += transact(0, "w:1:0:3900", "@3900:a") + transact(1, "d:62") + ["sync"]
-    second += transact(2, "w:2:0:6", "synced") + ["close", "log-write"]
+    second += transact(2, "w:2:0:6 n:6", "synced", "synced") + ["close", "log-write"]
     second += transact(3, "c:62 w:62:7:2000", "@2000:b") + transact(4, "w:63:1:1500", "@1500:c") + ["log-write"]
-    second += transact(5, "l:0:4100") + ["log-write", "log-flush"]
+    second += transact(5, "l:0:4100 n:4", "pond") + ["log-write", "log-flush"]
     second += transact(6, "w:5291:0:3000", "@3000:d") + ["log-write", "quiesce", "start", "finish"]
     second += transact(7, "d:1") + ["log-write", "log-flush"]
     return [first, second]
@@ -160,10 +162,10 @@ class Refusal:
         return Ran(1, [self.found], []) if self.found else self.shown()
 
 
-def outcome(judge, *words, **options):
+def outcome(image):
     """What an image mounts, or the refusal."""
     try:
-        return judge(*words, **options)
+        return mount(read_pool(image))
     except Damaged as damage:
         return Refusal(7, "Damaged", str(damage.kind), str(damage.address))
     except NoPool:
@@ -176,31 +178,28 @@ class Expected:
     """What an inspection and an import make of an image."""
 
     def __init__(self, image):
-        found = outcome(read_pool, image)
-        is_read = not isinstance(found, Refusal)
-        self.inspected = outcome(mount, found) if is_read else found
-        self.imported = self.inspected
-        self.is_whole = not isinstance(self.inspected, Refusal)
+        self.mount = outcome(image)
+        self.is_whole = not isinstance(self.mount, Refusal)
 
     def check(self):
-        one = self.inspected
+        one = self.mount
         if not self.is_whole:
             return one.checked()
         return Ran(0, [f"clean group {one.uberblock.group} records {one.records}"], [])
 
     def show(self):
-        return Ran(0, show_lines(self.inspected), []) if self.is_whole else self.inspected.shown()
+        return Ran(0, show_lines(self.mount), []) if self.is_whole else self.mount.shown()
 
     def import_answer(self):
-        one = self.imported
+        one = self.mount
         return f"refused {one.text}" if isinstance(one, Refusal) else import_line(one)
 
     def script(self):
         """The lines of a script that imports the pool, each with its answer."""
         lines = {f"import {DIRTY_MAX}": self.import_answer()}
         if self.import_answer().startswith("synced"):
-            objects = self.imported.objects
-            lines |= {"name": f"name {self.imported.name.decode()}", "digest": f"digest {digest(self.imported)}"}
+            name, objects = self.mount.name, self.mount.objects
+            lines |= {"name": f"name {name.decode()}", "digest": f"digest {digest(name, objects)}"}
             for number in sorted({*objects, 0, 1, 7}):
                 answer = f"length {len(objects[number])}" if number in objects else "refused 9 NoObject"
                 lines[f"length {number}"] = answer
@@ -210,18 +209,18 @@ class Expected:
         """How the image is counted."""
         answer = self.import_answer()
         if not self.is_whole:
-            return [self.inspected.kind]
+            return [self.mount.kind]
         if answer.startswith("synced"):
-            return ["clean", "clean, with records"] if self.inspected.records else ["clean"]
+            return ["clean", "clean, with records"] if self.mount.records else ["clean"]
         return [f"clean, but {answer}"]
 
     def after(self):
         """What is left of the pool by an import: its group, import, guid, log, name and objects."""
-        one = self.imported
+        one = self.mount
         return one.uberblock.group + 4, one.uberblock.import_number + 1, one.uberblock.guid, 0, one.name, one.objects
 
     def left(self):
-        one = self.inspected
+        one = self.mount
         return one.uberblock.group, one.uberblock.import_number, one.uberblock.guid, one.records, one.name, one.objects
 
 
@@ -259,12 +258,16 @@ class Bench:
         left = self.content()
         if difference or not expected.import_answer().startswith("synced"):
             return difference or (None if left == image.content else "a refused import wrote to the file")
-        return self.judge_left(expected, Expected(Image(bytearray(left))))
+        left = Image(bytearray(left))
+        return self.judge_left(expected, Expected(left), left.configs())
 
-    def judge_left(self, before, after):
+    def judge_left(self, before, after, configs):
         """How the pool that an import left differs, or None."""
         if not after.is_whole or after.left() != before.after():
             return f"the import left another pool: {after.check()}"
+        wanted = Config(after.mount.uberblock.guid, after.mount.uberblock.group, after.mount.name)
+        if configs != [wanted] * 4:
+            return f"the import left the configs {configs}"
         return self.look(after)
 
 

@@ -39,6 +39,7 @@ from pool_image import (
     sha,
     slot_places,
 )
+from serial_pool import NAMED
 
 # Where the fields of a log block lie in it: the chain number, the next address, the used length, the records.
 CHAIN_AT, NEXT_AT, USED_AT, RECORDS_AT = 64, 72, 80, 88
@@ -346,7 +347,7 @@ class Edits:
         kind = self.chance.choice("cccddwwwwwwlllln")
         if kind == "n":
             names = [b"tank", b"pond", b"a", b"a" * 64, b"a" * 65, b"4tank", b""]
-            return (kind, None, 0, self.chance.choice(names))
+            return (kind, NAMED, 0, self.chance.choice(names))
         if kind == "l":
             return (kind, number, self.chance.choice([0, 3, RECORD, 9_000, TOP, TOP + 1]), b"")
         if kind == "w":

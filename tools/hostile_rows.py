@@ -4,10 +4,10 @@
     python3 tools/hostile_rows.py PROGRAM
 
 PROGRAM is a built `ztxg`. A pool in a file gets two transactions in two groups at once; the older one is synced. Each
-row makes one edit of that file with every other check made right (`pool_image.py`), and says what `check` has to print.
-`show` and an import have to agree: they mount the same group and records, or are refused with the same kind and
-address, and a refused import leaves the file as it was. The file before the edits is also made without the program,
-byte for byte.
+row makes one edit of that file with every other check made right (`pool_image.py`), and says what `check` has to print,
+and the name. `show` and an import have to agree: they mount the same group, name and records, or are refused with the
+same kind and address. A refused import leaves the file as it was, and another one leaves the name in the configs of all
+four labels. The file before the edits is also made without the program, byte for byte.
 
 The first difference ends it with status 1. The end prints how many images were judged.
 """
@@ -26,6 +26,7 @@ from pool_image import (  # noqa: E402
     DIRECTORY,
     INDIRECT,
     ROOT,
+    Config,
     Image,
     Pointer,
     check_of,
@@ -38,6 +39,7 @@ from pool_image import (  # noqa: E402
     slot_places,
     uberblock,
 )
+from serial_pool import NAMED  # noqa: E402
 
 SIZE, GUID, GROUP = 8 * 2**20, 77, 9
 LOG_AT, DATA_AT, INDIRECT_AT, DIRECTORY_AT, ROOT_AT = range(4_194_304, 4_210_689, BLOCK)
@@ -122,7 +124,20 @@ def torn():
     return tank
 
 
-# What is edited, and what `check` prints.
+def even_configs(group):
+    """The configs of labels 0 and 2 have this group and another name."""
+    tank = Tank()
+    for place in label_places(SIZE)[::2]:
+        tank.put(place + CONFIG_AT, config(GUID, group, SIZE, b"pond"))
+    return tank
+
+
+def naming(content):
+    """An operation of a record that gives the pool this name."""
+    return ("n", NAMED, 0, content)
+
+
+# What is edited, what `check` prints, and the name if it isn't `tank`.
 ROWS = [
     ("nothing", Tank, "clean group 9 records 0"),
     (
@@ -151,6 +166,14 @@ ROWS = [
     ("the same with record length and used 28", lambda: Tank().log(length=28, used=28), "clean group 9 records 0"),
     ("a log block writes to object 2", lambda: Tank().log(op=("w", 2, 0, b"x")), "damaged 6 4194304"),
     ("all uberblocks are torn", torn, "no pool"),
+    ("labels 0 and 2 have another name of group 9", lambda: even_configs(9), "clean group 9 records 0", "pond"),
+    ("labels 0 and 2 have another name of group 10", lambda: even_configs(10), "clean group 9 records 0"),
+    ("a log block names the pool in group 10", lambda: Tank().log(op=naming(b"pond")), "clean group 9 records 1", "pond"),
+    ("the same in group 9", lambda: Tank().log(group=9, op=naming(b"pond")), "clean group 9 records 0"),
+    ("the same with a name of 64 bytes", lambda: Tank().log(op=naming(b"a" * 64)), "clean group 9 records 1", "a" * 64),
+    ("the same with a name of 65 bytes", lambda: Tank().log(op=naming(b"a" * 65)), "clean group 9 records 0"),
+    ("the same with an empty name", lambda: Tank().log(op=naming(b"")), "clean group 9 records 0"),
+    ("the same with a name that begins with a digit", lambda: Tank().log(op=naming(b"4pond")), "clean group 9 records 0"),
 ]
 
 
@@ -183,7 +206,7 @@ def make_tank(program, file):
             fail("the program makes another pool")
 
 
-def judge_row(program, file, image, line):
+def judge_row(program, file, image, line, name="tank"):
     """Judges an image in a file by three commands, the import last."""
     refused = refusal(line)
     with open(file, "wb") as made:
@@ -195,15 +218,20 @@ def judge_row(program, file, image, line):
     if refused and (status, lines, errors) != (1, [], [f"ztxg: {refused}"]):
         return f"show: {status} {lines} {errors}"
     records = line.split()[-1]
-    if not refused and (status, lines[2:6:3], errors) != (0, ["group 9", f"records {records}"], []):
+    shown = [f"name {name}", "group 9", f"records {records}"]
+    if not refused and (status, [*lines[:1], *lines[2:6:3]], errors) != (0, shown, []):
         return f"show: {status} {lines} {errors}"
-    status, lines, errors = run(program, "script", "--file", file, "-", script="import 1048576\n")
-    answer = refused or f"synced 13 open 14 records {records}"
-    if (status, lines, errors) != (0, [answer], []):
+    script = "import 1048576\n" if refused else "import 1048576\nname\n"
+    status, lines, errors = run(program, "script", "--file", file, "-", script=script)
+    answers = [refused] if refused else [f"synced 13 open 14 records {records}", f"name {name}"]
+    if (status, lines, errors) != (0, answers, []):
         return f"import: {status} {lines} {errors}"
     with open(file, "rb") as left:
-        if (left.read() == bytes(image.content)) != bool(refused):
-            return "import: the file"
+        content = left.read()
+    if (content == bytes(image.content)) != bool(refused):
+        return "import: the file"
+    if not refused and Image(bytearray(content)).configs() != [Config(GUID, 13, name.encode())] * 4:
+        return "import: the configs"
     return None
 
 
@@ -214,10 +242,10 @@ def main():
     with tempfile.TemporaryDirectory() as room:
         file = os.path.join(room, "tank.pool")
         make_tank(program, file)
-        for title, make, line in ROWS:
-            difference = judge_row(program, file, make(), line)
+        for title, make, line, *names in ROWS:
+            difference = judge_row(program, file, make(), line, *names)
             if difference:
-                fail(f"{title}: wanted `{line}`, found {difference}")
+                fail(f"{title}: wanted `{' '.join([line, *names])}`, found {difference}")
     print(f"{len(ROWS)} images: check, show and import agree")
 
 

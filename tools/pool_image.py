@@ -10,7 +10,7 @@ import hashlib
 import re
 import struct
 
-from serial_pool import Entry, apply, count_blocks
+from serial_pool import NAMED, Entry, apply, count_blocks, rename
 
 BLOCK, PAYLOAD, RECORD = 4_096, 4_032, 4_032
 AREA = 4 * 2**20
@@ -209,7 +209,7 @@ def read_op(reader):
     tag = reader.number(1)
     if tag == 5:
         name = reader.take(reader.number(4))
-        return ("n", None, 0, name) if is_name(name) else None
+        return ("n", NAMED, 0, name) if is_name(name) else None
     if not 1 <= tag <= 4:
         return None
     kind, number, place, content = "_cdwl"[tag], reader.number(4), 0, b""
@@ -310,10 +310,13 @@ class Image:
             raise NoPool
         return max(found, key=lambda read: read.group)
 
+    def configs(self):
+        """What the configs of the four labels say, or None for one that isn't valid."""
+        return [read_config(self.block(label + CONFIG_AT), self.size) for label in label_places(self.size)]
+
     def name(self, active):
         """The name in the config that is chosen."""
-        read = [read_config(self.block(label + CONFIG_AT), self.size) for label in label_places(self.size)]
-        fitting = [one for one in read if one and one.guid == active.guid and one.group <= active.group]
+        fitting = [one for one in self.configs() if one and one.guid == active.guid and one.group <= active.group]
         if not fitting:
             raise NoPool
         return max(fitting, key=lambda one: one.group).name
@@ -399,18 +402,6 @@ def read_chain(image, active):
     return found
 
 
-def replay_entry(name, objects, entry):
-    """The name and the objects after an entry, or None if one of its operations is refused."""
-    for op in entry.ops:
-        if op[0] != "n":
-            objects = apply(objects, [op])
-        else:
-            name = op[3]
-        if objects is None:
-            return None
-    return name, objects
-
-
 # What is read of an image: its active uberblock, the name of its pool, the walk of its tree, and its log chain.
 Found = collections.namedtuple("Found", "image uberblock name walk chain")
 
@@ -428,14 +419,13 @@ def mount(found):
     """What a pool that was read mounts. It raises `Damaged` for the first record that can't take place."""
     active, walk, chain = found.uberblock, found.walk, found.chain
     above = [(node, entry) for node, entries in chain for entry in entries if entry.group > active.group]
-    name, objects = found.name, walk.objects
+    objects, entries = walk.objects, [entry for _, entry in above]
     for node, entry in above:
-        done = replay_entry(name, objects, entry)
-        if done is None:
+        objects = apply(objects, entry.ops)
+        if objects is None:
             raise Damaged(LOG, node.address)
-        name, objects = done
-    changes = [Entry(entry.group, [op for op in entry.ops if op[0] != "n"]) for _, entry in above]
-    needed, _ = count_blocks(walk.objects, walk.records, changes)
+    name = rename(found.name, entries)
+    needed, _ = count_blocks(walk.objects, walk.records, entries)
     nodes = walk.nodes + [node for node, _ in chain]
     return Mount(name, active, block_count(found.image.size), nodes, len(above), objects, needed + 1)
 
@@ -460,11 +450,3 @@ def import_line(mount):
     if mount.needed > mount.blocks - len(mount.nodes):
         return "refused 16 NoSpace"
     return f"synced {active.group + 4} open {active.group + 5} records {mount.records}"
-
-
-def digest(mount):
-    """The digest of a pool's contents: the name, and the objects by rising number, each with its length."""
-    parts = [struct.pack("<I", len(mount.name)), mount.name, struct.pack("<I", len(mount.objects))]
-    for number, content in sorted(mount.objects.items()):
-        parts += [struct.pack("<IQ", number, len(content)), content]
-    return sha(b"".join(parts)).hex()
