@@ -116,8 +116,9 @@ A line is a command, or empty, or begins with #. Each command prints one line:
   crash LETTERS                crashed U; k keeps a write, l loses, t tears it
 
 A SHAPE is c:OBJECT to create, d:OBJECT to remove, w:OBJECT:OFFSET:LENGTH to
-write, l:OBJECT:LENGTH to set a length. A commit has BYTES for each write:
-printable ASCII, or @COUNT:C for COUNT copies of C.
+write, l:OBJECT:LENGTH to set a length, n:LENGTH to name the pool. A commit has
+BYTES for each write and each name: printable ASCII, or @COUNT:C for COUNT
+copies of C.
 
 A refused command prints 'refused N NAME', and the script goes on. A line that
 is no command prints 'line N: bad command' and ends it with status 2. With --file, crash
