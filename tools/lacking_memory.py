@@ -8,7 +8,8 @@ PROGRAM is a built `ztxg`, which takes its memory by `malloc` of the C library. 
 request of a run. For each request of each script,
 
 - the answers are those of the undisturbed run up to a line, which is refused `1 NoMemory`. That line again and all later
-  lines then answer as undisturbed. In place of a `sync` a `start` and a `finish` do, since its group is closed by then;
+  lines then answer as undisturbed. In place of a `sync` a `start` and a `finish` do, since its group is closed by then,
+  and a `fail` before the line is made again with it;
 - or they are the undisturbed ones: the request was for speed alone;
 - or the device in memory found no room for its own notes. Then the line is refused `3 Write` or `4 Flush`. After a crash
   that keeps, loses or tears all unflushed writes, an import shows what is mounted if the run crashes before that line or
@@ -111,6 +112,9 @@ class Script:
             if self.lines[line] == b"sync":
                 # Its start is refused, after its group was closed.
                 repeated, answers = [b"start", b"finish"], [answers[0].replace("synced", "syncing"), *answers]
+            if self.lines[line - 1].startswith(b"fail "):
+                # A refused import has flushed the device and read it, so the plan is made again too.
+                repeated, answers = [self.lines[line - 1], *repeated], ["ok", *answers]
             again = self.run([*self.lines[:line + 1], *repeated, *self.lines[line + 1:]], at)
             wanted = Ran([*calm.answers[:line], answer, *answers, *calm.answers[line + 1:]], calm.status)
             kind = "of the device's notes, at a create" if is_device else "refused 1, then undisturbed"
