@@ -13,7 +13,7 @@ up to a stop, and after it those of `serial_pool.py`. Nothing is taken from the 
 - the run is stopped before each of its device calls, and at its end, by a crash and an import.
 
 A crash comes with each string of kept, lost and torn writes; with 729 by chance over more than six. What the import
-shows, by its digest and its lengths, is the replay of a cut of the run, which has all that was acknowledged
+shows, by its name, its digest and its lengths, is the replay of a cut of the run, which has all that was acknowledged
 (`Run.crash`). Of the images of a stop each SHARE-th (1) has its own import stopped at each of its calls, by a crash
 that keeps, loses or tears all its unflushed writes, by one by chance, or by none. The next import shows the same.
 
@@ -37,7 +37,7 @@ sys.dont_write_bytecode = True
 import serial_pool  # noqa: E402
 from make_rows import many_records  # noqa: E402
 from script_row import BAD_COMMAND, MIB, Row, read_rows  # noqa: E402
-from serial_pool import Entry, Image, Run, Tree, digest, kind_of  # noqa: E402
+from serial_pool import NAMED, Entry, Image, Run, Tree, digest, kind_of  # noqa: E402
 
 ROWS = pathlib.Path(__file__).parent / "rows"
 # Rounds are run on the least device, which is made fastest.
@@ -112,13 +112,14 @@ class Pool:
         """A transaction that begins, whose bytes come with its commit."""
         ops = []
         for shape in words:
-            kind, number, place, length = [*shape.split(":"), "0", "0"][:4]
+            kind, *words = shape.split(":")
+            number, place, length = [NAMED, 0, *words] if kind == "n" else [*words, "0", "0"][:3]
             ops.append((kind, int(number), int(place), b"\0" * int(length)))
         self.open_ones[answer.split()[1]] = self.run.begin(ops)
 
     def commit(self, words, answer):
         contents, entry = iter(words[1:]), self.open_ones.pop(words[0])
-        ops = [(*op[:3], content_of(next(contents)) if op[0] == "w" else b"") for op in entry.ops]
+        ops = [(*op[:3], content_of(next(contents)) if op[0] in "wn" else b"") for op in entry.ops]
         filled = Entry(entry.group, ops)
         self.run.begun[self.run.begun.index(entry)] = filled
         same(answer, f"entry {self.run.commit(filled)} group {entry.group}")
@@ -135,7 +136,7 @@ class Pool:
         if answer.startswith("refused"):
             return
         if word == "create":
-            self.image, self.run = Image(Tree(4, {}, {})), None
+            self.image, self.run = Image(Tree(4, words[0].encode(), {}, {})), None
         elif word == "import":
             same(answer, self.mount())
         elif word == "begin":
@@ -166,9 +167,10 @@ class Pool:
                 self.image, self.run, self.is_unflushed = self.run.crash("".join(words)), None, False
 
     def show(self, numbers):
-        """What the pool has, by its digest and the lengths of these objects."""
-        objects = self.run.mounted
-        self.say("digest", f"digest {digest(objects)}")
+        """What the pool has, by its name, its digest and the lengths of these objects."""
+        name, objects = self.run.name(), self.run.mounted
+        self.say("name", f"name {name.decode()}")
+        self.say("digest", f"digest {digest(name, objects)}")
         for number in numbers:
             shown = f"length {len(objects[number])}" if number in objects else "refused 9 NoObject"
             self.say(f"length {number}", shown)
@@ -200,7 +202,7 @@ class Pool:
         """The answer of a suspended pool."""
         word, *words = line.split()
         if word == "name":
-            return "name tank"
+            return f"name {self.run.name().decode()}"
         if word == "status":
             return self.run.status()
         if word == "durable":
@@ -234,7 +236,7 @@ class Script:
         self.counts, self.image, self.passed = collections.Counter(), None, 0
         serial_pool.BLOCKS = self.size // 4_096 - 1_152
         shapes = [shape for line, _ in self.lines if line.startswith("begin") for shape in line.split()[2:]]
-        self.numbers = sorted({int(shape.split(":")[1]) for shape in shapes})
+        self.numbers = sorted({int(shape.split(":")[1]) for shape in shapes if not shape.startswith("n:")})
         self.numbers = self.numbers if len(self.numbers) < 8 else [*self.numbers[:2], *self.numbers[-2:]]
 
     def all_rounds(self):
