@@ -27,9 +27,8 @@ use Rattle.base.specs.steps.Exact.{AreLocksExact}
 use Rattle.base.specs.steps.ExactNow.{IsExplainedNow}
 use Rattle.base.specs.steps.Groups.{Admission}
 use Rattle.base.specs.steps.Locks.{Grant, held_locks, is_in, is_reader}
-use Rattle.base.specs.steps.Refusals.{Test, first_refusal, is_lock_in_use, lock_of, lock_tests, object_range, refused_if, transaction_of, unlock_refusal, abort_refusal}
+use Rattle.base.specs.steps.Refusals.{Test, begin_tests, first_refusal, is_lock_in_use, lock_of, lock_tests, object_range, refused_if, transaction_of, unlock_refusal, abort_refusal}
 use Rattle.base.specs.steps.Runs.{Step, reply_of}
-use Rattle.base.specs.steps.BuiltSteps.{begin_tests}
 use Rattle.base.specs.steps.Steps.{Answers, State, next_admission, next_grant, state_after_charged_admission, state_after_grant, state_after_unlock, transactions_without}
 use Rattle.base.specs.history.Plans.{lies_in, range_of}
 use Rattle.base.proofs.common.KeptLists.{Some-injective, any_at, any_none, at_front, at_last, filter_at, filter_same, not_found, none_at, push-cases}
