@@ -21,7 +21,6 @@ use Rattle.base.specs.steps.Refusals as refusal
 use Rattle.base.specs.steps.Refusals.{transaction_of}
 use Rattle.base.specs.steps.Runs.{receipt_reply, reply_of}
 use Rattle.base.specs.steps.Shown.{SyncPlan}
-use Rattle.base.specs.steps.BuiltSteps as as_built
 use Rattle.base.specs.steps.Steps as steps
 use Rattle.base.specs.steps.Steps.{Answers, State, SyncProgress, WantsMemory, next_admission, transactions_without}
 use Rattle.base.specs.steps.Steps.SyncProgress.{More, Synced}
@@ -134,7 +133,7 @@ module _ (plans : List BegunPlan) (old new : State) (are : ArePlansIn plans old)
       go false is = value-without_other begun_name begun_plan u.0 tx.0 plans is ∙ are tx ∙ sym (value-without_other admitted_name admitted_plan u.0 tx.0 ts is)
 
   pub begin_plans : (owner : Owner) (plan : List Shape) (r : declared_reply.Reply) → IsStep (step.Begin owner plan) r old new → ArePlansIn (plans_after (change.Begins plan) r plans) new
-  begin_plans owner plan r (answer, is, h) = subst (λ (q : declared_reply.Reply). ArePlansIn (plans_after (change.Begins plan) q plans) new) (sym is) (go (as_built.begin_refusal owner.0 plan old.shown) answer h)
+  begin_plans owner plan r (answer, is, h) = subst (λ (q : declared_reply.Reply). ArePlansIn (plans_after (change.Begins plan) q plans) new) (sym is) (go (refusal.begin_refusal owner.0 plan old.shown) answer h)
     where
       go : (o : Option PoolError) (a : Result (ℕ × ℕ) PoolError)
           → Answers o a old new (λ (x : ℕ × ℕ). (x ≡ (old.shown.next_tx, old.shown.line.open_group)) × (new ≡ steps.state_after_charged_admission (next_admission owner.0 plan old.shown) old)) (WantsMemory old new)
