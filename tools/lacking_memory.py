@@ -17,8 +17,8 @@ request of a run. For each request of each script,
 - or the program ends with status 3 before its next line, for a request of what reads the script, or with status 2
   before the first line, for a request of what reads the command line.
 
-The first difference is printed, with status 1. The end prints how many requests there were of each kind. JOBS (1)
-processes share the scripts.
+Each script is printed with its requests of each kind and with each difference. The end prints how many there were in all,
+with status 1 if one differed. JOBS (1) processes share the scripts.
 """
 
 import collections
@@ -69,6 +69,11 @@ void *realloc(void *old, size_t size) {
 Ran = collections.namedtuple("Ran", "answers status")
 
 
+def moved(answer, lines):
+    """An answer of a line that comes so many lines later: only one that tells of a bad command has the line's number."""
+    return re.sub(r"^line (\d+):", lambda found: f"line {int(found[1]) + lines}:", answer)
+
+
 class Script:
     def __init__(self, program, shim, row):
         self.program, self.shim, self.head = program, shim, row.head
@@ -108,7 +113,7 @@ class Script:
         answer = ran.answers[line]
         is_device = answer in ("refused 3 Write", "refused 4 Flush")
         if answer == "refused 1 NoMemory" or is_device and self.lines[line].startswith(b"create"):
-            repeated, answers = [self.lines[line]], [calm.answers[line]]
+            repeated, answers = [self.lines[line]], [moved(calm.answers[line], 1)]
             if self.lines[line] == b"sync":
                 # Its start is refused, after its group was closed.
                 repeated, answers = [b"start", b"finish"], [answers[0].replace("synced", "syncing"), *answers]
@@ -116,7 +121,8 @@ class Script:
                 # A refused import has flushed the device and read it, so the plan is made again too.
                 repeated, answers = [self.lines[line - 1], *repeated], ["ok", *answers]
             again = self.run([*self.lines[:line + 1], *repeated, *self.lines[line + 1:]], at)
-            wanted = Ran([*calm.answers[:line], answer, *answers, *calm.answers[line + 1:]], calm.status)
+            later = [moved(text, len(repeated)) for text in calm.answers[line + 1:]]
+            wanted = Ran([*calm.answers[:line], answer, *answers, *later], calm.status)
             kind = "of the device's notes, at a create" if is_device else "refused 1, then undisturbed"
             return kind if again == wanted else f"WRONG answers after line {line}: {again}"
         if is_device:
@@ -126,7 +132,7 @@ class Script:
         return f"WRONG answer {answer!r} to {self.lines[line]!r}"
 
     def check_all(self):
-        kinds = collections.Counter()
+        kinds, wrong = collections.Counter(), []
         with tempfile.NamedTemporaryFile() as file:
             file.truncate(8)
             calm = self.run(self.lines, 0, file.name)
@@ -134,9 +140,9 @@ class Script:
         for at in range(1, count + 1):
             kind = self.check(at, calm)
             if kind.startswith("WRONG"):
-                return kinds, f"{self.head}: request {at}: {kind}"
+                kind, wrong = "WRONG", [*wrong, f"{self.head}: request {at}: {kind}"]
             kinds[kind] += 1
-        return kinds, None
+        return self.head, kinds, wrong
 
 
 def check_script(words):
@@ -155,13 +161,14 @@ def main():
                 if word in path.name or word in row.head]
         total = collections.Counter()
         with multiprocessing.Pool(jobs) as pool:
-            for kinds, wrong in pool.imap(check_script, [(program, shim, row) for row in rows]):
+            for head, kinds, wrong in pool.imap(check_script, [(program, shim, row) for row in rows]):
                 total += kinds
-                if wrong:
-                    sys.exit(wrong)
+                counts = ", ".join(f"{count} {kind}" for kind, count in sorted(kinds.items()))
+                print("\n".join([f"{head}: {counts}", *wrong]), flush=True)
     print(f"{len(rows)} scripts, {sum(total.values())} requests for memory")
     for kind, count in sorted(total.items()):
         print(f"{count:8} {kind}")
+    sys.exit(1 if total["WRONG"] else 0)
 
 
 if __name__ == "__main__":

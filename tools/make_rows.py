@@ -456,4 +456,5 @@ def main():
     sys.exit(1 if differs else 0)
 
 
-main()
+if __name__ == "__main__":
+    main()

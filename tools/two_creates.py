@@ -52,7 +52,7 @@ def main():
             else:
                 apart += 1
                 if apart > times:
-                    sys.exit("the creates are over too soon to meet: give a larger SIZE")
+                    sys.exit("both made a pool each time: there is no lock, or they are over too soon (a larger SIZE)")
             os.remove(file)
     print(f"{times} times: one made, one refused ({', '.join(f'{name} {n}' for name, n in won.items())}); "
           f"{apart} times one after the other")
