@@ -289,7 +289,13 @@ fn a_check_finds_a_pool_whole_or_damaged(rt: HostRuntime) -> Result<(), Fail> {
         let mut opened = FileDevice::open_to_read(&rt, "checked.pool");
         out.clear();
         assert_eq!(rt;
-            run_check(rt.alloc(), "checked.pool", &mut opened, &mut out, &mut errors),
+            run_check(
+                rt.alloc(),
+                "checked.pool",
+                &mut opened,
+                &mut out,
+                &mut errors
+            ),
             status
         );
         assert!(rt; out.as_slice() == text.as_bytes());
@@ -312,7 +318,13 @@ fn a_check_tells_of_a_file_without_a_pool(rt: HostRuntime) -> Result<(), Fail> {
         let mut out = Vec::new(rt.alloc());
         let mut errors = Vec::new(rt.alloc());
         assert_eq!(rt;
-            run_check(rt.alloc(), "missing.pool", &mut opened, &mut out, &mut errors),
+            run_check(
+                rt.alloc(),
+                "missing.pool",
+                &mut opened,
+                &mut out,
+                &mut errors
+            ),
             1
         );
         assert!(rt; out.as_slice() == found.as_bytes());
