@@ -68,9 +68,7 @@ fn write_and_read(
 ) -> Result<(RefusedCalls, ([u8; 4], u64), u64), Fail> {
     let refused = write_file(rt, path)?;
     let read = read_file(rt, path)?;
-    let length = fs::metadata(rt, path)?.len();
-    fs::remove_file(rt, path)?;
-    Ok((refused, read, length))
+    Ok((refused, read, last_length(rt, path)?))
 }
 
 #[test]
@@ -127,21 +125,32 @@ fn count_held<D: SectorDevice>(device: &mut D, rows: &[Row]) -> usize {
     rows.len()
 }
 
-// How many rows hold on a file of four sectors that is cut after its second one, how long it is then, and what the
-// device counts as refused.
+// A device on a new file of so many bytes.
+fn device_on_new(rt: &HostRuntime, path: &str, size: u64) -> Result<FileDevice, Fail> {
+    Ok(FileDevice::new(new_file(rt, path, size)?)?)
+}
+
+fn set_length(rt: &HostRuntime, path: &str, size: u64) -> io::Result<()> {
+    File::options().write(true).open(rt, path)?.set_len(size)
+}
+
+// How many rows hold on a file of four sectors that is cut after its second one, and what the device counts as refused.
 fn count_on_shrunk(
     rt: &HostRuntime,
     path: &str,
     rows: &[Row],
-) -> Result<(usize, u64, RefusedCalls), Fail> {
-    let file = new_file(rt, path, 2048)?;
-    let other = file.try_clone()?;
-    let mut device = FileDevice::new(file)?;
-    other.set_len(1100)?;
+) -> Result<(usize, RefusedCalls), Fail> {
+    let mut device = device_on_new(rt, path, 2048)?;
+    set_length(rt, path, 1100)?;
     let count = count_held(&mut device, rows);
-    let length = other.metadata()?.len();
+    Ok((count, device.refused()))
+}
+
+// The length of a file, which is removed.
+fn last_length(rt: &HostRuntime, path: &str) -> io::Result<u64> {
+    let length = fs::metadata(rt, path)?.len();
     fs::remove_file(rt, path)?;
-    Ok((count, length, device.refused()))
+    Ok(length)
 }
 
 #[test]
@@ -159,7 +168,9 @@ fn a_file_that_shrinks_is_refused(rt: HostRuntime) -> Result<(), Fail> {
         writes: 1,
         flushes: 1,
     };
-    assert_eq!(rt; count_on_shrunk(&rt, "shrinks", &rows)?, (6, 1100, counts));
+    let counted = count_on_shrunk(&rt, "shrinks", &rows)?;
+    let length = last_length(&rt, "shrinks")?;
+    assert_eq!(rt; (counted, length), ((6, counts), 1100));
     Ok(())
 }
 
@@ -313,25 +324,32 @@ fn excludes_writers(rt: &HostRuntime, path: &str) -> Result<bool, Fail> {
     Ok(refused && first.sectors() == second.sectors())
 }
 
+// How many sectors a device on a file has that it makes or resizes.
+fn created_sectors(rt: &HostRuntime, path: &str, size: u64) -> Result<u64, Fail> {
+    let device = FileDevice::create(rt, path, size)?;
+    Ok(device.sectors())
+}
+
 #[test]
 fn one_device_at_a_time_writes_to_a_file(rt: HostRuntime) -> Result<(), Fail> {
-    assert!(rt; excludes_all(&rt, "held")?);
-    assert!(rt; excludes_writers(&rt, "held")?);
-
+    let excluded = [excludes_all(&rt, "held")?, excludes_writers(&rt, "held")?];
     // Each lock is released with its device.
-    let device = FileDevice::create(&rt, "held", 1024)?;
-    assert_eq!(rt; device.sectors(), 2);
+    let sectors = created_sectors(&rt, "held", 1024)?;
     fs::remove_file(&rt, "held")?;
+    assert_eq!(rt; (excluded, sectors), ([true; 2], 2));
     Ok(())
+}
+
+// Whether a device was refused by the system.
+fn is_system(opened: Result<FileDevice, FileRefusal>) -> bool {
+    matches!(opened, Err(FileRefusal::System(_)))
 }
 
 #[test]
 fn a_new_file_replaces_none(rt: HostRuntime) -> Result<(), Fail> {
     fs::write(&rt, "there", "as it is")?;
-    let opened = FileDevice::create_new(&rt, "there", 2048);
-    assert!(rt; matches!(opened, Err(FileRefusal::System(_))));
-    assert_eq!(rt; fs::metadata(&rt, "there")?.len(), 8);
-    fs::remove_file(&rt, "there")?;
+    let is_refused = is_system(FileDevice::create_new(&rt, "there", 2048));
+    assert_eq!(rt; (is_refused, last_length(&rt, "there")?), (true, 8));
     Ok(())
 }
 
@@ -340,14 +358,18 @@ fn is_not_regular(opened: Result<FileDevice, FileRefusal>) -> bool {
     matches!(opened, Err(FileRefusal::NotRegular))
 }
 
+// Whether each device on a path is.
+fn are_not_regular(rt: &HostRuntime, path: &str) -> [bool; 3] {
+    [
+        is_not_regular(FileDevice::open(rt, path)),
+        is_not_regular(FileDevice::open_to_read(rt, path)),
+        is_not_regular(FileDevice::create(rt, path, 2048)),
+    ]
+}
+
 #[test]
-fn only_a_regular_file_is_opened(rt: HostRuntime) -> Result<(), Fail> {
-    for path in [".", "/dev/null"] {
-        assert!(rt; is_not_regular(FileDevice::open(&rt, path)));
-        assert!(rt; is_not_regular(FileDevice::open_to_read(&rt, path)));
-        assert!(rt; is_not_regular(FileDevice::create(&rt, path, 2048)));
-    }
-    let missing = FileDevice::open(&rt, "nowhere");
-    assert!(rt; matches!(missing, Err(FileRefusal::System(_))));
-    Ok(())
+fn only_a_regular_file_is_opened(rt: HostRuntime) {
+    let refused = [are_not_regular(&rt, "."), are_not_regular(&rt, "/dev/null")];
+    let is_missing = is_system(FileDevice::open(&rt, "nowhere"));
+    assert_eq!(rt; (refused, is_missing), ([[true; 3]; 2], true));
 }

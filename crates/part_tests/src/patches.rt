@@ -1,5 +1,8 @@
 //! What a group made of objects: lengths and records over those below, and the memory that it takes.
 
+ghost use Rattle.std.specs.Prelude.{◌<◌, IfOk};
+ghost use Rattle.object_maps.specs.Ops.{AreOpsAllowed};
+
 use base::{Bytes, ObjectId, Op, PoolError, PoolName, RECORD_SIZE, Range};
 use extents::{Basis, Extents, Laid, ObjectPatch, UnsyncedExtents};
 use object_maps::{Contents, ObjectSource, read_range};
@@ -17,6 +20,15 @@ fn contents(alloc: Global) -> Result<Contents, PoolError> {
         return Err(PoolError::BadRange);
     };
     Ok(Contents::new(alloc, name)?)
+}
+
+// A group of these operations.
+fn group_of(alloc: Global, ops: &[Op]) -> Result<Extents, PoolError>
+    requires { AreOpsAllowed ops.now }
+{
+    let mut group = Extents::new(alloc);
+    group.add(ops)?;
+    Ok(group)
 }
 
 // The lengths over 10 and 5,000 bytes and over no object.
@@ -75,12 +87,12 @@ fn an_object_is_removed_and_made_again(rt: HostRuntime) {
     assert_eq!(rt; removed_and_made(rt.alloc()), Ok([None, Some(0), Some(1)]));
 }
 
-// A group that writes across two records and cuts the object after three bytes of these.
-fn cut_group(alloc: Global) -> Result<Extents, PoolError> {
-    let mut group = Extents::new(alloc);
+// Writes across two records and cuts the object after three bytes of these.
+fn cuts(alloc: Global) -> Result<Vec<Op>, PoolError>
+    ensures { IfOk result (λ ops. AreOpsAllowed ops.items) }
+{
     let write = Op::Write(OBJECT, 4_030, Bytes::from_slice(alloc, b"abcd")?);
-    group.add(&vec![in alloc; write, Op::SetLength(OBJECT, 4_033)]?)?;
-    Ok(group)
+    Ok(vec![in alloc; write, Op::SetLength(OBJECT, 4_033)]?)
 }
 
 // The first three bytes and the last two of the first record, under a group.
@@ -101,14 +113,21 @@ fn front_of_second(group: &Extents) -> [u8; 3] {
     [record[0], record[1], record[2]]
 }
 
-// What such a group makes of objects of 10 bytes, and of two records.
-fn laid_over(alloc: Global) -> Result<([Option<u64>; 2], ([u8; 3], [u8; 2]), [u8; 3]), PoolError> {
-    let group = cut_group(alloc)?;
+// What a group makes of objects of 10 bytes, and of two records.
+fn laid_over(group: &Extents) -> ([Option<u64>; 2], ([u8; 3], [u8; 2]), [u8; 3]) {
     let lengths = [
         group.length_over(OBJECT, Some(10)),
         group.length_over(OTHER, Some(10)),
     ];
-    Ok((lengths, ends_of_first(&group), front_of_second(&group)))
+    (lengths, ends_of_first(group), front_of_second(group))
+}
+
+// It, of the group that cuts.
+fn cuts_laid_over(
+    alloc: Global,
+) -> Result<([Option<u64>; 2], ([u8; 3], [u8; 2]), [u8; 3]), PoolError> {
+    let ops = cuts(alloc)?;
+    Ok(laid_over(&group_of(alloc, &ops)?))
 }
 
 #[test]
@@ -116,7 +135,7 @@ fn a_group_is_laid_over_a_record(rt: HostRuntime) {
     let lengths = [Some(4_033), Some(10)];
     // of the second record the cut leaves one byte, and what lies below it doesn't show after the cut
     assert_eq!(rt;
-        laid_over(rt.alloc()),
+        cuts_laid_over(rt.alloc()),
         Ok((lengths, (*b"xy\0", *b"ab"), *b"c\0\0"))
     );
 }
@@ -140,13 +159,20 @@ fn front_of_first(group: &Extents) -> [u8; 5] {
 }
 
 // The lengths of the object after the removal and made again, and its first bytes.
-fn made_again(alloc: Global) -> Result<([Option<u64>; 2], [u8; 5]), PoolError> {
-    let mut group = Extents::new(alloc);
-    write_and_remove(alloc, &mut group)?;
+fn remove_and_make_again(
+    alloc: Global,
+    group: &mut Extents,
+) -> Result<([Option<u64>; 2], [u8; 5]), PoolError> {
+    write_and_remove(alloc, group)?;
     let removed = group.length_over(OBJECT, Some(10));
-    make_again(alloc, &mut group)?;
+    make_again(alloc, group)?;
     let made = group.length_over(OBJECT, Some(10));
-    Ok(([removed, made], front_of_first(&group)))
+    Ok(([removed, made], front_of_first(group)))
+}
+
+// They, of a new group.
+fn made_again(alloc: Global) -> Result<([Option<u64>; 2], [u8; 5]), PoolError> {
+    remove_and_make_again(alloc, &mut Extents::new(alloc))
 }
 
 #[test]
@@ -154,42 +180,67 @@ fn a_created_object_has_no_byte_of_before(rt: HostRuntime) {
     assert_eq!(rt; made_again(rt.alloc()), Ok(([None, Some(3)], [0; 5])));
 }
 
-// A group that makes both objects, one with bytes across its first two records.
-fn first_group(alloc: Global) -> Result<Extents, PoolError> {
-    let mut group = Extents::new(alloc);
+// Makes both objects, one with bytes across its first two records.
+fn makes_both(alloc: Global) -> Result<Vec<Op>, PoolError>
+    ensures { IfOk result (λ ops. AreOpsAllowed ops.items) }
+{
     let write = Op::Write(OBJECT, 4_030, Bytes::from_slice(alloc, b"abcd")?);
-    group.add(&vec![in alloc; Op::Create(OBJECT), write, Op::Create(OTHER)]?)?;
-    Ok(group)
+    Ok(vec![in alloc; Op::Create(OBJECT), write, Op::Create(OTHER)]?)
 }
 
-// A group that cuts the one, writes after the cut and removes the other.
-fn second_group(alloc: Global) -> Result<Extents, PoolError> {
-    let mut group = Extents::new(alloc);
+// Cuts the one, writes after the cut and removes the other.
+fn cuts_and_removes(alloc: Global) -> Result<Vec<Op>, PoolError>
+    ensures { IfOk result (λ ops. AreOpsAllowed ops.items) }
+{
     let write = Op::Write(OBJECT, 4_035, Bytes::from_slice(alloc, b"x")?);
-    group.add(&vec![in alloc; Op::SetLength(OBJECT, 4_033), write, Op::Remove(OTHER)]?)?;
-    Ok(group)
+    Ok(vec![in alloc; Op::SetLength(OBJECT, 4_033), write, Op::Remove(OTHER)]?)
 }
 
-// Whether the object has these bytes after its first 4,029 ones, and the length of the other one, once a group is
-// synced.
-fn sync_into(
-    contents: &mut Contents,
-    group: &Extents,
-    wanted: &[u8],
-) -> Result<(bool, Option<usize>), PoolError> {
+// Whether the object has these bytes after its first 4,029 ones, and the length of the other one.
+fn has_tail(contents: &Contents, wanted: &[u8]) -> (bool, Option<usize>) {
+    let object = contents.object(OBJECT).unwrap_or(&[]);
+    let length = match contents.object(OTHER) {
+        Some(bytes) => Some(bytes.len()),
+        None => None,
+    };
+    (object.get(4_029..) == Some(wanted), length)
+}
+
+// Syncs a group.
+fn sync_into(contents: &mut Contents, group: &Extents) -> Result<(), PoolError> {
     group.reserve_in(contents)?;
     group.lay_into(contents);
-    let object = contents.object(OBJECT).unwrap_or(&[]);
-    let is_wanted = object.get(4_029..) == Some(wanted);
-    Ok((is_wanted, contents.object(OTHER).map(|bytes| bytes.len())))
+    Ok(())
+}
+
+// Whether the contents have these bytes, and the length of the other object, once a group of operations is synced.
+fn sync_ops(
+    alloc: Global,
+    contents: &mut Contents,
+    ops: &[Op],
+    wanted: &[u8],
+) -> Result<(bool, Option<usize>), PoolError>
+    requires { AreOpsAllowed ops.now }
+{
+    let group = group_of(alloc, ops)?;
+    sync_into(contents, &group)?;
+    Ok(has_tail(contents, wanted))
 }
 
 // They, of one group and then the next.
+fn sync_two(
+    alloc: Global,
+    contents: &mut Contents,
+) -> Result<[(bool, Option<usize>); 2], PoolError> {
+    let first = sync_ops(alloc, contents, &makes_both(alloc)?, b"\0abcd")?;
+    let second = sync_ops(alloc, contents, &cuts_and_removes(alloc)?, b"\0abc\0\0x")?;
+    Ok([first, second])
+}
+
+// They, on new contents.
 fn synced_groups(alloc: Global) -> Result<[(bool, Option<usize>); 2], PoolError> {
     let mut contents = contents(alloc)?;
-    let first = sync_into(&mut contents, &first_group(alloc)?, b"\0abcd")?;
-    let second = sync_into(&mut contents, &second_group(alloc)?, b"\0abc\0\0x")?;
-    Ok([first, second])
+    sync_two(alloc, &mut contents)
 }
 
 #[test]
@@ -200,12 +251,12 @@ fn a_synced_group_becomes_part_of_contents(rt: HostRuntime) {
     );
 }
 
-// A group that makes the object, with bytes across its first two records.
-fn written_group(alloc: Global) -> Result<Extents, PoolError> {
-    let mut group = Extents::new(alloc);
+// Makes the object, with bytes across its first two records.
+fn makes_one(alloc: Global) -> Result<Vec<Op>, PoolError>
+    ensures { IfOk result (λ ops. AreOpsAllowed ops.items) }
+{
     let write = Op::Write(OBJECT, 4_030, Bytes::from_slice(alloc, b"abcd")?);
-    group.add(&vec![in alloc; Op::Create(OBJECT), write]?)?;
-    Ok(group)
+    Ok(vec![in alloc; Op::Create(OBJECT), write]?)
 }
 
 // The first three bytes of the object's second record, through a group.
@@ -238,15 +289,29 @@ fn range_has(
 }
 
 // The lengths of both objects, bytes of the one's second record and of its first one, and whether a range has its
-// bytes, through a group over empty contents.
-fn read_through(alloc: Global) -> Result<([Option<u64>; 2], [[u8; 3]; 2], bool), PoolError> {
-    let contents = contents(alloc)?;
-    let group = written_group(alloc)?;
-    let lengths = lengths_through(&group, &contents);
-    let second = second_record(&group, &contents)?;
-    let first = part_of_first(&group, &contents)?;
-    let has_range = range_has(alloc, &group, &contents, b"\0abcd")?;
+// bytes, through a group.
+fn read_through(
+    alloc: Global,
+    group: &Extents,
+    contents: &Contents,
+) -> Result<([Option<u64>; 2], [[u8; 3]; 2], bool), PoolError> {
+    let lengths = lengths_through(group, contents);
+    let second = second_record(group, contents)?;
+    let first = part_of_first(group, contents)?;
+    let has_range = range_has(alloc, group, contents, b"\0abcd")?;
     Ok((lengths, [second, first], has_range))
+}
+
+// The group that makes the one.
+fn group_with_one(alloc: Global) -> Result<Extents, PoolError> {
+    let ops = makes_one(alloc)?;
+    group_of(alloc, &ops)
+}
+
+// They, of it over empty contents.
+fn read_one(alloc: Global) -> Result<([Option<u64>; 2], [[u8; 3]; 2], bool), PoolError> {
+    let group = group_with_one(alloc)?;
+    read_through(alloc, &group, &contents(alloc)?)
 }
 
 // The lengths of both objects, through a group.
@@ -261,7 +326,7 @@ fn lengths_through(group: &Extents, contents: &Contents) -> [Option<u64>; 2] {
 fn a_source_is_read_through_a_group(rt: HostRuntime) {
     let records = [*b"cd\0", *b"\0ab"];
     assert_eq!(rt;
-        read_through(rt.alloc()),
+        read_one(rt.alloc()),
         Ok(([Some(4_034), None], records, true))
     );
 }
@@ -277,39 +342,37 @@ fn front_has(
     Ok(front.as_slice() == wanted)
 }
 
-// The oldest group makes the object, with bytes.
-fn change_first(alloc: Global, groups: &mut UnsyncedExtents) -> Result<(), PoolError> {
+// Makes the object, with bytes.
+fn makes_aaaa(alloc: Global) -> Result<Vec<Op>, PoolError>
+    ensures { IfOk result (λ ops. AreOpsAllowed ops.items) }
+{
     let write = Op::Write(OBJECT, 0, Bytes::from_slice(alloc, b"aaaa")?);
-    let ops = vec![in alloc; Op::Create(OBJECT), write]?;
-    groups.reserve(0, &ops)?;
-    groups.apply(0, &ops);
-    Ok(())
+    Ok(vec![in alloc; Op::Create(OBJECT), write]?)
 }
 
-// The group after it writes over its bytes and after them.
-fn change_second(alloc: Global, groups: &mut UnsyncedExtents) -> Result<(), PoolError> {
+// Writes over its bytes and after them.
+fn writes_bbbb(alloc: Global) -> Result<Vec<Op>, PoolError>
+    ensures { IfOk result (λ ops. AreOpsAllowed ops.items) }
+{
     let write = Op::Write(OBJECT, 2, Bytes::from_slice(alloc, b"bbbb")?);
-    let ops = vec![in alloc; write]?;
-    groups.reserve(1, &ops)?;
-    groups.apply(1, &ops);
+    Ok(vec![in alloc; write]?)
+}
+
+// Adds operations to the group of a place, from the oldest one on.
+fn change(groups: &mut UnsyncedExtents, place: usize, ops: &[Op]) -> Result<(), PoolError>
+    requires place { place < 3 }
+    requires allowed { AreOpsAllowed ops.now }
+{
+    groups.reserve(place, ops)?;
+    groups.apply(place, ops);
     Ok(())
 }
 
-// The newest one cuts the object.
-fn change_third(alloc: Global, groups: &mut UnsyncedExtents) -> Result<(), PoolError> {
-    let ops = vec![in alloc; Op::SetLength(OBJECT, 5)]?;
-    groups.reserve(2, &ops)?;
-    groups.apply(2, &ops);
-    Ok(())
-}
-
-// Three groups, of which the one between the others is the last to change the object.
-fn three_groups(alloc: Global) -> Result<UnsyncedExtents, PoolError> {
-    let mut groups = UnsyncedExtents::new(alloc);
-    change_first(alloc, &mut groups)?;
-    change_third(alloc, &mut groups)?;
-    change_second(alloc, &mut groups)?;
-    Ok(groups)
+// The oldest group makes the object, and the newest one cuts it. The group between them is the last to change it.
+fn change_three(alloc: Global, groups: &mut UnsyncedExtents) -> Result<(), PoolError> {
+    change(groups, 0, &makes_aaaa(alloc)?)?;
+    change(groups, 2, &vec![in alloc; Op::SetLength(OBJECT, 5)]?)?;
+    change(groups, 1, &writes_bbbb(alloc)?)
 }
 
 // The oldest group is synced.
@@ -320,24 +383,28 @@ fn sync_oldest(groups: &mut UnsyncedExtents, contents: &mut Contents) -> Result<
     Ok(())
 }
 
-// Whether the front is that of three groups before the oldest is synced and after that, and the object's length then.
+// Three groups change the object: whether the front is theirs before the oldest is synced and after that, and the
+// object's length then.
 fn fronts_about_a_sync(
     alloc: Global,
     groups: &mut UnsyncedExtents,
     contents: &mut Contents,
 ) -> Result<([bool; 2], Option<usize>), PoolError> {
+    change_three(alloc, groups)?;
     let before = front_has(alloc, groups, contents, b"aabbb")?;
     sync_oldest(groups, contents)?;
     let after = front_has(alloc, groups, contents, b"aabbb")?;
-    Ok((
-        [before, after],
-        contents.object(OBJECT).map(|bytes| bytes.len()),
-    ))
+    let length = match contents.object(OBJECT) {
+        Some(bytes) => Some(bytes.len()),
+        None => None,
+    };
+    Ok(([before, after], length))
 }
 
 // They, over empty contents.
 fn three_groups_laid(alloc: Global) -> Result<([bool; 2], Option<usize>), PoolError> {
-    fronts_about_a_sync(alloc, &mut three_groups(alloc)?, &mut contents(alloc)?)
+    let mut contents = contents(alloc)?;
+    fronts_about_a_sync(alloc, &mut UnsyncedExtents::new(alloc), &mut contents)
 }
 
 #[test]
