@@ -182,13 +182,14 @@ fn count_equal<W: Wait>(
     handle: &mut Handle<'_, MemDevice>,
     replayed: &[Vec<u8>],
 ) -> Result<usize, PoolError> {
-    for index in 0..replayed.len() {
-        let read = read_all(rt, handle, ObjectId(index as u32))?;
-        if read.as_slice() != replayed[index].as_slice() {
-            return Ok(index);
+    for number in 0..OBJECTS {
+        let read = read_all(rt, handle, ObjectId(u32::from(number)))?;
+        match replayed.get(usize::from(number)) {
+            Some(bytes) if bytes.as_slice() == read.as_slice() => {}
+            _ => return Ok(usize::from(number)),
         }
     }
-    Ok(replayed.len())
+    Ok(usize::from(OBJECTS))
 }
 
 // The pool that is there after a crash that loses all unflushed writes. No thread has the pool.
