@@ -25,7 +25,7 @@ enum Row<'a> {
     // an owner lets a lock go
     Unlock(Owner, u64, Result<(), PoolError>),
     // whether an owner is covered in a range of the object, for reading and for writing
-    Covers(Owner, [u64; 2], [bool; 2]),
+    Covers(Owner, [u64; 2], bool, bool),
     // the pieces of the object
     Pieces(&'a [HeldPiece]),
     // how many pieces an object has
@@ -107,7 +107,7 @@ fn holds(locks: &mut RangeLocks, row: Row<'_>) -> bool {
         Row::Append(object, length, told) => append(locks, object, length) == told,
         Row::LockAll(told) => lock_all(locks) == told,
         Row::Unlock(owner, name, told) => locks.unlock(owner, LockId(name)) == told,
-        Row::Covers(owner, ends, [reads, writes]) => {
+        Row::Covers(owner, ends, reads, writes) => {
             locks.covers(owner, &range(ends)) == reads
                 && locks.covers_for_writing(owner, &range(ends)) == writes
         }
@@ -204,9 +204,9 @@ fn a_lock_covers_for_its_owner(rt: HostRuntime) {
     let rows = [
         Row::Lock(OWNER, [0, 10], Mode::Writer, Ok(0)),
         reads(10, 12, 1),
-        Row::Covers(OWNER, [2, 10], [true, true]),
-        Row::Covers(OWNER, [10, 12], [true, false]),
-        Row::Covers(OTHER_OWNER, [10, 12], [false, false]),
+        Row::Covers(OWNER, [2, 10], true, true),
+        Row::Covers(OWNER, [10, 12], true, false),
+        Row::Covers(OTHER_OWNER, [10, 12], false, false),
     ];
     assert_eq!(rt; count_on_new(rt.alloc(), &rows), 5);
 }
