@@ -24,8 +24,9 @@ pub enum PoolError {
     /// The device refused a flush.
     #[error("the device refused a flush")]
     Flush,
-    /// A write or a flush of a sync was refused before. The pool takes no step any more; a new import does.
-    #[error("the pool is suspended: a write or a flush of a sync was refused before")]
+    /// A write or a flush of a sync or of the log was refused before. The pool takes no step any more; a new import
+    /// does.
+    #[error("the pool is suspended: a write or a flush was refused before")]
     Suspended,
     /// No label has a valid uberblock, or no label has a config for the active one.
     #[error("the device holds no pool: no label has a valid uberblock with a config")]

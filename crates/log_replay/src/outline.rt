@@ -36,7 +36,7 @@ impl Outline {
     ///
     /// # Errors
     /// `Damaged` with kind 6 and the address of its block for the first record that can't take place. The name and the
-    /// lengths are then those that the operations before it left.
+    /// lengths mean nothing then.
     pub fn replay(&mut self, group: Group, blocks: &[LoggedBlock]) -> Result<u64, PoolError>
         requires { IsChainAllowed blocks.now }
         ensures { ReplaysOutline (records_above group.0 blocks.now) self.old result self.new }
