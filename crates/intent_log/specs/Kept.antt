@@ -1,5 +1,6 @@
 -- The kept blocks of the log of a run, as contracts see them.
-use Rattle.std.specs.Prelude.{ℕ, ◌≡◌, ◌≤◌, ◌<◌, ◌+◌, ◌-◌, ◌^◌, ◌++◌, ◌∷◌, [], Bool, true, false, List, length, map, take, drop, slice_get, Some}
+use Rattle.std.specs.Prelude.{ℕ, ◌≡◌, ◌≤◌, ◌<◌, ◌+◌, ◌-◌, ◌^◌, ◌++◌, ◌∷◌, [], All, Bool, true, false, List, length, map, take, drop, slice_get, Some}
+use Rattle.std.specs.List.Sorted.{IsNonDecreasingBy}
 use Rattle.std.specs.VecDeque.{deque_len, deque_capacity}
 use Rattle.base.specs.declared.names.Receipt.{Receipt}
 use Rattle.base.specs.formats.Chain.{Header}
@@ -57,8 +58,21 @@ abbrev pub LeadUpTo : ℕ → List code.KeptBlock → Type 0
 LeadUpTo number [] = Unit {0}
 LeadUpTo number (b ∷ bs) = (b.header.number + (length bs + 1) ≡ number) × LeadUpTo number bs
 
+-- how high the ordinals go in each block and in those before it
+abbrev pub AreRising : List code.KeptBlock → Type 0
+AreRising blocks = IsNonDecreasingBy (λ (b : code.KeptBlock). b.last.0) blocks
+
+-- no ordinal of these blocks is above this one
+abbrev pub ReachUpTo : ℕ → List code.KeptBlock → Type 0
+ReachUpTo top blocks = All (λ (b : code.KeptBlock). b.last.0 ≤ top) blocks
+
+-- each ordinal of these blocks is below this one
+abbrev pub ReachBelow : ℕ → List code.KeptBlock → Type 0
+ReachBelow ordinal blocks = All (λ (b : code.KeptBlock). b.last.0 < ordinal) blocks
+
 -- no more are flushed than there are, and their numbers lead up to the next one
 pub record IsLogSound (a : Inside) : Type 0 where
   pub within : a.flushed ≤ deque_len a.blocks
   pub fits : a.next.number ≤ 2 ^ 60
   pub numbered : LeadUpTo a.next.number a.blocks.items
+  pub rising : AreRising a.blocks.items

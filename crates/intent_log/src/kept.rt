@@ -4,16 +4,18 @@
 //! 2. Kept blocks are numbered one after another, up to the number of the next one. So the blocks before a header are
 //!    the front of them.
 //! 3. A flush makes all of them certain at once. So it is enough to know how many are, counted from the front.
+//! 4. Each block knows how high the ordinals go in it and in the blocks before it. So a search by halves finds the first
+//!    block that may have a receipt. As commits are written in order, that is the only one.
 
-ghost use Rattle.std.specs.Prelude.{◌≡◌, ◌≤◌, ◌<◌, ◌+◌, ◌++◌, ◌∷◌, [], IfErr, IfNone, IfSome, IsOk, OnOk, nat_le};
+ghost use Rattle.std.specs.Prelude.{◌≡◌, ◌≤◌, ◌<◌, ◌+◌, ◌++◌, ◌∷◌, [], IfErr, IfNone, IfSome, IsOk, OnOk, nat_le, take};
 ghost use Rattle.base.specs.formats.Limits.{last_number};
 ghost use Rattle.base.specs.steps.Logs as logs;
 ghost use Rattle.base.specs.steps.Logs.{blocks_before, is_flushed_in, log_after_flush};
 ghost use Rattle.intent_log.specs.Receipts.{committed};
-ghost use Rattle.intent_log.specs.Kept.{AreNumberedTo, HasRoom, IsFrontGiven, block_noted, header_fields, log_shown};
+ghost use Rattle.intent_log.specs.Kept.{AreNumberedTo, AreRising, HasRoom, IsFrontGiven, ReachBelow, ReachUpTo, block_noted, header_fields, log_shown};
 
 use crate::kept_block::{KeptBlock, LogHeader};
-use base::{Group, LAST_NUMBER, PoolError, Receipt};
+use base::{Group, LAST_NUMBER, Ordinal, PoolError, Receipt};
 use std::alloc::Global;
 use std::collections::VecDeque;
 use std::marker::Model;
@@ -100,7 +102,7 @@ impl Log {
         ensures next { self.new.next
             ≡ record { address = address; number = self.old.next.number + 1 } }
     {
-        let block = KeptBlock::new(self.next, receipts);
+        let block = KeptBlock::new(self.next, receipts, reach(&self.blocks));
         let Ok(()) = self.blocks.push_back(block) else {
             unreachable!();
         };
@@ -147,14 +149,32 @@ impl Log {
         Some(block.header.address)
     }
 
-    /// Whether the record of a receipt lies in a kept block that is certain. It looks at the ordinals of each such
-    /// block, and at the receipts of those alone whose ordinals are on both sides.
+    /// Whether the record of a receipt lies in a kept block that is certain. A search by halves finds the block, whose
+    /// receipts it reads. If that one doesn't have it, it looks at the ordinals of each later block that is certain.
     pub fn has_flushed(&self, receipt: Receipt) -> bool
         ensures { result ≡ is_flushed_in (log_shown self.now) (committed receipt) }
     {
+        let first = first_to_reach(&self.blocks, receipt.ordinal);
+        if first >= self.flushed {
+            return false;
+        }
         self.blocks
-            .iter()
-            .take(self.flushed)
+            .range(first..self.flushed)
             .any(|block| block.has(receipt))
     }
+}
+
+// The highest ordinal that blocks reach, 0 if there is none.
+fn reach(blocks: &VecDeque<KeptBlock>) -> Ordinal
+    ensures { AreRising blocks.now.items → ReachUpTo result.0 blocks.now.items }
+{
+    blocks.back().map_or(Ordinal(0), |block| block.last)
+}
+
+// The place of the first block that reaches an ordinal, or how many there are.
+fn first_to_reach(blocks: &VecDeque<KeptBlock>, ordinal: Ordinal) -> usize
+    requires { AreRising blocks.now.items }
+    ensures { ReachBelow ordinal.0 (take result blocks.now.items) }
+{
+    blocks.partition_point(|block| block.last.0 < ordinal.0)
 }

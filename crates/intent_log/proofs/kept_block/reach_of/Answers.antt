@@ -1,3 +1,4 @@
+use Rattle.std.proofs.Common.{arith}
 use Rattle.base.specs.declared.names.Receipt.{Receipt}
 use Rattle.intent_log.proofs.Receipts.{between_more, highest_more}
 use Rattle.intent_log.proofs.kept_block.reach_of.Goals as goal
@@ -13,4 +14,5 @@ loop-receipt-preserved c =
       between =
           between_more before.receipt-index before.first before.last c.min-first.result c.max-last.result receipts none c.loop-receipt-test.true c.min-first.ensures
           c.max-last.ensures before.invariant.between;
+      rises = omega (arith, c.max-last.ensures, before.invariant.rises);
     }

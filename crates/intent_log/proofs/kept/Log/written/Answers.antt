@@ -1,8 +1,9 @@
 use Rattle.std.proofs.Common.{◌≡◌, ◌+◌, ◌<◌, ap, sym, subst, arith}
 use Rattle.base.specs.formats.Limits.{last_number}
-use Rattle.intent_log.specs.Kept.{KeptLog, LeadUpTo}
+use Rattle.intent_log.specs.Kept.{AreRising, KeptLog, LeadUpTo}
 use Rattle.intent_log.specs.declared.kept_block.LogHeader.{LogHeader}
 use Rattle.intent_log.proofs.KeptBlocks.{lead_on}
+use Rattle.intent_log.proofs.Rising.{rises_on}
 use Rattle.intent_log.proofs.kept.Log.written.Goals as goal
 
 pub invariant_of-self : goal.invariant_of-self
@@ -15,4 +16,7 @@ invariant_of-self c =
       within = omega (arith, old.within, c.in-Ok.ensures.len);
       fits = omega (arith, less);
       numbered = subst (LeadUpTo (n + 1)) (sym c.in-Ok.ensures.items) (lead_on n c.self.inside.blocks.items c.new-block.result old.numbered block);
+      rising =
+          subst AreRising (sym c.in-Ok.ensures.items)
+          (rises_on c.reach.result.0 c.self.inside.blocks.items c.new-block.result old.rising (c.reach.ensures old.rising) c.new-block.ensures.rises);
     }
