@@ -149,17 +149,24 @@ impl Log {
         Some(block.header.address)
     }
 
-    /// Whether the record of a receipt lies in a kept block that is certain. A search by halves finds the block, whose
-    /// receipts it reads. If that one doesn't have it, it looks at the ordinals of each later block that is certain.
+    /// Whether the record of a receipt lies in a kept block that is certain. It costs a constant for a commit of the
+    /// newest such block, and for one after it. A search by halves finds the block of an older one.
     pub fn has_flushed(&self, receipt: Receipt) -> bool
         ensures { result ≡ is_flushed_in (log_shown self.now) (committed receipt) }
     {
-        let first = first_to_reach(&self.blocks, receipt.ordinal);
-        if first >= self.flushed {
+        let Some(last) = self.flushed.checked_sub(1) else {
+            return false;
+        };
+        let newest = &self.blocks[last];
+        if newest.last.0 < receipt.ordinal.0 {
             return false;
         }
+        if newest.has(receipt) {
+            return true;
+        }
+        let first = first_to_reach(&self.blocks, receipt.ordinal);
         self.blocks
-            .range(first..self.flushed)
+            .range(first..last)
             .any(|block| block.has(receipt))
     }
 }
