@@ -4,8 +4,8 @@
 //! 2. Kept blocks are numbered one after another, up to the number of the next one. So the blocks before a header are
 //!    the front of them.
 //! 3. A flush makes all of them certain at once. So it is enough to know how many are, counted from the front.
-//! 4. Each block knows how high the ordinals go in it and in the blocks before it. So a search by halves finds the first
-//!    block that may have a receipt. As commits are written in order, that is the only one.
+//! 4. Each block knows how high the ordinals go in it and in the blocks before it. So a search by halves finds the
+//!    first block that may have a receipt. As commits are written in order, that is the only one.
 
 ghost use Rattle.std.specs.Prelude.{◌≡◌, ◌≤◌, ◌<◌, ◌+◌, ◌++◌, ◌∷◌, [], IfErr, IfNone, IfSome, IsOk, OnOk, nat_le, take};
 ghost use Rattle.base.specs.formats.Limits.{last_number};
