@@ -67,6 +67,36 @@ fn the_last_name_is_given(
     extents.add(&[Op::SetName(first), Op::SetName(second)])
 }
 
+// A new group gives no name.
+fn a_new_group_gives_no_name(alloc: Global) {
+    let extents = Extents::new(alloc);
+    prove!(extents.name().is_none());
+}
+
+// A group that gives a name returns that name.
+fn the_name_of_a_group_is_returned(extents: &Extents) -> Option<PoolName>
+    requires { name_of extents.now ≡ Some (97 ∷ []) }
+    ensures { result ≡ Some (97 ∷ []) }
+{
+    Some(extents.name()?.copy())
+}
+
+// A group that gives a name decides, whatever the name below.
+fn the_name_of_a_group_is_laid_over_the_one_below(extents: &Extents, below: &PoolName) -> PoolName
+    requires { name_of extents.now ≡ Some (97 ∷ []) }
+    ensures { result ≡ 97 ∷ [] }
+{
+    extents.name_over(below).copy()
+}
+
+// If the group gives no name, the one below stays.
+fn the_name_below_stays(extents: &Extents, below: &PoolName) -> PoolName
+    requires { name_of extents.now ≡ None }
+    ensures { result ≡ below.now }
+{
+    extents.name_over(below).copy()
+}
+
 // The newest group that gives a name decides.
 fn the_newest_name_is_laid_over_the_others(
     unsynced: &UnsyncedExtents,
