@@ -19,7 +19,7 @@ module _ (words : Words) (asked : PoolCommand) where
   ending reads = record { unlock = search rules; abort = search rules; telling = telling reads.telling }
 
   step : ReadsStep (λ s. pool.Step s) words (Ok asked) → ReadsStep (λ s. Pool (pool.Step s)) words (Ok (Pool asked))
-  step reads = record { lock = search rules; begin = search rules; read = search rules; close = search rules; quiesce = search rules; sync_step = search rules; ending = ending reads.ending }
+  step reads = record { lock = search rules; begin = search rules; begin_refused = search rules; read = search rules; close = search rules; quiesce = search rules; sync_step = search rules; ending = ending reads.ending }
 
   -- a line that is read as this asks its pool for it
   pub asks_its_pool : ReadsPool (λ a. a) words (Ok asked) → ReadsPool Pool words (Ok (Pool asked))

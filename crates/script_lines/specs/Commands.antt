@@ -1,5 +1,5 @@
 -- What a line's words ask for.
-use Rattle.std.specs.Prelude.{◌≡◌, ◌<◌, ◌^◌, ◌⊎◌, ℕ, List, [], Some, Result, All, Ok, Err, IfOk, IsOk, IsOkAnd, IsOkUnless, IsSome, codes, drop, length, map, unwrap_or, vec_len}
+use Rattle.std.specs.Prelude.{◌≡◌, ◌<◌, ◌^◌, ◌⊎◌, ℕ, List, [], Some, Result, All, Ok, Err, IfErr, IfOk, IsOk, IsOkAnd, IsOkUnless, IsSome, codes, drop, length, map, unwrap_or, vec_len}
 use Rattle.std.specs.Result.{OkIff}
 use Rattle.std.specs.Borrow.{Bor}
 use Rattle.base.specs.declared.range.Mode.TheVariants.{Reader}
@@ -15,7 +15,7 @@ use Rattle.script_lines.specs.declared.command.PoolCommand.TheVariants as pool
 use Rattle.script_lines.specs.Copies.{AreContentsOf}
 use Rattle.script_lines.specs.Letters.{call_name, mode_of, piece_of}
 use Rattle.script_lines.specs.Numbers.{IsNumberBelow, spelled_number}
-use Rattle.script_lines.specs.Shapes.{AreShapesOf}
+use Rattle.script_lines.specs.Shapes.{AreShapesOf, IsShapesRefusal}
 use Rattle.script_lines.specs.Words.{ArePartsOf, BeginsWith, HasForm, Words, word}
 
 -- a crash with one piece for each letter
@@ -145,6 +145,7 @@ pub record ReadsEnding {A : Type 0} (of : Step → A) (words : Words) (r : Resul
 pub record ReadsStep {A : Type 0} (of : Step → A) (words : Words) (r : Result A LineError) : Type 0 where
   pub lock : ReadsLock of words r
   pub begin : ReadsBegin of words r
+  pub begin_refused : BeginsWith words (codes "begin") 2 → IsNumberBelow (2 ^ 32) (word words 1) → IfErr r (IsShapesRefusal (drop 2 words))
   pub read : ReadsRead of words r
   pub close : HasForm words (codes "close") 1 → r ≡ Ok (of step.CloseGroup)
   pub quiesce : HasForm words (codes "quiesce") 1 → r ≡ Ok (of step.MarkQuiesced)

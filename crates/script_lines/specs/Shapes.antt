@@ -1,5 +1,5 @@
 -- The shapes that the words of a begin stand for.
-use Rattle.std.specs.Prelude.{ℕ, ◌^◌, ◌⊎◌, List, Result, Ok, codes}
+use Rattle.std.specs.Prelude.{ℕ, ◌≡◌, ◌<◌, ◌^◌, ◌⊎◌, IsOk, List, Result, Ok, Err, codes, length}
 use Rattle.std.specs.List.{AllZip}
 use Rattle.std.specs.Result.{OkIff}
 use Rattle.base.specs.declared.operation.Shape.{Shape}
@@ -7,6 +7,7 @@ use Rattle.base.specs.declared.operation.Shape.TheVariants.{Create, Remove, Writ
 use Rattle.script_lines.specs.Numbers.{IsNumberBelow, spelled_number}
 use Rattle.script_lines.specs.Words.{ArePartsOf, HasForm, Words, word}
 use Rattle.script_lines.specs.declared.command.LineError.{LineError}
+use Rattle.script_lines.specs.declared.command.LineError.TheVariants.{NoMemory}
 
 -- the words that are a shape: `c:OBJECT`, `d:OBJECT`, `w:OBJECT:OFFSET:LENGTH`, `l:OBJECT:LENGTH` and `n:LENGTH`
 abbrev pub IsShapeForm : Words → Type 0
@@ -35,3 +36,11 @@ pub record IsShapeOf (text : List ℕ) (shape : Shape) : Type 0 where
 -- the shape of each word, in order
 abbrev pub AreShapesOf : Words → List Shape → Type 0
 AreShapesOf words shapes = AllZip (λ w shape. IsShapeOf w.now shape) words shapes
+
+-- a word is read by its parts between colons, or there is no memory for them
+abbrev pub ReadsShapeWord : List ℕ → Result Shape LineError → Type 0
+ReadsShapeWord text r = (r ≡ Err NoMemory) ⊎ ((parts : Words) × ArePartsOf 58 text parts × ReadsShape parts r × (IsOk r → IsShapeForm parts))
+
+-- words are refused as shapes for want of memory, or as one of them is
+abbrev pub IsShapesRefusal : Words → LineError → Type 0
+IsShapesRefusal words e = (e ≡ NoMemory) ⊎ ((i : ℕ) × (i < length words) × ReadsShapeWord (word words i) (Err e))

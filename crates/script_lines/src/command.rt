@@ -9,7 +9,7 @@ ghost use Rattle.script_lines.specs.Commands.{IsBeginOf, IsCommitOf, IsCrashOf, 
 ghost use Rattle.script_lines.specs.Copies.{AreContentsOf, AreCopies, IsContentOf, max_copies};
 ghost use Rattle.script_lines.specs.Letters.{call_name, mode_of, piece_of};
 ghost use Rattle.device_model.specs.declared.fault.Fault.{Fault};
-ghost use Rattle.script_lines.specs.Shapes.{AreShapesOf, IsShapeForm, IsShapeOf, ReadsShape};
+ghost use Rattle.script_lines.specs.Shapes.{AreShapesOf, IsShapeForm, IsShapeOf, IsShapesRefusal, ReadsShape, ReadsShapeWord};
 ghost use Rattle.script_lines.specs.Words.{ArePartsOf};
 
 use crate::number::{parse_u32, parse_u64};
@@ -282,7 +282,9 @@ fn parse_create(alloc: Global, name: &str, guid: &str) -> Result<Command, LineEr
 }
 
 fn parse_begin(alloc: Global, owner: &str, words: &[&str]) -> Result<Step, LineError>
-    ensures { IfOk result (IsBeginOf owner.now words.now) }
+    ensures begin { IfOk result (IsBeginOf owner.now words.now) }
+    ensures refused { IsNumberBelow (2 ^ 32) owner.now
+        → IfErr result (IsShapesRefusal words.now) }
 {
     let owner = parse_owner(owner)?;
     Ok(Step::Begin(owner, Plan::new(parse_shapes(alloc, words)?)))
@@ -291,6 +293,7 @@ fn parse_begin(alloc: Global, owner: &str, words: &[&str]) -> Result<Step, LineE
 fn parse_shapes(alloc: Global, words: &[&str]) -> Result<Vec<Shape>, LineError>
     ensures count { IfOk result (λ shapes. vec_len shapes ≡ length words.now) }
     ensures each { IfOk result (λ shapes. AreShapesOf words.now shapes.items) }
+    ensures refused { IfErr result (IsShapesRefusal words.now) }
 {
     let mut shapes = Vec::new(alloc);
     for word in words {
@@ -300,7 +303,8 @@ fn parse_shapes(alloc: Global, words: &[&str]) -> Result<Vec<Shape>, LineError>
 }
 
 fn parse_shape(alloc: Global, word: &str) -> Result<Shape, LineError>
-    ensures { IfOk result (IsShapeOf word.now) }
+    ensures shape { IfOk result (IsShapeOf word.now) }
+    ensures read { ReadsShapeWord word.now result }
 {
     let parts = split_parts(alloc, word)?;
     parse_parts(parts.as_slice())

@@ -14,5 +14,5 @@ loop-word-preserved c = (
   omega (arith, c.in_ok-push.ensures.len, c.loop-word.invariant.0),
   rw c.in_ok-push.ensures.items
       (zip_more (λ w shape. IsShapeOf w.now shape) c.args.words.now c.loop-word.shapes.items c.loop-word.word-index _ c.in_ok-parse_shape.field-0 c.loop-word-test.true
-      c.loop-word.invariant.1 c.in_ok-parse_shape.ensures),
+      c.loop-word.invariant.1 c.in_ok-parse_shape.ensures.shape),
 )
