@@ -1,4 +1,5 @@
 mod Copies
+mod GoodLines
 mod PoolLines
 pub mod Readings
 mod Zips

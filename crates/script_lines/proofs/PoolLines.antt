@@ -23,4 +23,4 @@ module _ (words : Words) (asked : PoolCommand) where
 
   -- a line that is read as this asks its pool for it
   pub asks_its_pool : ReadsPool (λ a. a) words (Ok asked) → ReadsPool Pool words (Ok (Pool asked))
-  asks_its_pool reads = record { commit = search rules; start = search rules; finish = search rules; sync = search rules; step = step reads.step }
+  asks_its_pool reads = record { commit = search rules; commit_read = search rules; start = search rules; finish = search rules; sync = search rules; step = step reads.step }

@@ -29,8 +29,8 @@ two_contents : (x y : Bor (List ℕ)) (contents : List (List ℕ)) → x.now ≡
 two_contents x y [] one two are = absurd are
 two_contents x y (p ∷ []) one two are = absurd are.1
 two_contents x y (p ∷ q ∷ []) one two are =
-    let p_is : p ≡ codes "ab" = (subst (λ w. IsContentOf w p) one are.0).1 (search rules) in
-    let q_is : q ≡ codes "c" = (subst (λ w. IsContentOf w q) two are.1.0).1 (search rules) in
+    let p_is : p ≡ codes "ab" = (subst (λ w. IsContentOf w p) one are.0).2 (search rules) in
+    let q_is : q ≡ codes "c" = (subst (λ w. IsContentOf w q) two are.1.0).2 (search rules) in
     cc
 two_contents x y (p ∷ q ∷ z ∷ more) one two are = absurd are.1.1
 

@@ -12,7 +12,7 @@ use Rattle.script_lines.specs.declared.command.LineError.{LineError}
 use Rattle.script_lines.specs.declared.command.LineError.TheVariants.{NoMemory}
 use Rattle.script_lines.specs.declared.command.PoolCommand.{PoolCommand}
 use Rattle.script_lines.specs.declared.command.PoolCommand.TheVariants as pool
-use Rattle.script_lines.specs.Copies.{AreContentsOf}
+use Rattle.script_lines.specs.Copies.{AreContents, AreContentsOf}
 use Rattle.script_lines.specs.Letters.{call_name, mode_of, piece_of}
 use Rattle.script_lines.specs.Numbers.{IsNumberBelow, spelled_number}
 use Rattle.script_lines.specs.Shapes.{AreShapesOf, IsShapesRefusal}
@@ -152,9 +152,10 @@ pub record ReadsStep {A : Type 0} (of : Step → A) (words : Words) (r : Result 
   pub sync_step : HasForm words (codes "step") 1 → r ≡ Ok (of step.SyncStep)
   pub ending : ReadsEnding of words r
 
--- what the words of a commit and a sync are read as
+-- What the words of a commit and a sync are read as. A commit whose words are good is read except for want of memory.
 pub record ReadsPool {A : Type 0} (of : PoolCommand → A) (words : Words) (r : Result A LineError) : Type 0 where
   pub commit : BeginsWith words (codes "commit") 2 → IfOk r (λ a. (asked : PoolCommand) × (a ≡ of asked) × IsCommitOf (word words 1) (drop 2 words) asked)
+  pub commit_read : BeginsWith words (codes "commit") 2 → IsNumberBelow (2 ^ 64) (word words 1) → AreContents (drop 2 words) → IsOkUnless r NoMemory
   pub start : HasForm words (codes "start") 1 → r ≡ Ok (of pool.Start)
   pub finish : HasForm words (codes "finish") 1 → r ≡ Ok (of pool.Finish)
   pub sync : HasForm words (codes "sync") 1 → r ≡ Ok (of pool.Sync)

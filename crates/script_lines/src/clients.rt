@@ -22,6 +22,20 @@ fn a_close_is_read_as_a_close(alloc: Global) -> Result<Command, LineError>
     parse_command(alloc, "close")
 }
 
+// A begin that sets a name is refused only for want of memory.
+fn a_begin_may_set_a_name(alloc: Global) -> Result<Command, LineError>
+    ensures { IfErr result (λ e. e ≡ LineError.NoMemory) }
+{
+    parse_command(alloc, "begin 1 n:4")
+}
+
+// A commit of two contents is refused only for want of memory.
+fn a_commit_may_have_two_contents(alloc: Global) -> Result<Command, LineError>
+    ensures { IfErr result (λ e. e ≡ LineError.NoMemory) }
+{
+    parse_command(alloc, "commit 1 ab c")
+}
+
 // A commit has the bytes of each of its words, in order.
 fn each_word_of_a_commit_has_its_bytes(alloc: Global) -> Option<Vec<Bytes>>
     ensures { IfSome result (λ contents. contents.items ≡ codes "ab" ∷ codes "c" ∷ []) }

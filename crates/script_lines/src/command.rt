@@ -2,11 +2,11 @@
 //!
 //! A line is cut into words by single spaces. A word has at least one byte.
 
-ghost use Rattle.std.specs.Prelude.{◌≡◌, ◌↔◌, ◌^◌, ◌+◌, ◌<◌, ◌≤◌, IsOk, IfOk, IfErr, map, Some, vec_len, length, replicate, slice_index, ◌≢◌, All, IsSome};
+ghost use Rattle.std.specs.Prelude.{ℕ, List, ◌≡◌, ◌↔◌, ◌^◌, ◌+◌, ◌<◌, ◌≤◌, IsOk, IfOk, IfErr, map, Some, vec_len, length, replicate, slice_index, ◌≢◌, All, IsSome};
 ghost use Rattle.std.specs.Result.{OkIff, result_ok};
 ghost use Rattle.script_lines.specs.Numbers.{IsNumberBelow, spelled_number};
 ghost use Rattle.script_lines.specs.Commands.{IsBeginOf, IsCommitOf, IsCrashOf, IsDeviceForm, IsEndingForm, IsFailOf, IsLineForm, IsLoggingForm, IsPoolForm, IsStepForm, IsTellingForm, ReadsDeviceLine, ReadsEnding, ReadsLine, ReadsLogging, ReadsPool, ReadsStep, ReadsTelling, ReadsWords};
-ghost use Rattle.script_lines.specs.Copies.{AreContentsOf, AreCopies, IsContentOf, max_copies};
+ghost use Rattle.script_lines.specs.Copies.{AreContents, AreContentsOf, AreCopies, IsContent, IsContentOf, is_printable, max_copies};
 ghost use Rattle.script_lines.specs.Letters.{call_name, mode_of, piece_of};
 ghost use Rattle.device_model.specs.declared.fault.Fault.{Fault};
 ghost use Rattle.script_lines.specs.Shapes.{AreShapesOf, IsShapeForm, IsShapeOf, IsShapesRefusal, ReadsShape, ReadsShapeWord};
@@ -335,7 +335,9 @@ fn parse_parts(parts: &[&str]) -> Result<Shape, LineError>
 }
 
 fn parse_commit(alloc: Global, tx: &str, words: &[&str]) -> Result<PoolCommand, LineError>
-    ensures { IfOk result (IsCommitOf tx.now words.now) }
+    ensures commit { IfOk result (IsCommitOf tx.now words.now) }
+    ensures refused { IsNumberBelow (2 ^ 64) tx.now → AreContents words.now
+        → IfErr result (λ e. e ≡ LineError.NoMemory) }
 {
     let tx = TxId(wide(tx)?);
     Ok(PoolCommand::Commit(tx, parse_contents(alloc, words)?))
@@ -344,6 +346,7 @@ fn parse_commit(alloc: Global, tx: &str, words: &[&str]) -> Result<PoolCommand, 
 fn parse_contents(alloc: Global, words: &[&str]) -> Result<Vec<Bytes>, LineError>
     ensures count { IfOk result (λ contents. vec_len contents ≡ length words.now) }
     ensures each { IfOk result (λ contents. AreContentsOf words.now contents.items) }
+    ensures refused { AreContents words.now → IfErr result (λ e. e ≡ LineError.NoMemory) }
 {
     let mut contents = Vec::new(alloc);
     for word in words {
@@ -357,8 +360,9 @@ fn parse_content(alloc: Global, word: &str) -> Result<Bytes, LineError>
     ensures some { IfOk result (λ bytes. 0 < length bytes) }
     ensures plain { slice_index word.now 0 ≢ 64 → IfOk result (λ bytes. bytes ≡ word.now) }
     ensures content { IfOk result (λ bytes. IsContentOf word.now bytes) }
+    ensures refused { IsContent word.now → IfErr result (λ e. e ≡ LineError.NoMemory) }
 {
-    if word.is_empty() || !word.bytes().all(|byte| byte.is_ascii_graphic()) {
+    if !is_printable(word) {
         return Err(LineError::BadCommand);
     }
     match word.strip_prefix('@') {
@@ -367,9 +371,18 @@ fn parse_content(alloc: Global, word: &str) -> Result<Bytes, LineError>
     }
 }
 
+// Printable ASCII without space, and at least one byte.
+fn is_printable(word: &str) -> bool
+    ensures { result ≡ is_printable word.now }
+{
+    !word.is_empty() && word.bytes().all(|byte| byte.is_ascii_graphic())
+}
+
 fn parse_copies(alloc: Global, copies: &str) -> Result<Bytes, LineError>
     ensures limits { IfOk result (λ bytes. (0 < length bytes) × (length bytes ≤ max_copies)) }
     ensures copies { IfOk result (λ bytes. AreCopies copies.now bytes) }
+    ensures refused { (bytes : List ℕ) → AreCopies copies.now bytes
+        → IfErr result (λ e. e ≡ LineError.NoMemory) }
 {
     let Some((count, character)) = copies.split_once(':') else {
         return Err(LineError::BadCommand);
