@@ -1,4 +1,4 @@
--- What a check of a pool finds, when it is refused, and what it leaves.
+-- What a check of a pool finds and when it is refused, and what a command that only reads leaves of a device.
 use Rattle.std.specs.Prelude.{ℕ, ◌≡◌, ◌⊎◌, IsTrue, List, Result, Ok, Err}
 use Rattle.base.specs.declared.error.PoolError.{PoolError}
 use Rattle.base.specs.declared.error.PoolError.TheVariants as refusal

@@ -91,8 +91,26 @@ fn a_pool_that_is_not_opened_shows_status_3<D: SectorDevice + Drop, W: Write, E:
 ) -> u8
     ensures { result ≡ 3 }
 {
-    let opened: Result<D, FileRefusal> = Err(FileRefusal::InUse);
-    run_show(alloc, "tank.pool", opened, out, errors)
+    let mut opened: Result<D, FileRefusal> = Err(FileRefusal::InUse);
+    run_show(alloc, "tank.pool", &mut opened, out, errors)
+}
+
+// Whatever a show finds, it leaves the disk as it was, and the device refused no write and no flush.
+fn a_show_writes_nothing<D: SectorDevice, W: Write, E: Write>(
+    alloc: Global,
+    device: D,
+    out: &mut W,
+    errors: &mut E,
+) -> Result<D, FileRefusal>
+    ensures there { IsOk result }
+    ensures disk { IsTrue D.keeps_model → IfOk result (λ after. D.disk after ≡ D.disk device) }
+    ensures writes { IfOk result (λ after. (D.refused after).writes ≡ (D.refused device).writes) }
+    ensures flushes { IfOk result
+        (λ after. (D.refused after).flushes ≡ (D.refused device).flushes) }
+{
+    let mut opened = Ok(device);
+    run_show(alloc, "tank.pool", &mut opened, out, errors);
+    opened
 }
 
 fn a_script_that_is_not_opened_has_status_3<

@@ -7,6 +7,7 @@ ghost use Rattle.std.specs.Prelude.{◌≡◌, ◌≢◌, ◌≤◌, false, Err,
 ghost use Rattle.base.specs.formats.Geometry.{IsGeometry, is_geometry};
 ghost use Rattle.base.specs.formats.Names.{is_name};
 ghost use Rattle.import_replay.specs.CreateRefusals.{CanCreate};
+ghost use Rattle.commands.specs.Checks.{StaysOpened};
 ghost use Rattle.commands.specs.Failures.{IsNewPoolRefusal, sector_bytes};
 
 use crate::arguments::CreateArguments;
@@ -139,18 +140,19 @@ impl<'a> NewPool<'a> {
 }
 
 /// Writes to `out` what an import of the pool in a file would mount, and returns the exit status. It only reads the
-/// file.
+/// file: it makes no write and no flush, whatever it returns.
 ///
 /// The status is 0 if it was written, 1 if the engine refused it, and 3 if the file was not opened as a device or
 /// `out` can't be written. A failure is reported on `errors`.
-pub fn run_show<D: SectorDevice + Drop, W: Write, E: Write>(
+pub fn run_show<D: SectorDevice, W: Write, E: Write>(
     alloc: Global,
     file: &str,
-    opened: Result<D, FileRefusal>,
+    opened: &mut Result<D, FileRefusal>,
     out: &mut W,
     errors: &mut E,
 ) -> u8
-    ensures unusable { IsErr opened → result ≡ 3 }
+    ensures only_read { StaysOpened D.SectorDevice opened.old opened.new }
+    ensures unusable { IsErr opened.old → result ≡ 3 }
     ensures range { result ≤ 3 }
     ensures no_usage { result ≢ 2 }
 {
@@ -160,17 +162,18 @@ pub fn run_show<D: SectorDevice + Drop, W: Write, E: Write>(
     }
 }
 
-fn show_pool<D: SectorDevice + Drop, W: Write>(
+fn show_pool<D: SectorDevice, W: Write>(
     alloc: Global,
-    opened: Result<D, FileRefusal>,
+    opened: &mut Result<D, FileRefusal>,
     out: &mut W,
 ) -> Result<(), Failure>
-    ensures unusable { IsErr opened → result ≡ Err Failure.Unusable }
+    ensures only_read { StaysOpened D.SectorDevice opened.old opened.new }
+    ensures unusable { IsErr opened.old → result ≡ Err Failure.Unusable }
 {
-    let Ok(mut device) = opened else {
+    let Ok(device) = opened else {
         return Err(Failure::Unusable);
     };
-    let inspected = inspect(alloc, &mut device)?;
+    let inspected = inspect(alloc, device)?;
     if write_inspected(&inspected, out).is_err() {
         return Err(Failure::Unwritten);
     }

@@ -42,7 +42,7 @@ where
         Arguments::Show(file) => run_show(
             rt.alloc(),
             file,
-            FileDevice::open_to_read(rt, file),
+            &mut FileDevice::open_to_read(rt, file),
             &mut io::writer(rt),
             errors,
         ),

@@ -52,7 +52,7 @@ fn a_pool_is_made_in_a_file(rt: HostRuntime) -> Result<(), Fail> {
     let status = run_show(
         rt.alloc(),
         "made.pool",
-        FileDevice::open_to_read(&rt, "made.pool"),
+        &mut FileDevice::open_to_read(&rt, "made.pool"),
         &mut out,
         &mut errors,
     );
@@ -122,9 +122,9 @@ fn a_file_that_a_device_holds_is_left(rt: HostRuntime) -> Result<(), Fail> {
     let Ok(writer) = FileDevice::open(&rt, "held.pool") else {
         return Err(Fail::from("the file is held"));
     };
-    let opened = FileDevice::open_to_read(&rt, "held.pool");
+    let mut opened = FileDevice::open_to_read(&rt, "held.pool");
     errors.clear();
-    let status = run_show(rt.alloc(), "held.pool", opened, &mut out, &mut errors);
+    let status = run_show(rt.alloc(), "held.pool", &mut opened, &mut out, &mut errors);
     assert_eq!(rt; status, 3);
     assert!(rt; out.is_empty() && errors.as_slice() == text.as_slice());
     drop(writer);
@@ -182,10 +182,10 @@ fn tells_of_a_file_that_shows_no_pool(rt: HostRuntime) -> Result<(), Fail> {
         (6_291_456, "ztxg: refused 6 NoPool\n"),
     ] {
         File::create(&rt, "zeros.pool")?.set_len(size)?;
-        let opened = FileDevice::open_to_read(&rt, "zeros.pool");
+        let mut opened = FileDevice::open_to_read(&rt, "zeros.pool");
         let mut out = Vec::new(rt.alloc());
         let mut errors = Vec::new(rt.alloc());
-        let status = run_show(rt.alloc(), "zeros.pool", opened, &mut out, &mut errors);
+        let status = run_show(rt.alloc(), "zeros.pool", &mut opened, &mut out, &mut errors);
         assert_eq!(rt; status, 1);
         assert!(rt; out.is_empty());
         assert!(rt; errors.as_slice() == text.as_bytes());
@@ -197,7 +197,7 @@ fn tells_of_a_file_that_shows_no_pool(rt: HostRuntime) -> Result<(), Fail> {
         let status = run_show(
             rt.alloc(),
             file,
-            FileDevice::open_to_read(&rt, file),
+            &mut FileDevice::open_to_read(&rt, file),
             &mut out,
             &mut errors,
         );
