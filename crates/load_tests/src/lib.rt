@@ -7,6 +7,8 @@ mod fixture;
 #[cfg(test)]
 mod load_command;
 #[cfg(test)]
+mod loops_alone;
+#[cfg(test)]
 mod refused_loads;
 #[cfg(test)]
 mod refused_loops;

@@ -1,19 +1,35 @@
 //! The command `load`: what it prints, that a printer that fails is reported, and which moment its uberblocks have.
 
 use crate::fixture::{new_device, order};
-use commands::{CreateArguments, LoadArguments, run_create, run_load};
+use commands::{CreateArguments, LoadArguments, Order, run_check, run_create, run_load, run_show};
 use device_model::FileDevice;
 use std::fs;
 use std::io::{self, ErrorKind, Write};
 use std::test::Fail;
 
-/// What the command is given for a load of 8 writes a stream.
+/// What the command is given for a load of 17 writes a stream, from a seed that 32 bits don't hold.
 fn arguments<'a>() -> LoadArguments<'a> {
     LoadArguments {
         file: "tank.pool",
-        order: order(2, 8),
+        order: Order {
+            workers: 2,
+            writes: 17,
+            seed: 9_223_372_036_854_775_814,
+        },
         dirty_max: 1_048_576,
         moment: 0,
+    }
+}
+
+/// What the command is given for a pool of 6 MiB.
+fn tank<'a>(file: &'a str) -> CreateArguments<'a> {
+    CreateArguments {
+        file,
+        name: "tank",
+        guid: 77,
+        size: 6_291_456,
+        only_new: false,
+        moment: 5,
     }
 }
 
@@ -24,8 +40,8 @@ fn a_load_prints_its_writes_and_its_digest(rt: HostRuntime) -> Result<(), Fail> 
     let device = Ok(new_device(rt.alloc())?);
     let status = run_load(&rt, arguments(), device, false, &mut out, &mut errors);
     assert_eq!(rt; status, 0);
-    let printed = b"committed 145\n\
-        digest eebf0820059fa8f489076aa7a78fb04b1adf7f3fba7c5ab0796cdbb4313ba729\n";
+    let printed = b"committed 289\n\
+        digest 19706f79f345039a3c33694766bd726609acfd08cc942250317488d097ec0e98\n";
     assert!(rt; out.as_slice() == printed.as_slice());
     assert!(rt; errors.is_empty());
     Ok(())
@@ -51,6 +67,21 @@ fn a_load_that_cannot_be_printed_has_status_3(rt: HostRuntime) -> Result<(), Fai
     let device = Ok(new_device(rt.alloc())?);
     let status = run_load(&rt, arguments(), device, false, &mut Full, &mut errors);
     assert_eq!(rt; status, 3);
+    assert!(rt; errors.is_empty());
+    Ok(())
+}
+
+#[test]
+fn other_commands_that_cannot_print_have_status_3(rt: HostRuntime) -> Result<(), Fail> {
+    let mut errors = Vec::new(rt.alloc());
+    let device = Ok(new_device(rt.alloc())?);
+    let shown = run_show(rt.alloc(), "tank.pool", device, &mut Full, &mut errors);
+    let mut device = Ok(new_device(rt.alloc())?);
+    let checked = run_check(rt.alloc(), "tank.pool", &mut device, &mut Full, &mut errors);
+    let created = run_create(&rt, tank("full.pool"), &mut Full, &mut errors);
+    assert_eq!(rt; (shown, checked, created), (3, 3, 3));
+    assert!(rt; errors.is_empty());
+    fs::remove_file(&rt, "full.pool")?;
     Ok(())
 }
 
@@ -60,14 +91,7 @@ fn a_load_that_cannot_be_printed_has_status_3(rt: HostRuntime) -> Result<(), Fai
 fn the_uberblocks_of_a_load_have_its_moment(rt: HostRuntime) -> Result<(), Fail> {
     let mut out = Vec::new(rt.alloc());
     let mut errors = Vec::new(rt.alloc());
-    let created = CreateArguments {
-        file: "moment.pool",
-        name: "tank",
-        guid: 77,
-        size: 6_291_456,
-        only_new: false,
-        moment: 5,
-    };
+    let created = tank("moment.pool");
     assert_eq!(rt; run_create(&rt, created, &mut out, &mut errors), 0);
     let loaded = LoadArguments {
         file: "moment.pool",

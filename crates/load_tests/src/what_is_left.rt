@@ -1,10 +1,12 @@
 //! What a load leaves: on its device, in the table of locks, and for the next load.
 
 use crate::fixture::{ONE_CREATE, Open, hex, mounted, opened, order};
-use base::{Mode, ObjectId, Owner, Piece, PoolError, Range, Reply, Step};
-use device_model::Fault;
+use base::{LockId, Mode, ObjectId, Owner, Piece, PoolError, Range, Reply, Step};
+use device_model::{Fault, MemDevice};
 use loads::{Gate, Order, load};
-use std::sync::atomic::{AtomicBool, Ordering};
+use pool_threads::Pool;
+use std::sync::Wait;
+use std::sync::atomic::{AtomicU64, Ordering};
 use std::test::Fail;
 
 /// More unflushed writes than any load here leaves.
@@ -53,18 +55,33 @@ fn a_refused_load_gives_its_locks_up(rt: HostRuntime) -> Result<(), Fail> {
     Ok(())
 }
 
-/// Notes whether any write was reported as durable.
+/// Adds up how many writes were reported as durable.
 #[derive(Drop)]
 struct Reports {
-    is_any_there: AtomicBool,
+    sum: AtomicU64,
 }
 
 impl Gate for Reports {
     fn at(&self, _stream: u32) {}
 
-    fn acknowledged(&self, _stream: u32, _writes: u32) {
-        self.is_any_there.store(true, Ordering::SeqCst);
+    fn acknowledged(&self, _stream: u32, writes: u32) {
+        self.sum.fetch_add(u64::from(writes), Ordering::SeqCst);
     }
+}
+
+// Of 17 writes a stream reports the first 8 and the first 16, and reads after each. A lock has the number of those
+// granted before it: one for each of 17 objects, 16 * 17 writes and 16 * 2 reads.
+#[test]
+fn each_eighth_write_is_reported_and_followed_by_a_read(rt: HostRuntime) -> Result<(), Fail> {
+    let pool = opened(rt.alloc(), 1_048_576)?;
+    let reports = Reports {
+        sum: AtomicU64::new(0),
+    };
+    load(&rt, rt.alloc(), &pool, order(2, 17), &reports)?;
+    assert_eq!(rt; reports.sum.load(Ordering::SeqCst), 16 * (8 + 16));
+    let lock = Step::Lock(Owner(20), ObjectId(0), Range::WHOLE, Mode::Writer);
+    assert_eq!(rt; pool.handle().step(&rt, lock), Reply::Locked(LockId(321)));
+    Ok(())
 }
 
 #[test]
@@ -72,10 +89,42 @@ fn nothing_is_reported_as_durable_without_a_flush(rt: HostRuntime) -> Result<(),
     let pool = opened(rt.alloc(), 1_048_576)?;
     pool.handle().fail(&rt, Fault::Flush, 1);
     let reports = Reports {
-        is_any_there: AtomicBool::new(false),
+        sum: AtomicU64::new(0),
     };
     let loaded = load(&rt, rt.alloc(), &pool, order(2, 8), &reports);
     assert_eq!(rt; loaded.err(), Some(PoolError::Flush));
-    assert!(rt; !reports.is_any_there.load(Ordering::SeqCst));
+    assert_eq!(rt; reports.sum.load(Ordering::SeqCst), 0);
+    Ok(())
+}
+
+/// Adds them up too, and makes the next flush fail after the first report.
+#[derive(Drop)]
+struct LastReport<'a, W: Wait> {
+    rt: &'a W,
+    pool: &'a Pool<MemDevice>,
+    sum: AtomicU64,
+}
+
+impl<W: Wait> Gate for LastReport<'_, W> {
+    fn at(&self, _stream: u32) {}
+
+    fn acknowledged(&self, _stream: u32, writes: u32) {
+        if self.sum.fetch_add(u64::from(writes), Ordering::SeqCst) == 0 {
+            self.pool.handle().fail(self.rt, Fault::Flush, 1);
+        }
+    }
+}
+
+#[test]
+fn each_report_needs_a_flush(rt: HostRuntime) -> Result<(), Fail> {
+    let pool = opened(rt.alloc(), 1_048_576)?;
+    let gate = LastReport {
+        rt: &rt,
+        pool: &pool,
+        sum: AtomicU64::new(0),
+    };
+    let loaded = load(&rt, rt.alloc(), &pool, order(1, 32), &gate);
+    assert_eq!(rt; loaded.err(), Some(PoolError::Flush));
+    assert_eq!(rt; gate.sum.load(Ordering::SeqCst), 8);
     Ok(())
 }
