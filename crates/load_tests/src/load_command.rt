@@ -74,12 +74,11 @@ fn a_load_that_cannot_be_printed_has_status_3(rt: HostRuntime) -> Result<(), Fai
 #[test]
 fn other_commands_that_cannot_print_have_status_3(rt: HostRuntime) -> Result<(), Fail> {
     let mut errors = Vec::new(rt.alloc());
-    let device = Ok(new_device(rt.alloc())?);
-    let shown = run_show(rt.alloc(), "tank.pool", device, &mut Full, &mut errors);
     let mut device = Ok(new_device(rt.alloc())?);
     let checked = run_check(rt.alloc(), "tank.pool", &mut device, &mut Full, &mut errors);
+    let shown = run_show(rt.alloc(), "tank.pool", device, &mut Full, &mut errors);
     let created = run_create(&rt, tank("full.pool"), &mut Full, &mut errors);
-    assert_eq!(rt; (shown, checked, created), (3, 3, 3));
+    assert_eq!(rt; (checked, shown, created), (3, 3, 3));
     assert!(rt; errors.is_empty());
     fs::remove_file(&rt, "full.pool")?;
     Ok(())
