@@ -3,54 +3,67 @@
 use crate::fixture::opened;
 use base::{Group, ObjectId, Op, Ops, Owner, PoolError, Reply, Step};
 use device_model::MemDevice;
-use pool_threads::Pool;
+use pool_threads::{Handle, Pool};
 use std::alloc::Global;
 use std::sync::Wait;
 use std::test::Fail;
 use std::thread::{join, sleep};
 use std::time::{Clock, Duration};
 
-// Commits a create, and rests until its group is synced, for at most 20 seconds. Then it stops the loops, and returns
-// which group is synced.
+// Commits a create, and rests until its group is synced, for at most 20 seconds. It returns which group is synced.
 fn create_and_rest<R: Wait + Clock>(
     rt: &R,
     alloc: Global,
-    pool: &Pool<MemDevice>,
+    handle: &mut Handle<'_, MemDevice>,
+    object: ObjectId,
+    group: Group,
 ) -> Result<Group, PoolError> {
-    let mut handle = pool.handle();
-    let ops = Ops::new(vec![in alloc; Op::Create(ObjectId(1))]?);
-    let created = handle.transact(rt, Owner(1), ops);
+    let ops = Ops::new(vec![in alloc; Op::Create(object)]?);
+    handle.transact(rt, Owner(1), ops)?;
     let mut synced = Group(0);
     for _ in 0..20_000 {
         if let Reply::Status(status) = handle.step(rt, Step::Status) {
             synced = status.synced;
         }
-        if synced == Group(9) {
+        if synced == group {
             break;
         }
         sleep(rt, Duration::from_millis(1));
     }
-    pool.stop();
-    created?;
     Ok(synced)
 }
 
-// The create is of group 9, and charges far less than the limit. After it no bytes are charged, so no group follows.
+// Two creates, the second one once the group of the first is synced. Then it stops the loops.
+fn create_twice<R: Wait + Clock>(
+    rt: &R,
+    alloc: Global,
+    pool: &Pool<MemDevice>,
+) -> [Result<Group, PoolError>; 2] {
+    let mut handle = pool.handle();
+    let first = create_and_rest(rt, alloc, &mut handle, ObjectId(1), Group(9));
+    let second = create_and_rest(rt, alloc, &mut handle, ObjectId(2), Group(10));
+    pool.stop();
+    [first, second]
+}
+
+// A create charges far less than the limit, so none is throttled. After the first sync the quiescer rests, so it has to
+// look again by itself.
 #[test]
-fn the_loops_sync_a_group_that_nobody_waits_for(rt: HostRuntime) -> Result<(), Fail> {
+fn the_loops_sync_groups_that_nobody_waits_for(rt: HostRuntime) -> Result<(), Fail> {
     let (alloc, pool) = (rt.alloc(), opened(rt.alloc(), 1_048_576)?);
     let (pool, handle) = (&pool, &rt);
-    let (quiesced, (synced, group)) = join(
+    let (quiesced, (synced, groups)) = join(
         handle,
         move || pool.handle().quiescer(handle),
         move || {
             join(
                 handle,
                 move || pool.handle().syncer(handle),
-                move || create_and_rest(handle, alloc, pool),
+                move || create_twice(handle, alloc, pool),
             )
         },
     );
-    assert_eq!(rt; (quiesced, synced, group?), (Ok(()), Ok(()), Group(9)));
+    assert_eq!(rt; (quiesced, synced), (Ok(()), Ok(())));
+    assert_eq!(rt; groups, [Ok(Group(9)), Ok(Group(10))]);
     Ok(())
 }
