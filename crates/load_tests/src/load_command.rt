@@ -76,7 +76,7 @@ fn other_commands_that_cannot_print_have_status_3(rt: HostRuntime) -> Result<(),
     let mut errors = Vec::new(rt.alloc());
     let mut device = Ok(new_device(rt.alloc())?);
     let checked = run_check(rt.alloc(), "tank.pool", &mut device, &mut Full, &mut errors);
-    let shown = run_show(rt.alloc(), "tank.pool", device, &mut Full, &mut errors);
+    let shown = run_show(rt.alloc(), "tank.pool", &mut device, &mut Full, &mut errors);
     let created = run_create(&rt, tank("full.pool"), &mut Full, &mut errors);
     assert_eq!(rt; (checked, shown, created), (3, 3, 3));
     assert!(rt; errors.is_empty());
