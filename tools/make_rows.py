@@ -9,7 +9,8 @@ A row is a script with a title, the size of its device and the moment of its ube
 - those of the files `tools/rows/*.rows`, written by hand, each line beside its answer (`read_rows` has the form);
 - lines that are no commands, and comments, which some bytes make hard to write in a file (`bad_lines`, `silent_lines`);
 - rows with many lines of one kind (`whole_uberblocks`, `eighth_steps`, `many_groups`, `many_objects`, `many_records`,
-  `full_log`, `many_locks`, `many_shapes`);
+  `full_log`, `many_locks`, `many_shapes`), and rows at a limit (`printable_words`, `many_words`, `most_transactions`,
+  `longest_object`, `many_log_blocks`);
 - crashes of whole pools (`crash_rows.py`): rounds of transactions, a sync, the log or an import that is stopped after
   each of its device calls, each string of kept, lost and torn writes, and the next import (`stopped_syncs`,
   `stopped_imports`, `lost_log_blocks`, `syncs_beside_log`, `stopped_replays`);
@@ -346,6 +347,117 @@ def many_shapes():
         yield row
 
 
+def printable_words():
+    """A word of a commit has any printable ASCII but no space, from ! to ~. One that begins with @ stands for copies of
+    a character, which may be @ or : too, and at most 338,688 of them."""
+    graphic = "".join(map(chr, range(33, 127)))
+    content = graphic + ":::" + "@@" + "~"
+    row = Row("words of each printable character, and copies of them")
+    row.say_all(f"""
+create tank 77 -> ok
+import 1048576 -> synced 8 open 9 records 0
+lock 1 1 w 0 338688 -> lock 0
+begin 1 c:1 w:1:0:94 w:1:94:3 w:1:97:2 w:1:99:1 -> tx 0 group 9
+commit 0 {graphic} @3:: @2:@ @1:~ -> entry 0 group 9
+read 1 1 0 100 -> bytes 100 {content.encode().hex()}
+begin 1 w:1:0:4 -> tx 1 group 9
+commit 1 @338688:~ -> refused 12 OutOfPlan
+commit 1 @00000000000000000000004:@ -> entry 1 group 9
+read 1 1 0 5 -> bytes 5 4040404025
+""")
+    yield row
+
+
+def many_words():
+    """A transaction of 221 writes of a byte each has 4,005 bytes of the 4,008 that it may have."""
+    content = "".join(chr(ord("a") + number % 26) for number in range(221))
+    row = Row("a commit of 221 words", 16 * MIB)
+    row.say("create tank 77", "ok")
+    row.say(f"import {16 * MIB}", "synced 8 open 9 records 0")
+    row.say(f"lock 1 1 w 0 {TOP}", "lock 0")
+    row.say("begin 1 c:1 " + " ".join(f"w:1:{number}:1" for number in range(221)), "tx 0 group 9")
+    row.say("commit 0 " + " ".join(content), "entry 0 group 9")
+    row.say(f"read 1 1 0 {TOP}", f"bytes 221 {content.encode().hex()}")
+    yield row
+
+
+def most_transactions():
+    """64 open transactions are the most."""
+    row = Row("the most open transactions")
+    row.say("create tank 77", "ok")
+    row.say(f"import {MIB}", "synced 8 open 9 records 0")
+    for number in range(64):
+        row.say(f"lock 1 {number} w 0 {TOP}", f"lock {number}")
+        row.say(f"begin 1 c:{number}", f"tx {number} group 9")
+    row.say_all("""
+lock 1 64 w 0 338688 -> lock 64
+begin 1 c:64 -> refused 22 TooMany
+begin 1 c:65 -> refused 13 NotLocked
+commit 63 -> entry 0 group 9
+begin 1 c:64 -> tx 64 group 9
+abort 64 -> ok
+abort 0 -> ok
+""")
+    yield row
+
+
+def longest_object():
+    """An object of 338,688 bytes is read whole, after a crash and an import too."""
+    content = bytes(TOP - 4) + b"wxyz"
+    row = Row("the longest object")
+    row.say_all(f"""
+create tank 77 -> ok
+import 1048576 -> synced 8 open 9 records 0
+lock 1 1 w 0 {TOP} -> lock 0
+begin 1 c:1 w:1:{TOP - 4}:4 -> tx 0 group 9
+commit 0 wxyz -> entry 0 group 9
+sync -> synced 9
+crash -> crashed 0
+import 1048576 -> synced 13 open 14 records 0
+lock 1 1 r 0 {TOP} -> lock 0
+read 1 1 0 {TOP} -> bytes {TOP} {content.hex()}
+""")
+    yield row
+
+
+def many_log_blocks():
+    """A log block for each of 150 records, and 1,100 records of which 148 fit into a block."""
+    row = Row("a chain of 150 log blocks")
+    row.say("create tank 77", "ok")
+    row.say(f"import {4 * MIB}", "synced 8 open 9 records 0")
+    for number in range(150):
+        row.say(f"lock 1 {number} w 0 {TOP}", f"lock {number}")
+        row.say(f"begin 1 c:{number}", f"tx {number} group 9")
+        row.say(f"commit {number}", f"entry {number} group 9")
+        row.say("log-write", "logged 1")
+    row.say_all("""
+log-flush -> flushed
+crash -> crashed 0
+import 1048576 -> synced 12 open 13 records 150
+length 0 -> length 0
+length 149 -> length 0
+length 150 -> refused 9 NoObject
+""")
+    yield row
+    row = Row("1,100 records that wait for the log", 16 * MIB)
+    row.say("create tank 77", "ok")
+    row.say(f"import {16 * MIB}", "synced 8 open 9 records 0")
+    row.say(f"lock 1 1 w 0 {TOP}", "lock 0")
+    for number in range(1_100):
+        row.say(f"begin 1 {'cd'[number % 2]}:1", f"tx {number} group 9")
+        row.say(f"commit {number}", f"entry {number} group 9")
+    for _ in range(7):
+        row.say("log-write", "logged 148")
+    row.say_all("""
+log-write -> logged 64
+log-flush -> flushed
+crash -> crashed 0
+import 1048576 -> synced 12 open 13 records 1100
+length 1 -> refused 9 NoObject
+""")
+    yield row
+
+
 # On 6 MiB a transaction makes object 1, of four bytes, and its group is synced by its block, its map, the directory,
 # the root, a flush, four uberblocks and a flush.
 TEN_CALLS = """
@@ -421,6 +533,11 @@ def all_rows():
         full_log,
         many_locks,
         many_shapes,
+        printable_words,
+        many_words,
+        most_transactions,
+        longest_object,
+        many_log_blocks,
         stopped_syncs,
         stopped_imports,
         lost_log_blocks,
