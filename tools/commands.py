@@ -119,6 +119,7 @@ def new_files():
             differ(words, "makes another file")
         os.remove("new.pool")
     ends(["create", "new.pool", "tank", "18446744073709551615", str(SIZE), "--new"], 0, "created tank 896 blocks\n")
+    ends(["show", "new.pool"], 0, NEW.replace("77", "18446744073709551615"))
     made = pathlib.Path("new.pool").read_bytes()
     ends(["create", "new.pool", "pond", "78", str(SIZE), "--new"], 3, errors="ztxg: cannot use new.pool\n")
     refused = [(0, "", "8 BadGeometry"), (SIZE - 1, "tank", "8 BadGeometry"), (SIZE, "4", "11 BadRange")]
