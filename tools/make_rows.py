@@ -10,7 +10,7 @@ A row is a script with a title, the size of its device and the moment of its ube
 - lines that are no commands, and comments, which some bytes make hard to write in a file (`bad_lines`, `silent_lines`);
 - rows with many lines of one kind (`whole_uberblocks`, `eighth_steps`, `many_groups`, `many_objects`, `many_records`,
   `full_log`, `many_locks`, `many_shapes`), and rows at a limit (`printable_words`, `many_words`, `most_transactions`,
-  `longest_object`, `many_log_blocks`);
+  `most_objects`, `longest_object`, `many_log_blocks`);
 - crashes of whole pools (`crash_rows.py`): rounds of transactions, a sync, the log or an import that is stopped after
   each of its device calls, each string of kept, lost and torn writes, and the next import (`stopped_syncs`,
   `stopped_imports`, `lost_log_blocks`, `syncs_beside_log`, `stopped_replays`);
@@ -34,7 +34,7 @@ sys.dont_write_bytecode = True
 from crash_rows import lost_log_blocks, stopped_imports, stopped_replays, stopped_syncs, syncs_beside_log  # noqa: E402
 from name_rows import stopped_imports_of_names, stopped_names  # noqa: E402
 from script_row import BAD_COMMAND, MIB, Row, read_rows  # noqa: E402
-from serial_pool import TOP  # noqa: E402
+from serial_pool import TOP, digest  # noqa: E402
 
 TOOLS = pathlib.Path(__file__).parent
 CRATE = TOOLS.parent / "crates" / "script_rows"
@@ -401,6 +401,32 @@ abort 0 -> ok
     yield row
 
 
+def most_objects():
+    """All 5,292 objects are made, 252 in a group, which is four directories."""
+    row = Row("the most objects")
+    row.say("create tank 77", "ok")
+    row.say(f"import {4 * MIB}", "synced 8 open 9 records 0")
+    for group in range(21):
+        numbers = range(252 * group, 252 * (group + 1))
+        for number in numbers:
+            row.say(f"lock 1 {number} w 0 {TOP}", f"lock {number}")
+        row.say("begin 1 " + " ".join(f"c:{number}" for number in numbers), f"tx {group} group {9 + group}")
+        row.say(f"commit {group}", f"entry {group} group {9 + group}")
+        for number in numbers:
+            row.say(f"unlock 1 {number}", "ok")
+        row.say("sync", f"synced {9 + group}")
+    made = digest(b"tank", dict.fromkeys(range(5_292), b""))
+    row.say_all(f"""
+digest -> digest {made}
+crash -> crashed 0
+import 1048576 -> synced 33 open 34 records 0
+digest -> digest {made}
+length 5291 -> length 0
+length 5292 -> refused 11 BadRange
+""")
+    yield row
+
+
 def longest_object():
     """An object of 338,688 bytes is read whole, after a crash and an import too."""
     content = bytes(TOP - 4) + b"wxyz"
@@ -536,6 +562,7 @@ def all_rows():
         printable_words,
         many_words,
         most_transactions,
+        most_objects,
         longest_object,
         many_log_blocks,
         stopped_syncs,
