@@ -338,6 +338,7 @@ def many_shapes():
         (797, 16 * MIB, "refused 16 NoSpace"),
         (797, MIB, "refused 17 Throttled"),
         (798, MIB, "refused 18 TooLarge"),
+        (5_000, MIB, "refused 18 TooLarge"),
     ]:
         row = Row(f"a plan of {shapes} shapes and a limit of {limit} dirty bytes: {refusal}")
         row.say("create tank 77", "ok")
