@@ -331,6 +331,9 @@ def texts():
         status, out, errors = run(words)
         if (status, errors) != (0, "") or not out:
             differ(words, "ends with", (status, errors))
+        defaults = {"create": ["0"], "script": ["0"], "load": ["1048576", "0"]}.get(words[0], [])
+        if re.findall(r"\[default: (\w+)\]", out) != defaults:
+            differ(words, "names other defaults than", defaults)
         if words != ["--help"]:
             refusals = out.split("Refusals, with status 1")[1:]
             for found in re.findall(r"^ *(\d+) (\w+(?: KIND ADDRESS)?)  ", "".join(refusals), re.M):
