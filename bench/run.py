@@ -401,6 +401,8 @@ def parse(words):
         parser.error("--flush is each, eighth or each,eighth")
     if not all(1 <= it <= STREAMS for it in options.workers) or options.ops < 1 or options.rounds < 1:
         parser.error("workers are 1 to 16, writes and rounds at least 1")
+    if options.folder is not None and not options.folder.is_dir():
+        parser.exit(2, f"run.py: --folder {options.folder} is no folder\n")
     if not (PEERS / "log").is_file():
         parser.error("the peers are not built: make -C bench")
     if options.ztxg is not None:
