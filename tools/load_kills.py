@@ -18,28 +18,23 @@ not the order of its flushes, which tests and proofs on a device in memory have 
 """
 import os, random, subprocess, sys, tempfile, time
 
+sys.dont_write_bytecode = True
+
+from pcg import Pcg32  # noqa: E402
+
 STREAMS = 16
 SHARED = 16
 PART = 1024
 WORKERS, WRITES = 4, 1_000_000
 LONGEST = 1.0  # seconds from the first transaction to the kill
 BETWEEN = 8    # writes of a stream between two that it waits for
-MASK = (1 << 64) - 1
-
-
-def numbers(seed, stream):
-    """PCG32 (XSH-RR 64/32), as `Lcg64Xsh32::new(seed, stream)` of Rust's rand_pcg."""
-    increment = (stream << 1 | 1) & MASK
-    state = (seed + increment) * 6364136223846793005 + increment & MASK
-    while True:
-        shifted, turn = (state >> 18 ^ state) >> 27 & 0xFFFFFFFF, state >> 59
-        yield (shifted >> turn | shifted << (-turn & 31)) & 0xFFFFFFFF
-        state = state * 6364136223846793005 + increment & MASK
 
 
 def writes(seed, stream):
     """The writes of a stream: object, offset and bytes."""
-    for drawn in numbers(seed, stream):
+    numbers = Pcg32(seed, stream)
+    while True:
+        drawn = numbers.next_u32()
         length, byte = 1 + drawn // 1024 % 64, drawn // 65536 % 256
         if drawn < 1 << 31:
             yield stream, drawn % 8192, bytes([byte]) * length
