@@ -8,8 +8,8 @@ PROGRAM is a built `ztxg`, which takes its memory by `malloc` of the C library. 
 request of a run. For each request of each script,
 
 - the answers are those of the undisturbed run up to a line, which is refused `1 NoMemory`. That line again and all later
-  lines then answer as undisturbed. In place of a `sync` a `start` and a `finish` do, since its group is closed by then,
-  and a `fail` before the line is made again with it;
+  lines then answer as undisturbed. In place of a `sync` a `start` and a `finish` do, since its group is closed by then.
+  Plans that no call met yet are made again before the line, with the numbers that were left of them;
 - or they are the undisturbed ones: the request was for speed alone;
 - or the device in memory found no room for its own notes. Then the line is refused `3 Write` or `4 Flush`. After a crash
   that keeps, loses or tears all unflushed writes, an import shows what is mounted if the run crashes before that line or
@@ -66,6 +66,7 @@ void *realloc(void *old, size_t size) {
 }
 """
 
+REFUSALS = {b"read": "refused 2 Read", b"write": "refused 3 Write", b"flush": "refused 4 Flush"}
 Ran = collections.namedtuple("Ran", "answers status")
 
 
@@ -80,6 +81,7 @@ class Script:
         _, self.size, self.moment, _ = row.head.split(" ", 3)
         # Lines that print nothing would move the answers away from their lines.
         self.lines = [line for line, answer in row.lines if answer is not None]
+        self.kept = {}
 
     def run(self, lines, fail_at=0, count_file=None):
         names = {"LD_PRELOAD": self.shim, "FAIL_AT": str(fail_at)}
@@ -100,6 +102,29 @@ class Script:
             found.add(tuple(self.run([*lines, crash, b"import 1048576", b"digest"], fail_at).answers[-1:]))
         return found
 
+    def plans(self, line, calm):
+        """The plans of the undisturbed run that no call met before this line, with the numbers that are left of them."""
+        if line not in self.kept:
+            made = {}
+            for at, words in enumerate(map(bytes.split, self.lines[:line])):
+                if words[0] == b"crash":
+                    made.clear()
+                if words[0] == b"fail":
+                    made[words[1]] = at
+            unmet = [(kind, at) for kind, at in made.items() if REFUSALS[kind] not in calm.answers[at + 1 : line]]
+            self.kept[line] = [b"fail %s %d" % (kind, self.left(kind, at, line, calm)) for kind, at in unmet]
+        return self.kept[line]
+
+    def left(self, kind, at, line, calm):
+        """The number that is left of a plan when this line begins. The lines between made so many calls of its kind as
+        there are least numbers that change an answer of theirs."""
+        number = int(self.lines[at].split()[2])
+        for made in range(number - 1):
+            other = [*self.lines[:at], b"fail %s %d" % (kind, made + 1), *self.lines[at + 1 : line]]
+            if self.run(other).answers == calm.answers[:line]:
+                return number - made
+        return 1
+
     def check(self, at, calm):
         """How the run ends if this request fails."""
         ran = self.run(self.lines, at)
@@ -119,9 +144,9 @@ class Script:
                 # If the sync is refused in the end, its start isn't.
                 begun = answers[0].replace("synced", "syncing") if answers[0].startswith("synced") else None
                 repeated, answers = [b"start", b"finish"], [begun, *answers]
-            if line > 0 and self.lines[line - 1].startswith(b"fail "):
-                # A refused import has flushed the device and read it, so the plan is made again too.
-                repeated, answers = [self.lines[line - 1], *repeated], ["ok", *answers]
+            # The refused line made some of the calls that are counted, so the plans before it are made again.
+            plans = self.plans(line, calm)
+            repeated, answers = [*plans, *repeated], [*["ok"] * len(plans), *answers]
             again = self.run([*self.lines[:line + 1], *repeated, *self.lines[line + 1:]], at)
             later = [moved(text, len(repeated)) for text in calm.answers[line + 1:]]
             wanted = Ran([*calm.answers[:line], answer, *answers, *later], calm.status)
