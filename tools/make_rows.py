@@ -16,7 +16,9 @@ A row is a script with a title, the size of its device and the moment of its ube
   `stopped_imports`, `lost_log_blocks`, `syncs_beside_log`, `stopped_replays`);
 - the same of syncs that give the pool a name, and of imports after them (`name_rows.py`: `stopped_names`,
   `stopped_imports_of_names`);
-- the same of one sync on the least device, where each unflushed write meets the same (`ten_crashes`, `lost_imports`).
+- the same of one sync on the least device, where each unflushed write meets the same (`ten_crashes`, `lost_imports`);
+- rounds of worked rows and of those of the log, whose calls are refused, which are stopped, and whose imports are stopped;
+  and of creates that are stopped (`stop_rows.py`).
 
 The answers to the crashes come from a plain serial pool (`serial_pool.py`) and from the rules of what is written when.
 Nothing is taken from the program.
@@ -35,6 +37,7 @@ from crash_rows import lost_log_blocks, stopped_imports, stopped_replays, stoppe
 from name_rows import stopped_imports_of_names, stopped_names  # noqa: E402
 from script_row import BAD_COMMAND, MIB, Row, read_rows  # noqa: E402
 from serial_pool import TOP, digest  # noqa: E402
+from stop_rows import stopped_scripts  # noqa: E402
 
 TOOLS = pathlib.Path(__file__).parent
 CRATE = TOOLS.parent / "crates" / "script_rows"
@@ -547,8 +550,9 @@ def lost_imports():
 
 
 def all_rows():
-    for path in sorted(TOOLS.glob("rows/*.rows")):
-        yield from read_rows(path)
+    written = {path.name: read_rows(path) for path in sorted(TOOLS.glob("rows/*.rows"))}
+    for rows in written.values():
+        yield from rows
     for make in [
         bad_lines,
         silent_lines,
@@ -577,6 +581,7 @@ def all_rows():
         lost_imports,
     ]:
         yield from make()
+    yield from stopped_scripts(written["log.rows"], [row for rows in written.values() for row in rows])
 
 
 def main():
