@@ -1,5 +1,5 @@
-//! The command `load`: what it prints, and which moment its uberblocks have. If a printer fails, each command has status
-//! 3.
+//! The command `load`: what it prints, and which moment its uberblocks have. If a printer fails, each command has
+//! status 3.
 
 use crate::fixture::{new_device, order};
 use commands::{CreateArguments, LoadArguments, Order, run_check, run_create, run_load, run_show};
