@@ -147,8 +147,9 @@ class Pool:
         self.say("name", f"name {name.decode()}")
         self.say("digest", f"digest {digest(name, objects)}")
         for number in numbers:
-            shown = f"length {len(objects[number])}" if number in objects else "refused 9 NoObject"
-            self.say(f"length {number}", shown)
+            # No object has the number of the name, or one above it.
+            missing = "refused 9 NoObject" if number < NAMED else "refused 11 BadRange"
+            self.say(f"length {number}", f"length {len(objects[number])}" if number in objects else missing)
 
     def crash(self, letters):
         self.say(f"crash {letters}".rstrip(), f"crashed {len(self.run.unflushed)}")
