@@ -335,6 +335,36 @@ fn a_new_file_replaces_none(rt: HostRuntime) -> Result<(), Fail> {
     Ok(())
 }
 
+// How many rows hold on a file that a device opens to read alone.
+fn count_on_reader(rt: &HostRuntime, path: &str, rows: &[Row]) -> Result<usize, Fail> {
+    let mut device = FileDevice::open_to_read(rt, path)?;
+    Ok(count_held(&mut device, rows))
+}
+
+// How many sectors a file has that is cut or lengthened to so many bytes.
+fn sectors_of_sized(rt: &HostRuntime, path: &str, size: u64) -> Result<u64, Fail> {
+    Ok(FileDevice::create(rt, path, size)?.sectors())
+}
+
+#[test]
+fn a_file_that_is_sized_keeps_its_bytes(rt: HostRuntime) -> Result<(), Fail> {
+    fs::write(&rt, "sized", "as it is")?;
+    assert_eq!(rt; sectors_of_sized(&rt, "sized", 1024)?, 2);
+    assert_eq!(rt; sectors_of_sized(&rt, "sized", 516)?, 1);
+    let bytes = fs::read(&rt, "sized")?;
+    assert!(rt; bytes.len() == 516 && bytes.as_slice().starts_with(b"as it is"));
+
+    // A device that only reads can't write to it.
+    let rows = [
+        Row::Sectors(1),
+        Row::Read(0, Ok(())),
+        Row::Write(0, Err(PoolError::Write)),
+    ];
+    assert_eq!(rt; count_on_reader(&rt, "sized", &rows)?, 3);
+    fs::remove_file(&rt, "sized")?;
+    Ok(())
+}
+
 // Whether a device was refused since its file is no regular one.
 fn is_not_regular(opened: Result<FileDevice, FileRefusal>) -> bool {
     matches!(opened, Err(FileRefusal::NotRegular))
