@@ -1,9 +1,8 @@
 //! Calls that wait until commits are durable, and what a crash leaves of these commits.
 
-use crate::fixture::{SMALL, Size, make_object, new_pool, open_pool};
+use crate::fixture::{SMALL, Size, make_object, new_pool, on_pool, open_pool, read_all};
 use base::{
-    Bytes, Group, Mode, ObjectId, Op, Ops, Ordinal, Owner, Piece, PoolError, Range, Receipt, Reply,
-    Step,
+    Bytes, Group, ObjectId, Op, Ops, Ordinal, Owner, Piece, PoolError, Receipt, Reply, Step,
 };
 use device_model::{Fault, MemDevice};
 use pool_threads::{Handle, Pool};
@@ -36,23 +35,39 @@ fn write(alloc: Global, offset: u64, bytes: &[u8]) -> Result<Ops, PoolError> {
 fn create_and_wait<W: Wait>(
     rt: &W,
     alloc: Global,
-    pool: &Pool<MemDevice>,
+    handle: &mut Handle<'_, MemDevice>,
 ) -> Result<[Result<(), PoolError>; 2], PoolError> {
-    let mut handle = pool.handle();
-    make_object(rt, alloc, &mut handle, OWNER, OBJECT)?;
+    make_object(rt, alloc, handle, OWNER, OBJECT)?;
     Ok([handle.fsync(rt, receipt(5)), handle.fsync(rt, receipt(0))])
+}
+
+// What these waits return, and whether the create is durable once the pool is closed, with the synced group.
+fn wait_and_close<W: Wait>(
+    rt: &W,
+    alloc: Global,
+    pool: Pool<MemDevice>,
+) -> (
+    Result<[Result<(), PoolError>; 2], PoolError>,
+    Option<(bool, Group)>,
+) {
+    let waited = create_and_wait(rt, alloc, &mut pool.handle());
+    (waited, left(pool))
+}
+
+fn left(pool: Pool<MemDevice>) -> Option<(bool, Group)> {
+    let state = pool.close()?;
+    Some((state.durable(receipt(0)), state.status().synced))
 }
 
 // The create becomes durable by the log: its group is not synced.
 #[test]
 fn a_commit_is_durable_before_its_group_is_synced(rt: HostRuntime) -> Result<(), Fail> {
-    let alloc = rt.alloc();
-    let pool = new_pool(alloc, SMALL)?;
-    let waited = create_and_wait(&rt, alloc, &pool)?;
-    assert_eq!(rt; waited, [Err(PoolError::BadRange), Ok(())]);
-    let state = pool.close().ok_or("a thread has the pool")?;
-    let left = (state.durable(receipt(0)), state.status().synced);
-    assert_eq!(rt; left, (true, Group(8)));
+    let pool = new_pool(rt.alloc(), SMALL)?;
+    let waited = Ok([Err(PoolError::BadRange), Ok(())]);
+    assert_eq!(rt;
+        wait_and_close(&rt, rt.alloc(), pool),
+        (waited, Some((true, Group(8))))
+    );
     Ok(())
 }
 
@@ -73,16 +88,35 @@ fn look<W: Wait>(rt: &W, handle: &mut Handle<'_, MemDevice>) -> Option<Room> {
     }
 }
 
+// The group that a sync of the pool returns, and the one that is synced then.
+fn sync_and_look<W: Wait>(
+    rt: &W,
+    handle: &mut Handle<'_, MemDevice>,
+) -> Result<[u64; 2], PoolError> {
+    let Group(returned) = handle.sync_pool(rt)?;
+    match look(rt, handle) {
+        Some(room) => Ok([returned, room.synced]),
+        None => Err(PoolError::NotReady),
+    }
+}
+
+// They, of three syncs.
+fn sync_thrice<W: Wait>(
+    rt: &W,
+    handle: &mut Handle<'_, MemDevice>,
+) -> Result<[[u64; 2]; 3], PoolError> {
+    Ok([
+        sync_and_look(rt, handle)?,
+        sync_and_look(rt, handle)?,
+        sync_and_look(rt, handle)?,
+    ])
+}
+
 #[test]
 fn a_sync_of_the_pool_syncs_the_group_that_was_open(rt: HostRuntime) -> Result<(), Fail> {
-    let alloc = rt.alloc();
-    let pool = new_pool(alloc, SMALL)?;
-    let mut handle = pool.handle();
-    for group in 9..12 {
-        let Group(returned) = handle.sync_pool(&rt)?;
-        let synced = look(&rt, &mut handle).map(|look| look.synced);
-        assert_eq!(rt; (returned, synced), (group, Some(group)));
-    }
+    let pool = new_pool(rt.alloc(), SMALL)?;
+    let groups = on_pool(pool, |handle| sync_thrice(&rt, handle));
+    assert_eq!(rt; groups, Ok([[9, 9], [10, 10], [11, 11]]));
     Ok(())
 }
 
@@ -129,16 +163,22 @@ fn fill_and_wait<W: Wait>(
     Ok([filled, logged, removed, synced, look(rt, handle)])
 }
 
+fn reported(synced: u64, available: u64) -> Option<Room> {
+    Some(Room { synced, available })
+}
+
 #[test]
 fn a_commit_for_which_the_log_has_no_block_waits_for_a_sync(rt: HostRuntime) -> Result<(), Fail> {
-    let alloc = rt.alloc();
-    let pool = new_pool(alloc, LEAST)?;
-    let mut handle = pool.handle();
-    let looks = fill_and_wait(&rt, alloc, &mut handle)?;
-    let expected = [(8, 17), (8, 16), (8, 14), (9, 383), (9, 380)];
-    for (look, (synced, available)) in looks.iter().zip(expected) {
-        assert_eq!(rt; *look, Some(Room { synced, available }));
-    }
+    let pool = new_pool(rt.alloc(), LEAST)?;
+    let looks = on_pool(pool, |handle| fill_and_wait(&rt, rt.alloc(), handle));
+    let expected = [
+        reported(8, 17),
+        reported(8, 16),
+        reported(8, 14),
+        reported(9, 383),
+        reported(9, 380),
+    ];
+    assert_eq!(rt; looks, Ok(expected));
     Ok(())
 }
 
@@ -174,10 +214,8 @@ fn wait_and_fail<W: Wait>(
 
 #[test]
 fn a_handle_waits_again_and_a_failed_flush_ends_that(rt: HostRuntime) -> Result<(), Fail> {
-    let alloc = rt.alloc();
-    let pool = new_pool(alloc, SMALL)?;
-    let mut handle = pool.handle();
-    let waited = wait_and_fail(&rt, alloc, &mut handle)?;
+    let pool = new_pool(rt.alloc(), SMALL)?;
+    let waited = on_pool(pool, |handle| wait_and_fail(&rt, rt.alloc(), handle));
     let expected = [
         Ok(receipt(0)),
         Ok(receipt(1)),
@@ -187,15 +225,13 @@ fn a_handle_waits_again_and_a_failed_flush_ends_that(rt: HostRuntime) -> Result<
         Ok(receipt(1)),
         Err((PoolError::Suspended, None)),
     ];
-    for (waited, expected) in waited.iter().zip(expected) {
-        assert_eq!(rt; *waited, expected);
-    }
+    assert_eq!(rt; waited, Ok(expected));
     Ok(())
 }
 
 /// A device that fails once, at the first such call or a later one. The crash after it leaves these two pieces of the
 /// unflushed writes, by turns.
-#[derive(Clone, Copy, Debug)]
+#[derive(Clone, Copy, Debug, PartialEq)]
 struct Failure {
     fault: Fault,
     refusal: PoolError,
@@ -263,26 +299,34 @@ fn count<W: Wait>(
     start: u16,
     failure: &Failure,
 ) -> Counted {
-    let mut handle = pool.handle();
-    let mut durable = start;
+    count_on(rt, alloc, &mut pool.handle(), thread, start, failure)
+}
+
+fn count_on<W: Wait>(
+    rt: &W,
+    alloc: Global,
+    handle: &mut Handle<'_, MemDevice>,
+    thread: u8,
+    start: u16,
+    failure: &Failure,
+) -> Counted {
+    let mut counted = Counted {
+        durable: start,
+        tried: start,
+        refusal: None,
+    };
     for number in start.saturating_add(1)..=u16::MAX {
         if thread == 0 && number == start.saturating_add(ROUNDS) {
             handle.fail(rt, failure.fault, failure.call);
         }
-        if let Err(error) = write_number(rt, alloc, &mut handle, thread, number) {
-            return Counted {
-                durable,
-                tried: number,
-                refusal: Some(error),
-            };
+        counted.tried = number;
+        if let Err(error) = write_number(rt, alloc, handle, thread, number) {
+            counted.refusal = Some(error);
+            break;
         }
-        durable = number;
+        counted.durable = number;
     }
-    Counted {
-        durable,
-        tried: durable,
-        refusal: None,
-    }
+    counted
 }
 
 // Writes a number to the place of a thread, two bytes of the object, and waits until it is durable.
@@ -389,37 +433,51 @@ fn crash(alloc: Global, pool: Pool<MemDevice>, failure: &Failure) -> Result<MemD
 }
 
 // The object has a zero for each thread, which is durable.
-fn make_numbers<W: Wait>(rt: &W, alloc: Global, pool: &Pool<MemDevice>) -> Result<(), PoolError> {
-    let mut handle = pool.handle();
-    make_object(rt, alloc, &mut handle, OWNER, OBJECT)?;
+fn make_numbers<W: Wait>(
+    rt: &W,
+    alloc: Global,
+    handle: &mut Handle<'_, MemDevice>,
+) -> Result<(), PoolError> {
+    make_object(rt, alloc, handle, OWNER, OBJECT)?;
     handle.transact(rt, OWNER, write(alloc, 0, &[0; 4])?)?;
     handle.sync_pool(rt)?;
     Ok(())
 }
 
 fn read_numbers<W: Wait>(rt: &W, pool: &Pool<MemDevice>) -> Result<[u16; 2], PoolError> {
-    let mut handle = pool.handle();
-    let lock = handle.lock(rt, OWNER, OBJECT, Range::WHOLE, Mode::Reader)?;
-    let bytes = handle.read(rt, OWNER, OBJECT, Range::WHOLE)?;
-    handle.unlock(rt, OWNER, lock)?;
-    match bytes.as_slice() {
+    let read = read_all(rt, &mut pool.handle(), OBJECT)?;
+    match read.as_slice() {
         [a, b, c, d] => Ok([u16::from_le_bytes([*a, *b]), u16::from_le_bytes([*c, *d])]),
         _ => Err(PoolError::BadRange),
     }
 }
 
-#[test]
-fn what_was_durable_outlives_each_failure(rt: HostRuntime) -> Result<(), Fail> {
-    let alloc = rt.alloc();
-    let mut pool = new_pool(alloc, SYNCED)?;
-    make_numbers(&rt, alloc, &pool)?;
+// A pool whose object has these zeros.
+fn numbered_pool<W: Wait>(rt: &W, alloc: Global) -> Result<Pool<MemDevice>, PoolError> {
+    let pool = new_pool(alloc, SYNCED)?;
+    make_numbers(rt, alloc, &mut pool.handle())?;
+    Ok(pool)
+}
+
+// The first failure that doesn't end as it should, with its ending.
+fn first_wrong<R: Threads + Wait + Clock + Sync>(
+    rt: &R,
+    alloc: Global,
+) -> Result<Option<(Failure, Ending)>, PoolError> {
+    let mut pool = numbered_pool(rt, alloc)?;
     let mut found = [0, 0];
     for failure in FAILURES.iter() {
-        let (ending, opened) = fail_and_crash(&rt, alloc, pool, found, failure)?;
-        let is_right = ending.is_of(failure.refusal) && ending.keeps_durable();
-        assert!(rt; is_right, "{failure:?}: {ending:?}");
-        found = ending.found;
+        let (ending, opened) = fail_and_crash(rt, alloc, pool, found, failure)?;
         pool = opened;
+        if !ending.is_of(failure.refusal) || !ending.keeps_durable() {
+            return Ok(Some((*failure, ending)));
+        }
+        found = ending.found;
     }
-    Ok(())
+    Ok(None)
+}
+
+#[test]
+fn what_was_durable_outlives_each_failure(rt: HostRuntime) {
+    assert_eq!(rt; first_wrong(&rt, rt.alloc()), Ok(None));
 }

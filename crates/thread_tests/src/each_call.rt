@@ -1,10 +1,11 @@
 //! Each call of a pool and of a handle, with ample memory.
 
+use crate::fixture::{Committed, SMALL, Size, commit, make_object, new_device, new_pool, on_pool};
 use base::{
-    Bytes, Group, Mode, ObjectId, Op, Ops, Owner, Plan, PoolError, PoolName, Range, Reply, Step,
+    Bytes, Group, LockId, Mode, ObjectId, Op, Ops, Ordinal, Owner, Plan, PoolError, Range, Receipt,
+    Reply, Step, TxId,
 };
-use device_model::{Fault, MemDevice, SectorDevice};
-use import_replay::{create, import};
+use device_model::{Fault, MemDevice};
 use pool_threads::{Handle, Pool};
 use std::alloc::Global;
 use std::sync::Wait;
@@ -14,71 +15,21 @@ const OWNER: Owner = Owner(1);
 
 const OBJECT: ObjectId = ObjectId(1);
 
-// A device of 8 MiB with a new pool.
-fn created(alloc: Global) -> Result<MemDevice, PoolError> {
-    let device = MemDevice::new(alloc, 16_384)?;
-    create(device, b"tank", 77, 5).map_err(|(error, _)| error)
-}
-
-// A new pool, with this limit of dirty bytes.
-fn shared_within(alloc: Global, dirty_max: u64) -> Result<Pool<MemDevice>, PoolError> {
-    let imported = import(alloc, created(alloc)?, dirty_max, 6).map_err(|(error, _)| error)?;
-    Pool::share(imported, 7).map_err(|(error, _)| error)
-}
-
-fn shared(alloc: Global) -> Result<Pool<MemDevice>, PoolError> {
-    shared_within(alloc, 1_048_576)
-}
-
-// The same by `open`.
-fn opened(alloc: Global) -> Result<Pool<MemDevice>, PoolError> {
-    Pool::open(alloc, created(alloc)?, 1_048_576, 7).map_err(|(error, _)| error)
-}
-
-fn creates(alloc: Global, object: ObjectId) -> Result<Ops, PoolError> {
-    Ok(Ops::new(vec![in alloc; Op::Create(object)]?))
-}
-
-// Makes an object in a transaction under a lock of its own, and answers the transaction's ordinal.
-fn make<D: SectorDevice, W: Wait>(
+// The ordinal of the transaction that makes the object, and the length of this.
+fn make_and_look<W: Wait>(
     rt: &W,
     alloc: Global,
-    handle: &mut Handle<'_, D>,
-    object: ObjectId,
-) -> Result<u64, PoolError> {
-    let id = handle.lock(rt, OWNER, object, Range::WHOLE, Mode::Writer)?;
-    let ops = creates(alloc, object)?;
-    let (tx, _) = handle.begin(rt, OWNER, Plan::of(alloc, &ops)?)?;
-    let receipt = handle.commit(rt, tx, ops)?;
-    handle.unlock(rt, OWNER, id)?;
-    Ok(receipt.ordinal.0)
+    handle: &mut Handle<'_, MemDevice>,
+) -> Result<(Ordinal, u64), PoolError> {
+    let made = make_object(rt, alloc, handle, OWNER, OBJECT)?;
+    Ok((made.receipt.ordinal, handle.length(rt, OBJECT)?))
 }
 
 #[test]
 fn a_handle_makes_an_object(rt: HostRuntime) -> Result<(), Fail> {
-    let pool = shared(rt.alloc())?;
-    let mut handle = pool.handle();
-    assert_eq!(rt; make(&rt, rt.alloc(), &mut handle, OBJECT)?, 0);
-    assert_eq!(rt; handle.length(&rt, OBJECT)?, 0);
-    Ok(())
-}
-
-#[test]
-fn a_handle_reads_what_another_wrote(rt: HostRuntime) -> Result<(), Fail> {
-    let pool = shared(rt.alloc())?;
-    let mut handle = pool.handle();
-    make(&rt, rt.alloc(), &mut handle, OBJECT)?;
-    let (id, range) = handle.lock_append(&rt, OWNER, OBJECT)?;
-    let ops = Ops::new(vec![in rt.alloc(); write(rt.alloc(), b"hello")?]?);
-    let (tx, group) = handle.begin(&rt, OWNER, Plan::of(rt.alloc(), &ops)?)?;
-    let receipt = handle.commit(&rt, tx, ops)?;
-    let mut other = handle.split();
-    let read = other.read(&rt, OWNER, OBJECT, Range { low: 1, high: 9 })?;
-    handle.join(other);
-    assert_eq!(rt; range, Range::WHOLE);
-    assert_eq!(rt; (receipt.ordinal.0, group), (1, Group(9)));
-    assert_eq!(rt; read.as_slice(), b"ello".as_slice());
-    handle.unlock(&rt, OWNER, id)?;
+    let pool = new_pool(rt.alloc(), SMALL)?;
+    let looked = on_pool(pool, |handle| make_and_look(&rt, rt.alloc(), handle));
+    assert_eq!(rt; looked, Ok((Ordinal(0), 0)));
     Ok(())
 }
 
@@ -86,75 +37,180 @@ fn write(alloc: Global, bytes: &[u8]) -> Result<Op, PoolError> {
     Ok(Op::Write(OBJECT, 0, Bytes::from_slice(alloc, bytes)?))
 }
 
-#[test]
-fn an_aborted_transaction_is_gone(rt: HostRuntime) -> Result<(), Fail> {
-    let pool = opened(rt.alloc())?;
-    let mut handle = pool.handle();
-    handle.lock(&rt, OWNER, OBJECT, Range::WHOLE, Mode::Writer)?;
-    let plan = Plan::of(rt.alloc(), &creates(rt.alloc(), OBJECT)?)?;
-    let (tx, _) = handle.begin(&rt, OWNER, plan)?;
-    handle.abort(&rt, tx)?;
-    assert_eq!(rt; handle.abort(&rt, tx), Err(PoolError::NoSuchTransaction));
-    assert_eq!(rt; handle.length(&rt, OBJECT), Err(PoolError::NoObject));
-    Ok(())
+// Makes the object, and writes to it under a lock of its end: the lock with its range, and the commit.
+fn append<W: Wait>(
+    rt: &W,
+    alloc: Global,
+    handle: &mut Handle<'_, MemDevice>,
+) -> Result<((LockId, Range), Committed), PoolError> {
+    make_object(rt, alloc, handle, OWNER, OBJECT)?;
+    let lock = handle.lock_append(rt, OWNER, OBJECT)?;
+    let committed = commit(rt, alloc, handle, OWNER, write(alloc, b"hello")?)?;
+    Ok((lock, committed))
+}
+
+// The object's bytes but the first, by another handle.
+fn read_by_another<W: Wait>(
+    rt: &W,
+    handle: &mut Handle<'_, MemDevice>,
+) -> Result<Bytes, PoolError> {
+    let mut other = handle.split();
+    let read = other.read(rt, OWNER, OBJECT, Range { low: 1, high: 9 });
+    handle.join(other);
+    read
+}
+
+// The range of the lock, the commit, and whether another handle reads what was written.
+fn append_and_read<W: Wait>(
+    rt: &W,
+    alloc: Global,
+    handle: &mut Handle<'_, MemDevice>,
+) -> Result<(Range, Committed, bool), PoolError> {
+    let ((lock, range), committed) = append(rt, alloc, handle)?;
+    let is_read = read_by_another(rt, handle)?.as_slice() == b"ello".as_slice();
+    handle.unlock(rt, OWNER, lock)?;
+    Ok((range, committed, is_read))
 }
 
 #[test]
+fn a_handle_reads_what_another_wrote(rt: HostRuntime) -> Result<(), Fail> {
+    let pool = new_pool(rt.alloc(), SMALL)?;
+    let returned = on_pool(pool, |handle| append_and_read(&rt, rt.alloc(), handle));
+    let receipt = Receipt {
+        ordinal: Ordinal(1),
+        group: Group(9),
+    };
+    let committed = Committed {
+        began: Group(9),
+        receipt,
+    };
+    assert_eq!(rt; returned, Ok((Range::WHOLE, committed, true)));
+    Ok(())
+}
+
+// Begins a transaction that is to make the object.
+fn begin<W: Wait>(
+    rt: &W,
+    alloc: Global,
+    handle: &mut Handle<'_, MemDevice>,
+) -> Result<(TxId, Group), PoolError> {
+    handle.lock(rt, OWNER, OBJECT, Range::WHOLE, Mode::Writer)?;
+    let ops = Ops::new(vec![in alloc; Op::Create(OBJECT)]?);
+    handle.begin(rt, OWNER, Plan::of(alloc, &ops)?)
+}
+
+// What its abort returns, the next one, and the length of the object then.
+fn abort_twice<W: Wait>(
+    rt: &W,
+    alloc: Global,
+    handle: &mut Handle<'_, MemDevice>,
+) -> Result<([Result<(), PoolError>; 2], Result<u64, PoolError>), PoolError> {
+    let (tx, _) = begin(rt, alloc, handle)?;
+    let returned = [handle.abort(rt, tx), handle.abort(rt, tx)];
+    Ok((returned, handle.length(rt, OBJECT)))
+}
+
+// The pool that a device has, opened at once.
+fn opened(alloc: Global) -> Result<Pool<MemDevice>, PoolError> {
+    let device = new_device(alloc, 16_384)?;
+    Pool::open(alloc, device, 1_048_576, 7).map_err(|(error, _)| error)
+}
+
+#[test]
+fn an_aborted_transaction_is_gone(rt: HostRuntime) -> Result<(), Fail> {
+    let pool = opened(rt.alloc())?;
+    let returned = on_pool(pool, |handle| abort_twice(&rt, rt.alloc(), handle));
+    let aborted = [Ok(()), Err(PoolError::NoSuchTransaction)];
+    assert_eq!(rt; returned, Ok((aborted, Err(PoolError::NoObject))));
+    Ok(())
+}
+
+/// A block may be dirty, and a create is charged two.
+const TIGHT: Size = Size {
+    sectors: 16_384,
+    dirty_max: 4_096,
+};
+
+#[test]
 fn a_begin_that_no_sync_helps_is_throttled(rt: HostRuntime) -> Result<(), Fail> {
-    let pool = shared_within(rt.alloc(), 4_096)?;
-    let mut handle = pool.handle();
-    handle.lock(&rt, OWNER, OBJECT, Range::WHOLE, Mode::Writer)?;
-    let plan = Plan::of(rt.alloc(), &creates(rt.alloc(), OBJECT)?)?;
-    let begun = handle.begin(&rt, OWNER, plan);
+    let pool = new_pool(rt.alloc(), TIGHT)?;
+    let begun = on_pool(pool, |handle| begin(&rt, rt.alloc(), handle));
     assert_eq!(rt; begun, Err(PoolError::Throttled));
     Ok(())
 }
 
-#[test]
-fn a_try_makes_a_step_of_a_free_pool(rt: HostRuntime) -> Result<(), Fail> {
-    let pool = shared(rt.alloc())?;
-    let mut handle = pool.handle();
-    let answer = handle.try_step(Step::Name);
-    assert!(rt; answer.is_some_and(|reply| is_named(&reply, b"tank")));
-    Ok(())
-}
-
-fn is_named(reply: &Reply, name: &[u8]) -> bool {
+fn is_name(reply: &Reply, name: &[u8]) -> bool {
     match reply {
-        Reply::Name(told) => told.as_slice() == name,
+        Reply::Name(returned) => returned.as_slice() == name,
         _ => false,
     }
 }
 
+// Whether a step returns the pool's name.
+fn is_named(handle: &mut Handle<'_, MemDevice>, name: &[u8]) -> bool {
+    match handle.try_step(Step::Name) {
+        Some(reply) => is_name(&reply, name),
+        None => false,
+    }
+}
+
+#[test]
+fn a_try_makes_a_step_of_a_free_pool(rt: HostRuntime) -> Result<(), Fail> {
+    let pool = new_pool(rt.alloc(), SMALL)?;
+    assert!(rt; on_pool(pool, |handle| is_named(handle, b"tank")));
+    Ok(())
+}
+
+// Whether the flush of a sync is refused, and the length of the object then.
+fn fail_a_flush<W: Wait>(
+    rt: &W,
+    handle: &mut Handle<'_, MemDevice>,
+) -> (bool, Result<u64, PoolError>) {
+    handle.fail(rt, Fault::Flush, 1);
+    handle.step(rt, Step::CloseGroup);
+    handle.step(rt, Step::MarkQuiesced);
+    handle.step(rt, Step::StartSync(0));
+    // a group with no change has no block to write, so its sync begins with a flush
+    let refused = handle.step(rt, Step::SyncStep);
+    (
+        matches!(refused, Reply::Refused(PoolError::Flush)),
+        handle.length(rt, OBJECT),
+    )
+}
+
 #[test]
 fn a_planned_fault_suspends_the_pool(rt: HostRuntime) -> Result<(), Fail> {
-    let pool = shared(rt.alloc())?;
-    let mut handle = pool.handle();
-    handle.fail(&rt, Fault::Flush, 1);
-    handle.step(&rt, Step::CloseGroup);
-    handle.step(&rt, Step::MarkQuiesced);
-    handle.step(&rt, Step::StartSync(0));
-    // a group with no change has no block to write, so its sync begins with a flush
-    let refused = handle.step(&rt, Step::SyncStep);
-    assert!(rt; matches!(refused, Reply::Refused(PoolError::Flush)));
-    assert_eq!(rt; handle.length(&rt, OBJECT), Err(PoolError::Suspended));
+    let pool = new_pool(rt.alloc(), SMALL)?;
+    let returned = on_pool(pool, |handle| fail_a_flush(&rt, handle));
+    assert_eq!(rt; returned, (true, Err(PoolError::Suspended)));
     Ok(())
+}
+
+// The open group of a pool that ends after a handle, which closed one.
+fn open_group_left<W: Wait>(rt: &W, pool: Pool<MemDevice>) -> Option<Group> {
+    let mut handle = pool.handle();
+    handle.step(rt, Step::CloseGroup);
+    let last = handle.leave();
+    let state = pool.close_after(last)?;
+    Some(state.status().open_group)
 }
 
 #[test]
 fn a_pool_ends_behind_a_handle(rt: HostRuntime) -> Result<(), Fail> {
-    let pool = shared(rt.alloc())?;
-    let mut handle = pool.handle();
-    handle.step(&rt, Step::CloseGroup);
-    let last = handle.leave();
-    let state = pool.close_after(last);
-    assert!(rt; state.is_some_and(|state| state.status().open_group == Group(10)));
+    let pool = new_pool(rt.alloc(), SMALL)?;
+    assert_eq!(rt; open_group_left(&rt, pool), Some(Group(10)));
     Ok(())
+}
+
+// The synced group of a pool that is closed.
+fn synced_left(pool: Pool<MemDevice>) -> Option<Group> {
+    let state = pool.close()?;
+    Some(state.status().synced)
 }
 
 #[test]
 fn a_pool_closes(rt: HostRuntime) -> Result<(), Fail> {
-    let state = shared(rt.alloc())?.close();
-    assert!(rt; state.is_some_and(|state| state.status().synced == Group(8)));
+    let pool = new_pool(rt.alloc(), SMALL)?;
+    assert_eq!(rt; synced_left(pool), Some(Group(8)));
     Ok(())
 }

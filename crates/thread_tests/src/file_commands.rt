@@ -4,30 +4,163 @@ use commands::{
     CreateArguments, LoadArguments, Order, ScriptArguments, ScriptDevice, run_check, run_create,
     run_load, run_opened, run_show,
 };
-use device_model::FileDevice;
+use device_model::{FileDevice, FileRefusal, HeldFile};
 use std::fs::{self, File};
-use std::io::{self, ErrorKind};
+use std::io::{self, Eprint, ErrorKind};
+use std::os::unix::fs::FileExt;
+use std::rt::Files;
+use std::sync::Wait;
 use std::test::Fail;
+use std::thread::Threads;
 
-#[test]
-fn tells_of_a_script_that_is_not_opened(rt: HostRuntime) -> Result<(), Fail> {
-    let arguments = ScriptArguments {
-        device: ScriptDevice::Memory(8_388_608),
-        script: "no/script",
-        moment: 0,
-    };
-    let opened: io::Result<&[u8]> = Err(io::Error::from(ErrorKind::NotFound));
+// What a command answers: its status, and what it prints as its output and as its errors.
+type Outcome<'a> = (u8, &'a str, &'a str);
+
+// A command on a file, as plain data.
+#[derive(Clone, Copy)]
+enum Command<'a> {
+    Create(CreateArguments<'a>),
+    Show(&'a str),
+    Check(&'a str),
+}
+
+// A device that has a file while a command runs.
+#[derive(Clone, Copy)]
+enum Holder {
+    Nobody,
+    Reader,
+    Writer,
+}
+
+// A command with its answer, or what is done to a file between two commands.
+#[derive(Clone, Copy)]
+enum Row<'a> {
+    Prints(Command<'a>, Outcome<'a>),
+    // the same on a file that a device may have: it is left as it was
+    Leaves(&'a str, Holder, Command<'a>, Outcome<'a>),
+    // a new file of so many zeros
+    Zeros(&'a str, u64),
+    // this byte is written at a place of the file
+    Byte(&'a str, usize, u8),
+    // how many bytes the file has
+    Length(&'a str, u64),
+    Remove(&'a str),
+}
+
+// Does a command, and returns its status.
+fn run(rt: &HostRuntime, command: Command<'_>, out: &mut Vec<u8>, errors: &mut Vec<u8>) -> u8 {
+    match command {
+        Command::Create(given) => run_create(rt, given, out, errors),
+        Command::Show(file) => {
+            let mut opened = FileDevice::open_to_read(rt, file);
+            run_show(rt.alloc(), file, &mut opened, out, errors)
+        }
+        Command::Check(file) => {
+            let mut opened = FileDevice::open_to_read(rt, file);
+            run_check(rt.alloc(), file, &mut opened, out, errors)
+        }
+    }
+}
+
+// Whether these are an answer.
+fn is_outcome(status: u8, out: &[u8], errors: &[u8], outcome: Outcome<'_>) -> bool {
+    let (wanted, text, failure) = outcome;
+    status == wanted && out == text.as_bytes() && errors == failure.as_bytes()
+}
+
+// Whether a command has its answer.
+fn prints(rt: &HostRuntime, command: Command<'_>, outcome: Outcome<'_>) -> bool {
     let mut out = Vec::new(rt.alloc());
     let mut errors = Vec::new(rt.alloc());
-    let status = run_opened(&rt, arguments, opened, &mut out, &mut errors);
-    assert_eq!(rt; status, 3);
-    assert!(rt; out.is_empty());
-    assert!(rt; errors.as_slice() == b"ztxg: cannot use no/script\n".as_slice());
-    Ok(())
+    let status = run(rt, command, &mut out, &mut errors);
+    is_outcome(status, &out, &errors, outcome)
+}
+
+// Whether it has, while a device has its file.
+fn prints_beside(
+    rt: &HostRuntime,
+    opened: Result<FileDevice, FileRefusal>,
+    command: Command<'_>,
+    outcome: Outcome<'_>,
+) -> bool {
+    let Ok(device) = opened else {
+        return false;
+    };
+    let is_right = prints(rt, command, outcome);
+    drop(device);
+    is_right
+}
+
+// Whether a command has its answer, while this device has the file.
+fn prints_held(
+    rt: &HostRuntime,
+    file: &str,
+    holder: Holder,
+    command: Command<'_>,
+    outcome: Outcome<'_>,
+) -> bool {
+    match holder {
+        Holder::Nobody => prints(rt, command, outcome),
+        Holder::Reader => prints_beside(rt, FileDevice::open_to_read(rt, file), command, outcome),
+        Holder::Writer => prints_beside(rt, FileDevice::open(rt, file), command, outcome),
+    }
+}
+
+// Whether it has, and the file has the bytes after it that it had before.
+fn leaves(
+    rt: &HostRuntime,
+    file: &str,
+    holder: Holder,
+    command: Command<'_>,
+    outcome: Outcome<'_>,
+) -> io::Result<bool> {
+    let before = fs::read(rt, file)?;
+    let is_right = prints_held(rt, file, holder, command, outcome);
+    Ok(fs::read(rt, file)? == before && is_right)
+}
+
+fn write_byte(rt: &HostRuntime, file: &str, place: usize, byte: u8) -> io::Result<()> {
+    let mut image = fs::read(rt, file)?;
+    if let Some(changed) = image.get_mut(place) {
+        *changed = byte;
+    }
+    fs::write(rt, file, image.as_slice())
+}
+
+fn write_zeros(rt: &HostRuntime, file: &str, size: u64) -> io::Result<()> {
+    File::create(rt, file)?.set_len(size)
+}
+
+fn length(rt: &HostRuntime, file: &str) -> io::Result<u64> {
+    Ok(fs::metadata(rt, file)?.len())
+}
+
+// Whether a command has its answer, or what is done to a file succeeds.
+fn holds(rt: &HostRuntime, row: Row<'_>) -> bool {
+    match row {
+        Row::Prints(command, outcome) => prints(rt, command, outcome),
+        Row::Leaves(file, holder, command, outcome) => {
+            matches!(leaves(rt, file, holder, command, outcome), Ok(true))
+        }
+        Row::Zeros(file, size) => write_zeros(rt, file, size).is_ok(),
+        Row::Byte(file, place, byte) => write_byte(rt, file, place, byte).is_ok(),
+        Row::Length(file, wanted) => matches!(length(rt, file), Ok(found) if found == wanted),
+        Row::Remove(file) => fs::remove_file(rt, file).is_ok(),
+    }
+}
+
+// How many rows hold before the first that does not.
+fn count_held(rt: &HostRuntime, rows: &[Row<'_>]) -> usize {
+    for index in 0..rows.len() {
+        if !holds(rt, rows[index]) {
+            return index;
+        }
+    }
+    rows.len()
 }
 
 // What the command is given for a pool of 8 MiB.
-fn tank<'a>(file: &'a str) -> CreateArguments<'a> {
+fn tank(file: &str) -> CreateArguments<'_> {
     CreateArguments {
         file,
         name: "tank",
@@ -38,188 +171,202 @@ fn tank<'a>(file: &'a str) -> CreateArguments<'a> {
     }
 }
 
-#[test]
-fn a_pool_is_made_in_a_file(rt: HostRuntime) -> Result<(), Fail> {
+// A command makes such a pool.
+fn makes(file: &str) -> Row<'_> {
+    Row::Prints(
+        Command::Create(tank(file)),
+        (0, "created tank 896 blocks\n", ""),
+    )
+}
+
+// Whether a script has this answer, if its lines were opened.
+fn runs_script<R: Files + Wait + AllocGlobal>(
+    rt: &R,
+    given: ScriptArguments<'_>,
+    opened: io::Result<&[u8]>,
+    outcome: Outcome<'_>,
+) -> bool
+where
+    R::File: FileExt + HeldFile,
+{
     let mut out = Vec::new(rt.alloc());
     let mut errors = Vec::new(rt.alloc());
-    let status = run_create(&rt, tank("made.pool"), &mut out, &mut errors);
-    assert_eq!(rt; status, 0);
-    assert!(rt; out.as_slice() == b"created tank 896 blocks\n".as_slice());
-    assert!(rt; errors.is_empty());
-    assert_eq!(rt; fs::metadata(&rt, "made.pool")?.len(), 8_388_608);
+    let status = run_opened(rt, given, opened, &mut out, &mut errors);
+    is_outcome(status, &out, &errors, outcome)
+}
 
-    out.clear();
-    let status = run_show(
-        rt.alloc(),
-        "made.pool",
-        &mut FileDevice::open_to_read(&rt, "made.pool"),
-        &mut out,
-        &mut errors,
-    );
-    assert_eq!(rt; status, 0);
-    let shown = b"name tank\nguid 77\ngroup 4\nimport 0\nblocks 896 used 0\nrecords 0\nobjects 0\n";
-    assert!(rt; out.as_slice() == shown.as_slice());
-    assert!(rt; errors.is_empty());
+#[test]
+fn tells_of_a_script_that_is_not_opened(rt: HostRuntime) {
+    let given = ScriptArguments {
+        device: ScriptDevice::Memory(8_388_608),
+        script: "no/script",
+        moment: 0,
+    };
+    let opened = Err(io::Error::from(ErrorKind::NotFound));
+    let outcome = (3, "", "ztxg: cannot use no/script\n");
+    assert!(rt; runs_script(&rt, given, opened, outcome));
+}
 
+#[test]
+fn a_pool_is_made_in_a_file(rt: HostRuntime) {
+    let file = "made.pool";
+    let shown = "name tank\nguid 77\ngroup 4\nimport 0\nblocks 896 used 0\nrecords 0\nobjects 0\n";
     // It is resized, also to a size that is no number of sectors.
     let smaller = CreateArguments {
         size: 6_291_500,
         name: "pond",
-        ..tank("made.pool")
+        ..tank(file)
     };
-    out.clear();
-    assert_eq!(rt; run_create(&rt, smaller, &mut out, &mut errors), 0);
-    assert!(rt; out.as_slice() == b"created pond 384 blocks\n".as_slice());
-    assert_eq!(rt; fs::metadata(&rt, "made.pool")?.len(), 6_291_500);
-    fs::remove_file(&rt, "made.pool")?;
-    Ok(())
+    let rows = [
+        makes(file),
+        Row::Length(file, 8_388_608),
+        Row::Prints(Command::Show(file), (0, shown, "")),
+        Row::Prints(
+            Command::Create(smaller),
+            (0, "created pond 384 blocks\n", ""),
+        ),
+        Row::Length(file, 6_291_500),
+        Row::Remove(file),
+    ];
+    assert_eq!(rt; count_held(&rt, &rows), 6);
 }
 
 #[test]
-fn a_file_that_is_there_is_no_new_one(rt: HostRuntime) -> Result<(), Fail> {
-    let given = CreateArguments {
+fn a_file_that_is_there_is_no_new_one(rt: HostRuntime) {
+    let file = "new.pool";
+    let first = CreateArguments {
         only_new: true,
-        ..tank("new.pool")
+        ..tank(file)
     };
-    let mut out = Vec::new(rt.alloc());
-    let mut errors = Vec::new(rt.alloc());
-    assert_eq!(rt; run_create(&rt, given, &mut out, &mut errors), 0);
-    let made = fs::read(&rt, "new.pool")?;
     let other = CreateArguments {
         name: "pond",
-        ..given
+        ..first
     };
-    out.clear();
-    assert_eq!(rt; run_create(&rt, other, &mut out, &mut errors), 3);
-    assert!(rt; out.is_empty());
-    assert!(rt; errors.as_slice() == b"ztxg: cannot use new.pool\n".as_slice());
-    assert!(rt; fs::read(&rt, "new.pool")? == made);
-    fs::remove_file(&rt, "new.pool")?;
-    Ok(())
+    let refused = (3, "", "ztxg: cannot use new.pool\n");
+    let rows = [
+        Row::Prints(Command::Create(first), (0, "created tank 896 blocks\n", "")),
+        Row::Leaves(file, Holder::Nobody, Command::Create(other), refused),
+        Row::Remove(file),
+    ];
+    assert_eq!(rt; count_held(&rt, &rows), 3);
 }
 
 #[test]
-fn a_file_that_a_device_holds_is_left(rt: HostRuntime) -> Result<(), Fail> {
-    let mut out = Vec::new(rt.alloc());
-    let mut errors = Vec::new(rt.alloc());
-    assert_eq!(rt;
-        run_create(&rt, tank("held.pool"), &mut out, &mut errors),
-        0
-    );
-    let made = fs::read(&rt, "held.pool")?;
-    let text = b"ztxg: cannot use held.pool\n";
-    let Ok(reader) = FileDevice::open_to_read(&rt, "held.pool") else {
-        return Err(Fail::from("the file is held"));
-    };
+fn a_file_that_a_device_holds_is_left(rt: HostRuntime) {
+    let file = "held.pool";
+    let refused = (3, "", "ztxg: cannot use held.pool\n");
     let smaller = CreateArguments {
         size: 6_291_456,
-        ..tank("held.pool")
+        ..tank(file)
     };
-    out.clear();
-    assert_eq!(rt; run_create(&rt, smaller, &mut out, &mut errors), 3);
-    assert!(rt; out.is_empty() && errors.as_slice() == text.as_slice());
-    drop(reader);
-    let Ok(writer) = FileDevice::open(&rt, "held.pool") else {
-        return Err(Fail::from("the file is held"));
-    };
-    let mut opened = FileDevice::open_to_read(&rt, "held.pool");
-    errors.clear();
-    let status = run_show(rt.alloc(), "held.pool", &mut opened, &mut out, &mut errors);
-    assert_eq!(rt; status, 3);
-    assert!(rt; out.is_empty() && errors.as_slice() == text.as_slice());
-    drop(writer);
-    assert!(rt; fs::read(&rt, "held.pool")? == made);
-    fs::remove_file(&rt, "held.pool")?;
-    Ok(())
+    let rows = [
+        makes(file),
+        Row::Leaves(file, Holder::Reader, Command::Create(smaller), refused),
+        Row::Leaves(file, Holder::Writer, Command::Show(file), refused),
+        Row::Remove(file),
+    ];
+    assert_eq!(rt; count_held(&rt, &rows), 4);
+}
+
+// How many of these sizes and names are refused on a file with these texts before the first that is not.
+fn count_refused(rt: &HostRuntime, file: &str, rows: &[(u64, &str, &str)]) -> usize {
+    for index in 0..rows.len() {
+        let (size, name, text) = rows[index];
+        let given = CreateArguments {
+            size,
+            name,
+            ..tank(file)
+        };
+        if !prints(rt, Command::Create(given), (1, "", text)) {
+            return index;
+        }
+    }
+    rows.len()
+}
+
+// Whether a file has this text, and another is not there.
+fn are_left(rt: &HostRuntime, file: &str, text: &str, missing: &str) -> io::Result<bool> {
+    Ok(fs::read(rt, file)?.as_slice() == text.as_bytes() && !fs::exists(rt, missing)?)
 }
 
 #[test]
 fn a_refused_size_or_name_leaves_the_file(rt: HostRuntime) -> Result<(), Fail> {
+    let rows = [
+        (6_291_455, "tank", "ztxg: refused 8 BadGeometry\n"),
+        (0, "4tank", "ztxg: refused 8 BadGeometry\n"),
+        (8_388_608, "4tank", "ztxg: refused 11 BadRange\n"),
+        (8_388_608, "", "ztxg: refused 11 BadRange\n"),
+    ];
     fs::write(&rt, "left.pool", "as it is")?;
-    for file in ["left.pool", "none.pool", "."] {
-        for (size, name, text) in [
-            (6_291_455, "tank", "ztxg: refused 8 BadGeometry\n"),
-            (0, "4tank", "ztxg: refused 8 BadGeometry\n"),
-            (8_388_608, "4tank", "ztxg: refused 11 BadRange\n"),
-            (8_388_608, "", "ztxg: refused 11 BadRange\n"),
-        ] {
-            let given = CreateArguments {
-                size,
-                name,
-                ..tank(file)
-            };
-            let mut out = Vec::new(rt.alloc());
-            let mut errors = Vec::new(rt.alloc());
-            assert_eq!(rt; run_create(&rt, given, &mut out, &mut errors), 1);
-            assert!(rt; out.is_empty());
-            assert!(rt; errors.as_slice() == text.as_bytes());
-        }
-    }
-    assert!(rt; fs::read_to_string(&rt, "left.pool")?.as_str() == "as it is");
-    assert!(rt; !fs::exists(&rt, "none.pool")?);
+    let counts = [
+        count_refused(&rt, "left.pool", &rows),
+        count_refused(&rt, "none.pool", &rows),
+        count_refused(&rt, ".", &rows),
+    ];
+    let are_left = are_left(&rt, "left.pool", "as it is", "none.pool")?;
     fs::remove_file(&rt, "left.pool")?;
+    assert_eq!(rt; (counts, are_left), ([4; 3], true));
     Ok(())
 }
 
 #[test]
-fn tells_of_a_file_that_holds_no_pool(rt: HostRuntime) -> Result<(), Fail> {
-    for file in [".", "no/file", "/dev/full"] {
-        let mut out = Vec::new(rt.alloc());
-        let mut errors = Vec::new(rt.alloc());
-        assert_eq!(rt; run_create(&rt, tank(file), &mut out, &mut errors), 3);
-        assert!(rt; out.is_empty());
-        let text = format!(in rt.alloc(); "ztxg: cannot use {file}\n")?;
-        assert!(rt; errors.as_slice() == text.as_bytes());
-    }
-    Ok(())
+fn tells_of_a_file_that_holds_no_pool(rt: HostRuntime) {
+    let rows = [
+        (".", "ztxg: cannot use .\n"),
+        ("no/file", "ztxg: cannot use no/file\n"),
+        ("/dev/full", "ztxg: cannot use /dev/full\n"),
+    ]
+    .map(|(file, text)| Row::Prints(Command::Create(tank(file)), (3, "", text)));
+    assert_eq!(rt; count_held(&rt, &rows), 3);
 }
 
 #[test]
-fn tells_of_a_file_that_shows_no_pool(rt: HostRuntime) -> Result<(), Fail> {
-    for (size, text) in [
-        (0, "ztxg: refused 8 BadGeometry\n"),
-        (6_291_455, "ztxg: refused 8 BadGeometry\n"),
-        (6_291_456, "ztxg: refused 6 NoPool\n"),
-    ] {
-        File::create(&rt, "zeros.pool")?.set_len(size)?;
-        let mut opened = FileDevice::open_to_read(&rt, "zeros.pool");
-        let mut out = Vec::new(rt.alloc());
-        let mut errors = Vec::new(rt.alloc());
-        let status = run_show(rt.alloc(), "zeros.pool", &mut opened, &mut out, &mut errors);
-        assert_eq!(rt; status, 1);
-        assert!(rt; out.is_empty());
-        assert!(rt; errors.as_slice() == text.as_bytes());
-    }
-    fs::remove_file(&rt, "zeros.pool")?;
-    for file in [".", "no/file", "/dev/full"] {
-        let mut out = Vec::new(rt.alloc());
-        let mut errors = Vec::new(rt.alloc());
-        let status = run_show(
-            rt.alloc(),
-            file,
-            &mut FileDevice::open_to_read(&rt, file),
-            &mut out,
-            &mut errors,
-        );
-        assert_eq!(rt; status, 3);
-        assert!(rt; out.is_empty());
-        let text = format!(in rt.alloc(); "ztxg: cannot use {file}\n")?;
-        assert!(rt; errors.as_slice() == text.as_bytes());
-    }
-    Ok(())
+fn tells_of_a_file_that_shows_no_pool(rt: HostRuntime) {
+    let file = "zeros.pool";
+    let show = Command::Show(file);
+    let rows = [
+        Row::Zeros(file, 0),
+        Row::Prints(show, (1, "", "ztxg: refused 8 BadGeometry\n")),
+        Row::Zeros(file, 6_291_455),
+        Row::Prints(show, (1, "", "ztxg: refused 8 BadGeometry\n")),
+        Row::Zeros(file, 6_291_456),
+        Row::Prints(show, (1, "", "ztxg: refused 6 NoPool\n")),
+        Row::Remove(file),
+        Row::Prints(Command::Show("."), (3, "", "ztxg: cannot use .\n")),
+        Row::Prints(
+            Command::Show("no/file"),
+            (3, "", "ztxg: cannot use no/file\n"),
+        ),
+        Row::Prints(
+            Command::Show("/dev/full"),
+            (3, "", "ztxg: cannot use /dev/full\n"),
+        ),
+    ];
+    assert_eq!(rt; count_held(&rt, &rows), 10);
+}
+
+// Whether a load has this answer.
+fn loads<R: Files + Threads + Wait + Sync + Eprint + AllocGlobal>(
+    rt: &R,
+    given: LoadArguments<'_>,
+    outcome: Outcome<'_>,
+) -> bool
+where
+    R::File: FileExt + HeldFile + Send,
+{
+    let mut out = Vec::new(rt.alloc());
+    let mut errors = Vec::new(rt.alloc());
+    let opened = FileDevice::open(rt, given.file);
+    let status = run_load(rt, given, opened, false, &mut out, &mut errors);
+    is_outcome(status, &out, &errors, outcome)
 }
 
 // The digest is that of a reading of the rules in another language.
 #[test]
-fn a_pool_in_a_file_is_loaded(rt: HostRuntime) -> Result<(), Fail> {
-    let mut out = Vec::new(rt.alloc());
-    let mut errors = Vec::new(rt.alloc());
-    assert_eq!(rt;
-        run_create(&rt, tank("load.pool"), &mut out, &mut errors),
-        0
-    );
-    let arguments = LoadArguments {
-        file: "load.pool",
+fn a_pool_in_a_file_is_loaded(rt: HostRuntime) {
+    let file = "load.pool";
+    let given = LoadArguments {
+        file,
         order: Order {
             workers: 2,
             writes: 0,
@@ -228,26 +375,19 @@ fn a_pool_in_a_file_is_loaded(rt: HostRuntime) -> Result<(), Fail> {
         dirty_max: 1_048_576,
         moment: 0,
     };
-    out.clear();
-    let opened = FileDevice::open(&rt, "load.pool");
-    let status = run_load(&rt, arguments, opened, false, &mut out, &mut errors);
-    assert_eq!(rt; status, 0);
-    let loaded = b"committed 17\n\
+    let loaded = "committed 17\n\
         digest 02c3029d90bacf3137525a1b5e08d7b247d7b92ad01b9220a73b9855b15d17ed\n";
-    assert!(rt; out.as_slice() == loaded.as_slice());
-
-    out.clear();
     let throttled = LoadArguments {
         dirty_max: 4_096,
-        ..arguments
+        ..given
     };
-    let opened = FileDevice::open(&rt, "load.pool");
-    let status = run_load(&rt, throttled, opened, false, &mut out, &mut errors);
-    assert_eq!(rt; status, 1);
-    assert!(rt; out.is_empty());
-    assert!(rt; errors.as_slice() == b"ztxg: refused 17 Throttled\n".as_slice());
-    fs::remove_file(&rt, "load.pool")?;
-    Ok(())
+    let held = [
+        holds(&rt, makes(file)),
+        loads(&rt, given, (0, loaded, "")),
+        loads(&rt, throttled, (1, "", "ztxg: refused 17 Throttled\n")),
+        holds(&rt, Row::Remove(file)),
+    ];
+    assert_eq!(rt; held, [true; 4]);
 }
 
 // Makes object 1 of the bytes `abcd`. They lie at the front of the payload of the block at 4,198,400.
@@ -259,77 +399,54 @@ commit 0 abcd
 sync
 ";
 
+// What the script prints.
+const ANSWERS: &str = "\
+synced 8 open 9 records 0
+lock 0
+tx 0 group 9
+entry 0 group 9
+synced 9
+";
+
 #[test]
-fn a_check_finds_a_pool_whole_or_damaged(rt: HostRuntime) -> Result<(), Fail> {
-    let mut out = Vec::new(rt.alloc());
-    let mut errors = Vec::new(rt.alloc());
-    assert_eq!(rt;
-        run_create(&rt, tank("checked.pool"), &mut out, &mut errors),
-        0
-    );
-    let arguments = ScriptArguments {
-        device: ScriptDevice::File("checked.pool"),
+fn a_check_finds_a_pool_whole_or_damaged(rt: HostRuntime) {
+    let file = "checked.pool";
+    let given = ScriptArguments {
+        device: ScriptDevice::File(file),
         script: "script",
         moment: 0,
     };
-    let opened: io::Result<&[u8]> = Ok(MAKES_AN_OBJECT.as_bytes());
-    assert_eq!(rt;
-        run_opened(&rt, arguments, opened, &mut out, &mut errors),
-        0
-    );
-    for (byte, status, text) in [
-        (b'a', 0, "clean group 9 records 0\n"),
-        (b'b', 1, "damaged 5 4198400\n"),
-    ] {
-        let mut image = fs::read(&rt, "checked.pool")?;
-        if let Some(first) = image.get_mut(4_198_464) {
-            *first = byte;
-        }
-        fs::write(&rt, "checked.pool", image.as_slice())?;
-        let mut opened = FileDevice::open_to_read(&rt, "checked.pool");
-        out.clear();
-        assert_eq!(rt;
-            run_check(
-                rt.alloc(),
-                "checked.pool",
-                &mut opened,
-                &mut out,
-                &mut errors
-            ),
-            status
-        );
-        assert!(rt; out.as_slice() == text.as_bytes());
-        assert!(rt; errors.is_empty());
-        assert!(rt; fs::read(&rt, "checked.pool")? == image);
-    }
-    fs::remove_file(&rt, "checked.pool")?;
-    Ok(())
+    let check = Command::Check(file);
+    let rows = [
+        Row::Byte(file, 4_198_464, b'a'),
+        Row::Leaves(
+            file,
+            Holder::Nobody,
+            check,
+            (0, "clean group 9 records 0\n", ""),
+        ),
+        Row::Byte(file, 4_198_464, b'b'),
+        Row::Leaves(file, Holder::Nobody, check, (1, "damaged 5 4198400\n", "")),
+        Row::Remove(file),
+    ];
+    let is_made = holds(&rt, makes(file));
+    let lines = MAKES_AN_OBJECT.as_bytes();
+    let is_run = runs_script(&rt, given, Ok(lines), (0, ANSWERS, ""));
+    assert_eq!(rt; (is_made, is_run, count_held(&rt, &rows)), (true, true, 5));
 }
 
 #[test]
-fn a_check_tells_of_a_file_without_a_pool(rt: HostRuntime) -> Result<(), Fail> {
-    for (size, found, text) in [
-        (0, "", "ztxg: refused 8 BadGeometry\n"),
-        (6_291_455, "", "ztxg: refused 8 BadGeometry\n"),
-        (6_291_456, "no pool\n", ""),
-    ] {
-        File::create(&rt, "missing.pool")?.set_len(size)?;
-        let mut opened = FileDevice::open_to_read(&rt, "missing.pool");
-        let mut out = Vec::new(rt.alloc());
-        let mut errors = Vec::new(rt.alloc());
-        assert_eq!(rt;
-            run_check(
-                rt.alloc(),
-                "missing.pool",
-                &mut opened,
-                &mut out,
-                &mut errors
-            ),
-            1
-        );
-        assert!(rt; out.as_slice() == found.as_bytes());
-        assert!(rt; errors.as_slice() == text.as_bytes());
-    }
-    fs::remove_file(&rt, "missing.pool")?;
-    Ok(())
+fn a_check_tells_of_a_file_without_a_pool(rt: HostRuntime) {
+    let file = "missing.pool";
+    let check = Command::Check(file);
+    let rows = [
+        Row::Zeros(file, 0),
+        Row::Prints(check, (1, "", "ztxg: refused 8 BadGeometry\n")),
+        Row::Zeros(file, 6_291_455),
+        Row::Prints(check, (1, "", "ztxg: refused 8 BadGeometry\n")),
+        Row::Zeros(file, 6_291_456),
+        Row::Prints(check, (1, "no pool\n", "")),
+        Row::Remove(file),
+    ];
+    assert_eq!(rt; count_held(&rt, &rows), 7);
 }

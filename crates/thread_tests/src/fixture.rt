@@ -1,6 +1,6 @@
 //! A new pool, and one transaction of a handle.
 
-use base::{Group, Mode, ObjectId, Op, Ops, Owner, Plan, PoolError, Range, Receipt};
+use base::{Bytes, Group, Mode, ObjectId, Op, Ops, Owner, Plan, PoolError, Range, Receipt};
 use device_model::MemDevice;
 use import_replay::{create, import};
 use pool_threads::{Handle, Pool};
@@ -22,10 +22,15 @@ pub const SMALL: Size = Size {
     dirty_max: 16_777_216,
 };
 
+/// A device of so many sectors with a new pool, whose group 4 is synced.
+pub fn new_device(alloc: Global, sectors: u64) -> Result<MemDevice, PoolError> {
+    let device = MemDevice::new(alloc, sectors)?;
+    create(device, b"tank", 77, 5).map_err(|(error, _)| error)
+}
+
 /// A pool that was created and imported, to be shared. Its groups 4 and 8 are synced, and 9 is open.
 pub fn new_pool(alloc: Global, size: Size) -> Result<Pool<MemDevice>, PoolError> {
-    let device = MemDevice::new(alloc, size.sectors)?;
-    let device = create(device, b"tank", 77, 5).map_err(|(error, _)| error)?;
+    let device = new_device(alloc, size.sectors)?;
     open_pool(alloc, device, size)
 }
 
@@ -37,6 +42,14 @@ pub fn open_pool(
 ) -> Result<Pool<MemDevice>, PoolError> {
     let imported = import(alloc, device, size.dirty_max, 6).map_err(|(error, _)| error)?;
     Pool::share(imported, 7).map_err(|(error, _)| error)
+}
+
+/// What calls on a handle of a pool return, after which both are gone.
+pub fn on_pool<T, F: FnOnce(&mut Handle<'_, MemDevice>) -> T>(pool: Pool<MemDevice>, calls: F) -> T
+    requires { F.IsAlwaysCallable calls }
+{
+    let mut handle = pool.handle();
+    calls(&mut handle)
 }
 
 /// The group in which a transaction began, and what its commit answered.
@@ -74,4 +87,17 @@ pub fn make_object<W: Wait>(
     let committed = commit(rt, alloc, handle, owner, Op::Create(object))?;
     handle.unlock(rt, owner, lock)?;
     Ok(committed)
+}
+
+/// The bytes of an object, read under a lock on all of it.
+pub fn read_all<W: Wait>(
+    rt: &W,
+    handle: &mut Handle<'_, MemDevice>,
+    object: ObjectId,
+) -> Result<Bytes, PoolError> {
+    let owner = Owner(9);
+    let lock = handle.lock(rt, owner, object, Range::WHOLE, Mode::Reader)?;
+    let read = handle.read(rt, owner, object, Range::WHOLE);
+    handle.unlock(rt, owner, lock)?;
+    read
 }

@@ -7,9 +7,7 @@ use base::{Group, LockId, Mode, ObjectId, Op, Ordinal, Owner, PoolError, Range, 
 use device_model::MemDevice;
 use pool_threads::{Handle, Pool};
 use std::alloc::{AllocError, Global};
-use std::process::Abort;
 use std::sync::Wait;
-use std::test::Fail;
 use std::thread::{Threads, map_chunks};
 
 const OBJECTS: u32 = 100;
@@ -52,21 +50,23 @@ struct Thread<'p> {
     commits: Vec<Committed>,
 }
 
-// Makes the objects of a job.
-fn do_job<W: Wait>(
+// Makes the objects of jobs, one job after the other.
+fn make_objects<W: Wait>(
     rt: &W,
     alloc: Global,
     thread: &mut Thread<'_>,
-    job: Job,
+    jobs: &[Job],
 ) -> Result<(), PoolError> {
-    for object in job.first..job.end {
-        let made = make_object(rt, alloc, &mut thread.handle, job.owner, ObjectId(object))?;
-        thread.commits.push(made)?;
+    for job in jobs {
+        for object in job.first..job.end {
+            let made = make_object(rt, alloc, &mut thread.handle, job.owner, ObjectId(object))?;
+            thread.commits.push(made)?;
+        }
     }
     Ok(())
 }
 
-// Does jobs one after the other, with a handle of the thread's own.
+// Does jobs with a handle of the thread's own.
 fn do_jobs<'p, W: Wait>(
     rt: &W,
     alloc: Global,
@@ -77,9 +77,7 @@ fn do_jobs<'p, W: Wait>(
         handle: pool.handle(),
         commits: Vec::new(alloc),
     };
-    for job in jobs {
-        do_job(rt, alloc, &mut thread, *job)?;
-    }
+    make_objects(rt, alloc, &mut thread, jobs)?;
     Ok(thread)
 }
 
@@ -101,79 +99,109 @@ fn share_out<'p, R: Threads + Wait + Sync>(
     )
 }
 
-// The receipts by rising ordinal are those of the ordinals 0 to 99, and all of group 9.
-fn check_receipts<A: Abort>(rt: &A, mut commits: Vec<Committed>) {
+// Whether the receipts by rising ordinal are those of the ordinals 0 to 99, and all of group 9.
+fn are_all(commits: &mut Vec<Committed>) -> bool {
     commits.sort_unstable_by_key(|committed| committed.receipt.ordinal);
-    assert_eq!(rt; commits.len(), 100);
-    for (place, committed) in commits.iter().enumerate() {
+    for index in 0..commits.len() {
         let receipt = Receipt {
-            ordinal: Ordinal(place as u64),
+            ordinal: Ordinal(index as u64),
             group: Group(9),
         };
-        assert_eq!(rt; committed.receipt, receipt);
+        if commits[index].receipt != receipt {
+            return false;
+        }
     }
+    commits.len() == 100
 }
 
-// Each object is there, and has no byte.
-fn check_objects<R: Wait + Abort>(
-    rt: &R,
-    handle: &mut Handle<'_, MemDevice>,
-) -> Result<(), PoolError> {
+// How many objects are there with no byte, before the first that is not.
+fn count_empty<W: Wait>(rt: &W, handle: &mut Handle<'_, MemDevice>) -> u32 {
     for object in 0..OBJECTS {
-        assert_eq!(rt; handle.length(rt, ObjectId(object))?, 0, "object {object}");
+        if handle.length(rt, ObjectId(object)) != Ok(0) {
+            return object;
+        }
     }
-    Ok(())
+    OBJECTS
+}
+
+// The number of a refusal.
+fn refusal<T: Drop>(returned: Result<T, PoolError>) -> Option<u8> {
+    match returned {
+        Ok(_) => None,
+        Err(error) => Some(error.number()),
+    }
 }
 
 // With all locks released: a lock is granted and released, a create without a lock is refused, and so is an unlock of
-// no lock.
-fn check_last_calls<R: Wait + Abort>(
-    rt: &R,
+// no lock. It returns the numbers of the refusals.
+fn last_refusals<W: Wait>(
+    rt: &W,
     alloc: Global,
     handle: &mut Handle<'_, MemDevice>,
-) -> Result<(), PoolError> {
+) -> Result<[Option<u8>; 3], PoolError> {
     let (owner, front) = (Owner(5), Range { low: 0, high: 4 });
     let lock = handle.lock(rt, owner, ObjectId(0), front, Mode::Writer)?;
-    assert_eq!(rt; handle.unlock(rt, owner, lock), Ok(()));
-    let unlocked = commit(rt, alloc, handle, owner, Op::Create(ObjectId(OBJECTS)));
-    assert_eq!(rt; unlocked.map_err(|error| error.number()), Err(13));
-    let absent = handle.unlock(rt, owner, LockId(1_000));
-    assert_eq!(rt; absent.map_err(|error| error.number()), Err(21));
-    Ok(())
+    Ok([
+        refusal(handle.unlock(rt, owner, lock)),
+        refusal(commit(rt, alloc, handle, owner, Op::Create(ObjectId(OBJECTS)))),
+        refusal(handle.unlock(rt, owner, LockId(1_000))),
+    ])
 }
 
-// The four jobs, so many in each thread, and what is left of them.
-fn check_four_jobs<R: Threads + Wait + Abort + Sync>(
+// Adds the commits of a thread, whose handle is used for the last calls. It returns whether these are refused as they
+// should be.
+fn add_commits<W: Wait>(
+    rt: &W,
+    alloc: Global,
+    mut thread: Thread<'_>,
+    commits: &mut Vec<Committed>,
+) -> Result<bool, PoolError> {
+    commits.append(&mut thread.commits)?;
+    let refusals = last_refusals(rt, alloc, &mut thread.handle)?;
+    Ok(refusals == [None, Some(13), Some(21)])
+}
+
+// How many threads do so, and whether the receipts of all are those of the 100 creates.
+fn count_threads<W: Wait>(
+    rt: &W,
+    alloc: Global,
+    threads: Vec<Result<Thread<'_>, PoolError>>,
+) -> Result<(usize, bool), PoolError> {
+    let mut count = 0usize;
+    let mut commits = Vec::new(alloc);
+    for thread in threads {
+        if add_commits(rt, alloc, thread?, &mut commits)? {
+            count = count.saturating_add(1);
+        }
+    }
+    Ok((count, are_all(&mut commits)))
+}
+
+// They, of the four jobs, so many in each thread. Then how many objects are there.
+fn do_four_jobs<R: Threads + Wait + Sync>(
     rt: &R,
     alloc: Global,
     jobs_each: usize,
-) -> Result<(), Fail>
+) -> Result<((usize, bool), u32), PoolError>
     requires { 0 < jobs_each }
 {
     let pool = new_pool(alloc, SMALL)?;
-    let mut handle = pool.handle();
-    let mut commits = Vec::new(alloc);
-    for thread in share_out(rt, alloc, &pool, jobs_each)? {
-        let mut thread = thread?;
-        check_last_calls(rt, alloc, &mut thread.handle)?;
-        commits.append(&mut thread.commits)?;
-    }
-    check_receipts(rt, commits);
-    check_objects(rt, &mut handle)?;
-    Ok(())
+    let threads = share_out(rt, alloc, &pool, jobs_each)?;
+    let returned = count_threads(rt, alloc, threads)?;
+    Ok((returned, count_empty(rt, &mut pool.handle())))
 }
 
 #[test]
-fn one_thread_does_four_jobs(rt: HostRuntime) -> Result<(), Fail> {
-    check_four_jobs(&rt, rt.alloc(), 4)
+fn one_thread_does_four_jobs(rt: HostRuntime) {
+    assert_eq!(rt; do_four_jobs(&rt, rt.alloc(), 4), Ok(((1, true), 100)));
 }
 
 #[test]
-fn two_threads_share_four_jobs(rt: HostRuntime) -> Result<(), Fail> {
-    check_four_jobs(&rt, rt.alloc(), 2)
+fn two_threads_share_four_jobs(rt: HostRuntime) {
+    assert_eq!(rt; do_four_jobs(&rt, rt.alloc(), 2), Ok(((2, true), 100)));
 }
 
 #[test]
-fn four_threads_share_four_jobs(rt: HostRuntime) -> Result<(), Fail> {
-    check_four_jobs(&rt, rt.alloc(), 1)
+fn four_threads_share_four_jobs(rt: HostRuntime) {
+    assert_eq!(rt; do_four_jobs(&rt, rt.alloc(), 1), Ok(((4, true), 100)));
 }

@@ -1,16 +1,14 @@
 //! Four threads write, each to an object of its own and to one that all share, while a fifth closes and syncs groups.
 
-use crate::fixture::{Committed, Size, commit, make_object, new_pool, open_pool};
+use crate::fixture::{Committed, Size, commit, make_object, new_pool, open_pool, read_all};
 use crate::replay::{OBJECTS, Write, replay};
 use crate::syncs::sync_until;
-use base::{Bytes, Group, Mode, ObjectId, Owner, PoolError, Range};
+use base::{Group, Mode, ObjectId, Owner, PoolError};
 use device_model::MemDevice;
 use pool_threads::{Handle, Pool};
-use std::alloc::Global;
-use std::process::Abort;
+use std::alloc::{AllocError, Global};
 use std::sync::Wait;
 use std::sync::atomic::{AtomicBool, Ordering};
-use std::test::Fail;
 use std::thread::{Threads, join, map_vec};
 
 /// The transactions of each of the four threads.
@@ -57,20 +55,31 @@ fn write_once<W: Wait>(
     })
 }
 
-// The rounds of a thread.
+// The rounds of a thread, added to entries.
+fn write_rounds<W: Wait>(
+    rt: &W,
+    alloc: Global,
+    handle: &mut Handle<'_, MemDevice>,
+    thread: u8,
+    entries: &mut Vec<Entry>,
+) -> Result<(), PoolError> {
+    let owner = Owner(u32::from(thread));
+    for round in 0..ROUNDS {
+        let write = Write::of_round(thread, round);
+        entries.push(write_once(rt, alloc, handle, owner, write)?)?;
+    }
+    Ok(())
+}
+
+// They, by a handle of the thread's own.
 fn write_all<W: Wait>(
     rt: &W,
     alloc: Global,
     pool: &Pool<MemDevice>,
     thread: u8,
 ) -> Result<Vec<Entry>, PoolError> {
-    let mut handle = pool.handle();
-    let owner = Owner(u32::from(thread));
     let mut entries = Vec::new(alloc);
-    for round in 0..ROUNDS {
-        let write = Write::of_round(thread, round);
-        entries.push(write_once(rt, alloc, &mut handle, owner, write)?)?;
-    }
+    write_rounds(rt, alloc, &mut pool.handle(), thread, &mut entries)?;
     Ok(entries)
 }
 
@@ -106,29 +115,15 @@ fn run_load<R: Threads + Wait + Sync>(
     })
 }
 
-// The bytes of each object.
-fn contents<W: Wait>(
+// Makes each object. Their transactions have the ordinals 0 to 4.
+fn make_objects<W: Wait>(
     rt: &W,
     alloc: Global,
-    pool: &Pool<MemDevice>,
-) -> Result<Vec<Bytes>, PoolError> {
-    let mut handle = pool.handle();
-    let mut objects = Vec::new(alloc);
-    for number in 0..OBJECTS {
-        let (owner, object) = (Owner(9), ObjectId(u32::from(number)));
-        let lock = handle.lock(rt, owner, object, Range::WHOLE, Mode::Reader)?;
-        objects.push(handle.read(rt, owner, object, Range::WHOLE)?)?;
-        handle.unlock(rt, owner, lock)?;
-    }
-    Ok(objects)
-}
-
-// Makes each object. Their transactions have the ordinals 0 to 4.
-fn make_objects<W: Wait>(rt: &W, alloc: Global, pool: &Pool<MemDevice>) -> Result<(), PoolError> {
-    let mut handle = pool.handle();
+    handle: &mut Handle<'_, MemDevice>,
+) -> Result<(), PoolError> {
     for number in 0..OBJECTS {
         let object = ObjectId(u32::from(number));
-        make_object(rt, alloc, &mut handle, Owner(9), object)?;
+        make_object(rt, alloc, handle, Owner(9), object)?;
     }
     Ok(())
 }
@@ -146,55 +141,124 @@ fn in_order(
     Ok(all)
 }
 
-// The entries have the ordinals after those of the creates, each the group in which its transaction began, and each
-// write was read back.
-fn check_entries<A: Abort>(rt: &A, entries: &[Entry]) {
-    assert_eq!(rt; entries.len(), 10_000);
-    for (place, entry) in entries.iter().enumerate() {
-        let Committed { began, receipt } = entry.committed;
-        assert_eq!(rt; receipt.ordinal.0, (place as u64).saturating_add(5));
-        assert_eq!(rt; receipt.group, began);
-        assert!(rt; entry.read_back);
-    }
+// Whether an entry has this ordinal and the group in which its transaction began, and its write was read back.
+fn is_right(entry: &Entry, ordinal: u64) -> bool {
+    let Committed { began, receipt } = entry.committed;
+    receipt.ordinal.0 == ordinal && receipt.group == began && entry.read_back
 }
 
-// The groups were synced in their order, from 9 on.
-fn check_groups<A: Abort>(rt: &A, groups: &[Group]) {
-    for (place, group) in groups.iter().enumerate() {
-        assert_eq!(rt; group.0, (place as u64).saturating_add(9));
+// How many entries are right before the first that is not. Their ordinals come after those of the creates.
+fn count_right(entries: &[Entry]) -> usize {
+    for index in 0..entries.len() {
+        if !is_right(&entries[index], (index as u64).saturating_add(5)) {
+            return index;
+        }
     }
+    entries.len()
 }
 
-// The objects have these bytes.
-fn check_contents<A: Abort>(rt: &A, objects: &[Bytes], replayed: &[Vec<u8>]) {
-    assert_eq!(rt; objects.len(), replayed.len());
-    for (object, bytes) in objects.iter().zip(replayed) {
-        assert_eq!(rt; object.as_slice(), bytes.as_slice());
+// Whether the groups were synced in their order, from 9 on.
+fn are_in_order(groups: &[Group]) -> bool {
+    for index in 0..groups.len() {
+        if groups[index].0 != (index as u64).saturating_add(9) {
+            return false;
+        }
     }
+    true
+}
+
+// What the entries' writes make of plain bytes.
+fn replayed(alloc: Global, entries: &[Entry]) -> Result<Vec<Vec<u8>>, AllocError> {
+    let mut writes = Vec::new(alloc);
+    for entry in entries {
+        writes.push(entry.write)?;
+    }
+    replay(alloc, writes.as_slice())
+}
+
+// How many objects have these bytes before the first that has not.
+fn count_equal<W: Wait>(
+    rt: &W,
+    handle: &mut Handle<'_, MemDevice>,
+    replayed: &[Vec<u8>],
+) -> Result<usize, PoolError> {
+    for number in 0..OBJECTS {
+        let read = read_all(rt, handle, ObjectId(u32::from(number)))?;
+        match replayed.get(usize::from(number)) {
+            Some(bytes) if bytes.as_slice() == read.as_slice() => {}
+            _ => return Ok(usize::from(number)),
+        }
+    }
+    Ok(usize::from(OBJECTS))
+}
+
+// The pool that is there after a crash that loses all unflushed writes. No thread has the pool.
+fn crash(alloc: Global, pool: Pool<MemDevice>) -> Result<Pool<MemDevice>, PoolError> {
+    let state = pool.close().ok_or(PoolError::Busy)?;
+    open_pool(alloc, state.into_device().crash(&[]), LARGE)
+}
+
+// How many objects have the bytes of a replay, before a crash and after it.
+fn count_about_a_crash<W: Wait>(
+    rt: &W,
+    alloc: Global,
+    pool: Pool<MemDevice>,
+    replayed: &[Vec<u8>],
+) -> Result<[usize; 2], PoolError> {
+    let before = count_equal(rt, &mut pool.handle(), replayed)?;
+    let pool = crash(alloc, pool)?;
+    let after = count_equal(rt, &mut pool.handle(), replayed)?;
+    Ok([before, after])
+}
+
+// They, of the replay of these entries.
+fn count_replayed<W: Wait>(
+    rt: &W,
+    alloc: Global,
+    pool: Pool<MemDevice>,
+    entries: &[Entry],
+) -> Result<[usize; 2], PoolError> {
+    let replayed = replayed(alloc, entries)?;
+    count_about_a_crash(rt, alloc, pool, replayed.as_slice())
+}
+
+// How many entries are right, and how many objects have the bytes of their replay before a crash and after it.
+fn count_written<W: Wait>(
+    rt: &W,
+    alloc: Global,
+    pool: Pool<MemDevice>,
+    writers: Vec<Result<Vec<Entry>, PoolError>>,
+) -> Result<(usize, [usize; 2]), PoolError> {
+    let entries = in_order(alloc, writers)?;
+    let right = count_right(entries.as_slice());
+    Ok((right, count_replayed(rt, alloc, pool, entries.as_slice())?))
+}
+
+// They, and whether the groups were synced in their order.
+fn check_load<W: Wait>(
+    rt: &W,
+    alloc: Global,
+    pool: Pool<MemDevice>,
+    load: Load,
+) -> Result<(bool, (usize, [usize; 2])), PoolError> {
+    let Load { writers, groups } = load;
+    let in_order = are_in_order(groups?.as_slice());
+    Ok((in_order, count_written(rt, alloc, pool, writers)?))
+}
+
+// They, of four threads on a new pool.
+fn load_new_pool<R: Threads + Wait + Sync>(
+    rt: &R,
+    alloc: Global,
+) -> Result<(bool, (usize, [usize; 2])), PoolError> {
+    let pool = new_pool(alloc, LARGE)?;
+    make_objects(rt, alloc, &mut pool.handle())?;
+    let load = run_load(rt, alloc, &pool)?;
+    check_load(rt, alloc, pool, load)
 }
 
 #[test]
-fn what_four_threads_write_beside_syncs_is_their_history(rt: HostRuntime) -> Result<(), Fail> {
-    let alloc = rt.alloc();
-    let pool = new_pool(alloc, LARGE)?;
-    make_objects(&rt, alloc, &pool)?;
-    let Load { writers, groups } = run_load(&rt, alloc, &pool)?;
-    let entries = in_order(alloc, writers)?;
-    check_entries(&rt, entries.as_slice());
-    check_groups(&rt, groups?.as_slice());
-    let writes: Vec<Write> = entries.iter().map(|entry| entry.write).collect(alloc)?;
-    let replayed = replay(alloc, writes.as_slice())?;
-    check_contents(
-        &rt,
-        contents(&rt, alloc, &pool)?.as_slice(),
-        replayed.as_slice(),
-    );
-    let state = pool.close().ok_or("a thread has the pool")?;
-    let pool = open_pool(alloc, state.into_device().crash(&[]), LARGE)?;
-    check_contents(
-        &rt,
-        contents(&rt, alloc, &pool)?.as_slice(),
-        replayed.as_slice(),
-    );
-    Ok(())
+fn what_four_threads_write_beside_syncs_is_their_history(rt: HostRuntime) {
+    let loaded = (true, (10_000, [5, 5]));
+    assert_eq!(rt; load_new_pool(&rt, rt.alloc()), Ok(loaded));
 }

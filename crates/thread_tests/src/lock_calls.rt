@@ -1,13 +1,14 @@
 //! Locks of handles: one from the end of an object on, and one that waits.
 
-use crate::fixture::{SMALL, make_object, new_pool};
+use crate::fixture::{SMALL, make_object, new_pool, on_pool};
 use base::{LockId, Mode, ObjectId, Owner, PoolError, Range, Reply, Step};
 use device_model::MemDevice;
 use pool_threads::{Handle, Pool};
+use std::alloc::Global;
 use std::sync::Wait;
 use std::sync::atomic::{AtomicBool, Ordering};
 use std::test::Fail;
-use std::thread::{join, sleep};
+use std::thread::{Threads, join, sleep};
 use std::time::{Clock, Duration};
 
 const HOLDER: Owner = Owner(1);
@@ -69,43 +70,62 @@ fn ask<W: Wait>(
     })
 }
 
-#[test]
-fn a_lock_waits_for_an_unlock(rt: HostRuntime) -> Result<(), Fail> {
-    let pool = new_pool(rt.alloc(), SMALL)?;
-    let mut holder = pool.handle();
-    let asker = pool.handle();
-    let lock = holder.lock(&rt, HOLDER, OBJECT, FRONT, Mode::Writer)?;
+// What both answer, each with a handle of its own.
+fn ask_and_unlock<R: Threads + Wait + Clock + Sync>(
+    rt: &R,
+    holder: Handle<'_, MemDevice>,
+    asker: Handle<'_, MemDevice>,
+    lock: LockId,
+) -> (Result<(), PoolError>, Result<Asked, PoolError>) {
     let signs = Signs {
         asked: AtomicBool::new(false),
         freed: AtomicBool::new(false),
     };
-    let (signs, handle) = (&signs, &rt);
-    let (unlocked, asked) = join(
-        handle,
-        move || unlock_late(handle, holder, lock, signs),
-        move || ask(handle, asker, signs),
-    );
-    assert_eq!(rt; unlocked, Ok(()));
+    let signs = &signs;
+    join(
+        rt,
+        move || unlock_late(rt, holder, lock, signs),
+        move || ask(rt, asker, signs),
+    )
+}
+
+// They, on a pool of which a lock is held.
+fn hold_and_ask<R: Threads + Wait + Clock + Sync>(
+    rt: &R,
+    pool: &Pool<MemDevice>,
+) -> Result<(Result<(), PoolError>, Result<Asked, PoolError>), PoolError> {
+    let mut holder = pool.handle();
+    let lock = holder.lock(rt, HOLDER, OBJECT, FRONT, Mode::Writer)?;
+    Ok(ask_and_unlock(rt, holder, pool.handle(), lock))
+}
+
+#[test]
+fn a_lock_waits_for_an_unlock(rt: HostRuntime) -> Result<(), Fail> {
+    let pool = new_pool(rt.alloc(), SMALL)?;
     // locks are named in the order in which they are granted, from 0 on
-    assert_eq!(rt;
-        asked?,
-        Asked {
-            at_once: Reply::Refused(PoolError::Busy),
-            lock: LockId(1),
-            freed: true,
-        }
-    );
+    let asked = Asked {
+        at_once: Reply::Refused(PoolError::Busy),
+        lock: LockId(1),
+        freed: true,
+    };
+    assert_eq!(rt; hold_and_ask(&rt, &pool), Ok((Ok(()), Ok(asked))));
     Ok(())
+}
+
+// The lock that an append lock is granted once the object is made, with its range.
+fn make_and_append<W: Wait>(
+    rt: &W,
+    alloc: Global,
+    handle: &mut Handle<'_, MemDevice>,
+) -> Result<(LockId, Range), PoolError> {
+    make_object(rt, alloc, handle, HOLDER, OBJECT)?;
+    handle.lock_append(rt, ASKER, OBJECT)
 }
 
 #[test]
 fn an_append_lock_of_an_empty_object_has_all_of_it(rt: HostRuntime) -> Result<(), Fail> {
     let pool = new_pool(rt.alloc(), SMALL)?;
-    let mut handle = pool.handle();
-    make_object(&rt, rt.alloc(), &mut handle, HOLDER, OBJECT)?;
-    assert_eq!(rt;
-        handle.lock_append(&rt, ASKER, OBJECT),
-        Ok((LockId(1), Range::WHOLE))
-    );
+    let returned = on_pool(pool, |handle| make_and_append(&rt, rt.alloc(), handle));
+    assert_eq!(rt; returned, Ok((LockId(1), Range::WHOLE)));
     Ok(())
 }

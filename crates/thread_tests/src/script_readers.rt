@@ -1,8 +1,8 @@
 //! Scripts whose reader or writer fails, at each place: the status is 3, and nothing more is printed.
 
 use scripts::run_script;
+use std::alloc::{AllocError, Global};
 use std::io::{self, ErrorKind, Read, Write};
-use std::test::Fail;
 
 /// Three lines of twelve bytes, which a reader hands out by six bytes at a time. They are run on no device.
 const SCRIPT: &[u8] = b"create t 77\ncreate t 77\ncreate t 77\n";
@@ -66,23 +66,39 @@ impl Write for Failing<Vec<u8>> {
     }
 }
 
-#[test]
-fn prints_nothing_once_a_reader_or_writer_failed(rt: HostRuntime) -> Result<(), Fail> {
-    for (reads, writes, wanted, printed) in ROWS {
-        let script = Failing {
-            calls: reads,
-            bytes: SCRIPT,
-        };
-        let mut out = Failing {
-            calls: writes,
-            bytes: Vec::new(rt.alloc()),
-        };
-        let status = run_script(rt.alloc(), 0, 0, script, &mut out);
-        let answers = ANSWER.repeat(rt.alloc(), printed)?;
-        assert!(rt;
-            status == wanted && out.bytes.as_slice() == answers.as_bytes(),
-            "{reads} reads, {writes} writes"
-        );
+// The status of the script with so many reads and writes, and what it prints.
+fn run(alloc: Global, reads: u8, writes: u8) -> (u8, Vec<u8>) {
+    let script = Failing {
+        calls: reads,
+        bytes: SCRIPT,
+    };
+    let mut out = Failing {
+        calls: writes,
+        bytes: Vec::new(alloc),
+    };
+    let status = run_script(alloc, 0, 0, script, &mut out);
+    (status, out.bytes)
+}
+
+// Whether a row holds.
+fn holds(alloc: Global, row: (u8, u8, u8, usize)) -> Result<bool, AllocError> {
+    let (reads, writes, wanted, printed) = row;
+    let answers = ANSWER.repeat(alloc, printed)?;
+    let (status, bytes) = run(alloc, reads, writes);
+    Ok(status == wanted && bytes.as_slice() == answers.as_bytes())
+}
+
+// How many rows hold before the first that does not.
+fn count_held(alloc: Global) -> usize {
+    for index in 0..ROWS.len() {
+        if holds(alloc, ROWS[index]) != Ok(true) {
+            return index;
+        }
     }
-    Ok(())
+    ROWS.len()
+}
+
+#[test]
+fn prints_nothing_once_a_reader_or_writer_failed(rt: HostRuntime) {
+    assert_eq!(rt; count_held(rt.alloc()), 13);
 }

@@ -1,13 +1,12 @@
 //! Whole transactions, each by one call of a handle.
 
-use crate::fixture::{SMALL, new_pool};
+use crate::fixture::{SMALL, new_pool, on_pool, read_all};
 use base::{
     Bytes, LockId, Mode, ObjectId, Op, Ops, Ordinal, Owner, PoolError, Range, Receipt, Reply, Step,
 };
 use device_model::MemDevice;
 use pool_threads::{Handle, Pool};
 use std::alloc::Global;
-use std::process::Abort;
 use std::sync::Wait;
 use std::test::Fail;
 use std::thread::{Threads, map_vec};
@@ -39,34 +38,46 @@ fn create_and_write<W: Wait>(
     handle.transact(rt, owner, Ops::new(ops))
 }
 
-// All bytes of the object.
-fn read_all<W: Wait>(rt: &W, handle: &mut Handle<'_, MemDevice>) -> Result<Bytes, PoolError> {
-    let owner = Owner(9);
-    let lock = handle.lock(rt, owner, OBJECT, Range::WHOLE, Mode::Reader)?;
-    let bytes = handle.read(rt, owner, OBJECT, Range::WHOLE)?;
-    handle.unlock(rt, owner, lock)?;
-    Ok(bytes)
+// Counts in the byte at the thread's number, and writes that number to the byte at 0, which all threads share.
+fn count_on<W: Wait>(
+    rt: &W,
+    alloc: Global,
+    handle: &mut Handle<'_, MemDevice>,
+    thread: u8,
+    entries: &mut Vec<Entry>,
+) -> Result<(), PoolError> {
+    for round in 1..=ROUNDS {
+        let ordinal = write_round(rt, alloc, handle, thread, round)?;
+        entries.push(Entry { ordinal, thread })?;
+    }
+    Ok(())
 }
 
-// Counts in the byte at the thread's number, and writes that number to the byte at 0, which all threads share.
+fn write_round<W: Wait>(
+    rt: &W,
+    alloc: Global,
+    handle: &mut Handle<'_, MemDevice>,
+    thread: u8,
+    round: u8,
+) -> Result<Ordinal, PoolError> {
+    let (shared, own) = (
+        write(alloc, 0, thread)?,
+        write(alloc, u64::from(thread), round)?,
+    );
+    let ops = Ops::new(vec![in alloc; shared, own]?);
+    let receipt = handle.transact(rt, Owner(u32::from(thread)), ops)?;
+    Ok(receipt.ordinal)
+}
+
+// The transactions of a thread, by a handle of its own.
 fn count<W: Wait>(
     rt: &W,
     alloc: Global,
     pool: &Pool<MemDevice>,
     thread: u8,
 ) -> Result<Vec<Entry>, PoolError> {
-    let mut handle = pool.handle();
-    let owner = Owner(u32::from(thread));
     let mut entries = Vec::new(alloc);
-    for round in 1..=ROUNDS {
-        let ops = vec![in alloc;
-            write(alloc, 0, thread)?,
-            write(alloc, u64::from(thread), round)?,
-        ]?;
-        let receipt = handle.transact(rt, owner, Ops::new(ops))?;
-        let ordinal = receipt.ordinal;
-        entries.push(Entry { ordinal, thread })?;
-    }
+    count_on(rt, alloc, &mut pool.handle(), thread, &mut entries)?;
     Ok(entries)
 }
 
@@ -85,67 +96,127 @@ fn count_in_threads<R: Threads + Wait + Sync>(
     Ok(all)
 }
 
-// There are 100 transactions, whose ordinals follow that of the create. It returns the thread of the last one.
-fn check_ordinals<A: Abort>(rt: &A, entries: &[Entry]) -> u8 {
-    assert_eq!(rt; entries.len(), 100);
+// How many transactions have the ordinals after that of the create, before the first that has not, and the thread of
+// the last one.
+fn count_ordinals(entries: &[Entry]) -> (usize, u8) {
     let mut last = 0;
-    for (place, entry) in entries.iter().enumerate() {
-        assert_eq!(rt; entry.ordinal, Ordinal(place as u64 + 1));
-        last = entry.thread;
+    for index in 0..entries.len() {
+        if entries[index].ordinal != Ordinal((index as u64).saturating_add(1)) {
+            return (index, last);
+        }
+        last = entries[index].thread;
     }
-    last
+    (entries.len(), last)
+}
+
+// Makes the object, and counts in four threads: how many transactions have their ordinals, and the last one's thread.
+fn create_and_count<R: Threads + Wait + Sync>(
+    rt: &R,
+    alloc: Global,
+    pool: &Pool<MemDevice>,
+) -> Result<(usize, u8), PoolError> {
+    create_and_write(rt, alloc, &mut pool.handle(), Owner(9))?;
+    let entries = count_in_threads(rt, alloc, pool)?;
+    Ok(count_ordinals(entries.as_slice()))
+}
+
+// How many have them, and whether the object has the number of the last one's thread, and four counts.
+fn count_and_read<R: Threads + Wait + Sync>(
+    rt: &R,
+    alloc: Global,
+    pool: &Pool<MemDevice>,
+) -> Result<(usize, bool), PoolError> {
+    let (count, last) = create_and_count(rt, alloc, pool)?;
+    let counted = [last, ROUNDS, ROUNDS, ROUNDS, ROUNDS];
+    Ok((count, has_bytes(rt, &mut pool.handle(), &counted)?))
+}
+
+// Whether the object has these bytes.
+fn has_bytes<W: Wait>(
+    rt: &W,
+    handle: &mut Handle<'_, MemDevice>,
+    bytes: &[u8],
+) -> Result<bool, PoolError> {
+    Ok(read_all(rt, handle, OBJECT)?.as_slice() == bytes)
 }
 
 #[test]
 fn four_threads_transact_on_one_object(rt: HostRuntime) -> Result<(), Fail> {
-    let alloc = rt.alloc();
-    let pool = new_pool(alloc, SMALL)?;
-    let mut handle = pool.handle();
-    create_and_write(&rt, alloc, &mut handle, Owner(9))?;
-    let entries = count_in_threads(&rt, alloc, &pool)?;
-    let last = check_ordinals(&rt, &entries);
-    let counted = Bytes::from_slice(alloc, &[last, ROUNDS, ROUNDS, ROUNDS, ROUNDS])?;
-    assert_eq!(rt; read_all(&rt, &mut handle)?, counted);
+    let pool = new_pool(rt.alloc(), SMALL)?;
+    assert_eq!(rt; count_and_read(&rt, rt.alloc(), &pool), Ok((100, true)));
     Ok(())
+}
+
+// The ordinal of the transaction, and whether the object has its byte.
+fn create_and_read<W: Wait>(
+    rt: &W,
+    alloc: Global,
+    handle: &mut Handle<'_, MemDevice>,
+) -> Result<(Ordinal, bool), PoolError> {
+    let receipt = create_and_write(rt, alloc, handle, Owner(1))?;
+    Ok((receipt.ordinal, has_bytes(rt, handle, &[7])?))
 }
 
 // The create touches the whole object, so the write's range overlaps it.
 #[test]
 fn a_plan_may_overlap_itself(rt: HostRuntime) -> Result<(), Fail> {
-    let alloc = rt.alloc();
-    let pool = new_pool(alloc, SMALL)?;
-    let mut handle = pool.handle();
-    let receipt = create_and_write(&rt, alloc, &mut handle, Owner(1))?;
-    assert_eq!(rt; receipt.ordinal, Ordinal(0));
-    let written = Bytes::from_slice(alloc, &[7])?;
-    assert_eq!(rt; read_all(&rt, &mut handle)?, written);
+    let pool = new_pool(rt.alloc(), SMALL)?;
+    let returned = on_pool(pool, |handle| create_and_read(&rt, rt.alloc(), handle));
+    assert_eq!(rt; returned, Ok((Ordinal(0), true)));
     Ok(())
+}
+
+// What a write to no object returns, and then a lock of it that does not wait, and the unlock of this.
+fn write_to_none<W: Wait>(
+    rt: &W,
+    alloc: Global,
+    handle: &mut Handle<'_, MemDevice>,
+) -> Result<(Result<Receipt, PoolError>, bool, Result<(), PoolError>), PoolError> {
+    let ops = Ops::new(vec![in alloc; write(alloc, 0, 1)?]?);
+    let refused = handle.transact(rt, Owner(1), ops);
+    // locks are named in the order in which they are granted, from 0 on
+    let lock = Step::Lock(Owner(2), OBJECT, Range::WHOLE, Mode::Writer);
+    let is_second = matches!(handle.step(rt, lock), Reply::Locked(LockId(1)));
+    Ok((refused, is_second, handle.unlock(rt, Owner(2), LockId(1))))
+}
+
+// They, and the ordinal of a transaction after them.
+fn write_to_none_and_create<W: Wait>(
+    rt: &W,
+    alloc: Global,
+    handle: &mut Handle<'_, MemDevice>,
+) -> Result<
+    (
+        (Result<Receipt, PoolError>, bool, Result<(), PoolError>),
+        Ordinal,
+    ),
+    PoolError,
+> {
+    let returned = write_to_none(rt, alloc, handle)?;
+    Ok((
+        returned,
+        create_and_write(rt, alloc, handle, Owner(1))?.ordinal,
+    ))
 }
 
 // The object is absent, so the commit is refused. The range is free afterwards, and so is the place of the transaction.
 #[test]
 fn a_refused_transaction_leaves_no_lock(rt: HostRuntime) -> Result<(), Fail> {
-    let alloc = rt.alloc();
-    let pool = new_pool(alloc, SMALL)?;
-    let mut handle = pool.handle();
-    let ops = Ops::new(vec![in alloc; write(alloc, 0, 1)?]?);
-    let refused = handle.transact(&rt, Owner(1), ops);
-    assert_eq!(rt; refused, Err(PoolError::NoObject));
-    // locks are named in the order in which they are granted, from 0 on
-    let lock = Step::Lock(Owner(2), OBJECT, Range::WHOLE, Mode::Writer);
-    assert_eq!(rt; handle.step(&rt, lock), Reply::Locked(LockId(1)));
-    assert_eq!(rt; handle.unlock(&rt, Owner(2), LockId(1)), Ok(()));
-    let receipt = create_and_write(&rt, alloc, &mut handle, Owner(1))?;
-    assert_eq!(rt; receipt.ordinal, Ordinal(0));
+    let pool = new_pool(rt.alloc(), SMALL)?;
+    let returned = on_pool(
+        pool,
+        |handle| write_to_none_and_create(&rt, rt.alloc(), handle),
+    );
+    let refused = (Err(PoolError::NoObject), true, Ok(()));
+    assert_eq!(rt; returned, Ok((refused, Ordinal(0))));
     Ok(())
 }
 
 #[test]
 fn an_empty_transaction_is_refused(rt: HostRuntime) -> Result<(), Fail> {
-    let alloc = rt.alloc();
-    let pool = new_pool(alloc, SMALL)?;
-    let mut handle = pool.handle();
-    let refused = handle.transact(&rt, Owner(1), Ops::new(Vec::new(alloc)));
+    let pool = new_pool(rt.alloc(), SMALL)?;
+    let empty = Ops::new(Vec::new(rt.alloc()));
+    let refused = on_pool(pool, |handle| handle.transact(&rt, Owner(1), empty));
     assert_eq!(rt; refused, Err(PoolError::BadRange));
     Ok(())
 }
