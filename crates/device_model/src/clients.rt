@@ -142,6 +142,14 @@ fn a_device_that_holds_its_file_has_its_lock<F: SectorFile + HeldFile + OpenFile
     FileDevice::hold(file, Access::Write)
 }
 
+fn a_device_that_sizes_its_file_has_its_lock<F: SectorFile + HeldFile + OpenFile + Drop>(
+    file: F,
+) -> Result<FileDevice<F>, FileRefusal>
+    ensures { IsOk result → F.is_held file Access.Write }
+{
+    FileDevice::hold_sized(file, 2_048)
+}
+
 fn a_device_on_an_opened_file_has_refused_nothing<R: Files>(
     files: &R,
     path: &str,

@@ -148,7 +148,7 @@ impl<F: SectorFile + HeldFile + OpenFile + Drop> FileDevice<F> {
     }
 
     // Holds a file that is open for writing, and then gives it its size.
-    fn hold_sized(file: F, size: u64) -> Result<Self, FileRefusal>
+    pub(crate) fn hold_sized(file: F, size: u64) -> Result<Self, FileRefusal>
         ensures held { IsOk result → F.is_held file Access.Write }
         ensures none_refused { IfOk result (λ device. device.refused ≡ none_refused) }
     {
