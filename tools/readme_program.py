@@ -6,22 +6,20 @@
 COMMAND is `try`, which proves nothing and takes a minute, or `run`, which proves the program and all crates below first.
 Fails unless the program prints `hello`.
 """
-import pathlib, re, shutil, subprocess, sys, tempfile
+import re, subprocess, sys, tempfile
 
-TOP = pathlib.Path(__file__).resolve().parent.parent
+sys.dont_write_bytecode = True
+
+from build_program import TOP, copied  # noqa: E402
 
 
 def main():
     command = sys.argv[1] if len(sys.argv) > 1 else "try"
     code = re.search(r"```rust\n(.*?)```", (TOP / "README.md").read_text(), re.S)[1]
     with tempfile.TemporaryDirectory() as room:
-        copy = pathlib.Path(room, "copy")
-        shutil.copytree(TOP, copy, ignore=shutil.ignore_patterns("out", ".git"))
-        source = copy / "crates/readme_program/src"
+        source = copied(room, "readme_program: anyhow topzerad", "out") / "readme_program/src"
         source.mkdir(parents=True)
         (source / "main.rt").write_text(code)
-        with open(copy / "crates.txt", "a") as crates:
-            crates.write("readme_program: anyhow topzerad\n")
         ran = subprocess.run(["rt", command], cwd=source.parent, capture_output=True, text=True)
     print(ran.stdout + ran.stderr)
     if "hello" not in ran.stdout.splitlines():

@@ -10,7 +10,7 @@ ghost use Rattle.base.specs.declared.range.ObjectRange.{ObjectRange};
 ghost use Rattle.base.specs.declared.step.Reply.TheVariants as reply;
 ghost use Rattle.base.specs.declared.step.Step.TheVariants as step;
 ghost use Rattle.base.specs.steps.Refusals.{object_range};
-ghost use Rattle.base.specs.steps.Seen.{IsGranted, IsKnownDurable, IsReadBetween};
+ghost use Rattle.base.specs.steps.Seen.{IsGranted, IsKnownDurable, IsReadBetween, IsThrottledForGood};
 ghost use Rattle.import_replay.specs.ImportSyncs.{IsImportSynced};
 ghost use Rattle.import_replay.specs.Mounts.{shown_of_import};
 ghost use Rattle.import_replay.specs.declared.mounted.Mounted.{Mounted};
@@ -25,6 +25,8 @@ ghost use Rattle.transactions.specs.LockRanges.{lock_ranges};
 ghost use Rattle.word_lock.specs.Seats.{seen};
 ghost use Rattle.word_lock.specs.Turns.{turn};
 
+use crate::loops::ending;
+use crate::turn::goes_on;
 use crate::{Handle, LastSeen, OwnedPool, Pool};
 use base::{
     Bytes, Group, LockId, Mode, ObjectId, Ops, Ordinal, Owner, Plan, PoolError, Range, Receipt,
@@ -214,6 +216,18 @@ where
     }
 }
 
+fn an_open_pool_follows_the_crash_rule<D: SectorDevice>(alloc: Global, device: D) -> Option<Pool<D>>
+where
+    D: Drop,
+    ensures { IfSome result (λ p. OpensBehind (IsTrue D.keeps_model) (D.disk device) 1048576
+        (opening_view (shared_of p))) }
+{
+    match Pool::open(alloc, device, 1_048_576, 7) {
+        Ok(pool) => Some(pool),
+        Err(_) => None,
+    }
+}
+
 // It is the state that the only handle left.
 fn a_pool_of_one_handle_always_closes<D: SectorDevice>(
     pool: OwnedPool<D>,
@@ -349,6 +363,17 @@ fn a_begin_takes_turns<D: SectorDevice, W: Wait>(
     handle.begin(rt, owner, plan)
 }
 
+fn a_begin_is_throttled_above_the_limit_alone<D: SectorDevice, W: Wait>(
+    rt: &W,
+    handle: &mut Handle<'_, D>,
+    plan: Plan,
+) -> bool
+    ensures { result ≡ true → IsThrottledForGood plan (state_seen handle.new) }
+{
+    let answer = handle.begin(rt, Owner(3), plan);
+    matches!(answer, Err(PoolError::Throttled))
+}
+
 fn a_transact_enters_its_operations<D: SectorDevice, W: Wait>(
     rt: &W,
     handle: &mut Handle<'_, D>,
@@ -472,6 +497,24 @@ fn a_durable_transaction_is_entered_and_durable<D: SectorDevice, W: Wait>(
         Ok(receipt) => Some(receipt),
         Err(_) => None,
     }
+}
+
+fn a_turn_ends_with_a_refused_step(error: PoolError) -> bool
+    ensures { result ≡ false }
+{
+    goes_on(&Reply::Refused(error))
+}
+
+fn a_loop_goes_on_if_a_group_is_not_ready() -> bool
+    ensures { result ≡ true }
+{
+    ending(&Some(Reply::Refused(PoolError::NotReady))).is_none()
+}
+
+fn a_refused_write_ends_a_loop() -> bool
+    ensures { result ≡ true }
+{
+    ending(&Some(Reply::Refused(PoolError::Write))).is_some()
 }
 
 // A quiescer makes no step of a sync, and waits if a group is not ready.

@@ -95,7 +95,7 @@ impl<'p, D: SectorDevice> Handle<'p, D> {
 }
 
 // The refusal that ends a loop.
-fn ending(reply: &Option<Reply>) -> Option<PoolError>
+pub(crate) fn ending(reply: &Option<Reply>) -> Option<PoolError>
     ensures refused { IfSome result (λ e. (reply.now ≡ Some (replied.Refused e))
         × (e ≢ PoolError.NotReady)) }
     ensures passed { IfNone result (GoesOnAfter (Some PoolError.NotReady) reply.now) }

@@ -197,7 +197,7 @@ fn step_replied<'h, D: SectorDevice>(
 
 // Whether a turn goes on after a step with this reply: it ends with a refusal, and after each flush of the log and each
 // sync, so that other threads get the pool.
-fn goes_on(reply: &Reply) -> bool
+pub(crate) fn goes_on(reply: &Reply) -> bool
     ensures answered { result ≡ true → IsAnswer reply.now }
 {
     !matches!(reply, Reply::Refused(_) | Reply::Flushed | Reply::Synced(_))
