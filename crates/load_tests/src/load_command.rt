@@ -2,11 +2,16 @@
 //! status 3.
 
 use crate::fixture::{new_device, order};
+use base::PoolError;
 use commands::{CreateArguments, LoadArguments, Order, run_check, run_create, run_load, run_show};
-use device_model::FileDevice;
+use device_model::{FileDevice, HeldFile};
 use std::fs;
-use std::io::{self, ErrorKind, Write};
+use std::io::{self, Eprint, ErrorKind, Write};
+use std::os::unix::fs::FileExt;
+use std::rt::Files;
+use std::sync::Wait;
 use std::test::Fail;
+use std::thread::Threads;
 
 /// What the command is given for a load of 17 writes a stream, from a seed that 32 bits don't hold.
 fn arguments<'a>() -> LoadArguments<'a> {
@@ -34,18 +39,26 @@ fn tank<'a>(file: &'a str) -> CreateArguments<'a> {
     }
 }
 
-#[test]
-fn a_load_prints_its_writes_and_its_digest(rt: HostRuntime) -> Result<(), Fail> {
+// The status of a load of a device in memory, and whether it prints this and no error.
+fn load_and_print<R: Files + Threads + Wait + Sync + Eprint + AllocGlobal>(
+    rt: &R,
+    printed: &[u8],
+) -> Result<(u8, bool), PoolError>
+where
+    R::File: FileExt + HeldFile + Send,
+{
     let mut out = Vec::new(rt.alloc());
     let mut errors = Vec::new(rt.alloc());
     let device = Ok(new_device(rt.alloc())?);
-    let status = run_load(&rt, arguments(), device, false, &mut out, &mut errors);
-    assert_eq!(rt; status, 0);
+    let status = run_load(rt, arguments(), device, false, &mut out, &mut errors);
+    Ok((status, out.as_slice() == printed && errors.is_empty()))
+}
+
+#[test]
+fn a_load_prints_its_writes_and_its_digest(rt: HostRuntime) {
     let printed = b"committed 289\n\
         digest 19706f79f345039a3c33694766bd726609acfd08cc942250317488d097ec0e98\n";
-    assert!(rt; out.as_slice() == printed.as_slice());
-    assert!(rt; errors.is_empty());
-    Ok(())
+    assert_eq!(rt; load_and_print(&rt, printed), Ok((0, true)));
 }
 
 /// A printer that takes nothing.
@@ -62,52 +75,91 @@ impl Write for Full {
     }
 }
 
-#[test]
-fn a_load_that_cannot_be_printed_has_status_3(rt: HostRuntime) -> Result<(), Fail> {
+// The status of a load that can't be printed, and whether it reports an error.
+fn load_unprinted<R: Files + Threads + Wait + Sync + Eprint + AllocGlobal>(
+    rt: &R,
+) -> Result<(u8, bool), PoolError>
+where
+    R::File: FileExt + HeldFile + Send,
+{
     let mut errors = Vec::new(rt.alloc());
     let device = Ok(new_device(rt.alloc())?);
-    let status = run_load(&rt, arguments(), device, false, &mut Full, &mut errors);
-    assert_eq!(rt; status, 3);
-    assert!(rt; errors.is_empty());
-    Ok(())
+    let status = run_load(rt, arguments(), device, false, &mut Full, &mut errors);
+    Ok((status, !errors.is_empty()))
 }
 
 #[test]
-fn other_commands_that_cannot_print_have_status_3(rt: HostRuntime) -> Result<(), Fail> {
+fn a_load_that_cannot_be_printed_has_status_3(rt: HostRuntime) {
+    assert_eq!(rt; load_unprinted(&rt), Ok((3, false)));
+}
+
+// The statuses of a check, a show and a create that can't be printed, and whether they report an error.
+fn others_unprinted<R: Files + Threads + Wait + Sync + Eprint + AllocGlobal>(
+    rt: &R,
+) -> Result<([u8; 3], bool), PoolError>
+where
+    R::File: FileExt + HeldFile + Send,
+{
     let mut errors = Vec::new(rt.alloc());
     let mut device = Ok(new_device(rt.alloc())?);
     let checked = run_check(rt.alloc(), "tank.pool", &mut device, &mut Full, &mut errors);
     let shown = run_show(rt.alloc(), "tank.pool", &mut device, &mut Full, &mut errors);
-    let created = run_create(&rt, tank("full.pool"), &mut Full, &mut errors);
-    assert_eq!(rt; (checked, shown, created), (3, 3, 3));
-    assert!(rt; errors.is_empty());
+    let created = run_create(rt, tank("full.pool"), &mut Full, &mut errors);
+    Ok(([checked, shown, created], !errors.is_empty()))
+}
+
+#[test]
+fn other_commands_that_cannot_print_have_status_3(rt: HostRuntime) -> Result<(), Fail> {
+    assert_eq!(rt; others_unprinted(&rt), Ok(([3; 3], false)));
     fs::remove_file(&rt, "full.pool")?;
     Ok(())
 }
 
-// The uberblock of group n lies in the first label at 131,072 + 1,024n, with its moment from byte 32 on. In a new pool
-// group 4 is of the create, group 8 of the first import, and group 9 of the first sync (`docs/FORMATS.md`).
-#[test]
-fn the_uberblocks_of_a_load_have_its_moment(rt: HostRuntime) -> Result<(), Fail> {
+// The statuses of a create with moment 5 and of a load with another one.
+fn create_and_load<R: Files + Threads + Wait + Sync + Eprint + AllocGlobal>(
+    rt: &R,
+    file: &str,
+    moment: u64,
+) -> [u8; 2]
+where
+    R::File: FileExt + HeldFile + Send,
+{
     let mut out = Vec::new(rt.alloc());
     let mut errors = Vec::new(rt.alloc());
-    let created = tank("moment.pool");
-    assert_eq!(rt; run_create(&rt, created, &mut out, &mut errors), 0);
-    let loaded = LoadArguments {
-        file: "moment.pool",
+    let created = run_create(rt, tank(file), &mut out, &mut errors);
+    let given = LoadArguments {
+        file,
         order: order(2, 0),
         dirty_max: 1_048_576,
-        moment: 1_700_000_000,
+        moment,
     };
-    let opened = FileDevice::open(&rt, "moment.pool");
-    let status = run_load(&rt, loaded, opened, false, &mut out, &mut errors);
-    assert_eq!(rt; status, 0);
-    let image = fs::read(&rt, "moment.pool")?;
-    for (group, moment) in [(4, 5u64), (8, 1_700_000_000), (9, 1_700_000_000)] {
-        let at = 131_104 + 1_024 * group;
-        let stored = image.get(at..at + 8);
-        assert!(rt; stored == Some(moment.to_le_bytes().as_slice()));
-    }
-    fs::remove_file(&rt, "moment.pool")?;
+    let opened = FileDevice::open(rt, file);
+    let loaded = run_load(rt, given, opened, false, &mut out, &mut errors);
+    [created, loaded]
+}
+
+// Whether the uberblock of a group has this moment, in an image. It lies in the first label at 131,072 + 1,024n, with
+// its moment from byte 32 on (`docs/FORMATS.md`).
+fn has_moment(image: &[u8], group: usize, moment: u64) -> bool {
+    let at = 131_104 + 1_024 * (group % 128);
+    image.get(at..at + 8) == Some(moment.to_le_bytes().as_slice())
+}
+
+// Whether groups 4, 8 and 9 have their moments: those of the create, of the first import and of the first sync.
+fn have_moments(rt: &HostRuntime, file: &str, moment: u64) -> io::Result<[bool; 3]> {
+    let image = fs::read(rt, file)?;
+    fs::remove_file(rt, file)?;
+    Ok([(4, 5), (8, moment), (9, moment)].map(|(group, moment)| has_moment(
+        image.as_slice(),
+        group,
+        moment,
+    )))
+}
+
+#[test]
+fn the_uberblocks_of_a_load_have_its_moment(rt: HostRuntime) -> Result<(), Fail> {
+    let moment = 1_700_000_000;
+    assert_eq!(rt; create_and_load(&rt, "moment.pool", moment), [0, 0]);
+    assert_eq!(rt; have_moments(&rt, "moment.pool", moment)?, [true; 3]);
     Ok(())
 }

@@ -7,7 +7,7 @@ use pool_threads::{Handle, Pool};
 use std::alloc::Global;
 use std::sync::Wait;
 use std::test::Fail;
-use std::thread::{join, sleep};
+use std::thread::{Threads, join, sleep};
 use std::time::{Clock, Duration};
 
 // Commits a create, and rests until its group is synced, for at most 20 seconds. It returns which group is synced.
@@ -46,24 +46,32 @@ fn create_twice<R: Wait + Clock>(
     [first, second]
 }
 
+// What the loops and the creates return, each in a thread of its own.
+fn run_loops<R: Threads + Wait + Clock + Sync>(
+    rt: &R,
+    alloc: Global,
+    pool: &Pool<MemDevice>,
+) -> ([Result<(), PoolError>; 2], [Result<Group, PoolError>; 2]) {
+    let (quiesced, (synced, groups)) = join(
+        rt,
+        move || pool.handle().quiescer(rt),
+        move || {
+            join(
+                rt,
+                move || pool.handle().syncer(rt),
+                move || create_twice(rt, alloc, pool),
+            )
+        },
+    );
+    ([quiesced, synced], groups)
+}
+
 // A create charges far less than the limit, so none is throttled. After the first sync the quiescer rests, so it has to
 // look again by itself.
 #[test]
 fn the_loops_sync_groups_that_nobody_waits_for(rt: HostRuntime) -> Result<(), Fail> {
-    let (alloc, pool) = (rt.alloc(), opened(rt.alloc(), 1_048_576)?);
-    let (pool, handle) = (&pool, &rt);
-    let (quiesced, (synced, groups)) = join(
-        handle,
-        move || pool.handle().quiescer(handle),
-        move || {
-            join(
-                handle,
-                move || pool.handle().syncer(handle),
-                move || create_twice(handle, alloc, pool),
-            )
-        },
-    );
-    assert_eq!(rt; (quiesced, synced), (Ok(()), Ok(())));
-    assert_eq!(rt; groups, [Ok(Group(9)), Ok(Group(10))]);
+    let pool = opened(rt.alloc(), 1_048_576)?;
+    let groups = [Ok(Group(9)), Ok(Group(10))];
+    assert_eq!(rt; run_loops(&rt, rt.alloc(), &pool), ([Ok(()); 2], groups));
     Ok(())
 }
