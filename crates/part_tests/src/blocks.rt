@@ -40,11 +40,6 @@ fn seal_and_open() -> Result<(bool, Group, bool, usize), PoolError> {
     Ok((has_bytes, payload.group(), is_same, bytes.len()))
 }
 
-#[test]
-fn seals_and_opens_a_data_block(rt: HostRuntime) {
-    assert_eq!(rt; seal_and_open(), Ok((true, Group(9), true, PAYLOAD_SIZE)));
-}
-
 // The check of a block whose payload is full.
 fn check_full() -> Result<[u8; 32], PoolError> {
     let mut payload = [0; PAYLOAD_SIZE];
@@ -56,8 +51,11 @@ fn check_full() -> Result<[u8; 32], PoolError> {
 }
 
 #[test]
-fn seals_a_full_log_block(rt: HostRuntime) {
-    assert_eq!(rt; check_full(), Ok(FULL_CHECK));
+fn seals_and_opens_blocks(rt: HostRuntime) {
+    assert_eq!(rt;
+        (seal_and_open(), check_full()),
+        (Ok((true, Group(9), true, PAYLOAD_SIZE)), Ok(FULL_CHECK))
+    );
 }
 
 fn seal_refusal(kind: u64, payload: &[u8]) -> Option<PoolError> {

@@ -14,14 +14,6 @@ fn write_fields() -> ([u8; 24], u64, u64) {
     (slot, read_u64(&slot, 8), read_u64(&slot, 0))
 }
 
-#[test]
-fn fields_are_little_endian(rt: HostRuntime) {
-    let slot = [
-        1, 2, 0, 0, 0, 0, 0, 0, 0x0c, 0xb1, 0xba, 0, 0, 0, 0, 0, 0, 0, 0, 0, 0, 0, 0, 0,
-    ];
-    assert_eq!(rt; write_fields(), (slot, 0x00ba_b10c, 513));
-}
-
 const POINTER: Pointer = Pointer {
     address: 4_198_400,
     birth: 9,
@@ -53,8 +45,14 @@ fn is_pointer_kept() -> [bool; 4] {
 }
 
 #[test]
-fn a_pointer_has_48_bytes(rt: HostRuntime) {
-    assert_eq!(rt; is_pointer_kept(), [true; 4]);
+fn fields_are_little_endian(rt: HostRuntime) {
+    let slot = [
+        1, 2, 0, 0, 0, 0, 0, 0, 0x0c, 0xb1, 0xba, 0, 0, 0, 0, 0, 0, 0, 0, 0, 0, 0, 0, 0,
+    ];
+    assert_eq!(rt;
+        (write_fields(), is_pointer_kept()),
+        ((slot, 0x00ba_b10c, 513), [true; 4])
+    );
 }
 
 // Whether bytes are a name, as a question and as a name that is made of them.

@@ -1,4 +1,4 @@
-//! A memory device: what is stored outlives a crash, planned refusals, counts and pieces of a crash.
+//! A memory device: what is stored outlives a crash, counts and pieces of a crash.
 
 ghost use Rattle.std.specs.Prelude.{◌≡◌, ◌*◌, length, IfOk, IsTrue, OnOk};
 ghost use Rattle.base.specs.disk.Calls.{IsOnDevice};
@@ -131,11 +131,6 @@ fn count_held(device: &mut MemDevice, rows: &[Row]) -> usize {
     rows.len()
 }
 
-// How many rows hold on a new device of one sector.
-fn count_on_one_sector(alloc: Global, rows: &[Row]) -> Result<usize, PoolError> {
-    Ok(count_held(&mut MemDevice::new(alloc, 1)?, rows))
-}
-
 // How many rows hold on a new device before a crash that leaves these pieces, and how many after it.
 fn count_about_a_crash(
     alloc: Global,
@@ -151,28 +146,43 @@ fn count_about_a_crash(
 
 #[test]
 fn what_is_stored_outlives_a_crash(rt: HostRuntime) {
-    // the first and last bytes of the stored sector, those beside it, and one after the written sector
     let before = [
-        Row::Sectors(4),
-        Row::Store(1, 1, 5),
-        Row::Write(2, 1, 6, Ok(())),
-        Row::Byte(511, 0),
-        Row::Byte(512, 5),
-        Row::Byte(1023, 5),
-        Row::Byte(1024, 6),
-        Row::Byte(1536, 0),
+        Row::Sectors(16),
+        Row::Store(0, 8, 7),
+        Row::Store(10, 1, 5),
+        // zeros over the middle of the eight sectors, bytes that are not all the same beside them, and a sector after
+        // the last stored one
+        Row::Write(2, 4, 0, Ok(())),
+        Row::WriteMixed,
+        Row::Write(11, 1, 6, Ok(())),
+        Row::Byte(5119, 0),
+        Row::Byte(5120, 5),
+        Row::Byte(5631, 5),
+        Row::Byte(5632, 6),
+        Row::Byte(6144, 0),
     ];
+    // the crash loses the zeros and the last sector, and keeps the bytes that are not all the same
+    let pieces = [Piece::Lose, Piece::Keep, Piece::Lose];
     let after = [
-        Row::Sectors(4),
-        Row::Byte(511, 0),
-        Row::Byte(512, 5),
-        Row::Byte(1023, 5),
-        Row::Byte(1024, 0),
-        Row::Byte(1536, 0),
+        Row::Sectors(16),
+        Row::Byte(1023, 7),
+        Row::Byte(1024, 7),
+        Row::Byte(2047, 7),
+        Row::Byte(2048, 9),
+        Row::Byte(2747, 9),
+        Row::Byte(2748, 10),
+        Row::Byte(2749, 9),
+        Row::Byte(3072, 7),
+        Row::Byte(4096, 0),
+        Row::Byte(5119, 0),
+        Row::Byte(5120, 5),
+        Row::Byte(5631, 5),
+        Row::Byte(5632, 0),
+        Row::Byte(6144, 0),
     ];
     assert_eq!(rt;
-        count_about_a_crash(rt.alloc(), 4, &before, &[Piece::Lose], &after),
-        Ok([8, 6])
+        count_about_a_crash(rt.alloc(), 16, &before, &pieces, &after),
+        Ok([11, 15])
     );
 }
 
@@ -220,78 +230,5 @@ fn a_crash_leaves_pieces(rt: HostRuntime) {
     assert_eq!(rt;
         count_about_a_crash(rt.alloc(), 8, &before, &pieces, &after),
         Ok([15, 9])
-    );
-}
-
-#[test]
-fn calls_fail_as_planned(rt: HostRuntime) {
-    // the later of two plans says which read fails
-    let reads = [
-        Row::Fail(Fault::Read, 5),
-        Row::Fail(Fault::Read, 2),
-        Row::Read(0, Ok(0)),
-        Row::Read(0, Err(PoolError::Read)),
-        Row::Read(0, Ok(0)),
-    ];
-    assert_eq!(rt; count_on_one_sector(rt.alloc(), &reads), Ok(5));
-    // a write that fails leaves what was there, and both writes are unflushed until a flush that does not fail
-    let writes = [
-        Row::Fail(Fault::Write, 2),
-        Row::Write(0, 1, 1, Ok(())),
-        Row::Write(0, 1, 2, Err(PoolError::Write)),
-        Row::Read(0, Ok(1)),
-        Row::Fail(Fault::Flush, 1),
-        Row::Flush(Err(PoolError::Flush)),
-        Row::Unflushed(2),
-        Row::Flush(Ok(())),
-        Row::Unflushed(0),
-    ];
-    assert_eq!(rt; count_on_one_sector(rt.alloc(), &writes), Ok(9));
-}
-
-#[test]
-fn a_crash_clears_every_plan(rt: HostRuntime) {
-    let planned = [
-        Row::Fail(Fault::Read, 1),
-        Row::Fail(Fault::Write, 1),
-        Row::Fail(Fault::Flush, 1),
-    ];
-    let calls = [
-        Row::Read(0, Ok(0)),
-        Row::Write(0, 1, 3, Ok(())),
-        Row::Flush(Ok(())),
-    ];
-    assert_eq!(rt;
-        count_about_a_crash(rt.alloc(), 1, &planned, &[], &calls),
-        Ok([3, 3])
-    );
-}
-
-#[test]
-fn a_run_of_one_byte_and_its_neighbours_come_back(rt: HostRuntime) {
-    // zeros over the middle of eight sectors that are stored, and bytes that are not all the same beside them
-    let before = [
-        Row::Sectors(16),
-        Row::Store(0, 8, 7),
-        Row::Write(2, 4, 0, Ok(())),
-        Row::WriteMixed,
-    ];
-    // the crash loses the zeros, and keeps what was written after them
-    let pieces = [Piece::Lose, Piece::Keep];
-    let after = [
-        Row::Sectors(16),
-        Row::Byte(1023, 7),
-        Row::Byte(1024, 7),
-        Row::Byte(2047, 7),
-        Row::Byte(2048, 9),
-        Row::Byte(2747, 9),
-        Row::Byte(2748, 10),
-        Row::Byte(2749, 9),
-        Row::Byte(3072, 7),
-        Row::Byte(4096, 0),
-    ];
-    assert_eq!(rt;
-        count_about_a_crash(rt.alloc(), 16, &before, &pieces, &after),
-        Ok([4, 10])
     );
 }

@@ -208,17 +208,6 @@ fn a_file_is_read_and_written_as_it_was_opened(rt: HostRuntime) -> Result<(), Fa
     Ok(())
 }
 
-// The refusal of a device on what has no size.
-fn refusal_of(rt: &HostRuntime, path: &str) -> Result<Option<PoolError>, Fail> {
-    Ok(FileDevice::new(File::open(rt, path)?).err())
-}
-
-#[test]
-fn a_folder_is_no_device(rt: HostRuntime) -> Result<(), Fail> {
-    assert_eq!(rt; refusal_of(&rt, ".")?, Some(PoolError::Read));
-    Ok(())
-}
-
 // A file that ends in the middle of each call. Each second sync fails, from the first one on: a system may forget the
 // failure of a sync, and answer the next one well.
 #[derive(Drop)]
@@ -270,25 +259,18 @@ fn count_on_stuck(rows: &[Row]) -> Result<usize, PoolError> {
 }
 
 #[test]
-fn a_call_that_stops_short_is_refused(rt: HostRuntime) {
+fn a_call_that_stops_short_is_refused_and_a_refused_sync_is_not_made_again(rt: HostRuntime) {
     let rows = [
         Row::Sectors(2),
         Row::Read(1, Err(PoolError::Read)),
         Row::Write(1, Err(PoolError::Write)),
-    ];
-    assert_eq!(rt; count_on_stuck(&rows), Ok(3));
-}
-
-#[test]
-fn a_refused_sync_is_not_made_again(rt: HostRuntime) {
-    // each flush makes one sync, so the answers are those of the syncs in turn
-    let rows = [
+        // each flush makes one sync, so the answers are those of the syncs in turn
         Row::Flush(Err(PoolError::Flush)),
         Row::Flush(Ok(())),
         Row::Flush(Err(PoolError::Flush)),
         Row::Flush(Ok(())),
     ];
-    assert_eq!(rt; count_on_stuck(&rows), Ok(4));
+    assert_eq!(rt; count_on_stuck(&rows), Ok(7));
 }
 
 // Whether a device was refused since another one holds its file.
@@ -340,6 +322,11 @@ fn is_not_regular(opened: Result<FileDevice, FileRefusal>) -> bool {
     matches!(opened, Err(FileRefusal::NotRegular))
 }
 
+// The refusal of a device on what has no size.
+fn refusal_of(rt: &HostRuntime, path: &str) -> Result<Option<PoolError>, Fail> {
+    Ok(FileDevice::new(File::open(rt, path)?).err())
+}
+
 #[test]
 fn only_a_regular_file_is_opened(rt: HostRuntime) -> Result<(), Fail> {
     for path in [".", "/dev/null"] {
@@ -349,5 +336,6 @@ fn only_a_regular_file_is_opened(rt: HostRuntime) -> Result<(), Fail> {
     }
     let missing = FileDevice::open(&rt, "nowhere");
     assert!(rt; matches!(missing, Err(FileRefusal::System(_))));
+    assert_eq!(rt; refusal_of(&rt, ".")?, Some(PoolError::Read));
     Ok(())
 }

@@ -48,48 +48,9 @@ fn are_addresses(sectors: u64, addresses: [u64; 3]) -> Result<[bool; 3], PoolErr
     ])
 }
 
-#[test]
-fn lays_out_8_mib(rt: HostRuntime) {
-    assert_eq!(rt; are_places(), Ok([true; 8]));
-    assert_eq!(rt;
-        are_addresses(16_384, [4_198_400, 4_198_912, 7_864_320]),
-        Ok([true, false, false])
-    );
-}
-
 // How many blocks a device has.
 fn blocks_of(sectors: u64) -> Result<u64, PoolError> {
     Ok(Geometry::of(sectors)?.blocks())
-}
-
-// How many devices have these numbers of blocks before the first that has not.
-fn count_blocks(rows: &[(u64, Result<u64, PoolError>)]) -> usize {
-    for index in 0..rows.len() {
-        let (sectors, told) = rows[index];
-        if blocks_of(sectors) != told {
-            return index;
-        }
-    }
-    rows.len()
-}
-
-#[test]
-fn lays_out_the_least_and_the_greatest_device(rt: HostRuntime) {
-    let bad = Err(PoolError::BadGeometry);
-    let rows = [
-        (12_288, Ok(384)),
-        (2_097_152, Ok(260_992)),
-        (0, bad),
-        (12_287, bad),
-        (12_289, bad),
-        (2_097_664, bad),
-        (u64::MAX, bad),
-    ];
-    assert_eq!(rt; count_blocks(&rows), 7);
-    assert_eq!(rt;
-        are_addresses(12_288, [4_194_304, 5_763_072, 5_767_168]),
-        Ok([true, true, false])
-    );
 }
 
 // The address of the last block of the least device, and the number of the block there.
@@ -102,8 +63,22 @@ fn last_block() -> Result<(u64, u64), PoolError> {
 }
 
 #[test]
-fn numbers_blocks(rt: HostRuntime) {
-    assert_eq!(rt; last_block(), Ok((5_763_072, 383)));
+fn lays_out_devices(rt: HostRuntime) {
+    let addresses = [
+        are_addresses(16_384, [4_198_400, 4_198_912, 7_864_320]),
+        are_addresses(12_288, [4_194_304, 5_763_072, 5_767_168]),
+    ];
+    let of_addresses = [Ok([true, false, false]), Ok([true, true, false])];
+    let blocks = [blocks_of(2_097_152), blocks_of(u64::MAX)];
+    assert_eq!(rt;
+        (are_places(), addresses, last_block(), blocks),
+        (
+            Ok([true; 8]),
+            of_addresses,
+            Ok((5_763_072, 383)),
+            [Ok(260_992), Err(PoolError::BadGeometry)]
+        )
+    );
 }
 
 // Whether the config of group 4 begins with its bytes.
@@ -124,13 +99,6 @@ fn read_back(size: u64) -> Option<[bool; 4]> {
     ])
 }
 
-#[test]
-fn writes_and_reads_a_config(rt: HostRuntime) {
-    assert_eq!(rt; has_bytes(), Some(true));
-    assert_eq!(rt; read_back(8_388_608), Some([true; 4]));
-    assert_eq!(rt; read_back(6_291_456), None);
-}
-
 // The group of the config that is chosen for this group, and whether it is kept in an odd label.
 fn chosen(configs: &[Option<LabelConfig>; 4], group: u64) -> Result<(Group, bool), PoolError> {
     let chosen = choose(configs, 77, Group(group))?;
@@ -148,7 +116,10 @@ fn choose_three() -> [bool; 3] {
 }
 
 #[test]
-fn chooses_the_highest_group_of_the_pool(rt: HostRuntime) {
-    assert_eq!(rt; choose_three(), [true; 3]);
-    assert_eq!(rt; Stage::Odd.labels(), [1, 3]);
+fn writes_reads_and_chooses_configs(rt: HostRuntime) {
+    let read = [read_back(8_388_608), read_back(6_291_456)];
+    assert_eq!(rt;
+        (has_bytes(), read, choose_three(), Stage::Odd.labels()),
+        (Some(true), [Some([true; 4]), None], [true; 3], [1, 3])
+    );
 }

@@ -1,5 +1,6 @@
-//! The calls of the crates that the engine is made of, run: outside vectors, worked examples, each public call once
-//! with ample memory, and each device call that is refused in turn. What a clause says has no test here.
+//! The calls of the crates that the engine is made of, run: outside vectors, worked examples, public calls that no
+//! pool makes, and device calls that are refused. What a clause says has no test here, and what a script can show is a
+//! row of `script_rows`.
 //!
 //! The tests of these crates stand in this one crate, so that a gate proves each crate once and not once more beside
 //! its tests. Those of whole pools stand in `engine_tests`.
@@ -12,19 +13,15 @@ mod codec;
 #[cfg(test)]
 mod devices;
 #[cfg(test)]
-mod dirty_bytes;
-#[cfg(test)]
 mod file_devices;
 #[cfg(test)]
 mod free_blocks;
-#[cfg(test)]
-mod group_lines;
 #[cfg(test)]
 mod held_ranges;
 #[cfg(test)]
 mod label_configs;
 #[cfg(test)]
-mod patches;
+mod limits;
 #[cfg(test)]
 mod records;
 #[cfg(test)]

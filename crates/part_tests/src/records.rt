@@ -1,13 +1,9 @@
-//! Records of the log, with bytes made by hand; what plans are charged; and which transactions may be open together.
+//! Records of the log, with bytes made by hand, and how many transactions are open in a group.
 
-use base::{
-    Bytes, Group, ObjectId, ObjectRange, Op, Ops, Ordinal, Owner, Plan, PoolError, Range, Shape,
-    TxId,
-};
+use base::{Bytes, Group, ObjectId, Op, Ops, Ordinal, Owner, Plan, PoolError, Shape, TxId};
 use std::alloc::{AllocError, Global};
 use transactions::{
-    OpenTransactions, Record, charge, decode_record, encode_into, encode_record, estimate,
-    is_in_plan, is_plan_allowed, is_shrinking, is_too_large, plans_overlap, range_of,
+    OpenTransactions, Record, decode_record, encode_into, encode_record, is_plan_allowed,
 };
 
 /// The create of object 1, in group 9 with ordinal 0.
@@ -144,11 +140,6 @@ fn encode_three(alloc: Global) -> Result<([bool; 3], bool), PoolError> {
     Ok((each, out.as_slice() == front(&all, 119)))
 }
 
-#[test]
-fn records_have_these_bytes(rt: HostRuntime) {
-    assert_eq!(rt; encode_three(rt.alloc()), Ok(([true; 3], true)));
-}
-
 /// What is left after a record, if it is the wanted one.
 fn behind<'a>(alloc: Global, bytes: &'a [u8], wanted: &Record) -> Result<&'a [u8], PoolError> {
     match decode_record(alloc, bytes)? {
@@ -171,8 +162,12 @@ fn are_three(alloc: Global, bytes: &[u8]) -> Result<bool, PoolError> {
 }
 
 #[test]
-fn bytes_are_these_records(rt: HostRuntime) {
-    assert_eq!(rt; are_three(rt.alloc(), &all_bytes()), Ok(true));
+fn records_have_these_bytes(rt: HostRuntime) {
+    let alloc = rt.alloc();
+    assert_eq!(rt;
+        (encode_three(alloc), are_three(alloc, &all_bytes())),
+        (Ok(([true; 3], true)), Ok(true))
+    );
 }
 
 /// Whether a record stands at the front of bytes.
@@ -223,30 +218,11 @@ fn other_bytes_are_no_records(rt: HostRuntime) {
         // the remove of object 1
         (22, 2, true),
     ];
-    assert_eq!(rt; count_changed(rt.alloc(), &rows), 12);
-    assert_eq!(rt; are_fronts(rt.alloc()), Ok([false, false]));
-}
-
-/// How many bytes a record has, which are read as that record, with none left after it.
-fn read_back(alloc: Global, record: &Record) -> Result<usize, PoolError> {
-    let bytes = encode_record(alloc, record)?;
-    let rest = behind(alloc, bytes.as_slice(), record)?.len();
-    if rest > 0 {
-        return Err(PoolError::BadRange);
-    }
-    Ok(bytes.len())
-}
-
-/// They, of a write of so many bytes.
-fn read_long(alloc: Global, length: usize) -> Result<usize, PoolError> {
-    let record = make(alloc, Made::Write(0, sevens().get(..length).unwrap_or(&[])))?;
-    read_back(alloc, &record)
-}
-
-#[test]
-fn a_record_has_4_008_bytes_at_most(rt: HostRuntime) {
-    assert_eq!(rt; read_long(rt.alloc(), 3969), Ok(4008));
-    assert_eq!(rt; read_long(rt.alloc(), 3970), Err(PoolError::TooLarge));
+    let alloc = rt.alloc();
+    assert_eq!(rt;
+        (count_changed(alloc, &rows), are_fronts(alloc)),
+        (12, Ok([false, false]))
+    );
 }
 
 /// What encoding a record is refused for.
@@ -265,22 +241,6 @@ fn count_refused(alloc: Global, rows: &[(Made<'_>, Option<PoolError>)]) -> usize
     rows.len()
 }
 
-#[test]
-fn what_is_outside_its_limits_is_not_encoded(rt: HostRuntime) {
-    let bad = Some(PoolError::BadRange);
-    let sevens = sevens();
-    let rows = [
-        (Made::Write(0, b""), bad),
-        (Made::Write(338_685, b"wxyz"), bad),
-        (Made::Write(338_684, b"wxyz"), None),
-        (Made::Write(335_000, &sevens), bad),
-        (Made::Nothing, bad),
-        (Made::TooLate, bad),
-        (Made::BadlyNamed, bad),
-    ];
-    assert_eq!(rt; count_refused(rt.alloc(), &rows), 7);
-}
-
 /// Whether a record is refused when it is appended.
 fn is_refused_into(alloc: Global, out: &mut Vec<u8>, made: Made<'_>) -> Result<bool, AllocError> {
     Ok(encode_into(out, &make(alloc, made)?).is_err())
@@ -294,191 +254,35 @@ fn leaves_bytes(alloc: Global, bytes: &[u8]) -> Result<[bool; 2], AllocError> {
 }
 
 #[test]
-fn a_refused_record_leaves_what_was_before(rt: HostRuntime) {
-    assert_eq!(rt; leaves_bytes(rt.alloc(), b"before"), Ok([true, true]));
-}
-
-/// The estimate and the charge of a plan, if it is allowed and not too large.
-fn costs(plan: &[Shape]) -> Option<(u64, u64)> {
-    if is_plan_allowed(plan) && !is_too_large(plan) {
-        Some((estimate(plan), charge(plan)))
-    } else {
-        None
-    }
-}
-
-/// How many plans of one shape have these costs before the first that does not.
-fn count_costs(rows: &[(Shape, Option<(u64, u64)>)]) -> usize {
-    for index in 0..rows.len() {
-        let (shape, told) = rows[index];
-        if costs(&[shape]) != told {
-            return index;
-        }
-    }
-    rows.len()
-}
-
-/// Adds a create and a remove of an object by turns, so many shapes.
-fn add_shapes(plan: &mut Vec<Shape>, count: u64) -> Result<(), AllocError> {
-    for index in 0..count {
-        plan.push(if index % 2 == 0 {
-            Shape::Create(ObjectId(1))
-        } else {
-            Shape::Remove(ObjectId(1))
-        })?;
-    }
-    Ok(())
-}
-
-/// The charge of a plan of so many shapes, and whether it is too large.
-fn cost_long(alloc: Global, count: u64) -> Result<(Option<(u64, u64)>, bool), AllocError> {
-    let mut plan = Vec::new(alloc);
-    add_shapes(&mut plan, count)?;
-    Ok((costs(plan.as_slice()), is_too_large(plan.as_slice())))
-}
-
-/// Whether 797 shapes are the most of a plan, and what they cost.
-fn costs_of_long(alloc: Global) -> Result<[bool; 2], AllocError> {
-    let is_most = cost_long(alloc, 797)? == (Some((1594, 6_529_024)), false);
-    Ok([is_most, cost_long(alloc, 798)? == (None, true)])
-}
-
-#[test]
-fn plans_are_charged_for_the_blocks_of_a_sync(rt: HostRuntime) {
-    let object = ObjectId(1);
+fn what_is_outside_its_limits_is_not_encoded(rt: HostRuntime) {
+    let alloc = rt.alloc();
+    let bad = Some(PoolError::BadRange);
+    let sevens = sevens();
     let rows = [
-        (Shape::Write(object, 4030, 4), Some((5, 20_480))),
-        (Shape::Write(object, 0, 4), Some((4, 16_384))),
-        (Shape::Create(object), Some((2, 8192))),
-        (Shape::Remove(object), Some((2, 8192))),
-        (Shape::SetLength(object, 0), Some((4, 16_384))),
-        (Shape::SetName(4), Some((1, 4096))),
-        (Shape::Write(object, 0, 3969), Some((4, 16_384))),
-        (Shape::Write(object, 0, 3970), None),
+        (Made::Write(0, b""), bad),
+        (Made::Write(338_685, b"wxyz"), bad),
+        (Made::Write(338_684, b"wxyz"), None),
+        (Made::Write(335_000, &sevens), bad),
+        // the record of 3,969 bytes has 4,008
+        (Made::Write(0, front(&sevens, 3969)), None),
+        (Made::Write(0, &sevens), Some(PoolError::TooLarge)),
+        (Made::Nothing, bad),
+        (Made::TooLate, bad),
+        (Made::BadlyNamed, bad),
     ];
-    assert_eq!(rt; count_costs(&rows), 8);
-    assert_eq!(rt; costs(&[]), None);
-    assert_eq!(rt; costs_of_long(rt.alloc()), Ok([true, true]));
+    assert_eq!(rt;
+        (count_refused(alloc, &rows), leaves_bytes(alloc, b"before")),
+        (9, Ok([true, true]))
+    );
 }
 
-/// The write of four bytes from 2 on.
-const FOUR_BYTES: Shape = Shape::Write(ObjectId(1), 2, 4);
-
-/// Which plans of one shape overlap these four bytes: the create of the object, writes of the last of them and of one
-/// more, and a write to another object.
-fn overlaps() -> [bool; 4] {
-    [
-        plans_overlap(&[FOUR_BYTES], &[Shape::Create(ObjectId(1))]),
-        plans_overlap(&[FOUR_BYTES], &[Shape::Write(ObjectId(1), 5, 1)]),
-        plans_overlap(&[FOUR_BYTES], &[Shape::Write(ObjectId(1), 6, 1)]),
-        plans_overlap(&[FOUR_BYTES], &[Shape::Write(ObjectId(2), 2, 4)]),
-    ]
-}
-
-/// Whether the range of these four bytes is theirs, and that of a name is of the pool's name.
-fn has_ranges() -> [bool; 2] {
-    let touched = ObjectRange {
-        object: ObjectId(1),
-        range: Range { low: 2, high: 6 },
-    };
-    let named = range_of(&Shape::SetName(4));
-    [
-        range_of(&FOUR_BYTES) == touched,
-        named.object == ObjectId(5292),
-    ]
-}
-
-#[test]
-fn plans_touch_ranges(rt: HostRuntime) {
-    assert_eq!(rt; has_ranges(), [true, true]);
-    assert_eq!(rt; overlaps(), [true, true, false, false]);
-}
-
-/// Whether a plan shrinks an object, when object 1 alone is there and has four bytes.
-fn is_shrinking_four(plan: &[Shape]) -> bool {
-    let lengths = |object: ObjectId| if object.0 == 1 { Some(4) } else { None };
-    is_shrinking(plan, &lengths)
-}
-
-/// Which of four plans shrink one.
-fn are_shrinking() -> [bool; 4] {
-    let remove = Shape::Remove(ObjectId(2));
-    [
-        is_shrinking_four(&[remove, Shape::SetLength(ObjectId(1), 4)]),
-        is_shrinking_four(&[Shape::SetLength(ObjectId(1), 5)]),
-        is_shrinking_four(&[Shape::SetLength(ObjectId(2), 0)]),
-        is_shrinking_four(&[remove, FOUR_BYTES]),
-    ]
-}
-
-#[test]
-fn plans_shrink_objects(rt: HostRuntime) {
-    assert_eq!(rt; are_shrinking(), [true, false, false, false]);
-}
-
-/// Whether the write of `wxyz` at 100 is in a plan of it, in one of three bytes, and in none.
-fn is_written_in(ops: &[Op]) -> [bool; 3] {
-    [
-        is_in_plan(ops, &[Shape::Write(ObjectId(1), 100, 4)]),
-        is_in_plan(ops, &[Shape::Write(ObjectId(1), 100, 3)]),
-        is_in_plan(ops, &[]),
-    ]
-}
-
-/// It, of a new record.
-fn is_wxyz_in(alloc: Global) -> Result<[bool; 3], AllocError> {
-    Ok(is_written_in(make(alloc, WXYZ)?.ops.as_slice()))
-}
-
-#[test]
-fn operations_keep_to_their_plan(rt: HostRuntime) {
-    assert_eq!(rt; is_wxyz_in(rt.alloc()), Ok([true, false, false]));
-}
-
-const FRONT: Shape = Shape::Write(ObjectId(1), 0, 4);
-
-const BACK: Shape = Shape::Write(ObjectId(1), 100, 4);
-
-const LOCK: ObjectRange = ObjectRange {
-    object: ObjectId(1),
-    range: Range { low: 0, high: 10 },
-};
-
-/// A call on the open transactions with the answer that is wanted.
-#[derive(Clone, Copy)]
-enum Row {
-    /// An admission to group 9, by owner 1.
-    Admit(Shape, Result<TxId, PoolError>),
-    /// 64 admissions, each of the create of an object of its own.
-    Admit64,
-    /// The name and the owner of the transaction that is ended.
-    End(u64, Option<(TxId, Owner)>),
-    IsBlocked(Shape, bool),
-    IsLockInUse(bool),
-    /// How many are held in a group.
-    Holds(u64, usize),
-    /// Whether a transaction of this name is open, with this plan.
-    HasPlan(u64, Shape, Option<bool>),
-    IsFull(bool),
-}
-
-/// Admits a transaction of owner 1 to group 9.
-fn admit(alloc: Global, open: &mut OpenTransactions, shape: Shape) -> Result<TxId, PoolError> {
-    let plan = Plan::new(vec![in alloc; shape]?);
+/// Admits a transaction of owner 1 to group 9, which creates an object.
+fn admit(alloc: Global, open: &mut OpenTransactions, object: u32) -> Result<TxId, PoolError> {
+    let plan = Plan::new(vec![in alloc; Shape::Create(ObjectId(object))]?);
     if !is_plan_allowed(plan.as_slice()) {
         return Err(PoolError::BadRange);
     }
     open.admit(Owner(1), Group(9), plan)
-}
-
-/// Whether 64 transactions are admitted, each of an object of its own.
-fn admit_64(alloc: Global, open: &mut OpenTransactions) -> bool {
-    for object in 0..64 {
-        if admit(alloc, open, Shape::Create(ObjectId(object))).is_err() {
-            return false;
-        }
-    }
-    true
 }
 
 /// The name and the owner of the transaction that is ended.
@@ -487,93 +291,27 @@ fn end(open: &mut OpenTransactions, name: u64) -> Option<(TxId, Owner)> {
     Some((ended.tx, ended.owner))
 }
 
-/// Whether a transaction of this name is open, with this plan.
-fn has_plan(open: &OpenTransactions, name: u64, plan: &[Shape]) -> Option<bool> {
-    let found = open.find(TxId(name))?;
-    Some(found.plan.as_slice() == plan)
+/// How many are held in groups 9 and 10, the one that is ended of this name, and once more, and how many are held in
+/// group 9 then.
+fn end_one(open: &mut OpenTransactions) -> ([usize; 2], [Option<(TxId, Owner)>; 2], usize) {
+    let before = [open.holds(Group(9)), open.holds(Group(10))];
+    let ended = [end(open, 7), end(open, 7)];
+    (before, ended, open.holds(Group(9)))
 }
 
-/// Whether a call has the answer of its row.
-fn holds(alloc: Global, open: &mut OpenTransactions, row: Row) -> bool {
-    match row {
-        Row::Admit(shape, told) => admit(alloc, open, shape) == told,
-        Row::Admit64 => admit_64(alloc, open),
-        Row::End(name, told) => end(open, name) == told,
-        Row::IsBlocked(shape, told) => open.is_blocked(&[shape]) == told,
-        Row::IsLockInUse(told) => open.is_lock_in_use(&LOCK) == told,
-        Row::Holds(group, count) => open.holds(Group(group)) == count,
-        Row::HasPlan(name, shape, told) => has_plan(open, name, &[shape]) == told,
-        Row::IsFull(told) => open.is_full() == told,
+/// They, of the 64 that may be open at once.
+fn end_one_of_64(
+    alloc: Global,
+) -> Result<([usize; 2], [Option<(TxId, Owner)>; 2], usize), PoolError> {
+    let mut open = OpenTransactions::new(alloc);
+    for object in 0..64 {
+        admit(alloc, &mut open, object)?;
     }
-}
-
-/// How many rows hold before the first that does not.
-fn count_held(alloc: Global, open: &mut OpenTransactions, rows: &[Row]) -> usize {
-    for index in 0..rows.len() {
-        if !holds(alloc, open, rows[index]) {
-            return index;
-        }
-    }
-    rows.len()
-}
-
-/// They, when none is open at first.
-fn count_on_new(alloc: Global, rows: &[Row]) -> usize {
-    count_held(alloc, &mut OpenTransactions::new(alloc), rows)
-}
-
-/// Of the front of an object, of its back, and of its create.
-const THREE_ADMISSIONS: [Row; 3] = [
-    Row::Admit(FRONT, Ok(TxId(0))),
-    Row::Admit(BACK, Ok(TxId(1))),
-    Row::Admit(Shape::Create(ObjectId(1)), Err(PoolError::Busy)),
-];
-
-#[test]
-fn open_transactions_touch_no_common_byte(rt: HostRuntime) {
-    let [front, back, create] = THREE_ADMISSIONS;
-    let rows = [
-        front,
-        back,
-        create,
-        Row::Holds(9, 2),
-        Row::Holds(10, 0),
-        // bytes of the front, bytes between the two, and a lock of the front
-        Row::IsBlocked(Shape::Write(ObjectId(1), 2, 4), true),
-        Row::IsBlocked(Shape::Write(ObjectId(1), 4, 96), false),
-        Row::IsLockInUse(true),
-    ];
-    assert_eq!(rt; count_on_new(rt.alloc(), &rows), 8);
+    Ok(end_one(&mut open))
 }
 
 #[test]
-fn an_ended_transaction_touches_nothing(rt: HostRuntime) {
-    let [front, back, create] = THREE_ADMISSIONS;
-    let rows = [
-        front,
-        back,
-        create,
-        Row::End(0, Some((TxId(0), Owner(1)))),
-        Row::End(0, None),
-        Row::IsLockInUse(false),
-        Row::HasPlan(0, FRONT, None),
-        Row::HasPlan(1, BACK, Some(true)),
-        Row::Admit(FRONT, Ok(TxId(2))),
-    ];
-    assert_eq!(rt; count_on_new(rt.alloc(), &rows), 9);
-}
-
-#[test]
-fn sixty_four_transactions_are_open_at_most(rt: HostRuntime) {
-    let other = Shape::Create(ObjectId(64));
-    let rows = [
-        Row::Admit64,
-        Row::IsFull(true),
-        Row::Admit(other, Err(PoolError::TooMany)),
-        Row::End(7, Some((TxId(7), Owner(1)))),
-        Row::IsFull(false),
-        Row::Admit(other, Ok(TxId(64))),
-        Row::Holds(9, 64),
-    ];
-    assert_eq!(rt; count_on_new(rt.alloc(), &rows), 7);
+fn a_group_holds_its_open_transactions(rt: HostRuntime) {
+    let ended = [Some((TxId(7), Owner(1))), None];
+    assert_eq!(rt; end_one_of_64(rt.alloc()), Ok(([64, 0], ended, 63)));
 }
