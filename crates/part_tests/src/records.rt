@@ -1,9 +1,10 @@
-//! Records of the log, with bytes made by hand, and how many transactions are open in a group.
+//! Records of the log, with bytes made by hand; and, of transactions, the calls that no pool makes.
 
 use base::{Bytes, Group, ObjectId, Op, Ops, Ordinal, Owner, Plan, PoolError, Shape, TxId};
 use std::alloc::{AllocError, Global};
 use transactions::{
     OpenTransactions, Record, decode_record, encode_into, encode_record, is_plan_allowed,
+    plans_overlap,
 };
 
 /// The create of object 1, in group 9 with ordinal 0.
@@ -310,8 +311,25 @@ fn end_one_of_64(
     Ok(end_one(&mut open))
 }
 
+/// The write of four bytes from 2 on.
+const FOUR_BYTES: Shape = Shape::Write(ObjectId(1), 2, 4);
+
+/// Which plans of one shape overlap these four bytes: the create of the object, writes of the last of them and of one
+/// more, and a write to another object.
+fn overlaps() -> [bool; 4] {
+    [
+        plans_overlap(&[FOUR_BYTES], &[Shape::Create(ObjectId(1))]),
+        plans_overlap(&[FOUR_BYTES], &[Shape::Write(ObjectId(1), 5, 1)]),
+        plans_overlap(&[FOUR_BYTES], &[Shape::Write(ObjectId(1), 6, 1)]),
+        plans_overlap(&[FOUR_BYTES], &[Shape::Write(ObjectId(2), 2, 4)]),
+    ]
+}
+
 #[test]
-fn a_group_holds_its_open_transactions(rt: HostRuntime) {
+fn a_group_holds_its_open_transactions_and_plans_overlap(rt: HostRuntime) {
     let ended = [Some((TxId(7), Owner(1))), None];
-    assert_eq!(rt; end_one_of_64(rt.alloc()), Ok(([64, 0], ended, 63)));
+    assert_eq!(rt;
+        (end_one_of_64(rt.alloc()), overlaps()),
+        (Ok(([64, 0], ended, 63)), [true, true, false, false])
+    );
 }

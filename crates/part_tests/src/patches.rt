@@ -1,0 +1,77 @@
+//! What a group makes of bytes of an object below, by the calls that no pool makes.
+
+use base::{Bytes, ObjectId, Op, PoolError, PoolName, RECORD_SIZE, Range};
+use extents::{Extents, Laid};
+use object_maps::{Contents, read_range};
+use std::alloc::Global;
+
+const OBJECT: ObjectId = ObjectId(1);
+
+// A group that writes across two records and cuts the object after three bytes of these.
+fn cut_group(alloc: Global) -> Result<Extents, PoolError> {
+    let mut group = Extents::new(alloc);
+    let write = Op::Write(OBJECT, 4_030, Bytes::from_slice(alloc, b"abcd")?);
+    group.add(&vec![in alloc; write, Op::SetLength(OBJECT, 4_033)]?)?;
+    Ok(group)
+}
+
+// The first three bytes and the last two of the first record of an object of 10 bytes, under a group.
+fn ends_of_first(group: &Extents) -> ([u8; 3], [u8; 2]) {
+    let mut record = [0; RECORD_SIZE];
+    record[..2].copy_from_slice(b"xy");
+    group.lay_over(OBJECT, 0, 0, Some(10), &mut record);
+    (
+        [record[0], record[1], record[2]],
+        [record[4_030], record[4_031]],
+    )
+}
+
+// The first three bytes of the second record of an object of 9,000 bytes, under a group.
+fn front_of_second(group: &Extents) -> [u8; 3] {
+    let mut record = [b'z'; RECORD_SIZE];
+    group.lay_over(OBJECT, 1, 0, Some(9_000), &mut record);
+    [record[0], record[1], record[2]]
+}
+
+// What such a group makes of both.
+fn laid_over(alloc: Global) -> Result<(([u8; 3], [u8; 2]), [u8; 3]), PoolError> {
+    let group = cut_group(alloc)?;
+    Ok((ends_of_first(&group), front_of_second(&group)))
+}
+
+// Contents named `tank`, with no object.
+fn contents(alloc: Global) -> Result<Contents, PoolError> {
+    let Some(name) = PoolName::new(b"tank") else {
+        return Err(PoolError::BadRange);
+    };
+    Ok(Contents::new(alloc, name)?)
+}
+
+// A group that makes the object, with bytes across its first two records.
+fn written_group(alloc: Global) -> Result<Extents, PoolError> {
+    let mut group = Extents::new(alloc);
+    let write = Op::Write(OBJECT, 4_030, Bytes::from_slice(alloc, b"abcd")?);
+    group.add(&vec![in alloc; Op::Create(OBJECT), write]?)?;
+    Ok(group)
+}
+
+// Whether a range that ends after the object has these bytes, through such a group over empty contents.
+fn range_has(alloc: Global, wanted: &[u8]) -> Result<bool, PoolError> {
+    let across = Range {
+        low: 4_029,
+        high: 4_040,
+    };
+    let (group, below) = (written_group(alloc)?, contents(alloc)?);
+    let bytes = read_range(&mut Laid::new(&group, &below), alloc, OBJECT, across)?;
+    Ok(bytes.as_slice() == wanted)
+}
+
+#[test]
+fn a_group_is_laid_over_a_record(rt: HostRuntime) {
+    let alloc = rt.alloc();
+    // of the second record the cut leaves one byte, and what lies below it doesn't show after the cut
+    assert_eq!(rt;
+        (laid_over(alloc), range_has(alloc, b"\0abcd")),
+        (Ok(((*b"xy\0", *b"ab"), *b"c\0\0")), Ok(true))
+    );
+}
