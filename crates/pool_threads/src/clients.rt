@@ -418,13 +418,16 @@ fn a_refused_transact_unlocks_what_it_locked<D: SectorDevice, W: Wait>(
 }
 
 // If no transaction was open before it. Also if it is refused.
-fn a_transact_of_the_only_handle_leaves_the_locks_as_they_were<D: SectorDevice, W: Wait>(
+fn a_transact_of_the_only_handle_leaves_nothing_of_its_own<D: SectorDevice, W: Wait>(
     rt: &W,
     handle: &mut Handle<'_, D>,
     ops: Ops,
 ) -> Result<Receipt, PoolError>
-    ensures { kin_of handle.old ≡ 0 → (state_seen handle.old).shown.transactions ≡ []
+    ensures locks { kin_of handle.old ≡ 0 → (state_seen handle.old).shown.transactions ≡ []
         → Sees (λ before after. after.shown.locks ≡ before.shown.locks) handle.old handle.new }
+    ensures transactions { kin_of handle.old ≡ 0
+        → (state_seen handle.old).shown.transactions ≡ []
+        → Sees (λ _ after. after.shown.transactions ≡ []) handle.old handle.new }
 {
     handle.transact(rt, Owner(3), ops)
 }
@@ -500,21 +503,21 @@ fn a_durable_transaction_is_entered_and_durable<D: SectorDevice, W: Wait>(
 }
 
 fn a_turn_ends_with_a_refused_step(error: PoolError) -> bool
-    ensures { result ≡ false }
+    ensures { result ≡ true → ⊥ }
 {
     goes_on(&Reply::Refused(error))
 }
 
-fn a_loop_goes_on_if_a_group_is_not_ready() -> bool
-    ensures { result ≡ true }
+fn a_loop_goes_on_if_a_group_is_not_ready() -> Option<PoolError>
+    ensures { IfSome result (λ _. ⊥) }
 {
-    ending(&Some(Reply::Refused(PoolError::NotReady))).is_none()
+    ending(&Some(Reply::Refused(PoolError::NotReady)))
 }
 
-fn a_refused_write_ends_a_loop() -> bool
-    ensures { result ≡ true }
+fn a_refused_write_ends_a_loop() -> Option<PoolError>
+    ensures { IsSome result }
 {
-    ending(&Some(Reply::Refused(PoolError::Write))).is_some()
+    ending(&Some(Reply::Refused(PoolError::Write)))
 }
 
 // A quiescer makes no step of a sync, and waits if a group is not ready.

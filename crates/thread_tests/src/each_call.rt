@@ -15,24 +15,6 @@ const OWNER: Owner = Owner(1);
 
 const OBJECT: ObjectId = ObjectId(1);
 
-// The ordinal of the transaction that makes the object, and the length of this.
-fn make_and_look<W: Wait>(
-    rt: &W,
-    alloc: Global,
-    handle: &mut Handle<'_, MemDevice>,
-) -> Result<(Ordinal, u64), PoolError> {
-    let made = make_object(rt, alloc, handle, OWNER, OBJECT)?;
-    Ok((made.receipt.ordinal, handle.length(rt, OBJECT)?))
-}
-
-#[test]
-fn a_handle_makes_an_object(rt: HostRuntime) -> Result<(), Fail> {
-    let pool = new_pool(rt.alloc(), SMALL)?;
-    let looked = on_pool(pool, |handle| make_and_look(&rt, rt.alloc(), handle));
-    assert_eq!(rt; looked, Ok((Ordinal(0), 0)));
-    Ok(())
-}
-
 fn write(alloc: Global, bytes: &[u8]) -> Result<Op, PoolError> {
     Ok(Op::Write(OBJECT, 0, Bytes::from_slice(alloc, bytes)?))
 }
@@ -60,16 +42,16 @@ fn read_by_another<W: Wait>(
     read
 }
 
-// The range of the lock, the commit, and whether another handle reads what was written.
+// The lock with its range, the commit, whether another handle reads what was written, and the length of the object.
 fn append_and_read<W: Wait>(
     rt: &W,
     alloc: Global,
     handle: &mut Handle<'_, MemDevice>,
-) -> Result<(Range, Committed, bool), PoolError> {
-    let ((lock, range), committed) = append(rt, alloc, handle)?;
+) -> Result<((LockId, Range), Committed, bool, u64), PoolError> {
+    let (lock, committed) = append(rt, alloc, handle)?;
     let is_read = read_by_another(rt, handle)?.as_slice() == b"ello".as_slice();
-    handle.unlock(rt, OWNER, lock)?;
-    Ok((range, committed, is_read))
+    handle.unlock(rt, OWNER, lock.0)?;
+    Ok((lock, committed, is_read, handle.length(rt, OBJECT)?))
 }
 
 #[test]
@@ -84,7 +66,9 @@ fn a_handle_reads_what_another_wrote(rt: HostRuntime) -> Result<(), Fail> {
         began: Group(9),
         receipt,
     };
-    assert_eq!(rt; returned, Ok((Range::WHOLE, committed, true)));
+    // The object was empty, so the lock has all of it. Locks are named from 0 on.
+    let lock = (LockId(1), Range::WHOLE);
+    assert_eq!(rt; returned, Ok((lock, committed, true, 5)));
     Ok(())
 }
 
@@ -199,18 +183,5 @@ fn open_group_left<W: Wait>(rt: &W, pool: Pool<MemDevice>) -> Option<Group> {
 fn a_pool_ends_behind_a_handle(rt: HostRuntime) -> Result<(), Fail> {
     let pool = new_pool(rt.alloc(), SMALL)?;
     assert_eq!(rt; open_group_left(&rt, pool), Some(Group(10)));
-    Ok(())
-}
-
-// The synced group of a pool that is closed.
-fn synced_left(pool: Pool<MemDevice>) -> Option<Group> {
-    let state = pool.close()?;
-    Some(state.status().synced)
-}
-
-#[test]
-fn a_pool_closes(rt: HostRuntime) -> Result<(), Fail> {
-    let pool = new_pool(rt.alloc(), SMALL)?;
-    assert_eq!(rt; synced_left(pool), Some(Group(8)));
     Ok(())
 }

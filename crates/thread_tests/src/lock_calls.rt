@@ -1,10 +1,9 @@
-//! Locks of handles: one from the end of an object on, and one that waits.
+//! A lock that waits for another handle.
 
-use crate::fixture::{SMALL, make_object, new_pool, on_pool};
+use crate::fixture::{SMALL, new_pool};
 use base::{LockId, Mode, ObjectId, Owner, PoolError, Range, Reply, Step};
 use device_model::MemDevice;
 use pool_threads::{Handle, Pool};
-use std::alloc::Global;
 use std::sync::Wait;
 use std::sync::atomic::{AtomicBool, Ordering};
 use std::test::Fail;
@@ -109,23 +108,5 @@ fn a_lock_waits_for_an_unlock(rt: HostRuntime) -> Result<(), Fail> {
         freed: true,
     };
     assert_eq!(rt; hold_and_ask(&rt, &pool), Ok((Ok(()), Ok(asked))));
-    Ok(())
-}
-
-// The lock that an append lock is granted once the object is made, with its range.
-fn make_and_append<W: Wait>(
-    rt: &W,
-    alloc: Global,
-    handle: &mut Handle<'_, MemDevice>,
-) -> Result<(LockId, Range), PoolError> {
-    make_object(rt, alloc, handle, HOLDER, OBJECT)?;
-    handle.lock_append(rt, ASKER, OBJECT)
-}
-
-#[test]
-fn an_append_lock_of_an_empty_object_has_all_of_it(rt: HostRuntime) -> Result<(), Fail> {
-    let pool = new_pool(rt.alloc(), SMALL)?;
-    let returned = on_pool(pool, |handle| make_and_append(&rt, rt.alloc(), handle));
-    assert_eq!(rt; returned, Ok((LockId(1), Range::WHOLE)));
     Ok(())
 }

@@ -147,25 +147,6 @@ fn four_threads_transact_on_one_object(rt: HostRuntime) -> Result<(), Fail> {
     Ok(())
 }
 
-// The ordinal of the transaction, and whether the object has its byte.
-fn create_and_read<W: Wait>(
-    rt: &W,
-    alloc: Global,
-    handle: &mut Handle<'_, MemDevice>,
-) -> Result<(Ordinal, bool), PoolError> {
-    let receipt = create_and_write(rt, alloc, handle, Owner(1))?;
-    Ok((receipt.ordinal, has_bytes(rt, handle, &[7])?))
-}
-
-// The create touches the whole object, so the write's range overlaps it.
-#[test]
-fn a_plan_may_overlap_itself(rt: HostRuntime) -> Result<(), Fail> {
-    let pool = new_pool(rt.alloc(), SMALL)?;
-    let returned = on_pool(pool, |handle| create_and_read(&rt, rt.alloc(), handle));
-    assert_eq!(rt; returned, Ok((Ordinal(0), true)));
-    Ok(())
-}
-
 // What a write to no object returns, and then a lock of it that does not wait, and the unlock of this.
 fn write_to_none<W: Wait>(
     rt: &W,
@@ -180,7 +161,7 @@ fn write_to_none<W: Wait>(
     Ok((refused, is_second, handle.unlock(rt, Owner(2), LockId(1))))
 }
 
-// They, and the ordinal of a transaction after them.
+// They, what a transaction of no operation returns, and then the ordinal of one, and whether the object has its byte.
 fn write_to_none_and_create<W: Wait>(
     rt: &W,
     alloc: Global,
@@ -188,18 +169,20 @@ fn write_to_none_and_create<W: Wait>(
 ) -> Result<
     (
         (Result<Receipt, PoolError>, bool, Result<(), PoolError>),
-        Ordinal,
+        Result<Receipt, PoolError>,
+        (Ordinal, bool),
     ),
     PoolError,
 > {
     let returned = write_to_none(rt, alloc, handle)?;
-    Ok((
-        returned,
-        create_and_write(rt, alloc, handle, Owner(1))?.ordinal,
-    ))
+    let empty = handle.transact(rt, Owner(1), Ops::new(Vec::new(alloc)));
+    let receipt = create_and_write(rt, alloc, handle, Owner(1))?;
+    let has_byte = has_bytes(rt, handle, &[7])?;
+    Ok((returned, empty, (receipt.ordinal, has_byte)))
 }
 
 // The object is absent, so the commit is refused. The range is free afterwards, and so is the place of the transaction.
+// The create touches the whole object, so the write's range overlaps it: a plan may overlap itself.
 #[test]
 fn a_refused_transaction_leaves_no_lock(rt: HostRuntime) -> Result<(), Fail> {
     let pool = new_pool(rt.alloc(), SMALL)?;
@@ -208,15 +191,7 @@ fn a_refused_transaction_leaves_no_lock(rt: HostRuntime) -> Result<(), Fail> {
         |handle| write_to_none_and_create(&rt, rt.alloc(), handle),
     );
     let refused = (Err(PoolError::NoObject), true, Ok(()));
-    assert_eq!(rt; returned, Ok((refused, Ordinal(0))));
-    Ok(())
-}
-
-#[test]
-fn an_empty_transaction_is_refused(rt: HostRuntime) -> Result<(), Fail> {
-    let pool = new_pool(rt.alloc(), SMALL)?;
-    let empty = Ops::new(Vec::new(rt.alloc()));
-    let refused = on_pool(pool, |handle| handle.transact(&rt, Owner(1), empty));
-    assert_eq!(rt; refused, Err(PoolError::BadRange));
+    let empty = Err(PoolError::BadRange);
+    assert_eq!(rt; returned, Ok((refused, empty, (Ordinal(0), true))));
     Ok(())
 }
