@@ -192,16 +192,12 @@ fn do_four_jobs<R: Threads + Wait + Sync>(
 }
 
 #[test]
-fn one_thread_does_four_jobs(rt: HostRuntime) {
-    assert_eq!(rt; do_four_jobs(&rt, rt.alloc(), 4), Ok(((1, true), 100)));
-}
-
-#[test]
-fn two_threads_share_four_jobs(rt: HostRuntime) {
-    assert_eq!(rt; do_four_jobs(&rt, rt.alloc(), 2), Ok(((2, true), 100)));
-}
-
-#[test]
-fn four_threads_share_four_jobs(rt: HostRuntime) {
-    assert_eq!(rt; do_four_jobs(&rt, rt.alloc(), 1), Ok(((4, true), 100)));
+fn one_two_and_four_threads_share_four_jobs(rt: HostRuntime) {
+    let shared = [
+        do_four_jobs(&rt, rt.alloc(), 4),
+        do_four_jobs(&rt, rt.alloc(), 2),
+        do_four_jobs(&rt, rt.alloc(), 1),
+    ];
+    let done = |threads| Ok(((threads, true), 100));
+    assert_eq!(rt; shared, [done(1), done(2), done(4)]);
 }
