@@ -1,5 +1,5 @@
-//! Pools on a device, run: how a pool is made, imported and inspected, what its steps answer and write, and what an
-//! import finds after a crash. Each device call is refused in turn. What a clause says has no test here.
+//! Pools on a device, run: the bytes of a pool, and what an import finds after a round that is stopped. What a clause
+//! says has no test here, and what a script can show is a row of `script_rows`.
 //!
 //! The tests of these crates stand in this one crate, so that a gate proves each crate once and not once more beside
 //! its tests. Those of the crates below stand in `part_tests`, those of `word_lock` in `lock_tests`, those of threads
@@ -7,11 +7,7 @@
 #![tactic(auto)]
 
 #[cfg(test)]
-mod crashes;
-#[cfg(test)]
-mod imports;
-#[cfg(test)]
-mod new_pools;
+mod pool_files;
 #[cfg(test)]
 mod rounds;
 #[cfg(test)]

@@ -1,17 +1,13 @@
-//! The calls of `intent_log`, run: a packed block as another program makes it, how many records a block takes, what
-//! ends a chain, and a log from its first write until its last block comes back. And what an inspection and an import
-//! make of a chain, and of images that a hostile program wrote. Expected values come from `docs/FORMATS.md`: the
-//! sections on the tree, blocks, log blocks and log records.
+//! Log blocks that another program wrote: how they are packed, what ends a chain of them, and how they are replayed.
+//! And what an inspection and an import find of pools that another program wrote. Expected values come from
+//! `docs/FORMATS.md`: the sections on the tree, blocks, log blocks and log records. What a script can show is a row of
+//! `script_rows`.
 #![tactic(auto)]
 
 #[cfg(test)]
 mod chains;
 #[cfg(test)]
-mod hostile_pools;
-#[cfg(test)]
-mod inspections;
-#[cfg(test)]
-mod logs;
+mod images;
 #[cfg(test)]
 mod packing;
 #[cfg(test)]

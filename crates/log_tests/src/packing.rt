@@ -1,4 +1,4 @@
-//! Packing: the bytes of a block, as another program makes them, and how many whole records a block takes.
+//! Packing: the bytes of a block of two records, as another program makes them.
 
 ghost use Rattle.std.specs.Prelude.{All, map};
 ghost use Rattle.base.specs.formats.Records.{IsAllowed};
@@ -99,66 +99,7 @@ fn has_packed_bytes(block: &[u8; BLOCK_SIZE]) -> [bool; 2] {
 }
 
 /// How many of the two records are packed, and whether the block has their bytes.
-fn pack_two(alloc: Global) -> Result<(usize, [bool; 2]), PoolError> {
+pub fn pack_two(alloc: Global) -> Result<(usize, [bool; 2]), PoolError> {
     let packed = two_records(alloc)?.pack(alloc)?;
     Ok((packed.count, has_packed_bytes(packed.block.as_bytes())))
-}
-
-#[test]
-fn a_packed_block_has_these_bytes(rt: HostRuntime) {
-    assert_eq!(rt; pack_two(rt.alloc()), Ok((2, [true, true])));
-}
-
-/// Bytes to write, more than a record can hold.
-fn sevens() -> [u8; 4096] {
-    [7; 4096]
-}
-
-/// A write whose record has so many bytes: 22, then 17 of the write, and then those that are written.
-fn write_of_size(alloc: Global, size: usize) -> Result<Op, PoolError> {
-    let sevens = sevens();
-    let length = size.saturating_sub(39);
-    write(alloc, 0, sevens.get(..length).unwrap_or(&[]))
-}
-
-/// Records of these sizes.
-fn records_of_sizes(alloc: Global, sizes: &[usize]) -> Result<Pending, PoolError> {
-    let mut pending = Pending::none(alloc);
-    for size in sizes {
-        pending = pending.add(alloc, 9, 0, write_of_size(alloc, *size)?)?;
-    }
-    Ok(pending)
-}
-
-/// How many of the records of these sizes are packed.
-fn pack_sizes(alloc: Global, sizes: &[usize]) -> Result<usize, PoolError> {
-    let pending = records_of_sizes(alloc, sizes)?;
-    Ok(pending.pack(alloc)?.count)
-}
-
-/// How many rows hold before the first that does not: how many of the records of these sizes are packed.
-fn count_packed(alloc: Global, rows: &[(&[usize], usize)]) -> usize {
-    for index in 0..rows.len() {
-        let (sizes, count) = rows[index];
-        if pack_sizes(alloc, sizes) != Ok(count) {
-            return index;
-        }
-    }
-    rows.len()
-}
-
-#[test]
-fn a_block_takes_4_008_bytes_of_whole_records(rt: HostRuntime) {
-    let rows: [(&[usize], usize); 8] = [
-        (&[4008], 1),
-        (&[4008, 40], 1),
-        (&[40, 4008], 1),
-        (&[2004, 2004], 2),
-        (&[2004, 2005], 1),
-        (&[1336, 1336, 1336], 3),
-        (&[1336, 1336, 1337], 2),
-        // one that would fit, after one that does not
-        (&[2004, 2005, 40], 1),
-    ];
-    assert_eq!(rt; count_packed(rt.alloc(), &rows), 8);
 }

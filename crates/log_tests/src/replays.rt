@@ -1,9 +1,9 @@
-//! A chain that another program wrote, read and replayed on contents without objects.
+//! A block of another program: it is packed so, and its chain is read, and replayed on contents without objects.
 
 ghost use Rattle.std.specs.Prelude.{IfOk};
 ghost use Rattle.log_replay.specs.Replays.{IsChainAllowed};
 
-use crate::packing::{PLACE, packed_bytes};
+use crate::packing::{PLACE, pack_two, packed_bytes, two_records};
 use base::{BLOCK_SIZE, Group, ObjectId, PoolError, PoolName, Version};
 use checked_blocks::Frame;
 use device_model::{MemDevice, SectorDevice};
@@ -39,18 +39,35 @@ fn replayed(alloc: Global, group: u64) -> Result<(usize, Option<u64>), PoolError
     Ok((replayed.records.len(), length))
 }
 
-#[test]
-fn records_above_the_active_group_are_replayed(rt: HostRuntime) {
-    assert_eq!(rt; replayed(rt.alloc(), 8), Ok((2, Some(104))));
-    assert_eq!(rt; replayed(rt.alloc(), 10), Ok((0, None)));
+/// Where the only block of the chain lies, and whether it has the two records that are packed. `None` for another
+/// chain.
+fn read_packed(alloc: Global) -> Result<Option<(u64, bool)>, PoolError> {
+    let blocks = packed_chain(alloc)?;
+    let [block] = blocks.as_slice() else {
+        return Ok(None);
+    };
+    let pending = two_records(alloc)?;
+    Ok(Some((block.address(), block.records() == pending.records())))
 }
 
-// The tree of group 9 would have object 1.
+// Records above the active group are replayed. The tree of group 9 would have object 1, so the write damages its block.
 #[test]
-fn a_write_without_its_object_damages_its_block(rt: HostRuntime) {
+fn a_block_of_another_program_is_packed_so_and_read_and_replayed(rt: HostRuntime) {
+    let alloc = rt.alloc();
     let damaged = PoolError::Damaged {
         kind: 6,
         address: 4_194_304,
     };
-    assert_eq!(rt; replayed(rt.alloc(), 9), Err(damaged));
+    assert_eq!(rt;
+        (
+            pack_two(alloc),
+            read_packed(alloc),
+            [replayed(alloc, 8), replayed(alloc, 9), replayed(alloc, 10)]
+        ),
+        (
+            Ok((2, [true, true])),
+            Ok(Some((4_194_304, true))),
+            [Ok((2, Some(104))), Err(damaged), Ok((0, None))]
+        )
+    );
 }
