@@ -1,7 +1,7 @@
 //! The command `load`: what it prints, and which moment its uberblocks have. If a printer fails, each command has
 //! status 3.
 
-use crate::fixture::{new_device, order};
+use crate::load_fixture::{new_device, order};
 use base::PoolError;
 use commands::{CreateArguments, LoadArguments, Order, run_check, run_create, run_load, run_show};
 use device_model::{FileDevice, HeldFile};

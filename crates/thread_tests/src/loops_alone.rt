@@ -1,6 +1,6 @@
 //! The two loops of a pool, when nothing asks for a sync.
 
-use crate::fixture::opened;
+use crate::load_fixture::opened;
 use base::{Group, ObjectId, Op, Ops, Owner, PoolError, Reply, Step};
 use device_model::MemDevice;
 use pool_threads::{Handle, Pool};

@@ -1,6 +1,6 @@
 //! A refused step ends a loop, or a sync of the pool, and is what it returns.
 
-use crate::fixture::opened;
+use crate::load_fixture::opened;
 use base::{Group, ObjectId, Op, Ops, Owner, PoolError, Reply, Step};
 use device_model::{Fault, MemDevice};
 use pool_threads::{Handle, Pool};

@@ -1,6 +1,6 @@
 //! What a load leaves: on its device, in the table of locks, and for the next load. And what it reports while it runs.
 
-use crate::fixture::{ONE_CREATE, Open, hex, mounted, opened, order};
+use crate::load_fixture::{ONE_CREATE, Open, hex, mounted, opened, order};
 use base::{
     Group, LockId, Mode, ObjectId, Op, Ops, Ordinal, Owner, Piece, Plan, PoolError, Range, Receipt,
     Reply, Step, TxId,

@@ -1,6 +1,6 @@
 //! What threads leave doesn't depend on how many there are, nor on how the loops keep up with them.
 
-use crate::fixture::{ONE_CREATE, ONE_WRITE, Open, hex, opened, order};
+use crate::load_fixture::{ONE_CREATE, ONE_WRITE, Open, hex, opened, order};
 use base::PoolError;
 use loads::{Gate, load};
 use std::alloc::Global;

@@ -1,6 +1,6 @@
 //! A refusal ends a load with all its threads, and is what it returns.
 
-use crate::fixture::{Open, opened, order};
+use crate::load_fixture::{Open, opened, order};
 use base::PoolError;
 use device_model::Fault;
 use loads::load;
