@@ -4,7 +4,8 @@
   build_program.py NAME PATH
 
 NAME is a folder of tools/programs, PATH the file that the built program goes to. The crates that it uses have to be
-checked (`rt all check`), or they are proved first. The gate doesn't build these programs.
+checked (`rt all check`), or they are proved first. The gate doesn't build these programs. It reads each file that ends
+in `.rt`, so theirs end in `.rt.txt`.
 """
 import pathlib, shutil, subprocess, sys, tempfile
 
@@ -32,7 +33,9 @@ def main():
     name, path = sys.argv[1], pathlib.Path(sys.argv[2]).absolute()
     with tempfile.TemporaryDirectory() as room:
         crate = copied(room, PROGRAMS[name]) / name
-        shutil.copytree(TOP / "tools/programs" / name, crate)
+        (crate / "src").mkdir(parents=True)
+        for source in (TOP / "tools/programs" / name / "src").glob("*.rt.txt"):
+            shutil.copy2(source, crate / "src" / source.stem)
         ran = subprocess.run(["rt", "check"], cwd=crate, capture_output=True, text=True)
         if ran.returncode:
             sys.exit(ran.stdout + ran.stderr)
