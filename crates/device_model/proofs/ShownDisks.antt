@@ -25,6 +25,13 @@ size-flushes old new (Err e) is = ap (λ (d : Disk). disk_size d) is
 pub fits_on_disk : (keeps : Bool) (seen s : FileState) (end : ℕ) → keeps ≡ true → seen ≡ s → end ≤ size_of keeps s → end ≤ disk_size seen.disk
 fits_on_disk keeps seen s end is same fits = subst (λ (n : ℕ). end ≤ n) (ap (λ (b : Bool). size_of b s) is ∙ ap (λ (t : FileState). disk_size t.disk) (sym same)) fits
 
+-- a call that leaves the disk as it is
+pub shown_kept : (sectors : ℕ) (old new : Disk) → new ≡ old → ShowsDisk sectors old → ShowsDisk sectors new
+shown_kept sectors old new same shown = subst (λ (d : Disk). ShowsDisk sectors d) (sym same) shown
+
+pub fits_kept : (end : ℕ) (old new : Disk) → new ≡ old → end ≤ disk_size old → end ≤ disk_size new
+fits_kept end old new same fits = subst (λ (d : Disk). end ≤ disk_size d) (sym same) fits
+
 pub shown_writes : (sectors place : ℕ) (content : List ℕ) (old new : Disk) (r : Result (Unit {0}) PoolError) → place + length content ≤ disk_size old → Writes old place content r new
     → ShowsDisk sectors old → ShowsDisk sectors new
 shown_writes sectors place content old new r fits writes shown = record {

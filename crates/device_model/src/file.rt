@@ -80,14 +80,6 @@ impl<F: SectorFile + Drop> FileDevice<F> {
     {
         self.refused
     }
-
-    // Whether the file still has all sectors of the device. A write to a shorter one would make it longer.
-    fn is_whole(&self) -> bool {
-        match self.file.sectors() {
-            Some(sectors) => self.sectors <= sectors,
-            None => false,
-        }
-    }
 }
 
 impl<F: SectorFile + Drop> SectorDevice for FileDevice<F> {
@@ -118,7 +110,8 @@ impl<F: SectorFile + Drop> SectorDevice for FileDevice<F> {
     }
 
     fn write(&mut self, at: u64, bytes: &[u8]) -> Result<(), PoolError> {
-        if !self.is_whole() || self.file.write_sectors(at, bytes).is_err() {
+        // a write to a file that has become shorter would make it longer
+        if !self.file.has_sectors(self.sectors) || self.file.write_sectors(at, bytes).is_err() {
             self.refused.count(PoolError::Write);
             return Err(PoolError::Write);
         }
@@ -126,7 +119,7 @@ impl<F: SectorFile + Drop> SectorDevice for FileDevice<F> {
     }
 
     fn flush(&mut self) -> Result<(), PoolError> {
-        if !self.is_whole() || self.file.sync().is_err() {
+        if !self.file.has_sectors(self.sectors) || self.file.sync().is_err() {
             self.refused.count(PoolError::Flush);
             return Err(PoolError::Flush);
         }

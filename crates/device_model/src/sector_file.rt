@@ -2,10 +2,14 @@
 //!
 //! The calls are those of a device, without the counts. A file that keeps the model of a disk shows one, as a device
 //! does. A file of the system keeps none, since nothing can be claimed of what it holds: another process may write to
-//! it, and a system may lose what it said was synced. So of the four methods for such a file no proof says which call
+//! it, and a system may lose what it said was synced. So of the five methods for such a file no proof says which call
 //! of the system they make, and each of them is one such call.
+//!
+//! A device asks before each write and each flush whether its file is still whole. It asks by a seek to the end, not by
+//! `fstat`: once a program has asked for a file's times, Linux dates the file anew at the next write, and the next sync
+//! writes the inode too. No read or write is made at the place that a seek leaves behind.
 
-ghost use Rattle.std.specs.Prelude.{◌≡◌, ◌+◌, ◌*◌, ◌<◌, ◌≤◌, Bool, IsTrue, IfErr, IfSome, OnOk, false, length};
+ghost use Rattle.std.specs.Prelude.{◌≡◌, ◌+◌, ◌*◌, ◌<◌, ◌≤◌, Bool, IsTrue, IfErr, IfSome, OnOk, false, length, true};
 ghost use Rattle.base.specs.formats.Fields.{part};
 ghost use Rattle.base.specs.formats.Geometry.{sector_size};
 ghost use Rattle.base.specs.disk.Disk.{Disk, HasEarlierWrites, bytes_of, disk_size};
@@ -14,6 +18,7 @@ ghost use Rattle.device_model.specs.FileState.{no_disk};
 
 use base::{PoolError, SECTOR_SIZE};
 use std::fs::OpenFile;
+use std::io::{Seek, SeekFrom};
 use std::os::unix::fs::FileExt;
 
 /// A file of sectors of 512 bytes, read and written in whole sectors at byte places.
@@ -32,6 +37,12 @@ pub trait SectorFile {
         ensures size { IsTrue keeps_model
             → IfSome result (λ count. disk_size (disk self.now) ≡ sector_size * count) }
         ensures earlier { IsTrue keeps_model → HasEarlierWrites (disk self.now) };
+
+    /// Whether the file has at least so many whole sectors now. False if it doesn't return its length.
+    fn has_sectors(&mut self, count: u64) -> bool
+        ensures size { IsTrue keeps_model
+            → result ≡ true → sector_size * count ≤ disk_size (disk self.old) }
+        ensures disk { IsTrue keeps_model → disk self.new ≡ disk self.old };
 
     /// Reads whole sectors from byte place `at`. Refused with `Read` if the file can't be read there, or ends before
     /// the last of these bytes; `into` may then hold anything.
@@ -58,7 +69,7 @@ pub trait SectorFile {
         ensures disk { IsTrue keeps_model → Flushes (disk self.old) result (disk self.new) };
 }
 
-impl<F: FileExt + OpenFile> SectorFile for F {
+impl<F: FileExt + OpenFile + Seek> SectorFile for F {
     ghost keeps_model = { false };
 
     ghost disk = { λ _. no_disk };
@@ -69,6 +80,13 @@ impl<F: FileExt + OpenFile> SectorFile for F {
             return None;
         }
         Some(whole_sectors(metadata.len()))
+    }
+
+    fn has_sectors(&mut self, count: u64) -> bool {
+        match self.seek(SeekFrom::End(0)) {
+            Ok(length) => count <= whole_sectors(length),
+            Err(_) => false,
+        }
     }
 
     fn read_sectors(&mut self, at: u64, into: &mut [u8]) -> Result<(), PoolError> {

@@ -6,7 +6,7 @@ use base::{PoolError, RefusedCalls};
 use device_model::{FileDevice, FileRefusal, SectorDevice};
 use std::cell::Cell;
 use std::fs::{self, File, Metadata, OpenFile};
-use std::io;
+use std::io::{self, Seek, SeekFrom};
 use std::os::unix::fs::FileExt;
 use std::rt::Files;
 use std::test::Fail;
@@ -223,6 +223,12 @@ impl FileExt for Stuck {
 
     fn write_at(&self, bytes: &[u8], at: u64) -> io::Result<usize> {
         Ok(if at % 512 == 0 { bytes.len() / 2 } else { 0 })
+    }
+}
+
+impl Seek for Stuck {
+    fn seek(&mut self, _to: SeekFrom) -> io::Result<u64> {
+        Ok(self.size)
     }
 }
 

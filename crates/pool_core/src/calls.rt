@@ -37,11 +37,28 @@ pub trait PoolCall<D: SectorDevice> {
     fn make(self, state: &mut PoolState<D>) -> Result<Self::Answer, PoolError>
         ensures { MakesStep (step self) (reply_of reply result) state.old state.new };
 
-    /// Whether a step with this answer released a lock, a transaction, or what a group was charged. Then a call of
-    /// another thread that was refused `Busy` or `Throttled` may pass. No clause rests on it.
-    fn releases(_answer: &Self::Answer) -> bool {
-        false
+    /// What a step with this answer changed that another thread may wait for. No clause rests on it.
+    fn change(_answer: &Self::Answer) -> Option<Change> {
+        None
     }
+}
+
+/// What a step changed that another thread may wait for.
+#[derive(Clone, Copy, Debug, PartialEq, Eq)]
+pub enum Change {
+    /// A lock was released. A lock that was refused `Busy` may pass.
+    Unlocked,
+    /// A transaction was committed. Its group may be quiescent.
+    Committed,
+    /// A transaction was given up, and what its group was charged for it: its group may be quiescent, and a `begin`
+    /// that was refused `Throttled` may pass. Or a lock was released.
+    Released,
+    /// A group was closed, and this one was opened.
+    Opened(Group),
+    /// This group was marked as quiesced. Its sync may start.
+    Quiesced(Group),
+    /// This group was synced, and is charged nothing any more. A `begin` that was refused `Throttled` may pass.
+    Synced(Group),
 }
 
 /// `PoolState::lock` as a value.
@@ -110,8 +127,8 @@ impl<D: SectorDevice> PoolCall<D> for Unlock {
         state.unlock(self.owner, self.id)
     }
 
-    fn releases(_answer: &()) -> bool {
-        true
+    fn change(_answer: &()) -> Option<Change> {
+        Some(Change::Unlocked)
     }
 }
 
@@ -155,6 +172,10 @@ impl<D: SectorDevice> PoolCall<D> for Commit {
     fn make(self, state: &mut PoolState<D>) -> Result<Receipt, PoolError> {
         state.commit(self.tx, self.ops)
     }
+
+    fn change(_answer: &Receipt) -> Option<Change> {
+        Some(Change::Committed)
+    }
 }
 
 /// `PoolState::abort` as a value.
@@ -175,8 +196,8 @@ impl<D: SectorDevice> PoolCall<D> for Abort {
         state.abort(self.tx)
     }
 
-    fn releases(_answer: &()) -> bool {
-        true
+    fn change(_answer: &()) -> Option<Change> {
+        Some(Change::Released)
     }
 }
 
@@ -335,6 +356,10 @@ impl<D: SectorDevice> PoolCall<D> for CloseGroup {
     fn make(self, state: &mut PoolState<D>) -> Result<Group, PoolError> {
         state.close_group()
     }
+
+    fn change(opened: &Group) -> Option<Change> {
+        Some(Change::Opened(*opened))
+    }
 }
 
 /// `PoolState::mark_quiesced` as a value.
@@ -350,6 +375,10 @@ impl<D: SectorDevice> PoolCall<D> for MarkQuiesced {
 
     fn make(self, state: &mut PoolState<D>) -> Result<Group, PoolError> {
         state.mark_quiesced()
+    }
+
+    fn change(quiesced: &Group) -> Option<Change> {
+        Some(Change::Quiesced(*quiesced))
     }
 }
 
@@ -387,7 +416,10 @@ impl<D: SectorDevice> PoolCall<D> for SyncStep {
         state.sync_step()
     }
 
-    fn releases(answer: &Progress) -> bool {
-        matches!(answer, Progress::Synced(_))
+    fn change(answer: &Progress) -> Option<Change> {
+        match answer {
+            Progress::More => None,
+            Progress::Synced(group) => Some(Change::Synced(*group)),
+        }
     }
 }

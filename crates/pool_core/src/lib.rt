@@ -44,7 +44,7 @@ mod laws;
 mod runs;
 mod state;
 
-pub use calls::PoolCall;
+pub use calls::{Change, PoolCall};
 pub use laws::{
     kept_pools_are_explained, kept_pools_are_laid, kept_pools_are_safe, kept_pools_leave_their_own,
     stopped_steps_are_safe, stopped_steps_leave_their_own,

@@ -14,7 +14,7 @@ ghost use Rattle.pool_core.specs.StepReplies.{StepReplies};
 ghost use Rattle.pool_core.specs.Turns.{MakesStep, Turns};
 
 use crate::calls::{
-    Abort, Begin, CloseGroup, Commit, Digest, Durable, Length, Lock, LockAppend, LogFlush,
+    Abort, Begin, Change, CloseGroup, Commit, Digest, Durable, Length, Lock, LockAppend, LogFlush,
     LogWrite, MarkQuiesced, Name, PoolCall, Read, ReadStatus, StartSync, SyncStep, Unlock,
 };
 use crate::state::PoolState;
@@ -92,8 +92,16 @@ impl<D: SectorDevice> PoolCall<D> for Step {
         }
     }
 
-    fn releases(reply: &Reply) -> bool {
-        matches!(reply, Reply::Done | Reply::Synced(_))
+    fn change(reply: &Reply) -> Option<Change> {
+        match reply {
+            // an unlock or an abort
+            Reply::Done => Some(Change::Released),
+            Reply::Committed(_) => Some(Change::Committed),
+            Reply::Opened(group) => Some(Change::Opened(*group)),
+            Reply::Quiesced(group) => Some(Change::Quiesced(*group)),
+            Reply::Synced(group) => Some(Change::Synced(*group)),
+            _ => None,
+        }
     }
 }
 

@@ -6,11 +6,12 @@ use Rattle.base.specs.declared.step.Step as declared_step
 use Rattle.base.specs.declared.step.Reply as declared_reply
 use Rattle.base.specs.disk.Disk.{Disk}
 use Rattle.base.specs.history.Past.{Past}
-use Rattle.base.specs.steps.Explains.{WereSafe}
+use Rattle.base.specs.steps.Explains.{Explains, WereSafe}
 use Rattle.base.specs.steps.Steps.{State}
 use Rattle.pool_core.specs.KeptSafe.{IsStoppedIn, past_within}
+use Rattle.pool_core.proofs.crash.ExplainedPools.{kept_explained}
 use Rattle.pool_core.proofs.crash.StoppedSteps.{stopped_own}
-use Rattle.pool_threads.specs.Views.{IsFollowed, IsPoolStep, IsSafeBetween, SeenPool, WereSafeBetween, past_between, since}
+use Rattle.pool_threads.specs.Views.{IsFollowed, IsPoolStep, IsSafeBetween, SeenPool, WereSafeBetween, past_between, since, viewed_state}
 use Rattle.base.specs.crash.LeftDisks.{IsLeft}
 
 module _ (s : declared_step.Step) (r : declared_reply.Reply) (created : ℕ) (v w : SeenPool) (x : IsSafeBetween s r created v w) where
@@ -30,6 +31,11 @@ module _ (s : declared_step.Step) (r : declared_reply.Reply) (created : ℕ) (v 
       (subst (λ (p : Past). WereSafe x.before.disk x.after.disk p (since created w.past)) past_before
       (subst (λ (p : Past). WereSafe x.before.disk x.after.disk x.before.held.state.past p) past_after x.made.were)))
 
+  pub is_explained : Explains (Unit {0}) w.disk (viewed_state w).shown (since created w.past)
+  is_explained =
+      subst (λ (d : Disk). Explains (Unit {0}) d (viewed_state w).shown (since created w.past)) x.disk_after
+      (subst (λ (a : State). Explains (Unit {0}) x.after.disk a.shown a.past) x.state_after (kept_explained x.after x.made.kept))
+
   pub were_left : (ended : Disk) → IsStoppedIn v.disk ended w.disk → IsLeft (past_between created v w) ended
   were_left ended stopped =
       let here : IsStoppedIn x.before.disk ended x.after.disk =
@@ -39,6 +45,10 @@ module _ (s : declared_step.Step) (r : declared_reply.Reply) (created : ℕ) (v 
 pub stepped_safe : (keeps : Bool) (s : declared_step.Step) (r : declared_reply.Reply) (v w : SeenPool) (created : ℕ) → IsPoolStep (IsTrue keeps) s r v w → IsTrue keeps → IsFollowed v.rule created
     → ∥ WereSafeBetween created v w ∥₁
 stepped_safe keeps s r v w created one k follows = ∥∥₁_map (one.safe k created follows) (were_safe s r created v w)
+
+pub stepped_explained : (keeps : Bool) (s : declared_step.Step) (r : declared_reply.Reply) (v w : SeenPool) (created : ℕ) → IsPoolStep (IsTrue keeps) s r v w → IsTrue keeps → IsFollowed v.rule created
+    → ∥ Explains (Unit {0}) w.disk (viewed_state w).shown (since created w.past) ∥₁
+stepped_explained keeps s r v w created one k follows = ∥∥₁_map (one.safe k created follows) (is_explained s r created v w)
 
 pub stopped_left : (keeps : Bool) (s : declared_step.Step) (r : declared_reply.Reply) (v w : SeenPool) (created : ℕ) (ended : Disk) → IsPoolStep (IsTrue keeps) s r v w → IsTrue keeps → IsFollowed v.rule created
     → IsStoppedIn v.disk ended w.disk → ∥ IsLeft (past_between created v w) ended ∥₁

@@ -106,7 +106,3 @@ module _ (keeps : Type 0) (d : Duty) where
       met_none = met_none_on old holder new met served.turn.1;
       alone = alone;
     }
-
-    -- so it is of a seat that is the same one
-    pub served_there : (old : Seat T R SeenPool) {new there : Seat T R SeenPool} → new ≡ there → HasHadOne keeps (IsServedTurn keeps d r) old new → HasHadOne keeps (IsServedTurn keeps d r) old there
-    served_there old is m = subst (HasHadOne keeps (IsServedTurn keeps d r) old) is m

@@ -57,8 +57,8 @@ module _ {Dev : Type 0} {G : Ghosts Dev} where
   abbrev pub taken_by : Handle Dev G → List (Turn SeenPool)
   taken_by h = taken h.seat
 
-  -- The handle's number: 0 while it is the only one that its pool ever had, and else 1 for a new one. Each split adds
-  -- 1, and nothing makes it less.
+  -- The handle's number: 0 while it is the only one that its pool ever had, and 1 for a new one of the pool. Each split
+  -- adds 1, and the new handle has the same; a join adds the other's. Nothing makes it less.
   abbrev pub kin_of : Handle Dev G → ℕ
   kin_of h = kin h.seat
 
@@ -106,7 +106,7 @@ module _ {Dev : Type 0} {G : Ghosts Dev} where
     pub seen : view_seen other ≡ view_seen old
     pub no_turn : turns_of other ≡ []
     pub none_taken : taken_by other ≡ []
-    pub number : kin_of other ≡ 1
+    pub number : kin_of other ≡ kin_of old + 1
 
   -- The handle has seen what both had seen. Its own turns are the same. Those of the other, and those that the other
   -- had taken over, follow in its list of taken turns.
@@ -116,7 +116,7 @@ module _ {Dev : Type 0} {G : Ghosts Dev} where
     pub other : GrowsTo (IsTrue G.keeps_model) (view_seen added) (view_seen new)
     pub turns : turns_of new ≡ turns_of old
     pub taken : taken_by new ≡ taken_by old ++ taken_by added ++ turns_of added
-    pub number : kin_of new ≡ kin_of old
+    pub number : kin_of new ≡ kin_of old + kin_of added
 
   -- In one turn and no other the handle left what it saw as it was. The only handle of a pool saw what it had seen.
   pub record HasLooked (old new : Handle Dev G) : Type 0 where

@@ -3,70 +3,44 @@
 //! 1. The sync of a group costs much the same whatever the group holds, so small groups cost most. A quiescer looks
 //!    when a `begin` is throttled, and else every 20 milliseconds (`txg_quiesce_thread` waits for a timeout or a full
 //!    group).
-//! 2. The syncer looks when a group was quiesced, and again at once after each sync.
-//! 3. A loop that finds the pool taken does not ask to be woken: so no release has to wake it. It looks again soon.
-//! 4. A `begin` that is still throttled after a sync rings again by itself, so nothing rings after a sync.
+//! 2. While transactions of a closed group are open, the quiescer looks each time that a transaction has ended.
+//! 3. The syncer looks when a group was quiesced, and again at once after each sync.
+//! 4. A `begin` that is throttled does not call while a group is quiesced and unsynced: the quiescer would close a
+//!    small group then. It is woken after that sync, and calls then if it is throttled still. So nothing else rings for
+//!    the quiescer after a sync.
+//! 5. Before a turn each loop reads how often its bells were rung, and then tests whether the loops are to end. After
+//!    the turn it sleeps only if its bell was not rung since (`bell.rt`). So neither a ring nor the end is slept over.
+//! 6. The numbers of groups only rise. Threads note them after their turns, in any order, and the greatest one stands.
 
-use base::Reply;
+use crate::bell::Bell;
+use base::{Group, Reply};
 use pool_core::Duty;
 use std::sync::Wait;
 use std::sync::atomic::{AtomicU64, Ordering};
-use std::time::Duration;
 
-// The longest that a loop sleeps before it looks whether it was rung for.
-const NAP_IN_MICROSECONDS: u64 = 500;
-
-// How long a loop rests that finds the pool taken.
-const SHORT_TIME_IN_MICROSECONDS: u64 = 20;
-
-// So many naps after it last closed a group the quiescer looks also if nothing rang for it.
-const NAPS_BETWEEN_CLOSES: u64 = 40;
-
-/// What rings for the loops: a begin that is throttled, a group that may be synced, and the end of the loops.
+/// What rings for the loops: a begin that is throttled, a group that may be quiesced or synced, and the end of the
+/// loops.
 #[derive(Drop)]
 pub(crate) struct Bells {
     stopped: AtomicU64,
     // whether the quiescer was called since it last looked
     called: AtomicU64,
-    // whether the quiescer has closed a group of which transactions are open
-    closing: AtomicU64,
+    // the greatest numbers of groups that were noted as opened, quiesced and synced
+    opened: AtomicU64,
+    quiesced: AtomicU64,
+    synced: AtomicU64,
     quiescer: Bell,
     syncer: Bell,
+    /// Rung when a transaction has ended.
+    pub(crate) ended: Bell,
 }
 
-// How often it was rung, and how many sleep until it is.
-#[derive(Drop)]
-struct Bell {
-    rings: AtomicU64,
-    sleepers: AtomicU64,
-}
-
-impl Bell {
-    fn new() -> Self {
-        Bell {
-            rings: AtomicU64::new(0),
-            sleepers: AtomicU64::new(0),
-        }
-    }
-
-    fn rings(&self) -> u64 {
-        self.rings.load(Ordering::SeqCst)
-    }
-
-    fn ring(&self) {
-        self.rings.fetch_add(1, Ordering::SeqCst);
-        if self.sleepers.load(Ordering::SeqCst) != 0 {
-            self.rings.wake_all();
-        }
-    }
-
-    // Sleeps until it is rung more often than that, or for a nap.
-    fn nap<W: Wait>(&self, rt: &W, rings: u64) {
-        let nap = Duration::from_micros(NAP_IN_MICROSECONDS);
-        self.sleepers.fetch_add(1, Ordering::SeqCst);
-        self.rings.park_timeout(rt, (rings % (1 << 32)) as u32, nap);
-        self.sleepers.fetch_sub(1, Ordering::SeqCst);
-    }
+/// How often each bell was rung before a turn of a loop.
+#[derive(Clone, Copy)]
+pub(crate) struct Heard {
+    quiescer: u64,
+    syncer: u64,
+    ended: u64,
 }
 
 impl Bells {
@@ -74,9 +48,12 @@ impl Bells {
         Bells {
             stopped: AtomicU64::new(0),
             called: AtomicU64::new(0),
-            closing: AtomicU64::new(0),
+            opened: AtomicU64::new(0),
+            quiesced: AtomicU64::new(0),
+            synced: AtomicU64::new(0),
             quiescer: Bell::new(),
             syncer: Bell::new(),
+            ended: Bell::new(),
         }
     }
 
@@ -89,64 +66,83 @@ impl Bells {
         self.stopped.store(1, Ordering::SeqCst);
         self.quiescer.ring();
         self.syncer.ring();
+        self.ended.ring();
     }
 
     /// A begin was throttled, so a group should be closed.
     pub(crate) fn call_for_close(&self) {
+        if self.awaits_sync() {
+            return;
+        }
         if self.called.swap(1, Ordering::SeqCst) == 0 {
             self.quiescer.ring();
         }
     }
 
-    /// While another thread has the pool.
-    pub(crate) fn rest_briefly<W: Wait>(&self, rt: &W) {
-        let short = Duration::from_micros(SHORT_TIME_IN_MICROSECONDS);
-        self.stopped.park_timeout(rt, 0, short);
+    /// This group was opened, and the one before it closed.
+    pub(crate) fn group_opened(&self, group: Group) {
+        self.opened.fetch_max(group.0, Ordering::SeqCst);
+    }
+
+    /// This group was quiesced.
+    pub(crate) fn group_quiesced(&self, group: Group) {
+        self.quiesced.fetch_max(group.0, Ordering::SeqCst);
+        self.syncer.ring();
+    }
+
+    /// This group was synced.
+    pub(crate) fn group_synced(&self, group: Group) {
+        self.synced.fetch_max(group.0, Ordering::SeqCst);
+    }
+
+    // Whether a group is quiesced and unsynced, as far as it was noted.
+    fn awaits_sync(&self) -> bool {
+        self.synced.load(Ordering::SeqCst) < self.quiesced.load(Ordering::SeqCst)
+    }
+
+    // Whether a closed group is not quiesced, as far as it was noted.
+    fn is_quiescing(&self) -> bool {
+        let quiesced = self.quiesced.load(Ordering::SeqCst);
+        let behind = quiesced.max(self.synced.load(Ordering::SeqCst));
+        let closed = self.opened.load(Ordering::SeqCst).saturating_sub(1);
+        behind < closed
+    }
+
+    /// Before a turn of a loop: how often the bells were rung.
+    pub(crate) fn listen(&self, duty: Duty) -> Heard {
+        if duty == Duty::Quiesce {
+            self.called.store(0, Ordering::SeqCst);
+        }
+        Heard {
+            quiescer: self.quiescer.rings(),
+            syncer: self.syncer.rings(),
+            ended: self.ended.rings(),
+        }
     }
 
     /// After a turn of a loop whose last step had this reply: it goes on at once if more may be due, and else rests
     /// until it is rung for.
-    pub(crate) fn rest<W: Wait>(&self, rt: &W, duty: Duty, reply: &Option<Reply>) {
+    pub(crate) fn rest<W: Wait>(&self, rt: &W, duty: Duty, reply: &Option<Reply>, heard: Heard) {
         if duty == Duty::Quiesce {
-            self.rest_quiescer(rt, reply);
+            self.rest_quiescer(rt, heard);
         } else {
-            self.rest_syncer(rt, reply);
+            self.rest_syncer(rt, reply, heard);
         }
     }
 
-    fn rest_quiescer<W: Wait>(&self, rt: &W, reply: &Option<Reply>) {
-        match reply {
-            Some(Reply::Quiesced(_)) => {
-                self.closing.store(0, Ordering::SeqCst);
-                self.syncer.ring();
-            }
-            Some(_) => self.closing.store(1, Ordering::SeqCst),
-            None => {}
-        }
-        if self.closing.load(Ordering::SeqCst) != 0 {
-            self.quiescer.nap(rt, self.quiescer.rings());
+    fn rest_quiescer<W: Wait>(&self, rt: &W, heard: Heard) {
+        if self.is_quiescing() {
+            self.ended.sleep_briefly(rt, heard.ended);
         } else {
-            self.wait_for_close(rt);
+            self.quiescer.sleep(rt, heard.quiescer);
         }
     }
 
-    // Rests until it is rung for, or for so many naps.
-    fn wait_for_close<W: Wait>(&self, rt: &W) {
-        self.called.store(0, Ordering::SeqCst);
-        let rings = self.quiescer.rings();
-        for _ in 0..NAPS_BETWEEN_CLOSES {
-            if self.quiescer.rings() != rings || self.is_stopped() {
-                return;
-            }
-            self.quiescer.nap(rt, rings);
-        }
-    }
-
-    fn rest_syncer<W: Wait>(&self, rt: &W, reply: &Option<Reply>) {
+    fn rest_syncer<W: Wait>(&self, rt: &W, reply: &Option<Reply>, heard: Heard) {
         match reply {
-            // the next group may wait already
-            Some(Reply::Synced(_)) => {}
-            _ => self.syncer.nap(rt, self.syncer.rings()),
+            None | Some(Reply::Refused(_)) => self.syncer.sleep(rt, heard.syncer),
+            // more of the sync is due, or the next group may wait already
+            Some(_) => {}
         }
     }
 }

@@ -46,7 +46,7 @@ impl<'p, D: SectorDevice> Handle<'p, D> {
     {
         let step = dated(self.shared.moment, step);
         let answer = try_turn(&mut self.seat, &self.shared.lock, step)?;
-        self.shared.waiters.note::<D, Step>(&answer);
+        self.shared.note::<Step>(&answer);
         Some(replied(answer))
     }
 
@@ -60,7 +60,7 @@ impl<'p, D: SectorDevice> Handle<'p, D> {
     {
         let guard = self.seat.acquire(rt, &self.shared.lock);
         let answer = turn(guard, call);
-        self.shared.waiters.note::<D, C>(&answer);
+        self.shared.note::<C>(&answer);
         answer
     }
 

@@ -1,12 +1,13 @@
 //! What callers rest on: one function for each promise of this crate's calls, proved from the contract of the call
 //! alone. So it is refused as soon as that contract says less.
-ghost use Rattle.std.specs.Prelude.{ℕ, ◌≡◌, ◌≢◌, ◌≤◌, [], ◌∷◌, ◌+◌, ◌++◌, IfErr, IfNone, IfOk, IfSome, IsSome, IsTrue, List, false, true};
+ghost use Rattle.std.specs.Prelude.{ℕ, ◌≡◌, ◌≢◌, ◌≤◌, [], ◌∷◌, ◌+◌, ◌++◌, IfErr, IfNone, IfOk, IfSome, IsSome, IsTrue, List, Option, Some, false, true};
 ghost use Rattle.base.specs.declared.error.PoolError.TheVariants as error;
 ghost use Rattle.base.specs.declared.names.Group.{Group};
 ghost use Rattle.base.specs.declared.names.LockId.{LockId};
 ghost use Rattle.base.specs.declared.names.TxId.{TxId};
 ghost use Rattle.base.specs.declared.range.Mode.TheVariants.{Writer};
 ghost use Rattle.base.specs.declared.range.ObjectRange.{ObjectRange};
+ghost use Rattle.base.specs.declared.step.Reply as declared_reply;
 ghost use Rattle.base.specs.declared.step.Reply.TheVariants as reply;
 ghost use Rattle.base.specs.declared.step.Step.TheVariants as step;
 ghost use Rattle.base.specs.steps.Refusals.{object_range};
@@ -15,9 +16,10 @@ ghost use Rattle.import_replay.specs.ImportSyncs.{IsImportSynced};
 ghost use Rattle.import_replay.specs.Mounts.{shown_of_import};
 ghost use Rattle.import_replay.specs.declared.mounted.Mounted.{Mounted};
 ghost use Rattle.pool_tables.specs.declared.duty.Duty.TheVariants as duty;
-ghost use Rattle.pool_threads.specs.Answers.{Makes, MakesAtLast, Sees, state_seen};
+ghost use Rattle.pool_threads.specs.Answers.{Makes, MakesAtLast, Sees, Takes, state_seen};
 ghost use Rattle.pool_threads.specs.Handles.{IsOf, IsOfSamePool, OpensBehind, StartsBehind, TakesOneTurn, TakesTurns, WasOf, kin_left, kin_of, moment_of, opening_view, owned_of, shared_of, taken_by, turns_of, view_seen};
 ghost use Rattle.pool_threads.specs.Loops.{Works};
+ghost use Rattle.pool_threads.specs.Serves.{IsServedTurn};
 ghost use Rattle.pool_threads.specs.Transacts.{IsTransacted, Locks, Unlocks, plan_of};
 ghost use Rattle.pool_threads.specs.Views.{Explains, GrowsTo, IsFollowed, SeenPool, WereSafeBetween};
 ghost use Rattle.pool_threads.specs.declared.handle.Handle.{Handle};
@@ -144,7 +146,7 @@ fn a_joined_handle_shows_the_turns_of_the_other<'p, D: SectorDevice>(
     requires { IsOfSamePool handle.old other }
     ensures taken { taken_by handle.new
         ≡ taken_by handle.old ++ taken_by other.entry ++ turns_of other.entry }
-    ensures number { kin_of handle.new ≡ kin_of handle.old }
+    ensures number { kin_of handle.new ≡ kin_of handle.old + kin_of other.entry }
 {
     handle.join(other);
 }
@@ -155,6 +157,16 @@ fn a_split_shows_in_the_number<'p, D: SectorDevice>(handle: &mut Handle<'p, D>)
     ensures seen { view_seen handle.new ≡ view_seen handle.old }
 {
     let _ = handle.split();
+}
+
+// So no other handle was split off on the way, of either of the two.
+fn a_split_handle_has_the_number_of_its_source<'p, D: SectorDevice>(
+    handle: &mut Handle<'p, D>,
+) -> Handle<'p, D>
+    ensures same { kin_of result ≡ kin_of handle.new }
+    ensures number { kin_of result ≡ kin_of handle.old + 1 }
+{
+    handle.split()
 }
 
 // Its state is explained by a view that goes on from what the handle had seen as it left.
@@ -518,6 +530,18 @@ fn a_refused_write_ends_a_loop() -> Option<PoolError>
     ensures { IsSome result }
 {
     ending(&Some(Reply::Refused(PoolError::Write)))
+}
+
+// A quiescer that returns Ok had no turn in which a write was refused.
+fn a_quiescer_that_ends_well_had_no_write_refused<D: SectorDevice, W: Wait>(
+    rt: &W,
+    handle: &mut Handle<'_, D>,
+) -> Result<(), PoolError>
+    ensures { IfOk result (λ _. Takes (λ t. (r : Option declared_reply.Reply)
+        × (r ≢ Some (reply.Refused error.Write))
+        × IsServedTurn (IsTrue D.keeps_model) duty.Quiesce r t) handle.old handle.new) }
+{
+    handle.quiescer(rt)
 }
 
 // A quiescer makes no step of a sync, and waits if a group is not ready.

@@ -3,32 +3,30 @@
 //!
 //! 1. One handle at a time leads: it writes what is pending and flushes. The others rest until its round ends, and then
 //!    look at their receipts again.
-//! 2. A leader gathers first: it rests until as many handles have come as came to the last round, for at most a short
-//!    time. If fewer come, the next leader expects half of the difference less. A flush costs far more than that rest,
+//! 2. A leader gathers first: it sleeps until as many handles have come as came to the last round, for at most a short
+//!    time. If fewer come, the next leader expects half of the difference less. A flush costs far more than that sleep,
 //!    and serves all commits that come in it.
-//! 3. Each leader retires, also if it was refused, so there is always a next one.
+//! 3. The last handle that a leader expects wakes it. A leader says that it gathers before it counts those that came,
+//!    and a handle counts itself before it looks whether one gathers, so one of the two sees the other.
+//! 4. Each leader retires, also if it was refused, so there is always a next one.
 
+use crate::bell::Bell;
 use std::sync::Wait;
 use std::sync::atomic::{AtomicU64, Ordering};
 use std::time::Duration;
 
-// The longest that a handle sleeps before it looks again whether a round has ended.
-const SHORT_TIME_IN_MICROSECONDS: u64 = 20_000;
-
-// How often a leader looks for others, and how long it rests each time.
-const GATHER_COUNT: u32 = 10;
-
-const GATHER_TIME_IN_MICROSECONDS: u64 = 10;
+// The longest that a leader sleeps until others have come.
+const GATHER_TIME_IN_MICROSECONDS: u64 = 300;
 
 /// The handles of a pool that wait for their commits to be durable.
 #[derive(Drop)]
 pub(crate) struct Flushers {
     // 1 while a handle leads
     leading: AtomicU64,
-    // the rounds that have ended
-    rounds: AtomicU64,
-    // the handles that sleep until a round ends
-    sleepers: AtomicU64,
+    // 1 while the leader sleeps until others have come
+    gathering: AtomicU64,
+    // rung when a round has ended
+    rounds: Bell,
     // how often a handle began to wait: now, when this round was gathered, and when the round before it was
     entered: AtomicU64,
     gathered: AtomicU64,
@@ -41,8 +39,8 @@ impl Flushers {
     pub(crate) fn new() -> Self {
         Flushers {
             leading: AtomicU64::new(0),
-            rounds: AtomicU64::new(0),
-            sleepers: AtomicU64::new(0),
+            gathering: AtomicU64::new(0),
+            rounds: Bell::new(),
             entered: AtomicU64::new(0),
             gathered: AtomicU64::new(0),
             gathered_before: AtomicU64::new(0),
@@ -50,14 +48,20 @@ impl Flushers {
         }
     }
 
-    /// A handle begins to wait.
+    /// A handle begins to wait. It wakes the leader if it is the last one that the leader expects.
     pub(crate) fn enter(&self) {
         self.entered.fetch_add(1, Ordering::SeqCst);
+        if self.gathering.load(Ordering::SeqCst) == 0 || !self.have_come() {
+            return;
+        }
+        if self.gathering.swap(0, Ordering::SeqCst) != 0 {
+            self.gathering.wake_all();
+        }
     }
 
     /// How many rounds have ended.
     pub(crate) fn rounds(&self) -> u64 {
-        self.rounds.load(Ordering::SeqCst)
+        self.rounds.rings()
     }
 
     /// Whether this handle leads now, since no other does.
@@ -65,20 +69,28 @@ impl Flushers {
         self.leading.swap(1, Ordering::SeqCst) == 0
     }
 
-    /// Rests for a short time, or until as many handles have begun to wait as are expected.
+    /// Sleeps for a short time, or until as many handles have begun to wait as are expected.
     pub(crate) fn gather<W: Wait>(&self, rt: &W) {
-        let short = Duration::from_micros(GATHER_TIME_IN_MICROSECONDS);
-        let before = self.gathered.load(Ordering::SeqCst);
-        let expected = self.expected.load(Ordering::SeqCst);
-        for _ in 0..GATHER_COUNT {
-            if self.came_since(before) >= expected {
-                break;
+        if !self.have_come() {
+            self.gathering.store(1, Ordering::SeqCst);
+            // a handle that came before that did not see it
+            if !self.have_come() {
+                let time = Duration::from_micros(GATHER_TIME_IN_MICROSECONDS);
+                self.gathering.park_timeout(rt, 1, time);
             }
-            self.leading.park_timeout(rt, 1, short);
+            self.gathering.store(0, Ordering::SeqCst);
         }
+        let before = self.gathered.load(Ordering::SeqCst);
         let entered = self.entered.load(Ordering::SeqCst);
         self.gathered.store(entered, Ordering::SeqCst);
         self.gathered_before.store(before, Ordering::SeqCst);
+    }
+
+    // Whether as many handles have begun to wait as the leader expects. While it gathers, it alone changes what is
+    // compared, except the number of those that have come.
+    fn have_come(&self) -> bool {
+        let expected = self.expected.load(Ordering::SeqCst);
+        self.came_since(self.gathered.load(Ordering::SeqCst)) >= expected
     }
 
     // how many handles have begun to wait since there were so many
@@ -93,18 +105,11 @@ impl Flushers {
         self.expected
             .store(came.max(came.midpoint(expected)), Ordering::SeqCst);
         self.leading.store(0, Ordering::SeqCst);
-        self.rounds.fetch_add(1, Ordering::SeqCst);
-        if self.sleepers.load(Ordering::SeqCst) != 0 {
-            self.rounds.wake_all();
-        }
+        self.rounds.ring();
     }
 
-    /// Sleeps until more rounds have ended than that, or for a short time.
+    /// Sleeps until more rounds have ended than that, or for a time.
     pub(crate) fn rest<W: Wait>(&self, rt: &W, rounds: u64) {
-        let short = Duration::from_micros(SHORT_TIME_IN_MICROSECONDS);
-        self.sleepers.fetch_add(1, Ordering::SeqCst);
-        self.rounds
-            .park_timeout(rt, (rounds % (1 << 32)) as u32, short);
-        self.sleepers.fetch_sub(1, Ordering::SeqCst);
+        self.rounds.sleep(rt, rounds);
     }
 }

@@ -35,7 +35,7 @@ impl<'p, D: SectorDevice> Handle<'p, D> {
 
     /// For proofs: a handle for another thread, which has seen as much. A program takes `Pool::handle`.
     ///
-    /// The new handle has had no turn. This one's number is one more then.
+    /// The new handle has had no turn. This one's number is one more then, and the new one has it too.
     pub fn split(&mut self) -> Handle<'p, D>
         ensures this { HasSplit self.old self.new }
         ensures other { IsSplitOff self.old result }

@@ -36,6 +36,7 @@
 //! ```
 #![tactic(auto)]
 
+mod bell;
 mod bells;
 mod calls;
 mod clients;
@@ -52,7 +53,6 @@ mod rule;
 mod shared;
 mod transact;
 mod turn;
-mod waiters;
 mod waits;
 
 pub use handle::Handle;
@@ -60,6 +60,6 @@ pub use pool::Pool;
 
 // For proofs.
 pub use handle::LastSeen;
-pub use laws::{stepped_pools_are_safe, stopped_pools_are_left};
+pub use laws::{stepped_pools_are_explained, stepped_pools_are_safe, stopped_pools_are_left};
 pub use owned::OwnedPool;
 pub use rule::{PoolRule, PoolView};

@@ -4,18 +4,18 @@
 //! 1. Each takes the pool, makes the steps that are due, and frees it. A step that is refused `NotReady` is made again
 //!    later; each other refusal ends the loop.
 //! 2. Each tests before a turn whether the pool was told to stop, and never after one whose reply it has not looked at.
-//! 3. When a loop looks is a matter of speed alone (`bells.rt`).
+//! 3. A loop waits for the pool while another thread has it, since it looks only if something may be due.
+//! 4. When a loop looks is a matter of speed alone (`bells.rt`).
 
-ghost use Rattle.std.specs.Prelude.{◌≡◌, ◌≢◌, IfErr, IfNone, IfSome, IsTrue, MatchResult, Some};
+ghost use Rattle.std.specs.Prelude.{◌≡◌, ◌≢◌, IfErr, IfNone, IfSome, MatchResult, Some};
 ghost use Rattle.base.specs.declared.step.Reply.TheVariants as replied;
 ghost use Rattle.pool_tables.specs.declared.duty.Duty.TheVariants as duty;
-ghost use Rattle.pool_threads.specs.Answers.{Sees, TakesOne};
-ghost use Rattle.pool_threads.specs.Handles.{IsUnchanged, moment_of};
+ghost use Rattle.pool_threads.specs.Answers.{Sees};
+ghost use Rattle.pool_threads.specs.Handles.{moment_of};
 ghost use Rattle.pool_threads.specs.Loops.{Works, WorksUntil};
-ghost use Rattle.pool_threads.specs.Serves.{GoesOnAfter, IsRefusedDuty, IsServedTurn};
+ghost use Rattle.pool_threads.specs.Serves.{GoesOnAfter, IsRefusedDuty};
 
 use crate::handle::Handle;
-use crate::turn::try_serve;
 use base::{PoolError, Reply};
 use device_model::SectorDevice;
 use pool_core::Duty;
@@ -67,30 +67,17 @@ impl<'p, D: SectorDevice> Handle<'p, D> {
         ensures not_unready { IfErr result (λ e. e ≢ PoolError.NotReady) }
     {
         for _ in rt.forever() {
+            let heard = self.shared.bells.listen(duty);
             if self.shared.bells.is_stopped() {
                 return Ok(());
             }
-            match self.try_due(duty) {
-                None => self.shared.bells.rest_briefly(rt),
-                Some(reply) => match ending(&reply) {
-                    Some(error) => return Err(error),
-                    None => self.shared.bells.rest(rt, duty, &reply),
-                },
+            let (reply, _) = self.serve(rt, duty);
+            match ending(&reply) {
+                Some(error) => return Err(error),
+                None => self.shared.bells.rest(rt, duty, &reply, heard),
             }
         }
         unreachable!()
-    }
-
-    // Makes the steps that are due, if no other handle has the pool: the reply of the last, if one was due. It returns
-    // `None` if another has it, and then nothing has changed.
-    fn try_due<'a>(&'a mut self, duty: Duty) -> Option<Option<Reply>>
-        ensures done { IfSome result (λ r. TakesOne
-            (IsServedTurn (IsTrue D.keeps_model) duty r) self.old self.new) }
-        ensures unchanged { IfNone result (IsUnchanged self.old self.new) }
-    {
-        let reply = try_serve(&mut self.seat, &self.shared.lock, duty)?;
-        self.shared.waiters.note_last::<D>(&reply);
-        Some(reply)
     }
 }
 

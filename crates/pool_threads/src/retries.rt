@@ -25,8 +25,8 @@ pub(crate) trait RetriedCall<D: SectorDevice>: PoolCall<D> + Copy {
     // It will be refused so for ever.
     ghost is_in_vain: { Self → Shown → Type 0 };
 
-    /// Whether a sync of the open group may help it. No clause rests on it.
-    fn wants_close() -> bool {
+    /// Whether it waits for the charges of a group to end, and not for a range. No clause rests on it.
+    fn waits_for_room() -> bool {
         false
     }
 
@@ -62,7 +62,7 @@ impl<'a, D: SectorDevice> RetriedCall<D> for Begin<'a> {
 
     ghost is_in_vain = { λ c s. is_above_limit c.plan.now s ≡ true };
 
-    fn wants_close() -> bool {
+    fn waits_for_room() -> bool {
         true
     }
 
@@ -72,8 +72,8 @@ impl<'a, D: SectorDevice> RetriedCall<D> for Begin<'a> {
 }
 
 impl<'p, D: SectorDevice> Handle<'p, D> {
-    /// Makes a call, and makes it again while it may pass later. Between two tries the thread backs off and then
-    /// sleeps.
+    /// Makes a call, and makes it again while it may pass later. Between two tries the thread sleeps until it may help;
+    /// one that waits for a range backs off first.
     pub(crate) fn retry<'a, 'b, W: Wait, C: RetriedCall<D> + Drop>(
         &'a mut self,
         rt: &'b W,
@@ -86,15 +86,17 @@ impl<'p, D: SectorDevice> Handle<'p, D> {
     {
         let backoff = Backoff::new();
         for _ in rt.forever() {
-            let changes = self.shared.waiters.changes();
+            let unlocks = self.shared.ranges.rings();
+            let frees = self.shared.room.rings();
             let (answer, may_pass) = self.try_call(rt, call);
             if !may_pass {
                 return answer;
             }
-            if C::wants_close() {
-                self.shared.bells.call_for_close();
+            if C::waits_for_room() {
+                self.shared.rest_for_room(rt, frees);
+            } else {
+                self.shared.ranges.rest(rt, &backoff, unlocks);
             }
-            self.shared.waiters.rest(rt, &backoff, changes);
         }
         unreachable!()
     }

@@ -1,15 +1,31 @@
 //! What the handles of one pool share.
+//!
+//! Threads that wait sleep by bells (`bell.rt`), and a call whose step changed something rings once it has freed the
+//! pool. Each sleep has an end, so a table that left out a ring would cost time alone:
+//!
+//! | who sleeps | by which bell | who rings |
+//! |---|---|---|
+//! | a lock that is refused `Busy` | `ranges` | an unlock |
+//! | a `begin` that is throttled | `room` | an abort, and the end of a sync |
+//! | a sync of groups, and the quiescer, while transactions of a closed group are open | `bells.ended` | a commit and an abort |
+//! | the quiescer else | its own | a `begin` that is throttled |
+//! | the syncer | its own | the turn that quiesced a group |
+//! | a handle that waits until a commit is durable | that of the rounds (`flushers.rt`) | the leader that ends a round |
+//! | a leader that waits for other handles | none (`flushers.rt`) | the last handle that it expects |
+//!
+//! A write or a flush that is refused suspends the pool, and rings for all that wait for others' steps.
 ghost use Rattle.std.specs.Prelude.{◌≡◌, IfErr, IfOk, IfSome, IsSome};
 
+use crate::bell::Bell;
 use crate::bells::Bells;
 use crate::flushers::Flushers;
 use crate::handle::{Handle, LastSeen};
 use crate::rule::PoolRule;
-use crate::waiters::Waiters;
-use base::PoolError;
+use base::{PoolError, Reply, Step};
 use device_model::SectorDevice;
-use pool_core::PoolState;
+use pool_core::{Change, PoolCall, PoolState};
 use std::alloc::Global;
+use std::sync::Wait;
 use word_lock::WordLock;
 
 /// A pool under its lock, without a source of seats: a handle has no more of its pool than this and its seat, so none
@@ -19,7 +35,10 @@ pub(crate) struct Shared<D: SectorDevice> {
     pub(crate) lock: WordLock<Box<PoolState<D>>, PoolRule<D>>,
     pub(crate) alloc: Global,
     pub(crate) moment: u64,
-    pub(crate) waiters: Waiters,
+    /// Rung when a range was unlocked.
+    pub(crate) ranges: Bell,
+    /// Rung when a group is charged less than before.
+    pub(crate) room: Bell,
     pub(crate) flushers: Flushers,
     pub(crate) bells: Bells,
 }
@@ -39,10 +58,65 @@ impl<D: SectorDevice> Shared<D> {
             lock,
             alloc,
             moment,
-            waiters: Waiters::new(),
+            ranges: Bell::new(),
+            room: Bell::new(),
             flushers: Flushers::new(),
             bells: Bells::new(),
         }
+    }
+
+    /// Rings for those whom a call with this answer may help.
+    pub(crate) fn note<C: PoolCall<D>>(&self, answer: &Result<C::Answer, PoolError>) {
+        match answer {
+            Ok(answer) => self.note_change(C::change(answer)),
+            Err(error) => self.note_refusal(*error),
+        }
+    }
+
+    /// The same after steps of which the last one had this reply.
+    pub(crate) fn note_last(&self, reply: &Option<Reply>) {
+        match reply {
+            None => {}
+            Some(Reply::Refused(error)) => self.note_refusal(*error),
+            Some(reply) => self.note_change(<Step as PoolCall<D>>::change(reply)),
+        }
+    }
+
+    fn note_change(&self, change: Option<Change>) {
+        match change {
+            None => {}
+            Some(Change::Unlocked) => self.ranges.ring(),
+            Some(Change::Committed) => self.bells.ended.ring(),
+            Some(Change::Released) => self.ring_all(),
+            Some(Change::Opened(group)) => self.bells.group_opened(group),
+            Some(Change::Quiesced(group)) => self.bells.group_quiesced(group),
+            Some(Change::Synced(group)) => {
+                self.bells.group_synced(group);
+                self.room.ring();
+            }
+        }
+    }
+
+    // Those that wait for the steps of others are to meet `Suspended`.
+    fn note_refusal(&self, error: PoolError) {
+        if error == PoolError::Write || error == PoolError::Flush {
+            self.ring_all();
+        }
+    }
+
+    /// A begin was throttled, before which `room` was rung so often. It sleeps until `room` is rung again, and calls the
+    /// quiescer first if it wasn't yet.
+    pub(crate) fn rest_for_room<W: Wait>(&self, rt: &W, rings: u64) {
+        if self.room.rings() == rings {
+            self.bells.call_for_close();
+            self.room.sleep(rt, rings);
+        }
+    }
+
+    fn ring_all(&self) {
+        self.ranges.ring();
+        self.room.ring();
+        self.bells.ended.ring();
     }
 
     /// A handle that goes on from what one had seen as it left.
@@ -64,7 +138,8 @@ impl<D: SectorDevice> Shared<D> {
             lock,
             alloc: _,
             moment: _,
-            waiters: _,
+            ranges: _,
+            room: _,
             flushers: _,
             bells: _,
         } = self;
@@ -86,7 +161,8 @@ impl<D: SectorDevice> Shared<D> {
             lock,
             alloc: _,
             moment: _,
-            waiters: _,
+            ranges: _,
+            room: _,
             flushers: _,
             bells: _,
         } = self;

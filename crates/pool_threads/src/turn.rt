@@ -7,8 +7,8 @@ ghost use Rattle.base.specs.steps.Runs.{reply_of};
 ghost use Rattle.base.specs.steps.SyncEnds.{IsAnswer};
 ghost use Rattle.word_lock.specs.Seats.{IsAsBefore, IsHolding, IsIdle, IsSameSeat, kin, lock_table, seat_table, seen};
 ghost use Rattle.pool_core.specs.States.{shown};
-ghost use Rattle.pool_threads.specs.Serves.{HasServed, IsServedTurn, MakesDue};
-ghost use Rattle.pool_threads.specs.Turns.{HasHadOne, HasMade, HasStepped};
+ghost use Rattle.pool_threads.specs.Serves.{HasServed, MakesDue};
+ghost use Rattle.pool_threads.specs.Turns.{HasMade, HasStepped};
 ghost use Rattle.pool_threads.specs.Views.{Explains, IsPoolStep, view_after, viewed_state};
 
 use crate::retries::RetriedCall;
@@ -135,26 +135,6 @@ pub(crate) fn serve_turn<'s, 'l, D: SectorDevice>(
     let synced = value.status().synced;
     seat.put_back(lock, value, &view);
     (reply, synced)
-}
-
-/// Makes the steps that are due if the lock is free, in one turn of the seat and no other: the reply of the last.
-pub(crate) fn try_serve<D: SectorDevice>(
-    seat: &mut Seat<Box<PoolState<D>>, PoolRule<D>>,
-    lock: &WordLock<Box<PoolState<D>>, PoolRule<D>>,
-    duty: Duty,
-) -> Option<Option<Reply>>
-    requires own { seat_table seat.old ≡ lock_table lock.now }
-    requires idle { IsIdle seat.old }
-    ensures same { (seat_table seat.new ≡ seat_table seat.old) × IsIdle seat.new }
-    ensures served { MatchOption result (IsAsBefore seat.old seat.new)
-        (λ r. HasHadOne (IsTrue D.keeps_model) (IsServedTurn (IsTrue D.keeps_model) duty r)
-        seat.old seat.new) }
-{
-    let Some(guard) = seat.try_acquire(lock) else {
-        return None;
-    };
-    let (reply, _) = serve_turn(guard, duty);
-    Some(reply)
 }
 
 // Makes the steps that are due one after another, up to one after which none is due at once, and goes on to the view

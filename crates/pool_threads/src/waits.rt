@@ -145,7 +145,7 @@ impl<'p, D: SectorDevice> Handle<'p, D> {
         let duty = Duty::SyncUpTo(group, self.shared.moment);
         let backoff = Backoff::new();
         for _ in rt.forever() {
-            let changes = self.shared.waiters.changes();
+            let ends = self.shared.bells.ended.rings();
             let (reply, synced) = self.serve(rt, duty);
             if let Some(Reply::Refused(error)) = reply {
                 return Err(error);
@@ -154,21 +154,25 @@ impl<'p, D: SectorDevice> Handle<'p, D> {
                 return Ok(());
             }
             if reply.is_none() {
-                self.shared.waiters.rest(rt, &backoff, changes);
+                self.shared.bells.ended.rest(rt, &backoff, ends);
             }
         }
         unreachable!()
     }
 
-    // Makes the steps that are due, in one turn: the reply of the last one, and the group that is synced then.
-    fn serve<'a, 'b, W: Wait>(&'a mut self, rt: &'b W, duty: Duty) -> (Option<Reply>, Group)
+    /// Makes the steps that are due, in one turn: the reply of the last one, and the group that is synced then.
+    pub(crate) fn serve<'a, 'b, W: Wait>(
+        &'a mut self,
+        rt: &'b W,
+        duty: Duty,
+    ) -> (Option<Reply>, Group)
         ensures served { TakesOne (IsServedTurn (IsTrue D.keeps_model) duty result.0)
             self.old self.new }
         ensures synced { result.1.0 ≡ (state_seen self.new).shown.line.synced }
     {
         let guard = self.seat.acquire(rt, &self.shared.lock);
         let (reply, synced) = serve_turn(guard, duty);
-        self.shared.waiters.note_last::<D>(&reply);
+        self.shared.note_last(&reply);
         (reply, synced)
     }
 }

@@ -374,10 +374,10 @@ module _ {V : Type 0} (grows : V → V → Type 0) (same : (a : V) → grows a a
         )
 
     -- a new seat has seen as much
-    pub splits : (id : ℕ) (d : Sight V) (v : V) (ts us : List (Turn V)) (k : ℕ) → d ≡ away v ts us k → Splits Rule id d (with_split d) (away d.seen [] [] 1)
+    pub splits : (id : ℕ) (d : Sight V) (v : V) (ts us : List (Turn V)) (k : ℕ) → d ≡ away v ts us k → Splits Rule id d (with_split d) (away d.seen [] [] (d.kin + 1))
     splits id d v ts us k is s r at =
         let P : ℕ → Sight V → Type 0 = λ j d. K r.truth (word s) r.holder j d × Own r.turns j d in
-        let w : Sight V = away d.seen [] [] 1 in
+        let w : Sight V = away d.seen [] [] (d.kin + 1) in
         let b : Sight V = with_split d in
         let vs : List (Sight V) = set s.views id b in
         let whole : length vs ≡ length s.views = length-set s.views id b in
@@ -388,10 +388,10 @@ module _ {V : Type 0} (grows : V → V → Type 0) (same : (a : V) → grows a a
         (one_more HasKin vs w (each HasKin s.views id b (λ nk. absurd (omega (arith, nk))) (λ j x other there nk. other (sym (r.alone j id x d there at nk)))) (λ nk. absurd (omega (arith, nk))))
 
     -- a seat meets another, which is spent
-    pub joins : (id : ℕ) (d : Sight V) (other : ℕ) (e : Sight V) (v u blank : V) (ts xs us ys : List (Turn V)) (k l : ℕ) → d ≡ away v ts xs k → e ≡ away u us ys l → Joins Rule id d other e (met d.seen e.seen d.turns (d.taken ++ e.taken ++ e.turns) d.kin) (spent blank)
+    pub joins : (id : ℕ) (d : Sight V) (other : ℕ) (e : Sight V) (v u blank : V) (ts xs us ys : List (Turn V)) (k l : ℕ) → d ≡ away v ts xs k → e ≡ away u us ys l → Joins Rule id d other e (met d.seen e.seen d.turns (d.taken ++ e.taken ++ e.turns) (d.kin + e.kin)) (spent blank)
     joins id d other e v u blank ts xs us ys k l is that s r at apart there =
         let P : ℕ → Sight V → Type 0 = λ j d. K r.truth (word s) r.holder j d × Own r.turns j d in
-        let w : Sight V = met d.seen e.seen d.turns (d.taken ++ e.taken ++ e.turns) d.kin in
+        let w : Sight V = met d.seen e.seen d.turns (d.taken ++ e.taken ++ e.turns) (d.kin + e.kin) in
         let vs : List (Sight V) = set s.views id w in
         let here : d.standing ≢ Spent = λ x. let no : away v ts xs k ≡ d = sym is in absurd (cc) in
         let mine : grows d.seen r.truth = seen_grows r.truth (word s) r.holder id d v ts xs k is (r.each_seat id d at) in
@@ -402,7 +402,7 @@ module _ {V : Type 0} (grows : V → V → Type 0) (same : (a : V) → grows a a
         (each P vs other (spent blank) (tt, λ not. absurd (not refl)) (λ j x _ h. each P s.views id w ((mine, theirs), λ _. r.own id d at here) (λ i y _ k. (r.each_seat i y k, r.own i y k)) j x h))
         (unborn_set r.turns vs other (spent blank) (unborn_set r.turns s.views id w r.unborn))
         (each HasKin vs other (spent blank) (λ nk. absurd (omega (arith, nk)))
-        (λ j x _ h. each HasKin s.views id w (λ nk. apart (r.alone id other d e at at_other nk)) (λ i y not k nk. not (sym (r.alone i id y d k at nk))) j x h))
+        (λ j x _ h. each HasKin s.views id w (λ nk. apart (r.alone id other d e at at_other (omega (arith, nk)))) (λ i y not k nk. not (sym (r.alone i id y d k at nk))) j x h))
 
     settles_met : (slots id : ℕ) (v u : V) (ts us : List (Turn V)) (k : ℕ) (c : List (ℕ × std.Option T)) → Allows Rule slots id (met v u ts us k, c) 0 (λ n. n) (settled grows (step slots 0 0 0 none) (met v u ts us k, c))
     settles_met slots id v u ts us k c s r _ at _ =

@@ -113,7 +113,7 @@ fn a_seat_that_was_split_off_knows_the_same<W: Wait>(
     requires idle { IsIdle seat.old }
     ensures found { result.0 ≡ 255 }
     ensures turn { turns result.1 ≡ turn 255 255 ∷ [] }
-    ensures number { (kin seat.new ≡ kin seat.old + 1) × (kin result.1 ≡ 1) }
+    ensures number { (kin seat.new ≡ kin seat.old + 1) × (kin result.1 ≡ kin seat.old + 1) }
 {
     a_turn_is_from_what_was_taken_to_what_was_left(rt, seat, lock);
     let mut other = seat.split(lock);
@@ -133,7 +133,7 @@ fn a_joined_seat_knows_what_the_other_knew<W: Wait>(
     requires idle { IsIdle seat.old × IsIdle other }
     ensures found { result.1 ≡ 255 }
     ensures turn { turns seat.new ≡ turns seat.old ++ turn 255 255 ∷ [] }
-    ensures number { kin seat.new ≡ kin seat.old }
+    ensures number { kin seat.new ≡ kin seat.old + kin other }
     ensures taken { taken seat.new ≡ taken seat.old ++ taken other
         ++ turns other ++ turn result.0 255 ∷ [] }
 {

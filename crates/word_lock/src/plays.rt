@@ -69,22 +69,24 @@ impl<T, R: LockRule<T>> Play<Option<T>, Sight<R::View>> for Sit<R> {
     ghost then = { sat R.grows };
 }
 
-// The first seat has been split once more. The second has seen the same, and has had no turn.
+// The first seat has been split once more. The second has seen the same, has had no turn, and has the first one's new
+// number.
 pub(crate) struct Copy;
 
 impl<V> Split<Sight<V>> for Copy {
     ghost left = { λ d. with_split d };
 
-    ghost right = { λ d. away d.seen [] [] 1 };
+    ghost right = { λ d. away d.seen [] [] (d.kin + 1) };
 }
 
-// The first seat has both views until its next load, and takes over the other's turns. The second is used up.
+// The first seat has both views until its next load, takes over the other's turns, and adds its number. The second is
+// used up.
 pub(crate) struct Meet<T, R> {
     rule: PhantomData<(T, R)>,
 }
 
 impl<T, R: LockRule<T>> Join<Sight<R::View>> for Meet<T, R> {
-    ghost both = { λ d e. met d.seen e.seen d.turns (d.taken ++ e.taken ++ e.turns) d.kin };
+    ghost both = { λ d e. met d.seen e.seen d.turns (d.taken ++ e.taken ++ e.turns) (d.kin + e.kin) };
 
     ghost spent = { spent R.blank };
 }

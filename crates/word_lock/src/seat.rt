@@ -1,9 +1,9 @@
 //! A thread's seat at a lock, and what takes the lock.
-ghost use Rattle.std.specs.Prelude.{◌≡◌, [], ◌∷◌, ◌++◌, IfNone, IfSome, IsSome, None};
+ghost use Rattle.std.specs.Prelude.{◌≡◌, [], ◌∷◌, ◌+◌, ◌++◌, IfNone, IfSome, IsSome, None};
 ghost use Rattle.std.specs.Borrow.{sem, RestsIfNone};
 ghost use Rattle.word_lock.specs.contracts.seat.Seat.{the_row};
 ghost use Rattle.word_lock.specs.Kept.{holding, with_turn};
-ghost use Rattle.word_lock.specs.Seats.{kin, seen, taken, turns, seat_table, lock_table, HasJoined, HasSplit, HasTaken, HasTurned, IsAsBefore, IsHolding, IsIdle, IsNewSeat, IsSameSeat};
+ghost use Rattle.word_lock.specs.Seats.{kin, seen, taken, turns, seat_table, lock_table, HasJoined, HasSplit, HasTaken, HasTurned, IsAsBefore, IsHolding, IsIdle, IsSameSeat, IsSeatOf};
 
 use crate::guard::{Guard, Held, seen_view};
 use crate::lock::WordLock;
@@ -22,9 +22,10 @@ const TRIES: u32 = 16;
 /// A right to ask for a lock. It has no bytes, and a thread may hand it to another. It has seen a view, which all
 /// later views of the value go on from, and knows the turns that it has had with the lock.
 ///
-/// It also has a number in the proofs, `kin`, which each `split` makes one more and no call makes less. So a contract
-/// that says that the number stays says that no seat was split off: a body that had its steps made by such a seat
-/// shows it for ever. The list `taken` has what a seat that was joined had done. A seat with the number 0 is
+/// It also has a number in the proofs, `kin`, which each `split` makes one more and no call makes less. The seat that is
+/// split off has the same number, and a join adds the numbers. So a contract that says what the number becomes says
+/// which seats were split off: a body that had its steps made by another one shows it for ever, also if it splits a
+/// seat that it hands out or uses up. The list `taken` has what a seat that was joined had done. A seat with the number 0 is
 /// the only one that its lock ever had, and finds the value as it left it.
 #[derive(Drop)]
 pub struct Seat<T, R: LockRule<T>> {
@@ -182,12 +183,12 @@ impl<T, R: LockRule<T>> Seat<T, R> {
     }
 
     /// One more seat, which has seen what this one has, and has had no turn. This one's number is one more
-    /// afterwards, and nothing else of it changes. It never waits.
+    /// afterwards, and nothing else of it changes. The new one has that number too. It never waits.
     pub fn split<A: Allocator>(&mut self, lock: &WordLock<T, R, A>) -> Seat<T, R>
         requires own { seat_table self.old ≡ lock_table lock.now }
         requires idle { IsIdle self.old }
         ensures split { HasSplit self.old self.new }
-        ensures other { IsNewSeat lock.now result }
+        ensures other { IsSeatOf lock.now result (kin self.old + 1) }
         ensures seen { seen result ≡ seen self.old }
     {
         Seat {
@@ -197,13 +198,13 @@ impl<T, R: LockRule<T>> Seat<T, R> {
 
     /// Takes in what another seat has seen, and uses that seat up. Afterwards this one has seen a view that goes on
     /// from both. Its turns are still its own alone: those of the other, and those that the other had taken over,
-    /// follow in `taken`. It never waits.
+    /// follow in `taken`, and the other's number is added to this one's. It never waits.
     pub fn join<A: Allocator>(&mut self, lock: &WordLock<T, R, A>, other: Seat<T, R>)
         requires own { seat_table self.old ≡ lock_table lock.now }
         requires same_lock { seat_table other ≡ lock_table lock.now }
         requires idle { IsIdle self.old × IsIdle other }
         ensures same { IsSameSeat self.old self.new × (turns self.new ≡ turns self.old)
-            × (kin self.new ≡ kin self.old) }
+            × (kin self.new ≡ kin self.old + kin other) }
         ensures both { HasJoined R.grows self.old other self.new }
         ensures taken { taken self.new ≡ taken self.old ++ taken other ++ turns other }
     {

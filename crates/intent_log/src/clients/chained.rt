@@ -1,12 +1,12 @@
 //! What callers rest on of a chain that is read.
 
-ghost use Rattle.std.specs.Prelude.{◌≡◌, ◌≤◌, ◌<◌, ◌^◌, ◌⊎◌, [], All, IfErr, IfOk, IfSome, IsTrue, length, map};
+ghost use Rattle.std.specs.Prelude.{◌≡◌, ◌≤◌, ◌<◌, ◌∷◌, ◌^◌, ◌⊎◌, [], All, IfErr, IfOk, IfSome, IsTrue, length, map};
 ghost use Rattle.base.specs.disk.Disk.{bytes_of};
-ghost use Rattle.base.specs.formats.Chain.{LogPiece};
+ghost use Rattle.base.specs.formats.Chain.{IsPiece, LogPiece, next_header};
 ghost use Rattle.base.specs.formats.Geometry.{IsBlockAddress, block_address};
 ghost use Rattle.base.specs.formats.Records.{IsAllowed};
 ghost use Rattle.transactions.specs.Records.{record_fields};
-ghost use Rattle.intent_log.specs.Chains.{IsChainBlock};
+ghost use Rattle.intent_log.specs.Chains.{IsChainBlock, header_of_chain};
 
 use crate::chains::{ChainHeader, LoggedBlock, chain};
 use base::PoolError;
@@ -47,6 +47,23 @@ fn a_log_block_that_stands_is_read<D: SectorDevice>(
     ensures { IsTrue D.keeps_model → (block : LogPiece)
         → IsChainBlock (bytes_of (D.disk device.old).now) frame.now header.now block
         → IfOk result (λ blocks. 0 < length blocks.items) }
+{
+    chain(alloc, device, frame, header)
+}
+
+// A chain goes on as long as a block follows.
+fn a_chain_of_one_block_has_no_second<D: SectorDevice>(
+    alloc: Global,
+    device: &mut D,
+    frame: &Frame,
+    header: &ChainHeader,
+) -> Result<Vec<LoggedBlock>, PoolError>
+    requires fits { block_address frame.now.blocks ≤ D.size device.old }
+    requires number { header.now.number ≤ 2 ^ 60 }
+    ensures { IsTrue D.keeps_model → IfOk result (λ blocks. (block second : LogPiece)
+        → blocks.items ≡ block ∷ []
+        → IsPiece (bytes_of (D.disk device.old).now) frame.now header.now.import_number
+        (next_header (header_of_chain header.now) block) second → ⊥) }
 {
     chain(alloc, device, frame, header)
 }
