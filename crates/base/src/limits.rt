@@ -35,7 +35,8 @@ pub const LAST_NUMBER: u64 = 1 << 60;
 /// The synced group of a pool that was just created.
 pub const FIRST_GROUP: u64 = 4;
 
-/// The most bytes of the log record of one transaction.
+/// The most bytes of the log record of one transaction: 22, and for each operation 5 for a create or a remove, 13 for a
+/// new length, 17 and its bytes for a write, 5 and its bytes for a name.
 pub const MAX_LOG_RECORD: u64 = 4008;
 
 /// The most locks that may be held.
