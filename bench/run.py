@@ -2,11 +2,13 @@
 """Times `ztxg load` beside SQLite, RocksDB and a plain log that make the same writes, and prints ratios.
 
     make -C bench
-    python3 bench/run.py --ztxg crates/ztxg/out/ztxg
+    python3 tools/build_program.py durable_load bench/out/durable_load
+    python3 bench/run.py --ztxg crates/ztxg/out/ztxg --durable bench/out/durable_load
 
 In each round each contestant runs once, in the same folder, each on a store made anew; the next round begins with the
 next contestant. What a store holds afterwards is compared with the writes. bench/README.md says what is compared and
-how the output is read. The status is 1 if a contestant fails or holds something else, and 2 for a command-line fault.
+how the output is read. The status is 1 if a contestant fails or holds something else, and 2 for a command-line fault:
+also for a program that `rt try` built, which is half as fast.
 """
 
 import argparse
@@ -35,11 +37,21 @@ MIB = 2**20
 DEFAULT_DIRTY = MIB
 EACH, EIGHTH = "each", "eighth"
 
-# Of the better of the stores, by dirty limit; and of the plain log that grows, at one worker.
-STORE_GOALS = {64 * MIB: 1.0, DEFAULT_DIRTY: 0.5}
-LOG_GOAL = 0.5
+# Goals are of the better of the stores, if both sides flush alike. The first are by dirty limit and workers.
+LIKE_GOALS = {
+    (64 * MIB, 1): 1.5,
+    (64 * MIB, 4): 1.5,
+    (64 * MIB, 16): 1.5,
+    (DEFAULT_DIRTY, 1): 1.0,
+    (DEFAULT_DIRTY, 4): 1.0,
+    (DEFAULT_DIRTY, 16): 0.7,
+}
+DURABLE_GOAL = 1.2
 
 SLOWEST = 3600  # seconds of one run
+
+# A text that the checks of `rt try` bring into a program.
+INSTRUMENTED = b"attempt to add with overflow"
 
 
 class Failure(Exception):
@@ -86,22 +98,29 @@ def numbers_of(output):
 
 @dataclass(frozen=True)
 class Ztxg:
-    """`ztxg load` at one dirty limit, on a new pool."""
+    """`ztxg load` at one dirty limit, on a new pool. With `durable`, that program makes the load in its place: each
+    commit is durable then, and not only each eighth one of a stream."""
 
     program: pathlib.Path
     dirty: int
     size: int
-    flush = None
+    durable: pathlib.Path | None = None
     is_log = False
 
     @property
+    def flush(self):
+        return EIGHTH if self.durable is None else EACH
+
+    @property
     def name(self):
-        return f"ztxg {limit_name(self.dirty)}"
+        return f"ztxg {limit_name(self.dirty)}{'' if self.durable is None else ' each'}"
 
     def prepare(self, path, load):
         call([self.program, "create", path, POOL, GUID, self.size])
 
     def command(self, path, load):
+        if self.durable is not None:
+            return [self.durable, path, load.workers, load.ops, load.seed, self.dirty]
         numbers = ["--workers", load.workers, "--ops", load.ops, "--seed", load.seed, "--dirty", self.dirty]
         return [self.program, "load", path, *numbers]
 
@@ -198,11 +217,11 @@ class Race:
         pairs = zip(self.runs[peer], self.runs[ztxg], strict=True)
         return [theirs.seconds / ours.seconds for theirs, ours in pairs]
 
-    def ztxgs(self):
-        return [it for it in self.contestants if isinstance(it, Ztxg)]
+    def ztxgs(self, flush):
+        return [it for it in self.contestants if isinstance(it, Ztxg) and it.flush == flush]
 
     def peers(self, flush, is_log):
-        return [it for it in self.contestants if it.flush == flush and it.is_log == is_log]
+        return [it for it in self.contestants if isinstance(it, Peer) and it.flush == flush and it.is_log == is_log]
 
     def better(self, flush):
         """The store that is no log with the lowest middle time."""
@@ -267,46 +286,73 @@ def goal_cell(ratios, goal):
     return f"{goal:.1f} {'met' if statistics.median(ratios) >= goal else 'missed'}"
 
 
-def ratio_rows(races, flush):
+def goal_of(table, result, ztxg):
+    """The goal of a cell, or None."""
+    if table.ours != table.theirs:
+        return None
+    return DURABLE_GOAL if table.ours == EACH else LIKE_GOALS.get((ztxg.dirty, result.load.workers))
+
+
+def ratio_rows(races, table):
     """For each race and each dirty limit the ratios to each store and to the better of them."""
-    stores = list(dict.fromkeys(peer.store for result in races for peer in result.peers(flush, is_log=False)))
+    races = [result for result in races if result.ztxgs(table.ours)]
+    stores = list(dict.fromkeys(peer.store for result in races for peer in result.peers(table.theirs, is_log=False)))
     if not stores:
         return
-    yield ["workers, limit", *stores, "better of them", *(["goal"] if flush == EACH else [])]
+    has_goal = table.ours == table.theirs
+    yield ["workers, limit", *stores, "better of them", *(["goal"] if has_goal else [])]
     for result in races:
-        by_store = {peer.store: peer for peer in result.peers(flush, is_log=False)}
-        better = result.better(flush)
-        for ztxg in result.ztxgs():
+        by_store = {peer.store: peer for peer in result.peers(table.theirs, is_log=False)}
+        better = result.better(table.theirs)
+        for ztxg in result.ztxgs(table.ours):
             cells = [ratio_cell(result.ratios(by_store[store], ztxg)) for store in stores]
             ratios = result.ratios(better, ztxg)
-            goal = STORE_GOALS.get(ztxg.dirty)
+            goal = goal_of(table, result, ztxg)
             row = [f"{result.load.workers}, {limit_name(ztxg.dirty)}", *cells, f"{ratio_cell(ratios)} {better.store}"]
-            if flush == EACH:
+            if has_goal:
                 row.append("-" if goal is None else goal_cell(ratios, goal))
             yield row
 
 
-def log_rows(result, flush):
+def log_rows(result, table):
     """At one worker, the ratios to the plain logs."""
-    logs = result.peers(flush, is_log=True)
-    if not logs:
+    logs = result.peers(table.theirs, is_log=True)
+    if not logs or not result.ztxgs(table.ours):
         return
-    is_goal = flush == EACH and any(log.variant == "grown" for log in logs)
-    yield ["workers, limit", *(log.store for log in logs), *(["goal"] if is_goal else [])]
-    for ztxg in result.ztxgs():
-        row = [f"{result.load.workers}, {limit_name(ztxg.dirty)}"]
-        row += [ratio_cell(result.ratios(log, ztxg)) for log in logs]
-        if is_goal:
-            grown = next(log for log in logs if log.variant == "grown")
-            row.append(goal_cell(result.ratios(grown, ztxg), LOG_GOAL))
-        yield row
+    yield ["workers, limit", *(log.store for log in logs)]
+    for ztxg in result.ztxgs(table.ours):
+        yield [
+            f"{result.load.workers}, {limit_name(ztxg.dirty)}",
+            *(ratio_cell(result.ratios(log, ztxg)) for log in logs),
+        ]
 
 
-TITLES = {
-    EACH: "MAIN TABLE: the peers flush after each commit.\n"
-    "`ztxg load` flushes after each eighth commit of a stream, so it promises less here.",
-    EIGHTH: "LIKE FOR LIKE: the peers flush after each eighth commit of a stream, as `ztxg load` does.",
-}
+@dataclass(frozen=True)
+class Table:
+    """Ratios of the runs of `ztxg` that flush so, beside peers that flush so."""
+
+    ours: str
+    theirs: str
+    title: str
+
+
+TABLES = [
+    Table(
+        EIGHTH,
+        EIGHTH,
+        "LIKE FOR LIKE: ztxg and the peers flush after each eighth commit of a stream.",
+    ),
+    Table(
+        EACH,
+        EACH,
+        "EACH COMMIT DURABLE: ztxg and the peers flush before each commit returns.",
+    ),
+    Table(
+        EIGHTH,
+        EACH,
+        "UNLIKE: the peers flush after each commit, ztxg after each eighth one of a stream. So ztxg promises less.",
+    ),
+]
 
 
 RATIOS = "Ratios are the peer's time by ztxg's in the same round, middle (least-most); above 1 ztxg is faster."
@@ -317,13 +363,13 @@ def report(races, rounds, write):
         write(f"\nTIMES of {result.load.commits} commits, W = {result.load.workers}, middle of {rounds} rounds")
         for line in table(list(times(result))):
             write(line)
-    if not any(result.ztxgs() for result in races):
+    if not any(result.ztxgs(flush) for result in races for flush in (EACH, EIGHTH)):
         write("\nNo ratios: there was no ztxg.")
         return
-    for flush in (EACH, EIGHTH):
-        tables = [list(ratio_rows(races, flush)), *(list(log_rows(result, flush)) for result in races)]
+    for kind in TABLES:
+        tables = [list(ratio_rows(races, kind)), *(list(log_rows(result, kind)) for result in races)]
         if any(tables):
-            write(f"\n{TITLES[flush]}")
+            write(f"\n{kind.title}")
             write(RATIOS)
         for rows in filter(None, tables):
             for line in table(rows):
@@ -338,6 +384,8 @@ def contestants_of(options, workers):
     if options.ztxg is not None:
         for dirty in options.dirty:
             yield Ztxg(options.ztxg, dirty, options.size)
+        if options.durable is not None and EACH in options.flush:
+            yield Ztxg(options.ztxg, max(options.dirty), options.size, options.durable)
     for name in ("sqlite", "rocksdb", "log"):
         program = PEERS / name
         is_log = name == "log"
@@ -377,6 +425,11 @@ def head(options, folder, write):
             write(f"{name} was not built, so it isn't measured")
 
 
+def is_instrumented(program):
+    """Whether `rt try` built the program: such a build has checks that a proved one doesn't need."""
+    return INSTRUMENTED in program.read_bytes() if program.is_file() else False
+
+
 def numbers(text):
     return [int(it) for it in text.split(",")]
 
@@ -384,6 +437,7 @@ def numbers(text):
 def parse(words):
     parser = argparse.ArgumentParser(description=__doc__.split("\n")[0])
     parser.add_argument("--ztxg", type=pathlib.Path, metavar="PROGRAM", help="a built ztxg; without it the peers alone")
+    parser.add_argument("--durable", type=pathlib.Path, metavar="PROGRAM", help="a built durable_load, for the table of durable commits")
     parser.add_argument("--workers", type=numbers, default=[1, 4, 16], metavar="W,..", help="each 1 to 16")
     parser.add_argument("--ops", type=int, default=500, metavar="N", help="writes of each of the 16 streams")
     parser.add_argument("--seed", type=int, default=5, metavar="S")
@@ -405,8 +459,14 @@ def parse(words):
         parser.exit(2, f"run.py: --folder {options.folder} is no folder\n")
     if not (PEERS / "log").is_file():
         parser.error("the peers are not built: make -C bench")
-    if options.ztxg is not None:
-        options.ztxg = options.ztxg.resolve()
+    if options.durable is not None and options.ztxg is None:
+        parser.error("--durable needs --ztxg, which makes its pools")
+    for name in ("ztxg", "durable"):
+        program = getattr(options, name)
+        if program is not None:
+            setattr(options, name, program.resolve())
+            if is_instrumented(program):
+                parser.error(f"{program} was built by `rt try`, and is half as fast as the gate's: take that of `rt run`")
     return options
 
 

@@ -1,22 +1,28 @@
 #!/bin/sh
-# Stands in for ztxg in the test of run.py: it makes an empty file, sleeps in place of a load, and prints what a load
-# has to print. It sleeps STAND_IN_SLOW seconds at a dirty limit of 1 MiB, and STAND_IN_FAST seconds at any other. With
-# STAND_IN_WRONG its digest is another one.
+# Stands in for ztxg, and for durable_load, in the test of run.py: it makes an empty file, sleeps in place of a load, and
+# prints what a load has to print. It sleeps STAND_IN_SLOW seconds at a dirty limit of 1 MiB, and STAND_IN_FAST seconds
+# at any other. With STAND_IN_WRONG its digest is another one.
 set -eu
 here=$(dirname "$0")
+
+# load WRITES SEED DIRTY
+load() {
+    if [ "$3" = 1048576 ]; then sleep "$STAND_IN_SLOW"; else sleep "$STAND_IN_FAST"; fi
+    echo "committed $((17 + 16 * $1))"
+    echo "digest $("$here/out/log" contents "${STAND_IN_WRONG:-tank}" "$1" "$2" | sha256sum | cut -d ' ' -f 1)"
+}
+
 case "$1" in
 create)
     : > "$2"
     ;;
 load)
     [ "$3 $5 $7 $9" = "--workers --ops --seed --dirty" ] || exit 2
-    ops=$6 seed=$8
-    shift 9
-    if [ "$1" = 1048576 ]; then sleep "$STAND_IN_SLOW"; else sleep "$STAND_IN_FAST"; fi
-    echo "committed $((17 + 16 * ops))"
-    echo "digest $("$here/out/log" contents "${STAND_IN_WRONG:-tank}" "$ops" "$seed" | sha256sum | cut -d ' ' -f 1)"
+    load "$6" "$8" "${10}"
     ;;
 *)
-    exit 2
+    # the words of durable_load: FILE WORKERS WRITES SEED DIRTY
+    [ $# = 5 ] || exit 2
+    load "$3" "$4" "$5"
     ;;
 esac

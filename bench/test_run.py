@@ -48,16 +48,24 @@ class Ratios(unittest.TestCase):
         self.assertEqual(self.race.better(run.EACH), self.sqlite)
         self.assertIsNone(self.race.better(run.EIGHTH))
 
-    def test_a_goal_looks_at_the_middle(self):
-        _, row = run.ratio_rows([self.race], run.EACH)
+    def test_tables_of_one_promise_have_goals_that_look_at_the_middle(self):
+        like, durable, unlike = run.TABLES
+        each = run.Ztxg(pathlib.Path("ztxg"), 64 * MIB, 0, pathlib.Path("durable"))
+        self.race.contestants.append(each)
+        self.race.runs[each] = invented([3.0, 3.0, 3.0])
+        _, row = run.ratio_rows([self.race], durable)
         self.assertEqual(row[0], "1, 64 MiB")
-        self.assertEqual(row[1:], ["1.50 (1.00-4.00)", "1.12 (0.50-2.50)", "1.50 (1.00-4.00) sqlite busy", "1.0 met"])
-        _, row = run.log_rows(self.race, run.EACH)
-        self.assertEqual(row[1:], ["0.25 (0.25-0.50)", "0.5 missed"])
+        self.assertEqual(row[1:], ["1.33 (1.00-2.67)", "1.50 (0.33-1.67)", "1.33 (1.00-2.67) sqlite busy", "1.2 met"])
+        _, row = run.ratio_rows([self.race], unlike)
+        self.assertEqual(row[1:], ["1.50 (1.00-4.00)", "1.12 (0.50-2.50)", "1.50 (1.00-4.00) sqlite busy"])
+        _, row = run.log_rows(self.race, unlike)
+        self.assertEqual(row[1:], ["0.25 (0.25-0.50)"])
+        self.assertEqual(run.goal_of(like, self.race, self.ztxg), 1.5)
 
     def test_a_mode_that_did_not_run_has_no_rows(self):
-        self.assertEqual(list(run.ratio_rows([self.race], run.EIGHTH)), [])
-        self.assertEqual(list(run.log_rows(self.race, run.EIGHTH)), [])
+        like, durable, _ = run.TABLES
+        self.assertEqual(list(run.ratio_rows([self.race], like)), [])
+        self.assertEqual(list(run.ratio_rows([self.race], durable)), [])
 
     def test_each_round_begins_with_the_next_contestant(self):
         orders = [run.in_turn(list("abc"), number) for number in range(4)]
@@ -75,7 +83,8 @@ class StandIn(unittest.TestCase):
                 os.environ[name] = value
                 self.addCleanup(os.environ.pop, name, None)
             with contextlib.redirect_stdout(output), contextlib.redirect_stderr(io.StringIO()):
-                run.main(["--ztxg", str(HERE / "stand_in.sh"), "--folder", folder, "--raw", str(raw), *words])
+                stand_in = str(HERE / "stand_in.sh")
+                run.main(["--ztxg", stand_in, "--durable", stand_in, "--folder", folder, "--raw", str(raw), *words])
             self.assertEqual(os.listdir(folder), ["raw"])
             return output.getvalue(), [line.split("\t") for line in raw.read_text().splitlines()[1:]]
 
@@ -83,13 +92,12 @@ class StandIn(unittest.TestCase):
         words = ["--ops", "8", "--rounds", "3", "--workers", "1", "--only", "ztxg,log grown each"]
         printed, raw = self.run_with(*words, STAND_IN_SLOW="0.3", STAND_IN_FAST="0.1")
         runs = {name: [float(it[3]) for it in raw if it[2] == name and it[0]] for name in {it[2] for it in raw}}
-        self.assertEqual(sorted(runs), ["log grown each", "ztxg 1 MiB", "ztxg 64 MiB"])
+        self.assertEqual(sorted(runs), ["log grown each", "ztxg 1 MiB", "ztxg 64 MiB", "ztxg 64 MiB each"])
         self.assertTrue(all(len(it) == 3 for it in runs.values()))
-        self.assertTrue(min(runs["ztxg 1 MiB"]) >= 0.3 and min(runs["ztxg 64 MiB"]) >= 0.1)
+        self.assertTrue(min(runs["ztxg 1 MiB"]) >= 0.3 and min(runs["ztxg 64 MiB each"]) >= 0.1)
         ratio = statistics.median(a / b for a, b in zip(runs["log grown each"], runs["ztxg 1 MiB"], strict=True))
         row = next(line for line in printed.splitlines() if line.startswith("1, 1 MiB"))
         self.assertEqual(row.split()[3], f"{ratio:.2f}")
-        self.assertEqual(["met" in row, "missed" in row], [ratio >= 0.5, ratio < 0.5])
 
     def test_another_digest_ends_the_run(self):
         words = ["--ops", "8", "--rounds", "1", "--workers", "1", "--only", "ztxg"]

@@ -13,6 +13,7 @@ TOP = pathlib.Path(__file__).resolve().parent.parent
 
 # The line of each program in crates.txt.
 PROGRAMS = {
+    "durable_load": "durable_load: anyhow topzerad loads",
     "flush_counts": "flush_counts may_wait=9: anyhow topzerad",
     "load_receipts": "load_receipts: anyhow topzerad loads",
 }

@@ -77,9 +77,12 @@ impl<'a, 'p, D: SectorDevice, W: Wait> Writer<'a, 'p, D, W> {
                 break;
             }
             let receipt = self.write(words.draw())?;
-            if number % WRITES_BETWEEN_WAITS == WRITES_BETWEEN_WAITS - 1 {
+            let is_eighth = number % WRITES_BETWEEN_WAITS == WRITES_BETWEEN_WAITS - 1;
+            if is_eighth || gate.waits_for_each() {
                 self.handle.fsync(self.rt, receipt)?;
                 gate.acknowledged(stream, number + 1);
+            }
+            if is_eighth {
                 self.read_shared()?;
             }
         }
