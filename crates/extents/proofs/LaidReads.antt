@@ -1,7 +1,7 @@
 -- What reads of objects give where patches are laid over them: lengths and bytes, from those below.
-use Rattle.std.proofs.Common.{◌≡◌, ℕ, ◌<◌, ◌≤◌, ◌⊎◌, inl, inr, true, refl, ap, subst, sym, ◌∙◌, List, [], length, Option, Some, None}
+use Rattle.std.proofs.Common.{◌≡◌, Bool, ◌||◌, ℕ, ◌+◌, ◌<◌, ◌≤◌, ◌⊎◌, inl, inr, true, false, refl, ap, subst, sym, ◌∙◌, List, [], length, Option, Some, None}
 use Rattle.std.specs.Prelude.{is_some, option_map, unwrap_or}
-use Rattle.std.proofs.lemmas.Bool.{cases_lt, false≢true}
+use Rattle.std.proofs.lemmas.Bool.{cases_Bool, cases_lt, false≢true}
 use Rattle.std.specs.Ordering.{nat_cmp}
 use Rattle.std.specs.FinMap as finite
 use Rattle.std.specs.FinMap.{FinMap}
@@ -10,6 +10,7 @@ use Rattle.object_maps.specs.Sources.{AreBytesFrom, object_bytes, object_length}
 use Rattle.extents.specs.declared.basis.Basis.{Basis}
 use Rattle.extents.specs.declared.basis.Basis.TheVariants.{Grown, Cut, Made, Gone}
 use Rattle.extents.specs.Patches.{IsSized, Patch, Patches, is_shown, laid_over, length_over, no_patch, patched}
+use Rattle.extents.specs.LaidReads.{LaysOnBelow}
 use Rattle.extents.specs.Objects.{HidesBelow, LaysOn}
 use Rattle.extents.proofs.LaidObjects.{get-laid_over, get-laid_past}
 use Rattle.extents.proofs.PatchedObjects.{patched_length, patched_nothing}
@@ -76,3 +77,66 @@ module _ (patches : Patches) (below : FinMap nat_cmp (List ℕ)) (n : ℕ) where
   -- an object without a patch is the one below
   pub same_object : patches n ≡ no_patch → is_some (finite.get (laid_over patches below) n) ≡ true → finite.get (laid_over patches below) n ≡ finite.get below n
   same_object none there = laid_object no_patch none there ∙ patched_nothing (finite.get below n)
+
+-- what the changes of groups, laid over bytes, give
+absent-some : (o : Option (List ℕ)) → is_some o ≡ false → o ≡ None
+absent-some None is = refl
+absent-some (Some bytes) is = absurd (false≢true (sym is))
+
+pub or-true : (b : Bool) → (b || true) ≡ true
+or-true true = refl
+or-true false = refl
+
+made_hides : (basis : Basis) (written : ℕ → Option ℕ) (offset count : ℕ) → is_some (patched (record { basis = basis; written = written }) None) ≡ true → HidesBelow (record { basis = basis; written = written }) offset count
+made_hides (Grown end) written offset count there = absurd (false≢true there)
+made_hides (Cut kept size) written offset count there = absurd (false≢true there)
+made_hides (Made size) written offset count there = λ k inside. or-true (is_some (written (offset + k)))
+made_hides Gone written offset count there = absurd (false≢true there)
+
+-- nothing is hidden by a patch that says nothing
+nothing_hides : (offset count : ℕ) → HidesBelow no_patch offset count → (k : ℕ) → k < count → ⊥
+nothing_hides offset count hides k inside = false≢true (hides k inside)
+
+pub lays_on_none : (patches : Patches) (n offset : ℕ) (into : List ℕ) → patches n ≡ no_patch → LaysOnBelow patches n offset into into
+lays_on_none patches n offset into none below there (inl hides) = λ k inside. absurd (nothing_hides offset (length into) (subst (λ (p : Patch). HidesBelow p offset (length into)) none hides) k inside)
+lays_on_none patches n offset into none below there (inr reads) =
+    subst (λ (o : Option (List ℕ)). AreBytesFrom offset (unwrap_or o []) into) (sym (same_object patches below n none there)) reads
+
+pub lays_on_patch : (patches : Patches) (n offset : ℕ) (p : Patch) (old new : List ℕ) → patches n ≡ p → IsSized p → length new ≡ length old → LaysOn p offset old new → LaysOnBelow patches n offset old new
+lays_on_patch patches n offset p old new is sized long lays below there (inl hides) =
+    hidden_part patches below n p is there offset old new sized long lays (subst (λ (q : Patch). HidesBelow q offset (length old)) is hides)
+lays_on_patch patches n offset p old new is sized long lays below there (inr reads) = laid_part patches below n p is there offset old new sized long lays reads
+
+-- one group over another
+over_below : (patches : Patches) (n offset : ℕ) (below : FinMap nat_cmp (List ℕ)) (old new : List ℕ) → LaysOnBelow patches n offset old new → is_some (finite.get (laid_over patches below) n) ≡ true
+    → (is_some (finite.get below n) ≡ true → AreBytesFrom offset (object_bytes below n) old) → AreBytesFrom offset (object_bytes (laid_over patches below) n) new
+over_below patches n offset below old new lays there reads = go (cases_Bool (is_some (finite.get below n)))
+  where
+    go : (is_some (finite.get below n) ≡ true) ⊎ (is_some (finite.get below n) ≡ false) → AreBytesFrom offset (object_bytes (laid_over patches below) n) new
+    go (inl some) = lays below there (inr (reads some))
+    go (inr none) =
+        let alone : is_some (patched (patches n) None) ≡ true = subst (λ (o : Option (List ℕ)). is_some (patched (patches n) o) ≡ true) (absent-some (finite.get below n) none)
+        (ap is_some (sym (get-laid_over patches below n (numbered patches below n there))) ∙ there) in
+        lays below there (inl (made_hides (patches n).basis (patches n).written offset (length old) alone))
+
+-- and three
+pub lays_on_all : (first second third : Patches) (n offset : ℕ) (a b c d : List ℕ) → length b ≡ length a → length c ≡ length a → LaysOnBelow first n offset a b → LaysOnBelow second n offset b c → LaysOnBelow third n offset c d
+    → (below : FinMap nat_cmp (List ℕ)) → is_some (finite.get (laid_over third (laid_over second (laid_over first below))) n) ≡ true
+    → (HidesBelow (third n) offset (length a) ⊎ (HidesBelow (second n) offset (length a) ⊎ HidesBelow (first n) offset (length a))) ⊎ AreBytesFrom offset (object_bytes below n) a
+    → AreBytesFrom offset (object_bytes (laid_over third (laid_over second (laid_over first below))) n) d
+lays_on_all first second third n offset a b c d long longer one two three below there known = by known
+  where
+    from_second : (is_some (finite.get (laid_over second (laid_over first below)) n) ≡ true → AreBytesFrom offset (object_bytes (laid_over second (laid_over first below)) n) c)
+        → AreBytesFrom offset (object_bytes (laid_over third (laid_over second (laid_over first below))) n) d
+    from_second = over_below third n offset (laid_over second (laid_over first below)) c d three there
+
+    from_first : (is_some (finite.get (laid_over first below) n) ≡ true → AreBytesFrom offset (object_bytes (laid_over first below) n) b)
+        → AreBytesFrom offset (object_bytes (laid_over third (laid_over second (laid_over first below))) n) d
+    from_first reads = from_second (λ some. over_below second n offset (laid_over first below) b c two some reads)
+
+    by : (HidesBelow (third n) offset (length a) ⊎ (HidesBelow (second n) offset (length a) ⊎ HidesBelow (first n) offset (length a))) ⊎ AreBytesFrom offset (object_bytes below n) a
+        → AreBytesFrom offset (object_bytes (laid_over third (laid_over second (laid_over first below))) n) d
+    by (inl (inl hides)) = three (laid_over second (laid_over first below)) there (inl (subst (λ (k : ℕ). HidesBelow (third n) offset k) (sym longer) hides))
+    by (inl (inr (inl hides))) = from_second (λ some. two (laid_over first below) some (inl (subst (λ (k : ℕ). HidesBelow (second n) offset k) (sym long) hides)))
+    by (inl (inr (inr hides))) = from_first (λ some. one below some (inl hides))
+    by (inr reads) = from_first (λ some. one below some (inr reads))

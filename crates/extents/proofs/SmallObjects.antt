@@ -1,14 +1,17 @@
 -- What patches make of an object of three bytes, and of none.
-use Rattle.std.proofs.Common.{◌≡◌, ℕ, ◌<◌, List, [], ◌∷◌, get_or, refl, ap, ◌∙◌, Option, Some, None}
-use Rattle.std.specs.Prelude.{unwrap_or}
+use Rattle.std.proofs.Common.{◌≡◌, ℕ, ◌<◌, ◌+◌, Bool, true, false, List, [], ◌∷◌, get_or, refl, ap, subst, ◌∙◌, Option, Some, None, arith}
+use Rattle.std.proofs.lemmas.Bool.{false≢true}
+use Rattle.std.specs.Prelude.{IsTrue, is_some, unwrap_or}
 use Rattle.std.specs.Ordering.{nat_cmp}
 use Rattle.std.specs.FinMap as finite
 use Rattle.std.specs.FinMap.{FinMap}
 use Rattle.base.specs.formats.Limits.{object_count}
 use Rattle.object_maps.specs.Sources.{object_bytes}
 use Rattle.extents.specs.declared.basis.Basis.TheVariants.{Grown, Cut, Made}
-use Rattle.extents.specs.Patches.{Patch, Patches, filled, laid_over, patched}
+use Rattle.extents.specs.Objects.{HidesBelow}
+use Rattle.extents.specs.Patches.{Patch, Patches, filled, laid_over, no_patch, patched}
 use Rattle.extents.proofs.LaidObjects.{get-laid_over}
+use Rattle.extents.proofs.LaidReads.{or-true}
 use Rattle.extents.proofs.PatchedBytes.{filled-in}
 
 -- cut to one byte, and three bytes long again
@@ -39,3 +42,15 @@ pub laid-made : (patches : Patches) (below objects : FinMap nat_cmp (List ℕ)) 
 laid-made patches below objects n size k x low is basis inside written =
     ap (λ (b : List ℕ). get_or b k 0) (laid-bytes patches below objects n (filled (patches n).written [] size) low is (made-bytes (patches n) (finite.get below n) size basis))
     ∙ made-byte (patches n).written size k x inside written
+
+-- a created object is there, and shows nothing of the one below
+pub made-there : (patches : Patches) (below : FinMap nat_cmp (List ℕ)) (n size : ℕ) → n < object_count → (patches n).basis ≡ Made size → is_some (finite.get (laid_over patches below) n) ≡ true
+made-there patches below n size low is = ap is_some (get-laid_over patches below n low ∙ made-bytes (patches n) (finite.get below n) size is)
+
+pub made-hides : (p : Patch) (size offset count : ℕ) → p.basis ≡ Made size → HidesBelow p offset count
+made-hides p size offset count is = λ k inside. rw is (or-true (is_some (p.written (offset + k))))
+
+-- an object without a patch shows each byte of the one below
+pub untouched-shows : (p : Patch) (hidden : Bool) (offset : ℕ) → p ≡ no_patch → (IsTrue hidden → HidesBelow p offset 1) → hidden ≡ false
+untouched-shows p false offset is hides = refl
+untouched-shows p true offset is hides = absurd (false≢true (subst (λ (q : Patch). HidesBelow q offset 1) is (hides refl) 0 (omega arith)))

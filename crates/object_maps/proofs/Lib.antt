@@ -5,6 +5,8 @@ pub mod Records
 pub mod RisingObjects
 pub mod SetMaps
 pub mod PutObjects
+pub mod CachedBlocks
+pub mod CachedDisks
 pub mod LoadedBlocks
 pub mod LoadedRecords
 pub mod LoadedEntries
@@ -15,3 +17,5 @@ pub mod WalkDamages
 pub mod WalkParts
 pub mod HeldTrees
 pub mod JudgedLists
+pub mod ObjectReads
+pub mod PointersRead

@@ -22,6 +22,7 @@ ghost use Rattle.base.specs.declared.pointer.Pointer.{Pointer};
 ghost use Rattle.base.specs.tree.Places.{IsPlace, pointer_of, walk_index_of, walk_index_of_indirect};
 ghost use Rattle.base.specs.tree.Places.Place.{Directory, Data};
 ghost use Rattle.object_maps.specs.Loaders.{AreRecordPointers, IsEntryPayload, IsObjectOf, LoadsFrom, OnImage, OnWalk};
+ghost use Rattle.object_maps.specs.Cached.{IsReadRefusal};
 ghost use Rattle.object_maps.specs.Surveys.{HasLimitedObjects, HasObjects};
 ghost use Rattle.object_maps.specs.Walking.{TellsBlock, TellsDamage, Walks, IsDataOf, AreDataOf, IsIndirectOf, IsPayloadOf, AreDirectoriesOf, directory_index, objects_index};
 
@@ -48,25 +49,27 @@ pub struct Loaded {
 
 // What a load is made with: memory, and the frame of the blocks that it reads.
 #[derive(Clone, Copy)]
-struct Loader<'a> {
-    alloc: Global,
-    frame: &'a Frame,
+pub(crate) struct Loader<'a> {
+    pub(crate) alloc: Global,
+    pub(crate) frame: &'a Frame,
 }
 
-// The place of a block: its kind and its number.
-#[derive(Clone, Copy)]
-struct BlockPlace {
-    kind: Kind,
-    number: u64,
+/// The place of a block: its kind and its number.
+#[derive(Clone, Copy, Debug, PartialEq, Eq)]
+pub struct BlockPlace {
+    /// Its kind.
+    pub kind: Kind,
+    /// Its number among the blocks of this kind.
+    pub number: u64,
 }
 
 // Room for the bytes of a block.
-fn new_buffer() -> [u8; BLOCK_SIZE] {
+pub(crate) fn new_buffer() -> [u8; BLOCK_SIZE] {
     [0; BLOCK_SIZE]
 }
 
 // The payload of a block.
-fn payload_of(block: &[u8; BLOCK_SIZE]) -> &[u8]
+pub(crate) fn payload_of(block: &[u8; BLOCK_SIZE]) -> &[u8]
     ensures payload { result.now ≡ drop 64 block.now }
     ensures length { length result.now ≡ payload_size }
 {
@@ -205,7 +208,7 @@ fn are_records(payload: &[u8], size: usize) -> bool
     true
 }
 
-fn damaged(kind: Kind, pointer: &Pointer) -> PoolError
+pub(crate) fn damaged(kind: Kind, pointer: &Pointer) -> PoolError
     ensures { result ≡ PoolError.Damaged (kind_number kind) pointer.now.address }
 {
     PoolError::Damaged {
@@ -303,7 +306,7 @@ pub fn survey<D: SectorDevice>(
 
 impl Loader<'_> {
     // Reads the block that a pointer names into the buffer. Refused Damaged if it is none of this place.
-    fn read_block<D: SectorDevice>(
+    pub(crate) fn read_block<D: SectorDevice>(
         &self,
         device: &mut D,
         place: BlockPlace,
@@ -313,6 +316,7 @@ impl Loader<'_> {
         requires fits { block_address self.now.frame.now.blocks ≤ D.size device.old }
         ensures reads { OnlyReads D.SectorDevice result device.old device.new }
         ensures cause { IfErr result IsLoadRefusal }
+        ensures read { IfErr result IsReadRefusal }
         ensures placed { OnOk result
             (IsBlockAddress self.now.frame.now.blocks pointer.now.address) }
         ensures opens { OnImage D.keeps_model (D.disk device.old) (λ image. OnOk result

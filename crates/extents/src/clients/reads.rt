@@ -1,18 +1,20 @@
 //! What callers rest on of objects with changes laid over them: written bytes, and bytes below as far as they show.
 
-ghost use Rattle.std.specs.Prelude.{ℕ, ◌≡◌, ◌∷◌, [], IsOk, None, OnOk, Some, get_or, is_some, length, true};
+ghost use Rattle.std.specs.Prelude.{ℕ, ◌≡◌, ◌∷◌, [], IsOk, None, OnOk, Some, false, get_or, is_some, length, true};
 ghost use Rattle.std.specs.FinMap as finite;
 ghost use Rattle.object_maps.specs.ContentsShown.{contents_of};
 ghost use Rattle.extents.specs.Objects.{written_in};
-ghost use Rattle.extents.specs.Patches.{laid_over};
+ghost use Rattle.extents.specs.Patches.{laid_over, no_patch};
 ghost use Rattle.extents.specs.Records.{bytes_written};
 ghost use Rattle.extents.specs.Tables.{patches_of};
+ghost use Rattle.extents.specs.Unsynced.{changes_at};
 ghost use Rattle.extents.specs.declared.basis.Basis.TheVariants as basis;
 
 use crate::extents::Extents;
 use crate::laid::Laid;
 use crate::object::ObjectPatch;
 use crate::record::RecordPatch;
+use crate::unsynced::UnsyncedExtents;
 use base::{ObjectId, PoolError};
 use object_maps::{Contents, ObjectSource};
 use std::alloc::AllocError;
@@ -126,4 +128,42 @@ fn a_written_byte_is_read_without_the_source_below<O: ObjectSource>(
     ensures below { laid.new.below ≡ laid.old.below }
 {
     laid.read_present(ObjectId(7), 0, 0, into)
+}
+
+// An object that the group left alone hides no byte of the one below.
+fn an_untouched_object_hides_nothing(extents: &Extents) -> bool
+    requires { patches_of extents.now 7 ≡ no_patch }
+    ensures { result ≡ false }
+{
+    extents.hides(ObjectId(7), 0, 5, 1)
+}
+
+// A byte that the group wrote is laid on those of the object below.
+fn a_written_byte_is_laid_on(extents: &Extents, into: &mut [u8])
+    requires basis { (patches_of extents.now 7).basis ≡ basis.Made 1 }
+    requires written { (patches_of extents.now 7).written 0 ≡ Some 9 }
+    requires size { length into.old ≡ 1 }
+    ensures { get_or into.new 0 0 ≡ 9 }
+{
+    extents.lay_on(ObjectId(7), 0, 0, into);
+}
+
+// Of an object that no group touched, each byte of the synced tree shows.
+fn bytes_that_no_group_touched_are_not_hidden(unsynced: &UnsyncedExtents) -> bool
+    requires oldest { changes_at unsynced.now 0 7 ≡ no_patch }
+    requires second { changes_at unsynced.now 1 7 ≡ no_patch }
+    requires third { changes_at unsynced.now 2 7 ≡ no_patch }
+    ensures { result ≡ false }
+{
+    unsynced.hides(ObjectId(7), 0, 5, 1)
+}
+
+// A byte that the newest group wrote is laid on those of the synced tree.
+fn a_byte_of_the_newest_group_is_laid_on(unsynced: &UnsyncedExtents, into: &mut [u8])
+    requires basis { (changes_at unsynced.now 2 7).basis ≡ basis.Made 1 }
+    requires written { (changes_at unsynced.now 2 7).written 0 ≡ Some 9 }
+    requires size { length into.old ≡ 1 }
+    ensures { get_or into.new 0 0 ≡ 9 }
+{
+    unsynced.lay_on(ObjectId(7), 0, 0, into);
 }

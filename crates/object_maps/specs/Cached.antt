@@ -1,0 +1,48 @@
+-- What a cache of blocks has of an image, and what a read of a block says.
+use Rattle.std.specs.Prelude.{ℕ, ◌≡◌, ◌≤◌, ◌<◌, ◌*◌, ◌%◌, ◌⊎◌, List, Contains, Some}
+use Rattle.std.specs.Ordering.{nat_cmp}
+use Rattle.std.specs.FinMap as finite
+use Rattle.std.specs.FinMap.{FinMap}
+use Rattle.base.specs.declared.error.PoolError.{PoolError}
+use Rattle.base.specs.declared.error.PoolError.TheVariants.{Read, Damaged}
+use Rattle.base.specs.declared.pointer.Pointer.{Pointer}
+use Rattle.base.specs.disk.Disk.{Apart}
+use Rattle.base.specs.formats.Blocks.{Frame, payload_at}
+use Rattle.base.specs.formats.Fields.{no_pointer}
+use Rattle.base.specs.formats.Geometry.{IsBlockAddress, block_size}
+use Rattle.base.specs.formats.Limits.{record_size}
+use Rattle.base.specs.tree.Places.{Place}
+use Rattle.base.specs.tree.Places.Place.{Indirect}
+use Rattle.base.specs.tree.PlacedTrees.{HoldsTree}
+
+-- each entry is the payload of the image's block at its address, which is that of a whole block
+abbrev pub AgreesWith : List ℕ → List (ℕ × List ℕ) → Type 0
+AgreesWith image entries = (address : ℕ) (payload : List ℕ) → Contains entries (address, payload) → (address % block_size ≡ 0) × (payload ≡ payload_at image address)
+
+-- what is left was there
+abbrev pub OnlyLeft : List (ℕ × List ℕ) → List (ℕ × List ℕ) → Type 0
+OnlyLeft old new = (address : ℕ) (payload : List ℕ) → Contains new (address, payload) → Contains old (address, payload)
+
+-- and of what is left no whole block has a byte in this range
+abbrev pub DropsIn : ℕ → ℕ → List (ℕ × List ℕ) → List (ℕ × List ℕ) → Type 0
+DropsIn at count old new = (address : ℕ) (payload : List ℕ) → Contains new (address, payload)
+    → Contains old (address, payload) × (address % block_size ≡ 0 → Apart at count address block_size)
+
+-- why a read of a block is refused: the device refused it, or what it gave is damaged
+abbrev pub IsDamage : PoolError → Type 0
+IsDamage e = (kind : ℕ) × (address : ℕ) × (e ≡ Damaged kind address)
+
+abbrev pub IsReadRefusal : PoolError → Type 0
+IsReadRefusal e = (e ≡ Read) ⊎ IsDamage e
+
+-- the image holds a tree in which object n has these bytes and its indirect block this pointer
+pub record HoldsObject (image : List ℕ) (frame : Frame) (n : ℕ) (indirect : Pointer) (pointers : Place → Pointer) (bytes : List ℕ) : Type 0 where
+  pub objects : FinMap nat_cmp (List ℕ)
+  pub tree : HoldsTree image frame pointers objects
+  pub object : finite.get objects n ≡ Some bytes
+  pub indirect_is : pointers (Indirect n) ≡ indirect
+
+-- a pointer to record r of an object of this length: none, or one to a block of the area, where the record begins
+-- before the end
+abbrev pub IsRecordPointer : ℕ → ℕ → ℕ → Pointer → Type 0
+IsRecordPointer blocks size r pointer = (pointer ≡ no_pointer) ⊎ ((record_size * r < size) × IsBlockAddress blocks pointer.address)

@@ -1,0 +1,159 @@
+//! Reads of one object of a tree, block by block: its indirect block, and parts of its records.
+//!
+//! A block is taken only if it is the one that its pointer names, as a load takes it.
+
+ghost use Rattle.std.specs.Prelude.{◌≡◌, ℕ, ◌+◌, ◌*◌, ◌<◌, ◌≤◌, List, IfErr, IfOk, IsTrue, OnOk, length};
+ghost use Rattle.base.specs.declared.error.PoolError.TheVariants as error;
+ghost use Rattle.base.specs.declared.pointer.Pointer.{Pointer};
+ghost use Rattle.base.specs.disk.Disk.{bytes_of};
+ghost use Rattle.base.specs.formats.Blocks.{Opens};
+ghost use Rattle.base.specs.formats.Fields.{no_pointer, pointer_in};
+ghost use Rattle.base.specs.formats.Geometry.{block_address};
+ghost use Rattle.base.specs.formats.Limits.{object_count, payload_size, pointer_count, record_count, record_size};
+ghost use Rattle.base.specs.tree.PlacedTrees.{IsPlaced};
+ghost use Rattle.base.specs.tree.Places.{Place};
+ghost use Rattle.base.specs.tree.Places.Place.{Data};
+ghost use Rattle.base.specs.tree.Tree.{IsRecord};
+ghost use Rattle.device_model.specs.Reading.{OnlyReads};
+ghost use Rattle.object_maps.specs.Cached.{HoldsObject, IsDamage, IsReadRefusal, IsRecordPointer};
+ghost use Rattle.object_maps.specs.Kinds.{kind_number};
+ghost use Rattle.object_maps.specs.Sources.{AreBytesFrom};
+
+use crate::tree::RECORD_COUNT;
+use crate::walk::{BlockPlace, damaged};
+use base::{POINTER_SIZE, Pointer, PoolError, RECORD_SIZE, are_zeros, read_pointer};
+use checked_blocks::{Frame, Kind, PAYLOAD_SIZE};
+use device_model::SectorDevice;
+
+/// A device whose tree blocks are read.
+pub trait BlockReader: SectorDevice {
+    /// Reads the payload of the block at a place, which this pointer names. It makes one device call at most.
+    ///
+    /// # Errors
+    /// `Read` if the device refused the read, `Damaged` if the block is none of this place.
+    fn read_payload(
+        &mut self,
+        frame: &Frame,
+        place: BlockPlace,
+        pointer: &Pointer,
+        into: &mut [u8],
+    ) -> Result<(), PoolError>
+        requires fits { block_address frame.now.blocks ≤ Self.size self.old }
+        requires size { length into.old ≡ payload_size }
+        ensures reads { OnlyReads Self.SectorDevice result self.old self.new }
+        ensures size { length into.new ≡ payload_size }
+        ensures refused { IfErr result IsReadRefusal }
+        ensures exact { IsTrue Self.keeps_model → (payload : List ℕ)
+            → Opens (bytes_of (Self.disk self.old).now) frame.now (kind_number place.kind)
+            place.number pointer.now payload → OnOk result (into.new ≡ payload) }
+        ensures sound { IsTrue Self.keeps_model → (payload : List ℕ)
+            → Opens (bytes_of (Self.disk self.old).now) frame.now (kind_number place.kind)
+            place.number pointer.now payload → IfErr result (λ e. e ≡ error.Read) };
+}
+
+/// The payload of the indirect block of an object whose directory entry has this pointer. If it has no such block, the
+/// payload is zeros.
+pub fn read_indirect<B: BlockReader>(
+    reader: &mut B,
+    frame: &Frame,
+    number: usize,
+    indirect: &Pointer,
+    payload: &mut [u8],
+) -> Result<(), PoolError>
+    requires fits { block_address frame.now.blocks ≤ B.size reader.old }
+    requires number { number < object_count }
+    requires size { length payload.old ≡ payload_size }
+    ensures reads { OnlyReads B.SectorDevice result reader.old reader.new }
+    ensures size { length payload.new ≡ payload_size }
+    ensures refused { IfErr result IsReadRefusal }
+    ensures exact { IsTrue B.keeps_model → (pointers : Place → Pointer) (bytes : List ℕ)
+        → HoldsObject (bytes_of (B.disk reader.old).now) frame.now number indirect.now pointers bytes
+        → OnOk result ((r : ℕ) → r < record_count
+        → pointer_in payload.new r ≡ pointers (Data number r)) }
+    ensures sound { IsTrue B.keeps_model → (pointers : Place → Pointer) (bytes : List ℕ)
+        → HoldsObject (bytes_of (B.disk reader.old).now) frame.now number indirect.now pointers bytes
+        → IfErr result (λ e. e ≡ error.Read) }
+{
+    if indirect.is_none() {
+        payload.fill(0);
+        return Ok(());
+    }
+    let place = BlockPlace {
+        kind: Kind::Indirect,
+        number: number as u64,
+    };
+    reader.read_payload(frame, place, indirect, payload)
+}
+
+/// The pointer to a record of an object of this length, in the payload of its indirect block.
+///
+/// # Errors
+/// `Damaged` if it is none and names no block of the area, or if it names one from the object's end on.
+pub fn record_pointer(
+    frame: &Frame,
+    payload: &[u8],
+    index: usize,
+    size: usize,
+) -> Result<Pointer, PoolError>
+    requires size { length payload.now ≡ payload_size }
+    requires index { index < record_count }
+    ensures pointer { IfOk result (λ p. p ≡ pointer_in payload.now index) }
+    ensures placed { IfOk result (IsPlaced frame.now.blocks) }
+    ensures refused { IfErr result IsDamage }
+    ensures sound { IsRecordPointer frame.now.blocks size index (pointer_in payload.now index)
+        → IfErr result (λ _. ⊥) }
+{
+    let pointer = read_pointer(payload, POINTER_SIZE * index);
+    if pointer.is_none() {
+        return Ok(pointer);
+    }
+    if !frame.is_block_address(pointer.address) || size <= RECORD_SIZE * index {
+        return Err(damaged(Kind::Data, &pointer));
+    }
+    Ok(pointer)
+}
+
+/// The bytes of a record from the offset `start` in it on, with zeros after the object's end. The record has this
+/// pointer, and the object this length.
+pub fn read_part<B: BlockReader>(
+    reader: &mut B,
+    frame: &Frame,
+    number: usize,
+    index: usize,
+    pointer: &Pointer,
+    size: usize,
+    start: usize,
+    into: &mut [u8],
+) -> Result<(), PoolError>
+    requires fits { block_address frame.now.blocks ≤ B.size reader.old }
+    requires number { number < object_count }
+    requires index { index < record_count }
+    requires within { start + length into.old ≤ record_size }
+    ensures reads { OnlyReads B.SectorDevice result reader.old reader.new }
+    ensures size { length into.new ≡ length into.old }
+    ensures refused { IfErr result IsReadRefusal }
+    ensures exact { IsTrue B.keeps_model → (bytes : List ℕ)
+        → IsRecord (bytes_of (B.disk reader.old).now) frame.now number index pointer.now bytes
+        → OnOk result (AreBytesFrom (record_size * index + start) bytes into.new) }
+    ensures sound { IsTrue B.keeps_model → (bytes : List ℕ) → length bytes ≡ size
+        → IsRecord (bytes_of (B.disk reader.old).now) frame.now number index pointer.now bytes
+        → IfErr result (λ e. e ≡ error.Read) }
+{
+    if pointer.is_none() {
+        into.fill(0);
+        return Ok(());
+    }
+    let mut payload = [0; PAYLOAD_SIZE];
+    let place = BlockPlace {
+        kind: Kind::Data,
+        number: (RECORD_COUNT * number + index) as u64,
+    };
+    reader.read_payload(frame, place, pointer, &mut payload)?;
+    let end = RECORD_SIZE.min(size.saturating_sub(RECORD_SIZE * index));
+    if !are_zeros(&payload[end..]) {
+        return Err(damaged(Kind::Data, pointer));
+    }
+    let count = into.len();
+    into.copy_from_slice(&payload[start..start + count]);
+    Ok(())
+}

@@ -1,0 +1,142 @@
+//! What callers rest on of blocks that stay in memory, and of reads of one object.
+
+ghost use Rattle.std.specs.Prelude.{◌≡◌, ◌≤◌, ◌∷◌, ℕ, List, [], IfErr, IfOk, IsTrue, OnOk, false, get_or, length};
+ghost use Rattle.base.specs.declared.error.PoolError.TheVariants as error;
+ghost use Rattle.base.specs.declared.pointer.Pointer.{Pointer};
+ghost use Rattle.base.specs.disk.Disk.{bytes_of};
+ghost use Rattle.base.specs.formats.Blocks.{Opens};
+ghost use Rattle.base.specs.formats.Fields.{no_pointer, pointer_in};
+ghost use Rattle.base.specs.formats.Geometry.{block_address};
+ghost use Rattle.base.specs.formats.Limits.{payload_size};
+ghost use Rattle.base.specs.tree.Places.{Place};
+ghost use Rattle.base.specs.tree.Places.Place.{Data};
+ghost use Rattle.base.specs.tree.Tree.{IsRecord};
+ghost use Rattle.object_maps.specs.Cached.{HoldsObject};
+ghost use Rattle.object_maps.specs.CachedDevices.{device_in};
+ghost use Rattle.object_maps.specs.Kinds.{kind_number};
+
+use crate::block_cache::BlockCache;
+use crate::block_reader::{BlockReader, read_indirect, read_part, record_pointer};
+use crate::cached_device::CachedDevice;
+use crate::walk::BlockPlace;
+use base::{Pointer, PoolError};
+use checked_blocks::Frame;
+use device_model::SectorDevice;
+use std::alloc::Global;
+use std::num::NonZeroUsize;
+
+// A new cache has no block.
+fn a_new_cache_has_no_block(alloc: Global, into: &mut [u8]) -> bool
+    ensures { result ≡ false }
+{
+    let mut cache = BlockCache::new(alloc, NonZeroUsize::MIN);
+    cache.copy(4096, into)
+}
+
+// What is found of a block is the payload that was put.
+fn a_block_has_the_payload_that_was_put(cache: &mut BlockCache, into: &mut [u8]) -> bool
+    requires { cache.old.entries ≡ [] }
+    ensures { IsTrue result → into.new ≡ 1 ∷ 2 ∷ 3 ∷ [] }
+{
+    cache.put(4096, &[1, 2, 3]);
+    cache.copy(4096, into)
+}
+
+// A block that was dropped is not found.
+fn a_dropped_block_is_not_found(cache: &mut BlockCache, into: &mut [u8]) -> bool
+    ensures { result ≡ false }
+{
+    cache.drop_block(4096);
+    cache.copy(4096, into)
+}
+
+// A cleared cache has no block.
+fn a_cleared_cache_has_no_block(cache: &mut BlockCache, into: &mut [u8]) -> bool
+    ensures { result ≡ false }
+{
+    cache.clear();
+    cache.copy(4096, into)
+}
+
+// A block that is written after it was read is read anew.
+fn a_block_that_was_written_is_read_anew<D: SectorDevice>(
+    device: &mut CachedDevice<D>,
+    frame: &Frame,
+    place: BlockPlace,
+    pointer: &Pointer,
+    block: &[u8; 4096],
+    into: &mut [u8],
+) -> Result<(), PoolError>
+    requires fits { block_address frame.now.blocks ≤ D.size (device_in device.old) }
+    requires on_device { 8192 ≤ D.size (device_in device.old) }
+    requires size { length into.old ≡ payload_size }
+    ensures { IsTrue D.keeps_model → (payload : List ℕ)
+        → Opens (bytes_of (D.disk (device_in device.new)).now) frame.now (kind_number place.kind)
+        place.number pointer.now payload → OnOk result (into.new ≡ payload) }
+{
+    device.read_payload(frame, place, pointer, into)?;
+    device.write(4096, block)?;
+    device.read_payload(frame, place, pointer, into)
+}
+
+// The device that is taken out is the one that was put in.
+fn a_device_comes_back<D: SectorDevice>(device: D, cache: BlockCache) -> D
+    requires { cache.entries ≡ [] }
+    ensures { result ≡ device }
+{
+    let (device, _) = CachedDevice::new(device, cache).into_parts();
+    device
+}
+
+// What is forgotten stays on the device.
+fn a_forgotten_block_stays_on_the_device<D: SectorDevice>(device: &mut CachedDevice<D>)
+    ensures { D.disk (device_in device.new) ≡ D.disk (device_in device.old) }
+{
+    device.forget(4096);
+}
+
+// The payload of an object's indirect block has the pointer of each of its records.
+fn an_indirect_block_has_the_pointer_of_a_record<B: BlockReader>(
+    reader: &mut B,
+    frame: &Frame,
+    indirect: &Pointer,
+    payload: &mut [u8],
+) -> Result<(), PoolError>
+    requires fits { block_address frame.now.blocks ≤ B.size reader.old }
+    requires size { length payload.old ≡ payload_size }
+    ensures { IsTrue B.keeps_model → (pointers : Place → Pointer) (bytes : List ℕ)
+        → HoldsObject (bytes_of (B.disk reader.old).now) frame.now 7 indirect.now pointers bytes
+        → OnOk result (pointer_in payload.new 3 ≡ pointers (Data 7 3)) }
+{
+    read_indirect(reader, frame, 7, indirect, payload)
+}
+
+// Zeros are no pointer to a record, and no damage.
+fn zeros_are_no_pointer(frame: &Frame, payload: &[u8]) -> Result<Pointer, PoolError>
+    requires size { length payload.now ≡ payload_size }
+    requires zeros { pointer_in payload.now 3 ≡ no_pointer }
+    ensures pointer { IfOk result (λ p. p ≡ no_pointer) }
+    ensures undamaged { IfErr result (λ _. ⊥) }
+{
+    record_pointer(frame, payload, 3, 20_000)
+}
+
+// A read of a record begins at its offset, and has zeros after the object's end.
+fn a_part_of_a_record_ends_with_zeros<B: BlockReader>(
+    reader: &mut B,
+    frame: &Frame,
+    pointer: &Pointer,
+    into: &mut [u8],
+) -> Result<(), PoolError>
+    requires fits { block_address frame.now.blocks ≤ B.size reader.old }
+    requires size { length into.old ≡ 4 }
+    requires keeps { IsTrue B.keeps_model }
+    requires record { IsRecord (bytes_of (B.disk reader.old).now) frame.now 7 0 pointer.now
+        (1 ∷ 2 ∷ 3 ∷ []) }
+    ensures second { OnOk result (get_or into.new 0 0 ≡ 2) }
+    ensures third { OnOk result (get_or into.new 1 0 ≡ 3) }
+    ensures after { OnOk result (get_or into.new 2 0 ≡ 0) }
+    ensures refused { IfErr result (λ e. e ≡ error.Read) }
+{
+    read_part(reader, frame, 7, 0, pointer, 3, 1, into)
+}

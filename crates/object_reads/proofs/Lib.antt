@@ -1,0 +1,3 @@
+pub mod SyncedObjects
+pub mod Feeds
+pub mod ReadParts

@@ -1,0 +1,169 @@
+//! The synced tree of a pool, as the changes of the unsynced groups show: parts of the records of its objects.
+//!
+//! A block is read only if a byte of it shows, and the indirect block of an object once for all of its records.
+
+ghost use Rattle.std.specs.Prelude.{◌≡◌, ◌+◌, ◌*◌, ◌<◌, ◌≤◌, IfErr, OnOk, is_some, length, true};
+ghost use Rattle.std.specs.FinMap as finite;
+ghost use Rattle.base.specs.declared.error.PoolError.TheVariants as error;
+ghost use Rattle.base.specs.formats.Geometry.{block_address};
+ghost use Rattle.base.specs.formats.Limits.{object_count, record_count, record_size};
+ghost use Rattle.device_model.specs.Reading.{OnlyReads};
+ghost use Rattle.object_maps.specs.Cached.{IsReadRefusal};
+ghost use Rattle.object_maps.specs.Sources.{AreBytesFrom, object_bytes, object_length};
+
+use crate::pointer_block::PointerBlock;
+use base::{ObjectId, PoolError};
+use checked_blocks::Frame;
+use extents::{Laid, UnsyncedExtents};
+use object_maps::{
+    BlockReader, Contents, ObjectSource, Tree, read_indirect, read_part, record_pointer,
+};
+
+/// What a pool has in memory of the objects that it shows. Reads of their bytes are handed the device.
+#[derive(Clone, Copy, Debug)]
+pub struct ShownTree<'a> {
+    /// The frame of the synced tree's blocks.
+    pub frame: Frame,
+    /// The pointers of the synced tree.
+    pub tree: &'a Tree,
+    /// The lengths of its objects.
+    pub contents: &'a Contents,
+    /// What the unsynced groups made of them.
+    pub changes: &'a UnsyncedExtents,
+}
+
+// The objects of the synced tree, with what the unsynced groups made of them, by their lengths.
+type Objects<'a> = Laid<'a, Laid<'a, Laid<'a, &'a Contents>>>;
+
+impl<'a> ShownTree<'a> {
+    ghost use Rattle.object_reads.specs.ShownTrees.{ArePointersTo, IsBlockOf, StandsOn, shown_objects, synced_objects};
+
+    // The objects that are shown, by their lengths.
+    pub(crate) fn objects(&self) -> Objects<'a>
+        ensures { ⟦<Objects<'a> as ObjectSource>⟧.objects result ≡ shown_objects self.now }
+    {
+        self.changes.over(self.contents)
+    }
+
+    // The length of an object that is shown in bytes, if it is there.
+    pub(crate) fn length(&self, id: ObjectId) -> Option<u64>
+        ensures { result ≡ object_length (shown_objects self.now) id.0 }
+    {
+        self.objects().length(id)
+    }
+
+    // Reads bytes of a record of an object that is shown, from the offset `start` in it on, with zeros after its end.
+    pub(crate) fn read_part<B: BlockReader>(
+        &self,
+        reader: &mut B,
+        id: ObjectId,
+        block: &mut PointerBlock,
+        index: usize,
+        start: usize,
+        into: &mut [u8],
+    ) -> Result<(), PoolError>
+        requires fits { block_address self.now.frame.blocks ≤ B.size reader.old }
+        requires number { id.0 < object_count }
+        requires there { is_some (finite.get (shown_objects self.now) id.0) ≡ true }
+        requires index { index < record_count }
+        requires within { start + length into.old ≤ record_size }
+        requires block { StandsOn B.SectorDevice reader.old self.now
+            → IsBlockOf self.now id.0 block.old }
+        ensures reads { OnlyReads B.SectorDevice result reader.old reader.new }
+        ensures size { length into.new ≡ length into.old }
+        ensures refused { IfErr result IsReadRefusal }
+        ensures block { StandsOn B.SectorDevice reader.old self.now
+            → OnOk result (IsBlockOf self.now id.0 block.new) }
+        ensures exact { StandsOn B.SectorDevice reader.old self.now
+            → OnOk result (AreBytesFrom (record_size * index + start)
+            (object_bytes (shown_objects self.now) id.0) into.new) }
+        ensures sound { StandsOn B.SectorDevice reader.old self.now
+            → IfErr result (λ e. e ≡ error.Read) }
+    {
+        if !self.changes.hides(id, index, start, into.len()) {
+            self.read_synced(reader, id, block, index, start, into)?;
+        }
+        self.changes.lay_on(id, index, start, into);
+        Ok(())
+    }
+
+    // The same of an object of the synced tree. One that is not there has zeros.
+    fn read_synced<B: BlockReader>(
+        &self,
+        reader: &mut B,
+        id: ObjectId,
+        block: &mut PointerBlock,
+        index: usize,
+        start: usize,
+        into: &mut [u8],
+    ) -> Result<(), PoolError>
+        requires fits { block_address self.now.frame.blocks ≤ B.size reader.old }
+        requires number { id.0 < object_count }
+        requires index { index < record_count }
+        requires within { start + length into.old ≤ record_size }
+        requires block { StandsOn B.SectorDevice reader.old self.now
+            → IsBlockOf self.now id.0 block.old }
+        ensures reads { OnlyReads B.SectorDevice result reader.old reader.new }
+        ensures size { length into.new ≡ length into.old }
+        ensures refused { IfErr result IsReadRefusal }
+        ensures block { StandsOn B.SectorDevice reader.old self.now
+            → OnOk result (IsBlockOf self.now id.0 block.new) }
+        ensures exact { StandsOn B.SectorDevice reader.old self.now
+            → OnOk result (AreBytesFrom (record_size * index + start)
+            (object_bytes (synced_objects self.now) id.0) into.new) }
+        ensures sound { StandsOn B.SectorDevice reader.old self.now
+            → IfErr result (λ e. e ≡ error.Read) }
+    {
+        let Some(size) = self.contents.length(id) else {
+            into.fill(0);
+            return Ok(());
+        };
+        self.read_pointers(reader, id, block)?;
+        let size = size as usize;
+        let pointer = record_pointer(&self.frame, &block.payload, index, size)?;
+        read_part(
+            reader,
+            &self.frame,
+            id.0 as usize,
+            index,
+            &pointer,
+            size,
+            start,
+            into,
+        )
+    }
+
+    // Reads the indirect block of an object of the synced tree, if it is not read yet.
+    fn read_pointers<B: BlockReader>(
+        &self,
+        reader: &mut B,
+        id: ObjectId,
+        block: &mut PointerBlock,
+    ) -> Result<(), PoolError>
+        requires fits { block_address self.now.frame.blocks ≤ B.size reader.old }
+        requires number { id.0 < object_count }
+        requires there { is_some (finite.get (synced_objects self.now) id.0) ≡ true }
+        requires block { StandsOn B.SectorDevice reader.old self.now
+            → IsBlockOf self.now id.0 block.old }
+        ensures reads { OnlyReads B.SectorDevice result reader.old reader.new }
+        ensures refused { IfErr result IsReadRefusal }
+        ensures pointers { StandsOn B.SectorDevice reader.old self.now
+            → OnOk result (ArePointersTo self.now id.0 block.new.payload) }
+        ensures sound { StandsOn B.SectorDevice reader.old self.now
+            → IfErr result (λ e. e ≡ error.Read) }
+    {
+        if block.is_read {
+            return Ok(());
+        }
+        let indirect = self.tree.maps[id.0 as usize].indirect;
+        read_indirect(
+            reader,
+            &self.frame,
+            id.0 as usize,
+            &indirect,
+            &mut block.payload,
+        )?;
+        block.is_read = true;
+        Ok(())
+    }
+}
