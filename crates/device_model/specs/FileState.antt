@@ -1,5 +1,5 @@
 -- What callers see of a device on a file.
-use Rattle.std.specs.Prelude.{◌≡◌, ℕ, ◌*◌, Bool, true, false}
+use Rattle.std.specs.Prelude.{◌≡◌, ℕ, ◌*◌, ◌/◌, Bool, true, false}
 use Rattle.base.specs.disk.Disk.{Disk, HasEarlierWrites, disk_size}
 use Rattle.base.specs.formats.Geometry.{sector_size}
 use Rattle.base.specs.declared.refused.RefusedCalls.{RefusedCalls}
@@ -29,3 +29,7 @@ size_of false s = s.size
 pub record ShowsDisk (sectors : ℕ) (disk : Disk) : Type 0 where
   pub size : disk_size disk ≡ sector_size * sectors
   pub earlier : HasEarlierWrites disk
+
+-- a device of so many bytes has the whole sectors of a file of `bytes` bytes
+abbrev pub HasSectorsOf : ℕ → ℕ → Type 0
+HasSectorsOf bytes size = size ≡ sector_size * (bytes / sector_size)

@@ -189,6 +189,30 @@ where
     Ok(())
 }
 
+// A file of 2,148 bytes has four whole sectors.
+fn a_file_that_is_made_has_the_sectors_asked_for<R: Files>(
+    files: &R,
+    path: &str,
+) -> Result<(), FileRefusal>
+where
+    R::File: FileExt + HeldFile,
+{
+    let device = FileDevice::create(files, path, 2_148)?;
+    let sectors = device.sectors();
+    prove!(sectors == 4);
+    Ok(())
+}
+
+fn a_new_file_has_the_sectors_asked_for<R: Files>(files: &R, path: &str) -> Result<(), FileRefusal>
+where
+    R::File: FileExt + HeldFile,
+{
+    let device = FileDevice::create_new(files, path, 2_148)?;
+    let sectors = device.sectors();
+    prove!(sectors == 4);
+    Ok(())
+}
+
 fn a_device_on_a_new_file_has_refused_nothing<R: Files>(
     files: &R,
     path: &str,

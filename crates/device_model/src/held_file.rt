@@ -4,16 +4,21 @@
 //!    lives: so a pool in a file has one owner at a time (SQLite locks its database file so).
 //! 2. The lock is taken before the file is sized or read, and without waiting.
 //! 3. Only a regular file is opened. Opening a pipe could wait for its other end, and a terminal has no sectors.
+//! 4. Once a file may have been made, its folder is synced. Else a power failure could lose its name, and with it all
+//!    that was flushed (`fsync(2)`; RocksDB syncs a new file's folder so).
 //!
 //! The lock is advisory (`flock`): a process that opens the file without taking it isn't kept out.
 
 ghost use Rattle.std.specs.Prelude.{◌≡◌, IfOk, IsOk, OnOk};
-ghost use Rattle.device_model.specs.FileState.{none_refused};
+ghost use Rattle.device_model.specs.FileState.{HasSectorsOf, none_refused, size_of};
 
+use crate::device::SectorDevice;
 use crate::file::FileDevice;
 use crate::sector_file::SectorFile;
+use base::SECTOR_SIZE;
 use std::fs::{File, OpenFile, OpenOptions, TryLockError};
 use std::io;
+use std::path::Path;
 use std::rt::Files;
 use thiserror::Error;
 
@@ -26,18 +31,24 @@ pub enum Access {
     Write,
 }
 
-/// Why a file can't be the file of a device.
-#[derive(Debug, Drop, Error)]
+/// Why a file can't be the file of a device. As text it is the cause alone, without the file's name.
+#[derive(Clone, Copy, Debug, Error)]
 pub enum FileRefusal {
     /// The system refused to open, to lock or to size the file.
-    #[error("the file can't be used: {0}")]
+    #[error("{0}")]
     System(#[from] io::Error),
-    /// The file is a directory, a pipe or another kind of file that is no regular one.
-    #[error("the file is no regular file")]
+    /// The file is a folder, a pipe or another kind of file that is no regular one.
+    #[error("not a regular file")]
     NotRegular,
     /// Another device holds the file, in this process or in another one.
-    #[error("the file is in use by another device")]
+    #[error("in use by another process or device")]
     InUse,
+    /// The file's folder can't be opened or synced, so a power failure may lose the file's name.
+    #[error("the folder of the file can't be synced: {0}")]
+    Folder(io::Error),
+    /// The file didn't get the size that it was given.
+    #[error("the file didn't get its size")]
+    NotSized,
 }
 
 /// A file whose lock a device can hold until the file is closed.
@@ -104,15 +115,20 @@ impl<F: SectorFile + HeldFile + OpenFile + Drop> FileDevice<F> {
     /// A device on a file of `size` bytes. If there is no file at the path, it is made; a file that is there is cut or
     /// lengthened by zeros, once its lock is held. The device holds the exclusive lock until it is dropped.
     ///
+    /// The file's folder is synced before, so a power failure doesn't lose the file's name. It is the folder that the
+    /// path names: a file that is made through a symbolic link may lie in another one, which isn't synced.
+    ///
     /// # Errors
-    /// `NotRegular` if the file is no regular file, `System` if it can't be opened, made or sized, `InUse` if another
-    /// device holds it. A file that is refused so keeps its size, unless sizing it failed.
+    /// `NotRegular` if the file is no regular file, `System` if it can't be opened, made or sized, `Folder` if its
+    /// folder can't be opened or synced, `InUse` if another device holds it, `NotSized` if it didn't get its size. A
+    /// file that is refused so keeps its size, unless sizing it failed. One that was made for it stays.
     pub fn create<R: Files<File = F>>(files: &R, path: &str, size: u64) -> Result<Self, FileRefusal>
-        ensures { IfOk result (λ device. device.refused ≡ none_refused) }
+        ensures none_refused { IfOk result (λ device. device.refused ≡ none_refused) }
+        ensures sized { IfOk result (λ device. HasSectorsOf size (size_of F.keeps_model device)) }
     {
         let mut how = File::options();
         how.read(true).write(true).create(true);
-        let file = open_regular(files, &how, path)?;
+        let file = make_regular(files, &how, path)?;
         FileDevice::hold_sized(file, size)
     }
 
@@ -125,11 +141,12 @@ impl<F: SectorFile + HeldFile + OpenFile + Drop> FileDevice<F> {
         path: &str,
         size: u64,
     ) -> Result<Self, FileRefusal>
-        ensures { IfOk result (λ device. device.refused ≡ none_refused) }
+        ensures none_refused { IfOk result (λ device. device.refused ≡ none_refused) }
+        ensures sized { IfOk result (λ device. HasSectorsOf size (size_of F.keeps_model device)) }
     {
         let mut how = File::options();
         how.read(true).write(true).create_new(true);
-        let file = open_regular(files, &how, path)?;
+        let file = make_regular(files, &how, path)?;
         FileDevice::hold_sized(file, size)
     }
 
@@ -147,14 +164,19 @@ impl<F: SectorFile + HeldFile + OpenFile + Drop> FileDevice<F> {
         FileDevice::new(file).map_err(|_| FileRefusal::NotRegular)
     }
 
-    // Holds a file that is open for writing, and then gives it its size.
+    // Holds a file that is open for writing, and then gives it its size, of which a device has the whole sectors.
     pub(crate) fn hold_sized(file: F, size: u64) -> Result<Self, FileRefusal>
         ensures held { IsOk result → F.is_held file Access.Write }
         ensures none_refused { IfOk result (λ device. device.refused ≡ none_refused) }
+        ensures sized { IfOk result (λ device. HasSectorsOf size (size_of F.keeps_model device)) }
     {
         file.try_hold(Access::Write)?;
         file.set_len(size)?;
-        FileDevice::new(file).map_err(|_| FileRefusal::NotRegular)
+        let device = FileDevice::new(file).map_err(|_| FileRefusal::NotRegular)?;
+        if device.sectors() != size / SECTOR_SIZE {
+            return Err(FileRefusal::NotSized);
+        }
+        Ok(device)
     }
 }
 
@@ -171,4 +193,30 @@ fn open_regular<R: Files>(
     }
     let file = how.open(files, path)?;
     Ok(file)
+}
+
+// Opens a regular file, which may be made so, and syncs its folder.
+fn make_regular<R: Files>(
+    files: &R,
+    how: &OpenOptions,
+    path: &str,
+) -> Result<R::File, FileRefusal> {
+    let file = open_regular(files, how, path)?;
+    match sync_folder(files, path) {
+        Ok(()) => Ok(file),
+        Err(error) => Err(FileRefusal::Folder(error)),
+    }
+}
+
+// Makes certain that a power failure doesn't lose the name of the file at a path.
+fn sync_folder<R: Files>(files: &R, path: &str) -> io::Result<()> {
+    File::open(files, folder_of(path))?.sync_all()
+}
+
+// The folder of the file at a path. The file of a bare name is in the current folder.
+fn folder_of(path: &str) -> &str {
+    match Path::new(path).parent() {
+        Some(folder) if folder.as_str() != "" => folder.as_str(),
+        _ => ".",
+    }
 }
