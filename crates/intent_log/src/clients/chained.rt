@@ -4,8 +4,10 @@ ghost use Rattle.std.specs.Prelude.{◌≡◌, ◌≤◌, ◌<◌, ◌∷◌, �
 ghost use Rattle.base.specs.disk.Disk.{bytes_of};
 ghost use Rattle.base.specs.formats.Chain.{IsPiece, LogPiece, next_header};
 ghost use Rattle.base.specs.formats.Geometry.{IsBlockAddress, block_address};
+ghost use Rattle.base.specs.formats.Records as base_record;
 ghost use Rattle.base.specs.formats.Records.{IsAllowed};
 ghost use Rattle.transactions.specs.Records.{record_fields};
+ghost use Rattle.transactions.specs.declared.record.Record.{Record};
 ghost use Rattle.intent_log.specs.Chains.{IsChainBlock, header_of_chain};
 
 use crate::chains::{ChainHeader, LoggedBlock, chain};
@@ -105,4 +107,12 @@ fn records_of_a_sound_block_are_allowed(block: &LoggedBlock) -> &[Record]
     ensures { All IsAllowed (map record_fields result.now) }
 {
     block.records()
+}
+
+// A block that is used up leaves the record of its one commit.
+fn a_block_leaves_its_record(block: LoggedBlock) -> Vec<Record>
+    requires { map (λ (r : base_record.Record). r.ordinal) block.records ≡ 7 ∷ [] }
+    ensures { map (λ (r : Record). r.ordinal.0) result.items ≡ 7 ∷ [] }
+{
+    block.into_records()
 }
