@@ -129,8 +129,8 @@ fn an_import_without_records_writes_no_block<D: SectorDevice>(
     import(alloc, device, 1_048_576, 0)
 }
 
-// An import takes the lowest blocks. If it changed block k, the new tree has that block, and each lower one that neither
-// the old tree nor its chain had.
+// An import takes the lowest blocks. If it changed block k, the new tree has that block, and each lower one that
+// neither the old tree nor its chain had.
 fn an_import_leaves_out_no_lower_block<D: SectorDevice>(
     alloc: Global,
     device: D,
