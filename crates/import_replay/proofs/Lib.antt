@@ -20,6 +20,7 @@ pub mod WrittenImports
 pub mod MountedPools
 pub mod KeptBlocks
 pub mod ReplayedPools
+pub mod WrittenPlaces
 pub mod NextPools
 pub mod PlannedPools
 pub mod ReadPools
@@ -31,4 +32,5 @@ pub mod ShownMounts
 pub mod UsedBlocks
 pub mod ChainRecords
 pub mod Inspections
+pub mod TakenBlocks
 pub mod Promises

@@ -13,9 +13,8 @@ use Rattle.base.specs.formats.Geometry.{IsBlockAddress, block_count}
 use Rattle.base.specs.crash.Imports.{IsFirstLogBlock, IsImported, IsImportOf, is_dirty_max_allowed, is_past_last}
 use Rattle.base.specs.formats.Limits.{last_number}
 use Rattle.base.specs.history.Contents.{Contents}
-use Rattle.base.specs.formats.Names.{IsName}
 use Rattle.base.specs.formats.Versions.{written_version}
-use Rattle.base.specs.crash.Mount.{HasPool, IsUsed, Mounts, apply_records, records_above}
+use Rattle.base.specs.crash.Mount.{HasPool, IsFound, IsUsed, Mounts, apply_records, records_above}
 use Rattle.base.specs.tree.PlacedTrees.{HoldsTree}
 use Rattle.base.specs.tree.Places.{Place, IsInTree}
 use Rattle.base.specs.tree.Places.Place.{Root}
@@ -68,20 +67,22 @@ sound_pool size u name tree slots image long held root pool = record {
       (subst (λ (p : Pointer). IsTree image (frame_of_size u size) p (objects_of slots)) root (holds-tree image (frame_of_size u size) (pointers_of tree) (objects_of slots) held));
 }
 
+-- that pool is found in the image with its name, its objects and its chain
+pub found_read : (image : List ℕ) (size : ℕ) (u : Uberblock) (name : List ℕ) (tree : Tree) (slots : List Slot) (chain : List LogPiece) → IsReadPool image size u name tree slots chain
+    → (c : declared.Contents) → c.name ≡ name → c.slots.items ≡ slots → IsFound image u (contents_of c) chain
+found_read image size u name tree slots chain read c named same = record {
+  pool = subst (λ (n : List ℕ). HasPool image u n) (sym named) read.pool;
+  tree = subst (λ (l : List Slot). IsTree image (frame_of_size u (length image)) u.root (objects_of l)) (sym same)
+      (subst (λ (n : ℕ). IsTree image (frame_of_size u n) u.root (objects_of slots)) (sym read.long)
+      (subst (λ (p : Pointer). IsTree image (frame_of_size u size) p (objects_of slots)) read.root (holds-tree image (frame_of_size u size) (pointers_of tree) (objects_of slots) read.held)));
+  chain_is = read.chain_is;
+}
+
 -- and the image mounts what the records of its chain make of it
 pub mounts_read : (image : List ℕ) (size : ℕ) (u : Uberblock) (name : List ℕ) (tree : Tree) (slots : List Slot) (chain : List LogPiece) → IsReadPool image size u name tree slots chain
     → (c : declared.Contents) → c.name ≡ name → c.slots.items ≡ slots → (contents : Contents) → apply_records (records_above u.group chain) (contents_of c) ≡ Ok contents → Mounts image u chain contents
-mounts_read image size u name tree slots chain read c named same contents applied = record {
-  synced = contents_of c;
-  found = record {
-    pool = subst (λ (n : List ℕ). HasPool image u n) (sym named) read.pool;
-    tree = subst (λ (l : List Slot). IsTree image (frame_of_size u (length image)) u.root (objects_of l)) (sym same)
-        (subst (λ (n : ℕ). IsTree image (frame_of_size u n) u.root (objects_of slots)) (sym read.long)
-        (subst (λ (p : Pointer). IsTree image (frame_of_size u size) p (objects_of slots)) read.root (holds-tree image (frame_of_size u size) (pointers_of tree) (objects_of slots) read.held)));
-    chain_is = read.chain_is;
-  };
-  applied = applied;
-}
+mounts_read image size u name tree slots chain read c named same contents applied =
+    record { synced = contents_of c; found = found_read image size u name tree slots chain read c named same; applied = applied }
 
 -- the numbers of an import that is not past the last
 pub group-within : (group import_number : ℕ) → is_past_last group import_number ≡ false → group + 5 ≤ last_number
@@ -169,7 +170,7 @@ module _ (size : ℕ) (u : Uberblock) (p : PoolParts) (dirty_max : ℕ) (m : Mou
       not_new = λ is. made.log_unnamed (now_named m.log_address is);
       lowest = λ other below is.
           (let block : IsBlockAddress (block_count size) other = subst (λ (n : ℕ). IsBlockAddress (block_count n) other) long is in
-          ⊎_elim (λ used. inl used) (λ named. inr (in_now other (not_zero (block_count size) other block) named)) (made.lowest other below block));
+          ⊎_elim (λ used. inl used) (λ named. inr (in_now other (not_zero (block_count size) other block) named)) (made.log_lowest other below block));
     }
 
     -- and the free blocks are those in neither the tree nor the log

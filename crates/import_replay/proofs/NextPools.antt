@@ -1,6 +1,6 @@
 -- The pool that an import replayed and planned may be synced, and what is mounted of it is an import of the image.
 use Rattle.std.proofs.Common.{◌≡◌, ◌⊎◌, inl, inr, ⊎_elim, ℕ, zero, suc, ◌+◌, ◌*◌, ◌<◌, ◌≤◌, Bool, true, false, ◌||◌, cond, List, [], ◌∷◌, length, nat_eq, map, None, Some, refl, sym, ◌∙◌, ap, subst, arith}
-use Rattle.std.specs.Prelude.{◌≢◌, All, IfSome, slice_get}
+use Rattle.std.specs.Prelude.{◌≢◌, ◌==◌, All, IfSome, not, slice_get, take}
 use Rattle.std.specs.FinMap as finite
 use Rattle.std.specs.FinSet as set
 use Rattle.std.specs.FinSet.{FinSet, contains-insert, len-empty, len-insert}
@@ -14,35 +14,39 @@ use Rattle.std.proofs.lemmas.List.Elements.{All-weaker}
 use Rattle.std.proofs.Math.Logic.{∥∥₁_map}
 use Rattle.base.specs.common.Rising.{rising}
 use Rattle.base.specs.crash.Imports.{is_dirty_max_allowed, is_past_last}
-use Rattle.base.specs.crash.LogRoom.{records_estimate}
+use Rattle.base.specs.crash.LogRoom.{ops_of_records, records_estimate}
 use Rattle.base.specs.crash.Mount.{IsChainDamaged, IsUsed, Mounts, records_above}
 use Rattle.base.specs.declared.error.PoolError.{PoolError}
 use Rattle.base.specs.declared.error.PoolError.TheVariants.{Damaged, NoMemory}
+use Rattle.base.specs.declared.operation.Op.{Op}
 use Rattle.base.specs.declared.pointer.Pointer.{Pointer}
 use Rattle.base.specs.disk.Disk.{Disk, bytes_of}
 use Rattle.base.specs.formats.Chain.{LogPiece}
 use Rattle.base.specs.formats.Geometry.{IsBlockAddress, block_address, block_area, block_count, block_size}
-use Rattle.base.specs.formats.Limits.{object_count}
+use Rattle.base.specs.formats.Limits.{object_count, pointer_count}
 use Rattle.base.specs.formats.Names.{IsName}
 use Rattle.base.specs.formats.Uberblocks.{Uberblock}
 use Rattle.base.specs.history.Contents.{Contents, length_of}
 use Rattle.base.specs.stored.Stored.{AreBlocks}
 use Rattle.base.specs.tree.PlacedTrees.{ArePlaced, IsPlaced}
-use Rattle.base.specs.tree.Places.{IsInTree}
+use Rattle.base.specs.tree.Places.{IsInTree, Place, has_block}
+use Rattle.base.specs.tree.Places.Place.{Data}
 use Rattle.base.specs.tree.PlannedTrees.{IsTreePlan, NewBlock}
+use Rattle.base.specs.tree.Syncs.{group_changes, written_places}
 use Rattle.base.specs.tree.Tree.{IsTree}
 use Rattle.base.proofs.common.KeptLists.{at_take}
 use Rattle.base.proofs.crash.LogRoom.{subset_len, with_all}
 use Rattle.base.proofs.formats.Geometry.{IsGeometry-IsSize}
 use Rattle.base.proofs.history.KeptContents.{bounded-no_others}
 use Rattle.base.proofs.tree.FreedBlocks.{IsNewAddress}
-use Rattle.base.proofs.tree.PlacedTrees.{holds-tree}
+use Rattle.base.proofs.tree.PlacedTrees.{holds-tree, pointers-told}
 use Rattle.base.proofs.stored.StoredSets.{IsAt, at-map, map-at, rising-in, rising-rises}
 use Rattle.group_plans.specs.GroupPlans.{plan_pointers}
 use Rattle.group_plans.specs.Pointers.{lengths_after}
 use Rattle.group_plans.proofs.GroupChanges.{lengths_told}
-use Rattle.group_plans.proofs.GroupCounts.{plans_fit_estimates, short_plans_lack_blocks}
+use Rattle.group_plans.proofs.GroupCounts.{plans_fit_estimates, short_plans_lack_blocks, takes_at_places}
 use Rattle.group_plans.proofs.GroupTrees.{plans_make_trees}
+use Rattle.group_plans.proofs.PlannedBlocks.{addresses_are}
 use Rattle.intent_log.specs.Chains.{IsSoundBlock}
 use Rattle.log_replay.specs.Replays.{IsBlockAllowed, IsChainAllowed, IsReplayCause, IsReplayRefusal}
 use Rattle.object_maps.specs.ContentsShown.{contents_of}
@@ -52,6 +56,7 @@ use Rattle.object_maps.specs.declared.contents.Slot.{Slot}
 use Rattle.object_maps.specs.declared.tree.Tree.{Tree}
 use Rattle.space.proofs.FreeLists.{length-rising}
 use Rattle.sync.specs.Made.{BlocksWritten}
+use Rattle.tree_plans.specs.Changes.{has_address}
 use Rattle.tree_plans.specs.Plans.{address_of, new_block}
 use Rattle.tree_plans.specs.declared.planner.PlannedBlock.{PlannedBlock}
 use Rattle.tree_plans.specs.declared.planner.TreePlan.{TreePlan}
@@ -62,15 +67,17 @@ use Rattle.import_replay.specs.LabelSyncs.{AreApartIn, IsGroupSynced}
 use Rattle.import_replay.specs.Mounts.{IsImport, IsMountedFrom}
 use Rattle.import_replay.specs.NextPools.{AreMadeOver, ArePartsFor, IsPlannedFrom, IsReadyFor, IsReplayedPool, LacksBlocks, PoolParts, next_frame, parts_of, synced_with}
 use Rattle.import_replay.specs.ReadPools.{IsLoadedFor, IsReadPool, frame_of_size}
+use Rattle.import_replay.specs.TakenBlocks.{AreForEachPlace, AreLowestSpare, replayed_places}
 use Rattle.import_replay.specs.declared.mounted.Mounted.{Mounted}
 use Rattle.import_replay.specs.declared.next_pool.NextPool.{NextPool}
 use Rattle.import_replay.specs.declared.next_pool.ReplayedPool.{ReplayedPool}
 use Rattle.import_replay.proofs.FreeBlocks.{at_planned, planned_at}
-use Rattle.import_replay.proofs.MountedPools.{import_of, mounts_read, named-of_tree, not_zero, stands_on, used_on_image}
+use Rattle.import_replay.proofs.MountedPools.{found_read, import_of, mounts_read, named-of_tree, not_zero, stands_on, used_on_image}
 use Rattle.import_replay.proofs.KeptBlocks.{no_log_written, used_kept}
 use Rattle.import_replay.proofs.PlannedPools.{planned_over}
 use Rattle.import_replay.proofs.Reasons.{reason-record}
 use Rattle.import_replay.proofs.ReplayedPools as replays
+use Rattle.import_replay.proofs.WrittenPlaces.{each_place, map_same}
 
 -- blocks at different addresses have different indices
 differ_all : (b : PlannedBlock) (bs : List PlannedBlock) → ((i : ℕ) (c : PlannedBlock) → slice_get bs i ≡ Some c → b.index ≢ c.index)
@@ -320,6 +327,44 @@ module _ (size : ℕ) (u : Uberblock) (name : List ℕ) (tree : Tree) (slots : L
     planned = plans_make_trees (next_frame u size) (frame_of_size u size) pool.tree pool.replayed.records.items (contents_of pool.synced) left plan is.planned.made
         (replays.takes_place size u name tree slots chain pool is.named is.loaded is.replayed) (replays.sized size u name tree slots chain pool is.named is.loaded is.replayed) image mine.held
 
+    -- its blocks lie at the lowest spare addresses
+    prepared_lowest : AreLowestSpare image u chain (map address_of blocks)
+    prepared_lowest = record {
+      spare = spare;
+      each = λ address. (
+        (λ free. (
+          subst (λ (n : ℕ). IsBlockAddress (block_count n) address) (sym read.long) (is.replayed.spare.in_area address free),
+          spare-unused size u name tree slots chain pool is.named is.loaded is.replayed image read address free,
+        )),
+        λ is_spare. ⊎_elim (λ free. free) (λ used. absurd (is_spare.1 used))
+            (spare-or_used size u name tree slots chain pool is.named is.loaded is.replayed image read address (subst (λ (n : ℕ). IsBlockAddress (block_count n) address) read.long is_spare.0)),
+      );
+      lowest = is.planned.taken ∙ ap (λ (n : ℕ). take n (rising spare)) (sym (length-map blocks address_of));
+    }
+
+    -- at the places that the records write
+    prepared_each : AreForEachPlace image u chain (pointers_of next.tree) (map address_of blocks)
+    prepared_each = record {
+      synced = contents_of pool.synced;
+      found = found_read image size u name pool.tree pool.synced.slots.items chain mine pool.synced is.replayed.name_is refl;
+      each =
+          map_same (λ (place : Place). (pointers_of next.tree place).address) (λ (place : Place). (plan_pointers pool.tree plan place).address) places
+          (λ i place at. ap (λ (q : Pointer). q.address) (is.planned.pointers place (each_place (group_changes (ops_of_records (records_above u.group chain)) (contents_of pool.synced) (has_block image u.root)) i place at)))
+          ∙ ap (λ (ops : List Op). map (λ (place : Place). (plan_pointers pool.tree plan place).address) (written_places ops (contents_of pool.synced) (has_block image u.root)))
+          (replays.ops_replayed size u name tree slots chain pool is.named is.loaded is.replayed)
+          ∙ takes_at_places (u.group + 4) pool.replayed.records.items pool.tree.maps.items (contents_of pool.synced) left (replays.takes_place size u name tree slots chain pool is.named is.loaded is.replayed) (pointers_of pool.tree)
+          (next_frame u size) (plan_pointers pool.tree plan) (map new_block blocks) is.planned.made.planned (has_block image u.root) had
+          ∙ addresses_are blocks;
+    }
+      where
+        places : List Place
+        places = replayed_places image u chain (contents_of pool.synced)
+
+        had : (n r : ℕ) → n < object_count → r < pointer_count → has_address (pointers_of pool.tree (Data n r)) ≡ has_block image u.root (Data n r)
+        had n r low below =
+            ap (λ (q : Pointer). not (q.address == 0)) (sym (pointers-told image (frame_of_size u size) (pointers_of pool.tree) (objects_of pool.synced.slots.items) mine.held (Data n r) (low, below)))
+            ∙ ap (λ (q : Pointer). has_block image q (Data n r)) mine.root
+
     -- it is made over the image
     pub prepared_over : AreMadeOver image u chain size next.blocks.items (parts_of next)
     prepared_over =
@@ -330,7 +375,7 @@ module _ (size : ℕ) (u : Uberblock) (name : List ℕ) (tree : Tree) (slots : L
         (subst (λ (c : Contents). IsTreePlan (map new_block blocks) (next_frame u size) (pointers_of pool.tree) (plan_pointers pool.tree plan) (contents_of pool.synced).objects c.objects) (sym contents_left) planned)
         (subst (λ (c : Contents). (n : ℕ) → object_count ≤ n → finite.get c.objects n ≡ None) (sym contents_left)
         (bounded-no_others left (replays.bounded size u name tree slots chain pool is.named is.loaded is.replayed)))
-        is.planned.made.used room few records_counted (not_zero (block_count size) next.log_address log_placed)
+        is.planned.made.used room few prepared_lowest prepared_each records_counted (not_zero (block_count size) next.log_address log_placed)
         (spare-unused size u name tree slots chain pool is.named is.loaded is.replayed image read next.log_address log_spare) log_left lowest)
       where
         few : length blocks ≤ records_estimate (records_above u.group chain)

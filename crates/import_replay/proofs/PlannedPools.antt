@@ -31,12 +31,13 @@ use Rattle.base.proofs.tree.SamePlaces.{holds_as}
 use Rattle.object_maps.specs.ContentsShown.{contents_of}
 use Rattle.object_maps.specs.Pointers.{pointers_of}
 use Rattle.sync.specs.Made.{BlocksWritten}
-use Rattle.tree_plans.specs.Plans.{new_block}
+use Rattle.tree_plans.specs.Plans.{address_of, new_block}
 use Rattle.tree_plans.specs.declared.planner.PlannedBlock.{PlannedBlock}
 use Rattle.import_replay.specs.FreeBlocks.{IsNamed}
 use Rattle.import_replay.specs.ImportViews.{IsTreeMade}
 use Rattle.import_replay.specs.NextPools.{AreMadeOver, IsUnusedBlock, PoolParts, next_frame, tree_of}
 use Rattle.import_replay.specs.ReadPools.{frame_of_size}
+use Rattle.import_replay.specs.TakenBlocks.{AreForEachPlace, AreLowestSpare}
 
 -- the block of a tree's place is neither a config nor a log block
 of_tree : (place : Place) → (kind_of place ≢ 1) × (kind_of place ≢ 6)
@@ -138,10 +139,11 @@ module _ (image : List ℕ) (size : ℕ) (u : Uberblock) (chain : List LogPiece)
         (place, ap (λ (l : List ℕ). number_at l 0) (sym stands_there) ∙ ap (λ (a : ℕ). number_at (part other a block_size) 0) (sym named) ∙ o.1.block.kind_is)
 
     -- So the pool is made over the image, with the first log block that is neither used nor one of the plan.
-    pub planned_over : (length blocks ≤ records_estimate (records_above u.group chain)) → p.records ≡ length (records_above u.group chain) → p.log_address ≢ 0 → (IsUsed image u.root chain p.log_address → ⊥) → (IsNewAddress bs p.log_address → ⊥)
+    pub planned_over : (length blocks ≤ records_estimate (records_above u.group chain)) → AreLowestSpare image u chain (map address_of blocks) → AreForEachPlace image u chain (pointers_of p.tree) (map address_of blocks)
+        → p.records ≡ length (records_above u.group chain) → p.log_address ≢ 0 → (IsUsed image u.root chain p.log_address → ⊥) → (IsNewAddress bs p.log_address → ⊥)
         → ((address : ℕ) → address < p.log_address → IsBlockAddress (block_count size) address → IsUsed image u.root chain address ⊎ ((i : ℕ) × (b : PlannedBlock) × (slice_get blocks i ≡ Some b) × (block_address b.index ≡ address)))
         → AreMadeOver image u chain size blocks p
-    planned_over few records some log_unused log_left lowest = record {
+    planned_over few lowest each records some log_unused log_left log_lowest = record {
       tree = planned_made;
       unused = All-each (IsUnusedBlock image u chain) blocks (λ i b at.
           let (place, kind) = kind_is i b at in
@@ -151,8 +153,10 @@ module _ (image : List ℕ) (size : ℕ) (u : Uberblock) (chain : List LogPiece)
             unused = free i b at;
           });
       few = few;
+      lowest = lowest;
+      each = each;
       records = records;
       log_unused = log_unused;
       log_unnamed = λ named. ⊎_elim (λ old_tree. log_unused (inl old_tree)) log_left (named_from p.log_address some named);
-      lowest = λ address below is. ⊎_elim (λ is_used. inl is_used) (λ planned. inr (subst (λ (a : ℕ). IsNamed (pointers_of p.tree) a) planned.3 (new_named planned.0 planned.1 planned.2))) (lowest address below is);
+      log_lowest = λ address below is. ⊎_elim (λ is_used. inl is_used) (λ planned. inr (subst (λ (a : ℕ). IsNamed (pointers_of p.tree) a) planned.3 (new_named planned.0 planned.1 planned.2))) (log_lowest address below is);
     }

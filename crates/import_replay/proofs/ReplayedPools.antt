@@ -7,6 +7,7 @@ use Rattle.std.specs.List.{flat_map, list_all}
 use Rattle.std.proofs.lemmas.List.{length-map}
 use Rattle.std.proofs.lemmas.List.Elements.{All-append, All-cons, All-head, All-nil, All-tail, All-weaker}
 use Rattle.std.proofs.lemmas.List.Sums.{sum_by-cons}
+use Rattle.base.specs.crash.LogRoom as room
 use Rattle.base.specs.crash.LogRoom.{records_estimate}
 use Rattle.base.specs.crash.Mount.{Placed, entry_of_record, records_above}
 use Rattle.base.specs.declared.operation.Op.{Op}
@@ -83,6 +84,11 @@ same_ops group (x ∷ xs) (p ∷ ps) are =
     let rest = same_ops group xs ps t.others in
     λ i. here i ++ rest i
 
+-- and the operations of a history's entries are those of the records
+entries-ops : (ps : List Placed) → flat_map (λ (e : Entry). e.ops) (map (λ (p : Placed). entry_of_record p.logged) ps) ≡ room.ops_of_records ps
+entries-ops [] = refl
+entries-ops (p ∷ ps) = ap (λ (l : List Op). p.logged.ops ++ l) (entries-ops ps)
+
 abbrev estimate_in : Record → ℕ
 estimate_in r = estimate_of (map shape_of r.ops)
 
@@ -134,6 +140,9 @@ module _ (size : ℕ) (u : Uberblock) (name : List ℕ) (tree : Tree) (slots : L
 
   ops_are : pending_ops group records ≡ ops_of_records records
   ops_are = all_pending group records all_in_group
+
+  pub ops_replayed : room.ops_of_records placed ≡ pending_ops group records
+  ops_replayed = sym (entries-ops placed) ∙ same_ops group records placed r.replayed.records_are ∙ sym ops_are
 
   leads : apply_all (pending_ops group records) synced ≡ Ok after
   leads = subst (λ (ops : List Op). apply_all ops synced ≡ Ok after) (same_ops group records placed r.replayed.records_are ∙ sym ops_are)

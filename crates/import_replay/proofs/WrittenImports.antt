@@ -1,5 +1,5 @@
 -- What an import has written, from what it found, mounted and synced.
-use Rattle.std.proofs.Common.{◌≡◌, ℕ, Bool, List, length, Result, Ok, Err, IfOk, sym, subst, ap, ◌∙◌, arith}
+use Rattle.std.proofs.Common.{◌≡◌, ℕ, Bool, List, length, map, Result, Ok, Err, IfOk, sym, subst, ap, ◌∙◌, arith}
 use Rattle.std.specs.Prelude.{OnOk}
 use Rattle.base.specs.declared.error.PoolError.{PoolError}
 use Rattle.base.specs.disk.Calls.{Flushes}
@@ -9,13 +9,17 @@ use Rattle.base.specs.formats.Chain.{LogPiece}
 use Rattle.base.specs.formats.Uberblocks.{Uberblock, IsActive}
 use Rattle.base.specs.formats.Versions.{written_version}
 use Rattle.base.proofs.disk.Regions.{flushed_clean}
+use Rattle.object_maps.specs.Pointers.{pointers_of}
+use Rattle.sync.specs.Made.{BlocksWritten}
+use Rattle.tree_plans.specs.Plans.{address_of}
 use Rattle.import_replay.specs.Found.{HasFirstStage}
 use Rattle.import_replay.specs.ImportStops.{writes_of_next}
 use Rattle.import_replay.specs.ImportSyncs.{IsImportSynced, IsImportWritten, uberblock_of_import, writes_of_import}
 use Rattle.import_replay.specs.Labelled.{HasOtherSlots, HoldUberblock}
 use Rattle.import_replay.specs.LabelSyncs.{ImportWrites, IsGroupSynced, after_calls, calls_of_import}
 use Rattle.import_replay.specs.Mounts.{IsMountedFrom}
-use Rattle.import_replay.specs.NextPools.{AreMadeOver, ArePartsFor, PoolParts, parts_of}
+use Rattle.import_replay.specs.NextPools.{AreMadeOver, PoolParts, parts_of}
+use Rattle.import_replay.specs.TakenBlocks.{AreForEachPlace}
 use Rattle.import_replay.specs.declared.mounted.Mounted.{Mounted}
 use Rattle.import_replay.specs.declared.next_pool.NextPool.{NextPool}
 use Rattle.import_replay.proofs.ImportedLabels.{active_now}
@@ -63,7 +67,10 @@ module _ (size : ℕ) (old mid new : Disk) (u : Uberblock) (name : List ℕ) (ch
     blocks = next.blocks.items;
     unused = over.unused;
     few = over.few;
+    lowest = over.lowest;
+    each = subst (λ (q : PoolParts). AreForEachPlace (bytes_of old.now) u chain (pointers_of q.tree) (map address_of next.blocks.items)) (sym from.parts) over.each;
     synced = mine.synced ∙ ap (λ (d : Disk). after_calls (writes_of_import moment next.blocks.items m) (calls_of_import (writes_of_import moment next.blocks.items m) even_first) d) flushed;
+    written = subst (λ (b : List ℕ). BlocksWritten b m.geometry next.blocks.items (length next.blocks.items) (bytes_of new.now)) (flushed_clean old mid flushed).1 mine.blocks_written;
   }
 
   now_active : IsActive (bytes_of new.now) (uberblock_of_import moment m)

@@ -8,9 +8,9 @@ use Rattle.base.specs.declared.error.PoolError.{PoolError}
 use Rattle.base.specs.declared.error.PoolError.TheVariants.{NoMemory, Read, Write, Flush, NoPool, Damaged, BadGeometry, BadRange, NoSpace, TooMany}
 use Rattle.base.specs.formats.Geometry.{IsBlockAddress, IsGeometry, block_count}
 use Rattle.base.specs.formats.Chain.{LogPiece}
-use Rattle.base.specs.formats.Uberblocks.{IsActive, Uberblock}
+use Rattle.base.specs.formats.Uberblocks.{Uberblock}
 use Rattle.base.specs.tree.Tree.{IsTree}
-use Rattle.base.specs.crash.Mount.{HasNoPool, HasPool, IsChainDamaged, IsChainOf, IsTreeDamaged, IsUsed, Mounts, frame_of, records_above}
+use Rattle.base.specs.crash.Mount.{HasNoPool, HasPool, IsChainDamaged, IsTreeDamaged, IsUsed, Mounts, frame_of, records_above}
 use Rattle.base.specs.crash.Imports.{is_dirty_max_allowed, is_past_last}
 use Rattle.base.specs.crash.CrashRule.{IsOwnOnceFlushed}
 use Rattle.base.specs.crash.LogRoom.{records_estimate}

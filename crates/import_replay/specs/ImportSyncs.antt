@@ -1,5 +1,5 @@
 -- What an import writes to the device, in which order, and what it leaves in the labels.
-use Rattle.std.specs.Prelude.{ℕ, ◌≡◌, ◌≤◌, ◌+◌, All, Bool, List, [], length}
+use Rattle.std.specs.Prelude.{ℕ, ◌≡◌, ◌≤◌, ◌+◌, All, Bool, List, [], length, map}
 use Rattle.base.specs.crash.LogRoom.{records_estimate}
 use Rattle.base.specs.crash.Mount.{IsChainOf, records_above}
 use Rattle.base.specs.disk.Disk.{Disk, bytes_of, certain}
@@ -8,11 +8,15 @@ use Rattle.base.specs.formats.Labels.{Config}
 use Rattle.base.specs.disk.SyncOrder.{import_calls}
 use Rattle.base.specs.formats.Uberblocks.{Uberblock, IsActive}
 use Rattle.base.specs.formats.Versions.{written_version}
+use Rattle.object_maps.specs.Pointers.{pointers_of}
+use Rattle.sync.specs.Made.{BlocksWritten}
+use Rattle.tree_plans.specs.Plans.{address_of}
 use Rattle.tree_plans.specs.declared.planner.PlannedBlock.{PlannedBlock}
 use Rattle.import_replay.specs.Found.{HasFirstStage}
 use Rattle.import_replay.specs.Labelled.{HoldLabels}
 use Rattle.import_replay.specs.LabelSyncs.{ImportWrites, after_calls}
 use Rattle.import_replay.specs.NextPools.{IsUnusedBlock}
+use Rattle.import_replay.specs.TakenBlocks.{AreForEachPlace, AreLowestSpare}
 use Rattle.import_replay.specs.declared.mounted.Mounted.{Mounted}
 
 -- the config that an import writes
@@ -39,7 +43,9 @@ writes_of_import moment blocks m = record { size = m.geometry; config = config_o
 -- The disk after an import is what its calls make of the disk before, each answered Ok: a flush, and then just those of
 -- a sync of these blocks. What was mounted, and is written, is of the active uberblock, four groups and an import
 -- later. The even labels come first exactly if an odd one has the config that gives the image its name. The blocks are
--- none of the tree or the chain, and no more than the chain's records above the group are estimated at.
+-- none of the tree or the chain, and no more than the chain's records above the group are estimated at. They lie at the
+-- lowest spare addresses, rising. There is one for each place that these records write, in the order of a sync, and the
+-- tree that was mounted has it there. In the block area each of them stands then, and no other byte has changed.
 pub record IsImportSynced (old new : Disk) (moment : ℕ) (m : Mounted) : Type 0 where
   pub u : Uberblock
   pub active : IsActive (bytes_of old.now) u
@@ -54,7 +60,10 @@ pub record IsImportSynced (old new : Disk) (moment : ℕ) (m : Mounted) : Type 0
   pub blocks : List PlannedBlock
   pub unused : All (IsUnusedBlock (bytes_of old.now) u chain) blocks
   pub few : length blocks ≤ records_estimate (records_above u.group chain)
+  pub lowest : AreLowestSpare (bytes_of old.now) u chain (map address_of blocks)
+  pub each : AreForEachPlace (bytes_of old.now) u chain (pointers_of m.tree) (map address_of blocks)
   pub synced : new ≡ after_calls (writes_of_import moment blocks m) (import_calls (length blocks) even_first) (certain (bytes_of old.now) old)
+  pub written : BlocksWritten (bytes_of old.now) m.geometry blocks (length blocks) (bytes_of new.now)
 
 -- the labels hold what was mounted
 abbrev pub IsImportLabelled : Disk → ℕ → Mounted → Type 0

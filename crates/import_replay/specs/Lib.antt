@@ -12,6 +12,7 @@ pub mod ImportRefusals
 pub mod Devices
 pub mod LabelSyncs
 pub mod ImportViews
+pub mod TakenBlocks
 pub mod NextPools
 pub mod ImportSyncs
 pub mod ImportStops

@@ -1,5 +1,5 @@
 -- The pool that an import is about to sync and mount: what it owes to the image that was read.
-use Rattle.std.specs.Prelude.{ℕ, ◌≡◌, ◌≢◌, ◌+◌, ◌<◌, ◌≤◌, ◌⊎◌, All, List, length, IfSome}
+use Rattle.std.specs.Prelude.{ℕ, ◌≡◌, ◌≢◌, ◌+◌, ◌<◌, ◌≤◌, ◌⊎◌, All, List, length, map, IfSome}
 use Rattle.std.specs.Ordering.{nat_cmp}
 use Rattle.std.specs.FinMap as finite
 use Rattle.std.specs.FinMap.{FinMap}
@@ -33,11 +33,13 @@ use Rattle.object_maps.specs.declared.contents.Contents as declared
 use Rattle.object_maps.specs.declared.contents.Slot.{Slot}
 use Rattle.object_maps.specs.declared.tree.Tree.{Tree}
 use Rattle.space.specs.FreeSets.{IsIdle}
+use Rattle.tree_plans.specs.Plans.{address_of}
 use Rattle.tree_plans.specs.declared.planner.PlannedBlock.{PlannedBlock}
 use Rattle.tree_plans.specs.declared.planner.TreePlan.{TreePlan}
 use Rattle.import_replay.specs.FreeBlocks.{AreAllOthers, AreAllPlanned, AreUnused, IsLowestLeft, IsNamed, chain_addresses}
 use Rattle.import_replay.specs.ImportViews.{IsTreeMade, ViewTree}
 use Rattle.import_replay.specs.LabelSyncs.{AreApartIn}
+use Rattle.import_replay.specs.TakenBlocks.{AreForEachPlace, AreLowestSpare}
 use Rattle.import_replay.specs.declared.next_pool.NextPool.{NextPool}
 use Rattle.import_replay.specs.declared.next_pool.ReplayedPool.{ReplayedPool}
 
@@ -76,16 +78,19 @@ pub record IsUnusedBlock (image : List ℕ) (u : Uberblock) (chain : List LogPie
   pub unused : IsUsed image u.root chain (block_address b.index) → ⊥
 
 -- Over an image of so many bytes with this active uberblock and chain: the blocks take no block of these and make the
--- pool's tree, and are no more than the chain's records above the group are estimated at. So many records were
--- replayed. The first log block is the lowest that neither of these nor that tree has.
+-- pool's tree, and are no more than the chain's records above the group are estimated at. They lie at the lowest spare
+-- addresses, one for each place that these records write. So many records were replayed. The first log block is the
+-- lowest that neither the image's tree, nor the chain, nor the pool's tree has.
 pub record AreMadeOver (image : List ℕ) (u : Uberblock) (chain : List LogPiece) (size : ℕ) (blocks : List PlannedBlock) (p : PoolParts) : Type 0 where
   pub tree : IsTreeMade image size blocks (next_frame u size) (tree_of p)
   pub unused : All (IsUnusedBlock image u chain) blocks
   pub few : length blocks ≤ records_estimate (records_above u.group chain)
+  pub lowest : AreLowestSpare image u chain (map address_of blocks)
+  pub each : AreForEachPlace image u chain (pointers_of p.tree) (map address_of blocks)
   pub records : p.records ≡ length (records_above u.group chain)
   pub log_unused : IsUsed image u.root chain p.log_address → ⊥
   pub log_unnamed : IsNamed (pointers_of p.tree) p.log_address → ⊥
-  pub lowest : (other : ℕ) → other < p.log_address → IsBlockAddress (block_count size) other → IsUsed image u.root chain other ⊎ IsNamed (pointers_of p.tree) other
+  pub log_lowest : (other : ℕ) → other < p.log_address → IsBlockAddress (block_count size) other → IsUsed image u.root chain other ⊎ IsNamed (pointers_of p.tree) other
 
 -- the contents of this name and these slots
 abbrev pub synced_with : List ℕ → List Slot → history.Contents

@@ -1,17 +1,22 @@
 //! What callers rest on: one function for each promise of this crate's calls, proved from the contract of the call
 //! alone. So it is refused as soon as that contract says less.
 
-ghost use Rattle.std.specs.Prelude.{◌≡◌, ◌≢◌, ◌∷◌, [], ℕ, IfErr, IfOk, IsErr, IsTrue, List, MatchResult, length, slice_index, true};
+ghost use Rattle.std.specs.Prelude.{◌≡◌, ◌≢◌, ◌<◌, ◌≤◌, ◌∷◌, [], ℕ, IfErr, IfOk, IsErr, IsTrue, List, MatchResult, false, length, slice_index, true};
 ghost use Rattle.std.specs.FinSet as set;
+ghost use Rattle.std.specs.List.{list_any};
 ghost use Rattle.base.specs.disk.Disk.{bytes_of};
 ghost use Rattle.base.specs.formats.Uberblocks as image;
 ghost use Rattle.base.specs.formats.Uberblocks.{IsActive};
-ghost use Rattle.base.specs.crash.Mount.{IsChainDamaged, Mounts, records_above};
+ghost use Rattle.base.specs.crash.LogRoom.{ops_of_records};
+ghost use Rattle.base.specs.crash.Mount.{IsChainDamaged, IsUsed, Mounts, records_above};
 ghost use Rattle.base.specs.formats.Chain.{LogPiece};
+ghost use Rattle.base.specs.formats.Geometry.{block_address, block_count};
 ghost use Rattle.base.specs.history.Contents.{Contents};
-ghost use Rattle.base.specs.tree.Places.{IsInTree};
+ghost use Rattle.base.specs.tree.Places.{IsInTree, data_pointer, indirect_pointer};
+ghost use Rattle.base.specs.tree.Syncs.{is_on};
 ghost use Rattle.object_maps.specs.ContentsShown.{contents_of};
 ghost use Rattle.object_maps.specs.Surveys.{listed};
+ghost use Rattle.import_replay.specs.TakenBlocks.{ChangesBlock, KeepsBlock};
 
 use crate::creation::create;
 use crate::imported::Imported;
@@ -106,6 +111,81 @@ fn the_records_of_a_chain_are_replayed<D: SectorDevice>(
         → Mounts (bytes_of (D.disk device).now) u chain contents
         → (contents_of i.mounted.contents ≡ contents)
         × (i.mounted.records ≡ length (records_above u.group chain))) }
+{
+    import(alloc, device, 1_048_576, 0)
+}
+
+// If no record of the chain is above the active group, an import writes no block: each block stays as it was.
+fn an_import_without_records_writes_no_block<D: SectorDevice>(
+    alloc: Global,
+    device: D,
+) -> Result<Imported<D>, (PoolError, D)>
+    ensures { IsTrue D.keeps_model → IfOk result (λ i. (u : image.Uberblock)
+        → (chain : List LogPiece) → (contents : Contents)
+        → Mounts (bytes_of (D.disk device).now) u chain contents → records_above u.group chain ≡ []
+        → (k : ℕ) → k < block_count i.mounted.geometry
+        → KeepsBlock (D.disk device) (D.disk i.device) k) }
+{
+    import(alloc, device, 1_048_576, 0)
+}
+
+// An import takes the lowest blocks. If it changed block k, the new tree has that block, and each lower one that
+// neither the old tree nor its chain had.
+fn an_import_leaves_out_no_lower_block<D: SectorDevice>(
+    alloc: Global,
+    device: D,
+) -> Result<Imported<D>, (PoolError, D)>
+    ensures there { IsTrue D.keeps_model → IfOk result (λ i. (k : ℕ)
+        → k < block_count i.mounted.geometry
+        → ChangesBlock (D.disk device) (D.disk i.device) k
+        → IsInTree (bytes_of (D.disk i.device).now) i.mounted.tree.root (block_address k)) }
+    ensures lower { IsTrue D.keeps_model → IfOk result (λ i. (u : image.Uberblock)
+        → (chain : List LogPiece) → (contents : Contents)
+        → Mounts (bytes_of (D.disk device).now) u chain contents
+        → (j k : ℕ) → k < block_count i.mounted.geometry
+        → ChangesBlock (D.disk device) (D.disk i.device) k → j < k
+        → (IsUsed (bytes_of (D.disk device).now) u.root chain (block_address j) → ⊥)
+        → IsInTree (bytes_of (D.disk i.device).now) i.mounted.tree.root (block_address j)) }
+{
+    import(alloc, device, 1_048_576, 0)
+}
+
+// The new root lies above all other blocks that an import changed.
+fn the_new_root_is_the_highest_block<D: SectorDevice>(
+    alloc: Global,
+    device: D,
+) -> Result<Imported<D>, (PoolError, D)>
+    ensures { IsTrue D.keeps_model → IfOk result (λ i. (k root : ℕ)
+        → k < block_count i.mounted.geometry → root < block_count i.mounted.geometry
+        → i.mounted.tree.root.address ≡ block_address root
+        → ChangesBlock (D.disk device) (D.disk i.device) k
+        → ChangesBlock (D.disk device) (D.disk i.device) root → k ≤ root) }
+{
+    import(alloc, device, 1_048_576, 0)
+}
+
+// If no record of the chain is on object 7, an import doesn't write it: the blocks of its record 2 and of the pointers
+// to its records are as they were.
+fn an_object_without_records_is_not_written<D: SectorDevice>(
+    alloc: Global,
+    device: D,
+) -> Result<Imported<D>, (PoolError, D)>
+    ensures data { IsTrue D.keeps_model → IfOk result (λ i. (u : image.Uberblock)
+        → (chain : List LogPiece) → (contents : Contents)
+        → Mounts (bytes_of (D.disk device).now) u chain contents
+        → list_any (is_on 7) (ops_of_records (records_above u.group chain)) ≡ false
+        → (k : ℕ) → k < block_count i.mounted.geometry
+        → (data_pointer (bytes_of (D.disk i.device).now) i.mounted.tree.root 7 2).address
+        ≡ block_address k
+        → KeepsBlock (D.disk device) (D.disk i.device) k) }
+    ensures pointers { IsTrue D.keeps_model → IfOk result (λ i. (u : image.Uberblock)
+        → (chain : List LogPiece) → (contents : Contents)
+        → Mounts (bytes_of (D.disk device).now) u chain contents
+        → list_any (is_on 7) (ops_of_records (records_above u.group chain)) ≡ false
+        → (k : ℕ) → k < block_count i.mounted.geometry
+        → (indirect_pointer (bytes_of (D.disk i.device).now) i.mounted.tree.root 7).address
+        ≡ block_address k
+        → KeepsBlock (D.disk device) (D.disk i.device) k) }
 {
     import(alloc, device, 1_048_576, 0)
 }

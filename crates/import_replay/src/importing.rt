@@ -10,9 +10,10 @@
 //! 4. It reads the tree, each block checked against its pointer. The first block that fails is reported as `Damaged`.
 //!    Then it reads the log chain and replays it: the records of groups above u are applied, in order (`zil_replay` of
 //!    `zil.c`). The block of the first record that can't take place is reported as `Damaged` with kind 6.
-//! 5. It refuses u + 5 or i + 1 above 2^60. The tree that the records leave is planned as that of group u + 4; its
-//!    blocks are none of the old tree or of the chain. The lowest block that none of these has becomes the first log
-//!    block. No memory is taken after that.
+//! 5. It refuses u + 5 or i + 1 above 2^60. The tree that the records leave is planned as that of group u + 4. It takes
+//!    the lowest blocks that neither the old tree nor the chain has, one for each place that the records write, in the
+//!    order of a sync. The lowest block that none of these has becomes the first log block. No memory is taken after
+//!    that.
 //! 6. It syncs group u + 4 with import number i + 1, the planned blocks, the new root and the new config
 //!    (`sync_group`). Without a record to replay there is no block, and the root stays. The run before may have written
 //!    for the groups u + 1 to u + 3; the jump keeps the new group apart from them.
@@ -81,7 +82,8 @@ pub fn import<D: SectorDevice>(
     ensures imported { IsTrue D.keeps_model
         → IfOk result (λ i. IsImport (bytes_of (D.disk device).now) (bytes_of (D.disk i.device).now)
         dirty_max i.mounted) }
-    // It makes just its calls, in their order. Then each label has its config and its uberblock, this is the active
+    // It makes just its calls, in their order. Its blocks are the lowest that neither the old tree nor the chain has,
+    // one for each place that the records write. Then each label has its config and its uberblock, this is the active
     // one, and nothing is unflushed.
     ensures written { IsTrue D.keeps_model
         → IfOk result (λ i. IsImportWritten (D.disk device) (D.disk i.device) moment i.mounted) }
