@@ -9,7 +9,10 @@ use crate::bytes::Bytes;
 use crate::error::PoolError;
 use crate::field_laws::pointers_read_back;
 use crate::fields::{are_zeros, read_pointer, read_u64, write_bytes, write_pointer, write_u64};
-use crate::limits::{DEFAULT_DIRTY_MAX, GREATEST_DIRTY_MAX, LEAST_DIRTY_MAX};
+use crate::limits::{
+    DEFAULT_CACHE_BLOCKS, DEFAULT_DIRTY_MAX, GREATEST_CACHE_BLOCKS, GREATEST_DIRTY_MAX,
+    LEAST_DIRTY_MAX,
+};
 use crate::lists::{Ops, Plan};
 use crate::names::ObjectId;
 use crate::operation::{Op, Shape};
@@ -242,9 +245,10 @@ fn the_whole_of_an_object_is_an_allowed_range() {
     prove!(allowed);
 }
 
-fn the_default_limit_is_within_the_limits() {
+fn the_default_limits_are_within_the_limits() {
     prove!(LEAST_DIRTY_MAX <= DEFAULT_DIRTY_MAX);
     prove!(DEFAULT_DIRTY_MAX <= GREATEST_DIRTY_MAX);
+    prove!(DEFAULT_CACHE_BLOCKS <= GREATEST_CACHE_BLOCKS);
 }
 
 fn a_writer_is_no_reader() {

@@ -59,3 +59,9 @@ pub const GREATEST_DIRTY_MAX: u64 = 1_099_511_627_776;
 /// 42 transactions with a create and a short write are admitted. Further ones are refused `Throttled`, and those of a
 /// handle wait, until a group is synced.
 pub const DEFAULT_DIRTY_MAX: u64 = 1_048_576;
+
+/// The greatest number of tree blocks that an import lets a pool keep in memory. The least is one.
+pub const GREATEST_CACHE_BLOCKS: u64 = 4096;
+
+/// How many tree blocks a pool keeps in memory where no number is given: 1 MiB of them.
+pub const DEFAULT_CACHE_BLOCKS: u64 = 256;

@@ -15,6 +15,14 @@ use Rattle.base.specs.steps.Shown.{Shown}
 abbrev pub is_dirty_max_allowed : ℕ → Bool
 is_dirty_max_allowed dirty_max = nat_le 4096 dirty_max && nat_le dirty_max 1099511627776
 
+-- whether so many tree blocks may be the most that stay in memory
+abbrev pub is_cache_allowed : ℕ → Bool
+is_cache_allowed count = nat_le 1 count && nat_le count 4096
+
+-- whether an import accepts both limits
+abbrev pub are_limits_allowed : (dirty_max cache_blocks : ℕ) → Bool
+are_limits_allowed dirty_max cache_blocks = is_cache_allowed cache_blocks && is_dirty_max_allowed dirty_max
+
 -- whether an import of this active group and import number would pass the last number
 abbrev pub is_past_last : ℕ → ℕ → Bool
 is_past_last group import_number = nat_lt last_number (group + 5) || nat_lt last_number (import_number + 1)
