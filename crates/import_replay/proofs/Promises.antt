@@ -100,10 +100,10 @@ not_written old new e unchanged is none = unchanged (subst IsReadingRefusal (sym
 pub not_allowed : (size : ℕ) → CanImport size 4095 → ⊥
 not_allowed size can = let no : false ≡ true = can.1 in cc
 
-pub by_bounds : (size : ℕ) (e : PoolError) → IsImportRefusal size 4095 e → (e ≡ BadGeometry) ⊎ (e ≡ BadRange)
+pub by_bounds : (size : ℕ) (e : PoolError) → IsImportRefusal size false e → (e ≡ BadGeometry) ⊎ (e ≡ BadRange)
 by_bounds size BadGeometry refused = inl refl
 by_bounds size BadRange refused = inr refl
-by_bounds size _ refused = absurd (not_allowed size refused.0)
+by_bounds size _ refused = let no : false ≡ true = refused.0.1 in cc
 
 -- no name, on a device of 8 MiB
 pub by_name : (e : PoolError) → IsCreateRefusal 8388608 [] e → e ≡ BadRange

@@ -1,5 +1,5 @@
 -- What each stop of an import says of the image, and leaves of the device.
-use Rattle.std.proofs.Common.{◌≡◌, ◌⊎◌, inl, inr, ℕ, ◌≢◌, Bool, List, Ok, IsTrue, refl, sym, ◌∙◌, subst}
+use Rattle.std.proofs.Common.{◌≡◌, ◌⊎◌, inl, inr, ℕ, ◌≢◌, Bool, true, List, Ok, IsTrue, refl, sym, ◌∙◌, subst}
 use Rattle.base.specs.declared.error.PoolError.{PoolError}
 use Rattle.base.specs.declared.error.PoolError.TheVariants.{BadGeometry, BadRange, Damaged, Flush, NoMemory, NoPool, NoSpace, Read, TooMany, Write}
 use Rattle.base.specs.disk.Calls.{Flushes}
@@ -7,7 +7,7 @@ use Rattle.base.specs.disk.Disk.{Disk, bytes_of}
 use Rattle.base.specs.formats.Geometry.{IsGeometry}
 use Rattle.device_model.specs.declared.device.SectorDevice.{Ghosts}
 use Rattle.log_replay.specs.Replays.{IsReplayCause}
-use Rattle.import_replay.specs.ImportRefusals.{CanImport, HasLastNumbers, LacksImportRoom, IsImportRefusal, IsReason, IsInspectionRefusal, IsMountRefusal, IsReadingRefusal, IsSyncRefusal, IsWalkRefusal}
+use Rattle.import_replay.specs.ImportRefusals.{HasLastNumbers, LacksImportRoom, IsImportRefusal, IsReason, IsInspectionRefusal, IsMountRefusal, IsReadingRefusal, IsSyncRefusal, IsWalkRefusal}
 use Rattle.import_replay.specs.ImportStops.{IsImportStopped}
 use Rattle.import_replay.specs.Refused.{IsImportRefused, IsInspectionRefused, IsMountRefused}
 use Rattle.import_replay.proofs.OwnRefusals.{finds_own}
@@ -85,20 +85,20 @@ module _ (keeps : Bool) (moment : ℕ) (old mid new : Disk) (e : PoolError) wher
 
 -- an import and an inspection, on any device
 module _ {Dev : Type 0} (D : Ghosts Dev) where
-  -- the kinds of an import that had begun are none by size or limit
-  of_mount : (size dirty_max : ℕ) (e : PoolError) → CanImport size dirty_max → IsMountRefusal e → IsImportRefusal size dirty_max e
-  of_mount size dirty_max BadGeometry can kind = absurd kind
-  of_mount size dirty_max BadRange can kind = absurd kind
-  of_mount size dirty_max _ can kind = (can, kind)
+  -- the kinds of an import that had begun are none by size or limits
+  of_mount : (size : ℕ) (allowed : Bool) (e : PoolError) → IsGeometry size × (allowed ≡ true) → IsMountRefusal e → IsImportRefusal size allowed e
+  of_mount size allowed BadGeometry can kind = absurd kind
+  of_mount size allowed BadRange can kind = absurd kind
+  of_mount size allowed _ can kind = (can, kind)
 
   begun : (e : PoolError) → IsMountRefusal e → (e ≡ BadGeometry) ⊎ (e ≡ BadRange) → ⊥
   begun e kind (inl is) = subst IsMountRefusal is kind
   begun e kind (inr is) = subst IsMountRefusal is kind
 
-  pub mount_refused : (dirty_max moment : ℕ) (old new : Dev) (e : PoolError) → CanImport (D.size old) dirty_max → IsMountRefused D.keeps_model moment (D.disk old) (D.disk new) e → IsImportRefused D dirty_max moment old new e
-  mount_refused dirty_max moment old new e can refused =
+  pub mount_refused : (allowed : Bool) (moment : ℕ) (old new : Dev) (e : PoolError) → IsGeometry (D.size old) × (allowed ≡ true) → IsMountRefused D.keeps_model moment (D.disk old) (D.disk new) e → IsImportRefused D allowed moment old new e
+  mount_refused allowed moment old new e can refused =
       record {
-        kind = of_mount (D.size old) dirty_max e can refused.kind;
+        kind = of_mount (D.size old) allowed e can refused.kind;
         reason = refused.reason;
         found = λ keep. finds_own (D.disk old) e (refused.reason keep);
         untouched = λ bad. absurd (begun e refused.kind bad);
@@ -106,7 +106,7 @@ module _ {Dev : Type 0} (D : Ghosts Dev) where
         stopped = refused.stopped;
       }
 
-  -- by size or limit
+  -- by size or limits
   no_reason : (image : List ℕ) (e : PoolError) → (e ≡ BadGeometry) ⊎ (e ≡ BadRange) → IsReason image e
   no_reason image e (inl is) = record { no_pool = λ f. let no : BadGeometry ≡ NoPool = sym is ∙ f in cc; damaged = λ k a f. let no : BadGeometry ≡ Damaged k a = sym is ∙ f in cc; too_many = λ f. let no : BadGeometry ≡ TooMany = sym is ∙ f in cc; no_space = λ f. let no : BadGeometry ≡ NoSpace = sym is ∙ f in cc }
   no_reason image e (inr is) = record { no_pool = λ f. let no : BadRange ≡ NoPool = sym is ∙ f in cc; damaged = λ k a f. let no : BadRange ≡ Damaged k a = sym is ∙ f in cc; too_many = λ f. let no : BadRange ≡ TooMany = sym is ∙ f in cc; no_space = λ f. let no : BadRange ≡ NoSpace = sym is ∙ f in cc }
@@ -115,8 +115,8 @@ module _ {Dev : Type 0} (D : Ghosts Dev) where
   not_begun e (inl is) = (λ reading. subst IsReadingRefusal is reading, λ sync. elim sync [ inl of_write ↦ let no : BadGeometry ≡ Write = sym is ∙ of_write in cc | inr of_flush ↦ let no : BadGeometry ≡ Flush = sym is ∙ of_flush in cc ])
   not_begun e (inr is) = (λ reading. subst IsReadingRefusal is reading, λ sync. elim sync [ inl of_write ↦ let no : BadRange ≡ Write = sym is ∙ of_write in cc | inr of_flush ↦ let no : BadRange ≡ Flush = sym is ∙ of_flush in cc ])
 
-  pub bounds_refused : (dirty_max moment : ℕ) (old : Dev) (e : PoolError) → (e ≡ BadGeometry) ⊎ (e ≡ BadRange) → IsImportRefusal (D.size old) dirty_max e → IsImportRefused D dirty_max moment old old e
-  bounds_refused dirty_max moment old e bad kind = record {
+  pub bounds_refused : (allowed : Bool) (moment : ℕ) (old : Dev) (e : PoolError) → (e ≡ BadGeometry) ⊎ (e ≡ BadRange) → IsImportRefusal (D.size old) allowed e → IsImportRefused D allowed moment old old e
+  bounds_refused allowed moment old e bad kind = record {
     kind = kind;
     reason = λ keep. (no_reason (bytes_of (D.disk old).now) e bad);
     found = λ keep. finds_own (D.disk old) e ((no_reason (bytes_of (D.disk old).now) e bad));

@@ -1,5 +1,5 @@
 -- When an import is refused.
-use Rattle.std.specs.Prelude.{ℕ, ⊤, ◌≡◌, ◌≢◌, ◌≤◌, ◌⊎◌, true, false, List, length}
+use Rattle.std.specs.Prelude.{ℕ, ⊤, ◌≡◌, ◌≢◌, ◌≤◌, ◌⊎◌, Bool, true, false, List, length}
 use Rattle.std.specs.Ordering.{nat_cmp}
 use Rattle.std.specs.FinMap.{FinMap}
 use Rattle.std.specs.FinSet as set
@@ -68,12 +68,12 @@ IsMountRefusal TooMany = ⊤
 IsMountRefusal NoSpace = ⊤
 IsMountRefusal _ = ⊥
 
--- an import is refused: the size comes first, then the limit, both before any device call, and then what the image and
--- the device refuse
-abbrev pub IsImportRefusal : ℕ → ℕ → PoolError → Type 0
-IsImportRefusal size dirty_max BadGeometry = IsGeometry size → ⊥
-IsImportRefusal size dirty_max BadRange = IsGeometry size × (is_dirty_max_allowed dirty_max ≡ false)
-IsImportRefusal size dirty_max e = CanImport size dirty_max × IsMountRefusal e
+-- An import is refused: the size comes first, then whether the limits are allowed, both before any device call, and then
+-- what the image and the device refuse.
+abbrev pub IsImportRefusal : ℕ → Bool → PoolError → Type 0
+IsImportRefusal size allowed BadGeometry = IsGeometry size → ⊥
+IsImportRefusal size allowed BadRange = IsGeometry size × (allowed ≡ false)
+IsImportRefusal size allowed e = (IsGeometry size × (allowed ≡ true)) × IsMountRefusal e
 
 -- the image has a pool with this active uberblock and name, and its tree has no damage
 pub record HasSoundPool (image : List ℕ) (u : Uberblock) (name : List ℕ) : Type 0 where

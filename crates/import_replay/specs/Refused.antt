@@ -30,9 +30,9 @@ pub record IsMountRefused (keeps : Bool) (moment : ℕ) (old new : Disk) (e : Po
   pub unchanged : IsTrue keeps → IsReadingRefusal e → new ≡ certain (bytes_of old.now) old
   pub stopped : IsTrue keeps → IsSyncRefusal e → IsImportStopped old new moment e
 
--- An import was refused: by size or limit the device is as it was, and after that the same holds.
-pub record IsImportRefused {Dev : Type 0} (D : Ghosts Dev) (dirty_max moment : ℕ) (old new : Dev) (e : PoolError) : Type 0 where
-  pub kind : IsImportRefusal (D.size old) dirty_max e
+-- An import was refused: by size or limits the device is as it was, and after that the same holds.
+pub record IsImportRefused {Dev : Type 0} (D : Ghosts Dev) (allowed : Bool) (moment : ℕ) (old new : Dev) (e : PoolError) : Type 0 where
+  pub kind : IsImportRefusal (D.size old) allowed e
   pub reason : IsTrue D.keeps_model → IsReason (bytes_of (D.disk old).now) e
   pub found : IsTrue D.keeps_model → FindsOwn (D.disk old) e
   pub untouched : (e ≡ BadGeometry) ⊎ (e ≡ BadRange) → new ≡ old

@@ -20,7 +20,7 @@ ghost use Rattle.import_replay.specs.TakenBlocks.{ChangesBlock, KeepsBlock};
 
 use crate::creation::create;
 use crate::imported::Imported;
-use crate::importing::import;
+use crate::importing::{import, import_with};
 use crate::inspection::{Inspected, inspect};
 use base::{Group, PoolError};
 use device_model::SectorDevice;
@@ -87,6 +87,28 @@ fn a_limit_below_a_block_leaves_the_device<D: SectorDevice>(
     ensures unchanged { IfErr result (λ e. e.1 ≡ device) }
 {
     import(alloc, device, 4_095, 0)
+}
+
+// A cache of no blocks is refused, and the device comes back as it was.
+fn a_cache_of_no_blocks_leaves_the_device<D: SectorDevice>(
+    alloc: Global,
+    device: D,
+) -> Result<Imported<D>, (PoolError, D)>
+    ensures refused { IsErr result }
+    ensures unchanged { IfErr result (λ e. e.1 ≡ device) }
+{
+    import_with(alloc, device, 1_048_576, 0, 0)
+}
+
+// An import with a cache of two blocks has one, and none is in it.
+fn a_cache_has_its_size<D: SectorDevice>(
+    alloc: Global,
+    device: D,
+) -> Result<Imported<D>, (PoolError, D)>
+    ensures size { IfOk result (λ i. i.cache.cap ≡ 2) }
+    ensures empty { IfOk result (λ i. i.cache.entries ≡ []) }
+{
+    import_with(alloc, device, 1_048_576, 2, 0)
 }
 
 // If an import synced group 9 and replayed 3 records, `group` returns 9 and `records` returns 3.

@@ -1,6 +1,6 @@
 //! What an import returns: what it mounted, on its device.
 
-ghost use Rattle.std.specs.Prelude.{◌≡◌, ◌<◌, ◌≤◌, IsTrue};
+ghost use Rattle.std.specs.Prelude.{◌≡◌, ◌<◌, ◌≤◌, [], IsTrue};
 ghost use Rattle.base.specs.disk.Disk.{bytes_of};
 ghost use Rattle.base.specs.formats.Limits.{first_group, last_number};
 ghost use Rattle.import_replay.specs.Mounts.{IsExplainedAnew, StandsOn};
@@ -9,14 +9,18 @@ ghost use Rattle.import_replay.specs.ShownMounts.{LabelsShow};
 use crate::mounted::Mounted;
 use base::Group;
 use device_model::SectorDevice;
+use object_maps::BlockCache;
 
 /// An imported pool, with the device that it lies on.
 #[derive(Debug, Drop)]
 pub struct Imported<D: SectorDevice> {
     /// The device, whose labels the import has written.
     pub device: D,
+    /// The cache of its tree blocks, which has none yet.
+    pub cache: BlockCache,
     /// What was mounted and written.
     pub mounted: Mounted,
+    ghost empty: { cache.entries ≡ [] },
     ghost sized: { D.size device ≡ mounted.geometry },
     ghost stands: { ∥ (IsTrue D.keeps_model → StandsOn (bytes_of (D.disk device).now) mounted) ∥₁ },
     ghost labels: { ∥ (IsTrue D.keeps_model → LabelsShow (bytes_of (D.disk device).now) mounted) ∥₁ },

@@ -3,7 +3,7 @@
 //! OpenZFS opens a pool in the same order (`spa_load` in `spa.c`); the labels are those of the On-Disk Specification,
 //! chapter 1. If the active uberblock has group u and import number i, an import does this:
 //!
-//! 1. It refuses a size that no pool has and a limit that isn't allowed. No device call is made before that.
+//! 1. It refuses a size that no pool has and limits that aren't allowed. No device call is made before that.
 //! 2. It flushes the device. What an earlier run wrote and left unflushed is then settled, so a crash leaves what is
 //!    read.
 //! 3. It reads the labels: the active uberblock, and the config that is chosen for it, which has the pool's name.
@@ -25,7 +25,7 @@
 //! has its tree and its chain still, and the new one a tree of what these mount. So the next import mounts the same
 //! contents. If the device refuses a call, the calls before it are made, and the import can be made again.
 
-ghost use Rattle.std.specs.Prelude.{◌≡◌, ℕ, false, IfErr, IfOk, IsTrue, MatchResult, OnOk};
+ghost use Rattle.std.specs.Prelude.{◌≡◌, ◌<◌, ℕ, [], false, true, IfErr, IfOk, IsTrue, MatchResult, OnOk};
 ghost use Rattle.base.specs.crash.CrashRule.{KeepsOwn};
 ghost use Rattle.base.specs.crash.Imports as numbers;
 ghost use Rattle.base.specs.disk.Calls.{with_refusal};
@@ -47,14 +47,47 @@ use crate::label_sync::sync_group;
 use crate::mounted::Mounted;
 use crate::next_pool::{NextPool, plan_pool, replay_pool};
 use crate::reading::read_pool;
-use base::{GREATEST_DIRTY_MAX, Group, LAST_NUMBER, LEAST_DIRTY_MAX, PoolError, WRITTEN_VERSION};
+use base::{
+    DEFAULT_CACHE_BLOCKS, GREATEST_CACHE_BLOCKS, GREATEST_DIRTY_MAX, Group, LAST_NUMBER,
+    LEAST_DIRTY_MAX, PoolError, WRITTEN_VERSION,
+};
 use device_model::SectorDevice;
 use labels::{Geometry, LabelConfig};
+use object_maps::BlockCache;
 use std::alloc::Global;
+use std::num::NonZeroUsize;
 use uberblocks::Uberblock;
 
-/// Imports the pool on a device. At most `dirty_max` bytes may be dirty then, and `moment`, in seconds, is stored in
-/// the uberblocks.
+/// Imports the pool on a device, which then keeps 256 tree blocks in memory at most. See `import_with`.
+pub fn import<D: SectorDevice>(
+    alloc: Global,
+    device: D,
+    dirty_max: u64,
+    moment: u64,
+) -> Result<Imported<D>, (PoolError, D)>
+    ensures imported { IsTrue D.keeps_model
+        → IfOk result (λ i. IsImport (bytes_of (D.disk device).now) (bytes_of (D.disk i.device).now)
+        dirty_max i.mounted) }
+    ensures written { IsTrue D.keeps_model
+        → IfOk result (λ i. IsImportWritten (D.disk device) (D.disk i.device) moment i.mounted) }
+    ensures own { IsTrue D.keeps_model → MatchResult result
+        (λ i. KeepsOwn (D.disk device) (D.disk i.device))
+        (λ e. KeepsOwn (D.disk device) (D.disk e.1)) }
+    ensures starts { IsTrue D.keeps_model
+        → IfOk result (λ i. StartsRun (D.disk device) dirty_max (D.disk i.device) i.mounted) }
+    ensures mounted { IfOk result (λ i. IsMountedAnew (D.size device) dirty_max i.mounted) }
+    ensures size { MatchResult result
+        (λ i. D.size i.device ≡ D.size device) (λ e. D.size e.1 ≡ D.size device) }
+    ensures count { MatchResult result (λ i. D.refused i.device ≡ D.refused device)
+        (λ e. D.refused e.1 ≡ with_refusal e.0 (D.refused device)) }
+    ensures refused { IfErr result (λ e. IsImportRefused D.SectorDevice
+        (numbers.is_dirty_max_allowed dirty_max) moment device e.1 e.0) }
+{
+    import_with(alloc, device, dirty_max, DEFAULT_CACHE_BLOCKS, moment)
+}
+
+/// Imports the pool on a device. At most `dirty_max` bytes may be dirty then, at most `cache_blocks` tree blocks that
+/// were read stay in memory, and `moment`, in seconds, is stored in the uberblocks.
 ///
 /// It flushes the device, loads the tree of the active uberblock, of group u and import number i, and replays the log
 /// records of groups above u. Then it syncs what they leave as group u + 4, with import number i + 1 and both label
@@ -65,16 +98,18 @@ use uberblocks::Uberblock;
 ///
 /// # Errors
 /// In this order:
-/// - `BadGeometry`, and `BadRange` if the limit is not 4,096 to 2^40 bytes. The device is as it was.
+/// - `BadGeometry`, and `BadRange` if the limit is not 4,096 to 2^40 bytes, or the number of blocks not 1 to 4,096. The
+///   device is as it was.
 /// - `NoPool`; `Damaged` with the first damage of the tree, or with kind 6 and the address of the block of the first
 ///   log record that can't take place; `TooMany` if u + 5 or i + 1 would pass 2^60; `NoSpace` if the blocks of the
 ///   records and the first log block find no room. `NoMemory` and `Read` when they happen. The device is flushed and
 ///   else as it was.
 /// - `Write` and `Flush`, if the device refused such a call. The calls before it are made.
-pub fn import<D: SectorDevice>(
+pub fn import_with<D: SectorDevice>(
     alloc: Global,
     mut device: D,
     dirty_max: u64,
+    cache_blocks: u64,
     moment: u64,
 ) -> Result<Imported<D>, (PoolError, D)>
     // It is the pool that the image mounts, with the records of its chain replayed. The device holds its tree, and the
@@ -103,12 +138,30 @@ pub fn import<D: SectorDevice>(
         (λ i. D.size i.device ≡ D.size device) (λ e. D.size e.1 ≡ D.size device) }
     ensures count { MatchResult result (λ i. D.refused i.device ≡ D.refused device)
         (λ e. D.refused e.1 ≡ with_refusal e.0 (D.refused device)) }
-    ensures refused { IfErr result
-        (λ e. IsImportRefused D.SectorDevice dirty_max moment device e.1 e.0) }
+    ensures refused { IfErr result (λ e. IsImportRefused D.SectorDevice
+        (numbers.are_limits_allowed dirty_max cache_blocks) moment device e.1 e.0) }
+    ensures cache { IfOk result (λ i. (numbers.is_cache_allowed cache_blocks ≡ true)
+        × (i.cache.cap ≡ cache_blocks)) }
 {
-    match mount(alloc, &mut device, dirty_max, moment) {
-        Ok(mounted) => Ok(Imported { device, mounted }),
+    match mount(alloc, &mut device, dirty_max, cache_blocks, moment) {
+        Ok(mounted) => Ok(Imported {
+            device,
+            cache: empty_cache(alloc, cache_blocks),
+            mounted,
+        }),
         Err(error) => Err((error, device)),
+    }
+}
+
+// A cache of so many blocks, with none.
+fn empty_cache(alloc: Global, count: u64) -> BlockCache
+    requires { 0 < count }
+    ensures empty { result.entries ≡ [] }
+    ensures count { result.cap ≡ count }
+{
+    match NonZeroUsize::new(count as usize) {
+        Some(count) => BlockCache::new(alloc, count),
+        None => unreachable!(),
     }
 }
 
@@ -116,12 +169,15 @@ fn mount<D: SectorDevice>(
     alloc: Global,
     device: &mut D,
     dirty_max: u64,
+    cache_blocks: u64,
     moment: u64,
 ) -> Result<Mounted, PoolError>
+    ensures limits { IfOk result (λ _. numbers.are_limits_allowed dirty_max cache_blocks ≡ true) }
     ensures device { KeepsDevice D.SectorDevice result device.old device.new }
     ensures mounted { IfOk result (IsMountedAnew (D.size device.old) dirty_max) }
     ensures refused { IfErr result
-        (IsImportRefused D.SectorDevice dirty_max moment device.old device.new) }
+        (IsImportRefused D.SectorDevice (numbers.are_limits_allowed dirty_max cache_blocks)
+        moment device.old device.new) }
     ensures imported { IsTrue D.keeps_model → IfOk result
         (IsImport (bytes_of (D.disk device.old).now) (bytes_of (D.disk device.new).now) dirty_max) }
     ensures written { IsTrue D.keeps_model
@@ -131,13 +187,21 @@ fn mount<D: SectorDevice>(
         → IfOk result (StartsRun (D.disk device.old) dirty_max (D.disk device.new)) }
 {
     let geometry = Geometry::of(device.sectors())?;
-    if dirty_max < LEAST_DIRTY_MAX || GREATEST_DIRTY_MAX < dirty_max {
+    if !are_limits_allowed(dirty_max, cache_blocks) {
         return Err(PoolError::BadRange);
     }
     mount_pool(alloc, device, geometry, dirty_max, moment)
 }
 
-// The import, once size and limit are within bounds.
+// Returns whether an import accepts these limits.
+fn are_limits_allowed(dirty_max: u64, cache_blocks: u64) -> bool
+    ensures { result ≡ numbers.are_limits_allowed dirty_max cache_blocks }
+{
+    let is_cache_allowed = 1 <= cache_blocks && cache_blocks <= GREATEST_CACHE_BLOCKS;
+    is_cache_allowed && LEAST_DIRTY_MAX <= dirty_max && dirty_max <= GREATEST_DIRTY_MAX
+}
+
+// The import, once size and limits are within bounds.
 fn mount_pool<D: SectorDevice>(
     alloc: Global,
     device: &mut D,

@@ -17,6 +17,6 @@ mod reading;
 
 pub use creation::create;
 pub use imported::Imported;
-pub use importing::import;
+pub use importing::{import, import_with};
 pub use inspection::{Inspected, inspect};
 pub use mounted::Mounted;

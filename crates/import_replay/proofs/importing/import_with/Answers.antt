@@ -1,4 +1,6 @@
-use Rattle.std.proofs.Common.{◌≡◌, ◌∙◌, ℕ, List, length, sym, subst}
+use Rattle.std.proofs.Common.{◌≡◌, ◌∙◌, ℕ, List, length, nat_le, sym, subst}
+use Rattle.std.proofs.lemmas.Bool.{and_parts, leb-true}
+use Rattle.base.specs.crash.Imports.{is_cache_allowed, is_dirty_max_allowed}
 use Rattle.base.specs.disk.Disk.{bytes_of}
 use Rattle.base.specs.formats.Geometry.{IsGeometry}
 use Rattle.base.specs.steps.ExactNow.{IsExplainedNow}
@@ -6,7 +8,16 @@ use Rattle.base.specs.history.Past.{new_past}
 use Rattle.object_maps.specs.ContentsShown.{contents_of}
 use Rattle.import_replay.specs.Mounts.{shown_of_import}
 use Rattle.import_replay.proofs.ShownMounts.{labels_show}
-use Rattle.import_replay.proofs.importing.import.Goals as goal
+use Rattle.import_replay.proofs.importing.import_with.Goals as goal
+
+pub empty_cache-requires : goal.empty_cache-requires
+empty_cache-requires g c =
+    let allowed = and_parts (is_cache_allowed c.args.cache_blocks) (is_dirty_max_allowed c.args.dirty_max) c.in-Ok.ensures.limits in
+    leb-true 1 c.args.cache_blocks (and_parts (nat_le 1 c.args.cache_blocks) (nat_le c.args.cache_blocks 4096) allowed.0).0
+
+pub returns-in-Ok-clause-cache : goal.returns-in-Ok-clause-cache
+returns-in-Ok-clause-cache g c =
+    ((and_parts (is_cache_allowed c.args.cache_blocks) (is_dirty_max_allowed c.args.dirty_max) c.in-Ok.ensures.limits).0, c.empty_cache.ensures.count)
 
 pub invariant_of-result-clause-stands : goal.invariant_of-result-clause-stands
 invariant_of-result-clause-stands g c = ∣ (λ keeps. (c.in-Ok.ensures.imported keeps).stands) ∣₁
