@@ -29,6 +29,9 @@ ghost use Rattle.transactions.specs.Records.{record_fields};
 ghost use Rattle.pool_tables.specs.BeginTests.{plan_tests};
 ghost use Rattle.pool_tables.specs.Shows.{geometry_of, pool_shown};
 
+mod ready;
+mod refused;
+
 use crate::blocks::{give_log, take_all};
 use crate::duty::Duty;
 use crate::pool::PoolTables;
