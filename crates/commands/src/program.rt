@@ -19,7 +19,7 @@ use std::sync::Wait;
 use std::thread::Threads;
 
 /// Does a command of the program, and returns the exit status. A script may wait for its pool. A load has threads, and
-/// shows its progress if `errors`, which is standard error, is a terminal. A file that can't be used is reported there.
+/// shows its progress if `errors`, which is standard error, is a terminal. Failures are reported there.
 pub fn run<
     R: Files + Input + Print + Eprint + AllocGlobal + Threads + Wait + Sync,
     E: Write + IsTerminal,
