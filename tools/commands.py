@@ -8,13 +8,14 @@ load"): the checksums of new files, the digests of loads and the refusals are re
 
 - New files, byte for byte; a file that is there keeps what a create doesn't write.
 - What `show` and `check` print of a pool that is new, synced, logged, damaged or missing. The moments that are stored.
-- Faults of the command line, files that can't be used, locks of other processes, output that can't be written.
+- Faults of the command line, files that can't be used and why, locks of other processes, output that can't be written.
 - A script answers each line before the next one comes. A load shows its progress on a terminal alone.
 - The help and the version.
 
 Each difference is printed, and then the status is 1. The end prints how many runs were compared.
 """
 
+import errno
 import fcntl
 import hashlib
 import os
@@ -22,6 +23,7 @@ import pathlib
 import pty
 import re
 import select
+import shutil
 import subprocess
 import sys
 import tempfile
@@ -67,19 +69,20 @@ def differ(*what):
     print("commands.py:", *what, flush=True)
 
 
-def run(words, script=b"", out=subprocess.PIPE, seconds=SECONDS):
+def run(words, script=b"", out=subprocess.PIPE, seconds=SECONDS, program=None, **user):
     """The status of a run, what it printed, and what it printed on standard error."""
     global runs
     runs += 1
+    words = [program or PROGRAM, *words]
     try:
-        ran = subprocess.run([PROGRAM, *words], input=script, stdout=out, stderr=subprocess.PIPE, timeout=seconds)
+        ran = subprocess.run(words, input=script, stdout=out, stderr=subprocess.PIPE, timeout=seconds, **user)
     except subprocess.TimeoutExpired:
         return None, "", f"no end after {seconds} seconds"
     return ran.returncode, (ran.stdout or b"").decode(), ran.stderr.decode()
 
 
-def ends(words, status, out="", errors="", script=""):
-    found = run(words, script.encode())
+def ends(words, status, out="", errors="", script="", **how):
+    found = run(words, script.encode(), **how)
     if found != (status, out, errors):
         differ(words, "ends with", found, "and not with", (status, out, errors))
 
@@ -242,29 +245,79 @@ def commands(file):
     }
 
 
+NOT_REGULAR, IN_USE = "not a regular file", "in use by another process or device"
+
+
+def system(number):
+    """The system's words for a failed call."""
+    return f"{os.strerror(number)} (os error {number})"
+
+
+def unusable(words, file, cause, **how):
+    """The file can't be used. Why is told in a second line, if -v stands before the command's name or after it."""
+    fact = f"ztxg: cannot use {file}\n"
+    for told in (words, ["-v", *words], [words[0], "-v", *words[1:]], [*words, "--verbose"]):
+        ends(told, 3, errors=fact if told is words else f"{fact}ztxg: cause: {cause}\n", **how)
+
+
 def unusable_files():
     os.mkdir("folder")
     os.mkfifo("pipe")
-    for file in ("no/file", "folder", "pipe", "/dev/null"):
+    for file, cause in [
+        ("no/file", system(errno.ENOENT)),
+        ("folder/" + "x" * 256, system(errno.ENAMETOOLONG)),
+        ("folder", NOT_REGULAR),
+        ("pipe", NOT_REGULAR),
+        ("/dev/null", NOT_REGULAR),
+    ]:
         for words in commands(file).values():
-            ends(words, 3, errors=f"ztxg: cannot use {file}\n")
+            unusable(words, file, cause)
     for words in (["script", str(SIZE), "no/script"], ["script", "--file", "no/file", "no/script"]):
-        ends(words, 3, errors="ztxg: cannot use no/script\n")
+        unusable(words, "no/script", system(errno.ENOENT))
     pathlib.Path("lines").write_text("create tank 77")
-    ends(["script", "--file", "no/file", "lines"], 3, errors="ztxg: cannot use no/file\n")
+    unusable(["script", "--file", "no/file", "lines"], "no/file", system(errno.ENOENT))
     ends(["script", str(SIZE), "lines"], 0, "ok\n")
     make("held.pool")
     made = pathlib.Path("held.pool").read_bytes()
+    unusable([*commands("held.pool")["create"], "--new"], "held.pool", system(errno.EEXIST))
     with open("held.pool", "rb") as file:
-        for lock, readers in [(fcntl.LOCK_EX, 3), (fcntl.LOCK_SH, 0)]:
+        for lock, readers in [(fcntl.LOCK_EX, False), (fcntl.LOCK_SH, True)]:
             fcntl.flock(file, lock)
             for name, words in commands("held.pool").items():
-                status, out, errors = run(words)
-                wanted = readers if name in ("show", "check") else 3
-                if status != wanted or wanted and (out, errors) != ("", "ztxg: cannot use held.pool\n"):
-                    differ(words, "of a file that is held ends with", (status, out, errors))
+                if readers and name in ("show", "check"):
+                    ends([*words, "-v"], 0, run(words)[1])
+                else:
+                    unusable(words, "held.pool", IN_USE)
     if pathlib.Path("held.pool").read_bytes() != made:
         differ("a file that is held changes")
+    # -v changes nothing else
+    os.truncate("held.pool", 0)
+    ends(["-v", "check", "held.pool"], 1, errors="ztxg: refused 8 BadGeometry\n")
+
+
+def denied_files():
+    """Files and folders that this user may not use. For root the program runs as nobody does."""
+    for name, mode in [("denied", 0o777), ("denied/read", 0o555), ("denied/write", 0o333)]:
+        os.mkdir(name)
+        os.chmod(name, mode)
+    denied = system(errno.EACCES)
+    make("denied/0.pool")
+    os.chmod("denied/0.pool", 0)
+    how = {"program": shutil.copy(PROGRAM, "denied/ztxg")}
+    if os.geteuid() == 0:
+        os.chmod(".", 0o755)
+        os.chmod("denied/ztxg", 0o755)
+        how |= {"user": 65_534, "group": 65_534, "extra_groups": []}
+    for words in commands("denied/0.pool").values():
+        unusable(words, "denied/0.pool", denied, **how)
+    unusable(commands("denied/read/1.pool")["create"], "denied/read/1.pool", denied, **how)
+    # This one is made, but a power failure could lose its name.
+    file = "denied/write/1.pool"
+    unusable(commands(file)["create"], file, f"the folder of the file can't be synced: {denied}", **how)
+    os.chmod("denied/write", 0o777)
+    if os.path.getsize(file):
+        differ(file, "isn't left empty")
+    ends(commands(file)["create"], 0, "created tank 896 blocks\n", **how)
 
 
 def full_output():
@@ -348,7 +401,9 @@ def texts():
 def main():
     with tempfile.TemporaryDirectory() as folder:
         os.chdir(folder)
-        for part in (new_files, kept_bytes, pools, moments, faults, unusable_files, full_output, scripts, loads, texts):
+        for part in (new_files, kept_bytes, pools, moments, faults, unusable_files, denied_files):
+            part()
+        for part in (full_output, scripts, loads, texts):
             part()
         os.chdir(TOP)
     print(f"{runs} runs of the program, {differences} differences")

@@ -6,7 +6,8 @@
 PROGRAM is a built `ztxg`. `cc` compiles a `pwrite64`, an `fsync`, an `fdatasync` and an `ftruncate64` that note each
 call.
 
-- A create sizes its file, clears it, syncs it, writes four configs, syncs, writes four uberblocks and syncs.
+- A create syncs its file's folder, sizes the file, clears it, syncs it, writes four configs, syncs, writes four
+  uberblocks and syncs. No other command syncs a folder.
 - A sync of a group with one object writes its blocks, rising, syncs, writes the uberblocks of labels 0 to 3 and syncs.
   A log write writes one block, and a log flush syncs.
 - Each sync is an `fsync`: an `fdatasync` may leave the file's size behind. A load makes no other call either.
@@ -47,6 +48,8 @@ ssize_t pwrite64(int file, const void *bytes, size_t size, off64_t place) {
 ssize_t pwrite(int file, const void *bytes, size_t size, off_t place) { return pwrite64(file, bytes, size, place); }
 int fsync(int file) {
     NEXT(int (*next)(int), "fsync");
+    struct stat is;
+    if (noted >= 0 && !fstat(file, &is) && S_ISDIR(is.st_mode)) dprintf(noted, "folder 0 0\n");
     note(file, "fsync", 0, 0);
     return next(file);
 }
@@ -65,7 +68,7 @@ int ftruncate(int file, off_t size) { return ftruncate64(file, size); }
 
 SIZE, LABEL, BOOT_END, BLOCK, SLOT = 8_388_608, 262_144, 4_194_304, 4096, 1024
 LABELS = [0, LABEL, SIZE - 2 * LABEL, SIZE - LABEL]
-FSYNC = ("fsync", 0, 0)
+FSYNC, FOLDER = ("fsync", 0, 0), ("folder", 0, 0)
 SCRIPT = """\
 import 1048576
 lock 1 1 w 0 338688
@@ -105,7 +108,8 @@ class Program:
             differ(words, "ends with", ran.returncode, ran.stderr)
         lines = [line.split() for line in pathlib.Path(self.noted).read_text().splitlines()]
         calls = [(name, int(place), int(size)) for name, place, size in lines]
-        if strange := {name for name, _, _ in calls} - {"write", "fsync", "size"}:
+        known = {"write", "fsync", "size", "folder"} if words[0] == "create" else {"write", "fsync", "size"}
+        if strange := {name for name, _, _ in calls} - known:
             differ(words, "makes", strange)
         return calls
 
@@ -119,10 +123,10 @@ def main():
     with tempfile.TemporaryDirectory() as folder:
         program, pool = Program(os.path.abspath(sys.argv[1]), folder), os.path.join(folder, "tank.pool")
         made = program.calls(["create", pool, "tank", "77", str(SIZE)])
-        judge("the front of a create", made[:1], [("size", 0, SIZE)])
+        judge("the front of a create", made[:2], [FOLDER, ("size", 0, SIZE)])
         configs = [("write", label + 16_384, BLOCK) for label in LABELS]
         judge("the end of a create", made[-11:], [FSYNC, *configs, FSYNC, *uberblocks(4), FSYNC])
-        judge("what a create makes before", {name for name, _, _ in made[1:-11]}, {"write"})
+        judge("what a create makes before", {name for name, _, _ in made[2:-11]}, {"write"})
         # The import takes the first block for the log, and the next log block is the second one.
         blocks = [("write", BOOT_END + BLOCK * number, BLOCK) for number in (2, 3, 4, 5)]
         log = [("write", BOOT_END, BLOCK), FSYNC]

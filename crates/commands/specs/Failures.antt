@@ -10,7 +10,7 @@ use Rattle.commands.specs.declared.failure.Failure.TheVariants.{Refused, Unusabl
 -- the status of a failure
 abbrev pub failure_status : Failure → ℕ
 failure_status (Refused refusal) = 1
-failure_status Unusable = 3
+failure_status (Unusable cause) = 3
 failure_status Unwritten = 3
 
 -- the bytes of the whole sectors of a file of so many bytes

@@ -6,7 +6,7 @@ ghost use Rattle.base.specs.formats.Geometry.{IsGeometry};
 ghost use Rattle.device_model.specs.Reading.{OnlyReads};
 ghost use Rattle.commands.specs.Checks.{IsCheckRefusal, IsFoundIn, MountsWhole, StaysOpened, finding_status, found_of};
 
-use crate::failure::{Failure, REFUSED, report_failure};
+use crate::failure::{Failure, REFUSED, Verbosity, report_failure};
 use base::{Group, PoolError};
 use device_model::{FileRefusal, SectorDevice};
 use import_replay::{Inspected, inspect};
@@ -99,6 +99,7 @@ fn finding_of(inspected: Result<Inspected, PoolError>) -> Result<Finding, PoolEr
 pub fn run_check<D: SectorDevice, W: Write, E: Write>(
     alloc: Global,
     file: &str,
+    verbosity: Verbosity,
     opened: &mut Result<D, FileRefusal>,
     out: &mut W,
     errors: &mut E,
@@ -113,7 +114,7 @@ pub fn run_check<D: SectorDevice, W: Write, E: Write>(
 {
     match check_opened(alloc, opened, out) {
         Ok(finding) => finding.status(),
-        Err(failure) => report_failure(failure, file, errors),
+        Err(failure) => report_failure(failure, file, verbosity, errors),
     }
 }
 
@@ -123,14 +124,15 @@ fn check_opened<D: SectorDevice, W: Write>(
     out: &mut W,
 ) -> Result<Finding, Failure>
     ensures only_read { StaysOpened D.SectorDevice opened.old opened.new }
-    ensures unusable { IsErr opened.old → result ≡ Err Failure.Unusable }
+    ensures unusable { IfErr opened.old (λ cause. result ≡ Err (Failure.Unusable cause)) }
     ensures size { IfOk opened.old (λ device. (IsGeometry (D.size device) → ⊥)
         → result ≡ Err (Failure.Refused PoolError.BadGeometry)) }
     ensures found { IfOk opened.old (λ device. IsTrue D.keeps_model
         → IfOk result (IsFoundIn (bytes_of (D.disk device).now))) }
 {
-    let Ok(device) = opened else {
-        return Err(Failure::Unusable);
+    let device = match opened {
+        Ok(device) => device,
+        Err(cause) => return Err(Failure::Unusable(*cause)),
     };
     let finding = check_pool(alloc, device)?;
     if writeln!(out, "{finding}").is_err() {

@@ -9,7 +9,7 @@ ghost use Rattle.commands.specs.Checks.{finding_status};
 
 use crate::arguments::{CreateArguments, LoadArguments, ScriptArguments, ScriptDevice};
 use crate::checks::{Finding, check_pool, run_check};
-use crate::failure::{Failure, report_failure};
+use crate::failure::{Failure, Verbosity, report_failure};
 use crate::load::run_load;
 use crate::pool_files::{run_create, run_show};
 use crate::program::run_opened;
@@ -23,23 +23,27 @@ use std::rt::Files;
 use std::sync::Wait;
 use std::thread::Threads;
 
+const BRIEF: Verbosity = Verbosity::Brief;
+
 // A refusal of the engine has status 1.
 fn a_refusal_has_status_1<E: Write>(errors: &mut E) -> u8
     ensures { result ≡ 1 }
 {
-    report_failure(Failure::Refused(PoolError::NoMemory), "tank.pool", errors)
+    let failure = Failure::Refused(PoolError::NoMemory);
+    report_failure(failure, "tank.pool", BRIEF, errors)
 }
 
 fn a_file_that_cannot_be_used_has_status_3<E: Write>(errors: &mut E) -> u8
     ensures { result ≡ 3 }
 {
-    report_failure(Failure::Unusable, "tank.pool", errors)
+    let failure = Failure::Unusable(FileRefusal::InUse);
+    report_failure(failure, "tank.pool", Verbosity::Verbose, errors)
 }
 
 fn an_output_that_is_not_written_has_status_3<E: Write>(errors: &mut E) -> u8
     ensures { result ≡ 3 }
 {
-    report_failure(Failure::Unwritten, "tank.pool", errors)
+    report_failure(Failure::Unwritten, "tank.pool", BRIEF, errors)
 }
 
 // A file of less than 6 MiB can hold no pool.
@@ -60,7 +64,7 @@ where
         only_new: false,
         moment: 0,
     };
-    run_create(files, arguments, out, errors)
+    run_create(files, arguments, BRIEF, out, errors)
 }
 
 // A name begins with a letter.
@@ -81,7 +85,7 @@ where
         only_new: false,
         moment: 0,
     };
-    run_create(files, arguments, out, errors)
+    run_create(files, arguments, BRIEF, out, errors)
 }
 
 fn a_pool_that_is_not_opened_shows_status_3<D: SectorDevice + Drop, W: Write, E: Write>(
@@ -92,7 +96,7 @@ fn a_pool_that_is_not_opened_shows_status_3<D: SectorDevice + Drop, W: Write, E:
     ensures { result ≡ 3 }
 {
     let mut opened: Result<D, FileRefusal> = Err(FileRefusal::InUse);
-    run_show(alloc, "tank.pool", &mut opened, out, errors)
+    run_show(alloc, "tank.pool", BRIEF, &mut opened, out, errors)
 }
 
 // Whatever a show finds, it leaves the disk as it was, and the device refused no write and no flush.
@@ -109,7 +113,7 @@ fn a_show_writes_nothing<D: SectorDevice, W: Write, E: Write>(
         (λ after. (D.refused after).flushes ≡ (D.refused device).flushes) }
 {
     let mut opened = Ok(device);
-    run_show(alloc, "tank.pool", &mut opened, out, errors);
+    run_show(alloc, "tank.pool", BRIEF, &mut opened, out, errors);
     opened
 }
 
@@ -129,7 +133,7 @@ where
         moment: 0,
     };
     let opened: io::Result<R> = Err(io::Error::from(ErrorKind::NotFound));
-    run_opened(rt, arguments, opened, out, errors)
+    run_opened(rt, arguments, BRIEF, opened, out, errors)
 }
 
 // What is loaded by so many workers.
@@ -157,7 +161,7 @@ fn a_pool_that_is_not_opened_is_loaded_with_status_3<
     ensures { result ≡ 3 }
 {
     let opened: Result<D, FileRefusal> = Err(FileRefusal::InUse);
-    run_load(rt, tank_by(4), opened, false, out, errors)
+    run_load(rt, tank_by(4), BRIEF, opened, false, out, errors)
 }
 
 // There are 16 streams, so no more workers.
@@ -169,7 +173,7 @@ fn a_load_by_17_workers_has_status_1<
 >(rt: &R, device: D, out: &mut W, errors: &mut E) -> u8
     ensures { result ≡ 1 }
 {
-    run_load(rt, tank_by(17), Ok(device), false, out, errors)
+    run_load(rt, tank_by(17), BRIEF, Ok(device), false, out, errors)
 }
 
 fn a_pool_that_is_not_opened_is_checked_with_status_3<D: SectorDevice + Drop, W: Write, E: Write>(
@@ -180,7 +184,7 @@ fn a_pool_that_is_not_opened_is_checked_with_status_3<D: SectorDevice + Drop, W:
     ensures { result ≡ 3 }
 {
     let mut opened: Result<D, FileRefusal> = Err(FileRefusal::InUse);
-    run_check(alloc, "tank.pool", &mut opened, out, errors)
+    run_check(alloc, "tank.pool", BRIEF, &mut opened, out, errors)
 }
 
 // If a block of the tree is damaged, the status is not 0.
@@ -193,7 +197,7 @@ fn a_damaged_pool_is_not_clean<D: SectorDevice + Drop, W: Write, E: Write>(
     ensures { IsTrue D.keeps_model → (kind address : ℕ)
         → IsTreeDamaged (bytes_of (D.disk device).now) kind address → result ≢ 0 }
 {
-    run_check(alloc, "tank.pool", &mut Ok(device), out, errors)
+    run_check(alloc, "tank.pool", BRIEF, &mut Ok(device), out, errors)
 }
 
 // A file of 512 bytes can hold no pool.
@@ -206,7 +210,7 @@ fn a_check_of_a_small_file_has_status_1<D: SectorDevice + Drop, W: Write, E: Wri
     requires { D.size device ≡ 512 }
     ensures { result ≡ 1 }
 {
-    run_check(alloc, "tank.pool", &mut Ok(device), out, errors)
+    run_check(alloc, "tank.pool", BRIEF, &mut Ok(device), out, errors)
 }
 
 // Whatever a check finds, it leaves the disk as it was, and the device refused no write and no flush.
@@ -223,7 +227,7 @@ fn a_check_writes_nothing<D: SectorDevice, W: Write, E: Write>(
         (λ after. (D.refused after).flushes ≡ (D.refused device).flushes) }
 {
     let mut opened = Ok(device);
-    run_check(alloc, "tank.pool", &mut opened, out, errors);
+    run_check(alloc, "tank.pool", BRIEF, &mut opened, out, errors);
     opened
 }
 

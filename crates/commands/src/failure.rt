@@ -4,19 +4,29 @@ ghost use Rattle.std.specs.Prelude.{◌≡◌, ◌≢◌, ◌≤◌};
 ghost use Rattle.commands.specs.Failures.{failure_status};
 
 use base::PoolError;
+use device_model::FileRefusal;
 use scripts::{Answer, FAILED};
 use std::io::Write;
 
 /// The status of a refusal, and of a pool that is not whole.
 pub(crate) const REFUSED: u8 = 1;
 
-/// Why a command was not done.
+/// How much is reported of a file that can't be used.
 #[derive(Clone, Copy, Debug, PartialEq, Eq)]
+pub enum Verbosity {
+    /// That it can't be used, in one line.
+    Brief,
+    /// Also the cause, in a second line.
+    Verbose,
+}
+
+/// Why a command was not done.
+#[derive(Clone, Copy, Debug)]
 pub enum Failure {
     /// The engine refused it.
     Refused(PoolError),
-    /// The file can't be opened, sized or read, or another process has it.
-    Unusable,
+    /// The file can't be used, for this cause.
+    Unusable(FileRefusal),
     /// The output can't be written.
     Unwritten,
 }
@@ -33,8 +43,13 @@ impl From<PoolError> for Failure {
 }
 
 /// Reports on `errors` why a command on this file was not done, and returns the exit status. If the output can't be
-/// written, nothing is reported.
-pub fn report_failure<E: Write>(failure: Failure, file: &str, errors: &mut E) -> u8
+/// written, nothing is reported. The cause why the file can't be used is reported if it is asked for.
+pub fn report_failure<E: Write>(
+    failure: Failure,
+    file: &str,
+    verbosity: Verbosity,
+    errors: &mut E,
+) -> u8
     ensures status { result ≡ failure_status failure }
     ensures range { result ≤ 3 }
     ensures no_usage { result ≢ 2 }
@@ -44,8 +59,11 @@ pub fn report_failure<E: Write>(failure: Failure, file: &str, errors: &mut E) ->
             let _ = writeln!(errors, "ztxg: {}", Answer::refused(refusal));
             REFUSED
         }
-        Failure::Unusable => {
+        Failure::Unusable(cause) => {
             let _ = writeln!(errors, "ztxg: cannot use {file}");
+            if verbosity == Verbosity::Verbose {
+                let _ = writeln!(errors, "ztxg: cause: {cause}");
+            }
             FAILED
         }
         Failure::Unwritten => FAILED,

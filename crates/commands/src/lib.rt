@@ -14,6 +14,7 @@ mod program;
 
 pub use arguments::{Arguments, CreateArguments, LoadArguments, ScriptArguments, ScriptDevice};
 pub use checks::{Finding, check_pool, run_check};
+pub use failure::Verbosity;
 pub use load::run_load;
 pub use loads::{MAX_WORKERS, MAX_WRITES, Order};
 pub use pool_files::{run_create, run_show};

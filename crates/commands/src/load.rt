@@ -3,11 +3,11 @@
 //! Nothing is written to the output before all of it has gone well. On a terminal standard error shows how much is
 //! done.
 
-ghost use Rattle.std.specs.Prelude.{◌≡◌, ◌≢◌, ◌≤◌, Err, IfOk, IsErr, false};
+ghost use Rattle.std.specs.Prelude.{◌≡◌, ◌≢◌, ◌≤◌, Err, IfErr, IfOk, IsErr, false};
 ghost use Rattle.loads.specs.Orders.{is_order};
 
 use crate::arguments::LoadArguments;
-use crate::failure::{Failure, report_failure};
+use crate::failure::{Failure, Verbosity, report_failure};
 use base::{PoolError, Reply};
 use device_model::{FileRefusal, SectorDevice};
 use loads::{Gate, Loaded, Order, STREAMS, WRITES_BETWEEN_WAITS, load};
@@ -34,6 +34,7 @@ pub fn run_load<
 >(
     rt: &R,
     arguments: LoadArguments<'_>,
+    verbosity: Verbosity,
     opened: Result<D, FileRefusal>,
     shows_progress: bool,
     out: &mut W,
@@ -46,7 +47,7 @@ pub fn run_load<
 {
     match load_pool(rt, arguments, opened, shows_progress, out) {
         Ok(()) => 0,
-        Err(failure) => report_failure(failure, arguments.file, errors),
+        Err(failure) => report_failure(failure, arguments.file, verbosity, errors),
     }
 }
 
@@ -61,12 +62,13 @@ fn load_pool<
     shows_progress: bool,
     out: &mut W,
 ) -> Result<(), Failure>
-    ensures unusable { IsErr opened → result ≡ Err Failure.Unusable }
+    ensures unusable { IfErr opened (λ cause. result ≡ Err (Failure.Unusable cause)) }
     ensures order { IfOk opened (λ _. is_order arguments.entry.order ≡ false
         → result ≡ Err (Failure.Refused PoolError.BadRange)) }
 {
-    let Ok(device) = opened else {
-        return Err(Failure::Unusable);
+    let device = match opened {
+        Ok(device) => device,
+        Err(cause) => return Err(Failure::Unusable(cause)),
     };
     if !arguments.order.is_allowed() {
         return Err(Failure::Refused(PoolError::BadRange));

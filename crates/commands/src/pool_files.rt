@@ -11,7 +11,7 @@ ghost use Rattle.commands.specs.Checks.{StaysOpened};
 ghost use Rattle.commands.specs.Failures.{IsNewPoolRefusal, sector_bytes};
 
 use crate::arguments::CreateArguments;
-use crate::failure::{Failure, report_failure};
+use crate::failure::{Failure, Verbosity, report_failure};
 use base::{PoolError, PoolName, Reply};
 use device_model::{FileDevice, FileRefusal, HeldFile, SectorDevice};
 use import_replay::{Inspected, create, inspect};
@@ -30,6 +30,7 @@ use std::rt::Files;
 pub fn run_create<R: Files, W: Write, E: Write>(
     files: &R,
     arguments: CreateArguments<'_>,
+    verbosity: Verbosity,
     out: &mut W,
     errors: &mut E,
 ) -> u8
@@ -42,7 +43,7 @@ where
 {
     match create_pool(files, arguments, out) {
         Ok(()) => 0,
-        Err(failure) => report_failure(failure, arguments.file, errors),
+        Err(failure) => report_failure(failure, arguments.file, verbosity, errors),
     }
 }
 
@@ -62,9 +63,7 @@ where
         → result ≡ Err (Failure.Refused PoolError.BadRange) }
 {
     let pool = NewPool::new(arguments)?;
-    let Ok(device) = pool.open(files) else {
-        return Err(Failure::Unusable);
-    };
+    let device = pool.open(files).map_err(Failure::Unusable)?;
     pool.make(device)?;
     if writeln!(
         out,
@@ -127,14 +126,11 @@ impl<'a> NewPool<'a> {
         }
     }
 
-    // Makes the pool on the file's device. A file that didn't get its size can't be used.
-    fn make<D: SectorDevice + Drop>(&self, device: D) -> Result<(), Failure> {
-        if device.sectors() != self.geometry.size() / SECTOR_SIZE {
-            return Err(Failure::Unusable);
-        }
+    // Makes the pool on the file's device.
+    fn make<D: SectorDevice + Drop>(&self, device: D) -> Result<(), PoolError> {
         match create(device, self.name.as_slice(), self.guid, self.moment) {
             Ok(_device) => Ok(()),
-            Err((refusal, _device)) => Err(Failure::Refused(refusal)),
+            Err((refusal, _device)) => Err(refusal),
         }
     }
 }
@@ -147,6 +143,7 @@ impl<'a> NewPool<'a> {
 pub fn run_show<D: SectorDevice, W: Write, E: Write>(
     alloc: Global,
     file: &str,
+    verbosity: Verbosity,
     opened: &mut Result<D, FileRefusal>,
     out: &mut W,
     errors: &mut E,
@@ -158,7 +155,7 @@ pub fn run_show<D: SectorDevice, W: Write, E: Write>(
 {
     match show_pool(alloc, opened, out) {
         Ok(()) => 0,
-        Err(failure) => report_failure(failure, file, errors),
+        Err(failure) => report_failure(failure, file, verbosity, errors),
     }
 }
 
@@ -168,10 +165,11 @@ fn show_pool<D: SectorDevice, W: Write>(
     out: &mut W,
 ) -> Result<(), Failure>
     ensures only_read { StaysOpened D.SectorDevice opened.old opened.new }
-    ensures unusable { IsErr opened.old → result ≡ Err Failure.Unusable }
+    ensures unusable { IfErr opened.old (λ cause. result ≡ Err (Failure.Unusable cause)) }
 {
-    let Ok(device) = opened else {
-        return Err(Failure::Unusable);
+    let device = match opened {
+        Ok(device) => device,
+        Err(cause) => return Err(Failure::Unusable(*cause)),
     };
     let inspected = inspect(alloc, device)?;
     if write_inspected(&inspected, out).is_err() {

@@ -5,10 +5,10 @@ ghost use Rattle.std.specs.Prelude.{◌≡◌, ◌≢◌, ◌≤◌, IsErr};
 
 use crate::arguments::{Arguments, ScriptArguments, ScriptDevice};
 use crate::checks::run_check;
-use crate::failure::{Failure, report_failure};
+use crate::failure::{Failure, Verbosity, report_failure};
 use crate::load::run_load;
 use crate::pool_files::{run_create, run_show};
-use device_model::{FileDevice, HeldFile, SectorFile};
+use device_model::{FileDevice, FileRefusal, HeldFile, SectorFile};
 use scripts::{FileSession, SharedSession, run_script_on};
 use std::alloc::Global;
 use std::fs::File;
@@ -19,11 +19,11 @@ use std::sync::Wait;
 use std::thread::Threads;
 
 /// Does a command of the program, and returns the exit status. A script may wait for its pool. A load has threads, and
-/// shows its progress if `errors`, which is standard error, is a terminal.
+/// shows its progress if `errors`, which is standard error, is a terminal. Failures are reported there.
 pub fn run<
     R: Files + Input + Print + Eprint + AllocGlobal + Threads + Wait + Sync,
     E: Write + IsTerminal,
->(rt: &R, arguments: Arguments<'_>, errors: &mut E) -> u8
+>(rt: &R, arguments: Arguments<'_>, verbosity: Verbosity, errors: &mut E) -> u8
 where
     R::File: FileExt + HeldFile + Send,
     ensures { result ≤ 3 }
@@ -32,16 +32,20 @@ where
         Arguments::Load(arguments) => run_load(
             rt,
             arguments,
+            verbosity,
             FileDevice::open(rt, arguments.file),
             errors.is_terminal(),
             &mut io::writer(rt),
             errors,
         ),
-        Arguments::Script(arguments) => run_named_script(rt, arguments, errors),
-        Arguments::Create(arguments) => { run_create(rt, arguments, &mut io::writer(rt), errors) }
+        Arguments::Script(arguments) => run_named_script(rt, arguments, verbosity, errors),
+        Arguments::Create(arguments) => {
+            run_create(rt, arguments, verbosity, &mut io::writer(rt), errors)
+        }
         Arguments::Show(file) => run_show(
             rt.alloc(),
             file,
+            verbosity,
             &mut FileDevice::open_to_read(rt, file),
             &mut io::writer(rt),
             errors,
@@ -49,6 +53,7 @@ where
         Arguments::Check(file) => run_check(
             rt.alloc(),
             file,
+            verbosity,
             &mut FileDevice::open_to_read(rt, file),
             &mut io::writer(rt),
             errors,
@@ -59,6 +64,7 @@ where
 fn run_named_script<R: Files + Input + Print + AllocGlobal + Wait, E: Write>(
     rt: &R,
     arguments: ScriptArguments<'_>,
+    verbosity: Verbosity,
     errors: &mut E,
 ) -> u8
 where
@@ -68,10 +74,10 @@ where
 {
     let out = io::writer(rt);
     if arguments.script == "-" {
-        return run_opened(rt, arguments, Ok(rt.reader()), out, errors);
+        return run_opened(rt, arguments, verbosity, Ok(rt.reader()), out, errors);
     }
     let opened = File::open(rt, arguments.script);
-    run_opened(rt, arguments, opened, out, errors)
+    run_opened(rt, arguments, verbosity, opened, out, errors)
 }
 
 /// Runs a script that was opened, and returns the exit status. On a device in memory its pool is under a lock.
@@ -81,6 +87,7 @@ where
 pub fn run_opened<H: Files + Wait + AllocGlobal, R: Read + Drop, W: Write + Drop, E: Write>(
     rt: &H,
     arguments: ScriptArguments<'_>,
+    verbosity: Verbosity,
     opened: io::Result<R>,
     out: W,
     errors: &mut E,
@@ -91,20 +98,22 @@ where
     ensures range { result ≤ 3 }
     ensures no_refusal { result ≢ 1 }
 {
-    let Ok(script) = opened else {
-        return report_failure(Failure::Unusable, arguments.script, errors);
+    let script = match opened {
+        Ok(script) => script,
+        Err(error) => {
+            let failure = Failure::Unusable(FileRefusal::System(error));
+            return report_failure(failure, arguments.script, verbosity, errors);
+        }
     };
     match arguments.device {
         ScriptDevice::Memory(size) => {
             let mut session = SharedSession::new(rt, rt.alloc(), size, arguments.moment);
             run_script_on(rt.alloc(), &mut session, script, out)
         }
-        ScriptDevice::File(path) => {
-            let Ok(device) = FileDevice::open(rt, path) else {
-                return report_failure(Failure::Unusable, path, errors);
-            };
-            run_on_file(rt.alloc(), device, arguments.moment, script, out)
-        }
+        ScriptDevice::File(path) => match FileDevice::open(rt, path) {
+            Ok(device) => run_on_file(rt.alloc(), device, arguments.moment, script, out),
+            Err(cause) => report_failure(Failure::Unusable(cause), path, verbosity, errors),
+        },
     }
 }
 

@@ -4,8 +4,9 @@
 use crate::devices::place_of;
 use base::{PoolError, RefusedCalls};
 use device_model::{FileDevice, FileRefusal, SectorDevice};
+use std::alloc::Allocator;
 use std::cell::Cell;
-use std::fs::{self, File, Metadata, OpenFile};
+use std::fs::{self, File, Metadata, OpenFile, OpenOptions};
 use std::io::{self, Seek, SeekFrom};
 use std::os::unix::fs::FileExt;
 use std::rt::Files;
@@ -343,5 +344,91 @@ fn only_a_regular_file_is_opened(rt: HostRuntime) -> Result<(), Fail> {
     let missing = FileDevice::open(&rt, "nowhere");
     assert!(rt; matches!(missing, Err(FileRefusal::System(_))));
     assert_eq!(rt; refusal_of(&rt, ".")?, Some(PoolError::Read));
+    Ok(())
+}
+
+// The files of the host, except for one folder, which can't be opened.
+#[derive(Drop)]
+struct Closed<'a> {
+    host: &'a HostRuntime,
+    folder: &'a str,
+}
+
+// What no device asks for.
+fn unasked<T>() -> io::Result<T> {
+    Err(io::Error::from(io::ErrorKind::Unsupported))
+}
+
+impl Files for Closed<'_> {
+    type File = File;
+
+    type Dir = File;
+
+    fn open_file(&self, how: &OpenOptions, path: &str) -> io::Result<File> {
+        if path == self.folder {
+            return Err(io::Error::from(io::ErrorKind::PermissionDenied));
+        }
+        self.host.open_file(how, path)
+    }
+
+    fn metadata(&self, path: &str) -> io::Result<Metadata> {
+        self.host.metadata(path)
+    }
+
+    fn open_dir(&self, _path: &str) -> io::Result<File> {
+        unasked()
+    }
+
+    fn symlink_metadata(&self, _path: &str) -> io::Result<Metadata> {
+        unasked()
+    }
+
+    fn copy(&self, _from: &str, _to: &str) -> io::Result<u64> {
+        unasked()
+    }
+
+    fn rename(&self, _from: &str, _to: &str) -> io::Result<()> {
+        unasked()
+    }
+
+    fn remove_file(&self, _path: &str) -> io::Result<()> {
+        unasked()
+    }
+
+    fn create_dir(&self, _path: &str) -> io::Result<()> {
+        unasked()
+    }
+
+    fn remove_dir(&self, _path: &str) -> io::Result<()> {
+        unasked()
+    }
+
+    fn remove_dir_all<B: Allocator>(&self, _alloc: B, _path: &str) -> io::Result<()> {
+        unasked()
+    }
+}
+
+// Whether a device on a file is refused for its folder, with the length that the file has then.
+fn make_below(rt: &HostRuntime, path: &str, folder: &str) -> Result<(bool, u64), Fail> {
+    let files = Closed { host: rt, folder };
+    let is_refused = matches!(
+        FileDevice::create(&files, path, 2048),
+        Err(FileRefusal::Folder(_))
+    );
+    let length = fs::metadata(rt, path)?.len();
+    fs::remove_file(rt, path)?;
+    Ok((is_refused, length))
+}
+
+#[test]
+fn a_file_whose_folder_is_not_synced_is_refused(rt: HostRuntime) -> Result<(), Fail> {
+    fs::create_dir(&rt, "inner")?;
+    let made = [
+        make_below(&rt, "below", ".")?,
+        make_below(&rt, "inner/below", "inner")?,
+        make_below(&rt, "inner/below", ".")?,
+    ];
+    fs::remove_dir(&rt, "inner")?;
+    assert_eq!(rt; made, [(true, 0), (true, 0), (false, 2048)]);
     Ok(())
 }

@@ -193,23 +193,26 @@ fn wait_again<W: Wait>(rt: &W, handle: &mut Handle<'_, MemDevice>, receipt: Rece
     }
 }
 
-// Each call that waits lets the next one return. After a flush that fails, all that isn't durable yet is refused at
-// once.
+// Each call that waits lets the next one return, and makes one flush: the second one from now fails. After that all
+// that isn't durable yet is refused at once.
 fn wait_and_fail<W: Wait>(
     rt: &W,
     alloc: Global,
     handle: &mut Handle<'_, MemDevice>,
-) -> Result<[Waited; 7], PoolError> {
+) -> Result<[Waited; 8], PoolError> {
     let create = Ops::new(vec![in alloc; Op::Create(OBJECT)]?);
     let created = handle.transact_durably(rt, OWNER, create);
     let written = handle.transact_durably(rt, OWNER, write(alloc, 0, b"1")?);
     let again = wait_again(rt, handle, receipt(1));
-    handle.fail(rt, Fault::Flush, 1);
-    let failed = handle.transact_durably(rt, OWNER, write(alloc, 0, b"2")?);
-    let refused = wait_again(rt, handle, receipt(2));
-    let durable = wait_again(rt, handle, receipt(1));
-    let late = handle.transact_durably(rt, OWNER, write(alloc, 0, b"3")?);
-    Ok([created, written, again, failed, refused, durable, late])
+    handle.fail(rt, Fault::Flush, 2);
+    let alone = handle.transact_durably(rt, OWNER, write(alloc, 0, b"2")?);
+    let failed = handle.transact_durably(rt, OWNER, write(alloc, 0, b"3")?);
+    let refused = wait_again(rt, handle, receipt(3));
+    let durable = wait_again(rt, handle, receipt(2));
+    let late = handle.transact_durably(rt, OWNER, write(alloc, 0, b"4")?);
+    Ok([
+        created, written, again, alone, failed, refused, durable, late,
+    ])
 }
 
 #[test]
@@ -220,9 +223,10 @@ fn a_handle_waits_again_and_a_failed_flush_ends_that(rt: HostRuntime) -> Result<
         Ok(receipt(0)),
         Ok(receipt(1)),
         Ok(receipt(1)),
-        Err((PoolError::Flush, Some(receipt(2)))),
-        Err((PoolError::Suspended, Some(receipt(2)))),
-        Ok(receipt(1)),
+        Ok(receipt(2)),
+        Err((PoolError::Flush, Some(receipt(3)))),
+        Err((PoolError::Suspended, Some(receipt(3)))),
+        Ok(receipt(2)),
         Err((PoolError::Suspended, None)),
     ];
     assert_eq!(rt; waited, Ok(expected));

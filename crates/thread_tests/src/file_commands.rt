@@ -1,8 +1,8 @@
 //! What is printed where a script can't be opened, and the commands on a pool in a file, on a file of their own.
 
 use commands::{
-    CreateArguments, LoadArguments, Order, ScriptArguments, ScriptDevice, run_check, run_create,
-    run_load, run_opened, run_show,
+    CreateArguments, LoadArguments, Order, ScriptArguments, ScriptDevice, Verbosity, run_check,
+    run_create, run_load, run_opened, run_show,
 };
 use device_model::{FileDevice, FileRefusal, HeldFile};
 use std::fs::{self, File};
@@ -36,6 +36,8 @@ enum Holder {
 #[derive(Clone, Copy)]
 enum Row<'a> {
     Prints(Command<'a>, Outcome<'a>),
+    // the same, with the cause of a file that can't be used
+    Explains(Command<'a>, Outcome<'a>),
     // the same on a file that a device may have: it is left as it was
     Leaves(&'a str, Holder, Command<'a>, Outcome<'a>),
     // a new file of so many zeros
@@ -48,16 +50,22 @@ enum Row<'a> {
 }
 
 // Does a command, and returns its status.
-fn run(rt: &HostRuntime, command: Command<'_>, out: &mut Vec<u8>, errors: &mut Vec<u8>) -> u8 {
+fn run(
+    rt: &HostRuntime,
+    command: Command<'_>,
+    verbosity: Verbosity,
+    out: &mut Vec<u8>,
+    errors: &mut Vec<u8>,
+) -> u8 {
     match command {
-        Command::Create(given) => run_create(rt, given, out, errors),
+        Command::Create(given) => run_create(rt, given, verbosity, out, errors),
         Command::Show(file) => {
             let mut opened = FileDevice::open_to_read(rt, file);
-            run_show(rt.alloc(), file, &mut opened, out, errors)
+            run_show(rt.alloc(), file, verbosity, &mut opened, out, errors)
         }
         Command::Check(file) => {
             let mut opened = FileDevice::open_to_read(rt, file);
-            run_check(rt.alloc(), file, &mut opened, out, errors)
+            run_check(rt.alloc(), file, verbosity, &mut opened, out, errors)
         }
     }
 }
@@ -69,11 +77,20 @@ fn is_outcome(status: u8, out: &[u8], errors: &[u8], outcome: Outcome<'_>) -> bo
 }
 
 // Whether a command has its answer.
-fn prints(rt: &HostRuntime, command: Command<'_>, outcome: Outcome<'_>) -> bool {
+fn tells(
+    rt: &HostRuntime,
+    command: Command<'_>,
+    verbosity: Verbosity,
+    outcome: Outcome<'_>,
+) -> bool {
     let mut out = Vec::new(rt.alloc());
     let mut errors = Vec::new(rt.alloc());
-    let status = run(rt, command, &mut out, &mut errors);
+    let status = run(rt, command, verbosity, &mut out, &mut errors);
     is_outcome(status, &out, &errors, outcome)
+}
+
+fn prints(rt: &HostRuntime, command: Command<'_>, outcome: Outcome<'_>) -> bool {
+    tells(rt, command, Verbosity::Brief, outcome)
 }
 
 // Whether it has, while a device has its file.
@@ -139,6 +156,7 @@ fn length(rt: &HostRuntime, file: &str) -> io::Result<u64> {
 fn holds(rt: &HostRuntime, row: Row<'_>) -> bool {
     match row {
         Row::Prints(command, outcome) => prints(rt, command, outcome),
+        Row::Explains(command, outcome) => tells(rt, command, Verbosity::Verbose, outcome),
         Row::Leaves(file, holder, command, outcome) => {
             matches!(leaves(rt, file, holder, command, outcome), Ok(true))
         }
@@ -191,7 +209,7 @@ where
 {
     let mut out = Vec::new(rt.alloc());
     let mut errors = Vec::new(rt.alloc());
-    let status = run_opened(rt, given, opened, &mut out, &mut errors);
+    let status = run_opened(rt, given, Verbosity::Brief, opened, &mut out, &mut errors);
     is_outcome(status, &out, &errors, outcome)
 }
 
@@ -320,6 +338,26 @@ fn tells_of_a_file_that_holds_no_pool(rt: HostRuntime) {
     assert_eq!(rt; count_held(&rt, &rows), 3);
 }
 
+// The texts of the system are those of `strerror`.
+#[test]
+fn explains_why_a_file_cannot_be_used(rt: HostRuntime) {
+    let missing = "ztxg: cannot use no/file\n\
+        ztxg: cause: No such file or directory (os error 2)\n";
+    let rows = [
+        Row::Explains(Command::Create(tank("no/file")), (3, "", missing)),
+        Row::Explains(Command::Show("no/file"), (3, "", missing)),
+        Row::Explains(
+            Command::Check("."),
+            (
+                3,
+                "",
+                "ztxg: cannot use .\nztxg: cause: not a regular file\n",
+            ),
+        ),
+    ];
+    assert_eq!(rt; count_held(&rt, &rows), 3);
+}
+
 #[test]
 fn tells_of_a_file_that_shows_no_pool(rt: HostRuntime) {
     let file = "zeros.pool";
@@ -345,7 +383,7 @@ fn tells_of_a_file_that_shows_no_pool(rt: HostRuntime) {
     assert_eq!(rt; count_held(&rt, &rows), 10);
 }
 
-// Whether a load has this answer.
+// Whether a load of a new pool has this answer.
 fn loads<R: Files + Threads + Wait + Sync + Eprint + AllocGlobal>(
     rt: &R,
     given: LoadArguments<'_>,
@@ -354,40 +392,67 @@ fn loads<R: Files + Threads + Wait + Sync + Eprint + AllocGlobal>(
 where
     R::File: FileExt + HeldFile + Send,
 {
+    let mut created = Vec::new(rt.alloc());
     let mut out = Vec::new(rt.alloc());
     let mut errors = Vec::new(rt.alloc());
+    let brief = Verbosity::Brief;
+    run_create(rt, tank(given.file), brief, &mut created, &mut errors);
     let opened = FileDevice::open(rt, given.file);
-    let status = run_load(rt, given, opened, false, &mut out, &mut errors);
+    let status = run_load(rt, given, brief, opened, false, &mut out, &mut errors);
     is_outcome(status, &out, &errors, outcome)
 }
 
-// The digest is that of a reading of the rules in another language.
+/// A load of a new pool: the limit of dirty bytes, the writes of a stream, and the answer.
+type LoadRow<'a> = (u64, u32, Outcome<'a>);
+
+// How many loads of new pools have their answers before the first that has not.
+fn count_loaded<R: Files + Threads + Wait + Sync + Eprint + AllocGlobal>(
+    rt: &R,
+    file: &str,
+    rows: &[LoadRow<'_>],
+) -> usize
+where
+    R::File: FileExt + HeldFile + Send,
+{
+    for index in 0..rows.len() {
+        let (dirty_max, writes, outcome) = rows[index];
+        let given = LoadArguments {
+            file,
+            order: Order {
+                workers: 2,
+                writes,
+                seed: 5,
+            },
+            dirty_max,
+            moment: 0,
+        };
+        if !loads(rt, given, outcome) {
+            return index;
+        }
+    }
+    rows.len()
+}
+
+// The digests are those of a reading of the rules in another language. A create is charged 8,192 bytes, and these
+// writes 16,384 bytes each, so the limits tell which one the pool has.
 #[test]
-fn a_pool_in_a_file_is_loaded(rt: HostRuntime) {
-    let file = "load.pool";
-    let given = LoadArguments {
-        file,
-        order: Order {
-            workers: 2,
-            writes: 0,
-            seed: 5,
-        },
-        dirty_max: 1_048_576,
-        moment: 0,
-    };
-    let loaded = "committed 17\n\
+fn a_pool_in_a_file_is_loaded(rt: HostRuntime) -> Result<(), Fail> {
+    let none = "committed 17\n\
         digest 02c3029d90bacf3137525a1b5e08d7b247d7b92ad01b9220a73b9855b15d17ed\n";
-    let throttled = LoadArguments {
-        dirty_max: 4_096,
-        ..given
-    };
-    let held = [
-        holds(&rt, makes(file)),
-        loads(&rt, given, (0, loaded, "")),
-        loads(&rt, throttled, (1, "", "ztxg: refused 17 Throttled\n")),
-        holds(&rt, Row::Remove(file)),
+    let eight = "committed 145\n\
+        digest eebf0820059fa8f489076aa7a78fb04b1adf7f3fba7c5ab0796cdbb4313ba729\n";
+    let throttled = (1, "", "ztxg: refused 17 Throttled\n");
+    let rows = [
+        (1_048_576, 0, (0, none, "")),
+        (8_191, 0, throttled),
+        (8_192, 0, (0, none, "")),
+        (16_383, 8, throttled),
+        (16_384, 8, (0, eight, "")),
     ];
-    assert_eq!(rt; held, [true; 4]);
+    let count = count_loaded(&rt, "load.pool", &rows);
+    fs::remove_file(&rt, "load.pool")?;
+    assert_eq!(rt; count, 5);
+    Ok(())
 }
 
 // Makes object 1 of the bytes `abcd`. They lie at the front of the payload of the block at 4,198,400.

@@ -3,7 +3,9 @@
 
 use crate::load_fixture::{new_device, order};
 use base::PoolError;
-use commands::{CreateArguments, LoadArguments, Order, run_check, run_create, run_load, run_show};
+use commands::{
+    CreateArguments, LoadArguments, Order, Verbosity, run_check, run_create, run_load, run_show,
+};
 use device_model::{FileDevice, HeldFile};
 use std::fs;
 use std::io::{self, Eprint, ErrorKind, Write};
@@ -12,6 +14,8 @@ use std::rt::Files;
 use std::sync::Wait;
 use std::test::Fail;
 use std::thread::Threads;
+
+const BRIEF: Verbosity = Verbosity::Brief;
 
 /// What the command is given for a load of 17 writes a stream, from a seed that 32 bits don't hold.
 fn arguments<'a>() -> LoadArguments<'a> {
@@ -50,7 +54,7 @@ where
     let mut out = Vec::new(rt.alloc());
     let mut errors = Vec::new(rt.alloc());
     let device = Ok(new_device(rt.alloc())?);
-    let status = run_load(rt, arguments(), device, false, &mut out, &mut errors);
+    let status = run_load(rt, arguments(), BRIEF, device, false, &mut out, &mut errors);
     Ok((status, out.as_slice() == printed && errors.is_empty()))
 }
 
@@ -84,7 +88,15 @@ where
 {
     let mut errors = Vec::new(rt.alloc());
     let device = Ok(new_device(rt.alloc())?);
-    let status = run_load(rt, arguments(), device, false, &mut Full, &mut errors);
+    let status = run_load(
+        rt,
+        arguments(),
+        BRIEF,
+        device,
+        false,
+        &mut Full,
+        &mut errors,
+    );
     Ok((status, !errors.is_empty()))
 }
 
@@ -102,9 +114,23 @@ where
 {
     let mut errors = Vec::new(rt.alloc());
     let mut device = Ok(new_device(rt.alloc())?);
-    let checked = run_check(rt.alloc(), "tank.pool", &mut device, &mut Full, &mut errors);
-    let shown = run_show(rt.alloc(), "tank.pool", &mut device, &mut Full, &mut errors);
-    let created = run_create(rt, tank("full.pool"), &mut Full, &mut errors);
+    let checked = run_check(
+        rt.alloc(),
+        "tank.pool",
+        BRIEF,
+        &mut device,
+        &mut Full,
+        &mut errors,
+    );
+    let shown = run_show(
+        rt.alloc(),
+        "tank.pool",
+        BRIEF,
+        &mut device,
+        &mut Full,
+        &mut errors,
+    );
+    let created = run_create(rt, tank("full.pool"), BRIEF, &mut Full, &mut errors);
     Ok(([checked, shown, created], !errors.is_empty()))
 }
 
@@ -126,7 +152,7 @@ where
 {
     let mut out = Vec::new(rt.alloc());
     let mut errors = Vec::new(rt.alloc());
-    let created = run_create(rt, tank(file), &mut out, &mut errors);
+    let created = run_create(rt, tank(file), BRIEF, &mut out, &mut errors);
     let given = LoadArguments {
         file,
         order: order(2, 0),
@@ -134,7 +160,7 @@ where
         moment,
     };
     let opened = FileDevice::open(rt, file);
-    let loaded = run_load(rt, given, opened, false, &mut out, &mut errors);
+    let loaded = run_load(rt, given, BRIEF, opened, false, &mut out, &mut errors);
     [created, loaded]
 }
 

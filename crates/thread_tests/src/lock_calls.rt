@@ -1,12 +1,12 @@
-//! A lock that waits for another handle.
+//! Calls that wait for another handle: a lock for its unlock, and a begin at the dirty limit for its sync.
 
-use crate::fixture::{SMALL, new_pool};
-use base::{LockId, Mode, ObjectId, Owner, PoolError, Range, Reply, Step};
+use crate::fixture::{SMALL, Size, new_pool};
+use base::{LockId, Mode, ObjectId, Op, Ops, Owner, Plan, PoolError, Range, Reply, Step};
 use device_model::MemDevice;
 use pool_threads::{Handle, Pool};
+use std::alloc::Global;
 use std::sync::Wait;
 use std::sync::atomic::{AtomicBool, Ordering};
-use std::test::Fail;
 use std::thread::{Threads, join, sleep};
 use std::time::{Clock, Duration};
 
@@ -16,29 +16,83 @@ const ASKER: Owner = Owner(2);
 
 const OBJECT: ObjectId = ObjectId(1);
 
+const OTHER: ObjectId = ObjectId(2);
+
 const FRONT: Range = Range { low: 0, high: 4 };
 
-/// What two threads tell each other: one asks for a lock, and the other is about to let it go.
+/// The limit is the charge of one create.
+const ONE_CREATE: Size = Size {
+    sectors: 16_384,
+    dirty_max: 8_192,
+};
+
+/// What one waits for that another has.
+#[derive(Clone, Copy)]
+enum Awaited {
+    // a lock, until its unlock
+    Lock,
+    // all that may be dirty, until a sync
+    Room,
+}
+
+/// What two threads tell each other: one asks, and the other is about to let go.
 #[derive(Drop)]
 struct Signs {
     asked: AtomicBool,
     freed: AtomicBool,
 }
 
-/// What one sees who asks for a lock that another holds: the reply to a step that does not wait, the lock that it gets
-/// at last, and whether the other was about to let it go by then.
+/// What one sees who asks for what another has: the reply to a step that does not wait, the name of the lock or the
+/// transaction that it gets at last, and whether the other was about to let go by then.
 #[derive(Debug, PartialEq, Drop)]
 struct Asked {
     at_once: Reply,
-    lock: LockId,
+    name: u64,
     freed: bool,
 }
 
-// Keeps a lock until another asks for it, and for a while more.
-fn unlock_late<R: Wait + Clock>(
+fn create(alloc: Global, object: ObjectId) -> Result<Ops, PoolError> {
+    Ok(Ops::new(vec![in alloc; Op::Create(object)]?))
+}
+
+// Takes what another will ask for.
+fn take<W: Wait>(
+    rt: &W,
+    alloc: Global,
+    handle: &mut Handle<'_, MemDevice>,
+    awaited: Awaited,
+) -> Result<(), PoolError> {
+    match awaited {
+        Awaited::Lock => {
+            handle.lock(rt, HOLDER, OBJECT, FRONT, Mode::Writer)?;
+        }
+        Awaited::Room => {
+            handle.transact(rt, HOLDER, create(alloc, OBJECT)?)?;
+        }
+    }
+    Ok(())
+}
+
+// Lets it go. Locks are named in the order in which they are granted, from 0 on.
+fn let_go<W: Wait>(
+    rt: &W,
+    handle: &mut Handle<'_, MemDevice>,
+    awaited: Awaited,
+) -> Result<(), PoolError> {
+    match awaited {
+        Awaited::Lock => handle.unlock(rt, HOLDER, LockId(0)),
+        Awaited::Room => {
+            handle.sync_pool(rt)?;
+            Ok(())
+        }
+    }
+}
+
+// Keeps it until another asks for it, and for a while more.
+fn let_go_late<R: Wait + Clock>(
     rt: &R,
     mut handle: Handle<'_, MemDevice>,
-    lock: LockId,
+    awaited: Awaited,
     signs: &Signs,
 ) -> Result<(), PoolError> {
     for _ in 0..10_000 {
@@ -49,32 +103,69 @@ fn unlock_late<R: Wait + Clock>(
     }
     sleep(rt, Duration::from_millis(20));
     signs.freed.store(true, Ordering::SeqCst);
-    handle.unlock(rt, HOLDER, lock)
+    let_go(rt, &mut handle, awaited)
 }
 
-// Asks for a lock that another holds.
+// The reply to a step that asks for it. A transaction's range has to be locked before.
+fn ask_at_once<W: Wait>(
+    rt: &W,
+    alloc: Global,
+    handle: &mut Handle<'_, MemDevice>,
+    awaited: Awaited,
+) -> Result<Reply, PoolError> {
+    match awaited {
+        Awaited::Lock => Ok(handle.step(rt, Step::Lock(ASKER, OBJECT, FRONT, Mode::Writer))),
+        Awaited::Room => {
+            handle.lock(rt, ASKER, OTHER, Range::WHOLE, Mode::Writer)?;
+            let plan = Plan::of(alloc, &create(alloc, OTHER)?)?;
+            Ok(handle.step(rt, Step::Begin(ASKER, plan)))
+        }
+    }
+}
+
+// Waits for it, and returns the name of what it gets.
+fn wait_for<W: Wait>(
+    rt: &W,
+    alloc: Global,
+    handle: &mut Handle<'_, MemDevice>,
+    awaited: Awaited,
+) -> Result<u64, PoolError> {
+    match awaited {
+        Awaited::Lock => Ok(handle.lock(rt, ASKER, OBJECT, FRONT, Mode::Writer)?.0),
+        Awaited::Room => {
+            let plan = Plan::of(alloc, &create(alloc, OTHER)?)?;
+            let (tx, _) = handle.begin(rt, ASKER, plan)?;
+            Ok(tx.0)
+        }
+    }
+}
+
+// Asks for what another has.
 fn ask<W: Wait>(
     rt: &W,
+    alloc: Global,
     mut handle: Handle<'_, MemDevice>,
+    awaited: Awaited,
     signs: &Signs,
 ) -> Result<Asked, PoolError> {
-    let at_once = handle.step(rt, Step::Lock(ASKER, OBJECT, FRONT, Mode::Writer));
+    let at_once = ask_at_once(rt, alloc, &mut handle, awaited)?;
     signs.asked.store(true, Ordering::SeqCst);
-    let lock = handle.lock(rt, ASKER, OBJECT, FRONT, Mode::Writer)?;
+    let name = wait_for(rt, alloc, &mut handle, awaited)?;
     let freed = signs.freed.load(Ordering::SeqCst);
     Ok(Asked {
         at_once,
-        lock,
+        name,
         freed,
     })
 }
 
 // What both answer, each with a handle of its own.
-fn ask_and_unlock<R: Threads + Wait + Clock + Sync>(
+fn ask_and_let_go<R: Threads + Wait + Clock + Sync>(
     rt: &R,
+    alloc: Global,
+    pool: &Pool<MemDevice>,
     holder: Handle<'_, MemDevice>,
-    asker: Handle<'_, MemDevice>,
-    lock: LockId,
+    awaited: Awaited,
 ) -> (Result<(), PoolError>, Result<Asked, PoolError>) {
     let signs = Signs {
         asked: AtomicBool::new(false),
@@ -83,30 +174,39 @@ fn ask_and_unlock<R: Threads + Wait + Clock + Sync>(
     let signs = &signs;
     join(
         rt,
-        move || unlock_late(rt, holder, lock, signs),
-        move || ask(rt, asker, signs),
+        move || let_go_late(rt, holder, awaited, signs),
+        move || ask(rt, alloc, pool.handle(), awaited, signs),
     )
 }
 
-// They, on a pool of which a lock is held.
-fn hold_and_ask<R: Threads + Wait + Clock + Sync>(
+// They, on a new pool.
+fn take_and_ask<R: Threads + Wait + Clock + Sync>(
     rt: &R,
-    pool: &Pool<MemDevice>,
+    alloc: Global,
+    awaited: Awaited,
+    size: Size,
 ) -> Result<(Result<(), PoolError>, Result<Asked, PoolError>), PoolError> {
+    let pool = new_pool(alloc, size)?;
     let mut holder = pool.handle();
-    let lock = holder.lock(rt, HOLDER, OBJECT, FRONT, Mode::Writer)?;
-    Ok(ask_and_unlock(rt, holder, pool.handle(), lock))
+    take(rt, alloc, &mut holder, awaited)?;
+    Ok(ask_and_let_go(rt, alloc, &pool, holder, awaited))
 }
 
+// Both names are the second ones.
 #[test]
-fn a_lock_waits_for_an_unlock(rt: HostRuntime) -> Result<(), Fail> {
-    let pool = new_pool(rt.alloc(), SMALL)?;
-    // locks are named in the order in which they are granted, from 0 on
-    let asked = Asked {
-        at_once: Reply::Refused(PoolError::Busy),
-        lock: LockId(1),
-        freed: true,
-    };
-    assert_eq!(rt; hold_and_ask(&rt, &pool), Ok((Ok(()), Ok(asked))));
-    Ok(())
+fn a_lock_waits_for_an_unlock_and_a_begin_for_a_sync(rt: HostRuntime) {
+    let found = [
+        take_and_ask(&rt, rt.alloc(), Awaited::Lock, SMALL),
+        take_and_ask(&rt, rt.alloc(), Awaited::Room, ONE_CREATE),
+    ];
+    let wanted = [PoolError::Busy, PoolError::Throttled].map(|refusal| {
+        let at_once = Reply::Refused(refusal);
+        let asked = Asked {
+            at_once,
+            name: 1,
+            freed: true,
+        };
+        Ok((Ok(()), Ok(asked)))
+    });
+    assert_eq!(rt; found, wanted);
 }

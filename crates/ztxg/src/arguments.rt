@@ -4,7 +4,7 @@ use crate::help;
 use clap::{Arg, ArgAction, ArgMatches, Command, Error, value_parser};
 use commands::{
     Arguments, CreateArguments, LoadArguments, MAX_WORKERS, MAX_WRITES, Order, ScriptArguments,
-    ScriptDevice,
+    ScriptDevice, Verbosity,
 };
 use std::alloc::{AllocError, Global};
 
@@ -132,12 +132,23 @@ fn check_command<'a>(alloc: Global) -> Result<Command<'a>, AllocError> {
         ))
 }
 
+// A flag of each command, which may stand before its name or after it.
+fn verbose<'a>(alloc: Global) -> Arg<'a> {
+    Arg::new(alloc, "verbose")
+        .short('v')
+        .long("verbose")
+        .help("If a file can't be used, reports the cause as well")
+        .action(ArgAction::SetTrue)
+        .global(true)
+}
+
 fn command<'a>(alloc: Global) -> Result<Command<'a>, AllocError> {
     Command::new(alloc, "ztxg")
         .about("The write engine of a copy-on-write storage pool, in memory or in a file")
         .version(help::VERSION)
         .after_help(help::PROGRAM)
         .subcommand_required(true)
+        .arg(verbose(alloc))?
         .subcommand(create_command(alloc)?)?
         .subcommand(show_command(alloc)?)?
         .subcommand(check_command(alloc)?)?
@@ -163,6 +174,15 @@ pub fn read_arguments<'a>(matches: &ArgMatches<'a>) -> Option<Arguments<'a>> {
         "check" => Some(Arguments::Check(given.get_str("FILE")?)),
         "load" => Some(Arguments::Load(read_load(given)?)),
         _ => None,
+    }
+}
+
+/// How much the command reports of a file that it can't use.
+pub fn read_verbosity(matches: &ArgMatches<'_>) -> Verbosity {
+    if matches.get_flag("verbose") {
+        Verbosity::Verbose
+    } else {
+        Verbosity::Brief
     }
 }
 

@@ -13,7 +13,8 @@ Exit status:
   1  the engine refused it: 'ztxg: refused N NAME' on standard error;
      or a check found no pool that is whole
   2  a fault of the command line, or a line of a script that is no command
-  3  a file that can't be used: 'ztxg: cannot use FILE' on standard error;
+  3  a file that can't be used: 'ztxg: cannot use FILE' on standard error,
+     with -v also 'ztxg: cause: ' and the cause in a second line;
      or a script that can't be read, or output that can't be written
 
 docs/FORMATS.md lists every refusal with its meaning, and the bytes of a pool.";
@@ -23,7 +24,8 @@ pub const CREATE: &str = "\
 Example: ztxg create tank.pool tank 77 8388608
 
 Prints 'created NAME B blocks'. FILE has to be a regular file that no other
-process has open as a pool; else it can't be used, and is left as it was.
+process has open as a pool; else it can't be used, and is left as it was. Nor
+can it if its folder can't be synced, so that a power failure may lose its name.
 
 Refusals, with status 1:
    3 Write        the device refused a write

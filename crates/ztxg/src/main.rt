@@ -6,7 +6,7 @@
 mod arguments;
 mod help;
 
-use arguments::{parse_arguments, read_arguments};
+use arguments::{parse_arguments, read_arguments, read_verbosity};
 use commands::run;
 use std::io;
 use std::process::ExitCode;
@@ -25,7 +25,10 @@ fn main(rt: HostRuntime) -> ExitCode {
     };
     match parse_arguments(rt.alloc(), words.as_slice()) {
         Ok(matches) => match read_arguments(&matches) {
-            Some(arguments) => ExitCode::from(run(&rt, arguments, &mut rt.stderr())),
+            Some(arguments) => {
+                let verbosity = read_verbosity(&matches);
+                ExitCode::from(run(&rt, arguments, verbosity, &mut rt.stderr()))
+            }
             None => ExitCode::from(BAD_ARGUMENTS),
         },
         Err(error) => {
