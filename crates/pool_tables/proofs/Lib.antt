@@ -30,3 +30,4 @@ pub mod Callers
 pub mod syncs
 pub mod Receipts
 pub mod DueSteps
+pub mod HeldReads
