@@ -1,4 +1,5 @@
 pub mod RepliedSteps
+pub mod CachedCalls
 pub mod HeldSteps
 pub mod Turns
 pub mod MadeRuns

@@ -18,26 +18,28 @@ use Rattle.base.specs.disk.Calls.{counted}
 use Rattle.base.specs.disk.Disk.{bytes_of}
 use Rattle.base.specs.history.Past.{Past}
 use Rattle.base.specs.steps.ExactNow.{IsExplainedNow}
-use Rattle.base.specs.steps.Runs.{Replies, is_log_step, is_start, progress_reply, reply_of}
-use Rattle.base.specs.steps.Shown.{is_durable, status_of}
-use Rattle.base.specs.steps.BuiltSteps as as_built
+use Rattle.base.specs.steps.Runs.{Replies, Step, asks_device, is_log_step, progress_reply, reply_of}
+use Rattle.base.specs.steps.Shown.{Shown, is_durable, status_of}
 use Rattle.base.specs.steps.Steps as steps
 use Rattle.base.specs.steps.Steps.{Answers, State}
-use Rattle.base.specs.stored.Stored.{is_turn}
+use Rattle.base.specs.stored.Stored.{IsHeld, is_turn}
 use Rattle.device_model.specs.declared.device.SectorDevice.{Ghosts}
 use Rattle.sync.specs.Calls.{plain_answer}
+use Rattle.pool_tables.specs.declared.pool.PoolTables.{PoolTables}
 use Rattle.pool_tables.specs.declared.pool.RunningSync.{RunningSync}
 use Rattle.pool_core.specs.declared.state.PoolState.{PoolState}
 use Rattle.pool_tables.specs.declared.pool.Progress.{Progress}
 use Rattle.pool_tables.specs.declared.pool.Progress.TheVariants.{More, Synced}
 use Rattle.pool_core.specs.Calls.{CallsDevice, CallsNext, answer_in, reply_in}
-use Rattle.pool_tables.specs.Told.{Leads, start_reply, sync_step_reply}
-use Rattle.pool_tables.specs.SyncPhases.{StepsPhases}
+use Rattle.pool_tables.specs.Shows.{pool_shown}
+use Rattle.pool_tables.specs.Told.{Leads, held_with, start_reply, state_with, sync_step_reply}
+use Rattle.pool_tables.specs.SyncPhases.{StepsPhases, run_in}
 use Rattle.pool_core.specs.KeptSafe.{disk_of, run_of}
 use Rattle.pool_tables.specs.KeptTrees.{KeepsTree}
 use Rattle.pool_tables.specs.Meets.{Meets}
 use Rattle.pool_tables.specs.Progresses.{plain_progress}
-use Rattle.pool_core.specs.States.{CountsRefused, MakesNoCall, MovesNothing, device_of, refused_calls, shown, told, told_over}
+use Rattle.pool_core.specs.Holds.{StepsOver}
+use Rattle.pool_core.specs.States.{CountsRefused, MakesNoCall, MovesNothing, OnlyReadsOf, device_of, refused_calls, shown, tables_of, told, told_over}
 use Rattle.pool_tables.specs.StepAnswers.{Commits, StartsSync, StepsSync, group_number, receipt_numbers}
 use Rattle.pool_core.specs.StepReplies.{IsStep, StepReplies, is_on_tables, rests_on_past}
 use Rattle.pool_tables.specs.SyncStarts.{StartLeads, StartsHeldOver}
@@ -46,7 +48,7 @@ use Rattle.pool_core.specs.Turns.{MakesStep, Turns}
 use Rattle.pool_core.proofs.RepliedSteps.{result_map-same, reply_in-made, replied_with}
 use Rattle.pool_core.proofs.crash.SafeStates.{start_keeps, still_keeps, sync_keeps}
 use Rattle.pool_core.proofs.StepsOver.{start_over}
-use Rattle.pool_core.proofs.StillSteps.{is_still, answer_in-still, no_call_counts, start_told, still_replied, still_turn}
+use Rattle.pool_core.proofs.StillSteps.{is_still, answer_in-still, no_call_counts, read_counts, read_replied, start_told, still_replied, still_turn}
 use Rattle.pool_core.proofs.Turns.{any_turns, turns}
 
 answer_in-sync_step : (answer : Result Progress PoolError) → answer_in (sync_step_reply answer) ≡ plain_answer answer
@@ -69,7 +71,7 @@ pub read_moves_nothing : {Dev : Type 0} {G : Ghosts Dev} {old new : PoolState De
 read_moves_nothing {Dev} {G} {old} {new} {answer = answer} same no_call = record { no_call = no_call; kept = subst (λ (state : PoolState Dev G). KeepsTree old.pool state.pool) (sym same) (record { geometry = refl; tree = refl; sync = refl }) }
 
 module _ {Dev : Type 0} {G : Ghosts Dev} {old new : PoolState Dev G} where
-  -- one that moves nothing: neither the start of a sync, nor a step of one or of the log
+  -- one that moves nothing, and neither asks the device for blocks nor writes or flushes the log
   led_step : {A B : Type 0} {s : declared_step.Step} {Does : Result B PoolError → State → State → Type 0} {make : B → Reply} {answer : Result A PoolError} (f : A → B)
       → ((r : Reply) (x y : State) → Replies make r (λ a. Does a x y) → IsStep s r x y) → is_on_tables s ≡ true → ((b : B) → is_still (make b) ≡ true)
       → ((r : Reply) → device_of new ≡ device_of old → CallsDevice s r old new)
@@ -79,13 +81,13 @@ module _ {Dev : Type 0} {G : Ghosts Dev} {old new : PoolState Dev G} where
     replied = replies;
     turns = turned;
     leads = leads;
-    safe = λ keeps. still_keeps keeps old new s (reply_of (λ (a : A). make (f a)) answer) no_turn (not-true (is_log_step s) parts.1) moves.no_call.device (ap (λ (o : Option RunningSync). option_map (λ (r : RunningSync). r.run) o) moves.kept.sync) turned;
+    safe = λ keeps. still_keeps keeps old new s (reply_of (λ (a : A). make (f a)) answer) no_turn (not-true (is_log_step s) parts.1) (ap (λ (d : Dev). G.disk d) moves.no_call.device) (ap (λ (o : Option RunningSync). option_map (λ (r : RunningSync). r.run) o) moves.kept.sync) turned;
     calls = calls (reply_of (λ (a : A). make (f a)) answer) moves.no_call.device;
     count = no_call_counts old new (λ (a : A). make (f a)) answer (reply_of (λ (a : A). make (f a)) answer) (λ a. answer_in-still (make (f a)) (quiet (f a))) refl moves.no_call;
   }
     where
-      parts : (not (is_start s) ≡ true) × (not (is_log_step s) ≡ true)
-      parts = and_parts (not (is_start s)) (not (is_log_step s)) off
+      parts : (not (asks_device s) ≡ true) × (not (is_log_step s) ≡ true)
+      parts = and_parts (not (asks_device s)) (not (is_log_step s)) off
 
       replies : StepReplies s (reply_of (λ (a : A). make (f a)) answer) (shown old) (shown new)
       replies past explained =
@@ -97,7 +99,7 @@ module _ {Dev : Type 0} {G : Ghosts Dev} {old new : PoolState Dev G} where
       leads keeps = still_replied old new (λ (a : A). make (f a)) answer (reply_of (λ (a : A). make (f a)) answer) (λ a. quiet (f a)) refl moves
 
       turned : Turns s (reply_of (λ (a : A). make (f a)) answer) old new
-      turned = any_turns (IsTrue G.keeps_model) s (reply_of (λ (a : A). make (f a)) answer) (told old) (told new) (not-true (is_start s) parts.0) replies leads
+      turned = any_turns (IsTrue G.keeps_model) s (reply_of (λ (a : A). make (f a)) answer) (told old) (told new) (not-true (asks_device s) parts.0) replies leads
 
       no_turn : is_turn (reply_of (λ (a : A). make (f a)) answer) ≡ false
       no_turn = still_turn (λ (a : A). make (f a)) answer (reply_of (λ (a : A). make (f a)) answer) (λ a. quiet (f a)) refl
@@ -131,6 +133,42 @@ module _ {Dev : Type 0} {G : Ghosts Dev} {old new : PoolState Dev G} where
   plain_read {Does} {answer} same off quiet calls meets unchanged no_call =
       plain_step same off quiet calls (subst (λ (state : PoolState Dev G). Meets Does answer (shown old) (shown state)) (sym unchanged) meets) (read_moves_nothing unchanged no_call)
 
+  -- one that asks the device for blocks, and changes no table
+  pub read_step : {A : Type 0} {s : declared_step.Step} {Does : Type 0 → Result A PoolError → State → State → Type 0} {make : A → Reply} {answer : Result A PoolError}
+      → ((keeps : Type 0) (now : List ℕ) (r : Reply) (x y : State) → Replies make r (λ a. Does keeps a x y) → Step keeps now s r x y) → is_log_step s ≡ false → ((a : A) → is_still (make a) ≡ true)
+      → ((r : Reply) → (IsTrue G.keeps_model → disk_of new ≡ disk_of old) → CallsDevice s r old new) → Meets (Does ⊥) answer (shown old) (shown old)
+      → (IsTrue G.keeps_model → (past : Past) → IsHeld (held_with (told old) past) → Does (Unit {0}) answer (state_with (told old) past) (state_with (told old) past))
+      → tables_of new ≡ tables_of old → OnlyReadsOf answer old new → MakesStep s (reply_of make answer) old new
+  read_step {A} {s} {Does} {make} {answer} same no_log quiet calls meets held tables reads = record {
+    replied = replies;
+    turns = turned;
+    leads = leads;
+    safe = λ keeps. still_keeps keeps old new s (reply_of make answer) (still_turn make answer (reply_of make answer) quiet refl) no_log (reads.disk keeps) (ap (λ (p : PoolTables). run_in p) tables) turned;
+    calls = calls (reply_of make answer) reads.disk;
+    count = read_counts old new make answer quiet reads;
+  }
+    where
+      same_shown : shown new ≡ shown old
+      same_shown = ap (λ (p : PoolTables). pool_shown p) tables
+
+      -- it is the same to the state with what is shown then
+      to_new : (keeps : Type 0) (past later : Past) → Does keeps answer (state_with (told old) past) (state_with (told old) later) → Does keeps answer (state_with (told old) past) (state_with (told new) later)
+      to_new keeps past later does = subst (λ (t : Shown). Does keeps answer (state_with (told old) past) (record { shown = t; past = later })) (sym same_shown) does
+
+      replies : StepReplies s (reply_of make answer) (shown old) (shown new)
+      replies past explained =
+          let one = meets past in
+          (one.0, same ⊥ [] (reply_of make answer) (state_with (told old) past) (state_with (told new) one.0) (answer, refl, to_new ⊥ past one.0 one.1))
+
+      over : IsTrue G.keeps_model → StepsOver s (reply_of make answer) (told old) (told new)
+      over keeps past x = (past, same (Unit {0}) (told old).now (reply_of make answer) (state_with (told old) past) (state_with (told new) past) (answer, refl, to_new (Unit {0}) past past (held keeps past x)))
+
+      leads : IsTrue G.keeps_model → Leads (reply_of make answer) (told old) (told new)
+      leads keeps = read_replied old new make answer (reply_of make answer) quiet refl tables (reads.disk keeps)
+
+      turned : Turns s (reply_of make answer) old new
+      turned = turns (IsTrue G.keeps_model) s (reply_of make answer) (told old) (told new) replies over leads
+
   -- the start of a sync
   pub start_step : {moment : ℕ} {answer : Result Group PoolError} → (IsTrue G.keeps_model → (d : Dev) → length (bytes_of (G.disk d).now) ≡ G.size d)
       → StartsSync moment answer (shown old) (shown new) → (IsTrue G.keeps_model → StartsHeldOver moment answer (told old) (told new)) → StartLeads answer (told_over old) (told_over new)
@@ -146,7 +184,7 @@ module _ {Dev : Type 0} {G : Ghosts Dev} {old new : PoolState Dev G} where
     where
       replies : StepReplies (step.StartSync moment) (start_reply answer) (shown old) (shown new)
       replies past explained =
-          replied_with (λ answer later. as_built.StartSync ⊥ [] moment answer (record { shown = shown old; past = past }) (record { shown = shown new; past = later }))
+          replied_with (λ answer later. steps.StartSync ⊥ [] moment answer (record { shown = shown old; past = past }) (record { shown = shown new; past = later }))
           group_number (λ (g : ℕ). reply.Syncing (record { 0 = g })) answer (start_reply answer) refl (starts past (explained refl))
 
       leads : IsTrue G.keeps_model → Leads (start_reply answer) (told old) (told new)

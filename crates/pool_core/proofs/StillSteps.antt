@@ -7,7 +7,7 @@ use Rattle.base.specs.declared.names.Group.{Group}
 use Rattle.base.specs.declared.step.Reply as declared_reply
 use Rattle.base.specs.declared.step.Reply.TheVariants as reply
 use Rattle.base.specs.disk.Calls.{counted}
-use Rattle.base.specs.disk.Disk.{bytes_of}
+use Rattle.base.specs.disk.Disk.{Disk, bytes_of}
 use Rattle.base.specs.steps.Runs.{reply_of}
 use Rattle.base.specs.stored.Stored.{is_turn}
 use Rattle.device_model.specs.declared.device.SectorDevice.{Ghosts}
@@ -17,7 +17,8 @@ use Rattle.pool_core.specs.declared.state.PoolState.{PoolState}
 use Rattle.pool_core.specs.Calls.{answer_in}
 use Rattle.pool_tables.specs.Told.{Leads, ShownPool, new_tree_of, start_reply}
 use Rattle.pool_tables.specs.KeptTrees.{IsOfNoDevice}
-use Rattle.pool_core.specs.States.{CountsRefused, MakesNoCall, MovesNothing, refused_calls, told, told_over}
+use Rattle.pool_tables.specs.declared.pool.PoolTables.{PoolTables}
+use Rattle.pool_core.specs.States.{CountsRefused, MakesNoCall, MovesNothing, OnlyReadsOf, device_of, refused_calls, tables_of, told, told_over}
 use Rattle.pool_tables.specs.SyncStarts.{StartLeads}
 use Rattle.pool_tables.proofs.StillSteps.{leads_as}
 
@@ -66,20 +67,42 @@ module _ {Dev : Type 0} {G : Ghosts Dev} (old new : PoolState Dev G) where
     λ k. option_map (new_tree_of (moves.kept.tree k)) (moves.kept.sync k),
   )
 
-  -- a step that moves nothing leads on, with the reply that is made of its answer
+  -- a step after which these are as before leads on, with the reply that is made of its answer
+  stays_replied : {A : Type 0} (make : A → declared_reply.Reply) (answer : Result A PoolError) (given : declared_reply.Reply) → ((x : A) → is_still (make x) ≡ true)
+      → given ≡ reply_of make answer → IsStill (told old) (told new) → Leads given (told old) (told new)
+  stays_replied make (Ok x) given quiet is same = leads_as (make x) given (told old) (told new) (sym is) (still_leads (make x) (told old) (told new) (quiet x) same)
+  stays_replied make (Err e) given quiet is same = leads_as (reply.Refused e) given (told old) (told new) (sym is) (λ past later. same)
+
+  -- so does one that moves nothing
   pub still_replied : {A : Type 0} (make : A → declared_reply.Reply) (answer : Result A PoolError) (given : declared_reply.Reply) → ((x : A) → is_still (make x) ≡ true)
       → given ≡ reply_of make answer → MovesNothing answer old new → Leads given (told old) (told new)
-  still_replied make (Ok x) given quiet is moves =
-      leads_as (make x) given (told old) (told new) (sym is) (still_leads (make x) (told old) (told new) (quiet x) (still (Ok x) moves))
-  still_replied make (Err e) given quiet is moves = leads_as (reply.Refused e) given (told old) (told new) (sym is) (λ past later. still (Err e) moves)
+  still_replied make answer given quiet is moves = stays_replied make answer given quiet is (still answer moves)
+
+  -- and one that keeps the tables, and what a read of the device gives
+  pub read_replied : {A : Type 0} (make : A → declared_reply.Reply) (answer : Result A PoolError) (given : declared_reply.Reply) → ((x : A) → is_still (make x) ≡ true)
+      → given ≡ reply_of make answer → tables_of new ≡ tables_of old → G.disk (device_of new) ≡ G.disk (device_of old) → Leads given (told old) (told new)
+  read_replied make answer given quiet is tables disk =
+      stays_replied make answer given quiet is (
+        ap (λ (d : Disk). bytes_of d.now) disk,
+        ap (λ (p : PoolTables). pointers_of p.tree) tables,
+        ap (λ (p : PoolTables). option_map (new_tree_of p.tree) p.sync) tables,
+      )
 
   -- so does the start of a sync
   pub start_told : (answer : Result Group PoolError) (given : declared_reply.Reply) → given ≡ start_reply answer
       → MakesNoCall answer old new → StartLeads answer (told_over old) (told_over new) → Leads given (told old) (told new)
   start_told answer given is no_call leads =
-      let now : List ℕ = bytes_of (G.disk old.device).now in
+      let now : List ℕ = bytes_of (G.disk (device_of old)).now in
       let here : Leads given (told_over old now) (told_over new now) = leads_as (start_reply answer) given (told_over old now) (told_over new now) (sym is) (leads now) in
       subst (λ (d : Dev). Leads given (told old) (told_over new (bytes_of (G.disk d).now))) (sym no_call.device) here
+
+  -- a step that only reads counts the call that was refused
+  pub read_counts : {A : Type 0} (make : A → declared_reply.Reply) (answer : Result A PoolError) → ((x : A) → is_still (make x) ≡ true) → OnlyReadsOf answer old new → CountsRefused (answer_in (reply_of make answer)) old new
+  read_counts {A} make answer quiet reads = reads.count ∙ sym (of_answer answer)
+    where
+      of_answer : (r : Result A PoolError) → counted (answer_in (reply_of make r)) (refused_calls old) ≡ counted r (refused_calls old)
+      of_answer (Ok x) = ap (λ (a : Result (Unit {0}) PoolError). counted a (refused_calls old)) (answer_in-still (make x) (quiet x))
+      of_answer (Err e) = refl
 
   -- a step without a call counts nothing
   pub no_call_counts : {A : Type 0} (make : A → declared_reply.Reply) (answer : Result A PoolError) (given : declared_reply.Reply) → ((x : A) → answer_in (make x) ≡ Ok tt)

@@ -9,7 +9,7 @@ use Rattle.base.proofs.steps.Additions.{told_past}
 use Rattle.base.proofs.steps.KeptTables.{steps_keep_tables}
 use Rattle.pool_tables.specs.Told.{Leads, ShownPool, held_with, state_with}
 use Rattle.pool_core.specs.Holds.{IsStepOver, StepsOver}
-use Rattle.base.specs.steps.Runs.{is_start}
+use Rattle.base.specs.steps.Runs.{asks_device}
 use Rattle.pool_core.specs.StepReplies.{IsStep, StepReplies}
 use Rattle.pool_core.specs.Turns.{TurnsTo, held_after, turned_state}
 use Rattle.pool_core.proofs.HeldSteps.{leads_keep}
@@ -37,6 +37,6 @@ module _ (keeps : Type 0) (s : declared_step.Step) (r : declared_reply.Reply) (o
           let is = told_past (Unit {0}) old.now s r (state_with old past) (state_with new one.0) one.1 in
           subst (λ (later : Past). IsStepOver s r (held_with old past) (held_with new later)) is one.1
 
-  -- so does each step but the start of a sync, over whichever bytes
-  pub any_turns : is_start s ≡ false → StepReplies s r old.shown new.shown → (keeps → Leads r old new) → (past : Past) → TurnsTo keeps s r old new past
+  -- so does each step that asks the device for no block, over whichever bytes
+  pub any_turns : asks_device s ≡ false → StepReplies s r old.shown new.shown → (keeps → Leads r old new) → (past : Past) → TurnsTo keeps s r old new past
   any_turns off replies leads = turns replies (λ keep. any_bytes s r old new off replies) leads

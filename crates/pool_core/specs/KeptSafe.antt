@@ -34,7 +34,7 @@ use Rattle.pool_core.specs.declared.state.PoolState.{PoolState}
 use Rattle.pool_tables.specs.Told.{held_with, state_with}
 use Rattle.pool_core.specs.Holds.{IsStepOver}
 use Rattle.pool_core.specs.NewStates.{IsHeldAtFirst, first_past}
-use Rattle.pool_core.specs.States.{shown, told}
+use Rattle.pool_core.specs.States.{device_of, shown, told}
 use Rattle.pool_tables.specs.SyncPhases.{run_in}
 
 -- a pool over its disk: what is told of it with its past, the disk, and the calls of its running sync
@@ -126,7 +126,7 @@ pub record IsSafeStep (s : declared_step.Step) (r : declared_reply.Reply) (old n
 
 module _ {Dev : Type 0} {G : Ghosts Dev} where
   abbrev pub disk_of : PoolState Dev G → Disk
-  disk_of state = G.disk state.device
+  disk_of state = G.disk (device_of state)
 
   abbrev pub run_of : PoolState Dev G → Option SyncRun
   run_of state = run_in state.pool

@@ -5,9 +5,12 @@ use Rattle.base.specs.declared.refused.RefusedCalls.{RefusedCalls}
 use Rattle.base.specs.disk.Calls.{counted}
 use Rattle.base.specs.disk.Disk.{bytes_of}
 use Rattle.base.specs.steps.Shown.{Shown}
+use Rattle.device_model.specs.Reading.{OnlyReads}
 use Rattle.device_model.specs.declared.device.SectorDevice.{Ghosts}
+use Rattle.object_maps.specs.CachedDevices.{device_in}
 use Rattle.pool_core.specs.declared.state.PoolState.{PoolState}
 use Rattle.pool_tables.specs.Told.{ShownPool, told_of}
+use Rattle.pool_tables.specs.declared.pool.PoolTables.{PoolTables}
 use Rattle.pool_tables.specs.Shows.{shown_objects, shown_of}
 use Rattle.pool_tables.specs.KeptTrees.{IsOfNoDevice, KeepsTree}
 
@@ -18,17 +21,21 @@ module _ {Dev : Type 0} {G : Ghosts Dev} where
 
   -- its device, and the calls that the device refused
   abbrev pub device_of : PoolState Dev G → Dev
-  device_of state = state.device
+  device_of state = device_in state.device
 
   abbrev pub refused_calls : PoolState Dev G → RefusedCalls
-  refused_calls state = G.refused state.device
+  refused_calls state = G.refused (device_of state)
+
+  -- all of it but its device
+  abbrev pub tables_of : PoolState Dev G → PoolTables
+  tables_of state = state.pool
 
   -- what is told of it over these bytes, and over those of its device
   abbrev pub told_over : PoolState Dev G → List ℕ → ShownPool
   told_over state = told_of (shown_objects state.pool) state.pool
 
   abbrev pub told : PoolState Dev G → ShownPool
-  told state = told_over state (bytes_of (G.disk state.device).now)
+  told state = told_over state (bytes_of (G.disk (device_of state)).now)
 
   -- what the device refused is counted, and nothing else
   abbrev pub CountsRefused : {A : Type 0} → Result A PoolError → PoolState Dev G → PoolState Dev G → Type 0
@@ -38,6 +45,10 @@ module _ {Dev : Type 0} {G : Ghosts Dev} where
   pub record MakesNoCall {A : Type 0} (answer : Result A PoolError) (old new : PoolState Dev G) : Type 0 where
     pub device : device_of new ≡ device_of old
     pub own : IsOfNoDevice answer
+
+  -- no call writes: the device keeps its size, and its disk where it keeps the model; a refused read is counted
+  abbrev pub OnlyReadsOf : {A : Type 0} → Result A PoolError → PoolState Dev G → PoolState Dev G → Type 0
+  OnlyReadsOf answer old new = OnlyReads G answer (device_of old) (device_of new)
 
   -- the tree and the running sync are as they were
   abbrev pub KeepsTreeOf : PoolState Dev G → PoolState Dev G → Type 0

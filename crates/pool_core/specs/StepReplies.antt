@@ -6,7 +6,7 @@ use Rattle.base.specs.declared.step.Reply as declared_reply
 use Rattle.base.specs.steps.ExactNow.{IsExplainedNow}
 use Rattle.base.specs.history.Past.{Past}
 use Rattle.base.specs.steps.Runs as runs
-use Rattle.base.specs.steps.Runs.{is_log_step, is_start}
+use Rattle.base.specs.steps.Runs.{asks_device, is_log_step}
 use Rattle.base.specs.steps.Shown.{Shown}
 use Rattle.base.specs.steps.Steps.{State}
 
@@ -15,9 +15,9 @@ use Rattle.base.specs.steps.Steps.{State}
 abbrev pub IsStep : declared_step.Step → declared_reply.Reply → State → State → Type 0
 IsStep s r old new = runs.Step ⊥ [] s r old new
 
--- whether a step neither starts a sync nor writes or flushes the log
+-- whether a step neither may ask the device for tree blocks nor writes or flushes the log
 abbrev pub is_on_tables : declared_step.Step → Bool
-is_on_tables s = not (is_start s) && not (is_log_step s)
+is_on_tables s = not (asks_device s) && not (is_log_step s)
 
 -- whether a step is told for pasts that explain what was shown: what a commit leaves follows from the history, and so
 -- does the tree of a sync

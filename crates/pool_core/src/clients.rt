@@ -1,16 +1,18 @@
 //! What callers rest on: one function for each promise of this crate's calls, proved from the contract of the call
 //! alone. So it is refused as soon as that contract says less.
 
-ghost use Rattle.std.specs.Prelude.{◌≡◌, ◌∷◌, [], Err, IfOk, None, Ok, Some, false, is_some, true};
+ghost use Rattle.std.specs.Prelude.{◌≡◌, ◌∷◌, [], Err, IfErr, IfOk, IsTrue, None, Ok, Some, false, is_some, true};
 ghost use Rattle.base.specs.declared.step.Reply.TheVariants as reply;
 ghost use Rattle.base.specs.declared.step.Step.TheVariants as step;
 ghost use Rattle.base.specs.steps.Shown.{dirty_of};
 ghost use Rattle.pool_core.specs.GroupSyncs.{AndThen, Call, SyncsClosed};
-ghost use Rattle.pool_core.specs.States.{shown};
+ghost use Rattle.pool_core.specs.States.{device_of, shown};
 
 use crate::runs::run;
 use crate::state::PoolState;
-use base::{Group, LockId, Ordinal, Owner, PoolError, Receipt, Reply, Step};
+use base::{
+    Bytes, Group, LockId, ObjectId, Ordinal, Owner, PoolError, Range, Receipt, Reply, Step,
+};
 use device_model::SectorDevice;
 use pool_tables::Duty;
 
@@ -25,6 +27,32 @@ fn a_suspended_pool_releases_no_lock<D: SectorDevice>(
     ensures unchanged { shown pool.new ≡ shown pool.old }
 {
     pool.unlock(owner, id)
+}
+
+// A read changes nothing that is shown, and no byte of the device.
+fn a_read_changes_nothing_that_is_shown<D: SectorDevice>(
+    pool: &mut PoolState<D>,
+    owner: Owner,
+) -> Result<Bytes, PoolError>
+    ensures unchanged { shown pool.new ≡ shown pool.old }
+    ensures disk { IsTrue D.keeps_model
+        → D.disk (device_of pool.new) ≡ D.disk (device_of pool.old) }
+{
+    pool.read(owner, ObjectId(7), Range { low: 0, high: 4 })
+}
+
+// A digest that is refused a read has counted it, and leaves the pool running.
+fn a_refused_read_of_a_digest_is_counted<D: SectorDevice>(
+    pool: &mut PoolState<D>,
+) -> Result<[u8; 32], PoolError>
+    requires running { (shown pool.old).suspended ≡ false }
+    requires none { D.refused (device_of pool.old)
+        ≡ record { reads = 0; writes = 0; flushes = 0 } }
+    ensures counted { IfErr result (λ e. e ≡ PoolError.Read → D.refused (device_of pool.new)
+        ≡ record { reads = 1; writes = 0; flushes = 0 }) }
+    ensures running { (shown pool.new).suspended ≡ false }
+{
+    pool.digest()
 }
 
 // Group 8 is synced, so a commit to it is durable.

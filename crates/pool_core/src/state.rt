@@ -1,9 +1,10 @@
 //! A running pool on its device, and each of its steps.
 
-ghost use Rattle.std.specs.Prelude.{◌≡◌, ◌≤◌, IfErr, IfOk, IsTrue, OnErr, length, map, option_map};
+ghost use Rattle.std.specs.Prelude.{◌≡◌, ◌≢◌, ◌≤◌, IfErr, IfOk, IsTrue, OnErr, length, map, option_map};
 ghost use Rattle.base.specs.steps.Groups.{Admission};
 ghost use Rattle.base.specs.steps.Refusals.{transaction_of};
 ghost use Rattle.base.specs.steps.Shown.{is_durable, status_of};
+ghost use Rattle.object_maps.specs.CachedDevices.{device_in};
 ghost use Rattle.pool_tables.specs.Shows.{geometry_of};
 
 use base::{
@@ -12,6 +13,7 @@ use base::{
 };
 use device_model::{Fault, MemDevice, SectorDevice};
 use import_replay::Imported;
+use object_maps::CachedDevice;
 use pool_tables::{Duty, PoolTables, Progress};
 use range_locks::{HeldLock, HeldLocks, HeldPiece};
 use std::alloc::Global;
@@ -22,9 +24,10 @@ use std::alloc::Global;
 /// each other later step is refused `Suspended`. A step that is refused for another reason leaves the pool unchanged.
 #[derive(Debug, Drop)]
 pub struct PoolState<D: SectorDevice> {
-    device: D,
+    // with the tree blocks that were read last
+    device: CachedDevice<D>,
     pool: PoolTables,
-    ghost sized: { D.size device ≡ geometry_of pool },
+    ghost sized: { D.size (device_in device) ≡ geometry_of pool },
 }
 
 impl<D: SectorDevice> PoolState<D> {
@@ -43,7 +46,8 @@ impl<D: SectorDevice> PoolState<D> {
     ghost use Rattle.pool_tables.specs.SyncPhases.{StepsPhases};
     ghost use Rattle.pool_core.specs.KeptSafe.{BeginsSafe, disk_of, run_of};
     ghost use Rattle.pool_core.specs.NewStates.{IsExplainedAtFirst, IsHeldAtFirst};
-    ghost use Rattle.pool_core.specs.States.{CountsRefused, KeepsTreeOf, MakesNoCall, MovesNothing, device_of, shown, told, told_over};
+    ghost use Rattle.pool_core.specs.States.{CountsRefused, KeepsTreeOf, MakesNoCall, MovesNothing, OnlyReadsOf, device_of, shown, tables_of, told, told_over};
+    ghost use Rattle.pool_tables.specs.HeldReads.{DigestHeld, ReadsHeld};
     ghost use Rattle.pool_tables.specs.StepAnswers.{Aborts, Begins, ClosesGroup, Commits, FlushesLog, Locks, LocksAppend, MarksQuiesced, Reads, StartsSync, StepsSync, TellsDigest, TellsLength, Unlocks, WritesLog};
     ghost use Rattle.base.specs.disk.Calls.{Flushes};
     ghost use Rattle.pool_tables.specs.LogBlocks.{WritesLogBlock};
@@ -57,7 +61,12 @@ impl<D: SectorDevice> PoolState<D> {
         ensures held { ∥ (IsTrue D.keeps_model → IsHeldAtFirst (told result)) ∥₁ }
         ensures safe { BeginsSafe result }
     {
-        let Imported { device, mounted } = imported;
+        let Imported {
+            device,
+            cache,
+            mounted,
+        } = imported;
+        let device = CachedDevice::new(device, cache);
         PoolState {
             device,
             pool: PoolTables::new(mounted),
@@ -69,6 +78,7 @@ impl<D: SectorDevice> PoolState<D> {
         ensures { result ≡ device_of self }
     {
         let PoolState { device, pool: _ } = self;
+        let (device, _) = device.into_parts();
         device
     }
 
@@ -238,6 +248,9 @@ impl<D: SectorDevice> PoolState<D> {
 
     /// The bytes of a range that lie below the object's length.
     ///
+    /// Of the synced tree the blocks are read in which a byte of the range shows: the indirect block of the object, and
+    /// then its records, rising. A block that was read stays in a cache, and a block that the cache has is not read.
+    ///
     /// # Errors
     /// In this order:
     /// - `Suspended`.
@@ -245,12 +258,14 @@ impl<D: SectorDevice> PoolState<D> {
     /// - `NotLocked` if no one lock of the owner covers the range.
     /// - `NoObject`.
     /// - `NoMemory`.
+    /// - `Read` if the device refused a read, and `Damaged` if what it gave is not the block of the tree.
     pub fn read(&mut self, owner: Owner, object: ObjectId, range: Range) -> Result<Bytes, PoolError>
         ensures step { Reads owner object range result (shown self.old) }
-        ensures unchanged { self.new ≡ self.old }
-        ensures no_call { MakesNoCall result self.old self.new }
+        ensures held { IsTrue D.keeps_model → ReadsHeld owner object range result (told self.old) }
+        ensures tables { tables_of self.new ≡ tables_of self.old }
+        ensures reads { OnlyReadsOf result self.old self.new }
     {
-        self.pool.read(owner, object, range)
+        self.pool.read(&mut self.device, owner, object, range)
     }
 
     /// The length of an object in bytes. It takes no memory.
@@ -268,17 +283,21 @@ impl<D: SectorDevice> PoolState<D> {
     }
 
     /// The digest of the current contents. It is SHA-256 of the name, the number of objects, and each object by rising
-    /// number with its number, its length and its bytes. The contents stand in memory, so it takes no memory and makes
-    /// no device call.
+    /// number with its number, its length and its bytes. The blocks of an object are read as `read` reads them. It
+    /// needs no memory.
     ///
     /// # Errors
-    /// `Suspended`.
+    /// In this order:
+    /// - `Suspended`.
+    /// - `Read` if the device refused a read, and `Damaged` if what it gave is not the block of the tree.
     pub fn digest(&mut self) -> Result<[u8; 32], PoolError>
         ensures step { TellsDigest result (shown self.old) }
-        ensures unchanged { self.new ≡ self.old }
-        ensures no_call { MakesNoCall result self.old self.new }
+        ensures no_memory { IfErr result (λ e. e ≢ PoolError.NoMemory) }
+        ensures held { IsTrue D.keeps_model → DigestHeld result (told self.old) }
+        ensures tables { tables_of self.new ≡ tables_of self.old }
+        ensures reads { OnlyReadsOf result self.old self.new }
     {
-        self.pool.digest()
+        self.pool.digest(&mut self.device)
     }
 
     /// The pool's name. It is never refused, also of a suspended pool, and takes no memory.

@@ -13,6 +13,8 @@ use Rattle.base.specs.declared.error.PoolError.{PoolError}
 use Rattle.base.specs.declared.error.PoolError.TheVariants as error
 use Rattle.base.specs.declared.names.Group.{Group}
 use Rattle.base.specs.declared.names.LockId.{LockId}
+use Rattle.base.specs.declared.names.ObjectId.{ObjectId}
+use Rattle.base.specs.declared.names.Owner.{Owner}
 use Rattle.base.specs.declared.range.Mode.TheVariants.{Writer}
 use Rattle.base.specs.declared.range.Range.{Range}
 use Rattle.base.specs.disk.Calls.{Flushes}
@@ -26,17 +28,19 @@ use Rattle.base.specs.steps.ExactNow.{IsExplainedNow}
 use Rattle.base.specs.steps.Groups.{Admission}
 use Rattle.base.specs.formats.Records.{Record}
 use Rattle.base.specs.steps.Logs.{Committed, KeptBlock, Log, has_record, log_after_write}
-use Rattle.base.specs.steps.Refusals.{abort_refusal, append_range, append_refusal, digest_refusal, length_refusal, log_flush_refusal, log_write_refusal, quiesced_group, read_refusal, start_refusal, transaction_of}
+use Rattle.base.specs.steps.Refusals.{abort_refusal, append_range, append_refusal, digest_refusal, length_refusal, log_flush_refusal, log_write_refusal, object_range, quiesced_group, read_refusal, start_refusal, transaction_of}
 use Rattle.base.specs.steps.Shown.{Shown, SyncPlan, is_durable}
-use Rattle.base.specs.steps.BuiltSteps as as_built
 use Rattle.base.specs.steps.Steps as steps
-use Rattle.base.specs.steps.Steps.{Answers, IsPlanned, IsReplayUpTo, State, TakesForEach, TakesForLog, WantsMemory, bytes_in, next_grant, state_after_abort, state_after_grant, state_after_log_flush, state_after_log_write, state_after_start, suspended_state, transactions_without}
+use Rattle.base.specs.steps.Steps.{Answers, IsPlanned, IsReplayUpTo, State, TakesForEach, TakesForLog, WantsMemory, WantsMemoryOrRead, bytes_in, next_grant, state_after_abort, state_after_grant, state_after_log_flush, state_after_log_write, state_after_start, suspended_state, transactions_without}
+use Rattle.base.specs.stored.Stored.{IsHeld}
 use Rattle.base.proofs.common.KeptLists.{Some-injective, any_at, any_map}
 use Rattle.base.proofs.history.CommitOrder.{ok-none}
+use Rattle.pool_tables.specs.HeldReads.{DigestHeld, ReadsHeld}
 use Rattle.pool_tables.specs.LogBlocks.{WritesLogBlock}
 use Rattle.pool_tables.specs.Meets.{Meets}
 use Rattle.pool_tables.specs.StepAnswers.{StartsSync, appended_numbers}
 use Rattle.pool_tables.specs.Tables.{result_map}
+use Rattle.pool_tables.specs.Told.{ShownPool, held_with, state_with}
 use Rattle.pool_tables.proofs.OfNoDevice.{some_past}
 
 -- Refused by its tests, a call answers so, and all stands.
@@ -118,7 +122,7 @@ module _ (s new : Shown) where
       let later : State = after (starts past explained).0 in
       let done = ok-none (start_refusal s) group.0 old later
       (λ g. (plan : SyncPlan) × (quiesced_group s.line ≡ Some g) × IsPlanned old moment g plan × (⊥ → TakesForEach [] old g plan) × (later ≡ state_after_start g plan old))
-      (WantsMemory old later) (starts past explained).1 in
+      (WantsMemoryOrRead ⊥ old later) (starts past explained).1 in
       (done.1.0, ap (λ (x : State). x.shown.sync) done.1.4, done.1.2.contents)
   started_contents moment (Err e) starts = tt
 
@@ -179,17 +183,6 @@ module _ (s new : Shown) where
 
 -- And of a step that leaves what is shown.
 module _ (s : Shown) where
-  -- the bytes of a range that are read
-  pub read_bytes : (owner : ℕ) (range : NumberRange) (all : List ℕ) (answer : Result (List ℕ) PoolError) → finite.get s.contents.objects range.number ≡ Some all
-      → Meets (as_built.Read owner range) answer s s → IfOk answer (λ bytes. bytes ≡ bytes_in range all)
-  read_bytes owner range all (Ok bytes) at meets =
-      let later : State = after s s (meets (some_past s)).0 in
-      let done = ok-none (read_refusal owner range s) bytes (before s s) later
-      (λ given. IfSome (finite.get s.contents.objects range.number) (λ found. given ≡ bytes_in range found) × (later ≡ before s s))
-      (WantsMemory (before s s) later) (meets (some_past s)).1 in
-      subst (λ (o : Option (List ℕ)). IfSome o (λ found. bytes ≡ bytes_in range found)) at done.1.0
-  read_bytes owner range all (Err e) at meets = tt
-
   abbrev TellsLength : ℕ → Past → ℕ → Type 0
   TellsLength n later length = (length_of s.contents n ≡ Some length) × (after s s later ≡ before s s)
 
@@ -205,17 +198,37 @@ module _ (s : Shown) where
   pub told_length : (n length : ℕ) (answer : Result ℕ PoolError) → length_refusal n s ≡ None → length_of s.contents n ≡ Some length → Meets (steps.Length n) answer s s → answer ≡ Ok length
   told_length n length answer passes at meets = length_by n length (meets (some_past s)).0 answer passes at (meets (some_past s)).1
 
-  abbrev TellsDigest : Past → List ℕ → Type 0
-  TellsDigest later digest = (digest ≡ digest_of s.contents) × (after s s later ≡ before s s)
+-- A read of a suspended pool is refused.
+pub refused_read : (s : Shown) (owner : ℕ) (range : NumberRange) (answer : Result (List ℕ) PoolError) → s.suspended ≡ true → Meets (steps.Read ⊥ owner range) answer s s → answer ≡ Err error.Suspended
+refused_read s owner range answer h meets =
+    let past : Past = some_past s in
+    let later : Past = (meets past).0 in
+    let x : State = record { shown = s; past = past } in
+    let y : State = record { shown = s; past = later } in
+    (refused_by (read_refusal owner range s) error.Suspended answer s s past later
+    (λ bytes. (⊥ → IfSome (finite.get s.contents.objects range.number) (λ all. bytes ≡ bytes_in range all)) × (y ≡ x)) (WantsMemoryOrRead ⊥ x y) (rw h refl) (meets past).1).0
 
-  digest_by : (later : Past) (answer : Result (List ℕ) PoolError) → digest_refusal s ≡ None → Answers (digest_refusal s) answer (before s s) (after s s later) (TellsDigest later) steps.Never
-      → answer ≡ Ok (digest_of s.contents)
-  digest_by later (Ok d) passes h = ap (λ (x : List ℕ). Ok x) (ok-none (digest_refusal s) d (before s s) (after s s later) (TellsDigest later) steps.Never h).1.0
-  digest_by later (Err e) passes h = absurd (never_refused (digest_refusal s) e (before s s) (after s s later) (TellsDigest later) passes h)
+-- What is read of a pool over a device that holds it.
+module _ (t : ShownPool) (past : Past) (held : IsHeld (held_with t past)) where
+  -- the bytes of a range
+  pub read_bytes : (owner : Owner) (object : ObjectId) (range : Range) (all : List ℕ) (answer : Result (List ℕ) PoolError) → finite.get t.shown.contents.objects object.0 ≡ Some all
+      → ReadsHeld owner object range answer t → IfOk answer (λ bytes. bytes ≡ bytes_in (object_range object.0 range.low range.high) all)
+  read_bytes owner object range all (Ok bytes) at reads =
+      let s : State = state_with t past in
+      let wanted : NumberRange = object_range object.0 range.low range.high in
+      let done = ok-none (read_refusal owner.0 wanted t.shown) bytes s s
+      (λ given. (Unit {0} → IfSome (finite.get t.shown.contents.objects object.0) (λ found. given ≡ bytes_in wanted found)) × (s ≡ s))
+      (WantsMemoryOrRead (Unit {0}) s s) (reads past held) in
+      subst (λ (o : Option (List ℕ)). IfSome o (λ found. bytes ≡ bytes_in wanted found)) at (done.1.0 tt)
+  read_bytes owner object range all (Err e) at reads = tt
 
-  -- the digest that is told
-  pub told_digest : (answer : Result (List ℕ) PoolError) → s.suspended ≡ false → Meets as_built.DigestInMemory answer s s → answer ≡ Ok (digest_of s.contents)
-  told_digest answer running meets = digest_by (meets (some_past s)).0 answer (rw running refl) (meets (some_past s)).1
+  -- and the digest
+  pub told_digest : (answer : Result (List ℕ) PoolError) → DigestHeld answer t → IfOk answer (λ digest. digest ≡ digest_of t.shown.contents)
+  told_digest (Ok d) tells =
+      let s : State = state_with t past in
+      let done = ok-none (digest_refusal t.shown) d s s (λ digest. (Unit {0} → digest ≡ digest_of t.shown.contents) × (s ≡ s)) (WantsMemoryOrRead (Unit {0}) s s) (tells past held) in
+      done.1.0 tt
+  told_digest (Err e) tells = tt
 
 -- a log write that is answered made one write, of a log block
 pub one_write : (answer : Result ℕ PoolError) (s new : Shown) (disk later : Disk) → WritesLogBlock answer s new disk later

@@ -31,3 +31,4 @@ pub mod Passed
 pub mod syncs
 pub mod Receipts
 pub mod DueSteps
+pub mod HeldReads

@@ -16,10 +16,9 @@ use Rattle.base.specs.history.Contents.{Contents, apply, created, removed, chang
 use Rattle.base.specs.history.History.{apply_all}
 use Rattle.base.specs.history.Past.{Past, new_past}
 use Rattle.base.specs.history.Plans.{NumberRange}
-use Rattle.base.specs.steps.Refusals.{Test, first_refusal, abort_tests, append_tests, begin_tests, digest_tests, length_tests, ops_tests, lock_tests, unlock_tests, read_tests, commit_tests, close_tests, quiesce_tests, commit_refusal}
+use Rattle.base.specs.steps.Refusals.{Test, first_refusal, abort_tests, append_tests, begin_tests, length_tests, ops_tests, lock_tests, unlock_tests, commit_tests, close_tests, quiesce_tests, commit_refusal}
 use Rattle.base.specs.history.Sequences.{and_then, in_turn}
 use Rattle.base.specs.steps.Shown.{Shown}
-use Rattle.base.specs.steps.BuiltSteps as as_built
 use Rattle.base.specs.steps.Steps as steps
 use Rattle.base.specs.steps.Steps.{State, Answers}
 use Rattle.pool_tables.specs.Meets.{Meets}
@@ -112,14 +111,8 @@ module _ (old new : Shown) where
   pub abort_own : (tx : ℕ) (answer : Result (Unit {0}) PoolError) → Meets (steps.Abort tx) answer old new → is_own_answer answer ≡ true
   abort_own tx answer meets = own_answer (abort_tests tx old) _ answer _ _ _ _ refl refl (λ e own. absurd own) (meets (some_past old)).1
 
-  pub read_own : (owner : ℕ) (range : NumberRange) (answer : Result (List ℕ) PoolError) → Meets (as_built.Read owner range) answer old new → is_own_answer answer ≡ true
-  read_own owner range answer meets = own_answer (read_tests owner range old) _ answer _ _ _ _ refl refl (λ e own. wants_memory e own.0) (meets (some_past old)).1
-
   pub length_own : (n : ℕ) (answer : Result ℕ PoolError) → Meets (steps.Length n) answer old new → is_own_answer answer ≡ true
   length_own n answer meets = own_answer (length_tests n old) _ answer _ _ _ _ refl refl (λ e own. absurd own) (meets (some_past old)).1
-
-  pub digest_own : (answer : Result (List ℕ) PoolError) → Meets as_built.DigestInMemory answer old new → is_own_answer answer ≡ true
-  digest_own answer meets = own_answer (digest_tests old) _ answer _ _ _ _ refl refl (λ e own. absurd own) (meets (some_past old)).1
 
   pub close_own : (answer : Result ℕ PoolError) → Meets steps.CloseGroup answer old new → is_own_answer answer ≡ true
   close_own answer meets = own_answer (close_tests old) _ answer _ _ _ _ refl refl (λ e own. absurd own) (meets (some_past old)).1

@@ -22,3 +22,4 @@ pub mod LogBlocks
 pub mod SyncPhases
 pub mod Duties
 pub mod Receipts
+pub mod HeldReads

@@ -13,7 +13,6 @@ use Rattle.base.specs.declared.range.Mode.{Mode}
 use Rattle.base.specs.declared.range.Range.{Range}
 use Rattle.base.specs.steps.Refusals.{object_range}
 use Rattle.base.specs.steps.Shown.{Shown}
-use Rattle.base.specs.steps.BuiltSteps as as_built
 use Rattle.base.specs.steps.Steps as steps
 use Rattle.pool_tables.specs.declared.pool.Progress.{Progress}
 use Rattle.pool_tables.specs.Meets.{Meets, MeetsExplained}
@@ -56,13 +55,13 @@ abbrev pub Aborts : TxId → Result (Unit {0}) PoolError → Shown → Shown →
 Aborts tx answer = Meets (steps.Abort tx.0) answer
 
 abbrev pub Reads : Owner → ObjectId → Range → Result (List ℕ) PoolError → Shown → Type 0
-Reads owner object range answer shown = Meets (as_built.Read owner.0 (object_range object.0 range.low range.high)) answer shown shown
+Reads owner object range answer shown = Meets (steps.Read ⊥ owner.0 (object_range object.0 range.low range.high)) answer shown shown
 
 abbrev pub TellsLength : ObjectId → Result ℕ PoolError → Shown → Type 0
 TellsLength object answer shown = Meets (steps.Length object.0) answer shown shown
 
 abbrev pub TellsDigest : Result (List ℕ) PoolError → Shown → Type 0
-TellsDigest answer shown = Meets as_built.DigestInMemory answer shown shown
+TellsDigest answer shown = Meets (steps.Digest ⊥) answer shown shown
 
 abbrev pub ClosesGroup : Result Group PoolError → Shown → Shown → Type 0
 ClosesGroup answer = Meets steps.CloseGroup (result_map group_number answer)
@@ -72,7 +71,7 @@ MarksQuiesced answer = Meets steps.MarkQuiesced (result_map group_number answer)
 
 -- for each past that explains what was shown; over which bytes, says SyncStarts
 abbrev pub StartsSync : ℕ → Result Group PoolError → Shown → Shown → Type 0
-StartsSync moment answer = MeetsExplained (as_built.StartSync ⊥ [] moment) (result_map group_number answer)
+StartsSync moment answer = MeetsExplained (steps.StartSync ⊥ [] moment) (result_map group_number answer)
 
 abbrev pub StepsSync : Result Progress PoolError → Shown → Shown → Type 0
 StepsSync answer = Meets steps.SyncStep (result_map plain_progress answer)

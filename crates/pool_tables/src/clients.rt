@@ -6,7 +6,7 @@ ghost use Rattle.std.specs.FinMap as finite;
 ghost use Rattle.std.specs.FinSet as set;
 ghost use Rattle.base.specs.declared.range.Mode.TheVariants as mode;
 ghost use Rattle.base.specs.declared.step.Step.TheVariants as step;
-ghost use Rattle.base.specs.disk.Disk.{written};
+ghost use Rattle.base.specs.disk.Disk.{bytes_of, written};
 ghost use Rattle.base.specs.formats.Digest.{digest_of};
 ghost use Rattle.base.specs.formats.Fields.{number_at};
 ghost use Rattle.base.specs.formats.Geometry.{block_count};
@@ -20,6 +20,7 @@ ghost use Rattle.base.specs.steps.Refusals.{first_refusal, log_write_refusal};
 ghost use Rattle.base.specs.steps.Logs.{whole_block};
 ghost use Rattle.base.specs.steps.Shown.{SyncPlan, available, free_count, reserved_total};
 ghost use Rattle.base.specs.steps.Steps.{IsReplayUpTo};
+ghost use Rattle.base.specs.stored.Stored.{IsHeld};
 ghost use Rattle.object_maps.specs.ContentsShown.{contents_of};
 ghost use Rattle.object_maps.specs.Sources.{AreWithin};
 ghost use Rattle.intent_log.specs.Kept.{log_shown};
@@ -28,6 +29,7 @@ ghost use Rattle.group_plans.specs.Areas.{AreBlocksOf};
 ghost use Rattle.transactions.specs.Records.{record_fields};
 ghost use Rattle.pool_tables.specs.BeginTests.{plan_tests};
 ghost use Rattle.pool_tables.specs.Shows.{geometry_of, pool_shown};
+ghost use Rattle.pool_tables.specs.Told.{held_with, pool_told};
 
 mod ready;
 mod refused;
@@ -43,6 +45,7 @@ use device_model::SectorDevice;
 use import_replay::Mounted;
 use intent_log::{Log, LogHeader};
 use labels::Geometry;
+use object_maps::BlockReader;
 use range_locks::{HeldLocks, HeldPiece};
 use space::FreeSet;
 use transactions::Record;
@@ -147,13 +150,35 @@ fn a_transaction_is_given_up_once(pool: &mut PoolTables, tx: TxId) -> Result<(),
     pool.abort(tx)
 }
 
-// A read gives the bytes of its range, from the first one on.
-fn a_read_gives_the_bytes_of_its_range(pool: &PoolTables, owner: Owner) -> Result<Bytes, PoolError>
-    requires { finite.get (pool_shown pool.now).contents.objects 7
+// A read over a device that holds the pool gives the bytes of its range, from the first one on.
+fn a_read_gives_the_bytes_of_its_range<B: BlockReader>(
+    pool: &PoolTables,
+    reader: &mut B,
+    owner: Owner,
+) -> Result<Bytes, PoolError>
+    requires sized { B.size reader.old ≡ geometry_of pool.now }
+    requires keeps { IsTrue B.keeps_model }
+    requires held { (past : Past) × IsHeld
+        (held_with (pool_told pool.now (bytes_of (B.disk reader.old).now)) past) }
+    requires object { finite.get (pool_shown pool.now).contents.objects 7
         ≡ Some (10 ∷ 11 ∷ 12 ∷ 13 ∷ []) }
     ensures { IfOk result (λ bytes. bytes ≡ 11 ∷ 12 ∷ []) }
 {
-    pool.read(owner, ObjectId(7), Range { low: 1, high: 3 })
+    pool.read(reader, owner, ObjectId(7), Range { low: 1, high: 3 })
+}
+
+// A read that a suspended pool refuses asks the device for nothing, and counts nothing.
+fn a_suspended_pool_reads_nothing<B: BlockReader>(
+    pool: &PoolTables,
+    reader: &mut B,
+    owner: Owner,
+) -> Result<Bytes, PoolError>
+    requires sized { B.size reader.old ≡ geometry_of pool.now }
+    requires suspended { (pool_shown pool.now).suspended ≡ true }
+    ensures refused { result ≡ Err PoolError.Suspended }
+    ensures uncounted { B.refused reader.new ≡ B.refused reader.old }
+{
+    pool.read(reader, owner, ObjectId(7), Range { low: 1, high: 3 })
 }
 
 // The length of an object is that of all its bytes, also of those of unsynced groups.
@@ -165,12 +190,18 @@ fn a_length_counts_all_bytes(pool: &PoolTables) -> Result<u64, PoolError>
     pool.length(ObjectId(7))
 }
 
-// A digest is that of the shown contents, with the changes of the unsynced groups.
-fn a_digest_is_of_the_shown_contents(pool: &PoolTables) -> Result<[u8; 32], PoolError>
-    requires { (pool_shown pool.now).suspended ≡ false }
-    ensures { result ≡ Ok (digest_of (pool_shown pool.now).contents) }
+// A digest over a device that holds the pool is that of the shown contents, with the changes of the unsynced groups.
+fn a_digest_is_of_the_shown_contents<B: BlockReader>(
+    pool: &PoolTables,
+    reader: &mut B,
+) -> Result<[u8; 32], PoolError>
+    requires sized { B.size reader.old ≡ geometry_of pool.now }
+    requires keeps { IsTrue B.keeps_model }
+    requires held { (past : Past) × IsHeld
+        (held_with (pool_told pool.now (bytes_of (B.disk reader.old).now)) past) }
+    ensures { IfOk result (λ digest. digest ≡ digest_of (pool_shown pool.now).contents) }
 {
-    pool.digest()
+    pool.digest(reader)
 }
 
 // The name is that of the shown contents.

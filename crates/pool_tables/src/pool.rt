@@ -30,7 +30,7 @@
 //!
 //! The full contract of each call stands at `PoolState` of `pool_core`, which adds the device.
 
-ghost use Rattle.std.specs.Prelude.{◌≡◌, ◌+◌, ◌≤◌, All, IfErr, IfOk, IsTrue, None, false, is_some, length, map, option_map, true, vec_len};
+ghost use Rattle.std.specs.Prelude.{◌≡◌, ◌≢◌, ◌+◌, ◌≤◌, All, IfErr, IfOk, IsTrue, None, false, is_some, length, map, option_map, true, vec_len};
 ghost use Rattle.std.proofs.Props.{props};
 ghost use Rattle.std.specs.Option.{ForSome, option_map_or};
 ghost use Rattle.base.specs.formats.Geometry.{IsGeometry, block_count};
@@ -62,14 +62,16 @@ mod syncs;
 
 use base::{
     Bytes, Group, LockId, Mode, OBJECT_COUNT, ObjectId, ObjectRange, Owner, Pointer, PoolError,
-    PoolName, Range, Receipt, Status,
+    PoolName, Range, Receipt, Status, WRITTEN_VERSION,
 };
+use checked_blocks::Frame;
 use extents::{Laid, UnsyncedExtents};
 use groups::Groups;
 use import_replay::Mounted;
 use intent_log::{Log, LogHeader};
 use labels::Geometry;
-use object_maps::{Contents, ObjectMap, ObjectSource, Tree, digest, read_range_below};
+use object_maps::{BlockReader, Contents, ObjectMap, ObjectSource, Tree};
+use object_reads::ShownTree;
 use range_locks::{HeldLock, HeldLocks, HeldPiece, RangeLocks};
 use space::FreeSet;
 use std::alloc::Global;
@@ -192,6 +194,11 @@ impl PoolTables {
     ghost use Rattle.pool_tables.specs.Shows.{geometry_of, pool_shown, shown_objects, sync_of, tree_of};
     ghost use Rattle.pool_tables.specs.KeptTrees.{KeepsTree};
     ghost use Rattle.pool_tables.specs.StepAnswers.{Locks, LocksAppend, Reads, TellsDigest, TellsLength, Unlocks};
+    ghost use Rattle.base.specs.disk.Disk.{bytes_of};
+    ghost use Rattle.base.specs.stored.Stored.{frame_at};
+    ghost use Rattle.device_model.specs.Reading.{OnlyReads};
+    ghost use Rattle.pool_tables.specs.HeldReads.{DigestHeld, ReadsHeld};
+    ghost use Rattle.pool_tables.specs.Told.{pool_told};
 
     /// The pool that an import mounted. No transaction is open and no sync runs. It takes no memory.
     pub fn new(mounted: Mounted) -> Self
@@ -332,10 +339,41 @@ impl PoolTables {
         self.locks.pieces(number)
     }
 
+    // What reads need of the objects that are shown.
+    fn shown_tree(&self) -> ShownTree<'_>
+        ensures frame { result.frame
+            ≡ frame_at (pool_shown self.now) (pool_shown self.now).line.synced }
+        ensures tree { result.tree.now ≡ self.now.tree }
+        ensures contents { result.contents.now ≡ self.now.synced }
+        ensures changes { result.changes.now ≡ self.now.changes }
+    {
+        ShownTree {
+            frame: Frame::new(
+                WRITTEN_VERSION,
+                self.guid,
+                self.geometry.blocks(),
+                self.groups.synced(),
+            ),
+            tree: &self.tree,
+            contents: &self.synced,
+            changes: &self.changes,
+        }
+    }
+
     /// The bytes of a range that lie below the length of the object. Refused, in this order, `Suspended`, `BadRange`,
-    /// `NotLocked`, `NoObject` or `NoMemory`.
-    pub fn read(&self, owner: Owner, object: ObjectId, range: Range) -> Result<Bytes, PoolError>
-        ensures { Reads owner object range result (pool_shown self.now) }
+    /// `NotLocked`, `NoObject` or `NoMemory`, or `Read` or `Damaged` as the blocks are read.
+    pub fn read<B: BlockReader>(
+        &self,
+        reader: &mut B,
+        owner: Owner,
+        object: ObjectId,
+        range: Range,
+    ) -> Result<Bytes, PoolError>
+        requires sized { B.size reader.old ≡ geometry_of self.now }
+        ensures step { Reads owner object range result (pool_shown self.now) }
+        ensures held { IsTrue B.keeps_model → ReadsHeld owner object range result
+            (pool_told self.now (bytes_of (B.disk reader.old).now)) }
+        ensures reads { OnlyReads B.SectorDevice result reader.old reader.new }
     {
         self.check_running()?;
         if !is_readable(object, range) {
@@ -344,11 +382,11 @@ impl PoolTables {
         if !self.locks.covers(owner, &ObjectRange { object, range }) {
             return Err(PoolError::NotLocked);
         }
-        let mut objects = self.objects();
-        let Some(length) = objects.length(object) else {
+        let Some(length) = self.shown_length(object) else {
             return Err(PoolError::NoObject);
         };
-        read_range_below(&mut objects, self.alloc, object, range, length)
+        self.shown_tree()
+            .read_range(reader, self.alloc, object, range, length)
     }
 
     /// The length of an object in bytes. Refused, in this order, `Suspended`, `BadRange` or `NoObject`.
@@ -376,12 +414,18 @@ impl PoolTables {
         self.objects().length(object)
     }
 
-    /// The SHA-256 digest of the contents, the changes of unsynced groups included. Refused `Suspended`.
-    pub fn digest(&self) -> Result<[u8; 32], PoolError>
-        ensures { TellsDigest result (pool_shown self.now) }
+    /// The SHA-256 digest of the contents, the changes of unsynced groups included. It needs no memory. Refused
+    /// `Suspended`, or `Read` or `Damaged` as the blocks are read.
+    pub fn digest<B: BlockReader>(&self, reader: &mut B) -> Result<[u8; 32], PoolError>
+        requires sized { B.size reader.old ≡ geometry_of self.now }
+        ensures step { TellsDigest result (pool_shown self.now) }
+        ensures no_memory { IfErr result (λ e. e ≢ PoolError.NoMemory) }
+        ensures held { IsTrue B.keeps_model → DigestHeld result
+            (pool_told self.now (bytes_of (B.disk reader.old).now)) }
+        ensures reads { OnlyReads B.SectorDevice result reader.old reader.new }
     {
         self.check_running()?;
-        digest(self.shown_name(), &mut self.objects())
+        self.shown_tree().digest(reader, self.shown_name())
     }
 
     /// The name of the pool. It is never refused.

@@ -68,13 +68,13 @@ module _ (pool : PoolTables) (r : RunningSync) (at : pool.sync ≡ Some r) where
 
 module _ {Dev : Type 0} {G : Ghosts Dev} where
   module _ (keeps : IsTrue G.keeps_model) (old new : PoolState Dev G) where
-    -- a step without a call that neither starts a sync nor ends one
-    pub still_keeps : (s : declared_step.Step) (r : declared_reply.Reply) → is_turn r ≡ false → is_log_step s ≡ false → device_of new ≡ device_of old → run_of new ≡ run_of old → Turns s r old new → KeepsSafe s r old new
-    still_keeps s r off no_log device run turns past x =
+    -- a step that writes nothing, and neither starts a sync nor ends one
+    pub still_keeps : (s : declared_step.Step) (r : declared_reply.Reply) → is_turn r ≡ false → is_log_step s ≡ false → disk_of new ≡ disk_of old → run_of new ≡ run_of old → Turns s r old new → KeepsSafe s r old new
+    still_keeps s r off no_log disk run turns past x =
         let turn = turns past in
         let h : Held = held_after s r (told old) (told new) past in
-        subst (λ (y : OnDisk). IsSafeStep s r (on_disk old past) y) (λ k. record { held = h; disk = G.disk (sym device k); run = sym run k })
-        (still_safe (on_disk old past) x s r h (ap (λ (d : Dev). bytes_of (G.disk d).now) device) (turn.over keeps x.held) off no_log (turn.held keeps x.held))
+        subst (λ (y : OnDisk). IsSafeStep s r (on_disk old past) y) (λ k. record { held = h; disk = sym disk k; run = sym run k })
+        (still_safe (on_disk old past) x s r h (ap (λ (d : Disk). bytes_of d.now) disk) (turn.over keeps x.held) off no_log (turn.held keeps x.held))
 
     -- the start of a sync
     started_keeps : (moment : ℕ) (group : Group) → ((d : Dev) → length (bytes_of (G.disk d).now) ≡ G.size d) → device_of new ≡ device_of old → Leads (reply.Syncing group) (told old) (told new)
@@ -90,7 +90,7 @@ module _ {Dev : Type 0} {G : Ghosts Dev} where
         (λ k. record { held = h; disk = G.disk (sym device k); run = option_map (λ (q : RunningSync). q.run) (sym r.1 k) })
         (start_safe (on_disk old past) x moment group h (r.0).run (tree_after r.0 pool.tree) (turn.over keeps x.held) (turn.held keeps x.held)
         (ap (λ (d : Dev). bytes_of (G.disk d).now) device) (ap (λ (o : Option RunningSync). option_map (new_tree_of pool.tree) o) r.1)
-        (was.geometry ∙ sym new.sized ∙ ap (λ (d : Dev). G.size d) device ∙ sym (sized old.device))
+        (was.geometry ∙ sym new.sized ∙ ap (λ (d : Dev). G.size d) device ∙ sym (sized (device_of old)))
         (λ g plan syncing is. staged_plan pool r.0 r.1 g plan was.geometry was.stages syncing is) (λ plan is. counted_plan pool r.0 r.1 plan (ap (λ (t : NewTree). t.done) r.2) is)
         (λ g syncing. was.uberblock.slot ∙ ap (λ (n : ℕ). slot_of n) (Some-injective (sym (was_syncing pool r.0 r.1) ∙ syncing))) (ap (λ (t : NewTree). t.done) r.2) was.left)
 
@@ -101,7 +101,7 @@ module _ {Dev : Type 0} {G : Ghosts Dev} where
         subst (λ (q : declared_reply.Reply). KeepsSafe (step.StartSync moment) q old new) (sym is)
         (started_keeps moment group sized device (subst (λ (q : declared_reply.Reply). Leads q (told old) (told new)) is leads)
         (subst (λ (q : declared_reply.Reply). Turns (step.StartSync moment) q old new) is turns))
-    start_keeps moment (Err e) r is sized device unmoved leads turns = still_keeps (step.StartSync moment) r (ap is_turn is) refl device unmoved turns
+    start_keeps moment (Err e) r is sized device unmoved leads turns = still_keeps (step.StartSync moment) r (ap is_turn is) refl (ap (λ (d : Dev). G.disk d) device) unmoved turns
 
     -- a step of one, by what its call answered
     stepped_keeps : (answer : Result Progress PoolError) → StepsPhases answer (shown old).suspended (run_of old) (run_of new) (disk_of old) (disk_of new) → Turns step.SyncStep (sync_step_reply answer) old new

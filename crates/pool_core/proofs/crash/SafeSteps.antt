@@ -25,7 +25,6 @@ use Rattle.base.specs.steps.Exact.{AreDistinctPlaces}
 use Rattle.base.specs.steps.Refusals as refusal
 use Rattle.base.specs.steps.Runs.{is_log_step, progress_reply, reply_of}
 use Rattle.base.specs.steps.Shown.{Shown, SyncPlan}
-use Rattle.base.specs.steps.BuiltSteps as as_built
 use Rattle.base.specs.steps.Steps as steps
 use Rattle.base.specs.steps.Steps.{IsPlanned, State, SyncProgress, ops_of_group}
 use Rattle.base.specs.steps.Steps.SyncProgress.{More, Synced}
@@ -129,7 +128,7 @@ header_of_sync (Some new) now s pointers p plan y is =
 
 -- what the start of a sync is, and its end
 start_of : (now : List ℕ) (moment : ℕ) (group : Group) (answer : Result ℕ PoolError) (old new : State) → reply.Syncing group ≡ reply_of (λ (g : ℕ). reply.Syncing (record { 0 = g })) answer
-    → as_built.StartSync (Unit {0}) now moment answer old new → (old.shown.line.syncing ≡ None) × ((g : ℕ) × (plan : SyncPlan) × (new ≡ steps.state_after_start g plan old) × IsPlanned old moment g plan)
+    → steps.StartSync (Unit {0}) now moment answer old new → (old.shown.line.syncing ≡ None) × ((g : ℕ) × (plan : SyncPlan) × (new ≡ steps.state_after_start g plan old) × IsPlanned old moment g plan)
 start_of now moment group (Ok g) old new is h =
     let d = ok-none (refusal.start_refusal old.shown) g old new _ _ h in
     (none_syncs old.shown d.0, (g, d.1.0, d.1.4, d.1.2))

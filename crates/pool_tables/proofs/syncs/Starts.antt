@@ -13,8 +13,7 @@ use Rattle.base.specs.steps.Logs.{header_for}
 use Rattle.base.specs.history.Past.{Past}
 use Rattle.base.specs.steps.Refusals.{quiesced_group, start_refusal}
 use Rattle.base.specs.steps.Shown.{Shown, SyncPlan}
-use Rattle.base.specs.steps.BuiltSteps.{StartSync}
-use Rattle.base.specs.steps.Steps.{AreLengthsOf, IsPlanned, IsReplayUpTo, TakesForEach, lowest_free, ops_of_group, State}
+use Rattle.base.specs.steps.Steps.{AreLengthsOf, IsPlanned, IsReplayUpTo, StartSync, TakesForEach, lowest_free, ops_of_group, State}
 use Rattle.base.specs.tree.Syncs.{is_rename, other_step_count}
 use Rattle.base.specs.declared.operation.Op.{Op}
 use Rattle.base.specs.declared.operation.Op.TheVariants.{Create, Remove, Write, SetLength, SetName}
@@ -69,7 +68,7 @@ module _ (keeps : Type 0) (now : List ℕ) (past : Past) (s : Shown) (moment : �
 
   pub start_wants : (group : ℕ) (e : PoolError) → s.suspended ≡ false → quiesced_group s.line ≡ Some group → is_some s.line.syncing ≡ false → e ≡ error.NoMemory
       → StartsAt keeps now moment (Err e) past s s
-  start_wants group e h is none wants = rw (starts group h is none) (wants, refl)
+  start_wants group e h is none wants = rw (starts group h is none) (inl wants, refl)
 
   -- a sync that is planned starts, where the past explains what was shown
   pub start_done : (n : Shown) (group : ℕ) (plan : SyncPlan) → IsExplainedNow s past → (keeps → TakesForEach now (record { shown = s; past = past }) group plan)
