@@ -19,7 +19,7 @@ use Rattle.base.specs.steps.Steps.{State}
 use Rattle.device_model.specs.declared.device.SectorDevice.{Ghosts}
 use Rattle.pool_core.specs.declared.state.PoolState.{PoolState}
 use Rattle.pool_core.specs.NewStates.{IsExplainedAtFirst, IsHeldAtFirst, first_past}
-use Rattle.pool_core.specs.States.{shown, told}
+use Rattle.pool_core.specs.States.{device_of, shown, told}
 use Rattle.pool_threads.proofs.Notes.{viewed_state-view_of}
 use Rattle.pool_threads.specs.Handles.{IsReadyBehind, OpensBehind, ShowsMounted, StartsBehind}
 use Rattle.pool_threads.specs.Views.{CrashRule, Explains, SeenPool, view_behind_disk, view_of, viewed_state}
@@ -46,15 +46,15 @@ module _ {Dev : Type 0} {G : Ghosts Dev} (p : PoolState Dev G) where
   }
 
   -- a view of this state shows it
-  pub shows_mounted : (past : Past) (rule : CrashRule) (m : Mounted) (d : Dev) (v : SeenPool) → v ≡ view_of p past rule → shown p ≡ shown_of_import m → p.device ≡ d → ShowsMounted m (G.disk d) v
+  pub shows_mounted : (past : Past) (rule : CrashRule) (m : Mounted) (d : Dev) (v : SeenPool) → v ≡ view_of p past rule → shown p ≡ shown_of_import m → device_of p ≡ d → ShowsMounted m (G.disk d) v
   shows_mounted past rule m d v is same device = record {
     shown = ap (λ (u : SeenPool). (viewed_state u).shown) is ∙ ap (λ (a : State). a.shown) (viewed_state-view_of p past rule) ∙ same;
     disk_is = ap (λ (u : SeenPool). u.disk) is ∙ ap G.disk device;
   }
 
   -- a pool that was not shared comes back with its device, and shows the same
-  pub comes_back : (d : Dev) (s : Shown) (e : PoolError × PoolState Dev G) → p.device ≡ d → shown p ≡ s → (e.0 ≡ NoMemory) × (e.1 ≡ p) → (e.0 ≡ NoMemory) × (e.1.device ≡ d) × (shown e.1 ≡ s)
-  comes_back d s e device shows given = (given.0, ap (λ (q : PoolState Dev G). q.device) given.1 ∙ device, ap (λ (q : PoolState Dev G). shown q) given.1 ∙ shows)
+  pub comes_back : (d : Dev) (s : Shown) (e : PoolError × PoolState Dev G) → device_of p ≡ d → shown p ≡ s → (e.0 ≡ NoMemory) × (e.1 ≡ p) → (e.0 ≡ NoMemory) × (device_of e.1 ≡ d) × (shown e.1 ≡ s)
+  comes_back d s e device shows given = (given.0, ap (λ (q : PoolState Dev G). device_of q) given.1 ∙ device, ap (λ (q : PoolState Dev G). shown q) given.1 ∙ shows)
 
 -- A pool that was imported from a disk goes on after whichever run left that.
 module _ {Dev : Type 0} {G : Ghosts Dev} (old : Disk) (m : Mounted) (p : PoolState Dev G) (starts : IsTrue G.keeps_model → StartsBehind old m (disk_of p)) (shows : shown p ≡ shown_of_import m) where
@@ -94,7 +94,7 @@ module _ {Dev : Type 0} {G : Ghosts Dev} (old : Disk) (m : Mounted) (p : PoolSta
   }
 
   -- so it is ready to be opened
-  pub ready_behind : (d : Dev) → p.device ≡ d → (IsTrue G.keeps_model → disk_size (disk_of p) ≡ m.geometry) → BeginsSafe p → ∥ IsExplainedAtFirst (shown p) ∥₁ → ∥ (IsTrue G.keeps_model → IsHeldAtFirst (told p)) ∥₁
+  pub ready_behind : (d : Dev) → device_of p ≡ d → (IsTrue G.keeps_model → disk_size (disk_of p) ≡ m.geometry) → BeginsSafe p → ∥ IsExplainedAtFirst (shown p) ∥₁ → ∥ (IsTrue G.keeps_model → IsHeldAtFirst (told p)) ∥₁
       → IsReadyBehind old m d p
   ready_behind d device sized begins explained held = record {
     explains = explained_behind sized begins explained held;

@@ -14,6 +14,7 @@ use Rattle.base.proofs.disk.Moments.{leaves_flush, leaves_write, starts, weaker}
 use Rattle.device_model.specs.declared.device.SectorDevice.{Ghosts}
 use Rattle.pool_core.specs.Calls.{CallsDevice, WritesBlock, answer_in}
 use Rattle.pool_core.specs.KeptSafe.{disk_of}
+use Rattle.pool_core.specs.States.{device_of}
 use Rattle.pool_core.specs.declared.state.PoolState.{PoolState}
 use Rattle.pool_tables.specs.LogBlocks.{PutsLogBlock}
 use Rattle.pool_tables.specs.NextCalls.{MakesNextIf}
@@ -63,9 +64,11 @@ written_adds _ old new same = stays_on (disk_of old) (disk_of new) same
 
 pub moved_by : {Dev : Type 0} {G : Ghosts Dev} (s : declared_step.Step) (r : declared_reply.Reply) (old new : PoolState Dev G) → CallsDevice s r old new → IsTrue G.keeps_model
     → MovesDisk s (disk_of old) (disk_of new)
-moved_by {G} step.SyncStep r old new calls keeps = next_adds (IsTrue G.keeps_model) G.disk old.pool.suspended old.pool.sync (answer_in r) old.device new.device calls keeps
+moved_by {G} step.SyncStep r old new calls keeps = next_adds (IsTrue G.keeps_model) G.disk old.pool.suspended old.pool.sync (answer_in r) (device_of old) (device_of new) calls keeps
 moved_by {G} step.LogWrite r old new calls keeps = written_adds r old new (calls keeps)
 moved_by {G} step.LogFlush r old new calls keeps = only_adds (disk_of old) (disk_of new) (leaves_flush Any (disk_of old) (disk_of old) (disk_of new) (answer_in r) (none_yet (disk_of old)) (calls keeps))
+moved_by {G} (step.Read owner object range) r old new reads keeps = reads keeps
+moved_by {G} step.Digest r old new reads keeps = reads keeps
 moved_by {G} _ r old new same keeps = ap G.disk same
 
 -- so the disk goes on by a step

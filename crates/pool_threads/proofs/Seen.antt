@@ -23,13 +23,13 @@ use Rattle.base.specs.steps.Locks.{Grant, is_in}
 use Rattle.base.specs.steps.Refusals as refusal
 use Rattle.base.specs.steps.Refusals.{Test, first_refusal, object_range}
 use Rattle.base.specs.steps.Runs.{Replies, Step}
-use Rattle.base.specs.steps.Seen.{IsAborted, IsGranted, IsLengthBetween, IsMadeBetween, IsReadBetween}
+use Rattle.base.specs.steps.Seen.{IsAborted, IsGranted, IsLengthBetween, IsMadeBetween}
 use Rattle.base.specs.steps.SeenLaws.{is_untested}
 use Rattle.base.specs.steps.Steps.{Answers, Never, State}
 use Rattle.base.proofs.common.KeptLists.{at_filter, at_last, found_at}
 use Rattle.base.proofs.history.CommitOrder.{ok-none}
 use Rattle.base.proofs.steps.Additions.{told_past}
-use Rattle.base.proofs.steps.SeenStates.{at-prefix, contents_are_between, grown, reads_are_seen}
+use Rattle.base.proofs.steps.SeenStates.{at-prefix, contents_are_between, grown}
 
 no-shorter : {A : Type 0} (xs ys : List A) → IsPrefixOf xs ys → length xs ≤ length ys
 no-shorter xs ys (more, is) = let same : length ys ≡ length xs + length more = ap length is ∙ length-append xs more in omega arith
@@ -153,9 +153,3 @@ aborts_are_ruled tx e before after m =
 pub lengths_are_ruled : (n : ObjectId) (e : PoolError) (before after : State) → IsMadeBetween ⊥ (step.Length n) (reply.Refused e) before after → is_untested e ≡ false
 lengths_are_ruled n e before after m =
     replies_ruled _ e (refusal.length_tests n.0 m.old.shown) m.old m.new _ (λ a is. let no_way : reply.Refused e ≡ reply.Length a = is in cc) refl m.made
-
--- a read asks the same over each device
-pub reads_are_made : (owner : Owner) (n : ObjectId) (range : Range) (bytes : List ℕ) (before after : State) → IsMadeBetween ⊥ (step.Read owner n range) (reply.Bytes bytes) before after
-    → IsReadBetween (object_range n.0 range.low range.high) bytes before after
-reads_are_made owner n range bytes before after m =
-    reads_are_seen owner n range bytes before after (record { old = m.old; new = m.new; no_earlier = m.no_earlier; no_later = m.no_later; explained = m.explained; now = m.now; made = m.made })

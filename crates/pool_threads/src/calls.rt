@@ -1,5 +1,5 @@
 //! The calls of a handle. Each is one step of the pool, in one turn; those that are made again take a turn each time.
-ghost use Rattle.std.specs.Prelude.{◌≡◌, ◌≢◌, IfErr, IfNone, IfOk, IfSome, IsSome, false, true};
+ghost use Rattle.std.specs.Prelude.{◌≡◌, ◌≢◌, IfErr, IfNone, IfOk, IfSome, IsSome, IsTrue, false, true};
 ghost use Rattle.base.specs.declared.error.PoolError.TheVariants as error;
 ghost use Rattle.base.specs.declared.range.Mode.TheVariants.{Writer};
 ghost use Rattle.base.specs.declared.step.Reply.TheVariants as reply;
@@ -211,7 +211,7 @@ impl<'p, D: SectorDevice> Handle<'p, D> {
     ) -> Result<Bytes, PoolError>
         ensures made { Makes (step.Read owner object range)
             (reply_of (λ b. reply.Bytes b) result) self.old self.new }
-        ensures bytes { IfOk result (λ b. Sees (IsReadBetween
+        ensures bytes { IsTrue D.keeps_model → IfOk result (λ b. Sees (IsReadBetween
             (object_range object.0 range.low range.high) b) self.old self.new) }
         ensures refused { IfErr result (λ e. Sees (IsRefusal (step.Read owner object range) e)
             self.old self.new) }

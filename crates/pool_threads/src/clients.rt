@@ -79,7 +79,7 @@ fn a_read_has_the_bytes_of_its_range<D: SectorDevice, W: Wait>(
     handle: &mut Handle<'_, D>,
     owner: Owner,
 ) -> Result<Bytes, PoolError>
-    ensures { IfOk result (λ b. Sees (IsReadBetween (object_range 5 2 9) b)
+    ensures { IsTrue D.keeps_model → IfOk result (λ b. Sees (IsReadBetween (object_range 5 2 9) b)
         handle.old handle.new) }
 {
     handle.read(rt, owner, ObjectId(5), Range { low: 2, high: 9 })

@@ -25,6 +25,7 @@ pub struct Pool<D: SectorDevice> {
 
 impl<D: SectorDevice> Pool<D> {
     ghost use Rattle.std.specs.Prelude.{◌≡◌, ◌⊎◌, IfErr, IfOk, IfSome, IsSome, IsTrue};
+    ghost use Rattle.base.specs.crash.Imports.{is_dirty_max_allowed};
     ghost use Rattle.base.specs.disk.Calls.{with_refusal};
     ghost use Rattle.import_replay.specs.ImportRefusals.{IsImportRefusal};
     ghost use Rattle.import_replay.specs.Mounts.{shown_of_import};
@@ -56,7 +57,8 @@ impl<D: SectorDevice> Pool<D> {
         ensures imported { IsTrue D.keeps_model → IfOk result
             (λ p. ShowsImport moment (D.disk device) (opening_view (shared_of p))) }
         ensures moment { IfOk result (λ p. moment_in (shared_of p) ≡ moment) }
-        ensures refused { IfErr result (λ e. IsImportRefusal (D.size device) dirty_max e.0) }
+        ensures refused { IfErr result (λ e. IsImportRefusal (D.size device)
+            (is_dirty_max_allowed dirty_max) e.0) }
         ensures counted { IfErr result
             (λ e. D.refused e.1 ≡ with_refusal e.0 (D.refused device)) }
         ensures untouched { IfErr result

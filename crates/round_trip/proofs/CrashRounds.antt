@@ -6,6 +6,7 @@ use Rattle.std.proofs.Math.Logic.{∥∥₁_map}
 use Rattle.std.proofs.lemmas.List.{append-nil, nil_from_length}
 use Rattle.std.specs.FinMap as finite
 use Rattle.std.specs.Ordering.{nat_cmp}
+use Rattle.base.specs.crash.Imports.{is_dirty_max_allowed}
 use Rattle.base.specs.declared.step.Step as declared_step
 use Rattle.base.specs.declared.step.Reply as declared_reply
 use Rattle.base.specs.crash.CrashRule.{KeepsOwn}
@@ -132,9 +133,9 @@ run_counted calls (Ok replies) old new count refused kept = count
 run_counted calls (Err e) old new count refused kept = subst (λ (x : PoolError). calls new ≡ with_refusal x (calls old)) (sym refused) (ap calls kept)
 
 -- a list of steps is refused as its import may be
-pub run_refused : (size dirty_max : ℕ) (answer : Answer) → CanImport size dirty_max → IfErr answer (λ e. e ≡ NoMemory) → IfErr answer (IsImportRefusal size dirty_max)
+pub run_refused : (size dirty_max : ℕ) (answer : Answer) → CanImport size dirty_max → IfErr answer (λ e. e ≡ NoMemory) → IfErr answer (IsImportRefusal size (is_dirty_max_allowed dirty_max))
 run_refused size dirty_max (Ok replies) can refused = tt
-run_refused size dirty_max (Err e) can refused = subst (λ (x : PoolError). IsImportRefusal size dirty_max x) (sym refused) (can, tt)
+run_refused size dirty_max (Err e) can refused = subst (λ (x : PoolError). IsImportRefusal size (is_dirty_max_allowed dirty_max) x) (sym refused) (can, tt)
 
 -- a fault that was planned leaves the disk of a round
 pub over_planned : (round : Round) (answer : Answer) (past : Past) (start planned ended : Disk) → planned ≡ start → IsLeft past start

@@ -1,6 +1,7 @@
 -- Rounds of a pool with crashes between them, and what the import after the last one finds.
 use Rattle.std.specs.Prelude.{ℕ, ◌≡◌, ◌⊎◌, ◌++◌, List, [], ◌∷◌, Option, None, Some, Result, Ok, Err, MatchResult}
 use Rattle.std.specs.Global.{Vec}
+use Rattle.base.specs.crash.Imports.{is_dirty_max_allowed}
 use Rattle.base.specs.declared.error.PoolError.{PoolError}
 use Rattle.base.specs.declared.error.PoolError.TheVariants.{NoMemory}
 use Rattle.base.specs.declared.refused.RefusedCalls.{RefusedCalls}
@@ -148,7 +149,7 @@ IsRefusedOfNew name guid moment rounds start e = (e ≡ NoMemory) ⊎ ((answers 
 
 -- a refusal of rounds with this limit at their end: no memory for the answers, or that of an import
 abbrev pub IsRoundsRefusal : ℕ → PoolError → Type 0
-IsRoundsRefusal dirty_max e = (e ≡ NoMemory) ⊎ ((size : ℕ) × IsImportRefusal size dirty_max e)
+IsRoundsRefusal dirty_max e = (e ≡ NoMemory) ⊎ ((size : ℕ) × IsImportRefusal size (is_dirty_max_allowed dirty_max) e)
 
 -- after a create on a device of so many bytes, or that of the create
 abbrev pub IsRoundsOfNewRefusal : ℕ → List ℕ → ℕ → PoolError → Type 0

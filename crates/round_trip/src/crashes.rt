@@ -7,6 +7,7 @@
 //! import then mounts a cut of the rounds, with all that each round acknowledged.
 
 ghost use Rattle.std.specs.Prelude.{◌≡◌, ◌⊎◌, IfErr, IfOk, IsTrue};
+ghost use Rattle.base.specs.crash.Imports.{is_dirty_max_allowed};
 ghost use Rattle.base.specs.disk.Disk.{bytes_of, disk_size};
 ghost use Rattle.base.specs.history.Past.{Past};
 ghost use Rattle.object_maps.specs.ContentsShown.{contents_of};
@@ -62,7 +63,8 @@ pub fn import_and_run<D: SectorDevice>(
     ensures went { IsTrue D.keeps_model → (past : Past) → IsLeft past (D.disk device)
         → IsOverFor dirty_max moment steps.items result.0 past (D.disk device) (D.disk result.1) }
     ensures count { D.refused result.1 ≡ counted_in result.0 (D.refused device) }
-    ensures refusal { IfErr result.0 (IsImportRefusal (D.size device) dirty_max) }
+    ensures refusal { IfErr result.0 (IsImportRefusal (D.size device)
+        (is_dirty_max_allowed dirty_max)) }
 {
     match import(alloc, device, dirty_max, moment) {
         Ok(imported) => {
@@ -83,7 +85,8 @@ pub fn go_round(
     ensures went { (past : Past) → IsLeft past device.disk
         → IsRound round result.0 past device.disk result.1.disk }
     ensures count { result.1.refused ≡ counted_in result.0 device.refused }
-    ensures refusal { IfErr result.0 (IsImportRefusal (disk_size device.disk) round.dirty_max) }
+    ensures refusal { IfErr result.0 (IsImportRefusal (disk_size device.disk)
+        (is_dirty_max_allowed round.dirty_max)) }
 {
     let Round {
         fault,

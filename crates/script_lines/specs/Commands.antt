@@ -68,8 +68,8 @@ IsDeviceForm words = HasForm words (codes "fail") 3 ⊎ IsPoolForm words
 
 -- the lines that are a command
 abbrev pub IsLineForm : Words → Type 0
-IsLineForm words = HasForm words (codes "create") 3 ⊎ (HasForm words (codes "import") 2 ⊎ (HasForm words (codes "crash") 1
-    ⊎ (HasForm words (codes "crash") 2 ⊎ IsDeviceForm words)))
+IsLineForm words = HasForm words (codes "create") 3 ⊎ (HasForm words (codes "import") 2 ⊎ (HasForm words (codes "import") 3 ⊎ (HasForm words (codes "crash") 1
+    ⊎ (HasForm words (codes "crash") 2 ⊎ IsDeviceForm words))))
 
 module _ {A : Type 0} (of : Step → A) (words : Words) (r : Result A LineError) where
   -- a `lock` line: owner, object, r or w, low and high
@@ -174,7 +174,9 @@ pub record ReadsWords (words : Words) (r : Result Command LineError) : Type 0 wh
   pub create : HasForm words (codes "create") 3 → IfOk r (λ asked. (asked ≡ Create (word words 1) (spelled_number (word words 2)))
       × (0 < length (word words 1)) × IsNumberBelow (2 ^ 64) (word words 2))
   pub create_read : HasForm words (codes "create") 3 → 0 < length (word words 1) → IsNumberBelow (2 ^ 64) (word words 2) → IsOkUnless r NoMemory
-  pub import : HasForm words (codes "import") 2 → OkIff r (IsNumberBelow (2 ^ 64) (word words 1)) (Import (spelled_number (word words 1)))
+  pub import : HasForm words (codes "import") 2 → OkIff r (IsNumberBelow (2 ^ 64) (word words 1)) (Import (spelled_number (word words 1)) 256)
+  pub import_with : HasForm words (codes "import") 3 → OkIff r (IsNumberBelow (2 ^ 64) (word words 1) × IsNumberBelow (2 ^ 64) (word words 2))
+      (Import (spelled_number (word words 1)) (spelled_number (word words 2)))
   pub crash : HasForm words (codes "crash") 1 → IsOkAnd r (IsCrashOf [])
   pub crash_of : HasForm words (codes "crash") 2 → IfOk r (IsCrashOf (word words 1))
   pub crash_read : HasForm words (codes "crash") 2 → 0 < length (word words 1) → All (λ letter. IsSome (piece_of letter)) (word words 1) → IsOkUnless r NoMemory

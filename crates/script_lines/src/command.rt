@@ -14,8 +14,8 @@ ghost use Rattle.script_lines.specs.Words.{ArePartsOf};
 
 use crate::number::{parse_u32, parse_u64};
 use base::{
-    Bytes, Group, LockId, Mode, ObjectId, Ordinal, Owner, Piece, Plan, Range, Receipt, Shape, Step,
-    TxId,
+    Bytes, DEFAULT_CACHE_BLOCKS, Group, LockId, Mode, ObjectId, Ordinal, Owner, Piece, Plan, Range,
+    Receipt, Shape, Step, TxId,
 };
 use device_model::Fault;
 use std::alloc::{AllocError, AllocFailed, Global};
@@ -31,8 +31,9 @@ const TORN: u8 = 0xaa;
 pub enum Command {
     /// Makes a pool of this name and guid on the device, or on a new one.
     Create { name: Bytes, guid: u64 },
-    /// Imports the pool on the device, with this limit of the bytes that may be dirty.
-    Import { dirty_max: u64 },
+    /// Imports the pool on the device, with these limits of the bytes that may be dirty, and of the tree blocks that
+    /// may stay in memory.
+    Import { dirty_max: u64, cache_blocks: u64 },
     /// Stops the pool, and leaves these pieces of the unflushed writes of its device.
     Crash(Vec<Piece>),
     /// Makes the n-th such call of the device from now fail, once; `n` is at least 1.
@@ -110,6 +111,11 @@ fn parse_words(alloc: Global, words: &[&str]) -> Result<Command, LineError>
         ["create", name, guid] => parse_create(alloc, name, guid),
         ["import", dirty_max] => Ok(Command::Import {
             dirty_max: wide(dirty_max)?,
+            cache_blocks: DEFAULT_CACHE_BLOCKS,
+        }),
+        ["import", dirty_max, cache_blocks] => Ok(Command::Import {
+            dirty_max: wide(dirty_max)?,
+            cache_blocks: wide(cache_blocks)?,
         }),
         ["crash"] => Ok(Command::Crash(Vec::new(alloc))),
         ["crash", letters] => parse_crash(alloc, letters),

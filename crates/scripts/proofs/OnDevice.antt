@@ -2,6 +2,7 @@
 use Rattle.std.proofs.Common.{◌≡◌, ◌∙◌, ◌∷◌, [], ℕ, List, length, inl, inr, refl, sym, ap, subst, rules, arith}
 use Rattle.std.specs.Prelude.{◌⊎◌, false, Option, Some, Result, Ok, Err}
 use Rattle.std.proofs.lemmas.Bool.{false≢true}
+use Rattle.base.specs.crash.Imports.{are_limits_allowed}
 use Rattle.base.specs.declared.error.PoolError.{PoolError}
 use Rattle.base.specs.declared.error.PoolError.TheVariants.{BadGeometry, BadRange, NoMemory}
 use Rattle.base.specs.declared.piece.Piece.{Piece}
@@ -49,18 +50,18 @@ module _ {R P : Type 0} (G : mounted.Ghosts P MemState R) (s : Session R MemStat
   lost pieces told new one_piece one (inr none) = absurd (one_is_found none.1)
 
 -- a limit of no bytes is none
-no_limit : (size : ℕ) (e : PoolError) → IsGeometry size → IsImportRefusal size 0 e → e ≡ BadRange
+no_limit : (size : ℕ) (e : PoolError) → IsGeometry size → IsImportRefusal size (are_limits_allowed 0 256) e → e ≡ BadRange
 no_limit size BadRange sized why = refl
 no_limit size BadGeometry sized why = absurd (why sized)
 no_limit size e sized why = absurd (false≢true why.0.1)
 
 module _ {R P : Type 0} (G : mounted.Ghosts P MemState R) (Plans : Fault → ℕ → P → P → Type 0) where
   module _ (of_memory : (e : PoolError) → G.refuses e → e ≡ NoMemory) where
-    left_refused : (moment : ℕ) (old device : MemState) (e : PoolError) → IsGeometry (disk_size old.disk) → IsLeftByMount ghosts G.refuses 0 moment old e device → (e ≡ BadRange) ⊎ (e ≡ NoMemory)
+    left_refused : (moment : ℕ) (old device : MemState) (e : PoolError) → IsGeometry (disk_size old.disk) → IsLeftByMount ghosts G.refuses 0 256 moment old e device → (e ≡ BadRange) ⊎ (e ≡ NoMemory)
     left_refused moment old device e sized (inl left) = inl (no_limit (disk_size old.disk) e sized left.refused)
     left_refused moment old device e sized (inr none) = inr (of_memory e none.0)
 
-    imports_refused : (moment : ℕ) (old : MemState) (e : PoolError) (new : Place MemState P) → IsGeometry (disk_size old.disk) → Imports ghosts G 0 moment old (answer.Reply (Refused e)) new → (e ≡ BadRange) ⊎ (e ≡ NoMemory)
+    imports_refused : (moment : ℕ) (old : MemState) (e : PoolError) (new : Place MemState P) → IsGeometry (disk_size old.disk) → Imports ghosts G 0 256 moment old (answer.Reply (Refused e)) new → (e ≡ BadRange) ⊎ (e ≡ NoMemory)
     imports_refused moment old e Nothing sized i = absurd i
     imports_refused moment old e (Device new) sized i =
         let same : i.error ≡ e = let told = i.told_is in cc in
@@ -69,18 +70,18 @@ module _ {R P : Type 0} (G : mounted.Ghosts P MemState R) (Plans : Fault → ℕ
 
     -- an import with no limit is refused for it, or for want of memory
     pub refused_limit : (s new : Session R MemState P) (device : MemState) → s.place ≡ Device device → (told : Result Answer BadCommand) (e : PoolError) → told ≡ Ok (answer.Reply (Refused e))
-        → IsGeometry (disk_size device.disk) → Does G Plans (command.Import 0) s told new → (e ≡ BadRange) ⊎ (e ≡ NoMemory)
+        → IsGeometry (disk_size device.disk) → Does G Plans (command.Import 0 256) s told new → (e ≡ BadRange) ⊎ (e ≡ NoMemory)
     refused_limit s new device was told e is sized does =
-        let taken = subst (λ (r : Result Answer BadCommand). Does G Plans (command.Import 0) s r new) is does in
+        let taken = subst (λ (r : Result Answer BadCommand). Does G Plans (command.Import 0 256) s r new) is does in
         imports_refused s.moment device e new.place sized
-        (subst (λ (d : MemState). Imports ghosts G 0 s.moment d (answer.Reply (Refused e)) new.place) (same_device G s device was taken.0 taken.1) taken.2.0)
+        (subst (λ (d : MemState). Imports ghosts G 0 256 s.moment d (answer.Reply (Refused e)) new.place) (same_device G s device was taken.0 taken.1) taken.2.0)
 
   -- if a pool is there after an import, it is what the import mounted
-  pub mount_found : (s new : Session R MemState P) (device : MemState) → s.place ≡ Device device → (dirty_max : ℕ) (told : Result Answer BadCommand) (pool : P) → new.place ≡ Pool pool
-      → Does G Plans (command.Import dirty_max) s told new → (a : Answer) × IsMountedBy ghosts G.mounts dirty_max s.moment device pool a
-  mount_found s new device was dirty_max (Ok told) pool is taken = (
+  pub mount_found : (s new : Session R MemState P) (device : MemState) → s.place ≡ Device device → (dirty_max cache_blocks : ℕ) (told : Result Answer BadCommand) (pool : P) → new.place ≡ Pool pool
+      → Does G Plans (command.Import dirty_max cache_blocks) s told new → (a : Answer) × IsMountedBy ghosts G.mounts dirty_max s.moment device pool a
+  mount_found s new device was dirty_max cache_blocks (Ok told) pool is taken = (
     told,
-    subst (λ (p : Place MemState P). Imports ghosts G dirty_max s.moment device told p) is
-        (subst (λ (d : MemState). Imports ghosts G dirty_max s.moment d told new.place) (same_device G s device was taken.0 taken.1) taken.2.0),
+    subst (λ (p : Place MemState P). Imports ghosts G dirty_max cache_blocks s.moment device told p) is
+        (subst (λ (d : MemState). Imports ghosts G dirty_max cache_blocks s.moment d told new.place) (same_device G s device was taken.0 taken.1) taken.2.0),
   )
-  mount_found s new device was dirty_max (Err e) pool is same = absurd (false≢true (ap (λ (p : Place MemState P). has_pool p) (sym (same ∙ was) ∙ is)))
+  mount_found s new device was dirty_max cache_blocks (Err e) pool is same = absurd (false≢true (ap (λ (p : Place MemState P). has_pool p) (sym (same ∙ was) ∙ is)))

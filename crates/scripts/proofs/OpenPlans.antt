@@ -76,14 +76,14 @@ pub other_stays : (s : declared_step.Step) (r : declared_reply.Reply) (old new :
 other_stays (step.Lock owner n range mode) r old new other (answer, is, h) = by_answer old new _ answer _ _ (λ id d. ap (λ (x : State). x.shown.transactions) d.1) (wants old new) h
 other_stays (step.LockAppend owner n) r old new other (answer, is, h) = by_answer old new _ answer _ _ (λ a d. ap (λ (x : State). x.shown.transactions) d.1) (wants old new) h
 other_stays (step.Unlock owner id) r old new other (answer, is, h) = by_answer old new _ answer _ _ (λ a d. ap (λ (x : State). x.shown.transactions) d) (λ e never. absurd never) h
-other_stays (step.Read owner n range) r old new other (answer, is, h) = by_answer old new _ answer _ _ (λ bytes d. same_open old new d.1) (wants old new) h
+other_stays (step.Read owner n range) r old new other (answer, is, h) = by_answer old new _ answer _ _ (λ bytes d. same_open old new d.1) (λ e own. same_open old new own.1) h
 other_stays (step.Length n) r old new other (answer, is, h) = by_answer old new _ answer _ _ (λ length d. same_open old new d.1) (λ e never. absurd never) h
-other_stays step.Digest r old new other (answer, is, h) = by_answer old new _ answer _ _ (λ digest d. same_open old new d.1) (λ e never. absurd never) h
+other_stays step.Digest r old new other (answer, is, h) = by_answer old new _ answer _ _ (λ digest d. same_open old new d.1) (λ e own. same_open old new own.1) h
 other_stays step.Name r old new other (answer, is, h) = by_answer old new None answer _ _ (λ name (d : steps.Name name old new). same_open old new d.1) (λ e never. absurd never) h
 other_stays step.Status r old new other (answer, is, h) = by_answer old new None answer _ _ (λ status (d : steps.Status status old new). same_open old new d.1) (λ e never. absurd never) h
 other_stays step.CloseGroup r old new other (answer, is, h) = by_answer old new _ answer _ _ (λ group d. ap (λ (x : State). x.shown.transactions) d.1) (λ e never. absurd never) h
 other_stays step.MarkQuiesced r old new other (answer, is, h) = by_answer old new _ answer _ _ (λ group d. ap (λ (x : State). x.shown.transactions) d.1) (λ e never. absurd never) h
-other_stays (step.StartSync moment) r old new other (answer, is, h) = by_answer old new _ answer _ _ (λ group d. ap (λ (x : State). x.shown.transactions) d.4) (wants old new) h
+other_stays (step.StartSync moment) r old new other (answer, is, h) = by_answer old new _ answer _ _ (λ group d. ap (λ (x : State). x.shown.transactions) d.4) (λ e own. same_open old new own.1) h
 other_stays step.SyncStep r old new other (answer, is, h) = by_answer old new _ answer _ _ progress (λ e d. ap (λ (x : State). x.shown.transactions) d.1) h
   where
     progress : (p : SyncProgress) → (group : ℕ) × (plan : SyncPlan) × (old.shown.line.syncing ≡ Some group) × (old.shown.sync ≡ Some plan) × steps.IsProgress group p plan old new → HasSame old new

@@ -47,9 +47,9 @@ good_create name guid moment old told new sized named none = absurd none
 
 module _ {R : Type 0} (G : mounted.Ghosts MemPool MemState R) (Plans : Fault → ℕ → MemPool → MemPool → Type 0)
     (is_imported : (old device : MemState) (m : Mounted) (moment : ℕ) (pool : MemPool) → G.mounts old device m moment pool → IsImportedPool device m pool) where
-  pub import_limit : (dirty_max : ℕ) (old new : Session R MemState MemPool) (told : Result Answer BadCommand) (pool : MemPool) → is_ok told ≡ has_device old.place → has_device old.place ≡ true
-      → Does G Plans (command.Import dirty_max) old told new → new.place ≡ Pool pool → (shown pool).dirty_max ≡ dirty_max
-  import_limit dirty_max old new (Err e) pool answered there does is = absurd (false≢true (answered ∙ there))
-  import_limit dirty_max old new (Ok told) pool answered there does is =
-      let by = subst (λ (p : Place MemState MemPool). Imports ghosts G dirty_max old.moment does.0 told p) is does.2.0 in
+  pub import_limit : (dirty_max cache_blocks : ℕ) (old new : Session R MemState MemPool) (told : Result Answer BadCommand) (pool : MemPool) → is_ok told ≡ has_device old.place → has_device old.place ≡ true
+      → Does G Plans (command.Import dirty_max cache_blocks) old told new → new.place ≡ Pool pool → (shown pool).dirty_max ≡ dirty_max
+  import_limit dirty_max cache_blocks old new (Err e) pool answered there does is = absurd (false≢true (answered ∙ there))
+  import_limit dirty_max cache_blocks old new (Ok told) pool answered there does is =
+      let by = subst (λ (p : Place MemState MemPool). Imports ghosts G dirty_max cache_blocks old.moment does.0 told p) is does.2.0 in
       ap (λ s. s.dirty_max) (is_imported does.0 by.device by.mounted old.moment pool by.mounts).shown_is ∙ by.imported.limit

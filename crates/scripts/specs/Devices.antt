@@ -1,5 +1,6 @@
 -- What a create and an import make of the device, and what a refused one leaves of it.
 use Rattle.std.specs.Prelude.{ℕ, ◌≡◌, ◌⊎◌, ◌*◌, ◌/◌, IsTrue, List}
+use Rattle.base.specs.crash.Imports.{are_limits_allowed}
 use Rattle.base.specs.declared.error.PoolError.{PoolError}
 use Rattle.base.specs.declared.error.PoolError.TheVariants.{BadGeometry, BadRange, NoMemory}
 use Rattle.base.specs.declared.step.Reply.TheVariants.{Done, Refused}
@@ -46,12 +47,12 @@ module _ {Dev : Type 0} (V : Ghosts Dev) where
     pub counted : V.refused new ≡ with_refusal e (V.refused old)
     pub untouched : (e ≡ BadGeometry) ⊎ (e ≡ BadRange) → new ≡ old
 
-  -- An import with this limit is refused, as one of this size, limit and image is, and gives the device back, which
-  -- has counted its refused call: as it was if the limit is the reason, with the disk as it was and flushed if no
+  -- An import with these limits is refused, as one of this size, limits and image is, and gives the device back, which
+  -- has counted its refused call: as it was if the limits are the reason, with the disk as it was and flushed if no
   -- write and no flush was refused, and else with what the calls before the refused one made of it.
-  pub record IsLeftByImport (dirty_max moment : ℕ) (old : Dev) (e : PoolError) (new : Dev) : Type 0 where
+  pub record IsLeftByImport (dirty_max cache_blocks moment : ℕ) (old : Dev) (e : PoolError) (new : Dev) : Type 0 where
     pub size : V.size new ≡ V.size old
-    pub refused : IsImportRefusal (V.size old) dirty_max e
+    pub refused : IsImportRefusal (V.size old) (are_limits_allowed dirty_max cache_blocks) e
     pub counted : V.refused new ≡ with_refusal e (V.refused old)
     pub reason : IsTrue V.keeps_model → IsReason (bytes_of (V.disk old).now) e
     pub untouched : (e ≡ BadGeometry) ⊎ (e ≡ BadRange) → new ≡ old
@@ -79,5 +80,5 @@ module _ {Dev : Type 0} (V : Ghosts Dev) where
     pub mounts : Mounts old device mounted moment pool
 
   -- the import is refused so, or it is not, and its mount is
-  abbrev pub IsLeftByMount : (PoolError → Type 0) → (dirty_max moment : ℕ) → Dev → PoolError → Dev → Type 0
-  IsLeftByMount Refuses dirty_max moment old e new = IsLeftByImport dirty_max moment old e new ⊎ (Refuses e × ((m : Mounted) × IsImportRun dirty_max moment old new m))
+  abbrev pub IsLeftByMount : (PoolError → Type 0) → (dirty_max cache_blocks moment : ℕ) → Dev → PoolError → Dev → Type 0
+  IsLeftByMount Refuses dirty_max cache_blocks moment old e new = IsLeftByImport dirty_max cache_blocks moment old e new ⊎ (Refuses e × ((m : Mounted) × IsImportRun dirty_max moment old new m))

@@ -18,7 +18,7 @@ use Rattle.scripts.specs.declared.session.BadCommand.{BadCommand}
 
 abbrev pub is_crash : Command → Bool
 is_crash (command.Create name guid) = false
-is_crash (command.Import dirty_max) = false
+is_crash (command.Import dirty_max cache_blocks) = false
 is_crash (command.Crash pieces) = true
 is_crash (command.Fail fault n) = false
 is_crash (command.Pool asked) = false
@@ -37,7 +37,7 @@ module _ {Dev P : Type 0} where
   -- there is the device or the pool that the command needs
   abbrev pub has_what_it_needs : Command → Place Dev P → Bool
   has_what_it_needs (command.Create name guid) place = true
-  has_what_it_needs (command.Import dirty_max) place = has_device place
+  has_what_it_needs (command.Import dirty_max cache_blocks) place = has_device place
   has_what_it_needs (command.Crash pieces) place = has_device place
   has_what_it_needs (command.Fail fault n) place = has_device place
   has_what_it_needs (command.Pool asked) place = has_pool place
@@ -45,7 +45,7 @@ module _ {Dev P : Type 0} where
   -- there is the device or the pool that the command needs, on a device that commands can't crash or make fail
   abbrev pub has_on_device : Command → Place Dev P → Bool
   has_on_device (command.Create name guid) place = has_device place
-  has_on_device (command.Import dirty_max) place = has_device place
+  has_on_device (command.Import dirty_max cache_blocks) place = has_device place
   has_on_device (command.Crash pieces) place = false
   has_on_device (command.Fail fault n) place = false
   has_on_device (command.Pool asked) place = has_pool place

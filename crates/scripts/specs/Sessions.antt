@@ -35,7 +35,7 @@ module _ {R Dev P : Type 0} where
 -- whether there is a device and a pool after a command
 abbrev pub Leaves : {Dev P : Type 0} → Command → Place Dev P → Place Dev P → Type 0
 Leaves (command.Create name guid) old new = (IsTrue (has_device old) → IsTrue (has_device new)) × (has_pool new ≡ false)
-Leaves (command.Import dirty_max) old new = has_device new ≡ has_device old
+Leaves (command.Import dirty_max cache_blocks) old new = has_device new ≡ has_device old
 Leaves (command.Crash pieces) old new = (has_device new ≡ has_device old) × (has_pool new ≡ false)
 Leaves (command.Fail fault n) old new = (has_device new ≡ has_device old) × (has_pool new ≡ has_pool old)
 Leaves (command.Pool asked) old new = has_pool new ≡ has_pool old
@@ -43,21 +43,21 @@ Leaves (command.Pool asked) old new = has_pool new ≡ has_pool old
 module _ {R Dev P : Type 0} (V : sector.Ghosts Dev) (G : mounted.Ghosts P Dev R) where
   -- A refusal is the answer, and there is the device: as the import left it, which is refused so, or as it was
   -- imported, if its mount is refused so.
-  pub record IsImportRefused (dirty_max moment : ℕ) (old : Dev) (told : Answer) (new : Dev) : Type 0 where
+  pub record IsImportRefused (dirty_max cache_blocks moment : ℕ) (old : Dev) (told : Answer) (new : Dev) : Type 0 where
     pub error : PoolError
     pub told_is : told ≡ answer.Reply (Refused error)
     pub still : IsTrue V.keeps_model → LeavesSame (V.disk old) (V.disk new)
-    pub left : IsLeftByMount V G.refuses dirty_max moment old error new
+    pub left : IsLeftByMount V G.refuses dirty_max cache_blocks moment old error new
 
   -- an import of a device mounts its pool, or it is refused
-  abbrev pub Imports : ℕ → ℕ → Dev → Answer → Place Dev P → Type 0
-  Imports dirty_max moment old told Nothing = ⊥
-  Imports dirty_max moment old told (Device new) = IsImportRefused dirty_max moment old told new
-  Imports dirty_max moment old told (Pool pool) = IsMountedBy V G.mounts dirty_max moment old pool told
+  abbrev pub Imports : ℕ → ℕ → ℕ → Dev → Answer → Place Dev P → Type 0
+  Imports dirty_max cache_blocks moment old told Nothing = ⊥
+  Imports dirty_max cache_blocks moment old told (Device new) = IsImportRefused dirty_max cache_blocks moment old told new
+  Imports dirty_max cache_blocks moment old told (Pool pool) = IsMountedBy V G.mounts dirty_max moment old pool told
 
   -- so it does with the device that is taken, and a run keeps it
-  abbrev pub ImportsIn : ℕ → ℕ → Place Dev P → Answer → Place Dev P → Type 0
-  ImportsIn dirty_max moment old told new = TakesDevice G old (λ device. Imports dirty_max moment device told new × KeepsOverImport V G dirty_max old new)
+  abbrev pub ImportsIn : ℕ → ℕ → ℕ → Place Dev P → Answer → Place Dev P → Type 0
+  ImportsIn dirty_max cache_blocks moment old told new = TakesDevice G old (λ device. Imports dirty_max cache_blocks moment device told new × KeepsOverImport V G dirty_max old new)
 
   -- a create works on the device that is taken
   abbrev pub CreatesOnTaken : List ℕ → ℕ → Session R Dev P → Answer → Place Dev P → Type 0
@@ -66,7 +66,7 @@ module _ {R Dev P : Type 0} (V : sector.Ghosts Dev) (G : mounted.Ghosts P Dev R)
   -- what a command does on a device that commands can't crash or make fail; a bad command changes nothing
   abbrev pub DoesOnDevice : Command → Session R Dev P → Result Answer BadCommand → Session R Dev P → Type 0
   DoesOnDevice (command.Create name guid) s (Ok told) new = CreatesOnTaken name guid s told new.place
-  DoesOnDevice (command.Import dirty_max) s (Ok told) new = ImportsIn dirty_max s.moment s.place told new.place
+  DoesOnDevice (command.Import dirty_max cache_blocks) s (Ok told) new = ImportsIn dirty_max cache_blocks s.moment s.place told new.place
   DoesOnDevice (command.Crash pieces) s (Ok told) new = ⊥
   DoesOnDevice (command.Fail fault n) s (Ok told) new = ⊥
   DoesOnDevice (command.Pool asked) s (Ok told) new = AsksIn (G.asks asked s.moment) s.place told new.place
@@ -100,7 +100,7 @@ module _ {R P : Type 0} (G : mounted.Ghosts P MemState R) where
     -- what a command does that is answered, and a crash; one that is not answered leaves what is there
     abbrev pub Does : Command → Session R MemState P → Result Answer BadCommand → Session R MemState P → Type 0
     Does (command.Create name guid) s (Ok told) new = Creates name guid s told new.place
-    Does (command.Import dirty_max) s (Ok told) new = ImportsIn ghosts G dirty_max s.moment s.place told new.place
+    Does (command.Import dirty_max cache_blocks) s (Ok told) new = ImportsIn ghosts G dirty_max cache_blocks s.moment s.place told new.place
     Does (command.Crash pieces) s told new = Crashes pieces.items s.place told new.place
     Does (command.Fail fault n) s (Ok told) new = PlansFault Plans fault n s.place told new.place
     Does (command.Pool asked) s (Ok told) new = AsksIn (G.asks asked s.moment) s.place told new.place

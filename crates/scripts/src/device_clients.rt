@@ -45,6 +45,7 @@ fn a_given_device_can_be_imported<R, D: SectorDevice + Drop, P: MountedPool<D, R
     let mut session: DeviceSession<'_, R, D, P> = DeviceSession::new(rt, alloc, device, 77);
     session.run(Command::Import {
         dirty_max: 1_048_576,
+        cache_blocks: 256,
     })
 }
 
@@ -70,5 +71,6 @@ fn a_file_can_be_imported<F: SectorFile + Drop>(
     let mut session = FileSession::new(&(), alloc, device, 77);
     session.run(Command::Import {
         dirty_max: 1_048_576,
+        cache_blocks: 256,
     })
 }

@@ -49,7 +49,10 @@ impl<'r, R, D: SectorDevice + Drop, P: MountedPool<D, R>> DeviceSession<'r, R, D
     {
         match command {
             Command::Create { name, guid } => self.session.create_on_device(&name, guid),
-            Command::Import { dirty_max } => self.session.import(dirty_max),
+            Command::Import {
+                dirty_max,
+                cache_blocks,
+            } => self.session.import(dirty_max, cache_blocks),
             Command::Crash(_) | Command::Fail { .. } => Err(BadCommand),
             Command::Pool(command) => self.session.run_on_pool(command),
         }

@@ -7,11 +7,11 @@ ghost use Rattle.scripts.specs.Devices.{IsImportRun, IsLeftByImport};
 
 use base::PoolError;
 use device_model::SectorDevice;
-use import_replay::{Imported, import};
+use import_replay::{Imported, import_with};
 use script_lines::Answer;
 use std::alloc::Global;
 
-/// Imports the pool on a device, as `import_replay::import` does, and says what was imported.
+/// Imports the pool on a device, as `import_replay::import_with` does, and says what was imported.
 ///
 /// # Errors
 /// Those of that call. The device comes back as the import left it.
@@ -19,6 +19,7 @@ pub(crate) fn import_for_mount<D: SectorDevice>(
     alloc: Global,
     device: D,
     dirty_max: u64,
+    cache_blocks: u64,
     moment: u64,
 ) -> Result<(Imported<D>, Answer), (PoolError, D)>
     ensures run { IfOk result (λ p.
@@ -27,12 +28,12 @@ pub(crate) fn import_for_mount<D: SectorDevice>(
     ensures starts { IsTrue D.keeps_model → IfOk result (λ p.
         StartsBehind (D.disk device) p.0.mounted (D.disk p.0.device)) }
     ensures refused { IfErr result (λ e.
-        IsLeftByImport D.SectorDevice dirty_max moment device e.0 e.1) }
+        IsLeftByImport D.SectorDevice dirty_max cache_blocks moment device e.0 e.1) }
     ensures still { IsTrue D.keeps_model → MatchResult result
         (λ p. LeavesSame (D.disk device) (D.disk p.0.device))
         (λ e. LeavesSame (D.disk device) (D.disk e.1)) }
 {
-    match import(alloc, device, dirty_max, moment) {
+    match import_with(alloc, device, dirty_max, cache_blocks, moment) {
         Ok(imported) => {
             let answer = Answer::imported(&imported);
             Ok((imported, answer))

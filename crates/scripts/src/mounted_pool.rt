@@ -47,16 +47,17 @@ pub trait MountedPool<D: SectorDevice, R>: Drop {
     /// The run that had come to the first pool with this past goes on to the second.
     ghost goes_on: { Past → Self → Self → Type 0 };
 
-    /// Imports the pool on a device, with a limit of the bytes that may be dirty, and mounts it. The answer is that of
-    /// the import.
+    /// Imports the pool on a device, with limits of the bytes that may be dirty and of the tree blocks that may stay in
+    /// memory, and mounts it. The answer is that of the import.
     ///
     /// # Errors
-    /// Those of `import_replay::import`, and of the mount those of `refuses`. The device comes back as the import left
+    /// Those of `import_replay::import_with`, and of the mount those of `refuses`. The device comes back as the import left
     /// it.
     fn import(
         alloc: Global,
         device: D,
         dirty_max: u64,
+        cache_blocks: u64,
         moment: u64,
     ) -> Result<(Self, Answer), (PoolError, D)>
         ensures mounted { IfOk result (λ p.
@@ -64,7 +65,7 @@ pub trait MountedPool<D: SectorDevice, R>: Drop {
         ensures begun { IsTrue D.keeps_model → IfOk result (λ p. (past : Past)
             → left past (D.disk device) → ∥ begins past dirty_max p.0 ∥₁) }
         ensures refused { IfErr result (λ e.
-            IsLeftByMount D.SectorDevice refuses dirty_max moment device e.0 e.1) }
+            IsLeftByMount D.SectorDevice refuses dirty_max cache_blocks moment device e.0 e.1) }
         ensures still { IsTrue D.keeps_model
             → IfErr result (λ e. LeavesSame (D.disk device) (D.disk e.1)) };
 

@@ -23,6 +23,7 @@ fn an_import_has_its_limit(session: &mut OwnSession<'_>) -> Result<Answer, BadCo
 {
     session.run(Command::Import {
         dirty_max: 2_097_152,
+        cache_blocks: 2,
     })
 }
 

@@ -43,9 +43,10 @@ impl<R> MountedPool<MemDevice, R> for PoolState<MemDevice> {
         alloc: Global,
         device: MemDevice,
         dirty_max: u64,
+        cache_blocks: u64,
         moment: u64,
     ) -> Result<(Self, Answer), (PoolError, MemDevice)> {
-        match import_for_mount(alloc, device, dirty_max, moment) {
+        match import_for_mount(alloc, device, dirty_max, cache_blocks, moment) {
             Ok((imported, answer)) => Ok((PoolState::new(imported), answer)),
             Err(refused) => Err(refused),
         }
@@ -96,9 +97,10 @@ impl<F: SectorFile + Drop, R> MountedPool<FileDevice<F>, R> for PoolState<FileDe
         alloc: Global,
         device: FileDevice<F>,
         dirty_max: u64,
+        cache_blocks: u64,
         moment: u64,
     ) -> Result<(Self, Answer), (PoolError, FileDevice<F>)> {
-        match import_for_mount(alloc, device, dirty_max, moment) {
+        match import_for_mount(alloc, device, dirty_max, cache_blocks, moment) {
             Ok((imported, answer)) => Ok((PoolState::new(imported), answer)),
             Err(refused) => Err(refused),
         }

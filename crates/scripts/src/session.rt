@@ -96,18 +96,18 @@ impl<'r, R, D: SectorDevice + Drop, P: MountedPool<D, R>> Session<'r, R, D, P> {
         }
     }
 
-    pub(crate) fn import(&mut self, dirty_max: u64) -> Result<Answer, BadCommand>
+    pub(crate) fn import(&mut self, dirty_max: u64, cache_blocks: u64) -> Result<Answer, BadCommand>
         ensures needs { is_ok result ≡ has_device self.old.place }
         ensures left { has_device self.new.place ≡ has_device self.old.place }
         ensures imports { IfOk result (λ told. ImportsIn D.SectorDevice P.MountedPool dirty_max
-            self.old.moment self.old.place told self.new.place) }
+            cache_blocks self.old.moment self.old.place told self.new.place) }
         ensures unchanged { IsErr result → self.new.place ≡ self.old.place }
         ensures same_run { IsSameRun self.old self.new }
     {
         let Some(device) = self.take_device() else {
             return Err(BadCommand);
         };
-        match P::import(self.alloc, device, dirty_max, self.moment) {
+        match P::import(self.alloc, device, dirty_max, cache_blocks, self.moment) {
             Ok((pool, answer)) => {
                 self.place = Place::Pool(pool);
                 Ok(answer)
@@ -181,7 +181,10 @@ impl<'r, R, P: FaultyPool<R>> Session<'r, R, MemDevice, P> {
     {
         match command {
             Command::Create { name, guid } => Ok(self.create(&name, guid)),
-            Command::Import { dirty_max } => self.import(dirty_max),
+            Command::Import {
+                dirty_max,
+                cache_blocks,
+            } => self.import(dirty_max, cache_blocks),
             Command::Crash(pieces) => self.crash(pieces.as_slice()),
             Command::Fail { fault, n } => self.fail(fault, n),
             Command::Pool(command) => self.run_on_pool(command),

@@ -154,7 +154,10 @@ fn an_import_without_a_limit_is_a_bad_range<'r, W: Wait>(
         → IsGeometry (disk_size device.disk) → result ≡ Ok (Answer.Reply (Refused e))
         → (e ≡ BadRange) ⊎ (e ≡ NoMemory) }
 {
-    session.run(Command::Import { dirty_max: 0 })
+    session.run(Command::Import {
+        dirty_max: 0,
+        cache_blocks: 256,
+    })
 }
 
 // An imported pool follows the crash rule of what its device held. Its disk is the one that the import left, which
@@ -173,5 +176,6 @@ fn an_import_keeps_the_crash_rule_and_the_moment<'r, W: Wait>(
 {
     session.run(Command::Import {
         dirty_max: 2_097_152,
+        cache_blocks: 2,
     })
 }

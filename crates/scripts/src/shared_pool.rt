@@ -74,10 +74,17 @@ impl<W: Wait> MountedPool<MemDevice, W> for SharedPool {
         alloc: Global,
         device: MemDevice,
         dirty_max: u64,
+        cache_blocks: u64,
         moment: u64,
     ) -> Result<(Self, Answer), (PoolError, MemDevice)> {
         let before = Snapshot::of(&device);
-        let (imported, answer) = match import_for_mount(alloc, device, dirty_max, moment) {
+        let (imported, answer) = match import_for_mount(
+            alloc,
+            device,
+            dirty_max,
+            cache_blocks,
+            moment,
+        ) {
             Ok(found) => found,
             Err(refused) => return Err(refused),
         };

@@ -51,8 +51,9 @@ fn a_refused_device_call_ends_a_load(rt: HostRuntime) {
     assert_eq!(rt; count_refused(&rt, rt.alloc()), 20);
 }
 
+// Its digest at the latest reads the blocks of its objects.
 #[test]
-fn a_load_reads_nothing_from_its_device(rt: HostRuntime) {
+fn a_refused_read_ends_a_load(rt: HostRuntime) {
     let refusal = load_failing(&rt, rt.alloc(), 1_048_576, Some((Fault::Read, 1)));
-    assert_eq!(rt; refusal, Ok(None));
+    assert_eq!(rt; refusal, Ok(Some(PoolError::Read)));
 }

@@ -70,15 +70,15 @@
 #![tactic(auto)]
 
 pub use base::{
-    Bytes, DEFAULT_DIRTY_MAX, GREATEST_DIRTY_MAX, Group, LEAST_DIRTY_MAX, LockId, MAX_LENGTH,
-    MAX_LOCKS, MAX_NAME, MAX_TRANSACTIONS, Mode, OBJECT_COUNT, ObjectId, ObjectRange, Op, Ops,
-    Ordinal, Owner, Piece, Plan, PoolError, PoolName, Range, Receipt, RefusedCalls, Reply,
-    SECTOR_SIZE, Shape, Status, Step, TxId, is_name,
+    Bytes, DEFAULT_CACHE_BLOCKS, DEFAULT_DIRTY_MAX, GREATEST_CACHE_BLOCKS, GREATEST_DIRTY_MAX,
+    Group, LEAST_DIRTY_MAX, LockId, MAX_LENGTH, MAX_LOCKS, MAX_NAME, MAX_TRANSACTIONS, Mode,
+    OBJECT_COUNT, ObjectId, ObjectRange, Op, Ops, Ordinal, Owner, Piece, Plan, PoolError, PoolName,
+    Range, Receipt, RefusedCalls, Reply, SECTOR_SIZE, Shape, Status, Step, TxId, is_name,
 };
 pub use device_model::{
     Access, Fault, FileDevice, FileRefusal, HeldFile, MemDevice, SectorDevice, SectorFile,
 };
-pub use import_replay::{Imported, Inspected, Mounted, create, import, inspect};
+pub use import_replay::{Imported, Inspected, Mounted, create, import, import_with, inspect};
 pub use pool_core::{Duty, PoolState, Progress, run};
 pub use pool_threads::{Handle, Pool};
 pub use range_locks::{HeldLock, HeldLocks, HeldPiece};

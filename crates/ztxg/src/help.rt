@@ -100,6 +100,7 @@ Examples:
 A line is a command, or empty, or begins with #. Each command prints one line:
   create NAME GUID             ok
   import DIRTYMAX              synced G open G records R
+  import DIRTYMAX CACHE        the same, with CACHE tree blocks in memory
   lock OWNER OBJECT r LOW HIGH lock ID, to read; with w to write
   append OWNER OBJECT          lock ID LOW HIGH
   unlock OWNER ID              ok

@@ -15,7 +15,7 @@ returns-in-Err-clause-imports g c =
     let V = g.D.SectorDevice in
     let G = g.P.MountedPool in
     let left = c.in-Err.ensures in
-    let imports : Imports V G c.args.dirty_max c.args.self.now.moment c.in-Some.device c.give_back.result c.give_back.new.self = rw (c.give_back.ensures.device, ← c.take_device.ensures.same_run.0)
+    let imports : Imports V G c.args.dirty_max c.args.cache_blocks c.args.self.now.moment c.in-Some.device c.give_back.result c.give_back.new.self = rw (c.give_back.ensures.device, ← c.take_device.ensures.same_run.0)
     (record { error = c.in-Err.error; told_is = c.give_back.ensures.refused; still = left.still; left = left.refused }) in
     let keeps : KeepsOverImport V G c.args.dirty_max c.args.self.now.place c.give_back.new.self = λ keep past run.
     subst (λ place. FindsRun V G past c.args.dirty_max place) (sym c.give_back.ensures.device)
