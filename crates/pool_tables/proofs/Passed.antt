@@ -6,14 +6,12 @@ use Rattle.base.specs.declared.error.PoolError.TheVariants as error
 use Rattle.base.specs.declared.names.Group.{Group}
 use Rattle.base.specs.declared.refused.RefusedCalls.{RefusedCalls}
 use Rattle.base.specs.disk.Calls.{counted}
-use Rattle.base.specs.formats.Records.{Record}
 use Rattle.base.specs.history.Past.{Past}
 use Rattle.base.specs.steps.ExactNow.{IsExplainedNow}
-use Rattle.base.specs.steps.Groups.{Line, Middle}
 use Rattle.base.specs.steps.Refusals.{close_refusal, log_flush_refusal, log_write_refusal, quiesce_refusal, quiesced_group, quiescing_group, start_refusal, sync_step_refusal}
 use Rattle.base.specs.steps.Shown.{Shown, SyncPlan}
 use Rattle.base.specs.steps.Steps as steps
-use Rattle.base.specs.steps.Steps.{Answers, IsPlanned, IsProgress, State, SyncProgress, TakesForEach, TakesForLog, WantsMemory, line_after_close, line_after_quiesce, state_after_log_flush, state_after_log_write, state_after_start, suspended_state, with_line}
+use Rattle.base.specs.steps.Steps.{Answers, IsPlanned, IsProgress, State, SyncProgress, TakesForEach, WantsMemory, line_after_close, line_after_quiesce, state_after_log_flush, state_after_start, suspended_state, with_line}
 use Rattle.base.proofs.common.KeptLists.{Some-injective}
 use Rattle.base.proofs.history.CommitOrder.{ok-none}
 use Rattle.pool_tables.specs.Meets.{Meets}
