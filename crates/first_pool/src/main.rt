@@ -1,15 +1,15 @@
 //! A first program over the library: a pool in a file, used by one thread.
 //!
-//! It makes the pool, writes a note in one transaction, syncs it, opens the file again and reads the note. One call is
-//! refused on the way, and the program goes on.
+//! It makes the pool, writes a note in one transaction, syncs the pool, opens the file again and reads the note. One
+//! call is refused on the way, and the program goes on.
 #![tactic(auto)]
 
-use anyhow::{Context, Result};
+use anyhow::Result;
 use std::alloc::Global;
 use std::io::Print;
 use std::sync::Wait;
 use topzerad::{
-    Bytes, DEFAULT_DIRTY_MAX, FileDevice, Mode, ObjectId, Op, Ops, Owner, Pool, PoolError, Range,
+    Bytes, DEFAULT_DIRTY_MAX, FileDevice, Handle, ObjectId, Op, Ops, Owner, Pool, PoolError, Range,
     create,
 };
 
@@ -37,17 +37,21 @@ fn main(rt: HostRuntime) -> Result<()> {
 // Makes a pool, and writes and syncs the note.
 fn write_note<R: Wait + Print>(rt: &R, alloc: Global, device: FileDevice) -> Result<()> {
     let pool = make_pool(alloc, device)?;
-    commit_note(rt, alloc, &pool)?;
-    // A power failure before the sync would lose the note.
-    let mut state = pool.close().context("a thread has the pool")?;
-    let group = state.sync_open_group(0)?;
+    let mut handle = pool.handle();
+    commit_note(rt, alloc, &mut handle)?;
+    // A power failure before the sync would lose the note. A program that writes for long syncs again and again: at the
+    // dirty limit a transaction waits until a thread does.
+    let group = handle.sync_pool(rt)?;
     println!(rt; "group {} is synced", group.0)?;
     Ok(())
 }
 
 // Commits the note, and tries it once more.
-fn commit_note<R: Wait + Print>(rt: &R, alloc: Global, pool: &Pool<FileDevice>) -> Result<()> {
-    let mut handle = pool.handle();
+fn commit_note<R: Wait + Print>(
+    rt: &R,
+    alloc: Global,
+    handle: &mut Handle<'_, FileDevice>,
+) -> Result<()> {
     let receipt = handle.transact(rt, OWNER, note(alloc, b"hello, pool")?)?;
     println!(rt; "the note is in group {}", receipt.group.0)?;
     // The note exists already, so the whole transaction is refused and changes nothing.
@@ -74,11 +78,9 @@ fn note(alloc: Global, text: &[u8]) -> Result<Ops, PoolError> {
     Ok(Ops::new(ops))
 }
 
-// Opens the pool on the device and reads the note, under a lock that lets others read too.
+// Opens the pool on the device and reads the note.
 fn read_note<R: Wait>(rt: &R, alloc: Global, device: FileDevice) -> Result<Bytes, PoolError> {
     let pool = Pool::open(alloc, device, DEFAULT_DIRTY_MAX, 0)?;
-    let mut handle = pool.handle();
-    handle.lock(rt, OWNER, NOTE, Range::WHOLE, Mode::Reader)?;
-    let note = handle.read(rt, OWNER, NOTE, Range::WHOLE)?;
+    let note = pool.handle().fetch(rt, OWNER, NOTE, Range::WHOLE)?;
     Ok(note)
 }

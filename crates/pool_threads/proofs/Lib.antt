@@ -15,8 +15,13 @@ pub mod TransactsSeen
 pub mod Released
 pub mod TransactsRelease
 pub mod TransactClients
+pub mod Fetched
+pub mod FetchesSeen
+pub mod FetchClients
 mod Served
 mod Waited
 mod WaitsSeen
 mod TransactsDurably
 mod Looped
+mod WaitClients
+mod LoopClients

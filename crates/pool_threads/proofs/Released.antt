@@ -36,7 +36,7 @@ use Rattle.base.proofs.common.Sieves.{filter_nothing}
 use Rattle.base.proofs.steps.KeptTables.{steps_keep_tables}
 
 -- a step that was not refused did what it does
-done : {A : Type 0} (make : A → declared_reply.Reply) (o : Option PoolError) (answer : Result A PoolError) (old new : State) (does : A → Type 0) (own : PoolError → Type 0) (r : declared_reply.Reply)
+pub done : {A : Type 0} (make : A → declared_reply.Reply) (o : Option PoolError) (answer : Result A PoolError) (old new : State) (does : A → Type 0) (own : PoolError → Type 0) (r : declared_reply.Reply)
     → ((e : PoolError) → r ≡ reply.Refused e → ⊥) → r ≡ reply_of make answer → Answers o answer old new does own → (a : A) × (o ≡ None) × (r ≡ make a) × does a
 done make (Some f) answer old new does own r accepted is holds = absurd (accepted f (is ∙ ap (reply_of make) holds.0))
 done make None (Ok a) old new does own r accepted is holds = (a, refl, is, holds)
@@ -50,12 +50,12 @@ stays make None (Ok a) old new does own e refused leaves is holds = absurd (refu
 stays make None (Err f) old new does own e refused leaves is holds = leaves f holds
 
 -- one that no test refuses, and that has no refusal of its own, did what it does
-passed : {A : Type 0} (o : Option PoolError) (answer : Result A PoolError) (old new : State) (does : A → Type 0) → o ≡ None → Answers o answer old new does (λ e. ⊥) → (a : A) × does a
+pub passed : {A : Type 0} (o : Option PoolError) (answer : Result A PoolError) (old new : State) (does : A → Type 0) → o ≡ None → Answers o answer old new does (λ e. ⊥) → (a : A) × does a
 passed (Some f) answer old new does passes holds = absurd (let no_way : Some f ≡ None = passes in cc)
 passed None (Ok a) old new does passes holds = (a, holds)
 passed None (Err e) old new does passes holds = absurd holds
 
-runs_on : (b : Bool) (rest : List Test) → first_refusal (refused_if b error.Suspended ∷ rest) ≡ None → b ≡ false
+pub runs_on : (b : Bool) (rest : List Test) → first_refusal (refused_if b error.Suspended ∷ rest) ≡ None → b ≡ false
 runs_on false rest is = refl
 runs_on true rest is = absurd (let no_way : Some error.Suspended ≡ None = is in cc)
 
@@ -115,7 +115,7 @@ one_locked now owner n range mode id ids b m s x (answer, is, holds) rest =
 passes_two : (a b : Bool) (e f : PoolError) → a ≡ false → b ≡ false → first_refusal (refused_if a e ∷ refused_if b f ∷ []) ≡ None
 passes_two a b e f no_a no_b = subst (λ x. first_refusal (refused_if x e ∷ refused_if b f ∷ []) ≡ None) (sym no_a) (subst (λ x. first_refusal (refused_if false e ∷ refused_if x f ∷ []) ≡ None) (sym no_b) refl)
 
-passes_three : (a b c : Bool) (e f g : PoolError) → a ≡ false → b ≡ false → c ≡ false → first_refusal (refused_if a e ∷ refused_if b f ∷ refused_if c g ∷ []) ≡ None
+pub passes_three : (a b c : Bool) (e f g : PoolError) → a ≡ false → b ≡ false → c ≡ false → first_refusal (refused_if a e ∷ refused_if b f ∷ refused_if c g ∷ []) ≡ None
 passes_three a b c e f g no_a no_b no_c = subst (λ x. first_refusal (refused_if x e ∷ refused_if b f ∷ refused_if c g ∷ []) ≡ None) (sym no_a) (passes_two b c f g no_b no_c)
 
 -- what was done between the locks and the unlocks leaves them, and no transaction

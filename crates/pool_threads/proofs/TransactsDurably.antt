@@ -18,7 +18,7 @@ module _ {Dev : Type 0} {G : Ghosts Dev} where
   along_waits : (receipt : Receipt) (result : Result (Unit {0}) PoolError) (old new : Handle Dev G) → WaitsUntil receipt result old new → GoesAlong old new
   along_waits receipt result old new w =
       let turns = whole_wait receipt result w in
-      record { same_pool = turns.same_pool; onward = grows_onward _ _ _ _ turns.made.onward turns.made.made; met_none = turns.made.met_none }
+      record { same_pool = turns.same_pool; onward = grows_onward _ _ _ _ turns.made.onward turns.made.made.0; met_none = turns.made.met_none }
 
   module _ (owner : Owner) (ops : List Op) where
     pub durably_entered : (result : Result Receipt (PoolError × Option Receipt)) (old new : Handle Dev G) → TransactsDurably owner ops result old new → IfOk result (λ r. Sees (IsTransacted ops r) old new)

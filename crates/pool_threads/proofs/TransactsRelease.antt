@@ -39,11 +39,11 @@ abbrev IsSound : State → Type 0
 IsSound s = IsExplainedNow s.shown s.past
 
 -- a step over a device of which nothing is known
-abbrev Does : declared_step.Step → declared_reply.Reply → State → State → Type 0
+abbrev pub Does : declared_step.Step → declared_reply.Reply → State → State → Type 0
 Does s r old new = Step ⊥ [] s r old new
 
 -- a step that is refused so leaves all as it is
-abbrev Leaves : declared_step.Step → PoolError → Type 0
+abbrev pub Leaves : declared_step.Step → PoolError → Type 0
 Leaves s e = (old new : State) → Does s (reply.Refused e) old new → new ≡ old
 
 -- tries that are refused so, with nothing between them, leave all as it is
@@ -64,7 +64,7 @@ begin_leaves owner plan old new one = begin_refused [] owner plan error.Throttle
 
 module _ {Dev : Type 0} {G : Ghosts Dev} where
   -- a step of the only handle is one from what it had seen to what it has seen
-  step_at_once : {s : declared_step.Step} {r : declared_reply.Reply} (old new : Handle Dev G) → kin_of old ≡ 0 → Makes s r old new → ∥ Does s r (state_seen old) (state_seen new) ∥₁
+  pub step_at_once : {s : declared_step.Step} {r : declared_reply.Reply} (old new : Handle Dev G) → kin_of old ≡ 0 → Makes s r old new → ∥ Does s r (state_seen old) (state_seen new) ∥₁
   step_at_once {s} {r} old new only m =
       ∥∥₁_map {B = Does s r (state_seen old) (state_seen new)} m.made.made.step (λ one. subst (λ (v : SeenPool). Does s r (viewed_state v) (state_seen new)) (m.made.alone only) one)
 
@@ -72,12 +72,12 @@ module _ {Dev : Type 0} {G : Ghosts Dev} where
     took_is : ∥ viewed_state m.made.took ≡ state_seen old ∥₁
     took_is = tries_leave (IsTrue G.keeps_model) s e m.made.had (seen old.seat) m.made.took leaves m.made.each (m.made.alone only)
 
-    step_at_last : ∥ Does s r (state_seen old) (state_seen new) ∥₁
+    pub step_at_last : ∥ Does s r (state_seen old) (state_seen new) ∥₁
     step_at_last =
         ∥∥₁_elim took_is ∥∥₁_prop (λ same.
         ∥∥₁_map {B = Does s r (state_seen old) (state_seen new)} m.made.made.step (λ one. subst (λ (v : State). Does s r v (state_seen new)) same one))
 
-    sound_before : ∥ IsSound (state_seen old) ∥₁
+    pub sound_before : ∥ IsSound (state_seen old) ∥₁
     sound_before =
         ∥∥₁_elim took_is ∥∥₁_prop (λ same.
         ∥∥₁_map {B = IsSound (state_seen old)} m.made.made.explained (λ x. subst IsSound same x))

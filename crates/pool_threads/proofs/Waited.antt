@@ -29,13 +29,20 @@ unbroken_join : (u : SeenPool) (xs : List (Turn SeenPool)) (v : SeenPool) (ys : 
 unbroken_join u [] v ys w same line = subst (λ (x : SeenPool). AreUnbroken x ys w) same line
 unbroken_join u (t ∷ ts) v ys w first line = (first.0, unbroken_join t.left ts v ys w first.1 line)
 
--- a turn that leads on
+-- in this turn nothing changed, or that was done which was due
+abbrev pub LooksOrServes : Type 0 → Turn SeenPool → Type 0
+LooksOrServes keeps t = (t.left ≡ t.took) ⊎ ((d : Duty) × (r : Option declared_reply.Reply) × IsServedTurn keeps d r t)
+
+-- such a turn, which leads on
 abbrev pub LeadsOn : Type 0 → Turn SeenPool → Type 0
-LeadsOn keeps t = GrowsTo keeps t.took t.left
+LeadsOn keeps t = GrowsTo keeps t.took t.left × LooksOrServes keeps t
+
+served_leads : (keeps : Type 0) (d : Duty) (r : Option declared_reply.Reply) (t : Turn SeenPool) → IsServedTurn keeps d r t → LeadsOn keeps t
+served_leads keeps d r t made = (grows_by_due keeps d r t.took t.left made, inr (d, r, made))
 
 module _ {Dev : Type 0} {G : Ghosts Dev} where
   -- turns of one kind, and then others
-  takes_on : {P : Turn SeenPool → Type 0} {old now next : Handle Dev G} → Takes P old now → Takes P now next → Takes P old next
+  pub takes_on : {P : Turn SeenPool → Type 0} {old now next : Handle Dev G} → Takes P old now → Takes P now next → Takes P old next
   takes_on {P} {old} {now} {next} t u = record {
     same_pool = stays_on old now next t.same_pool u.same_pool;
     made = record {
@@ -48,7 +55,7 @@ module _ {Dev : Type 0} {G : Ghosts Dev} where
     };
   }
 
-  ends_on : {P Q : Turn SeenPool → Type 0} {old now next : Handle Dev G} → Takes P old now → TakesAtLast P Q now next → TakesAtLast P Q old next
+  pub ends_on : {P Q : Turn SeenPool → Type 0} {old now next : Handle Dev G} → Takes P old now → TakesAtLast P Q now next → TakesAtLast P Q old next
   ends_on {P} {Q} {old} {now} {next} t u = record {
     same_pool = stays_on old now next t.same_pool u.same_pool;
     made = record {
@@ -65,7 +72,13 @@ module _ {Dev : Type 0} {G : Ghosts Dev} where
   }
 
   -- turns of one kind are turns of another
-  ends_as : {P Q R S : Turn SeenPool → Type 0} {old new : Handle Dev G} → ((t : Turn SeenPool) → P t → R t) → ((t : Turn SeenPool) → Q t → S t) → TakesAtLast P Q old new → TakesAtLast R S old new
+  pub takes_as : {P R : Turn SeenPool → Type 0} {old now : Handle Dev G} → ((t : Turn SeenPool) → P t → R t) → Takes P old now → Takes R old now
+  takes_as {P} {R} p u = record {
+    same_pool = u.same_pool;
+    made = record { had = u.made.had; each = All-weaker P R p u.made.had u.made.each; onward = u.made.onward; turns = u.made.turns; met_none = u.made.met_none; alone = u.made.alone };
+  }
+
+  pub ends_as : {P Q R S : Turn SeenPool → Type 0} {old new : Handle Dev G} → ((t : Turn SeenPool) → P t → R t) → ((t : Turn SeenPool) → Q t → S t) → TakesAtLast P Q old new → TakesAtLast R S old new
   ends_as {P} {Q} {R} p q u = record {
     same_pool = u.same_pool;
     made = record {
@@ -81,7 +94,7 @@ module _ {Dev : Type 0} {G : Ghosts Dev} where
   }
 
   -- a last turn that is like those before it
-  all_alike : {P Q : Turn SeenPool → Type 0} {old new : Handle Dev G} → ((t : Turn SeenPool) → Q t → P t × GrowsTo (IsTrue G.keeps_model) t.took t.left) → TakesAtLast P Q old new → Takes P old new
+  pub all_alike : {P Q : Turn SeenPool → Type 0} {old new : Handle Dev G} → ((t : Turn SeenPool) → Q t → P t × GrowsTo (IsTrue G.keeps_model) t.took t.left) → TakesAtLast P Q old new → Takes P old new
   all_alike {P} {Q} {old} {new} q u =
       let last = q (turn u.made.took (seen new.seat)) u.made.made in
       record {
@@ -134,8 +147,8 @@ module _ {Dev : Type 0} {G : Ghosts Dev} where
         → TakesAtLast (IsSyncing (IsTrue G.keeps_model) moment group) (EndsSyncing (IsTrue G.keeps_model) moment group (Err e)) old new
     syncs_refused e t is m = at_last _ t (refused_as (duty.SyncUpTo group moment) r e is m)
 
-  -- turns that lead on, of which nothing else is said: one, some, and one at last
-  abbrev TakesAnyOne : Handle Dev G → Handle Dev G → Type 0
+  -- turns that lead on: one, some, and one at last
+  abbrev pub TakesAnyOne : Handle Dev G → Handle Dev G → Type 0
   TakesAnyOne = TakesOne (LeadsOn (IsTrue G.keeps_model))
 
   abbrev pub TakesAny : Handle Dev G → Handle Dev G → Type 0
@@ -145,44 +158,45 @@ module _ {Dev : Type 0} {G : Ghosts Dev} where
   TakesAnyAtLast = TakesAtLast (LeadsOn (IsTrue G.keeps_model)) (LeadsOn (IsTrue G.keeps_model))
 
   log_turn : (r : Option declared_reply.Reply) {old new : Handle Dev G} → WritesLog r old new → TakesAnyOne old new
-  log_turn r m = served_as (λ t made. grows_by_due (IsTrue G.keeps_model) duty.CommitLog r t.took t.left made) m
+  log_turn r m = served_as (λ t made. served_leads (IsTrue G.keeps_model) duty.CommitLog r t made) m
 
-  more_leads_on : {old now next : Handle Dev G} → TakesAny old now → TakesAnyOne now next → TakesAny old next
-  more_leads_on t m = one_more_turn _ t m m.made.made
+  pub more_leads_on : {old now next : Handle Dev G} → TakesAny old now → TakesAnyOne now next → TakesAny old next
+  more_leads_on t m = one_more_turn _ t m m.made.made.0
 
-  sync_turns : (group : Group) (result : Result (Unit {0}) PoolError) {old new : Handle Dev G} → SyncsUpTo group result old new → TakesAnyAtLast old new
-  sync_turns group result {old} {new} u = ends_as (λ t made. grows_by_due (IsTrue G.keeps_model) d made.0 t.took t.left made.2) (by result) u
+  pub sync_turns : (group : Group) (result : Result (Unit {0}) PoolError) {old new : Handle Dev G} → SyncsUpTo group result old new → TakesAnyAtLast old new
+  sync_turns group result {old} {new} u = ends_as (λ t made. served_leads (IsTrue G.keeps_model) d made.0 t made.2) (by result) u
     where
       d : Duty
       d = duty.SyncUpTo group (moment_of old)
 
       by : (x : Result (Unit {0}) PoolError) (t : Turn SeenPool) → EndsSyncing (IsTrue G.keeps_model) (moment_of old) group x t → LeadsOn (IsTrue G.keeps_model) t
-      by (Ok done) t made = grows_by_due (IsTrue G.keeps_model) d made.0.0 t.took t.left made.0.2
-      by (Err e) t made = grows_by_due (IsTrue G.keeps_model) d (Some (reply.Refused e)) t.took t.left made
+      by (Ok done) t made = served_leads (IsTrue G.keeps_model) d made.0.0 t made.0.2
+      by (Err e) t made = served_leads (IsTrue G.keeps_model) d (Some (reply.Refused e)) t made
 
   -- a wait for a receipt, turn by turn
   module _ (receipt : Receipt) where
     look_turn : (found : Result Bool PoolError) {old new : Handle Dev G} → LooksAt receipt found old new → TakesAnyOne old new
-    look_turn found m = served_as (λ t f. subst (GrowsTo (IsTrue G.keeps_model) t.took) (sym f.looked) (grows_same (IsTrue G.keeps_model) t.took)) m
+    look_turn found m = served_as (λ t f. (subst (GrowsTo (IsTrue G.keeps_model) t.took) (sym f.looked) (grows_same (IsTrue G.keeps_model) t.took), inl f.looked)) m
 
     sync_instead : (result : Result (Unit {0}) PoolError) {old new : Handle Dev G} → SyncsInstead receipt result old new → TakesAnyAtLast old new
     sync_instead result {old} s = ends_on (more_leads_on (no_turns _ old) (log_turn (Some (reply.Refused NoLogSpace)) s.refused)) (sync_turns receipt.group result s.syncs)
 
-    lead_turns : (result : Result (Unit {0}) PoolError) {old new : Handle Dev G} → Leads receipt result old new → TakesAnyAtLast old new
+    pub lead_turns : (result : Result (Unit {0}) PoolError) {old new : Handle Dev G} → Leads receipt result old new → TakesAnyAtLast old new
     lead_turns (Ok done) {old} (inl (r, passed, m)) = at_last _ (no_turns _ old) (log_turn r m)
     lead_turns (Ok done) (inr s) = sync_instead (Ok done) s
     lead_turns (Err e) {old} (inl (other, m)) = at_last _ (no_turns _ old) (log_turn (Some (reply.Refused e)) m)
     lead_turns (Err e) (inr s) = sync_instead (Err e) s
 
-    round_turns : {old new : Handle Dev G} → WaitsOnce receipt old new → TakesAny old new
-    round_turns {old} {new} w = by w.goes_on
+    -- what is done in a round after its look
+    pub round_rest : {old new : Handle Dev G} (w : WaitsOnce receipt old new) → TakesAny w.looked new
+    round_rest {old} {new} w = by w.goes_on
       where
-        looked : TakesAny old w.looked
-        looked = more_leads_on (no_turns _ old) (look_turn (Ok false) w.looks)
+        by : (new ≡ w.looked) ⊎ Leads receipt (Ok tt) w.looked new → TakesAny w.looked new
+        by (inl same) = subst (λ (h : Handle Dev G). TakesAny w.looked h) (sym same) (no_turns _ w.looked)
+        by (inr l) = all_alike (λ t leads. (leads, leads.0)) (lead_turns (Ok tt) l)
 
-        by : (new ≡ w.looked) ⊎ Leads receipt (Ok tt) w.looked new → TakesAny old new
-        by (inl same) = subst (λ (h : Handle Dev G). TakesAny old h) (sym same) looked
-        by (inr l) = takes_on looked (all_alike (λ t leads. (leads, leads)) (lead_turns (Ok tt) l))
+    round_turns : {old new : Handle Dev G} → WaitsOnce receipt old new → TakesAny old new
+    round_turns {old} w = takes_on (more_leads_on (no_turns _ old) (look_turn (Ok false) w.looks)) (round_rest w)
 
     pub wait_turns : (rounds : List (Handle Dev G)) {old now : Handle Dev G} → Waits receipt rounds old now → TakesAny old now
     wait_turns [] {old} same = subst (λ (h : Handle Dev G). TakesAny old h) (sym same) (no_turns _ old)

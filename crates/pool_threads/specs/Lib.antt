@@ -7,4 +7,5 @@ pub mod Laws
 pub mod Serves
 pub mod Waits
 pub mod Transacts
+pub mod Fetches
 pub mod Loops

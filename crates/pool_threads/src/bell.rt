@@ -4,8 +4,10 @@
 //! 1. Who waits reads how often the bell was rung, then looks at the pool, and sleeps only if it was not rung since.
 //! 2. Who rings has changed the pool before. So a change comes before the look, which then sees it, or its ring ends
 //!    the sleep: no ring is lost. A number that is read after the look would lose those between.
-//! 3. A ring makes no system call if nobody sleeps. A sleeper counts itself before the system compares the number of
-//!    rings, and a ringer counts the ring before it looks for sleepers, so one of the two sees the other.
+//! 3. The lowest bit of the number says that one may sleep. A sleeper sets it, and sleeps while the number with that bit
+//!    stays. A ring counts first. If the bit is set it clears it and wakes all, so the next ring makes no system call,
+//!    also while those that were woken have not run yet. One that sets the bit between the count and the clearing sees
+//!    the number change, or is woken with the others.
 
 use crossbeam_utils::Backoff;
 use std::sync::Wait;
@@ -17,40 +19,44 @@ const LONG_TIME_IN_MICROSECONDS: u64 = 20_000;
 
 const SHORT_TIME_IN_MICROSECONDS: u64 = 500;
 
-/// How often it was rung, and how many sleep until it is.
+// The bit that says that one may sleep, and one ring in the count above it.
+const ASLEEP: u64 = 1;
+
+const RING: u64 = 2;
+
+/// How often it was rung, and whether one may sleep until it is.
 #[derive(Drop)]
 pub(crate) struct Bell {
-    rings: AtomicU64,
-    sleepers: AtomicU64,
+    word: AtomicU64,
 }
 
 impl Bell {
     pub(crate) fn new() -> Self {
         Bell {
-            rings: AtomicU64::new(0),
-            sleepers: AtomicU64::new(0),
+            word: AtomicU64::new(0),
         }
     }
 
-    /// How often it was rung so far.
+    /// A number that each ring changes.
     pub(crate) fn rings(&self) -> u64 {
-        self.rings.load(Ordering::SeqCst)
+        self.word.load(Ordering::SeqCst) & !ASLEEP
     }
 
     /// Rings, and wakes all that sleep.
     pub(crate) fn ring(&self) {
-        self.rings.fetch_add(1, Ordering::SeqCst);
-        if self.sleepers.load(Ordering::SeqCst) != 0 {
-            self.rings.wake_all();
+        let found = self.word.fetch_add(RING, Ordering::SeqCst);
+        if found & ASLEEP != 0 {
+            self.word.fetch_and(!ASLEEP, Ordering::SeqCst);
+            self.word.wake_all();
         }
     }
 
-    /// Sleeps until it is rung more often than that, or for a long time.
+    /// Sleeps until it is rung after `rings` was read, or for a long time.
     pub(crate) fn sleep<W: Wait>(&self, rt: &W, rings: u64) {
         self.sleep_for(rt, rings, LONG_TIME_IN_MICROSECONDS);
     }
 
-    /// Sleeps until it is rung more often than that, or for a short time.
+    /// Sleeps until it is rung after `rings` was read, or for a short time.
     pub(crate) fn sleep_briefly<W: Wait>(&self, rt: &W, rings: u64) {
         self.sleep_for(rt, rings, SHORT_TIME_IN_MICROSECONDS);
     }
@@ -64,11 +70,14 @@ impl Bell {
         }
     }
 
-    fn sleep_for<W: Wait>(&self, rt: &W, rings: u64, micros: u64) {
+    /// Sleeps until it is rung after `rings` was read, or for so long.
+    pub(crate) fn sleep_for<W: Wait>(&self, rt: &W, rings: u64, micros: u64) {
+        if self.rings() != rings {
+            return;
+        }
+        self.word.fetch_or(ASLEEP, Ordering::SeqCst);
+        let asleep = (rings | ASLEEP) % (1 << 32);
         let time = Duration::from_micros(micros);
-        self.sleepers.fetch_add(1, Ordering::SeqCst);
-        self.rings
-            .park_timeout(rt, (rings % (1 << 32)) as u32, time);
-        self.sleepers.fetch_sub(1, Ordering::SeqCst);
+        self.word.park_timeout(rt, asleep as u32, time);
     }
 }

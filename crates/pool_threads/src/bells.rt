@@ -1,15 +1,14 @@
 //! When the loops of a pool look at it. No clause rests on it.
 //!
 //! 1. The sync of a group costs much the same whatever the group holds, so small groups cost most. A quiescer looks
-//!    when a `begin` is throttled, and else every 20 milliseconds (`txg_quiesce_thread` waits for a timeout or a full
-//!    group).
+//!    when a `begin` is throttled, and else after a period (`txg_quiesce_thread` waits for a timeout or a full group).
 //! 2. While transactions of a closed group are open, the quiescer looks each time that a transaction has ended.
 //! 3. The syncer looks when a group was quiesced, and again at once after each sync.
 //! 4. A `begin` that is throttled does not call while a group is quiesced and unsynced: the quiescer would close a
 //!    small group then. It is woken after that sync, and calls then if it is throttled still. So nothing else rings for
 //!    the quiescer after a sync.
-//! 5. Before a turn each loop reads how often its bells were rung, and then tests whether the loops are to end. After
-//!    the turn it sleeps only if its bell was not rung since (`bell.rt`). So neither a ring nor the end is slept over.
+//! 5. Before a turn each loop reads the numbers of its bells, and then tests whether the loops are to end. After the
+//!    turn it sleeps only if its bell was not rung since (`bell.rt`). So neither a ring nor the end is slept over.
 //! 6. The numbers of groups only rise. Threads note them after their turns, in any order, and the greatest one stands.
 
 use crate::bell::Bell;
@@ -17,6 +16,10 @@ use base::{Group, Reply};
 use pool_core::Duty;
 use std::sync::Wait;
 use std::sync::atomic::{AtomicU64, Ordering};
+
+// How long a quiescer rests that nobody calls. Each round of the log takes blocks until a group is synced, so a period
+// that is far longer would fill a small pool.
+const PERIOD_IN_MICROSECONDS: u64 = 20_000;
 
 /// What rings for the loops: a begin that is throttled, a group that may be quiesced or synced, and the end of the
 /// loops.
@@ -35,7 +38,7 @@ pub(crate) struct Bells {
     pub(crate) ended: Bell,
 }
 
-/// How often each bell was rung before a turn of a loop.
+/// The numbers of the bells before a turn of a loop.
 #[derive(Clone, Copy)]
 pub(crate) struct Heard {
     quiescer: u64,
@@ -108,7 +111,7 @@ impl Bells {
         behind < closed
     }
 
-    /// Before a turn of a loop: how often the bells were rung.
+    /// Before a turn of a loop: the numbers of the bells.
     pub(crate) fn listen(&self, duty: Duty) -> Heard {
         if duty == Duty::Quiesce {
             self.called.store(0, Ordering::SeqCst);
@@ -134,7 +137,8 @@ impl Bells {
         if self.is_quiescing() {
             self.ended.sleep_briefly(rt, heard.ended);
         } else {
-            self.quiescer.sleep(rt, heard.quiescer);
+            self.quiescer
+                .sleep_for(rt, heard.quiescer, PERIOD_IN_MICROSECONDS);
         }
     }
 

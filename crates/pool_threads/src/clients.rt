@@ -1,5 +1,10 @@
 //! What callers rest on: one function for each promise of this crate's calls, proved from the contract of the call
 //! alone. So it is refused as soon as that contract says less.
+
+mod fetches;
+mod pools;
+mod waits;
+
 ghost use Rattle.std.specs.Prelude.{ℕ, ◌≡◌, ◌≢◌, ◌≤◌, [], ◌∷◌, ◌+◌, ◌++◌, IfErr, IfNone, IfOk, IfSome, IsSome, IsTrue, List, Option, Some, false, true};
 ghost use Rattle.base.specs.declared.error.PoolError.TheVariants as error;
 ghost use Rattle.base.specs.declared.names.Group.{Group};
@@ -10,6 +15,7 @@ ghost use Rattle.base.specs.declared.range.ObjectRange.{ObjectRange};
 ghost use Rattle.base.specs.declared.step.Reply as declared_reply;
 ghost use Rattle.base.specs.declared.step.Reply.TheVariants as reply;
 ghost use Rattle.base.specs.declared.step.Step.TheVariants as step;
+ghost use Rattle.base.specs.steps.Explains as every;
 ghost use Rattle.base.specs.steps.Refusals.{object_range};
 ghost use Rattle.base.specs.steps.Seen.{IsGranted, IsKnownDurable, IsReadBetween, IsThrottledForGood};
 ghost use Rattle.import_replay.specs.ImportSyncs.{IsImportSynced};
@@ -21,7 +27,7 @@ ghost use Rattle.pool_threads.specs.Handles.{IsOf, IsOfSamePool, OpensBehind, St
 ghost use Rattle.pool_threads.specs.Loops.{Works};
 ghost use Rattle.pool_threads.specs.Serves.{IsServedTurn};
 ghost use Rattle.pool_threads.specs.Transacts.{IsTransacted, Locks, Unlocks, plan_of};
-ghost use Rattle.pool_threads.specs.Views.{Explains, GrowsTo, IsFollowed, SeenPool, WereSafeBetween};
+ghost use Rattle.pool_threads.specs.Views.{Explains, GrowsTo, IsFollowed, SeenPool, WereSafeBetween, since};
 ghost use Rattle.pool_threads.specs.declared.handle.Handle.{Handle};
 ghost use Rattle.transactions.specs.LockRanges.{lock_ranges};
 ghost use Rattle.word_lock.specs.Seats.{seen};
@@ -309,6 +315,21 @@ fn a_crash_within_a_commit_leaves_a_cut<D: SectorDevice, W: Wait>(
     handle.commit(rt, tx, ops)
 }
 
+// Of what the handle has seen then, on the disk under the lock. So it is of a pool that no thread has.
+fn after_a_commit_one_history_explains_the_pool<D: SectorDevice, W: Wait>(
+    rt: &W,
+    handle: &mut Handle<'_, D>,
+    tx: TxId,
+    ops: Ops,
+) -> Result<Receipt, PoolError>
+    ensures { IsTrue D.keeps_model → (created : ℕ)
+        → IsFollowed (view_seen handle.new).rule created
+        → ∥ every.Explains (Unit {0}) (view_seen handle.new).disk
+        (state_seen handle.new).shown (since created (view_seen handle.new).past) ∥₁ }
+{
+    handle.commit(rt, tx, ops)
+}
+
 // Also if it is refused: no call refuses without a step.
 fn a_commit_takes_one_turn<D: SectorDevice, W: Wait>(
     rt: &W,
@@ -362,6 +383,26 @@ fn a_lock_takes_turns<D: SectorDevice, W: Wait>(
     ensures { TakesTurns handle.old handle.new }
 {
     handle.lock(rt, owner, ObjectId(5), range, Mode::Writer)
+}
+
+fn an_append_lock_takes_turns<D: SectorDevice, W: Wait>(
+    rt: &W,
+    handle: &mut Handle<'_, D>,
+    owner: Owner,
+) -> Result<(LockId, Range), PoolError>
+    ensures { TakesTurns handle.old handle.new }
+{
+    handle.lock_append(rt, owner, ObjectId(5))
+}
+
+fn a_step_takes_one_turn<D: SectorDevice, W: Wait>(
+    rt: &W,
+    handle: &mut Handle<'_, D>,
+    step: Step,
+) -> Reply
+    ensures { TakesOneTurn handle.old handle.new }
+{
+    handle.step(rt, step)
 }
 
 fn a_begin_takes_turns<D: SectorDevice, W: Wait>(

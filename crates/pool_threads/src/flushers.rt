@@ -59,7 +59,7 @@ impl Flushers {
         }
     }
 
-    /// How many rounds have ended.
+    /// A number that each end of a round changes.
     pub(crate) fn rounds(&self) -> u64 {
         self.rounds.rings()
     }
@@ -108,7 +108,7 @@ impl Flushers {
         self.rounds.ring();
     }
 
-    /// Sleeps until more rounds have ended than that, or for a time.
+    /// Sleeps until a round has ended after `rounds` was read, or for a time.
     pub(crate) fn rest<W: Wait>(&self, rt: &W, rounds: u64) {
         self.rounds.sleep(rt, rounds);
     }

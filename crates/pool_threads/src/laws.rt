@@ -10,8 +10,10 @@ pub fn stepped_pools_are_safe()
     ensures { SteppedPoolsAreSafe }
 {}
 
-/// And after it one history explains the pool: its tables and contents, its synced tree and free blocks, and what every
-/// crash leaves. So it is of a pool that no thread has, as its last step left it.
+/// Whenever the pool's lock is free, one history explains the pool: its contents and tables, its synced tree and free
+/// blocks, and what each crash may leave: the history replays to the contents, and every fair image mounts a cut of it
+/// with all that was acknowledged. So it is after each step of each handle, of the disk under the lock, in a pool that
+/// follows the crash rule. The history goes on from turn to turn, whichever thread has them.
 pub fn stepped_pools_are_explained()
     ensures { SteppedPoolsAreExplained }
 {}

@@ -1,19 +1,22 @@
 //! A pool that threads share: each takes it whole, makes one step, and releases it.
 //!
-//! [`Pool::open`] opens the pool on a device, and [`Pool::handle`] gives each thread a [`Handle`]. `transact` of a
-//! handle makes a whole transaction, and `transact_durably` returns once no crash loses it. Its other calls are single
-//! steps, as those of `PoolState` in `pool_core`; `lock` and `begin` wait for what others hold. When no handle is left,
-//! [`Pool::close`] gives the state back.
+//! **At the dirty limit `transact` waits until a thread syncs.** So a loop of `transact` in one thread waits for ever,
+//! unless it calls `sync_pool` now and then, or other threads run the loops `quiescer` and `syncer`. At the default
+//! limit it waits at the 43rd object, if each transaction creates one and writes a few bytes to it. Transactions are
+//! charged until their group is synced.
 //!
-//! Transactions are charged until their group is synced. At the dirty limit `begin` and `transact` wait, so some thread
-//! has to sync: by `sync_pool`, or by the two loops `quiescer` and `syncer`, each in a thread of its own. As each step
-//! is made under the pool's lock, other threads wait for a write or a flush.
+//! [`Pool::open`] opens the pool on a device, and [`Pool::handle`] gives each thread a [`Handle`]. `transact` of a
+//! handle makes a whole transaction, and `transact_durably` returns once no crash loses it. `fetch` reads a range under
+//! a lock. Its other calls are single steps, as those of `PoolState` in `pool_core`; `lock` and `begin` wait for what
+//! others hold. When no handle is left, [`Pool::close`] gives the state back.
+//!
+//! As each step is made under the pool's lock, other threads wait for a write or a flush.
 //!
 //! [`LastSeen`], [`OwnedPool`], [`PoolRule`], [`PoolView`] and the two functions are for proofs.
 //!
 //! # Examples
 //!
-//! It commits a transaction, and waits until no crash loses it.
+//! It commits a transaction, and waits until no crash loses it. Then it syncs the pool, so that nothing is charged.
 //!
 //! ```
 //! #![tactic(auto)]
@@ -31,6 +34,7 @@
 //!     let ops = Ops::new(vec![in rt.alloc(); Op::Create(ObjectId(1))]?);
 //!     let receipt = handle.transact(&rt, Owner(1), ops)?;
 //!     handle.fsync(&rt, receipt)?;
+//!     handle.sync_pool(&rt)?;
 //!     Ok(())
 //! }
 //! ```
@@ -41,6 +45,7 @@ mod bells;
 mod calls;
 mod clients;
 mod debug;
+mod fetch;
 mod first;
 mod flushers;
 mod handle;

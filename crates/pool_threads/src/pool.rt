@@ -93,7 +93,7 @@ impl<D: SectorDevice> Pool<D> {
     /// Tells the loops of the pool to stop (`Handle::quiescer`, `Handle::syncer`). Each returns at its next turn. Other
     /// calls still work.
     pub fn stop(&self) {
-        self.shared.bells.stop();
+        self.shared.stop();
     }
 
     /// Takes the state out of the pool, for one thread: to sync it (`PoolState::sync_open_group`), or to get its

@@ -104,8 +104,8 @@ impl<D: SectorDevice> Shared<D> {
         }
     }
 
-    /// A begin was throttled, before which `room` was rung so often. It sleeps until `room` is rung again, and calls the
-    /// quiescer first if it wasn't yet.
+    /// A begin was throttled, before which `room` had this number. It sleeps until `room` is rung, and calls the
+    /// quiescer first if it wasn't rung yet.
     pub(crate) fn rest_for_room<W: Wait>(&self, rt: &W, rings: u64) {
         if self.room.rings() == rings {
             self.bells.call_for_close();
@@ -117,6 +117,11 @@ impl<D: SectorDevice> Shared<D> {
         self.ranges.ring();
         self.room.ring();
         self.bells.ended.ring();
+    }
+
+    /// The loops of the pool are to end. As there is no source of seats here, it makes no step.
+    pub(crate) fn stop(&self) {
+        self.bells.stop();
     }
 
     /// A handle that goes on from what one had seen as it left.

@@ -16,15 +16,15 @@ use transactions::lock_ranges;
 impl<'p, D: SectorDevice> Handle<'p, D> {
     /// Commits operations as one entry, in a transaction of its own: all of them take place, or none.
     ///
+    /// **At the dirty limit it waits until a thread syncs.** So a loop of `transact` in one thread waits for ever,
+    /// unless it calls `sync_pool` now and then, or other threads run the loops `quiescer` and `syncer`. At
+    /// [`DEFAULT_DIRTY_MAX`](base::DEFAULT_DIRTY_MAX) it waits at the 43rd object, if each transaction creates one and
+    /// writes a few bytes to it. A transaction is charged for what its sync writes (`PoolState::begin` says how much),
+    /// until its group is synced.
+    ///
     /// It locks the ranges of the operations' plan as a writer, in rising order of object and low end, with those that
     /// overlap joined to one. Then it begins, commits, and unlocks all. `lock` and `begin` wait as the calls of that
     /// name do. After a refusal it aborts the transaction, if it was begun, and unlocks what it locked.
-    ///
-    /// **It may wait for a sync.** A transaction is charged for what its sync writes (`PoolState::begin` says how
-    /// much), until its group is synced. At the dirty limit `transact` waits until another thread has synced a group.
-    /// If none does, it waits for ever: with [`DEFAULT_DIRTY_MAX`](base::DEFAULT_DIRTY_MAX) the 43rd transaction that
-    /// creates an object and writes a few bytes to it. A thread that calls `sync_pool`, or the loops `quiescer` and
-    /// `syncer`, keeps it going.
     ///
     /// As the order rises, no two calls of `transact` wait for each other's locks. A caller that holds a lock of its
     /// own that overlaps one of these ranges waits for itself.
@@ -63,6 +63,10 @@ impl<'p, D: SectorDevice> Handle<'p, D> {
     }
 
     /// Commits operations as `transact` does, and returns once the commit is durable, as `fsync` does.
+    ///
+    /// **At the dirty limit it waits until a thread syncs**, as `transact` does. A commit that is durable is charged
+    /// until its group is synced. So a loop of it in one thread waits for ever, unless it calls `sync_pool` now and
+    /// then, or other threads run the loops `quiescer` and `syncer`.
     ///
     /// # Errors
     /// Those of `transact`, without a receipt: then none of the operations takes place. Those of `fsync`, with the

@@ -9,8 +9,8 @@ use std::sync::Wait;
 use std::sync::atomic::{AtomicBool, Ordering};
 use std::thread::{Threads, join, map_vec};
 use topzerad::{
-    Bytes, DEFAULT_DIRTY_MAX, MemDevice, Mode, ObjectId, Op, Ops, Owner, Pool, PoolError, Range,
-    Receipt, create,
+    Bytes, DEFAULT_DIRTY_MAX, MemDevice, ObjectId, Op, Ops, Owner, Pool, PoolError, Range, Receipt,
+    create,
 };
 
 /// How often each thread writes its line. Each write is charged 16,384 bytes, and each create 8,192. So all of them
@@ -148,6 +148,5 @@ fn sync_until<W: Wait>(rt: &W, pool: &Pool<MemDevice>, done: &AtomicBool) -> Res
 
 fn read_line<W: Wait>(rt: &W, pool: &Pool<MemDevice>, note: &Note) -> Result<Bytes, PoolError> {
     let mut handle = pool.handle();
-    handle.lock(rt, note.owner, note.object, Range::WHOLE, Mode::Reader)?;
-    handle.read(rt, note.owner, note.object, Range::WHOLE)
+    handle.fetch(rt, note.owner, note.object, Range::WHOLE)
 }

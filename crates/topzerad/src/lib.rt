@@ -3,14 +3,19 @@
 //! A program keeps numbered objects of bytes in a pool, changes them by transactions from many threads, and finds them
 //! again after a power failure.
 //!
+//! **At the dirty limit `transact` of a handle waits until a thread syncs.** So a loop of `transact` in one thread
+//! waits for ever, unless it calls `sync_pool` now and then, or other threads run the loops `quiescer` and `syncer`.
+//! At [`DEFAULT_DIRTY_MAX`] it waits at the 43rd object, if each transaction creates one and writes a few bytes to it.
+//!
 //! 1. **A device** holds the pool: a [`FileDevice`] on a file, or a [`MemDevice`] in memory for tests. A device on a
 //!    file holds the file's lock, so one device at a time writes to it.
 //! 2. **[`create`]** makes a pool on a device once. **[`Pool::open`]** opens it, as often as one likes: take this way
 //!    in. [`import`] with [`PoolState`] is for one thread that makes each step itself, and the others are for proofs.
 //!    [`inspect`] only shows what is there.
 //! 3. **A [`Handle`]** makes the calls of a thread. `transact` commits operations whole, or returns why it refused
-//!    them. To read, lock the range first: nobody changes it until it is unlocked. An [`Owner`] is a number for who
-//!    holds locks and transactions; each thread takes one of its own.
+//!    them. `fetch` reads a range. To read several as they are at one moment, `lock` them first: nobody changes them
+//!    until they are unlocked. An [`Owner`] is a number for who holds locks and transactions; each thread takes one of
+//!    its own.
 //! 4. **`transact_durably`** returns once no power failure loses the commit, and so does `fsync` of a receipt. Both
 //!    write the intent log and flush it; threads that wait at once share one flush. A commit that nobody waited for
 //!    may be lost, until its [`Group`] is synced.
@@ -20,8 +25,7 @@
 //! 6. **The dirty limit**, as [`DEFAULT_DIRTY_MAX`], is in bytes. Until its group is synced, a transaction is charged
 //!    4,096 bytes for each block that its sync may write: 2 blocks for a create or a remove, 4 for a new length. A
 //!    write is 3 blocks, and one more for each piece of 4,032 bytes that it touches. At the limit [`PoolState::begin`]
-//!    is refused `Throttled`, and `begin` and `transact` of a handle wait until a group is synced. So some thread has
-//!    to sync, or they wait for ever.
+//!    is refused `Throttled`, and `begin` and `transact` of a handle wait until a group is synced.
 //! 7. **A refusal** is a [`PoolError`]. A refused step changes nothing, with one exception: a refused write or flush
 //!    suspends the pool, and it has to be opened again. `sync_pool` and `sync_open_group` keep the steps before the
 //!    refused one. A refused `transact` changes no contents. [`create`], [`import`] and [`Pool::open`] give the device
@@ -32,18 +36,22 @@
 //! is any number that distinguishes pools. A moment is a time in seconds that the uberblocks carry; 0 serves if no
 //! clock is read.
 //!
+//! The sharpest limit is that of one transaction: its log record has at most 4,008 bytes ([`MAX_LOG_RECORD`]), or it is
+//! refused `TooLarge`. These are 22, and for each operation 5 (a create, a remove), 13 (a new length), 17 and its bytes
+//! (a write), or 5 and its bytes (a name). So one write has at most 3,969 bytes.
+//!
 //! # Examples
 //!
-//! It makes a pool in a file, and commits five bytes so that no power failure loses them. Then it opens the file again
-//! and prints what it reads there: `hello`.
+//! It makes a pool in a file, commits five bytes so that no power failure loses them, and syncs. Then it opens the file
+//! again and prints what it reads there: `hello`.
 //!
 //! ```
 //! #![tactic(auto)]
 //!
 //! use anyhow::Result;
 //! use std::sync::Wait;
-//! use topzerad::{Bytes, DEFAULT_DIRTY_MAX, FileDevice, Mode, ObjectId, Op, Ops, Owner};
-//! use topzerad::{Pool, PoolError, Range, Receipt, create};
+//! use topzerad::{Bytes, DEFAULT_DIRTY_MAX, FileDevice, Group, ObjectId, Op, Ops, Owner};
+//! use topzerad::{Pool, PoolError, Range, create};
 //!
 //! fn main(rt: HostRuntime) -> Result<()> {
 //!     write(&rt, FileDevice::create(&rt, "tank.pool", 8_388_608)?)?;
@@ -51,29 +59,31 @@
 //!     Ok(println!(rt; "{}", str::from_utf8(bytes.as_slice())?)?)
 //! }
 //!
-//! fn write<R: Wait + AllocGlobal>(rt: &R, device: FileDevice) -> Result<Receipt> {
+//! fn write<R: Wait + AllocGlobal>(rt: &R, device: FileDevice) -> Result<Group> {
 //!     let device = create(device, b"tank", 77, 0).map_err(PoolError::from)?;
 //!     let pool = Pool::open(rt.alloc(), device, DEFAULT_DIRTY_MAX, 0).map_err(PoolError::from)?;
+//!     let mut handle = pool.handle();
 //!     let bytes = Bytes::from_slice(rt.alloc(), b"hello")?;
 //!     let ops = vec![in rt.alloc(); Op::Create(ObjectId(1)), Op::Write(ObjectId(1), 0, bytes)]?;
-//!     let committed = pool.handle().transact_durably(rt, Owner(1), Ops::new(ops));
-//!     Ok(committed.map_err(PoolError::from)?) // from here on a power failure loses nothing
+//!     let committed = handle.transact_durably(rt, Owner(1), Ops::new(ops));
+//!     committed.map_err(PoolError::from)?; // from here on a power failure loses nothing
+//!     Ok(handle.sync_pool(rt)?) // a program that commits more has to sync
 //! }
 //!
 //! fn read<R: Wait + AllocGlobal>(rt: &R, device: FileDevice) -> Result<Bytes> {
 //!     let pool = Pool::open(rt.alloc(), device, DEFAULT_DIRTY_MAX, 0).map_err(PoolError::from)?;
 //!     let mut handle = pool.handle();
-//!     handle.lock(rt, Owner(1), ObjectId(1), Range::WHOLE, Mode::Reader)?;
-//!     Ok(handle.read(rt, Owner(1), ObjectId(1), Range::WHOLE)?)
+//!     Ok(handle.fetch(rt, Owner(1), ObjectId(1), Range::WHOLE)?)
 //! }
 //! ```
 #![tactic(auto)]
 
 pub use base::{
     Bytes, DEFAULT_CACHE_BLOCKS, DEFAULT_DIRTY_MAX, GREATEST_CACHE_BLOCKS, GREATEST_DIRTY_MAX,
-    Group, LEAST_DIRTY_MAX, LockId, MAX_LENGTH, MAX_LOCKS, MAX_NAME, MAX_TRANSACTIONS, Mode,
-    OBJECT_COUNT, ObjectId, ObjectRange, Op, Ops, Ordinal, Owner, Piece, Plan, PoolError, PoolName,
-    Range, Receipt, RefusedCalls, Reply, SECTOR_SIZE, Shape, Status, Step, TxId, is_name,
+    Group, LEAST_DIRTY_MAX, LockId, MAX_LENGTH, MAX_LOCKS, MAX_LOG_RECORD, MAX_NAME,
+    MAX_TRANSACTIONS, Mode, OBJECT_COUNT, ObjectId, ObjectRange, Op, Ops, Ordinal, Owner, Piece,
+    Plan, PoolError, PoolName, Range, Receipt, RefusedCalls, Reply, SECTOR_SIZE, Shape, Status,
+    Step, TxId, is_name,
 };
 pub use device_model::{
     Access, Fault, FileDevice, FileRefusal, HeldFile, MemDevice, SectorDevice, SectorFile,

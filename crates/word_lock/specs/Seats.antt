@@ -34,8 +34,8 @@ module _ {T R V : Type 0} where
   abbrev pub taken : Seat T R V → List (Turn V)
   taken s = s.inside.me.0.taken
 
-  -- The seat's number: 0 while it is the only one that the lock ever had, 1 at a new seat of a source. Each split adds 1,
-  -- and the new seat has the same; a join adds the other's. Nothing makes it less.
+  -- The seat's number: 0 while it is the only one that the lock ever had, 1 at a new seat of a source. Each split adds
+  -- 1, and the new seat has the same; a join adds the other's. Nothing makes it less.
   abbrev pub kin : Seat T R V → ℕ
   kin s = s.inside.me.0.kin
 

@@ -10,10 +10,11 @@
 //! that it has had, so that a contract can say that a call is one turn and adds nothing else.
 //!
 //! That would say nothing if a call could make a seat of its own, step by it and let it go. So no call makes a seat
-//! of a lock and a seat but `Seat::split`, which raises the number of the seat that is split, and nothing lowers a
-//! seat's number. Other seats come from a `SeatSource` alone, which is no part of the lock: whoever has a lock and a
-//! seat of it has no source in reach. So a contract that says that a seat's number and what it took over by joins
-//! stay says that each step of the call was a turn of that seat.
+//! of a lock and a seat but `Seat::split`. It raises the number of the seat that is split, and the new seat has that
+//! number too. A join adds the number of the seat that it uses up, and nothing lowers a number. So each split shows in
+//! a number that comes back. Other seats come from a `SeatSource` alone, which is no part of the lock: whoever has a
+//! lock and a seat of it has no source in reach. So a contract that says that a seat's number and what it took over by
+//! joins stay says that each step of the call was a turn of that seat.
 #![tactic(auto)]
 
 mod clients;

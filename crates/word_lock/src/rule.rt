@@ -56,8 +56,8 @@ pub(crate) struct Sight<V> {
     pub(crate) turns: LinkedList<Turn<V>>,
     // The turns of the seats that it joined, and of those that they had joined.
     pub(crate) taken: LinkedList<Turn<V>>,
-    // 0 while the seat is the only one that the lock ever had, 1 at a new seat of a source. Each split adds 1, and the new
-    // seat has the same; a join adds the other's.
+    // 0 while the seat is the only one that the lock ever had, 1 at a new seat of a source. Each split adds 1, and the
+    // new seat has the same; a join adds the other's.
     pub(crate) kin: u64,
 }
 

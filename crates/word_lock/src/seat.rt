@@ -22,11 +22,11 @@ const TRIES: u32 = 16;
 /// A right to ask for a lock. It has no bytes, and a thread may hand it to another. It has seen a view, which all
 /// later views of the value go on from, and knows the turns that it has had with the lock.
 ///
-/// It also has a number in the proofs, `kin`, which each `split` makes one more and no call makes less. The seat that is
-/// split off has the same number, and a join adds the numbers. So a contract that says what the number becomes says
+/// It also has a number in the proofs, `kin`, which each `split` makes one more and no call makes less. The seat that
+/// is split off has the same number, and a join adds the numbers. So a contract that says what the number becomes says
 /// which seats were split off: a body that had its steps made by another one shows it for ever, also if it splits a
-/// seat that it hands out or uses up. The list `taken` has what a seat that was joined had done. A seat with the number 0 is
-/// the only one that its lock ever had, and finds the value as it left it.
+/// seat that it hands out or uses up. The list `taken` has what a seat that was joined had done. A seat with the number
+/// 0 is the only one that its lock ever had, and finds the value as it left it.
 #[derive(Drop)]
 pub struct Seat<T, R: LockRule<T>> {
     pub(crate) inside: atomic_table::Seat<Option<T>, Sight<R::View>>,

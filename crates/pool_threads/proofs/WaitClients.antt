@@ -1,0 +1,113 @@
+-- What callers take from the turns of a wait and of a sync of the pool.
+use Rattle.std.proofs.Common.{◌≡◌, ◌≢◌, ◌++◌, ◌∷◌, [], List, append_assoc, inl, inr, refl, sym, ap, subst, ◌∙◌}
+use Rattle.std.specs.Prelude.{◌⊎◌, All, Bool, IsTrue, None, Ok, Err, Option, Result, Some, false, true}
+use Rattle.std.proofs.lemmas.Bool.{false≢true}
+use Rattle.std.proofs.lemmas.List.{append-nil}
+use Rattle.std.proofs.lemmas.List.Elements.{All-weaker}
+use Rattle.base.specs.declared.error.PoolError.{PoolError}
+use Rattle.base.specs.declared.names.Group.{Group}
+use Rattle.base.specs.declared.names.Receipt.{Receipt}
+use Rattle.base.specs.declared.step.Reply as declared_reply
+use Rattle.base.specs.declared.step.Reply.TheVariants as reply
+use Rattle.base.specs.steps.Shown.{is_durable}
+use Rattle.base.specs.steps.SyncEnds.{IsAnswer, is_refusal}
+use Rattle.device_model.specs.declared.device.SectorDevice.{Ghosts}
+use Rattle.pool_tables.specs.declared.duty.Duty.{Duty}
+use Rattle.pool_threads.specs.declared.handle.Handle.{Handle}
+use Rattle.pool_threads.specs.Answers.{Takes, TakesAtLast}
+use Rattle.pool_threads.specs.Handles.{turns_of, view_seen}
+use Rattle.pool_threads.specs.Serves.{AreDue, IsServedTurn}
+use Rattle.pool_threads.specs.Views.{GrowsTo, SeenPool, grows_same, viewed_state}
+use Rattle.pool_threads.specs.Waits.{EndsAfter, LooksAt, SyncsPool, Waits, WaitsUntil}
+use Rattle.pool_threads.proofs.Looked.{looked_one}
+use Rattle.pool_threads.proofs.Waited.{LeadsOn, LooksOrServes, TakesAny, TakesAnyAtLast, all_alike, ends_on, lead_turns, more_leads_on, round_rest, sync_turns, takes_as, whole_wait}
+use Rattle.pool_threads.proofs.Tried.{no_turns}
+use Rattle.word_lock.specs.declared.rule.Turn.{Turn}
+use Rattle.word_lock.specs.Turns.{turn}
+
+-- in this turn nothing changed, or steps were made that were due, and no reply but the last is a refusal
+abbrev pub EndsWithRefusal : Type 0 → Turn SeenPool → Type 0
+EndsWithRefusal keeps t = (t.left ≡ t.took)
+    ⊎ ((d : Duty) × (rs : List declared_reply.Reply) × (last : declared_reply.Reply) × All (λ r. (e : PoolError) → r ≢ reply.Refused e) rs × AreDue keeps d (rs ++ last ∷ []) t.took t.left)
+
+no_refusal : (r : declared_reply.Reply) → IsAnswer r → (e : PoolError) → r ≢ reply.Refused e
+no_refusal r answered e is = false≢true (sym answered ∙ ap is_refusal is)
+
+ends_with_refusal : (keeps : Type 0) (t : Turn SeenPool) → LeadsOn keeps t → EndsWithRefusal keeps t
+ends_with_refusal keeps t leads = by leads.1
+  where
+    served : (d : Duty) (r : Option declared_reply.Reply) → IsServedTurn keeps d r t → EndsWithRefusal keeps t
+    served d None made = inl made.1
+    served d (Some r) made = inr (d, made.0, r, All-weaker IsAnswer (λ (x : declared_reply.Reply). (e : PoolError) → x ≢ reply.Refused e) no_refusal made.0 made.1, made.2)
+
+    by : LooksOrServes keeps t → EndsWithRefusal keeps t
+    by (inl same) = inl same
+    by (inr (d, r, made)) = served d r made
+
+module _ {Dev : Type 0} {G : Ghosts Dev} where
+  each_ends : {old new : Handle Dev G} → TakesAnyAtLast old new → Takes (EndsWithRefusal (IsTrue G.keeps_model)) old new
+  each_ends u = takes_as (ends_with_refusal (IsTrue G.keeps_model)) (all_alike (λ t leads. (leads, leads.0)) u)
+
+  pub wait_ends : (receipt : Receipt) (result : Result (Unit {0}) PoolError) {old new : Handle Dev G} → WaitsUntil receipt result old new → Takes (EndsWithRefusal (IsTrue G.keeps_model)) old new
+  wait_ends receipt result w = each_ends (whole_wait receipt result w)
+
+  pub sync_ends : (answer : Result Group PoolError) {old new : Handle Dev G} → SyncsPool answer old new → Takes (EndsWithRefusal (IsTrue G.keeps_model)) old new
+  sync_ends answer {old} {new} p =
+      let look = looked_one {P = LeadsOn (IsTrue G.keeps_model)} p.looks (grows_same (IsTrue G.keeps_model) (view_seen p.looked), inl refl) in
+      each_ends (ends_on (more_leads_on (no_turns _ old) look) (sync_turns p.group p.result p.syncs))
+
+  -- a wait that looks first, and makes no step if it finds the transaction durable
+  module _ (receipt : Receipt) where
+    abbrev LooksFirst : Result (Unit {0}) PoolError → Handle Dev G → Handle Dev G → Type 0
+    LooksFirst result old new = (looked : SeenPool) × (rest : List (Turn SeenPool)) × GrowsTo (IsTrue G.keeps_model) (view_seen old) looked × (turns_of new ≡ (turns_of old ++ turn looked looked ∷ []) ++ rest)
+        × (is_durable (viewed_state looked).shown receipt.ordinal.0 receipt.group.0 ≡ true → (rest ≡ []) × (result ≡ Ok tt))
+
+    module _ (found : Result Bool PoolError) (result : Result (Unit {0}) PoolError) (old looked new : Handle Dev G) (l : LooksAt receipt found old looked) where
+      abbrev FoundDurable : Type 0
+      FoundDurable = is_durable (viewed_state l.made.took).shown receipt.ordinal.0 receipt.group.0 ≡ true
+
+      first_turn : turns_of looked ≡ turns_of old ++ turn l.made.took l.made.took ∷ []
+      first_turn = l.made.turn ∙ ap (λ (v : SeenPool). turns_of old ++ turn l.made.took v ∷ []) l.made.made.looked
+
+      -- nothing comes after it
+      looks_only : new ≡ looked → (FoundDurable → result ≡ Ok tt) → LooksFirst result old new
+      looks_only same durable = (
+        l.made.took,
+        [],
+        l.made.onward,
+        ap (λ (h : Handle Dev G). turns_of h) same ∙ first_turn ∙ sym (append-nil (turns_of old ++ turn l.made.took l.made.took ∷ [])),
+        λ is. (refl, durable is),
+      )
+
+      -- more turns do, since it was not durable
+      looks_and_more : TakesAnyAtLast looked new → (FoundDurable → ⊥) → LooksFirst result old new
+      looks_and_more u not_durable =
+          let rest : List (Turn SeenPool) = u.made.had ++ turn u.made.took (view_seen new) ∷ [] in
+          let never : FoundDurable → (rest ≡ []) × (result ≡ Ok tt) = λ is. absurd (not_durable is) in (
+            l.made.took,
+            rest,
+            l.made.onward,
+            u.made.turn ∙ append_assoc (turns_of looked) u.made.had (turn u.made.took (view_seen new) ∷ []) ∙ ap (λ (ts : List (Turn SeenPool)). ts ++ rest) first_turn,
+            never,
+          )
+
+      shown_there : (b : Bool) → is_durable (viewed_state (view_seen looked)).shown receipt.ordinal.0 receipt.group.0 ≡ b → b ≡ false → FoundDurable → ⊥
+      shown_there b is not_so there =
+          false≢true (sym not_so ∙ sym is ∙ ap (λ (v : SeenPool). is_durable (viewed_state v).shown receipt.ordinal.0 receipt.group.0) l.made.made.looked ∙ there)
+
+    ends_first : (found : Result Bool PoolError) (result : Result (Unit {0}) PoolError) (old looked new : Handle Dev G) → LooksAt receipt found old looked → EndsAfter receipt found result looked new → LooksFirst result old new
+    ends_first (Ok true) result old looked new l ends = looks_only (Ok true) result old looked new l ends.1 (λ _. ends.0)
+    ends_first (Ok false) result old looked new l ends =
+        looks_and_more (Ok false) result old looked new l (lead_turns receipt (Err ends.0) ends.2) (shown_there (Ok false) result old looked new l false (sym l.made.made.checked.0) refl)
+    ends_first (Err e) result old looked new l ends =
+        looks_only (Err e) result old looked new l ends.1 (λ is. absurd (shown_there (Err e) result old looked new l false l.made.made.checked.0 refl is))
+
+    pub looks_first : (result : Result (Unit {0}) PoolError) (old new : Handle Dev G) → WaitsUntil receipt result old new → LooksFirst result old new
+    looks_first result old new w = by w.rounds w.waits
+      where
+        by : (rounds : List (Handle Dev G)) → Waits receipt rounds old w.last → LooksFirst result old new
+        by [] same = ends_first w.found result old w.looked new (subst (λ (h : Handle Dev G). LooksAt receipt w.found h w.looked) same w.looks) w.ends
+        by (h ∷ hs) (first, rest) =
+            let later : WaitsUntil receipt result h new = record { rounds = hs; last = w.last; waits = rest; found = w.found; looked = w.looked; looks = w.looks; ends = w.ends } in
+            looks_and_more (Ok false) result old first.looked new first.looks (ends_on (round_rest receipt first) (whole_wait receipt result later))
+            (shown_there (Ok false) result old first.looked new first.looks false (sym first.looks.made.made.checked.0) refl)

@@ -1,0 +1,82 @@
+//! What callers rest on of the calls that make a pool and its handles.
+ghost use Rattle.std.specs.Prelude.{◌≡◌, [], IfSome, IsTrue};
+ghost use Rattle.base.specs.crash.LeftDisks.{IsLeft};
+ghost use Rattle.base.specs.history.Past.{Past};
+ghost use Rattle.base.specs.steps.Explains.{IsLeftBy};
+ghost use Rattle.import_replay.specs.Mounts.{shown_of_import};
+ghost use Rattle.pool_threads.specs.Handles.{StartsBehind, kin_of, moment_in, moment_of, opening_view, shared_of, taken_by, turns_of, view_seen};
+ghost use Rattle.pool_threads.specs.Views.{Explains, GrowsTo, SeenPool, viewed_state};
+ghost use Rattle.pool_threads.specs.Views.CrashRule.{Behind};
+
+use crate::{Handle, Pool};
+use device_model::SectorDevice;
+use import_replay::Imported;
+use pool_core::PoolState;
+use std::snapshot::Snapshot;
+
+// It has seen what goes on from the opening view, and has had no turn.
+fn a_new_handle_has_made_no_step<D: SectorDevice>(pool: &Pool<D>) -> Handle<'_, D>
+    ensures seen { GrowsTo (IsTrue D.keeps_model) (opening_view (shared_of pool.entry.now))
+        (view_seen result) }
+    ensures turns { (turns_of result ≡ []) × (taken_by result ≡ []) }
+    ensures number { kin_of result ≡ 1 }
+    ensures moment { moment_of result ≡ moment_in (shared_of pool.entry.now) }
+{
+    pool.handle()
+}
+
+// It shows what was mounted, over the disk that the import left, and its syncs carry the moment.
+fn a_shared_pool_shows_what_was_mounted<D: SectorDevice>(imported: Imported<D>) -> Option<Pool<D>>
+where
+    D: Drop,
+    ensures shown { IfSome result (λ p. (viewed_state (opening_view (shared_of p))).shown
+        ≡ shown_of_import imported.mounted) }
+    ensures disk { IfSome result (λ p. (opening_view (shared_of p)).disk
+        ≡ D.disk imported.device) }
+    ensures moment { IfSome result (λ p. moment_in (shared_of p) ≡ 7) }
+{
+    match Pool::share(imported, 7) {
+        Ok(pool) => Some(pool),
+        Err(_) => None,
+    }
+}
+
+// It follows the crash rule after the disk before the import, and its contents are what the run left that this disk
+// holds, whichever that was.
+fn a_pool_shared_after_an_import_goes_on_from_its_disk<D: SectorDevice>(
+    imported: Imported<D>,
+    before: &Snapshot<D>,
+) -> Option<Pool<D>>
+where
+    D: Drop,
+    requires { IsTrue D.keeps_model → StartsBehind (D.disk before.now.value)
+        imported.mounted (D.disk imported.device) }
+    ensures rule { IfSome result (λ p. (opening_view (shared_of p)).rule
+        ≡ Behind (D.disk before.now.value)) }
+    ensures left { IfSome result (λ p. IsTrue D.keeps_model → (past : Past)
+        → IsLeft past (D.disk before.now.value)
+        → IsLeftBy past (viewed_state (opening_view (shared_of p))).shown.contents) }
+    ensures moment { IfSome result (λ p. moment_in (shared_of p) ≡ 7) }
+{
+    match Pool::share_after(imported, 7, before) {
+        Ok(pool) => Some(pool),
+        Err(_) => None,
+    }
+}
+
+// Whichever view that is.
+fn a_pool_opens_with_the_view_that_explains_its_state<D: SectorDevice>(
+    state: PoolState<D>,
+) -> Option<Pool<D>>
+where
+    D: Drop,
+    ghost first: { SeenPool }
+    requires { Explains state first }
+    ensures opening { IfSome result (λ p. opening_view (shared_of p) ≡ first) }
+    ensures moment { IfSome result (λ p. moment_in (shared_of p) ≡ 7) }
+{
+    match Pool::new(state, 7) {
+        Ok(pool) => Some(pool),
+        Err(_) => None,
+    }
+}

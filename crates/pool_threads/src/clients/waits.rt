@@ -1,0 +1,91 @@
+//! What callers rest on of calls that make the steps that are due, told by turns and views.
+ghost use Rattle.std.specs.Prelude.{◌≡◌, ◌≢◌, ◌⊎◌, ◌++◌, ◌∷◌, [], All, IfErr, IsTrue, List, Ok, Option, Some, true};
+ghost use Rattle.base.specs.declared.error.PoolError.{PoolError};
+ghost use Rattle.base.specs.declared.error.PoolError.TheVariants as error;
+ghost use Rattle.base.specs.declared.step.Reply as declared_reply;
+ghost use Rattle.base.specs.declared.step.Reply.TheVariants as reply;
+ghost use Rattle.base.specs.steps.Shown.{is_durable};
+ghost use Rattle.pool_tables.specs.declared.duty.Duty.{Duty};
+ghost use Rattle.pool_tables.specs.declared.duty.Duty.TheVariants as duty;
+ghost use Rattle.pool_threads.specs.Answers.{Takes, TakesAtLast};
+ghost use Rattle.pool_threads.specs.Handles.{moment_of, turns_of, view_seen};
+ghost use Rattle.pool_threads.specs.Serves.{AreDue, IsServedTurn};
+ghost use Rattle.pool_threads.specs.Views.{GrowsTo, SeenPool, viewed_state};
+ghost use Rattle.word_lock.specs.declared.rule.Turn.{Turn};
+ghost use Rattle.word_lock.specs.Turns.{turn};
+
+use crate::Handle;
+use base::{Group, PoolError, Receipt};
+use device_model::SectorDevice;
+use std::sync::Wait;
+
+// A look, and if it finds the transaction durable, nothing more: no log block is written.
+fn a_wait_looks_first<D: SectorDevice, W: Wait>(
+    rt: &W,
+    handle: &mut Handle<'_, D>,
+    receipt: Receipt,
+) -> Result<(), PoolError>
+    ensures { (looked : SeenPool) × (rest : List (Turn SeenPool))
+        × GrowsTo (IsTrue D.keeps_model) (view_seen handle.old) looked
+        × (turns_of handle.new ≡ (turns_of handle.old ++ turn looked looked ∷ []) ++ rest)
+        × (is_durable (viewed_state looked).shown receipt.ordinal.0 receipt.group.0 ≡ true
+        → (rest ≡ []) × (result ≡ Ok tt)) }
+{
+    handle.fsync(rt, receipt)
+}
+
+// In each turn nothing changes, or steps are made that were due, and no reply but the last is a refusal.
+fn a_turn_of_a_wait_ends_with_a_refusal<D: SectorDevice, W: Wait>(
+    rt: &W,
+    handle: &mut Handle<'_, D>,
+    receipt: Receipt,
+) -> Result<(), PoolError>
+    ensures { Takes (λ t. (t.left ≡ t.took)
+        ⊎ ((d : Duty) × (rs : List declared_reply.Reply) × (last : declared_reply.Reply)
+        × All (λ r. (e : PoolError) → r ≢ reply.Refused e) rs
+        × AreDue (IsTrue D.keeps_model) d (rs ++ last ∷ []) t.took t.left))
+        handle.old handle.new }
+{
+    handle.fsync(rt, receipt)
+}
+
+fn a_turn_of_a_sync_of_the_pool_ends_with_a_refusal<D: SectorDevice, W: Wait>(
+    rt: &W,
+    handle: &mut Handle<'_, D>,
+) -> Result<Group, PoolError>
+    ensures { Takes (λ t. (t.left ≡ t.took)
+        ⊎ ((d : Duty) × (rs : List declared_reply.Reply) × (last : declared_reply.Reply)
+        × All (λ r. (e : PoolError) → r ≢ reply.Refused e) rs
+        × AreDue (IsTrue D.keeps_model) d (rs ++ last ∷ []) t.took t.left))
+        handle.old handle.new }
+{
+    handle.sync_pool(rt)
+}
+
+// So a turn in which a write was refused is the last one, and the loop returns `Write`.
+fn a_quiescer_that_ends_early_was_refused_in_its_last_turn<D: SectorDevice, W: Wait>(
+    rt: &W,
+    handle: &mut Handle<'_, D>,
+) -> Result<(), PoolError>
+    ensures { IfErr result (λ e. TakesAtLast (λ t. (r : Option declared_reply.Reply)
+        × (r ≢ Some (reply.Refused error.Write))
+        × IsServedTurn (IsTrue D.keeps_model) duty.Quiesce r t)
+        (IsServedTurn (IsTrue D.keeps_model) duty.Quiesce (Some (reply.Refused e)))
+        handle.old handle.new) }
+{
+    handle.quiescer(rt)
+}
+
+fn a_syncer_that_ends_early_was_refused_in_its_last_turn<D: SectorDevice, W: Wait>(
+    rt: &W,
+    handle: &mut Handle<'_, D>,
+) -> Result<(), PoolError>
+    ensures { IfErr result (λ e. TakesAtLast (λ t. (r : Option declared_reply.Reply)
+        × (r ≢ Some (reply.Refused error.Write))
+        × IsServedTurn (IsTrue D.keeps_model) (duty.Sync (moment_of handle.old)) r t)
+        (IsServedTurn (IsTrue D.keeps_model) (duty.Sync (moment_of handle.old))
+        (Some (reply.Refused e)))
+        handle.old handle.new) }
+{
+    handle.syncer(rt)
+}
