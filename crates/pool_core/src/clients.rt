@@ -1,11 +1,12 @@
 //! What callers rest on: one function for each promise of this crate's calls, proved from the contract of the call
 //! alone. So it is refused as soon as that contract says less.
 
-ghost use Rattle.std.specs.Prelude.{◌≡◌, ◌∷◌, [], Err, IfErr, IfOk, IsTrue, None, Ok, Some, false, is_some, true};
+ghost use Rattle.std.specs.Prelude.{◌≡◌, ◌∷◌, [], Err, IfErr, IfOk, IsTrue, None, Ok, Some, false, is_some, length, true};
 ghost use Rattle.base.specs.declared.step.Reply.TheVariants as reply;
 ghost use Rattle.base.specs.declared.step.Step.TheVariants as step;
 ghost use Rattle.base.specs.steps.Shown.{dirty_of};
 ghost use Rattle.pool_core.specs.GroupSyncs.{AndThen, Call, SyncsClosed};
+ghost use Rattle.pool_core.specs.KeptSafe.{disk_of};
 ghost use Rattle.pool_core.specs.States.{device_of, shown};
 
 use crate::runs::run;
@@ -13,7 +14,7 @@ use crate::state::PoolState;
 use base::{
     Bytes, Group, LockId, ObjectId, Ordinal, Owner, PoolError, Range, Receipt, Reply, Step,
 };
-use device_model::SectorDevice;
+use device_model::{Fault, MemDevice, SectorDevice};
 use pool_tables::Duty;
 
 // A suspended pool releases no lock.
@@ -168,4 +169,21 @@ fn a_receipt_is_not_checked_in_a_suspended_pool<D: SectorDevice>(
         ordinal: Ordinal(3),
         group: Group(9),
     })
+}
+
+// An unflushed write is unflushed still in the device that a pool gives back.
+fn an_unflushed_write_comes_back<D: SectorDevice>(pool: PoolState<D>) -> D
+    requires { length (disk_of pool).now.unflushed ≡ 1 }
+    ensures { length (D.disk result).now.unflushed ≡ 1 }
+{
+    pool.into_device()
+}
+
+// A planned fault is one of its kind, and changes nothing that the pool shows.
+fn a_planned_fault_is_no_step(pool: &mut PoolState<MemDevice>)
+    ensures planned { (device_of pool.new).read_fails ≡ 2 }
+    ensures no_other { (device_of pool.new).write_fails ≡ (device_of pool.old).write_fails }
+    ensures unchanged { shown pool.new ≡ shown pool.old }
+{
+    pool.fail(Fault::Read, 2);
 }

@@ -1,13 +1,14 @@
 //! What callers rest on: one function for each promise of this crate's calls, proved from the contract of the call
 //! alone. So it is refused as soon as that contract says less.
 
-ghost use Rattle.std.specs.Prelude.{◌≡◌, ◌∷◌, [], IfErr, IfOk, IfSome, codes};
+ghost use Rattle.std.specs.Prelude.{◌≡◌, ◌∷◌, [], IfErr, IfOk, IfSome, None, Some, codes};
 ghost use Rattle.base.specs.declared.error.PoolError.TheVariants.{Throttled};
 ghost use Rattle.base.specs.declared.step.Reply.TheVariants.{Refused};
 ghost use Rattle.base.specs.declared.step.Step.TheVariants.{CloseGroup};
 
 use crate::answer::Answer;
 use crate::command::{Command, LineError, PoolCommand, parse_command};
+use crate::number::{parse_u32, parse_u64};
 use base::{Bytes, PoolError};
 use device_model::MemDevice;
 use import_replay::Imported;
@@ -59,4 +60,29 @@ fn a_refusal_is_told_as_it_is() -> Answer
     ensures { result ≡ Answer.Reply (Refused Throttled) }
 {
     Answer::refused(PoolError::Throttled)
+}
+
+fn a_number_may_begin_with_zeros() -> Option<u64>
+    ensures { result ≡ Some 42 }
+{
+    parse_u64("0042")
+}
+
+fn a_sign_is_no_digit() -> Option<u64>
+    ensures { result ≡ None }
+{
+    parse_u64("+42")
+}
+
+// The greatest number of 32 bits is 4,294,967,295.
+fn the_greatest_number_of_32_bits_is_read() -> Option<u32>
+    ensures { result ≡ Some 4294967295 }
+{
+    parse_u32("4294967295")
+}
+
+fn the_number_after_it_is_too_wide() -> Option<u32>
+    ensures { result ≡ None }
+{
+    parse_u32("4294967296")
 }
