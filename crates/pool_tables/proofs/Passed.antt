@@ -1,6 +1,6 @@
 -- A step that no test refuses does what it is asked for, or is refused for a reason that its tests don't see.
 use Rattle.std.proofs.Common.{◌≡◌, ◌∙◌, ◌⊎◌, ◌+◌, inl, inr, ℕ, true, false, [], refl, ap, sym, subst}
-use Rattle.std.specs.Prelude.{Option, Some, None, Result, Ok, Err, IfErr, IfOk, OnOk}
+use Rattle.std.specs.Prelude.{◌≢◌, Option, Some, None, Result, Ok, Err, IfErr, IfOk, OnOk}
 use Rattle.base.specs.declared.error.PoolError.{PoolError}
 use Rattle.base.specs.declared.error.PoolError.TheVariants as error
 use Rattle.base.specs.declared.names.Group.{Group}
@@ -11,7 +11,7 @@ use Rattle.base.specs.steps.ExactNow.{IsExplainedNow}
 use Rattle.base.specs.steps.Refusals.{close_refusal, log_flush_refusal, log_write_refusal, quiesce_refusal, quiesced_group, quiescing_group, start_refusal, sync_step_refusal}
 use Rattle.base.specs.steps.Shown.{Shown, SyncPlan}
 use Rattle.base.specs.steps.Steps as steps
-use Rattle.base.specs.steps.Steps.{Answers, IsPlanned, IsProgress, State, SyncProgress, TakesForEach, WantsMemory, line_after_close, line_after_quiesce, state_after_log_flush, state_after_start, suspended_state, with_line}
+use Rattle.base.specs.steps.Steps.{Answers, IsPlanned, IsProgress, State, SyncProgress, TakesForEach, WantsMemoryOrRead, line_after_close, line_after_quiesce, state_after_log_flush, state_after_start, suspended_state, with_line}
 use Rattle.base.proofs.common.KeptLists.{Some-injective}
 use Rattle.base.proofs.history.CommitOrder.{ok-none}
 use Rattle.pool_tables.specs.Meets.{Meets}
@@ -25,6 +25,12 @@ use Rattle.pool_tables.proofs.OfNoDevice.{some_past}
 -- whatever its answer is told as
 own_refusal : {A : Type 0} (r : Option PoolError) (e : PoolError) (old new : State) (does : A → Type 0) (own : PoolError → Type 0) → r ≡ None → Answers r (Err e) old new does own → own e
 own_refusal r e old new does own passes h = subst (λ (q : Option PoolError). Answers q (Err e) old new does own) passes h
+
+-- a lack of memory, a refused read and a damage are none of the groups
+never_unready : (e : PoolError) → (e ≡ error.NoMemory) ⊎ (e ≡ error.Read) ⊎ ((kind address : ℕ) × (e ≡ error.Damaged kind address) × ¬ ⊥) → e ≢ error.NotReady
+never_unready e (inl no_memory) is = let no_way : error.NoMemory ≡ error.NotReady = sym no_memory ∙ is in cc
+never_unready e (inr (inl read)) is = let no_way : error.Read ≡ error.NotReady = sym read ∙ is in cc
+never_unready e (inr (inr (kind, address, damaged, _))) is = let no_way : error.Damaged kind address ≡ error.NotReady = sym damaged ∙ is in cc
 
 -- What is known of each step from the shown pool before it to the one after it.
 module _ (s new : Shown) where
@@ -65,9 +71,9 @@ module _ (s new : Shown) where
           (ap (λ n. Ok (record { 0 = n })) same, ap (λ (x : State). x.shown.line.middle) done.1 ∙ ap (λ n. Some (record { group = n; quiesced = true })) same)
       go (Err e) later h = absurd (own_refusal (quiesce_refusal s) e before (after later) (Does later) steps.Never passes h)
 
-  -- the sync of the quiesced group starts, or wants memory
+  -- the sync of the quiesced group starts, or is refused what no test sees
   pub started : (moment group : ℕ) (answer : Result Group PoolError) → start_refusal s ≡ None → quiesced_group s.line ≡ Some group → StartsSync moment answer s new → (past : Past) → IsExplainedNow s past
-      → IfOk answer (λ g. g.0 ≡ group) × IfErr answer (λ e. e ≡ error.NoMemory)
+      → IfOk answer (λ g. g.0 ≡ group) × IfErr answer (λ e. e ≢ error.NotReady)
   started moment group answer passes at starts past explained = go answer (starts past explained).0 (starts past explained).1
     where
       old : State
@@ -76,12 +82,12 @@ module _ (s new : Shown) where
       Does : Past → ℕ → Type 0
       Does later g = (plan : SyncPlan) × (quiesced_group s.line ≡ Some g) × IsPlanned old moment g plan × (⊥ → TakesForEach [] old g plan) × (after later ≡ state_after_start g plan old)
 
-      go : (answer : Result Group PoolError) (later : Past) → Answers (start_refusal s) (result_map group_number answer) old (after later) (Does later) (WantsMemory old (after later))
-          → IfOk answer (λ g. g.0 ≡ group) × IfErr answer (λ e. e ≡ error.NoMemory)
+      go : (answer : Result Group PoolError) (later : Past) → Answers (start_refusal s) (result_map group_number answer) old (after later) (Does later) (WantsMemoryOrRead ⊥ old (after later))
+          → IfOk answer (λ g. g.0 ≡ group) × IfErr answer (λ e. e ≢ error.NotReady)
       go (Ok g) later h =
-          let done = (ok-none (start_refusal s) g.0 old (after later) (Does later) (WantsMemory old (after later)) h).1 in
+          let done = (ok-none (start_refusal s) g.0 old (after later) (Does later) (WantsMemoryOrRead ⊥ old (after later)) h).1 in
           (Some-injective (sym done.1 ∙ at), tt)
-      go (Err e) later h = (tt, (own_refusal (start_refusal s) e old (after later) (Does later) (WantsMemory old (after later)) passes h).0)
+      go (Err e) later h = (tt, never_unready e (own_refusal (start_refusal s) e old (after later) (Does later) (WantsMemoryOrRead ⊥ old (after later)) passes h).0)
 
   -- the running sync goes on, and syncs its group, or the device refuses its call
   pub stepped : (group : ℕ) (answer : Result Progress PoolError) → sync_step_refusal s ≡ None → s.line.syncing ≡ Some group → Meets steps.SyncStep (result_map plain_progress answer) s new

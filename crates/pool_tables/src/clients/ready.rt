@@ -1,7 +1,7 @@
 //! What callers rest on of the steps that may be refused as not ready: each has its time, is made then, and is refused
 //! so at any other.
 
-ghost use Rattle.std.specs.Prelude.{◌≡◌, ◌⊎◌, ◌∷◌, [], Err, IfErr, IfOk, None, Ok, Some, false, length, true};
+ghost use Rattle.std.specs.Prelude.{◌≡◌, ◌≢◌, ◌⊎◌, ◌∷◌, [], Err, IfErr, IfOk, None, Ok, Some, false, length, true};
 ghost use Rattle.base.specs.history.Past.{Past};
 ghost use Rattle.base.specs.steps.ExactNow.{IsExplainedNow};
 ghost use Rattle.base.specs.steps.Groups.{hold_count};
@@ -60,8 +60,8 @@ fn a_quiesced_group_is_not_quiesced_again(pool: &mut PoolTables) -> Result<Group
     pool.mark_quiesced()
 }
 
-// Once no group is syncing, the sync of a quiesced one is refused for want of memory alone.
-fn a_quiesced_group_is_synced_if_there_is_memory(
+// Once no group is syncing, the sync of a quiesced one starts, or is refused for what no test sees.
+fn a_quiesced_group_is_ready_to_be_synced(
     pool: &mut PoolTables,
     moment: u64,
 ) -> Result<Group, PoolError>
@@ -72,7 +72,7 @@ fn a_quiesced_group_is_synced_if_there_is_memory(
     ensures started { (past : Past) → IsExplainedNow (pool_shown pool.old) past
         → IfOk result (λ group. group.0 ≡ 9) }
     ensures refused { (past : Past) → IsExplainedNow (pool_shown pool.old) past
-        → IfErr result (λ e. e ≡ PoolError.NoMemory) }
+        → IfErr result (λ e. e ≢ PoolError.NotReady) }
 {
     pool.start_sync(moment)
 }

@@ -1,7 +1,7 @@
 use Rattle.std.proofs.Common.{refl}
 use Rattle.pool_tables.specs.Shows.{pool_shown}
 use Rattle.pool_tables.proofs.Passed.{started}
-use Rattle.pool_tables.proofs.clients.ready.a_quiesced_group_is_synced_if_there_is_memory.Goals as goal
+use Rattle.pool_tables.proofs.clients.ready.a_quiesced_group_is_ready_to_be_synced.Goals as goal
 
 pub returns-clause-started : goal.returns-clause-started
 returns-clause-started c = λ past explained.
