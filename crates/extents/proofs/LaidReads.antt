@@ -108,7 +108,7 @@ lays_on_patch patches n offset p old new is sized long lays below there (inl hid
 lays_on_patch patches n offset p old new is sized long lays below there (inr reads) = laid_part patches below n p is there offset old new sized long lays reads
 
 -- one group over another
-over_below : (patches : Patches) (n offset : ℕ) (below : FinMap nat_cmp (List ℕ)) (old new : List ℕ) → LaysOnBelow patches n offset old new → is_some (finite.get (laid_over patches below) n) ≡ true
+pub over_below : (patches : Patches) (n offset : ℕ) (below : FinMap nat_cmp (List ℕ)) (old new : List ℕ) → LaysOnBelow patches n offset old new → is_some (finite.get (laid_over patches below) n) ≡ true
     → (is_some (finite.get below n) ≡ true → AreBytesFrom offset (object_bytes below n) old) → AreBytesFrom offset (object_bytes (laid_over patches below) n) new
 over_below patches n offset below old new lays there reads = go (cases_Bool (is_some (finite.get below n)))
   where

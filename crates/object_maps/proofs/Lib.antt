@@ -1,5 +1,4 @@
 pub mod ContentsShown
-pub mod Feeds
 pub mod Judged
 pub mod Records
 pub mod RisingObjects

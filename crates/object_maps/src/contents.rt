@@ -1,24 +1,29 @@
-//! The contents of a pool, whole in memory: its name, and the bytes of each object.
+//! The contents of a pool: its name, and the length of each object. The bytes of the objects are told, and don't stand in
+//! memory.
 
-ghost use Rattle.std.specs.Prelude.{◌≡◌, ◌≤◌, [], false, All, vec_len, vec_capacity, IfOk, option_map};
+ghost use Rattle.std.specs.Prelude.{◌≡◌, false, option_map, All, IfOk, vec_len, length as count};
 ghost use Rattle.std.specs.FinMap as finite;
 ghost use Rattle.base.specs.formats.Limits.{object_count};
 
-use base::{OBJECT_COUNT, ObjectId, PoolName};
+use crate::told_bytes::{BytesView, no_bytes};
+use base::{OBJECT_COUNT, ObjectId, PoolName, Told};
 use std::alloc::{AllocError, Global};
 
-/// The place of one object: whether it is there, and its bytes. If it is not there, the bytes mean nothing: room may be
-/// taken for it before.
-#[derive(Debug, Drop, PartialEq, Eq)]
+/// The place of one object: whether it is there, its length, and its bytes for proofs. If it is not there, the others
+/// mean nothing.
+#[derive(Debug, Drop)]
 pub struct Slot {
     /// Whether the object is there.
     pub present: bool,
-    /// Its bytes, as many as its length.
-    pub bytes: Vec<u8>,
+    /// Its length in bytes.
+    pub size: u64,
+    /// Its bytes, of which none stands in memory.
+    pub bytes: Told<BytesView>,
+    ghost sized: { count bytes.value ≡ size },
 }
 
 /// The name of a pool, and a slot for each object number.
-#[derive(Debug, Drop, PartialEq, Eq)]
+#[derive(Debug, Drop)]
 pub struct Contents {
     /// The name of the pool.
     pub name: PoolName,
@@ -34,23 +39,30 @@ pub fn empty_slots(alloc: Global) -> Result<Vec<Slot>, AllocError>
 {
     let mut slots = Vec::with_capacity(alloc, OBJECT_COUNT as usize)?;
     for _i in 0..OBJECT_COUNT {
-        slots.push_reserved(Slot {
-            present: false,
-            bytes: Vec::new(alloc),
-        });
+        slots.push_reserved(Slot::empty());
     }
     Ok(slots)
 }
 
 impl Slot {
-    /// From now on the object is not there. Its bytes are cleared, and the room stays.
-    pub fn clear(&mut self)
-        ensures present { self.new.present ≡ false }
-        ensures bytes { self.new.bytes.items ≡ [] }
-        ensures capacity { vec_capacity self.old.bytes ≤ vec_capacity self.new.bytes }
+    ghost use Rattle.object_maps.specs.ContentsShown.{object_of};
+
+    /// No object.
+    pub fn empty() -> Self
+        ensures { result.present ≡ false }
     {
-        self.present = false;
-        self.bytes.clear();
+        Slot {
+            present: false,
+            size: 0,
+            bytes: no_bytes(),
+        }
+    }
+
+    /// The length of its object in bytes, if it is there.
+    pub fn length(&self) -> Option<u64>
+        ensures { result ≡ option_map count (object_of self.now) }
+    {
+        if self.present { Some(self.size) } else { None }
     }
 }
 
@@ -75,15 +87,11 @@ impl Contents {
         Contents { name, slots }
     }
 
-    /// The bytes of an object, if it is there.
-    pub fn object(&self, id: ObjectId) -> Option<&[u8]>
-        ensures { option_map (λ b. b.now) result ≡ finite.get (contents_of self.now).objects id.0 }
+    /// The length of an object in bytes, if it is there.
+    pub fn length(&self, id: ObjectId) -> Option<u64>
+        ensures { result ≡ option_map count (finite.get (contents_of self.now).objects id.0) }
     {
         let slot = self.slots.get(id.0 as usize)?;
-        if slot.present {
-            Some(slot.bytes.as_slice())
-        } else {
-            None
-        }
+        slot.length()
     }
 }

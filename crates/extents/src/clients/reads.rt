@@ -11,33 +11,13 @@ ghost use Rattle.extents.specs.Unsynced.{changes_at};
 ghost use Rattle.extents.specs.declared.basis.Basis.TheVariants as basis;
 
 use crate::extents::Extents;
-use crate::laid::Laid;
 use crate::object::ObjectPatch;
 use crate::record::RecordPatch;
 use crate::unsynced::UnsyncedExtents;
-use base::{ObjectId, PoolError};
-use object_maps::{Contents, ObjectSource};
-use std::alloc::AllocError;
+use base::ObjectId;
+use object_maps::Contents;
 
 // Of an object that was cut to its first byte, and made three bytes long again, that byte shows and then zeros.
-fn bytes_after_a_cut_do_not_show(
-    extents: &Extents,
-    contents: &Contents,
-    into: &mut [u8],
-) -> Result<(), PoolError>
-    requires basis { (patches_of extents.now 7).basis ≡ basis.Cut 1 3 }
-    requires written { (i : ℕ) → (patches_of extents.now 7).written i ≡ None }
-    requires object { finite.get (contents_of contents.now).objects 7 ≡ Some (1 ∷ 2 ∷ 3 ∷ []) }
-    requires size { length into.old ≡ 2 }
-    ensures first { OnOk result (get_or into.new 0 0 ≡ 1) }
-    ensures second { OnOk result (get_or into.new 1 0 ≡ 0) }
-{
-    let mut laid = Laid::new(extents, contents);
-    laid.read_part(ObjectId(7), 0, 0, into)?;
-    Ok(())
-}
-
-// So it is if the caller has the bytes of the object below.
 fn bytes_after_a_cut_are_laid_over(extents: &Extents, into: &mut [u8])
     requires basis { (patches_of extents.now 7).basis ≡ basis.Cut 1 3 }
     requires written { (i : ℕ) → (patches_of extents.now 7).written i ≡ None }
@@ -48,55 +28,14 @@ fn bytes_after_a_cut_are_laid_over(extents: &Extents, into: &mut [u8])
     extents.lay_over(ObjectId(7), 0, 0, Some(3), into);
 }
 
-// If the first byte was written and the second was not, the second one of the object below shows.
-fn a_byte_that_was_not_written_shows(
-    extents: &Extents,
-    contents: &Contents,
-    into: &mut [u8],
-) -> Result<(), PoolError>
-    requires basis { (patches_of extents.now 7).basis ≡ basis.Grown 1 }
-    requires first { (patches_of extents.now 7).written 0 ≡ Some 9 }
-    requires second { (patches_of extents.now 7).written 1 ≡ None }
-    requires object { finite.get (contents_of contents.now).objects 7 ≡ Some (1 ∷ 2 ∷ 3 ∷ []) }
-    requires size { length into.old ≡ 2 }
-    ensures first { OnOk result (get_or into.new 0 0 ≡ 9) }
-    ensures second { OnOk result (get_or into.new 1 0 ≡ 2) }
-{
-    let mut laid = Laid::new(extents, contents);
-    laid.read_part(ObjectId(7), 0, 0, into)?;
-    Ok(())
-}
-
-// A read of record 1 has what was written into that record.
-fn a_read_has_the_changes_of_its_record(
-    extents: &Extents,
-    contents: &Contents,
-    into: &mut [u8],
-) -> Result<(), PoolError>
-    requires basis { (patches_of extents.now 7).basis ≡ basis.Made 4033 }
-    requires written { (patches_of extents.now 7).written 4032 ≡ Some 9 }
-    requires size { length into.old ≡ 1 }
-    ensures { OnOk result (get_or into.new 0 0 ≡ 9) }
-{
-    let mut laid = Laid::new(extents, contents);
-    laid.read_part(ObjectId(7), 1, 0, into)?;
-    Ok(())
-}
-
 // Once the group is synced, bytes after its cut don't come back in the contents.
-fn bytes_after_a_cut_do_not_come_back(
-    extents: &Extents,
-    contents: &mut Contents,
-) -> Result<(), AllocError>
+fn bytes_after_a_cut_do_not_come_back(extents: &Extents, contents: &mut Contents)
     requires basis { (patches_of extents.now 7).basis ≡ basis.Cut 1 3 }
     requires written { (i : ℕ) → (patches_of extents.now 7).written i ≡ None }
     requires object { finite.get (contents_of contents.old).objects 7 ≡ Some (1 ∷ 2 ∷ 3 ∷ []) }
-    ensures { OnOk result (finite.get (contents_of contents.new).objects 7
-        ≡ Some (1 ∷ 0 ∷ 0 ∷ [])) }
+    ensures { finite.get (contents_of contents.new).objects 7 ≡ Some (1 ∷ 0 ∷ 0 ∷ []) }
 {
-    extents.reserve_in(contents)?;
     extents.lay_into(contents);
-    Ok(())
 }
 
 // A byte that was written into a record is covered.
@@ -113,21 +52,6 @@ fn a_written_byte_hides_the_one_below(object: &ObjectPatch) -> bool
     ensures { result ≡ true }
 {
     object.hides(1, 5, 1)
-}
-
-// A byte that the group wrote is read even if the source below refuses each read.
-fn a_written_byte_is_read_without_the_source_below<O: ObjectSource>(
-    laid: &mut Laid<'_, O>,
-    into: &mut [u8],
-) -> Result<(), PoolError>
-    requires written { (patches_of laid.old.extents.now 7).written 0 ≡ Some 9 }
-    requires there { is_some (finite.get
-        (laid_over (patches_of laid.old.extents.now) (O.objects laid.old.below)) 7) ≡ true }
-    requires size { length into.old ≡ 1 }
-    ensures answered { IsOk result }
-    ensures below { laid.new.below ≡ laid.old.below }
-{
-    laid.read_present(ObjectId(7), 0, 0, into)
 }
 
 // An object that the group left alone hides no byte of the one below.
