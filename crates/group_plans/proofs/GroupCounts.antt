@@ -29,7 +29,7 @@ use Rattle.tree_plans.specs.declared.changes.ObjectChanges.{ObjectChanges}
 use Rattle.tree_plans.specs.Changes.{changes_of_group, has_address}
 use Rattle.tree_plans.specs.Marks.{AreChangesOf, pending_ops}
 use Rattle.tree_plans.specs.Plans.{new_block}
-use Rattle.group_plans.specs.GroupPlans.{IsPlannedGroup, IsShortOfBlocks, plan_pointers}
+use Rattle.group_plans.specs.GroupPlans.{IsShortOfBlocks, TakesGroupPlaces, plan_pointers}
 use Rattle.group_plans.specs.Laws.{EstimatesAdd, PlansFitEstimates, ShortPlansLackBlocks}
 use Rattle.group_plans.specs.Operations.{TakesPlace}
 use Rattle.group_plans.proofs.GroupChanges.{in_range, states_are}
@@ -62,16 +62,16 @@ module _ (group : ℕ) (records : List Record) (maps : List ObjectMap) (before a
   count_told objects changes = ap (λ (l : List Place). length l) (places_told ops maps before after x pointers objects changes (named_by pointers) (λ n r low below. refl))
 
   -- the new tree has the addresses of the plan's blocks at these places, in order
-  pub takes_at_places : (frame : Frame) (new : Place → Pointer) (bs : List NewBlock) → IsPlannedGroup group records maps frame pointers new bs after.objects
+  pub takes_at_places : (new : Place → Pointer) (bs : List NewBlock) → TakesGroupPlaces group records maps pointers new bs after.objects
       → (had : Place → Bool) → ((n r : ℕ) → n < object_count → r < pointer_count → has_address (pointers (Data n r)) ≡ had (Data n r))
       → map (λ (place : Place). (new place).address) (written_places ops before had) ≡ map (λ (b : NewBlock). b.address) bs
-  takes_at_places frame new bs from had same =
+  takes_at_places new bs from had same =
       ap (λ (ps : List Place). map (λ (place : Place). (new place).address) ps) (places_told ops maps before after x pointers from.objects from.changes had same)
       ∙ sym (from.order (in_range ops maps before after x from.objects from.changes))
 
   -- a plan takes no more blocks than the operations are estimated at
-  pub blocks_fit : (frame : Frame) (new : Place → Pointer) (bs : List NewBlock) → IsPlannedGroup group records maps frame pointers new bs after.objects → length bs ≤ estimate_of (map shape_of ops)
-  blocks_fit frame new bs from =
+  pub blocks_fit : (new : Place → Pointer) (bs : List NewBlock) → TakesGroupPlaces group records maps pointers new bs after.objects → length bs ≤ estimate_of (map shape_of ops)
+  blocks_fit new bs from =
       let each : length bs ≡ length (written_by (changes_of_group from.objects pointers after.objects)) =
       sym (length-map bs (λ (b : NewBlock). b.address))
       ∙ ap (λ (l : List ℕ). length l) (from.order (in_range ops maps before after x from.objects from.changes))
@@ -93,7 +93,7 @@ module _ (group : ℕ) (records : List Record) (maps : List ObjectMap) (before a
 pub plans_fit_estimates : PlansFitEstimates
 plans_fit_estimates frame tree records before after p makes x =
     subst (λ (n : ℕ). n ≤ estimate_of (map shape_of (pending_ops frame.group records))) (length-map p.blocks.items new_block)
-    (blocks_fit frame.group records tree.maps.items before after x (pointers_of tree) frame (plan_pointers tree p) (map new_block p.blocks.items) makes.planned)
+    (blocks_fit frame.group records tree.maps.items before after x (pointers_of tree) (plan_pointers tree p) (map new_block p.blocks.items) makes.places)
 
 pub short_plans_lack_blocks : ShortPlansLackBlocks
 short_plans_lack_blocks group tree records before after free short x = short_of_estimate group records tree.maps.items before after x (pointers_of tree) (rising free) short

@@ -78,4 +78,4 @@ tree_planned group records maps before after x sized image old_frame pointers tr
 
 pub plans_make_trees : PlansMakeTrees
 plans_make_trees frame before_frame tree records before after p makes x sized image holds =
-    tree_planned frame.group records tree.maps.items before after x sized image before_frame (pointers_of tree) holds frame (plan_pointers tree p) (map new_block p.blocks.items) makes.planned
+    tree_planned frame.group records tree.maps.items before after x sized image before_frame (pointers_of tree) holds frame (plan_pointers tree p) (map new_block p.blocks.items) makes

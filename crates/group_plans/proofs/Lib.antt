@@ -4,3 +4,6 @@ pub mod GroupChanges
 pub mod GroupObjects
 pub mod GroupTrees
 pub mod GroupCounts
+pub mod RecordsAtHand
+pub mod RecordReads
+pub mod PreparedPlans

@@ -1,20 +1,17 @@
 -- The blocks that a plan takes and those that come back: their addresses are those of blocks.
-use Rattle.std.proofs.Common.{◌≡◌, ℕ, ◌-◌, ◌/◌, ◌%◌, ◌<◌, ◌≤◌, ◌&&◌, true, List, [], ◌∷◌, ◌⊎◌, inl, inr, map, refl, ap, subst, arith, nat_le, nat_lt}
-use Rattle.std.specs.Prelude.{All, get_or, ◌==◌, Result, Ok, Err, IfErr}
+use Rattle.std.proofs.Common.{◌≡◌, ℕ, ◌-◌, ◌/◌, ◌%◌, ◌<◌, ◌≤◌, ◌&&◌, true, List, [], ◌∷◌, inl, inr, map, refl, ap, subst, arith, nat_le, nat_lt}
+use Rattle.std.specs.Prelude.{All, get_or, ◌==◌}
 use Rattle.std.proofs.Math.Nat.{div-add-mod}
 use Rattle.std.proofs.Math.Logic.{∥∥₁_elim}
 use mathlib.Core.Bool.{Bool-set}
 use Rattle.std.proofs.lemmas.Bool.{and_from, and_parts, eq-eqb, eqb-true, le-leb, leb-true, lt-ltb, ltb-true}
-use Rattle.base.specs.declared.error.PoolError.{PoolError}
-use Rattle.base.specs.declared.error.PoolError.TheVariants as error
 use Rattle.base.specs.formats.Geometry.{IsBlockAddress, block_area, block_size}
 use Rattle.base.specs.tree.PlacedTrees.{ArePlaced, IsPlaced}
 use Rattle.base.specs.tree.PlannedTrees.{NewBlock}
 use Rattle.object_maps.specs.declared.tree.Tree.{Tree}
 use Rattle.object_maps.specs.Pointers as kept
 use Rattle.tree_plans.specs.declared.planner.PlannedBlock.{PlannedBlock}
-use Rattle.tree_plans.specs.declared.planner.TreePlan.{TreePlan}
-use Rattle.tree_plans.specs.Plans.{IsWantOr, address_of, new_block}
+use Rattle.tree_plans.specs.Plans.{address_of, new_block}
 use Rattle.tree_plans.specs.Pointers as plans
 use Rattle.group_plans.specs.Areas.{is_block_of}
 use Rattle.group_plans.proofs.PlannedPointers.{same_tree}
@@ -23,13 +20,6 @@ use Rattle.group_plans.proofs.PlannedPointers.{same_tree}
 pub addresses_are : (blocks : List PlannedBlock) → map (λ (b : NewBlock). b.address) (map new_block blocks) ≡ map address_of blocks
 addresses_are [] = refl
 addresses_are (b ∷ blocks) = ap (λ (l : List ℕ). address_of b ∷ l) (addresses_are blocks)
-
--- a plan is refused for want of memory or of blocks
-pub turn_want : (r : Result TreePlan PoolError) → IfErr r (IsWantOr (λ e. ⊥)) → IfErr r (λ e. (e ≡ error.NoMemory) ⊎ (e ≡ error.NoSpace))
-turn_want (Ok p) h = tt
-turn_want (Err e) (inl (inl space)) = inr space
-turn_want (Err e) (inl (inr memory)) = inl memory
-turn_want (Err e) (inr never) = absurd never
 
 -- what passes the test is the address of a block
 pub block_of : (blocks address : ℕ) → is_block_of blocks address ≡ true → IsBlockAddress blocks address

@@ -26,15 +26,7 @@ use Rattle.tree_plans.specs.declared.planner.TreePlan.{TreePlan}
 use Rattle.tree_plans.specs.Pointers as plans
 use Rattle.tree_plans.specs.Pointers.{entry_of, planned_map}
 use Rattle.group_plans.specs.Pointers.{lengths_after, pointers_after}
-
-same_test : (x y : ℕ) → is_eq (nat_cmp x y) ≡ (x == y)
-same_test x y = by (nat_lt x y) refl (x == y) refl
-  where
-    by : (l : Bool) → nat_lt x y ≡ l → (e : Bool) → (x == y) ≡ e → is_eq (cond l Less (cond e Equal Greater)) ≡ e
-    by true less true same = let low : x < y = ltb-true x y less in let eq : x ≡ y = eqb-true x y same in absurd (omega arith)
-    by true less false same = refl
-    by false less true same = refl
-    by false less false same = refl
+use Rattle.group_plans.proofs.RecordsAtHand.{same_test}
 
 -- what entries have at a number, found by the order of numbers or by their equality
 same_entry : {X : Type 0} (entries : List (ObjectId × X)) (n : ℕ) → lookup (λ (id : ObjectId). is_eq (id_cmp (record { 0 = n }) id)) entries ≡ entry_of entries n

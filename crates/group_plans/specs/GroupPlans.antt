@@ -1,12 +1,12 @@
 -- What the plan of a group says of its blocks and of the tree that they make.
-use Rattle.std.specs.Prelude.{ℕ, ◌≡◌, ◌<◌, All, List, Option, Some, is_some, length, map, option_map, slice_get, take, if◌then◌else◌}
+use Rattle.std.specs.Prelude.{ℕ, ◌≡◌, ◌<◌, ◌⊎◌, All, List, Option, Some, is_some, length, map, option_map, slice_get, take, if◌then◌else◌}
 use Rattle.std.specs.Ordering.{nat_cmp}
 use Rattle.std.specs.FinMap as finite
 use Rattle.std.specs.FinMap.{FinMap}
 use Rattle.std.specs.FinSet.{FinSet}
 use Rattle.base.specs.common.Rising.{rising}
 use Rattle.base.specs.declared.error.PoolError.{PoolError}
-use Rattle.base.specs.declared.error.PoolError.TheVariants.{NoSpace}
+use Rattle.base.specs.declared.error.PoolError.TheVariants.{NoSpace, Read}
 use Rattle.base.specs.declared.names.ObjectId.{ObjectId}
 use Rattle.base.specs.declared.pointer.Pointer.{Pointer}
 use Rattle.base.specs.formats.Blocks.{Frame}
@@ -21,6 +21,7 @@ use Rattle.transactions.specs.declared.record.Record.{Record}
 use Rattle.object_maps.specs.declared.contents.Contents as slots
 use Rattle.object_maps.specs.declared.tree.ObjectMap.{ObjectMap}
 use Rattle.object_maps.specs.declared.tree.Tree.{Tree}
+use Rattle.object_maps.specs.Cached.{IsReadRefusal}
 use Rattle.object_maps.specs.ContentsShown.{contents_of}
 use Rattle.object_maps.specs.Lengths.{map_length}
 use Rattle.object_maps.specs.Pointers.{pointers_of}
@@ -33,18 +34,24 @@ use Rattle.tree_plans.specs.declared.planner.TreePlan.{TreePlan}
 use Rattle.tree_plans.specs.declared.walk.PlanSource.{PlanSource}
 use Rattle.tree_plans.specs.Changes.{AreBornBefore, AreChanges, AreInRange, AreTreePointers, IsCoveredBy, changes_of_group, written_frame}
 use Rattle.tree_plans.specs.Marks.{AreChangesOf, pending_ops}
-use Rattle.tree_plans.specs.Plans.{address_of, new_block}
+use Rattle.tree_plans.specs.Plans.{IsWant, address_of, new_block}
 use Rattle.tree_plans.specs.Pointers.{entry_of}
 use Rattle.group_plans.specs.Areas.{AreBlocksOf}
 use Rattle.group_plans.specs.Pointers.{lengths_after, pointers_after}
 
 -- Some changes are those of the group's operations among records, on a tree with these maps. By them these blocks make
 -- the tree after the group from the old one, whatever objects were there before of which the changes cover all that
--- differs; and they are those of the places that are written, one for each, in their order.
+-- differs.
 pub record IsPlannedGroup (group : ℕ) (records : List Record) (maps : List ObjectMap) (frame : Frame) (old new : Place → Pointer) (bs : List NewBlock) (after : FinMap nat_cmp (List ℕ)) : Type 0 where
   pub objects : List (ObjectId × ObjectChanges)
   pub changes : AreChangesOf (pending_ops group records) maps objects
   pub planned : (before : FinMap nat_cmp (List ℕ)) → IsCoveredBy objects old before after → AreChanges objects after → AreTreePointers objects old after → IsTreePlan bs frame old new before after
+
+-- Some changes are those of the group's operations among records, on a tree with these maps. The blocks are those of the
+-- places that they write, one for each, in their order.
+pub record TakesGroupPlaces (group : ℕ) (records : List Record) (maps : List ObjectMap) (old new : Place → Pointer) (bs : List NewBlock) (after : FinMap nat_cmp (List ℕ)) : Type 0 where
+  pub objects : List (ObjectId × ObjectChanges)
+  pub changes : AreChangesOf (pending_ops group records) maps objects
   pub order : AreInRange objects → map (λ (b : NewBlock). b.address) bs ≡ map (λ (place : Place). (new place).address) (written_by (changes_of_group objects old after))
 
 -- Some changes are those of the group's operations among records, on a tree with these maps. Where they are in range,
@@ -74,21 +81,33 @@ pub record FitsIn (size : ℕ) (p : TreePlan) : Type 0 where
 abbrev pub TakesLowest : FinSet nat_cmp → TreePlan → Type 0
 TakesLowest free p = map address_of p.blocks.items ≡ take (length p.blocks.items) (rising free)
 
--- It makes of a tree that of the group of the frame, whose operations are among these records and lead to these
--- objects. Its pointers are placed, its blocks are whole and each one is used, and its lengths are those after the
--- group. If no pointer was born in the group or later, what comes back is what the old tree has and the new one has
--- not.
+-- It makes of a tree one of the group of the frame, whose operations are among these records and lead to these objects.
+-- Its pointers are placed, its blocks are whole and each one is used. They lie at the places that the operations write,
+-- and its lengths are those after the group. If no pointer was born in the group or later, what comes back is what the
+-- old tree has and the new one has not.
 pub record MakesGroupTree (frame : Frame) (tree : Tree) (records : List Record) (after : FinMap nat_cmp (List ℕ)) (p : TreePlan) : Type 0 where
   pub placed : ∥ ArePlaced frame.blocks (plan_pointers tree p) ∥₁
-  pub planned : IsPlannedGroup frame.group records tree.maps.items frame (pointers_of tree) (plan_pointers tree p) (map new_block p.blocks.items) after
+  pub places : TakesGroupPlaces frame.group records tree.maps.items (pointers_of tree) (plan_pointers tree p) (map new_block p.blocks.items) after
   pub freed : AreBornBefore frame.group (pointers_of tree) → AreFreed (pointers_of tree) (plan_pointers tree p) p.freed.items
   pub used : AreUsed (map new_block p.blocks.items) (plan_pointers tree p)
   pub whole : (i : ℕ) (b : NewBlock) → slice_get (map new_block p.blocks.items) i ≡ Some b → length b.content ≡ block_size
   pub lengths : HasGroupLengths frame.group records tree.maps.items (lengths_after p.maps tree) after
 
+-- and its blocks hold these objects
+abbrev pub HoldsGroupObjects : Frame → Tree → List Record → FinMap nat_cmp (List ℕ) → TreePlan → Type 0
+HoldsGroupObjects frame tree records after p = IsPlannedGroup frame.group records tree.maps.items frame (pointers_of tree) (plan_pointers tree p) (map new_block p.blocks.items) after
+
 -- refused NoSpace, the free blocks are too few for the tree of the group
 abbrev pub IsRefusedShort : ℕ → Tree → List Record → FinMap nat_cmp (List ℕ) → FinSet nat_cmp → PoolError → Type 0
 IsRefusedShort group tree records after free e = e ≡ NoSpace → IsShortOfBlocks group records tree.maps.items (pointers_of tree) after (rising free)
+
+-- why a plan of a group is refused: it wants memory or blocks, or a read of a block was refused
+abbrev pub IsPlanRefusal : PoolError → Type 0
+IsPlanRefusal e = IsWant e ⊎ IsReadRefusal e
+
+-- and so on a device that holds the tree
+abbrev pub IsHeldRefusal : PoolError → Type 0
+IsHeldRefusal e = IsWant e ⊎ (e ≡ Read)
 
 -- the frame of the blocks that a source is planned for
 abbrev pub frame_of : PlanSource → Frame

@@ -26,7 +26,7 @@ use Rattle.transactions.specs.declared.record.Record.{Record}
 use Rattle.tree_plans.specs.declared.planner.TreePlan.{TreePlan}
 use Rattle.tree_plans.specs.Marks.{pending_ops}
 use Rattle.tree_plans.specs.Plans.{new_block}
-use Rattle.group_plans.specs.GroupPlans.{IsShortOfBlocks, MakesGroupTree, objects_with, plan_pointers}
+use Rattle.group_plans.specs.GroupPlans.{HoldsGroupObjects, IsShortOfBlocks, MakesGroupTree, objects_with, plan_pointers}
 use Rattle.group_plans.specs.Operations.{AreSized, TakesPlace}
 
 -- allowed operations take place if they lead to some contents, and the maps have the lengths before them
@@ -41,7 +41,7 @@ GroupsLeaveObjects = (ops : List Op) (maps : List ObjectMap) (extents : Extents)
 
 -- if bytes hold the tree of the contents before the operations, the blocks of the plan make that of the contents after
 abbrev pub PlansMakeTrees : Type 0
-PlansMakeTrees = (frame before_frame : Frame) (tree : Tree) (records : List Record) (before after : Contents) (p : TreePlan) → MakesGroupTree frame tree records after.objects p
+PlansMakeTrees = (frame before_frame : Frame) (tree : Tree) (records : List Record) (before after : Contents) (p : TreePlan) → HoldsGroupObjects frame tree records after.objects p
     → TakesPlace (pending_ops frame.group records) tree.maps.items before after → AreSized after.objects → (image : List ℕ) → HoldsTree image before_frame (pointers_of tree) before.objects
     → IsTreePlan (map new_block p.blocks.items) frame (pointers_of tree) (plan_pointers tree p) before.objects after.objects
 

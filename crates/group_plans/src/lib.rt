@@ -4,6 +4,8 @@
 mod clients;
 mod laws;
 mod planning;
+mod prepared;
+mod preparing;
 
 pub use laws::{
     allowed_ops_take_place, estimates_add, groups_leave_objects, plans_fit_estimates,

@@ -1,5 +1,5 @@
 -- What each part of a walk has done, from the plan before it (old) to the plan after it (new).
-use Rattle.std.specs.Prelude.{ℕ, ◌≡◌, ◌<◌, ◌==◌, ◌++◌, ◌∷◌, [], Bool, false, nat_eq, List, map, slice_index_or, IfErr, Option, Result, Some, None, unwrap_or, vec_len}
+use Rattle.std.specs.Prelude.{ℕ, ◌≡◌, ◌<◌, ◌==◌, ◌++◌, ◌∷◌, [], Bool, false, nat_eq, List, map, slice_index_or, Option, Some, None, unwrap_or, vec_len}
 use Rattle.std.specs.BTreeMap.{BTreeMap}
 use Rattle.std.specs.List.{IsDistinct}
 use Rattle.std.specs.Ordering.{nat_cmp}
@@ -8,8 +8,6 @@ use Rattle.base.specs.declared.error.PoolError.{PoolError}
 use Rattle.base.specs.declared.error.PoolError.TheVariants as error
 use Rattle.base.specs.declared.pointer.Pointer.{Pointer}
 use Rattle.base.specs.declared.names.ObjectId.{ObjectId}
-use Rattle.base.specs.declared.refused.RefusedCalls.{RefusedCalls}
-use Rattle.base.specs.disk.Calls.{counted}
 use Rattle.base.specs.formats.Limits.{object_count, pointer_count, record_count}
 use Rattle.base.specs.formats.Fields.{no_pointer}
 use Rattle.base.specs.stored.Stored.{AreUsed}
@@ -28,17 +26,15 @@ use Rattle.tree_plans.specs.declared.walk.NewTree.{NewTree}
 use Rattle.tree_plans.specs.declared.walk.PlanSource.{PlanSource}
 use Rattle.tree_plans.specs.Pointers.{entry_of, planned_map, pointers_before, pointers_from, record_in}
 use Rattle.tree_plans.specs.Changes.{AreInRange, changes_of_group}
-use Rattle.tree_plans.specs.Plans.{AreRecordsPlanned, AreApart, FreesOnce, FreesOnly, Goes, IsApart, IsOf, IsOfMap, IsOfPlace, IsOfRecord, LosesBlock, IsIndirectPlanned, IsObjectPlanned, IsRecordPlanned, IsWritten, ObjectFrees, PlaceFrees, RecordsFree, indirect_state, is_dirty_in, is_indirect_written_in, new_block, place_of, progress_of, state_above, IsWantOr}
+use Rattle.tree_plans.specs.Plans.{AreRecordsPlanned, AreApart, FreesOnce, FreesOnly, Goes, IsApart, IsOf, IsOfMap, IsOfPlace, IsOfRecord, LosesBlock, IsIndirectPlanned, IsObjectPlanned, IsRecordPlanned, IsReady, IsWritten, ObjectFrees, PlaceFrees, RecordsFree, indirect_state, is_dirty_in, is_indirect_written_in, new_block, place_of, progress_of, state_above}
 use Rattle.tree_plans.specs.Walks.{AreDirectoriesPlanned, AreObjectsPlanned, DirectoriesFree, IsDirectoryPlanned, IsOfDirectory, IsOfObject, IsRootPlanned, IsWalked, ObjectsFree, is_directory_dirty, has_object, root_state}
 use Rattle.tree_plans.specs.Uses.{ObjectUses, ObjectsUse, PointersUse, UsesOnly}
 use Rattle.tree_plans.specs.Order.{Adds, AreInOrder, address_if, addresses_of, addresses_where, all_addresses, object_addresses}
 use Rattle.tree_plans.specs.Room.{Lacks}
 
--- a part of a plan reads the objects and no more: they stay, it is refused for memory, for blocks or as a read of them,
--- and a read that a device refused is counted
-abbrev pub ReadsObjects : {S T : Type 0} → (S → FinMap nat_cmp (List ℕ)) → (PoolError → Type 0) → (S → RefusedCalls) → Result T PoolError → S → S → Type 0
-ReadsObjects objects may_refuse refused result old new =
-    (objects new ≡ objects old) × (IfErr result (IsWantOr may_refuse) × (refused new ≡ counted result (refused old)))
+-- and so of each of these objects that has a place in the tree
+abbrev pub AreReady : (ℕ → ℕ → Type 0) → List (ObjectId × ObjectChanges) → Type 0
+AreReady has objects = (n : ℕ) (changes : ObjectChanges) → n < object_count → entry_of objects n ≡ Some changes → IsReady (has n) changes
 
 -- the new blocks of a plan so far
 abbrev pub blocks_of : Planner → List NewBlock

@@ -17,14 +17,13 @@
 ghost use Rattle.std.specs.Prelude.{◌≡◌, ◌<◌, ◌||◌, [], List, Some, false, length, vec_len, IfOk, IfErr, OnOk};
 ghost use Rattle.base.specs.declared.error.PoolError.TheVariants as error;
 ghost use Rattle.base.specs.declared.names.ObjectId.{ObjectId};
-ghost use Rattle.base.specs.disk.Calls.{counted};
 ghost use Rattle.base.specs.formats.Geometry.{block_count};
-ghost use Rattle.base.specs.formats.Limits.{pointer_count};
+ghost use Rattle.base.specs.formats.Limits.{object_count, pointer_count};
 ghost use Rattle.base.specs.tree.Syncs.{is_dirty};
 ghost use Rattle.tree_plans.specs.Changes.{AreInRange};
 ghost use Rattle.tree_plans.specs.declared.changes.ObjectChanges.{ObjectChanges};
-ghost use Rattle.tree_plans.specs.Parts.{GoesOver, HasNothing, PlansDirectories, PlansDirectory, PlansObjects, PlansRoot, PlansTree, ReadsObjects, TellsLack, group_in};
-ghost use Rattle.tree_plans.specs.Plans.{IsWant, IsWantOr, state_above};
+ghost use Rattle.tree_plans.specs.Parts.{AreReady, GoesOver, HasNothing, PlansDirectories, PlansDirectory, PlansObjects, PlansRoot, PlansTree, TellsLack, group_in};
+ghost use Rattle.tree_plans.specs.Plans.{IsReady, IsWant, state_above};
 ghost use Rattle.tree_plans.specs.Pointers.{entry_of};
 ghost use Rattle.tree_plans.specs.Room.{changed_blocks, count_if, directory_blocks, object_blocks, tree_blocks};
 ghost use Rattle.tree_plans.specs.TreePlans.{GivesBack, HasLengths, GivesTree, TakesBlocks, TellsFull};
@@ -38,7 +37,7 @@ use base::{
     ENTRY_COUNT, Group, OBJECT_COUNT, ObjectId, POINTER_COUNT, Pointer, PoolError, RecordState,
 };
 use labels::Geometry;
-use object_maps::{ObjectMap, ObjectSource, Tree};
+use object_maps::{ObjectMap, ObjectSource, RecordSource, Tree};
 use space::FreeSet;
 use std::alloc::Global;
 use std::collections::BTreeMap;
@@ -115,7 +114,7 @@ pub struct PlanSource<'a> {
 /// not overwritten (On-Disk Specification, chapter 2): what is replaced, or has no place any more, comes back by its
 /// address.
 ///
-/// `after` gives the objects after the group. Only the records that are written are read.
+/// `after` gives the objects after the group. The records that are written are at hand (`ready`): a plan reads nothing.
 ///
 /// - `taken`: the blocks are whole and the lowest free ones. If each object that an operation is on has a number below
 ///   5,292 they stand in the order of the places that the definitions write, one for each.
@@ -126,28 +125,25 @@ pub struct PlanSource<'a> {
 ///   other the one that it had.
 /// - `freed`: what comes back lies in the block area, and is what the plan replaces or clears, each once if no two
 ///   places had blocks at one address (`AreApart`).
-/// - `counted`: a read of the objects that a device refused is reported as such, and nothing else is.
 ///
 /// # Errors
 /// - `NoSpace`: if each such object has a number below 5,292, only if fewer blocks are free than there are places to
 ///   write (`full`).
 /// - `NoMemory`.
-/// - What a read of the objects may be refused with (`refused`).
-pub fn plan<O: ObjectSource>(
+pub fn plan<O: RecordSource>(
     source: &PlanSource<'_>,
-    after: &mut O,
+    after: &O,
     objects: &BTreeMap<ObjectId, ObjectChanges>,
 ) -> Result<TreePlan, PoolError>
-    requires { source.now.free.now.blocks ≡ block_count source.now.geometry }
-    ensures taken { IfOk result (TakesBlocks source.now (O.objects after.old) objects.now) }
-    ensures tree { IfOk result (GivesTree source.now (O.objects after.old) objects.now) }
-    ensures lengths { IfOk result (HasLengths source.now (O.objects after.old) objects.now) }
+    requires free { source.now.free.now.blocks ≡ block_count source.now.geometry }
+    requires ready { AreReady (O.has_record after.now) objects.now.entries }
+    ensures taken { IfOk result (TakesBlocks source.now (O.objects after.now) objects.now) }
+    ensures tree { IfOk result (GivesTree source.now (O.objects after.now) objects.now) }
+    ensures lengths { IfOk result (HasLengths source.now (O.objects after.now) objects.now) }
     ensures freed { IfOk result (GivesBack source.now) }
     ensures full { IfErr result
-        (TellsFull source.now (O.objects after.old) objects.now.entries) }
-    ensures kept { O.objects after.new ≡ O.objects after.old }
-    ensures refused { IfErr result (IsWantOr O.may_refuse) }
-    ensures counted { O.refused after.new ≡ counted result (O.refused after.old) }
+        (TellsFull source.now (O.objects after.now) objects.now.entries) }
+    ensures refused { IfErr result IsWant }
 {
     let mut planner = Planner {
         alloc: source.alloc,
@@ -177,23 +173,24 @@ struct NewTree {
 }
 
 // The objects, the directories, the root.
-fn place_tree<O: ObjectSource>(
+fn place_tree<O: RecordSource>(
     planner: &mut Planner,
     source: &PlanSource<'_>,
-    after: &mut O,
+    after: &O,
     objects: &BTreeMap<ObjectId, ObjectChanges>,
 ) -> Result<NewTree, PoolError>
     requires geometry { planner.old.geometry ≡ source.now.geometry }
     requires free { source.now.free.now.blocks ≡ block_count source.now.geometry }
     requires begun { HasNothing planner.old }
+    requires ready { AreReady (O.has_record after.now) objects.now.entries }
     ensures geometry { planner.new.geometry ≡ planner.old.geometry }
     ensures planned { IfOk result
-        (PlansTree source.now (O.objects after.old) objects.now planner.old planner.new) }
+        (PlansTree source.now (O.objects after.now) objects.now planner.old planner.new) }
     ensures full { IfErr result (λ e. AreInRange objects.now.entries
         → TellsLack source.now.free.now planner.old
-        (tree_blocks (group_in source.now (O.objects after.old) objects.now.entries)) e) }
+        (tree_blocks (group_in source.now (O.objects after.now) objects.now.entries)) e) }
     ensures kept { OnOk result (objects.now.entries ≡ [] → planner.new ≡ planner.old) }
-    ensures reads { ReadsObjects O.objects O.may_refuse O.refused result after.old after.new }
+    ensures refused { IfErr result IsWant }
 {
     let maps = place_objects(planner, source, after, objects)?;
     let directories = place_directories(planner, source, after, objects, &maps)?;
@@ -241,22 +238,23 @@ fn place_root<O: ObjectSource>(
     }
 }
 
-fn place_objects<O: ObjectSource>(
+fn place_objects<O: RecordSource>(
     planner: &mut Planner,
     source: &PlanSource<'_>,
-    after: &mut O,
+    after: &O,
     objects: &BTreeMap<ObjectId, ObjectChanges>,
 ) -> Result<BTreeMap<ObjectId, ObjectMap>, PoolError>
     requires geometry { planner.old.geometry ≡ source.now.geometry }
     requires free { source.now.free.now.blocks ≡ block_count source.now.geometry }
+    requires ready { AreReady (O.has_record after.now) objects.now.entries }
     ensures geometry { planner.new.geometry ≡ planner.old.geometry }
     ensures planned { IfOk result
-        (PlansObjects source.now (O.objects after.old) objects.now planner.old planner.new) }
+        (PlansObjects source.now (O.objects after.now) objects.now planner.old planner.new) }
     ensures full { IfErr result (λ e. AreInRange objects.now.entries
         → TellsLack source.now.free.now planner.old
-        (changed_blocks (group_in source.now (O.objects after.old) objects.now.entries)) e) }
+        (changed_blocks (group_in source.now (O.objects after.now) objects.now.entries)) e) }
     ensures kept { OnOk result (objects.now.entries ≡ [] → planner.new ≡ planner.old) }
-    ensures reads { ReadsObjects O.objects O.may_refuse O.refused result after.old after.new }
+    ensures refused { IfErr result IsWant }
 {
     let mut maps = BTreeMap::new(source.alloc);
     for (id, changes) in objects.iter() {
@@ -266,25 +264,26 @@ fn place_objects<O: ObjectSource>(
 }
 
 // An object that operations are on.
-fn place_changed<O: ObjectSource>(
+fn place_changed<O: RecordSource>(
     planner: &mut Planner,
     source: &PlanSource<'_>,
-    after: &mut O,
+    after: &O,
     maps: &mut BTreeMap<ObjectId, ObjectMap>,
     id: ObjectId,
     changes: &ObjectChanges,
 ) -> Result<(), PoolError>
     requires geometry { planner.old.geometry ≡ source.now.geometry }
     requires free { source.now.free.now.blocks ≡ block_count source.now.geometry }
+    requires ready { id.0 < object_count → IsReady (O.has_record after.now id.0) changes.now }
     ensures geometry { planner.new.geometry ≡ planner.old.geometry }
     ensures planned { OnOk result
-        (GoesOver source.now (O.objects after.old) id changes.now maps.old.entries
+        (GoesOver source.now (O.objects after.now) id changes.now maps.old.entries
         planner.old planner.new maps.new.entries) }
     ensures full { IfErr result (λ e. (objects : List (ObjectId × ObjectChanges))
         → entry_of objects id.0 ≡ Some changes.now
         → TellsLack source.now.free.now planner.old
-        (object_blocks (group_in source.now (O.objects after.old) objects) id.0) e) }
-    ensures reads { ReadsObjects O.objects O.may_refuse O.refused result after.old after.new }
+        (object_blocks (group_in source.now (O.objects after.now) objects) id.0) e) }
+    ensures refused { IfErr result IsWant }
 {
     if id.0 >= OBJECT_COUNT {
         return Ok(());

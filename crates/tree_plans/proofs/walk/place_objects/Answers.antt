@@ -21,13 +21,12 @@ loop-id-preserved g c =
     let split : all ≡ done ++ (e ∷ rest) = c.loop-id.invariant.split ∙ ap (λ (l : List (ObjectId × ObjectChanges)). done ++ l) c.in-Some.ensures.steps in
     let found : entry_of all e.0.0 ≡ Some e.1 = next_of (λ (x : ObjectId × ObjectChanges). entry_of all x.0.0 ≡ Some x.1) all done rest e split (found_of _ (λ a b. unsigned_tied a.0 b.0) c.args.objects.now c.iter-id-items.ensures.found) in
     let new : entry_of done e.0.0 ≡ None = next_is_new _ (λ a b. unsigned_tied a.0 b.0) all done rest e split c.iter-id-items.ensures.ordered in
-    let told = rw c.loop-id.invariant.same_objects at c.in_ok-place_changed.ensures.planned in
+    let told = c.in_ok-place_changed.ensures.planned in
     let unplanned = c.loop-id.invariant.are_of e.0.0 new in
     record {
       can = tt;
       ends = tt;
       geometry = c.in_ok-place_changed.ensures.geometry ∙ c.loop-id.invariant.geometry;
-      same_objects = c.in_ok-place_changed.ensures.reads.0 ∙ c.loop-id.invariant.same_objects;
       kept = λ none. absurd (not_empty done e rest (sym split ∙ none));
       goes = goes_twice c.loop-id.invariant.goes told.goes;
       done = done ++ (e ∷ []);
@@ -35,7 +34,6 @@ loop-id-preserved g c =
       planned = told.planned all done found c.loop-id.invariant.planned;
       frees = told.frees all _ found c.loop-id.invariant.frees;
       once = λ apart. told.once all _ found unplanned apart c.loop-id.invariant.frees (c.loop-id.invariant.once apart);
-      counted = c.in_ok-place_changed.ensures.reads.1.1 ∙ c.loop-id.invariant.counted;
       are_of = are_of_more done e _ _ c.loop-id.invariant.are_of told.others;
       uses = told.uses _ unplanned c.loop-id.invariant.uses;
       adds = λ within. objects_added (group_in c.args.source.now (g.O.ObjectSource.objects c.args.after.now) all) _ _ _ _ _ _ done e new told.others (c.loop-id.invariant.adds within)
@@ -66,4 +64,14 @@ returns-in_err-place_changed-clause-full g c =
     let split : all ≡ done ++ (e ∷ rest) = c.loop-id.invariant.split ∙ ap (λ (l : List (ObjectId × ObjectChanges)). done ++ l) c.in-Some.ensures.steps in
     let found : entry_of all e.0.0 ≡ Some e.1 = next_of (λ (x : ObjectId × ObjectChanges). entry_of all x.0.0 ≡ Some x.1) all done rest e split (found_of _ (λ a b. unsigned_tied a.0 b.0) c.args.objects.now c.iter-id-items.ensures.found) in
     handed_on c.from_residual.result _ _ c.from_residual.ensures.1 (λ within no_space. lacks_object _ (λ a b. less_below a.0 b.0) _ _ _ (group_in c.args.source.now (g.O.ObjectSource.objects c.args.after.now) all) c.args.source.now.tree.now.maps.items c.loop-id.maps.entries 5292 all done rest e split c.iter-id-items.ensures.ordered within
-    (λ n none. no_places all (pointers_before c.args.source.now.tree.now) (g.O.ObjectSource.objects c.args.after.now) n none) c.loop-id.invariant.goes (c.loop-id.invariant.adds within) (rw c.loop-id.invariant.same_objects at (c.in_err-place_changed.ensures.full all found no_space)))
+    (λ n none. no_places all (pointers_before c.args.source.now.tree.now) (g.O.ObjectSource.objects c.args.after.now) n none) c.loop-id.invariant.goes (c.loop-id.invariant.adds within) (c.in_err-place_changed.ensures.full all found no_space))
+
+pub place_changed-requires-clause-ready : goal.place_changed-requires-clause-ready
+place_changed-requires-clause-ready g c =
+    let all : List (ObjectId × ObjectChanges) = c.args.objects.now.entries in
+    let done : List (ObjectId × ObjectChanges) = c.loop-id.invariant.done in
+    let e : ObjectId × ObjectChanges = (c.in-Some.id.now, c.in-Some.changes.now) in
+    let rest : List (ObjectId × ObjectChanges) = c.next.new.self in
+    let split : all ≡ done ++ (e ∷ rest) = c.loop-id.invariant.split ∙ ap (λ (l : List (ObjectId × ObjectChanges)). done ++ l) c.in-Some.ensures.steps in
+    let found : entry_of all e.0.0 ≡ Some e.1 = next_of (λ (x : ObjectId × ObjectChanges). entry_of all x.0.0 ≡ Some x.1) all done rest e split (found_of _ (λ a b. unsigned_tied a.0 b.0) c.args.objects.now c.iter-id-items.ensures.found) in
+    λ low. c.requires.ready e.0.0 e.1 low found
