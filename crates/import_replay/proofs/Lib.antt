@@ -28,6 +28,7 @@ pub mod StoppedImports
 pub mod OwnImports
 pub mod OwnRefusals
 pub mod Refused
+pub mod CachedImports
 pub mod ShownMounts
 pub mod UsedBlocks
 pub mod ChainRecords

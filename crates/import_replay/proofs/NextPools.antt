@@ -28,7 +28,7 @@ use Rattle.base.specs.formats.Names.{IsName}
 use Rattle.base.specs.formats.Uberblocks.{Uberblock}
 use Rattle.base.specs.history.Contents.{Contents, length_of}
 use Rattle.base.specs.stored.Stored.{AreBlocks}
-use Rattle.base.specs.tree.PlacedTrees.{ArePlaced, IsPlaced}
+use Rattle.base.specs.tree.PlacedTrees.{ArePlaced, HoldsTree, IsPlaced}
 use Rattle.base.specs.tree.Places.{IsInTree, Place, has_block}
 use Rattle.base.specs.tree.Places.Place.{Data}
 use Rattle.base.specs.tree.PlannedTrees.{IsTreePlan, NewBlock}
@@ -160,12 +160,21 @@ reason_of_replay image size u name tree slots chain read e cause refused = reaso
           address_is = r.address_is ∙ place;
         }
 
--- what was found, loaded, replayed and planned
-pub record IsPrepared (size : ℕ) (u : Uberblock) (name : List ℕ) (tree : Tree) (slots : List Slot) (chain : List LogPiece) (pool : ReplayedPool) (next : NextPool) : Type 0 where
+-- while nothing is written, the device holds the tree that was loaded
+pub loaded_held : (size : ℕ) (u : Uberblock) (name : List ℕ) (tree : Tree) (slots : List Slot) (chain : List LogPiece) (pool : ReplayedPool) → IsReplayedPool size u.group name tree slots chain pool
+    → (mid before : Disk) → before ≡ mid → IsReadPool (bytes_of mid.now) size u name tree slots chain
+    → HoldsTree (bytes_of before.now) (frame_of_size u size) (pointers_of pool.tree) (contents_of pool.synced).objects
+loaded_held size u name tree slots chain pool r mid before same read =
+    subst (λ (d : Disk). HoldsTree (bytes_of d.now) (frame_of_size u size) (pointers_of pool.tree) (contents_of pool.synced).objects) (sym same)
+    (subst (λ (t : Tree). HoldsTree (bytes_of mid.now) (frame_of_size u size) (pointers_of t) (objects_of pool.synced.slots.items)) (sym r.tree_is)
+    (subst (λ (l : List Slot). HoldsTree (bytes_of mid.now) (frame_of_size u size) (pointers_of tree) (objects_of l)) (sym r.slots_are) read.held))
+
+-- what was found, loaded, replayed and planned; where this holds, the plan holds the objects
+pub record IsPrepared (holds : Type 0) (size : ℕ) (u : Uberblock) (name : List ℕ) (tree : Tree) (slots : List Slot) (chain : List LogPiece) (pool : ReplayedPool) (next : NextPool) : Type 0 where
   pub named : IsName name
   pub loaded : IsLoadedFor u (block_count size) tree slots chain
   pub replayed : IsReplayedPool size u.group name tree slots chain pool
-  pub planned : IsPlannedFrom size u pool next
+  pub planned : IsPlannedFrom holds size u pool next
 
 -- A pool whose records were replayed, over an image that was read.
 module _ (size : ℕ) (u : Uberblock) (name : List ℕ) (tree : Tree) (slots : List Slot) (chain : List LogPiece) (pool : ReplayedPool) (named : IsName name) (loaded : IsLoadedFor u (block_count size) tree slots chain)
@@ -231,7 +240,7 @@ module _ (size : ℕ) (u : Uberblock) (name : List ℕ) (tree : Tree) (slots : L
         omega (arith, fits, all, same)) lacks;
   }
 
-module _ (size : ℕ) (u : Uberblock) (name : List ℕ) (tree : Tree) (slots : List Slot) (chain : List LogPiece) (pool : ReplayedPool) (next : NextPool) (is : IsPrepared size u name tree slots chain pool next) where
+module _ (holds : Type 0) (size : ℕ) (u : Uberblock) (name : List ℕ) (tree : Tree) (slots : List Slot) (chain : List LogPiece) (pool : ReplayedPool) (next : NextPool) (is : IsPrepared holds size u name tree slots chain pool next) where
   abbrev plan : TreePlan
   plan = is.planned.plan
 
@@ -313,7 +322,7 @@ module _ (size : ℕ) (u : Uberblock) (name : List ℕ) (tree : Tree) (slots : L
   records_counted : next.records ≡ length (records_above u.group chain)
   records_counted = is.planned.records_are ∙ replays.count size u name tree slots chain pool is.named is.loaded is.replayed
 
-  module _ (image : List ℕ) (read : IsReadPool image size u name tree slots chain) where
+  module _ (image : List ℕ) (read : IsReadPool image size u name tree slots chain) (held : holds) where
     mine : IsReadPool image size u name pool.tree pool.synced.slots.items chain
     mine = mine_read size u name tree slots chain pool is.named is.loaded is.replayed image read
 
@@ -324,7 +333,7 @@ module _ (size : ℕ) (u : Uberblock) (name : List ℕ) (tree : Tree) (slots : L
         omega (arith, large, long)
 
     planned : IsTreePlan (map new_block blocks) (next_frame u size) (pointers_of pool.tree) (plan_pointers pool.tree plan) (contents_of pool.synced).objects left.objects
-    planned = plans_make_trees (next_frame u size) (frame_of_size u size) pool.tree pool.replayed.records.items (contents_of pool.synced) left plan is.planned.made
+    planned = plans_make_trees (next_frame u size) (frame_of_size u size) pool.tree pool.replayed.records.items (contents_of pool.synced) left plan (is.planned.objects held)
         (replays.takes_place size u name tree slots chain pool is.named is.loaded is.replayed) (replays.sized size u name tree slots chain pool is.named is.loaded is.replayed) image mine.held
 
     -- its blocks lie at the lowest spare addresses
@@ -353,7 +362,7 @@ module _ (size : ℕ) (u : Uberblock) (name : List ℕ) (tree : Tree) (slots : L
           ∙ ap (λ (ops : List Op). map (λ (place : Place). (plan_pointers pool.tree plan place).address) (written_places ops (contents_of pool.synced) (has_block image u.root)))
           (replays.ops_replayed size u name tree slots chain pool is.named is.loaded is.replayed)
           ∙ takes_at_places (u.group + 4) pool.replayed.records.items pool.tree.maps.items (contents_of pool.synced) left (replays.takes_place size u name tree slots chain pool is.named is.loaded is.replayed) (pointers_of pool.tree)
-          (next_frame u size) (plan_pointers pool.tree plan) (map new_block blocks) is.planned.made.planned (has_block image u.root) had
+          (plan_pointers pool.tree plan) (map new_block blocks) is.planned.made.places (has_block image u.root) had
           ∙ addresses_are blocks;
     }
       where

@@ -5,6 +5,7 @@ use Rattle.base.specs.declared.error.PoolError.{PoolError}
 use Rattle.base.specs.declared.error.PoolError.TheVariants.{Damaged, NoMemory, NoPool, NoSpace, Read, TooMany}
 use Rattle.base.specs.crash.Mount.{HasNoPool, IsChainDamaged, IsTreeDamaged}
 use Rattle.base.specs.formats.Uberblocks.{Uberblock, IsActive}
+use Rattle.group_plans.specs.GroupPlans.{IsHeldRefusal}
 use Rattle.intent_log.specs.Chains.{IsChainRefusal}
 use Rattle.log_replay.specs.Replays.{IsReplayCause}
 use Rattle.object_maps.specs.Loading.{IsLoadRefusal}
@@ -75,6 +76,12 @@ reason-open image e (inl is) = other_than_full image e (λ f. cc) (λ f. cc) (λ
 reason-open image e (inr (inl is)) = other_than_full image e (λ f. cc) (λ f. cc) (λ k a f. cc)
 reason-open image e (inr (inr (inl is))) = other_than_full image e (λ f. cc) (λ f. cc) (λ k a f. cc)
 reason-open image e (inr (inr (inr is))) = other_than_full image e (λ f. cc) (λ f. cc) (λ k a f. cc)
+
+-- so it is with a plan, which reads as well
+pub reason-plan : (image : List ℕ) (e : PoolError) → IsHeldRefusal e → (e ≡ NoSpace → LacksImportRoom image) → IsReason image e
+reason-plan image e (inl (inl is)) = other_than_full image e (λ f. cc) (λ f. cc) (λ k a f. cc)
+reason-plan image e (inl (inr is)) = other_than_full image e (λ f. cc) (λ f. cc) (λ k a f. cc)
+reason-plan image e (inr is) = other_than_full image e (λ f. cc) (λ f. cc) (λ k a f. cc)
 
 pub reason-many : (image : List ℕ) → HasLastNumbers image → IsReason image TooMany
 reason-many image past = record {

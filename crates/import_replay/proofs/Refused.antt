@@ -5,18 +5,29 @@ use Rattle.base.specs.declared.error.PoolError.TheVariants.{BadGeometry, BadRang
 use Rattle.base.specs.disk.Calls.{Flushes}
 use Rattle.base.specs.disk.Disk.{Disk, bytes_of}
 use Rattle.base.specs.formats.Geometry.{IsGeometry}
+use Rattle.base.specs.formats.Uberblocks.{Uberblock}
 use Rattle.device_model.specs.declared.device.SectorDevice.{Ghosts}
+use Rattle.group_plans.specs.GroupPlans.{IsHeldRefusal, IsPlanRefusal}
 use Rattle.log_replay.specs.Replays.{IsReplayCause}
 use Rattle.import_replay.specs.ImportRefusals.{HasLastNumbers, LacksImportRoom, IsImportRefusal, IsReason, IsInspectionRefusal, IsMountRefusal, IsReadingRefusal, IsSyncRefusal, IsWalkRefusal}
 use Rattle.import_replay.specs.ImportStops.{IsImportStopped}
+use Rattle.import_replay.specs.NextPools.{IsNextRefused, LacksBlocks}
 use Rattle.import_replay.specs.Refused.{IsImportRefused, IsInspectionRefused, IsMountRefused}
+use Rattle.import_replay.specs.declared.next_pool.ReplayedPool.{ReplayedPool}
 use Rattle.import_replay.proofs.OwnRefusals.{finds_own}
 use Rattle.import_replay.proofs.ReadPools.{flushed}
-use Rattle.import_replay.proofs.Reasons.{not_both, reason-many, reason-open}
+use Rattle.import_replay.proofs.Reasons.{not_both, reason-many, reason-open, reason-plan}
 
 not_full : (e : PoolError) → IsSyncRefusal e → e ≡ NoSpace → ⊥
 not_full e (inl is) full = let no : Write ≡ NoSpace = sym is ∙ full in cc
 not_full e (inr is) full = let no : Flush ≡ NoSpace = sym is ∙ full in cc
+
+-- a pool is not planned for want of blocks, or for want of memory
+pub next_full : (holds : Type 0) (size : ℕ) (u : Uberblock) (pool : ReplayedPool) (e : PoolError) → e ≡ NoSpace → LacksBlocks size u pool → IsNextRefused holds size u pool e
+next_full holds size u pool e is lacks = record { kind = inl (inl is); sound = λ held. inl (inl is); full = λ full. lacks }
+
+pub next_lacks_memory : (holds : Type 0) (size : ℕ) (u : Uberblock) (pool : ReplayedPool) (e : PoolError) → e ≡ NoMemory → IsNextRefused holds size u pool e
+next_lacks_memory holds size u pool e is = record { kind = inl (inr is); sound = λ held. inl (inr is); full = λ full. absurd (let no : NoMemory ≡ NoSpace = sym is ∙ full in cc) }
 
 -- an import that had begun
 module _ (keeps : Bool) (moment : ℕ) (old mid new : Disk) (e : PoolError) where
@@ -35,6 +46,12 @@ module _ (keeps : Bool) (moment : ℕ) (old mid new : Disk) (e : PoolError) wher
   of_walk NoPool walk = (tt, tt)
   of_walk (Damaged kind address) walk = (tt, tt)
   of_walk _ walk = absurd walk
+
+  of_plan : (x : PoolError) → IsPlanRefusal x → IsMountRefusal x × IsReadingRefusal x
+  of_plan x (inl (inl is)) = (subst IsMountRefusal (sym is) tt, subst IsReadingRefusal (sym is) tt)
+  of_plan x (inl (inr is)) = (subst IsMountRefusal (sym is) tt, subst IsReadingRefusal (sym is) tt)
+  of_plan x (inr (inl is)) = (subst IsMountRefusal (sym is) tt, subst IsReadingRefusal (sym is) tt)
+  of_plan x (inr (inr (kind, address, is))) = (subst IsMountRefusal (sym is) tt, subst IsReadingRefusal (sym is) tt)
 
   module _ (flushes : IsTrue keeps → Flushes old (Ok tt) mid) where
     -- after it nothing was written
@@ -63,12 +80,11 @@ module _ (keeps : Bool) (moment : ℕ) (old mid new : Disk) (e : PoolError) wher
         unwritten (subst IsMountRefusal (sym is) tt) (subst IsReadingRefusal (sym is) tt)
         (λ keep. (subst (λ (x : PoolError). IsReason (bytes_of old.now) x) (sym is) (reason-many (bytes_of old.now) (last keep)))) same
 
-    -- there was no memory for the pool to be synced, or no room
-    pub next_refused : (e ≡ NoMemory) ⊎ (e ≡ NoSpace) → (IsTrue keeps → e ≡ NoSpace → LacksImportRoom (bytes_of old.now)) → (IsTrue keeps → new ≡ mid) → IsMountRefused keeps moment old new e
-    next_refused (inl is) full same =
-        unwritten (subst IsMountRefusal (sym is) tt) (subst IsReadingRefusal (sym is) tt) (λ keep. (reason-open (bytes_of old.now) e (inl is) (full keep))) same
-    next_refused (inr is) full same =
-        unwritten (subst IsMountRefusal (sym is) tt) (subst IsReadingRefusal (sym is) tt) (λ keep. (reason-open (bytes_of old.now) e (inr (inl is)) (full keep))) same
+    -- there was no memory for the pool to be synced, no room, or a block could not be read
+    pub next_refused : IsPlanRefusal e → (IsTrue keeps → IsHeldRefusal e) → (IsTrue keeps → e ≡ NoSpace → LacksImportRoom (bytes_of old.now)) → (IsTrue keeps → new ≡ mid) → IsMountRefused keeps moment old new e
+    next_refused refused sound full same =
+        let kinds = of_plan e refused in
+        unwritten kinds.0 kinds.1 (λ keep. reason-plan (bytes_of old.now) e (sound keep) (full keep)) same
 
   of_sync : (x : PoolError) → IsSyncRefusal x → IsMountRefusal x
   of_sync x (inl is) = subst IsMountRefusal (sym is) tt

@@ -18,12 +18,12 @@ use Rattle.import_replay.specs.declared.next_pool.ReplayedPool.{ReplayedPool}
 use Rattle.import_replay.proofs.MountedPools.{sound_pool}
 use Rattle.import_replay.proofs.NextPools.{IsPrepared, prepared_mounts, prepared_over, prepared_parts}
 
-pub stopped_import : (size : ℕ) (old mid before new : Disk) (u : Uberblock) (name : List ℕ) (slots : List Slot) (tree : Tree) (chain : List LogPiece) (pool : ReplayedPool) (next : NextPool) (moment : ℕ) (even_first : Bool) (e : PoolError)
+pub stopped_import : (holds : Type 0) (size : ℕ) (old mid before new : Disk) (u : Uberblock) (name : List ℕ) (slots : List Slot) (tree : Tree) (chain : List LogPiece) (pool : ReplayedPool) (next : NextPool) (moment : ℕ) (even_first : Bool) (e : PoolError)
     → Flushes old (Ok tt) mid → before ≡ mid → IsReadPool (bytes_of old.now) size u name tree slots chain → HasFirstStage (bytes_of old.now) u.guid u.group name even_first
-    → IsPrepared size u name tree slots chain pool next → is_past_last u.group u.import_number ≡ false
+    → IsPrepared holds size u name tree slots chain pool next → holds → is_past_last u.group u.import_number ≡ false
     → IsStoppedSync (writes_of_next size u moment next) even_first e before new → IsImportStopped old new moment e
-stopped_import size old mid before new u name slots tree chain pool next moment even_first e flushed same read first is within stopped =
-    let parts = prepared_parts size u name tree slots chain pool next is in
+stopped_import holds size old mid before new u name slots tree chain pool next moment even_first e flushed same read first is held within stopped =
+    let parts = prepared_parts holds size u name tree slots chain pool next is in
     inr (record {
       u = u;
       name = name;
@@ -35,8 +35,8 @@ stopped_import size old mid before new u name slots tree chain pool next moment 
       blocks = next.blocks.items;
       parts = parts_of next;
       are = subst (λ (n : ℕ). ArePartsFor n (parts_of next)) (sym read.long) parts;
-      made = subst (λ (n : ℕ). AreMadeOver (bytes_of old.now) u chain n next.blocks.items (parts_of next)) (sym read.long) (prepared_over size u name tree slots chain pool next is (bytes_of old.now) read);
-      mounts = prepared_mounts size u name tree slots chain pool next is (bytes_of old.now) read;
+      made = subst (λ (n : ℕ). AreMadeOver (bytes_of old.now) u chain n next.blocks.items (parts_of next)) (sym read.long) (prepared_over holds size u name tree slots chain pool next is (bytes_of old.now) read held);
+      mounts = prepared_mounts holds size u name tree slots chain pool next is (bytes_of old.now) read held;
       stopped = subst (λ (n : ℕ). IsStoppedSync (writes n) even_first e (certain (bytes_of old.now) old) new) (sym read.long)
           (subst (λ (d : Disk). IsStoppedSync (writes size) even_first e d new) (same ∙ flushed) stopped);
     })

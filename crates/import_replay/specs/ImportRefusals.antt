@@ -75,6 +75,10 @@ IsImportRefusal size allowed BadGeometry = IsGeometry size → ⊥
 IsImportRefusal size allowed BadRange = IsGeometry size × (allowed ≡ false)
 IsImportRefusal size allowed e = (IsGeometry size × (allowed ≡ true)) × IsMountRefusal e
 
+-- so it is by size or limits alone
+abbrev pub IsBoundsRefusal : ℕ → Bool → PoolError → Type 0
+IsBoundsRefusal size allowed e = ((e ≡ BadGeometry) ⊎ (e ≡ BadRange)) × IsImportRefusal size allowed e
+
 -- the image has a pool with this active uberblock and name, and its tree has no damage
 pub record HasSoundPool (image : List ℕ) (u : Uberblock) (name : List ℕ) : Type 0 where
   pub pool : HasPool image u name

@@ -1,5 +1,5 @@
 -- The pool that an import is about to sync and mount: what it owes to the image that was read.
-use Rattle.std.specs.Prelude.{ℕ, ◌≡◌, ◌≢◌, ◌+◌, ◌<◌, ◌≤◌, ◌⊎◌, All, List, length, map, IfSome}
+use Rattle.std.specs.Prelude.{ℕ, ◌≡◌, ◌≢◌, ◌+◌, ◌<◌, ◌≤◌, ◌⊎◌, All, IsTrue, List, length, map, IfSome}
 use Rattle.std.specs.Ordering.{nat_cmp}
 use Rattle.std.specs.FinMap as finite
 use Rattle.std.specs.FinMap.{FinMap}
@@ -9,6 +9,7 @@ use Rattle.base.specs.crash.LogRoom.{records_estimate}
 use Rattle.base.specs.crash.Mount.{IsUsed, records_above}
 use Rattle.base.specs.declared.error.PoolError.{PoolError}
 use Rattle.base.specs.declared.error.PoolError.TheVariants.{NoSpace}
+use Rattle.base.specs.disk.Disk.{bytes_of}
 use Rattle.base.specs.formats.Blocks.{Frame}
 use Rattle.base.specs.formats.Chain.{LogPiece}
 use Rattle.base.specs.formats.Fields.{number_at}
@@ -18,11 +19,12 @@ use Rattle.base.specs.formats.Uberblocks.{Uberblock}
 use Rattle.base.specs.formats.Versions.{written_version}
 use Rattle.base.specs.history.Contents as history
 use Rattle.base.specs.formats.Names.{IsName}
-use Rattle.base.specs.tree.PlacedTrees.{ArePlaced}
+use Rattle.base.specs.tree.PlacedTrees.{ArePlaced, HoldsTree}
 use Rattle.base.specs.tree.Places.{IsPlace, Place}
+use Rattle.device_model.specs.declared.device.SectorDevice.{Ghosts}
 use Rattle.extents.specs.Synced.{patched_contents}
 use Rattle.extents.specs.Tables.{name_of, patches_of}
-use Rattle.group_plans.specs.GroupPlans.{FitsIn, IsShortOfBlocks, MakesGroupTree, TakesLowest, objects_with, plan_pointers}
+use Rattle.group_plans.specs.GroupPlans.{FitsIn, HoldsGroupObjects, IsHeldRefusal, IsPlanRefusal, IsShortOfBlocks, MakesGroupTree, TakesLowest, objects_with, plan_pointers}
 use Rattle.group_plans.specs.Pointers.{lengths_after}
 use Rattle.log_replay.specs.Replays.{IsReplay}
 use Rattle.object_maps.specs.ContentsShown.{contents_of}
@@ -39,6 +41,7 @@ use Rattle.tree_plans.specs.declared.planner.TreePlan.{TreePlan}
 use Rattle.import_replay.specs.FreeBlocks.{AreAllOthers, AreAllPlanned, AreUnused, IsLowestLeft, IsNamed, chain_addresses}
 use Rattle.import_replay.specs.ImportViews.{IsTreeMade, ViewTree}
 use Rattle.import_replay.specs.LabelSyncs.{AreApartIn}
+use Rattle.import_replay.specs.ReadPools.{frame_of_size}
 use Rattle.import_replay.specs.TakenBlocks.{AreForEachPlace, AreLowestSpare}
 use Rattle.import_replay.specs.declared.next_pool.NextPool.{NextPool}
 use Rattle.import_replay.specs.declared.next_pool.ReplayedPool.{ReplayedPool}
@@ -110,9 +113,17 @@ pub record IsReplayedPool (size group : ℕ) (name : List ℕ) (tree : Tree) (sl
 abbrev pub objects_replayed : ReplayedPool → FinMap nat_cmp (List ℕ)
 objects_replayed pool = objects_with pool.replayed.extents pool.synced
 
+-- the device keeps the model, and holds the tree that was loaded for this active uberblock, with the loaded objects
+abbrev pub HoldsLoaded : {Dev : Type 0} (D : Ghosts Dev) (device : Dev) → ℕ → Uberblock → ReplayedPool → Type 0
+HoldsLoaded D device size u pool = IsTrue D.keeps_model × HoldsTree (bytes_of (D.disk device).now) (frame_of_size u size) (pointers_of pool.tree) (contents_of pool.synced).objects
+
 -- a plan makes of its tree that of these objects, as the tree of an import's group
 abbrev pub MakesNextTree : ℕ → Uberblock → ReplayedPool → TreePlan → Type 0
 MakesNextTree size u pool plan = MakesGroupTree (next_frame u size) pool.tree pool.replayed.records.items (objects_replayed pool) plan
+
+-- and its blocks hold them
+abbrev pub HoldsNextObjects : ℕ → Uberblock → ReplayedPool → TreePlan → Type 0
+HoldsNextObjects size u pool plan = HoldsGroupObjects (next_frame u size) pool.tree pool.replayed.records.items (objects_replayed pool) plan
 
 -- the spare blocks are too few for that tree
 abbrev pub IsShortPlan : Uberblock → ReplayedPool → Type 0
@@ -128,13 +139,22 @@ TakesAll size u pool = (plan : TreePlan) × MakesNextTree size u pool plan × Ar
 abbrev pub LacksBlocks : ℕ → Uberblock → ReplayedPool → Type 0
 LacksBlocks size u pool = IsShortPlan u pool ⊎ TakesAll size u pool
 
--- The pool has the tree of a plan, which takes the lowest spare blocks, and the contents that the records leave. The
--- first log block is the lowest spare one that the plan leaves, and the free blocks are those of neither.
-pub record IsPlannedFrom (size : ℕ) (u : Uberblock) (pool : ReplayedPool) (next : NextPool) : Type 0 where
+-- The pool is refused: there is no memory, blocks lack, or a block could not be read. Where this holds, no block that
+-- was read is damaged.
+pub record IsNextRefused (holds : Type 0) (size : ℕ) (u : Uberblock) (pool : ReplayedPool) (e : PoolError) : Type 0 where
+  pub kind : IsPlanRefusal e
+  pub sound : holds → IsHeldRefusal e
+  pub full : e ≡ NoSpace → LacksBlocks size u pool
+
+-- The pool has the tree of a plan, which takes the lowest spare blocks, and the contents that the records leave. Where
+-- this holds, the plan's blocks hold the objects of these. The first log block is the lowest spare one that the plan
+-- leaves, and the free blocks are those of neither.
+pub record IsPlannedFrom (holds : Type 0) (size : ℕ) (u : Uberblock) (pool : ReplayedPool) (next : NextPool) : Type 0 where
   pub plan : TreePlan
   pub fits : FitsIn size plan
   pub taken : TakesLowest pool.spare.free plan
   pub made : MakesNextTree size u pool plan
+  pub objects : holds → HoldsNextObjects size u pool plan
   pub blocks_are : next.blocks.items ≡ plan.blocks.items
   pub pointers : (place : Place) → IsPlace place → pointers_of next.tree place ≡ plan_pointers pool.tree plan place
   pub lengths : (n : ℕ) → n < object_count → lengths_of next.tree n ≡ lengths_after plan.maps pool.tree n

@@ -10,10 +10,11 @@
 //! 4. It reads the tree, each block checked against its pointer. The first block that fails is reported as `Damaged`.
 //!    Then it reads the log chain and replays it: the records of groups above u are applied, in order (`zil_replay` of
 //!    `zil.c`). The block of the first record that can't take place is reported as `Damaged` with kind 6.
-//! 5. It refuses u + 5 or i + 1 above 2^60. The tree that the records leave is planned as that of group u + 4. It takes
-//!    the lowest blocks that neither the old tree nor the chain has, one for each place that the records write, in the
-//!    order of a sync. The lowest block that none of these has becomes the first log block. No memory is taken after
-//!    that.
+//! 5. It refuses u + 5 or i + 1 above 2^60. It reads again each data block that the records change in part, for rising
+//!    objects and in each for rising blocks. The tree that the records leave is planned as that of group u + 4. It
+//!    takes the lowest blocks that neither the old tree nor the chain has, one for each place that the records write,
+//!    in the order of a sync. The lowest block that none of these has becomes the first log block. No memory is taken
+//!    after that.
 //! 6. It syncs group u + 4 with import number i + 1, the planned blocks, the new root and the new config
 //!    (`sync_group`). Without a record to replay there is no block, and the root stays. The run before may have written
 //!    for the groups u + 1 to u + 3; the jump keeps the new group apart from them.
@@ -25,13 +26,15 @@
 //! has its tree and its chain still, and the new one a tree of what these mount. So the next import mounts the same
 //! contents. If the device refuses a call, the calls before it are made, and the import can be made again.
 
-ghost use Rattle.std.specs.Prelude.{◌≡◌, ◌<◌, ℕ, [], false, true, IfErr, IfOk, IsTrue, MatchResult, OnOk};
+ghost use Rattle.std.specs.Prelude.{◌≡◌, ◌<◌, ◌*◌, ℕ, [], false, true, IfErr, IfOk, IsTrue, MatchResult, OnOk};
 ghost use Rattle.base.specs.crash.CrashRule.{KeepsOwn};
 ghost use Rattle.base.specs.crash.Imports as numbers;
 ghost use Rattle.base.specs.disk.Calls.{with_refusal};
 ghost use Rattle.base.specs.disk.Disk.{bytes_of};
+ghost use Rattle.base.specs.formats.Geometry.{IsGeometry, sector_size};
 ghost use Rattle.uberblocks.specs.Slots.{IsWithinLimits, fields_of};
 ghost use Rattle.import_replay.specs.Devices.{CanImportOn, IsSizedFor, KeepsDevice};
+ghost use Rattle.import_replay.specs.ImportRefusals.{IsBoundsRefusal};
 ghost use Rattle.import_replay.specs.ImportStops.{writes_of_next};
 ghost use Rattle.import_replay.specs.ImportSyncs.{IsImportWritten};
 ghost use Rattle.import_replay.specs.ImportViews.{EndsBehind, KeepsViews};
@@ -53,7 +56,7 @@ use base::{
 };
 use device_model::SectorDevice;
 use labels::{Geometry, LabelConfig};
-use object_maps::BlockCache;
+use object_maps::{BlockCache, BlockReader, CachedDevice};
 use std::alloc::Global;
 use std::num::NonZeroUsize;
 use uberblocks::Uberblock;
@@ -90,8 +93,9 @@ pub fn import<D: SectorDevice>(
 /// were read stay in memory, and `moment`, in seconds, is stored in the uberblocks.
 ///
 /// It flushes the device, loads the tree of the active uberblock, of group u and import number i, and replays the log
-/// records of groups above u. Then it syncs what they leave as group u + 4, with import number i + 1 and both label
-/// stages (On-Disk Specification, chapter 1). Group u + 5 is then open. All memory is taken before the first write.
+/// records of groups above u. It reads again each data block that they change in part. Then it syncs what they leave as
+/// group u + 4, with import number i + 1 and both label stages (On-Disk Specification, chapter 1). Group u + 5 is then
+/// open. All memory is taken before the first write.
 ///
 /// If the pool alone wrote the disk, a crash at any moment after the first good flush leaves the same contents,
 /// unless a torn block passes its check by chance (clause `own` with the law `steady_imports_mount` of `base`).
@@ -102,12 +106,12 @@ pub fn import<D: SectorDevice>(
 ///   device is as it was.
 /// - `NoPool`; `Damaged` with the first damage of the tree, or with kind 6 and the address of the block of the first
 ///   log record that can't take place; `TooMany` if u + 5 or i + 1 would pass 2^60; `NoSpace` if the blocks of the
-///   records and the first log block find no room. `NoMemory` and `Read` when they happen. The device is flushed and
-///   else as it was.
+///   records and the first log block find no room. `NoMemory` and `Read` when they happen. A device that gives a block
+///   otherwise when it is read again is refused `Damaged` as well. The device is flushed and else as it was.
 /// - `Write` and `Flush`, if the device refused such a call. The calls before it are made.
 pub fn import_with<D: SectorDevice>(
     alloc: Global,
-    mut device: D,
+    device: D,
     dirty_max: u64,
     cache_blocks: u64,
     moment: u64,
@@ -143,13 +147,24 @@ pub fn import_with<D: SectorDevice>(
     ensures cache { IfOk result (λ i. (numbers.is_cache_allowed cache_blocks ≡ true)
         × (i.cache.cap ≡ cache_blocks)) }
 {
-    match mount(alloc, &mut device, dirty_max, cache_blocks, moment) {
-        Ok(mounted) => Ok(Imported {
-            device,
-            cache: empty_cache(alloc, cache_blocks),
-            mounted,
-        }),
-        Err(error) => Err((error, device)),
+    let geometry = match allowed_size(device.sectors(), dirty_max, cache_blocks) {
+        Ok(geometry) => geometry,
+        Err(error) => return Err((error, device)),
+    };
+    let mut cached = CachedDevice::new(device, empty_cache(alloc, cache_blocks));
+    match mount_pool(alloc, &mut cached, geometry, dirty_max, moment) {
+        Ok(mounted) => {
+            let (device, _) = cached.into_parts();
+            Ok(Imported {
+                device,
+                cache: empty_cache(alloc, cache_blocks),
+                mounted,
+            })
+        }
+        Err(error) => {
+            let (device, _) = cached.into_parts();
+            Err((error, device))
+        }
     }
 }
 
@@ -165,32 +180,19 @@ fn empty_cache(alloc: Global, count: u64) -> BlockCache
     }
 }
 
-fn mount<D: SectorDevice>(
-    alloc: Global,
-    device: &mut D,
-    dirty_max: u64,
-    cache_blocks: u64,
-    moment: u64,
-) -> Result<Mounted, PoolError>
+// The size of a device of so many sectors, if an import with these limits may begin.
+fn allowed_size(sectors: u64, dirty_max: u64, cache_blocks: u64) -> Result<Geometry, PoolError>
+    ensures size { IfOk result (λ size. size ≡ sector_size * sectors) }
+    ensures geometry { IfOk result IsGeometry }
     ensures limits { IfOk result (λ _. numbers.are_limits_allowed dirty_max cache_blocks ≡ true) }
-    ensures device { KeepsDevice D.SectorDevice result device.old device.new }
-    ensures mounted { IfOk result (IsMountedAnew (D.size device.old) dirty_max) }
-    ensures refused { IfErr result
-        (IsImportRefused D.SectorDevice (numbers.are_limits_allowed dirty_max cache_blocks)
-        moment device.old device.new) }
-    ensures imported { IsTrue D.keeps_model → IfOk result
-        (IsImport (bytes_of (D.disk device.old).now) (bytes_of (D.disk device.new).now) dirty_max) }
-    ensures written { IsTrue D.keeps_model
-        → IfOk result (IsImportWritten (D.disk device.old) (D.disk device.new) moment) }
-    ensures own { IsTrue D.keeps_model → KeepsOwn (D.disk device.old) (D.disk device.new) }
-    ensures starts { IsTrue D.keeps_model
-        → IfOk result (StartsRun (D.disk device.old) dirty_max (D.disk device.new)) }
+    ensures refused { IfErr result (IsBoundsRefusal (sector_size * sectors)
+        (numbers.are_limits_allowed dirty_max cache_blocks)) }
 {
-    let geometry = Geometry::of(device.sectors())?;
+    let geometry = Geometry::of(sectors)?;
     if !are_limits_allowed(dirty_max, cache_blocks) {
         return Err(PoolError::BadRange);
     }
-    mount_pool(alloc, device, geometry, dirty_max, moment)
+    Ok(geometry)
 }
 
 // Returns whether an import accepts these limits.
@@ -202,25 +204,25 @@ fn are_limits_allowed(dirty_max: u64, cache_blocks: u64) -> bool
 }
 
 // The import, once size and limits are within bounds.
-fn mount_pool<D: SectorDevice>(
+fn mount_pool<B: BlockReader>(
     alloc: Global,
-    device: &mut D,
+    device: &mut B,
     geometry: Geometry,
     dirty_max: u64,
     moment: u64,
 ) -> Result<Mounted, PoolError>
-    requires can { CanImportOn D.SectorDevice geometry dirty_max device.old }
-    ensures device { KeepsDevice D.SectorDevice result device.old device.new }
+    requires can { CanImportOn B.SectorDevice geometry dirty_max device.old }
+    ensures device { KeepsDevice B.SectorDevice result device.old device.new }
     ensures mounted { IfOk result (IsMountedAnew geometry dirty_max) }
     ensures refused { IfErr result
-        (IsMountRefused D.keeps_model moment (D.disk device.old) (D.disk device.new)) }
-    ensures imported { IsTrue D.keeps_model → IfOk result
-        (IsImport (bytes_of (D.disk device.old).now) (bytes_of (D.disk device.new).now) dirty_max) }
-    ensures written { IsTrue D.keeps_model
-        → IfOk result (IsImportWritten (D.disk device.old) (D.disk device.new) moment) }
-    ensures own { IsTrue D.keeps_model → KeepsOwn (D.disk device.old) (D.disk device.new) }
-    ensures starts { IsTrue D.keeps_model
-        → IfOk result (StartsRun (D.disk device.old) dirty_max (D.disk device.new)) }
+        (IsMountRefused B.keeps_model moment (B.disk device.old) (B.disk device.new)) }
+    ensures imported { IsTrue B.keeps_model → IfOk result
+        (IsImport (bytes_of (B.disk device.old).now) (bytes_of (B.disk device.new).now) dirty_max) }
+    ensures written { IsTrue B.keeps_model
+        → IfOk result (IsImportWritten (B.disk device.old) (B.disk device.new) moment) }
+    ensures own { IsTrue B.keeps_model → KeepsOwn (B.disk device.old) (B.disk device.new) }
+    ensures starts { IsTrue B.keeps_model
+        → IfOk result (StartsRun (B.disk device.old) dirty_max (B.disk device.new)) }
 {
     device.flush()?;
     let (found, loaded, logged) = read_pool(alloc, device, geometry)?;
@@ -228,7 +230,7 @@ fn mount_pool<D: SectorDevice>(
     if is_past_last(&found.uberblock) {
         return Err(PoolError::TooMany);
     }
-    let next = plan_pool(alloc, geometry, &found.uberblock, replayed)?;
+    let next = plan_pool(alloc, device, geometry, &found.uberblock, replayed)?;
     open_pool(alloc, device, geometry, &found, next, dirty_max, moment)
 }
 

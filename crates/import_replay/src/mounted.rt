@@ -26,7 +26,7 @@ pub struct Mounted {
     pub group: Group,
     /// How many imports the pool has had, this one included.
     pub import_number: u64,
-    /// The pool's name and its objects, with their bytes.
+    /// The pool's name and the lengths of its objects, whose bytes are told.
     pub contents: Contents,
     /// The pointers of the tree that the import synced.
     pub tree: Tree,

@@ -1,36 +1,37 @@
 //! What an import makes of the pool that it read, before it writes: the records of the chain are replayed, and the tree
-//! that they leave is planned. All memory of the import is taken here.
+//! that they leave is planned. The plan reads each data block that they change in part. All memory of the import is
+//! taken here.
 //!
 //! The blocks of the old tree and of the chain stay as they are until the sync is done, so that a crash finds one pool
 //! or the other: the new blocks and the first log block are none of them. After the sync the free blocks are all but
 //! those of the new tree and the first log block.
 
-ghost use Rattle.std.specs.Prelude.{◌≡◌, ◌<◌, ◌⊎◌, ℕ, false, IfErr, IfOk, OnOk};
+ghost use Rattle.std.specs.Prelude.{◌≡◌, ◌<◌, ℕ, false, IfErr, IfOk};
 ghost use Rattle.base.specs.crash.Imports as numbers;
 ghost use Rattle.base.specs.crash.Mount.{records_above};
 ghost use Rattle.base.specs.formats.Geometry.{block_count};
 ghost use Rattle.base.specs.formats.Limits.{object_count};
 ghost use Rattle.base.specs.tree.PlacedTrees.{ArePlaced};
 ghost use Rattle.base.specs.tree.Places.{IsPlace, Place};
-ghost use Rattle.extents.specs.Synced.{patched_contents};
-ghost use Rattle.extents.specs.Tables.{name_of, patches_of};
-ghost use Rattle.group_plans.specs.GroupPlans.{FitsIn, TakesLowest, plan_pointers};
+ghost use Rattle.device_model.specs.Reading.{OnlyReads};
+ghost use Rattle.group_plans.specs.GroupPlans.{FitsIn, IsHeldRefusal, IsPlanRefusal, TakesLowest, plan_pointers};
 ghost use Rattle.group_plans.specs.Pointers.{lengths_after};
 ghost use Rattle.log_replay.specs.Replays.{IsChainAllowed, IsReplayCause, IsReplayRefusal};
-ghost use Rattle.object_maps.specs.ContentsShown.{contents_of};
 ghost use Rattle.object_maps.specs.Lengths.{lengths_of};
 ghost use Rattle.object_maps.specs.Pointers.{pointers_of};
 ghost use Rattle.uberblocks.specs.Slots.{fields_of};
-ghost use Rattle.import_replay.specs.NextPools.{IsPlannedFrom, IsReplayedPool, LacksBlocks, MakesNextTree, TellsShortPlan, synced_with};
+ghost use Rattle.import_replay.specs.Devices.{IsSizedFor};
+ghost use Rattle.import_replay.specs.NextPools.{HoldsLoaded, HoldsNextObjects, IsNextRefused, IsPlannedFrom, IsReplayedPool, MakesNextTree, TellsShortPlan, synced_with};
 
 use crate::finding::{Found, copy_name};
 use crate::free_blocks::{free_set, lowest_left};
+use crate::reading::frame_of;
 use base::{Group, PoolError};
 use group_plans::plan_group;
 use intent_log::LoggedBlock;
 use labels::Geometry;
 use log_replay::{Replayed, replay};
-use object_maps::{Contents, Loaded, Tree};
+use object_maps::{BlockReader, Contents, Loaded, Tree};
 use space::FreeSet;
 use std::alloc::Global;
 use tree_plans::{PlanSource, PlannedBlock, TreePlan};
@@ -41,7 +42,7 @@ use uberblocks::Uberblock;
 pub(crate) struct ReplayedPool {
     /// The tree that was loaded.
     pub tree: Tree,
-    /// The pool's name, and the objects of that tree with their bytes.
+    /// The pool's name and the lengths of the objects of that tree, whose bytes are told.
     pub synced: Contents,
     /// The blocks that neither that tree nor the chain has.
     pub spare: FreeSet,
@@ -56,7 +57,7 @@ pub(crate) struct NextPool {
     pub blocks: Vec<PlannedBlock>,
     /// The pointers of the tree that they make.
     pub tree: Tree,
-    /// The pool's name and its objects, with their bytes.
+    /// The pool's name and the lengths of its objects, whose bytes are told.
     pub contents: Contents,
     /// The blocks that are neither in that tree nor the first log block.
     pub free: FreeSet,
@@ -95,22 +96,27 @@ pub(crate) fn replay_pool(
 
 // Plans the tree that the records leave, as that of the import's group, and lays the records into the objects. The
 // lowest block that neither the old tree nor the chain nor the new tree has becomes the first log block.
-pub(crate) fn plan_pool(
+pub(crate) fn plan_pool<B: BlockReader>(
     alloc: Global,
+    reader: &mut B,
     geometry: Geometry,
     uberblock: &Uberblock,
     pool: ReplayedPool,
 ) -> Result<NextPool, PoolError>
+    requires device { IsSizedFor B.SectorDevice geometry reader.old }
     requires within { numbers.is_past_last uberblock.now.group.0 uberblock.now.import_number
         ≡ false }
     requires sized { pool.spare.blocks ≡ block_count geometry }
     requires placed { ∥ ArePlaced (block_count geometry) (pointers_of pool.tree) ∥₁ }
-    ensures planned { IfOk result (IsPlannedFrom geometry (fields_of uberblock.now) pool) }
-    ensures full { IfErr result (λ e. e ≡ PoolError.NoSpace
-        → LacksBlocks geometry (fields_of uberblock.now) pool) }
-    ensures refused { IfErr result (λ e. (e ≡ PoolError.NoMemory) ⊎ (e ≡ PoolError.NoSpace)) }
+    ensures reads { OnlyReads B.SectorDevice result reader.old reader.new }
+    ensures planned { IfOk result (IsPlannedFrom
+        (HoldsLoaded B.SectorDevice reader.old geometry (fields_of uberblock.now) pool)
+        geometry (fields_of uberblock.now) pool) }
+    ensures refused { IfErr result (IsNextRefused
+        (HoldsLoaded B.SectorDevice reader.old geometry (fields_of uberblock.now) pool)
+        geometry (fields_of uberblock.now) pool) }
 {
-    let planned = plan_tree(alloc, geometry, uberblock, &pool)?;
+    let planned = plan_tree(alloc, reader, geometry, uberblock, &pool)?;
     let ReplayedPool {
         tree,
         mut synced,
@@ -118,7 +124,7 @@ pub(crate) fn plan_pool(
         replayed,
     } = pool;
     let log_block = lowest_left(spare, &planned.blocks)?;
-    lay_records(&replayed, &mut synced)?;
+    replayed.extents.lay_into(&mut synced);
     let (tree, blocks) = with_plan(tree, planned);
     let mut free = free_set(alloc, geometry, &tree, &[])?;
     free.take(log_block);
@@ -132,23 +138,34 @@ pub(crate) fn plan_pool(
     })
 }
 
-// The tree that the records leave, planned as that of the import's group.
-fn plan_tree(
+// The tree that the records leave, planned as that of the import's group. The data blocks that they change in part are
+// read, for rising objects and in each for rising blocks.
+fn plan_tree<B: BlockReader>(
     alloc: Global,
+    reader: &mut B,
     geometry: Geometry,
     uberblock: &Uberblock,
     pool: &ReplayedPool,
 ) -> Result<TreePlan, PoolError>
+    requires device { IsSizedFor B.SectorDevice geometry reader.old }
     requires within { numbers.is_past_last uberblock.now.group.0 uberblock.now.import_number
         ≡ false }
     requires sized { pool.now.spare.blocks ≡ block_count geometry }
     requires placed { ∥ ArePlaced (block_count geometry) (pointers_of pool.now.tree) ∥₁ }
+    ensures reads { OnlyReads B.SectorDevice result reader.old reader.new }
     ensures fits { IfOk result (FitsIn geometry) }
     ensures taken { IfOk result (TakesLowest pool.now.spare.free) }
     ensures tree { IfOk result (MakesNextTree geometry (fields_of uberblock.now) pool.now) }
+    ensures objects { HoldsLoaded B.SectorDevice reader.old geometry
+        (fields_of uberblock.now) pool.now
+        → IfOk result (HoldsNextObjects geometry (fields_of uberblock.now) pool.now) }
     ensures no_space { IfErr result (TellsShortPlan (fields_of uberblock.now) pool.now) }
-    ensures refused { IfErr result (λ e. (e ≡ PoolError.NoMemory) ⊎ (e ≡ PoolError.NoSpace)) }
+    ensures refused { IfErr result IsPlanRefusal }
+    ensures sound { HoldsLoaded B.SectorDevice reader.old geometry
+        (fields_of uberblock.now) pool.now
+        → IfErr result IsHeldRefusal }
 {
+    let before = frame_of(uberblock, geometry);
     let source = PlanSource {
         alloc,
         geometry,
@@ -158,6 +175,8 @@ fn plan_tree(
         free: &pool.spare,
     };
     plan_group(
+        reader,
+        &before,
         &source,
         &pool.replayed.records,
         &pool.replayed.extents,
@@ -184,16 +203,4 @@ fn with_plan(mut tree: Tree, planned: TreePlan) -> (Tree, Vec<PlannedBlock>)
     tree.directories = directories;
     tree.set_all(maps);
     (tree, blocks)
-}
-
-// Lays what the records change into the objects and the name.
-fn lay_records(replayed: &Replayed, synced: &mut Contents) -> Result<(), PoolError>
-    ensures laid { OnOk result (contents_of synced.new
-        ≡ patched_contents (patches_of replayed.now.extents) (name_of replayed.now.extents)
-        (contents_of synced.old)) }
-    ensures refused { IfErr result (λ e. e ≡ PoolError.NoMemory) }
-{
-    replayed.extents.reserve_in(synced)?;
-    replayed.extents.lay_into(synced);
-    Ok(())
 }

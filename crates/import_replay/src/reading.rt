@@ -1,5 +1,5 @@
 //! What an import and an inspection read: the pool that a device has, the tree under its root, and then the chain of
-//! log blocks. An import takes the bytes of the objects with it, an inspection their lengths alone.
+//! log blocks. Both keep the lengths of the objects; an import is told their bytes as well.
 
 ghost use Rattle.std.specs.Prelude.{◌≡◌, All, IfErr, IfOk, IsTrue};
 ghost use Rattle.base.specs.disk.Disk.{bytes_of};
@@ -22,9 +22,10 @@ use intent_log::{ChainHeader, LoggedBlock, chain};
 use labels::Geometry;
 use object_maps::{Loaded, Tree, load, survey};
 use std::alloc::Global;
+use uberblocks::Uberblock;
 
-// The pool of a device, with its tree, the bytes of its objects, and its chain. Nothing is written, and nothing is
-// flushed.
+// The pool of a device, with its tree, the lengths of its objects, and its chain. The bytes of the objects are told.
+// Nothing is written, and nothing is flushed.
 pub(crate) fn read_pool<D: SectorDevice>(
     alloc: Global,
     device: &mut D,
@@ -45,7 +46,7 @@ pub(crate) fn read_pool<D: SectorDevice>(
         → IfErr result (IsReason (bytes_of (D.disk device.old).now)) }
 {
     let found = find_pool(alloc, device, geometry)?;
-    let frame = frame_of(&found, geometry);
+    let frame = frame_of(&found.uberblock, geometry);
     let loaded = load(alloc, device, &frame, found.uberblock.root)?;
     let logged = read_chain(alloc, device, geometry, &found)?;
     Ok((found, loaded, logged))
@@ -68,7 +69,7 @@ pub(crate) fn survey_pool<D: SectorDevice>(
         → IfErr result (IsReason (bytes_of (D.disk device.old).now)) }
 {
     let found = find_pool(alloc, device, geometry)?;
-    let frame = frame_of(&found, geometry);
+    let frame = frame_of(&found.uberblock, geometry);
     let tree = survey(alloc, device, &frame, found.uberblock.root)?;
     let logged = read_chain(alloc, device, geometry, &found)?;
     Ok((found, tree, logged))
@@ -93,17 +94,22 @@ fn read_chain<D: SectorDevice>(
         number: found.uberblock.log_number,
         import_number: found.uberblock.import_number,
     };
-    chain(alloc, device, &frame_of(found, geometry), &header)
+    chain(
+        alloc,
+        device,
+        &frame_of(&found.uberblock, geometry),
+        &header,
+    )
 }
 
-// The frame of the blocks of a pool that was found.
-fn frame_of(found: &Found, geometry: Geometry) -> Frame
-    ensures { result ≡ frame_with (fields_of found.now.uberblock) (block_count geometry) }
+// The frame of the blocks of a pool with this active uberblock.
+pub(crate) fn frame_of(uberblock: &Uberblock, geometry: Geometry) -> Frame
+    ensures { result ≡ frame_with (fields_of uberblock.now) (block_count geometry) }
 {
     Frame::new(
-        found.uberblock.version,
-        found.uberblock.guid,
+        uberblock.version,
+        uberblock.guid,
         geometry.blocks(),
-        found.uberblock.group,
+        uberblock.group,
     )
 }

@@ -1,37 +1,66 @@
-use Rattle.std.proofs.Common.{◌≡◌, ◌∙◌, ℕ, List, length, nat_le, sym, subst}
-use Rattle.std.proofs.lemmas.Bool.{and_parts, leb-true}
-use Rattle.base.specs.crash.Imports.{is_cache_allowed, is_dirty_max_allowed}
+use Rattle.std.proofs.Common.{◌≡◌, ◌∙◌, ℕ, List, ap, length, subst, sym}
+use Rattle.base.specs.crash.CrashRule.{KeepsOwn}
+use Rattle.base.specs.crash.Imports.{are_limits_allowed}
 use Rattle.base.specs.disk.Disk.{bytes_of}
 use Rattle.base.specs.formats.Geometry.{IsGeometry}
-use Rattle.base.specs.steps.ExactNow.{IsExplainedNow}
 use Rattle.base.specs.history.Past.{new_past}
+use Rattle.base.specs.steps.ExactNow.{IsExplainedNow}
+use Rattle.object_maps.specs.CachedDevices.{device_in}
 use Rattle.object_maps.specs.ContentsShown.{contents_of}
-use Rattle.import_replay.specs.Mounts.{shown_of_import}
+use Rattle.import_replay.specs.Mounts.{IsImport, StandsOn, shown_of_import}
+use Rattle.import_replay.specs.Refused.{IsMountRefused}
+use Rattle.import_replay.specs.RunStarts.{StartsRun}
+use Rattle.import_replay.specs.ShownMounts.{LabelsShow}
+use Rattle.import_replay.proofs.CachedImports.{holds_outside}
+use Rattle.import_replay.proofs.Refused.{mount_refused}
 use Rattle.import_replay.proofs.ShownMounts.{labels_show}
 use Rattle.import_replay.proofs.importing.import_with.Goals as goal
 
-pub empty_cache-requires : goal.empty_cache-requires
-empty_cache-requires g c =
-    let allowed = and_parts (is_cache_allowed c.args.cache_blocks) (is_dirty_max_allowed c.args.dirty_max) c.in-Ok.ensures.limits in
-    leb-true 1 c.args.cache_blocks (and_parts (nat_le 1 c.args.cache_blocks) (nat_le c.args.cache_blocks 4096) allowed.0).0
-
-pub returns-in-Ok-clause-cache : goal.returns-in-Ok-clause-cache
-returns-in-Ok-clause-cache g c =
-    ((and_parts (is_cache_allowed c.args.cache_blocks) (is_dirty_max_allowed c.args.dirty_max) c.in-Ok.ensures.limits).0, c.empty_cache.ensures.count)
-
 pub invariant_of-result-clause-stands : goal.invariant_of-result-clause-stands
-invariant_of-result-clause-stands g c = ∣ (λ keeps. (c.in-Ok.ensures.imported keeps).stands) ∣₁
+invariant_of-result-clause-stands g c = ∣ (λ keeps.
+    let m = c.in-Ok-mount_pool.mounted in
+    holds_outside c.new-cached.ensures.device c.into_parts-device.ensures.device (λ old new. StandsOn (bytes_of (g.D.SectorDevice.disk new).now) m) (c.in-Ok-mount_pool.ensures.imported keeps).stands) ∣₁
 
 pub invariant_of-result-clause-labels : goal.invariant_of-result-clause-labels
 invariant_of-result-clause-labels g c = ∣ (λ keeps.
-    let m = c.in-Ok.mounted in
-    let told = c.in-Ok.ensures in
-    let now : List ℕ = bytes_of (g.D.SectorDevice.disk c.mount.new.device).now in
+    let m = c.in-Ok-mount_pool.mounted in
+    let told = c.in-Ok-mount_pool.ensures in
+    let put_in = c.new-cached.ensures.device in
+    let now : List ℕ = bytes_of (g.D.SectorDevice.disk (device_in c.mount_pool.new.device)).now in
     let written = told.written keeps in
-    let size : length now ≡ g.D.SectorDevice.size c.args.device = g.met.D.SectorDevice.sized keeps c.mount.new.device ∙ told.device.size in
-    labels_show now c.args.moment m (size ∙ sym told.mounted.geometry) written.labelled.0 (subst IsGeometry (sym size) told.mounted.made.0) written.active) ∣₁
+    let size : length now ≡ c.in-Ok.geometry = g.met.D.SectorDevice.sized keeps (device_in c.mount_pool.new.device) ∙ told.device.size
+    ∙ ap (λ d. g.D.SectorDevice.size d) put_in ∙ sym c.sectors.ensures.size ∙ sym c.in-Ok.ensures.size in
+    holds_outside put_in c.into_parts-device.ensures.device (λ old new. LabelsShow (bytes_of (g.D.SectorDevice.disk new).now) m)
+    (labels_show now c.args.moment m (size ∙ sym told.mounted.geometry) written.labelled.0 (subst IsGeometry (sym size) told.mounted.made.0) written.active)) ∣₁
 
 pub invariant_of-result-clause-explained : goal.invariant_of-result-clause-explained
 invariant_of-result-clause-explained g c =
-    let m = c.in-Ok.mounted in
-    ∣ subst (λ (limit : ℕ). (created : ℕ) → IsExplainedNow (shown_of_import m) (new_past (contents_of m.contents) created limit)) (sym c.in-Ok.ensures.mounted.limit) c.in-Ok.ensures.mounted.explained ∣₁
+    let m = c.in-Ok-mount_pool.mounted in
+    let told = c.in-Ok-mount_pool.ensures.mounted in
+    ∣ subst (λ (limit : ℕ). (created : ℕ) → IsExplainedNow (shown_of_import m) (new_past (contents_of m.contents) created limit)) (sym told.limit) told.explained ∣₁
+
+pub returns-in-Ok-mount_pool-clause-imported : goal.returns-in-Ok-mount_pool-clause-imported
+returns-in-Ok-mount_pool-clause-imported g c = λ keeps.
+    holds_outside c.new-cached.ensures.device c.into_parts-device.ensures.device
+    (λ old new. IsImport (bytes_of (g.D.SectorDevice.disk old).now) (bytes_of (g.D.SectorDevice.disk new).now) c.args.dirty_max c.in-Ok-mount_pool.mounted) (c.in-Ok-mount_pool.ensures.imported keeps)
+
+pub returns-in-Ok-mount_pool-clause-own : goal.returns-in-Ok-mount_pool-clause-own
+returns-in-Ok-mount_pool-clause-own g c = λ keeps.
+    holds_outside c.new-cached.ensures.device c.into_parts-device.ensures.device (λ old new. KeepsOwn (g.D.SectorDevice.disk old) (g.D.SectorDevice.disk new)) (c.mount_pool.ensures.own keeps)
+
+pub returns-in-Ok-mount_pool-clause-starts : goal.returns-in-Ok-mount_pool-clause-starts
+returns-in-Ok-mount_pool-clause-starts g c = λ keeps.
+    holds_outside c.new-cached.ensures.device c.into_parts-device.ensures.device
+    (λ old new. StartsRun (g.D.SectorDevice.disk old) c.args.dirty_max (g.D.SectorDevice.disk new) c.in-Ok-mount_pool.mounted) (c.in-Ok-mount_pool.ensures.starts keeps)
+
+pub returns-in-Err-mount_pool-clause-own : goal.returns-in-Err-mount_pool-clause-own
+returns-in-Err-mount_pool-clause-own g c = λ keeps.
+    holds_outside c.new-cached.ensures.device c.into_parts-device-in-Err-mount_pool.ensures.device (λ old new. KeepsOwn (g.D.SectorDevice.disk old) (g.D.SectorDevice.disk new)) (c.mount_pool.ensures.own keeps)
+
+pub returns-in-Err-mount_pool-clause-refused : goal.returns-in-Err-mount_pool-clause-refused
+returns-in-Err-mount_pool-clause-refused g c =
+    let e = c.in-Err-mount_pool.error in
+    let sized : IsGeometry (g.D.SectorDevice.size c.args.device) = subst IsGeometry (c.in-Ok.ensures.size ∙ c.sectors.ensures.size) c.in-Ok.ensures.geometry in
+    mount_refused g.D.SectorDevice (are_limits_allowed c.args.dirty_max c.args.cache_blocks) c.args.moment c.args.device _ e (sized, c.in-Ok.ensures.limits)
+    (holds_outside c.new-cached.ensures.device c.into_parts-device-in-Err-mount_pool.ensures.device
+    (λ old new. IsMountRefused g.D.SectorDevice.keeps_model c.args.moment (g.D.SectorDevice.disk old) (g.D.SectorDevice.disk new) e) c.in-Err-mount_pool.ensures.refused)

@@ -1,15 +1,35 @@
-use Rattle.std.proofs.Common.{◌≡◌, ◌+◌, List, IfErr, subst}
+use Rattle.std.proofs.Common.{◌≡◌, ◌+◌, ℕ, List, IfErr, IfOk, subst, sym}
 use Rattle.base.specs.common.Rising.{rising}
 use Rattle.base.specs.declared.error.PoolError.TheVariants.{NoSpace}
-use Rattle.group_plans.specs.GroupPlans.{IsShortOfBlocks}
+use Rattle.base.specs.disk.Disk.{bytes_of}
+use Rattle.base.specs.formats.Blocks.{Frame}
+use Rattle.base.specs.formats.Uberblocks.{Uberblock}
+use Rattle.base.specs.tree.PlacedTrees.{HoldsTree}
+use Rattle.group_plans.specs.GroupPlans.{HoldsGroupObjects, IsShortOfBlocks}
+use Rattle.object_maps.specs.ContentsShown.{contents_of}
 use Rattle.object_maps.specs.Pointers.{pointers_of}
 use Rattle.transactions.specs.declared.record.Record.{Record}
-use Rattle.import_replay.specs.NextPools.{objects_replayed}
+use Rattle.uberblocks.specs.Slots.{fields_of}
+use Rattle.import_replay.specs.NextPools.{next_frame, objects_replayed}
 use Rattle.import_replay.specs.declared.next_pool.ReplayedPool.{ReplayedPool}
 use Rattle.import_replay.proofs.next_pool.plan_tree.Goals as goal
 
+pub returns-clause-objects : goal.returns-clause-objects
+returns-clause-objects g c = λ held.
+    let pool : ReplayedPool = c.args.pool.now in
+    let u : Uberblock = fields_of c.args.uberblock.now in
+    let now : List ℕ = bytes_of (g.B.SectorDevice.disk c.args.reader.now).now in
+    subst (λ (rs : List Record). IfOk c.plan_group.result (HoldsGroupObjects (next_frame u c.args.geometry) pool.tree rs (objects_replayed pool))) c.deref.ensures.value
+    (c.plan_group.ensures.objects held.0 (subst (λ (f : Frame). HoldsTree now f (pointers_of pool.tree) (contents_of pool.synced).objects) (sym c.frame_of-before.ensures) held.1))
+
+pub returns-clause-sound : goal.returns-clause-sound
+returns-clause-sound g c = λ held.
+    let pool : ReplayedPool = c.args.pool.now in
+    let now : List ℕ = bytes_of (g.B.SectorDevice.disk c.args.reader.now).now in
+    c.plan_group.ensures.sound held.0 (subst (λ (f : Frame). HoldsTree now f (pointers_of pool.tree) (contents_of pool.synced).objects) (sym c.frame_of-before.ensures) held.1)
+
 pub returns-clause-no_space : goal.returns-clause-no_space
-returns-clause-no_space c =
+returns-clause-no_space g c =
     let pool : ReplayedPool = c.args.pool.now in
     subst (λ (rs : List Record). IfErr c.plan_group.result (λ e. e ≡ NoSpace
     → IsShortOfBlocks (c.args.uberblock.now.group.0 + 4) rs pool.tree.maps.items (pointers_of pool.tree) (objects_replayed pool) (rising pool.spare.free)))
