@@ -1,5 +1,5 @@
 -- Reads of a pool, and what a device that holds it has for them.
-use Rattle.std.proofs.Common.{ℕ, ◌≡◌, ◌≢◌, ◌≤◌, ◌∙◌, Bool, true, false, ◌||◌, List, [], not, nat_le, ap, refl, sym, subst, ◌⊎◌, inl, inr, arith}
+use Rattle.std.proofs.Common.{ℕ, ◌≡◌, ◌≢◌, ◌≤◌, ◌∙◌, true, false, List, [], ap, refl, sym, ◌⊎◌, inl, inr, arith}
 use Rattle.std.specs.Prelude.{IsTrue, Option, Some, None, Result, Ok, Err, IfErr, IfOk, is_some, unwrap_or}
 use Rattle.std.specs.FinMap as finite
 use Rattle.base.specs.declared.error.PoolError.{PoolError}
@@ -7,15 +7,13 @@ use Rattle.base.specs.declared.error.PoolError.TheVariants as error
 use Rattle.base.specs.disk.Disk.{bytes_of}
 use Rattle.base.specs.formats.Digest.{digest_of}
 use Rattle.base.specs.formats.Geometry.{IsGeometry, block_address, block_count}
-use Rattle.base.specs.history.Contents.{Contents}
 use Rattle.base.specs.history.Past.{Past}
 use Rattle.base.specs.history.Plans.{NumberRange}
 use Rattle.base.specs.steps.Locks.{is_covered}
-use Rattle.base.specs.steps.Refusals.{digest_refusal, read_refusal}
+use Rattle.base.specs.steps.Refusals.{read_refusal}
 use Rattle.base.specs.steps.Shown.{Shown}
 use Rattle.base.specs.steps.Steps.{Digest, Read, State, bytes_in}
 use Rattle.base.specs.stored.Stored.{IsHeld, frame_at}
-use Rattle.base.specs.tree.PlacedTrees.{HoldsTree}
 use Rattle.base.proofs.formats.Geometry.{blocks-end}
 use Rattle.device_model.specs.declared.device.SectorDevice.{Ghosts}
 use Rattle.object_maps.specs.Cached.{IsReadRefusal}
@@ -25,9 +23,11 @@ use Rattle.object_reads.specs.ShownTrees as reads
 use Rattle.object_reads.proofs.SyncedObjects.{bytes_there}
 use Rattle.object_reads.specs.ShownTrees.{IsRangeRefusal, IsRangeRefusalOnTree, StandsOn}
 use Rattle.pool_tables.specs.declared.pool.PoolTables.{PoolTables}
-use Rattle.pool_tables.specs.Shows.{pool_shown, shown_objects, synced_of}
+use Rattle.pool_tables.specs.GroupPlans.{HoldsSyncedTree}
+use Rattle.pool_tables.specs.Shows.{pool_shown, shown_objects}
 use Rattle.pool_tables.specs.Told.{held_with, pool_told}
 use Rattle.pool_tables.proofs.ReadSteps.{absent, is_unreadable}
+use Rattle.pool_tables.proofs.syncs.PlannedGroups.{synced_tree}
 
 -- what is shown, with a past
 abbrev pub at : Shown → Past → State
@@ -56,7 +56,7 @@ pub digest_refused : (keeps : Type 0) (s : Shown) (past : Past) → s.suspended 
 digest_refused keeps s past h = rw h (refl, refl)
 
 -- it may be refused damage over a device that does not keep the model
-damage_is_not : (keeps : Type 0) (e : PoolError) → (keeps → (e ≡ error.NoMemory) ⊎ (e ≡ error.Read)) → (kind address : ℕ) → e ≡ error.Damaged kind address → keeps → ⊥
+pub damage_is_not : (keeps : Type 0) (e : PoolError) → (keeps → (e ≡ error.NoMemory) ⊎ (e ≡ error.Read)) → (kind address : ℕ) → e ≡ error.Damaged kind address → keeps → ⊥
 damage_is_not keeps e sound kind address is k = elim (sound k) [
   | inl memory ↦ absurd (let no = sym memory ∙ is in cc)
   | inr read ↦ absurd (let no = sym read ∙ is in cc)
@@ -93,8 +93,13 @@ no_memory (Err e) (inr (kind, address, damaged)) = λ is. let no : error.Damaged
 pub suspended_first : error.Suspended ≢ error.NoMemory
 suspended_first is = cc
 
-Ok-same : {c d : Contents} → ◌≡◌ {A = Result Contents PoolError} (Ok c) (Ok d) → c ≡ d
-Ok-same is = cc
+-- the block area of a device lies on it
+pub area_fits : (geometry size : ℕ) → IsGeometry geometry → size ≡ geometry → block_address (block_count geometry) ≤ size
+area_fits geometry size sized is = let end = blocks-end geometry sized in omega (arith, end, is)
+
+-- a device that holds a pool has its synced tree
+pub tree_held : (now : List ℕ) (past : Past) (p : PoolTables) → IsHeld (held_with (pool_told p now) past) → HoldsSyncedTree p now
+tree_held now past p x = synced_tree now (pool_shown p) past (pointers_of p.tree) x.kept.stored x.explained
 
 -- what a pool hands its reads
 module _ (p : PoolTables) (t : ShownTree) (framed : t.frame ≡ frame_at (pool_shown p) (pool_shown p).line.synced) (tree : t.tree.now ≡ p.tree) (contents : t.contents.now ≡ p.synced)
@@ -103,18 +108,10 @@ module _ (p : PoolTables) (t : ShownTree) (framed : t.frame ≡ frame_at (pool_s
   objects_are = rw (contents, changes) refl
 
   pub tree_fits : IsGeometry p.geometry → (size : ℕ) → size ≡ p.geometry → block_address t.frame.blocks ≤ size
-  tree_fits sized size is =
-      let end : block_address (block_count p.geometry) ≤ p.geometry = omega (arith, blocks-end p.geometry sized) in
-      rw (framed, is) end
+  tree_fits sized size is = rw framed (area_fits p.geometry size sized is)
 
   -- the synced tree stands on a device that holds the pool
   pub held_stands : {Dev : Type 0} (D : Ghosts Dev) (device : Dev) → IsTrue D.keeps_model → (past : Past) → IsHeld (held_with (pool_told p (bytes_of (D.disk device).now)) past)
       → StandsOn D device t
   held_stands D device keeps past h =
-      let s = pool_shown p in
-      let same : h.kept.stored.synced ≡ synced_of p = Ok-same (sym h.kept.stored.replayed ∙ h.explained.trees.synced.replayed) in
-      record {
-        keeps = keeps;
-        tree = rw (framed, tree, contents)
-            (subst (λ (c : Contents). HoldsTree (bytes_of (D.disk device).now) (frame_at s s.line.synced) (pointers_of p.tree) c.objects) same h.kept.stored.tree);
-      }
+      record { keeps = keeps; tree = rw (framed, tree, contents) (tree_held (bytes_of (D.disk device).now) past p h) }

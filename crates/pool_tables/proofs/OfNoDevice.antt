@@ -1,5 +1,5 @@
 -- Steps that make no device call are refused by none.
-use Rattle.std.proofs.Common.{◌≡◌, ℕ, Bool, true, false, List, [], ◌∷◌, ◌++◌, refl, ap, sym, ◌∙◌, ◌⊎◌, inl, inr}
+use Rattle.std.proofs.Common.{◌≡◌, ℕ, Bool, true, false, List, [], ◌∷◌, ◌++◌, refl, ap, sym, ◌∙◌}
 use Rattle.std.specs.Prelude.{Option, Some, None, Result, Ok, Err}
 use Rattle.std.specs.FinMap as finite
 use Rattle.std.specs.List.{list_all}
@@ -128,8 +128,3 @@ own_counts (Err e) own calls = counts_none e calls own
 pub map_counts : {A B : Type 0} (f : A → B) (answer : Result A PoolError) → is_own_answer (result_map f answer) ≡ true → IsOfNoDevice answer
 map_counts f (Ok x) own calls = refl
 map_counts f (Err e) own calls = counts_none e calls own
-
--- A plan of a group is refused for want of memory or of blocks.
-pub plan_own : (e : PoolError) → (e ≡ error.NoMemory) ⊎ (e ≡ error.NoSpace) → (calls : RefusedCalls) → with_refusal e calls ≡ calls
-plan_own e (inl memory) calls = counts_none e calls (ap is_own memory)
-plan_own e (inr full) calls = counts_none e calls (ap is_own full)

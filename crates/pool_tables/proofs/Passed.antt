@@ -12,15 +12,19 @@ use Rattle.base.specs.steps.Refusals.{close_refusal, log_flush_refusal, log_writ
 use Rattle.base.specs.steps.Shown.{Shown, SyncPlan}
 use Rattle.base.specs.steps.Steps as steps
 use Rattle.base.specs.steps.Steps.{Answers, IsPlanned, IsProgress, State, SyncProgress, TakesForEach, WantsMemoryOrRead, line_after_close, line_after_quiesce, state_after_log_flush, state_after_start, suspended_state, with_line}
+use Rattle.base.specs.stored.Stored.{IsHeld}
 use Rattle.base.proofs.common.KeptLists.{Some-injective}
 use Rattle.base.proofs.history.CommitOrder.{ok-none}
 use Rattle.pool_tables.specs.Meets.{Meets}
 use Rattle.pool_tables.specs.Progresses.{plain_progress}
 use Rattle.pool_tables.specs.StepAnswers.{StartsSync, group_number}
+use Rattle.pool_tables.specs.SyncStarts.{StartsHeldOver}
 use Rattle.pool_tables.specs.Tables.{result_map}
+use Rattle.pool_tables.specs.Told.{ShownPool, held_with, state_with}
 use Rattle.pool_tables.specs.declared.pool.Progress.{Progress}
 use Rattle.pool_tables.specs.declared.pool.Progress.TheVariants as progress
 use Rattle.pool_tables.proofs.OfNoDevice.{some_past}
+use Rattle.pool_tables.proofs.syncs.Starts.{IsWantOrRead}
 
 -- whatever its answer is told as
 own_refusal : {A : Type 0} (r : Option PoolError) (e : PoolError) (old new : State) (does : A → Type 0) (own : PoolError → Type 0) → r ≡ None → Answers r (Err e) old new does own → own e
@@ -125,6 +129,21 @@ module _ (s new : Shown) where
   flushed (Err e) passes meets =
       let later : State = after (meets (some_past s)).0 in
       (own_refusal {A = Unit {0}} (log_flush_refusal s) e before later (λ _. later ≡ state_after_log_flush before) (λ e. (e ≡ error.Flush) × (later ≡ suspended_state before)) passes (meets (some_past s)).1).0
+
+-- a want that is no damage
+undamaged : (e : PoolError) → IsWantOrRead (Unit {0}) e → (e ≡ error.NoMemory) ⊎ (e ≡ error.Read)
+undamaged e (inl memory) = inl memory
+undamaged e (inr (inl read)) = inr read
+undamaged e (inr (inr (kind, address, damaged, never))) = absurd (never tt)
+
+-- Over a device that holds the pool, the start of a sync finds no damage.
+pub started_over : (t u : ShownPool) (moment : ℕ) (answer : Result Group PoolError) → start_refusal t.shown ≡ None → (past : Past) → IsHeld (held_with t past) → StartsHeldOver moment answer t u
+    → IfErr answer (λ e. (e ≡ error.NoMemory) ⊎ (e ≡ error.Read))
+started_over t u moment (Ok group) passes past held starts = tt
+started_over t u moment (Err e) passes past held starts =
+    let old : State = state_with t past in
+    let later : State = state_with u (starts past held).0 in
+    undamaged e (own_refusal {A = ℕ} (start_refusal t.shown) e old later _ (WantsMemoryOrRead (Unit {0}) old later) passes (starts past held).1).0
 
 -- What is answered Ok counts no refused call.
 pub ok_counts : {A : Type 0} (answer : Result A PoolError) (calls later : RefusedCalls) → later ≡ counted answer calls → OnOk answer (later ≡ calls)

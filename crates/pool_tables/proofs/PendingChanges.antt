@@ -125,7 +125,7 @@ same_plan pool new same = go pool.sync (λ r is. same r is)
     go (Some r) kept = let both = kept r refl in λ k. Some (plan_of pool.tree (patched_contents (both.0 k) (both.1 k) (synced_of pool)) r)
 
 -- changes that say the same are the same at each place
-pub same_changes : (old new : UnsyncedExtents) → LeavesChanges old new → (place : ℕ) → changes_at new place ≡ changes_at old place
+same_changes : (old new : UnsyncedExtents) → LeavesChanges old new → (place : ℕ) → changes_at new place ≡ changes_at old place
 same_changes old new same place = λ k n. record { basis = (same.patches place n).basis k; written = λ i. (same.patches place n).written i k }
 
 -- so a pool shows the same with them, and with the same pending transactions

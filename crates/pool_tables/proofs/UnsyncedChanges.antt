@@ -1,33 +1,29 @@
 -- The changes of the unsynced groups, laid over the synced objects, beside the operations that are pending: at first,
 -- while groups are opened and once the oldest one is synced.
 use Rattle.std.proofs.Common.{◌≡◌, ◌∙◌, ℕ, ◌+◌, ◌<◌, ◌≤◌, ◌==◌, Bool, true, false, cond, List, [], ◌∷◌, filter, nat_lt, refl, ap, sym, subst, arith, ◌⊎◌, inl, inr}
-use Rattle.std.proofs.Math.Logic.{∥∥₁_elim}
 use Rattle.std.proofs.lemmas.Bool.{cases_lt, eqb-true, lt-ltb, true≢false}
 use Rattle.std.proofs.lemmas.List.Elements.{All-head, All-tail, All-weaker}
-use Rattle.std.specs.Coded.{Π_prop, →_prop, Unit-prop, le_prop}
 use Rattle.std.specs.FinMap as finite
 use Rattle.std.specs.FinMap.{FinMap}
 use Rattle.std.specs.List.{flat_map}
 use Rattle.std.specs.Ordering.{nat_cmp}
-use Rattle.std.specs.Prelude.{All, IfSome, None, Option, Some, fold, length, option_map, unwrap_or}
+use Rattle.std.specs.Prelude.{All, IfSome, None, Option, Some, fold, length, unwrap_or}
 use Rattle.base.specs.declared.operation.Op.{Op}
 use Rattle.base.specs.formats.Limits.{max_length, object_count}
 use Rattle.base.specs.history.Contents.{Contents, name_given_by_all, object_after}
 use Rattle.base.specs.steps.Groups.{IsLine, Line}
 use Rattle.base.specs.steps.Logs.{Log, committed_above, committed_in}
 use Rattle.extents.specs.declared.unsynced.UnsyncedExtents.{UnsyncedExtents}
-use Rattle.extents.specs.Patches.{Patches, laid_over, length_over, no_patch, patched}
-use Rattle.extents.specs.Synced.{FitsPatched, HasRoomForPatches, patched_contents}
+use Rattle.extents.specs.Patches.{laid_over, no_patch, patched}
+use Rattle.extents.specs.Synced.{patched_contents}
 use Rattle.extents.specs.Unsynced.{MovesUp, changes_at, laid_all, name_at, name_over}
 use Rattle.extents.proofs.LaidObjects.{laid_nothing}
 use Rattle.extents.proofs.LaidWithin.{stay_within}
 use Rattle.extents.proofs.PatchedObjects.{patched_nothing}
 use Rattle.extents.proofs.UnsyncedGroups.{oldest_is_laid, oldest_name_is_laid}
 use Rattle.object_maps.specs.declared.contents.Contents as declared
-use Rattle.object_maps.specs.declared.contents.Slot.{Slot}
-use Rattle.object_maps.specs.ContentsShown.{contents_of, object_in}
+use Rattle.object_maps.specs.ContentsShown.{contents_of}
 use Rattle.object_maps.specs.Judging.{with_name}
-use Rattle.object_maps.specs.Ops.{room_of}
 use Rattle.object_maps.specs.Sources.{AreWithin}
 use Rattle.throttle.proofs.SumLaws.{open_within}
 use Rattle.transactions.specs.declared.record.Record.{Record}
@@ -163,14 +159,3 @@ module _ (old : UnsyncedExtents) (before after : declared.Contents) (laid : cont
   same_contents new moves =
       ap (λ (c : Contents). with_name (laid_all new c.objects) (name_over new c.name)) laid
       ∙ (λ i. with_name (oldest_is_laid old new (contents_of before).objects moves i) (oldest_name_is_laid old new before.name moves i))
-
--- the room that is taken before a sync is there
-pub has_room : (patches : Patches) (slots : List Slot) → ∥ HasRoomForPatches patches slots ∥₁ → HasRoomForPatches patches slots
-has_room patches slots room = ∥∥₁_elim room (Π_prop (λ n. →_prop (fits_prop n))) (λ h. h)
-  where
-    within_prop : (o : Option ℕ) (room : ℕ) → IsProp (IfSome o (λ size. size ≤ room))
-    within_prop None room = Unit-prop
-    within_prop (Some size) room = le_prop
-
-    fits_prop : (n : ℕ) → IsProp (FitsPatched (patches n).basis (object_in slots n) (room_of slots n))
-    fits_prop n = within_prop (length_over (patches n).basis (option_map length (object_in slots n))) (room_of slots n)

@@ -1,25 +1,35 @@
 -- The plan of a group of a pool, and the sync that begins with it.
-use Rattle.std.specs.Prelude.{ℕ, ◌≡◌, ◌<◌, map}
+use Rattle.std.specs.Prelude.{ℕ, ◌≡◌, ◌<◌, List, map}
 use Rattle.base.specs.declared.error.PoolError.{PoolError}
 use Rattle.base.specs.declared.pointer.Pointer.{Pointer}
 use Rattle.base.specs.formats.Uberblocks.{Uberblock}
 use Rattle.base.specs.steps.Logs.{header_for}
 use Rattle.base.specs.steps.Shown.{SyncPlan}
 use Rattle.base.specs.stored.Stored.{frame_at}
+use Rattle.base.specs.tree.PlacedTrees.{HoldsTree}
 use Rattle.sync.specs.Runs.{call_count}
 use Rattle.extents.specs.Unsynced.{name_at}
+use Rattle.object_maps.specs.Pointers.{pointers_of}
 use Rattle.tree_plans.specs.declared.planner.TreePlan.{TreePlan}
 use Rattle.tree_plans.specs.Plans.{address_of}
-use Rattle.group_plans.specs.GroupPlans.{IsRefusedShort, MakesGroupTree}
+use Rattle.group_plans.specs.GroupPlans.{HoldsGroupObjects, IsRefusedShort, MakesGroupTree}
 use Rattle.group_plans.specs.Pointers.{lengths_after}
 use Rattle.pool_tables.specs.declared.pool.PoolTables.{PoolTables}
 use Rattle.pool_tables.specs.declared.pool.RunningSync.{RunningSync}
 use Rattle.pool_tables.specs.RunningUberblocks.{uberblock_with}
-use Rattle.pool_tables.specs.Shows.{contents_after_oldest, new_plan, pool_shown}
+use Rattle.pool_tables.specs.Shows.{contents_after_oldest, new_plan, pool_shown, synced_of}
 
 -- it makes of a pool's tree that of its oldest unsynced group, which is this one
 abbrev pub MakesOldestTree : PoolTables → ℕ → TreePlan → Type 0
 MakesOldestTree pool group p = MakesGroupTree (frame_at (pool_shown pool) group) pool.tree pool.unsynced.items (contents_after_oldest pool).objects p
+
+-- its blocks hold the objects after that group
+abbrev pub HoldsOldestObjects : PoolTables → ℕ → TreePlan → Type 0
+HoldsOldestObjects pool group p = HoldsGroupObjects (frame_at (pool_shown pool) group) pool.tree pool.unsynced.items (contents_after_oldest pool).objects p
+
+-- the bytes hold a pool's synced tree
+abbrev pub HoldsSyncedTree : PoolTables → List ℕ → Type 0
+HoldsSyncedTree pool now = HoldsTree now (frame_at (pool_shown pool) (pool_shown pool).line.synced) (pointers_of pool.tree) (synced_of pool).objects
 
 -- refused NoSpace, the pool is short of blocks for it
 abbrev pub IsPoolShort : PoolTables → ℕ → PoolError → Type 0

@@ -8,11 +8,8 @@ use Rattle.base.specs.formats.Uberblocks.{Uberblock}
 use Rattle.base.specs.steps.Logs.{KeptBlock, Log, reaches_above}
 use Rattle.base.specs.tree.PlacedTrees.{ArePlaced}
 use Rattle.base.specs.tree.Places.{Place}
-use Rattle.extents.specs.Patches.{Patches}
-use Rattle.extents.specs.Synced.{HasRoomForPatches}
 use Rattle.labels.specs.Configs.{config_block}
 use Rattle.labels.specs.declared.stage.Stage.TheVariants.{Even}
-use Rattle.object_maps.specs.declared.contents.Slot.{Slot}
 use Rattle.sync.specs.Runs.{call_count}
 use Rattle.sync.specs.declared.run.LabelStages.{LabelStages}
 use Rattle.sync.specs.declared.run.SyncRun.{SyncRun}
@@ -25,14 +22,13 @@ stages_for guid group size None = None
 stages_for guid group size (Some name) = Some (record { config = config_block (record { guid = guid; group = group; size = size; name = name }); first = Even })
 
 -- It has calls left, on a device of this size. It writes this uberblock, and its tree has these pointers. If its group
--- gives a name, it has the label stages of that name. For its group's changes there is room in the synced objects.
-pub record IsRunning (size : ℕ) (u : Uberblock) (pointers : Place → Pointer) (patches : Patches) (given : Option (List ℕ)) (slots : List Slot) (run : SyncRun) : Type 0 where
+-- gives a name, it has the label stages of that name.
+pub record IsRunning (size : ℕ) (u : Uberblock) (pointers : Place → Pointer) (given : Option (List ℕ)) (run : SyncRun) : Type 0 where
   pub geometry : run.geometry ≡ size
   pub stages : run.stages ≡ stages_for u.guid u.group size given
   pub left : run.done < call_count run
   pub uberblock : WritesUberblock u run
   pub placed : ∥ ArePlaced (block_count size) pointers ∥₁
-  pub room : ∥ HasRoomForPatches patches slots ∥₁
 
 -- Its log header is the next one, or that of a kept block. No kept block before it has a record above its group.
 pub record KeepsHeader (group : ℕ) (header : Header) (log : Log) : Type 0 where

@@ -1,4 +1,4 @@
--- The start of a sync, over whichever bytes the device has.
+-- The start of a sync, on each device and over the bytes of one that keeps the disk model.
 use Rattle.std.specs.Prelude.{ℕ, ◌≡◌, List, [], map, Some, Result, Ok, IfOk}
 use Rattle.base.specs.declared.error.PoolError.{PoolError}
 use Rattle.base.specs.declared.names.Group.{Group}
@@ -11,7 +11,6 @@ use Rattle.base.specs.stored.Stored.{IsHeld, NewTree}
 use Rattle.base.specs.tree.Places.{Place, has_block}
 use Rattle.base.specs.tree.Syncs.{written_places}
 use Rattle.pool_tables.specs.Told.{Leads, ShownPool, held_with, start_reply, state_with}
-use Rattle.pool_tables.specs.KeptTrees.{IsOfNoDevice}
 use Rattle.pool_tables.specs.StepAnswers.{StartsSync}
 use Rattle.pool_tables.specs.Tables.{result_map}
 
@@ -28,27 +27,16 @@ pub record TakesInOrder (group : ℕ) (past : Past) (old new : ShownPool) : Type
 
 -- From each past with which the device holds what it should, it is a step of the definitions, over a device that keeps
 -- the disk model.
-abbrev pub StartsHeld : ℕ → Result Group PoolError → (List ℕ → ShownPool) → (List ℕ → ShownPool) → Type 0
-StartsHeld moment answer old new = (now : List ℕ) (past : Past) → IsHeld (held_with (old now) past)
-    → (later : Past) × StartSync (Unit {0}) now moment (result_map (λ group. group.0) answer) (state_with (old now) past) (state_with (new now) later)
-
--- so it is over the bytes that are told of
 abbrev pub StartsHeldOver : ℕ → Result Group PoolError → ShownPool → ShownPool → Type 0
 StartsHeldOver moment answer old new = (past : Past) → IsHeld (held_with old past)
     → (later : Past) × StartSync (Unit {0}) old.now moment (result_map (λ group. group.0) answer) (state_with old past) (state_with new later)
 
--- it takes blocks in the order of the places that it writes
-abbrev pub StartsInOrder : Result Group PoolError → (List ℕ → ShownPool) → (List ℕ → ShownPool) → Type 0
-StartsInOrder answer old new = (now : List ℕ) (past : Past) → IsHeld (held_with (old now) past) → IfOk answer (λ group. TakesInOrder group.0 past (old now) (new now))
-
--- it moves no byte, and plans what the running sync makes
-abbrev pub StartLeads : Result Group PoolError → (List ℕ → ShownPool) → (List ℕ → ShownPool) → Type 0
-StartLeads answer old new = (now : List ℕ) → Leads (start_reply answer) (old now) (new now)
-
--- the start of a sync, from what is told of a pool before it to what is told after it
-pub record IsSyncStart (moment : ℕ) (answer : Result Group PoolError) (old new : List ℕ → ShownPool) : Type 0 where
+-- The start of a sync, from what is told of a pool before it to what is told after it: on each device a step of the
+-- definitions. If the device keeps the disk model and has these bytes, it moves no byte, and plans what the running sync
+-- makes. If that device holds what it should, the step is one over such a device, and takes blocks in the order of the
+-- places that it writes.
+pub record IsSyncStart (keeps : Type 0) (now : List ℕ) (moment : ℕ) (answer : Result Group PoolError) (old new : List ℕ → ShownPool) : Type 0 where
   pub step : StartsSync moment answer (old []).shown (new []).shown
-  pub held : StartsHeld moment answer old new
-  pub order : StartsInOrder answer old new
-  pub leads : StartLeads answer old new
-  pub own : IsOfNoDevice answer
+  pub held : keeps → StartsHeldOver moment answer (old now) (new now)
+  pub order : keeps → (past : Past) → IsHeld (held_with (old now) past) → IfOk answer (λ group. TakesInOrder group.0 past (old now) (new now))
+  pub leads : keeps → Leads (start_reply answer) (old now) (new now)

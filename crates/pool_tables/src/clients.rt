@@ -1,7 +1,7 @@
 //! What callers rest on: one function for each promise of this crate's calls, proved from the contract of the call
 //! alone. So it is refused as soon as that contract says less.
 
-ghost use Rattle.std.specs.Prelude.{◌≡◌, ◌<◌, ◌+◌, ◌∷◌, [], ℕ, List, Err, IfOk, IsTrue, None, Ok, OnOk, Some, false, length, map, true};
+ghost use Rattle.std.specs.Prelude.{◌≡◌, ◌<◌, ◌+◌, ◌∷◌, ◌⊎◌, [], ℕ, List, Err, IfErr, IfOk, IsTrue, None, Ok, OnOk, Some, false, length, map, true};
 ghost use Rattle.std.specs.FinMap as finite;
 ghost use Rattle.std.specs.FinSet as set;
 ghost use Rattle.base.specs.declared.range.Mode.TheVariants as mode;
@@ -237,12 +237,37 @@ fn a_group_with_an_open_transaction_is_not_quiesced(
 }
 
 // A sync writes what its group left, without what later groups did.
-fn a_sync_writes_what_its_group_left(pool: &mut PoolTables, moment: u64) -> Result<Group, PoolError>
+fn a_sync_writes_what_its_group_left<B: BlockReader>(
+    pool: &mut PoolTables,
+    reader: &mut B,
+    moment: u64,
+) -> Result<Group, PoolError>
+    requires sized { B.size reader.old ≡ geometry_of pool.old }
     ensures { IfOk result (λ group. (past : Past) → IsExplainedNow (pool_shown pool.old) past
         → (plan : SyncPlan) × ((pool_shown pool.new).sync ≡ Some plan)
         × IsReplayUpTo group.0 past plan.contents) }
 {
-    pool.start_sync(moment)
+    pool.start_sync(reader, moment)
+}
+
+// Over a device that holds the pool, the sync of a quiesced group starts, or needs memory or a read. It finds no block
+// damaged.
+fn a_start_finds_no_damage<B: BlockReader>(
+    pool: &mut PoolTables,
+    reader: &mut B,
+    moment: u64,
+) -> Result<Group, PoolError>
+    requires sized { B.size reader.old ≡ geometry_of pool.old }
+    requires keeps { IsTrue B.keeps_model }
+    requires held { (past : Past) × IsHeld
+        (held_with (pool_told pool.old (bytes_of (B.disk reader.old).now)) past) }
+    requires running { (pool_shown pool.old).suspended ≡ false }
+    requires quiesced { (pool_shown pool.old).line.middle
+        ≡ Some (record { group = 9; quiesced = true }) }
+    requires none { (pool_shown pool.old).line.syncing ≡ None }
+    ensures { IfErr result (λ e. (e ≡ PoolError.NoMemory) ⊎ (e ≡ PoolError.Read)) }
+{
+    pool.start_sync(reader, moment)
 }
 
 // A log block before the header of a sync is free again.

@@ -19,7 +19,8 @@
 //!    its last flush.
 //! 7. After the device refused a write or a flush, no step changes the pool any more: what the disk holds is not
 //!    certain.
-//! 8. A call takes its memory and makes its tests before it changes a table, so a refused call changes nothing.
+//! 8. A call makes its tests, takes its memory and reads what it needs before it changes a table. So a call that is
+//!    refused by a test, for memory or a read changes nothing.
 //! 9. The transactions of the unsynced groups are kept in order of commit, and those that the log has are a front of
 //!    them. A sync fixes its log header at its start, and the log blocks before it come back with its last step
 //!    (`zil.c`).
@@ -30,7 +31,7 @@
 //!
 //! The full contract of each call stands at `PoolState` of `pool_core`, which adds the device.
 
-ghost use Rattle.std.specs.Prelude.{◌≡◌, ◌≢◌, ◌+◌, ◌≤◌, All, IfErr, IfOk, IsTrue, None, false, is_some, length, map, option_map, true, vec_len};
+ghost use Rattle.std.specs.Prelude.{◌≡◌, ◌≢◌, ◌+◌, ◌≤◌, All, IfErr, IfOk, IsTrue, None, false, length, map, option_map, true, vec_len};
 ghost use Rattle.std.proofs.Props.{props};
 ghost use Rattle.std.specs.Option.{ForSome, option_map_or};
 ghost use Rattle.base.specs.formats.Geometry.{IsGeometry, block_count};
@@ -40,7 +41,7 @@ ghost use Rattle.base.specs.tree.PlacedTrees.{ArePlaced};
 ghost use Rattle.base.specs.steps.Exact.{log_addresses};
 ghost use Rattle.base.specs.steps.Refusals.{is_lock_in_use};
 ghost use Rattle.base.specs.steps.Shown as show;
-ghost use Rattle.extents.specs.Unsynced.{changes_at, name_at};
+ghost use Rattle.extents.specs.Unsynced.{name_at};
 ghost use Rattle.object_maps.specs.ContentsShown.{contents_of};
 ghost use Rattle.object_maps.specs.Sources.{AreWithin};
 ghost use Rattle.object_maps.specs.Pointers.{pointers_of};
@@ -121,7 +122,7 @@ pub struct PoolTables {
     transactions: OpenTransactions,
     // the bytes charged to the unsynced groups; their blocks are reserved
     dirty: Dirty,
-    // the objects of the synced tree
+    // the objects of the synced tree, by their lengths
     synced: Contents,
     // what the unsynced groups made of them and of the name
     changes: UnsyncedExtents,
@@ -145,7 +146,7 @@ pub struct PoolTables {
     ghost running: { ForSome sync (λ r. IsRunning geometry
         (uberblock_with guid import_number (header_fields r.header) r.group.0 r.moment r.root)
         (pointers_after r.root r.directories.items r.maps tree)
-        (changes_at changes 0) (name_at changes 0) synced.slots.items r.run) } by { Prim.hlevel props },
+        (name_at changes 0) r.run) } by { Prim.hlevel props },
     ghost sync_line: { option_map (λ r. r.group.0) sync ≡ groups.line.syncing } by { Prim.hlevel props },
     ghost tree_placed: { ∥ ArePlaced (block_count geometry) (pointers_of tree) ∥₁ },
     ghost unsynced_kept: { KeepsUnsynced groups.line unsynced.items written (log_shown log) synced changes } by { Prim.hlevel props },
@@ -339,6 +340,18 @@ impl PoolTables {
         self.locks.pieces(number)
     }
 
+    // The frame of the synced tree's blocks.
+    fn synced_frame(&self) -> Frame
+        ensures { result ≡ frame_at (pool_shown self.now) (pool_shown self.now).line.synced }
+    {
+        Frame::new(
+            WRITTEN_VERSION,
+            self.guid,
+            self.geometry.blocks(),
+            self.groups.synced(),
+        )
+    }
+
     // What reads need of the objects that are shown.
     fn shown_tree(&self) -> ShownTree<'_>
         ensures frame { result.frame
@@ -348,12 +361,7 @@ impl PoolTables {
         ensures changes { result.changes.now ≡ self.now.changes }
     {
         ShownTree {
-            frame: Frame::new(
-                WRITTEN_VERSION,
-                self.guid,
-                self.geometry.blocks(),
-                self.groups.synced(),
-            ),
+            frame: self.synced_frame(),
             tree: &self.tree,
             contents: &self.synced,
             changes: &self.changes,

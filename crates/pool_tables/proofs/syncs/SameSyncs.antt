@@ -22,7 +22,7 @@ use Rattle.sync.specs.declared.run.SyncRun.{SyncRun}
 use Rattle.object_maps.specs.declared.tree.Tree.{Tree}
 use Rattle.pool_tables.specs.declared.pool.RunningSync.{RunningSync}
 use Rattle.pool_tables.specs.Shows.{plan_of}
-use Rattle.extents.specs.Unsynced.{changes_at, name_at}
+use Rattle.extents.specs.Unsynced.{name_at}
 use Rattle.sync.specs.Runs.{SameSync, call_count, other_calls}
 use Rattle.throttle.specs.DirtyBytes.{total_of}
 use Rattle.pool_tables.specs.declared.pool.PoolTables.{PoolTables}
@@ -107,19 +107,18 @@ same_uberblock old new same u writes = record { slot = same.slot ∙ writes.slot
 abbrev pub RunsIn : PoolTables → RunningSync → Type 0
 RunsIn pool r =
     IsRunning pool.geometry (uberblock_with pool.guid pool.import_number (header_fields r.header) r.group.0 r.moment r.root) (tree_after r pool.tree)
-    (changes_at pool.changes 0) (name_at pool.changes 0) pool.synced.slots.items r.run
+    (name_at pool.changes 0) r.run
 
 -- after a call with others left, a run of the same blocks and uberblock is one still
 pub runs_on : (pool : PoolTables) (r : RunningSync) (new : SyncRun) → SameSync r.run new → new.done < call_count new → RunsIn pool r
     → IsRunning pool.geometry (uberblock_with pool.guid pool.import_number (header_fields r.header) r.group.0 r.moment r.root) (tree_after r pool.tree)
-    (changes_at pool.changes 0) (name_at pool.changes 0) pool.synced.slots.items new
+    (name_at pool.changes 0) new
 runs_on pool r new same left was = record {
   geometry = same.geometry ∙ was.geometry;
   stages = same.stages ∙ was.stages;
   left = left;
   uberblock = same_uberblock r.run new same _ was.uberblock;
   placed = was.placed;
-  room = was.room;
 }
 
 -- a call is refused as a write or as a flush

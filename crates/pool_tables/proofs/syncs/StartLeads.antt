@@ -1,6 +1,6 @@
 -- The start of a sync, with what is planned of its tree.
 use Rattle.std.proofs.Common.{◌≡◌, ◌<◌, ◌≤◌, ◌+◌, ℕ, true, false, arith, List, length, map, refl, ap, sym, subst, ◌∙◌}
-use Rattle.std.specs.Prelude.{Option, Some, None, Ok, is_some, option_map, unwrap_or}
+use Rattle.std.specs.Prelude.{Option, Some, None, Ok, is_some, unwrap_or}
 use Rattle.std.specs.BTreeMap.{BTreeMap}
 use Rattle.std.specs.Global.{Vec}
 use Rattle.std.proofs.lemmas.List.{length-map}
@@ -24,8 +24,7 @@ use Rattle.base.proofs.steps.WaitingGroups.{next-group}
 use Rattle.object_maps.specs.declared.tree.ObjectMap.{ObjectMap}
 use Rattle.object_maps.specs.declared.tree.Tree.{Tree}
 use Rattle.extents.specs.Patches.{ArePatchesOf}
-use Rattle.extents.specs.Synced.{patched_contents}
-use Rattle.extents.specs.Unsynced.{changes_at, laid_all, name_at, name_over}
+use Rattle.extents.specs.Unsynced.{changes_at, name_at}
 use Rattle.object_maps.specs.Pointers.{pointers_of}
 use Rattle.space.proofs.FreeLists.{length-rising}
 use Rattle.sync.specs.Runs.{other_calls}
@@ -40,10 +39,10 @@ use Rattle.group_plans.proofs.GroupChanges.{lengths_told}
 use Rattle.group_plans.proofs.PlannedBlocks.{addresses_are}
 use Rattle.pool_tables.specs.declared.pool.PoolTables.{PoolTables}
 use Rattle.pool_tables.specs.declared.pool.RunningSync.{RunningSync}
-use Rattle.pool_tables.specs.GroupPlans.{MakesOldestTree, begun_plan}
-use Rattle.pool_tables.specs.Told.{ShownPool, config_of, held_with, new_tree_of, pool_told}
+use Rattle.pool_tables.specs.GroupPlans.{HoldsOldestObjects, MakesOldestTree, begun_plan}
+use Rattle.pool_tables.specs.Told.{config_of, held_with, new_tree_of, pool_told}
 use Rattle.pool_tables.specs.Lines.{MayStart}
-use Rattle.pool_tables.specs.Shows.{contents_after_oldest, plan_of, pool_shown, synced_of}
+use Rattle.pool_tables.specs.Shows.{contents_after_oldest, pool_shown, synced_of}
 use Rattle.pool_tables.proofs.Flags.{is_some-map}
 use Rattle.pool_tables.proofs.syncs.SameSyncs.{taken_count}
 use Rattle.pool_tables.proofs.syncs.Starts.{steps-given}
@@ -76,20 +75,6 @@ none_counted pool idle =
 
 pub taken_anew : (pool : PoolTables) (blocks : List PlannedBlock) → is_some pool.groups.line.syncing ≡ false → pool.free.taken + length (map address_of blocks) ≡ length blocks
 taken_anew pool blocks idle = omega (arith, none_counted pool idle, length-map blocks address_of)
-
--- what is told of a pool with these synced contents
-abbrev pub told_with : Contents → PoolTables → List ℕ → ShownPool
-told_with synced pool now = record (pool_told pool now) {
-  shown = record (pool_shown pool) {
-    contents = record { name = name_over pool.changes synced.name; objects = laid_all pool.changes synced.objects };
-    synced_contents = synced;
-    sync = option_map (plan_of pool.tree (patched_contents (changes_at pool.changes 0) (name_at pool.changes 0) synced)) pool.sync;
-  };
-}
-
--- with the same contents it is the same
-pub same_told : (pool : PoolTables) {synced : Contents} → synced ≡ synced_of pool → (λ (now : List ℕ). told_with synced pool now) ≡ pool_told pool
-same_told pool same = λ k now. told_with (same k) pool now
 
 -- What a past that explains a pool says of a group whose sync may start.
 module _ (past : Past) (pool : PoolTables) (group : ℕ) (may : MayStart group pool.groups.line) (explained : IsExplainedNow (pool_shown pool) past) where
@@ -131,7 +116,7 @@ module _ (past : Past) (pool : PoolTables) (group : ℕ) (may : MayStart group p
   pub group_fits : (p : TreePlan) → MakesOldestTree pool group p → length (map address_of p.blocks.items) ≤ estimate_of (map shape_of (ops_of_group group past.entries))
   group_fits p makes =
       let fits = taken_fit (pool_shown pool) past explained group pool.unsynced.items oldest_ops (contents_after_oldest pool) pool.tree.maps.items oldest_takes_place (pointers_of pool.tree)
-      (plan_pointers pool.tree p) (map new_block p.blocks.items) makes.planned in
+      (plan_pointers pool.tree p) (map new_block p.blocks.items) makes.places in
       subst (λ (n : ℕ). n ≤ estimate_of (map shape_of (ops_of_group group past.entries))) (length-map p.blocks.items new_block ∙ sym (length-map p.blocks.items address_of)) fits
 
   -- it has a step for each block, and its other steps
@@ -171,18 +156,20 @@ module _ (now : List ℕ) (past : Past) (pool : PoolTables) (group moment : ℕ)
       subst (λ (c : Contents). WritesName stages (length now) pool.guid group c.name (contents_after_oldest pool).name) same
       (subst (λ (n : ℕ). WritesName stages n pool.guid group pool.synced.name (contents_after_oldest pool).name) long (writes pool.synced.name))
 
-  pub group_planned : IsPlannedSync (frame_at (pool_shown pool) group) (pointers_of pool.tree) (plan_pointers pool.tree p) (map new_block p.blocks.items) x.kept.stored.synced.objects (contents_after_oldest pool).objects plan
-  group_planned =
+  -- and the plan makes the tree of these contents, if its blocks hold them
+  pub group_planned : HoldsOldestObjects pool group p
+      → IsPlannedSync (frame_at (pool_shown pool) group) (pointers_of pool.tree) (plan_pointers pool.tree p) (map new_block p.blocks.items) x.kept.stored.synced.objects (contents_after_oldest pool).objects plan
+  group_planned objects =
       planned_sync now (pool_shown pool) past (pointers_of pool.tree) x.kept.stored x.explained group (group_above past pool group may x.explained) pool.unsynced.items (contents_after_oldest pool) to.bounded pool.tree.maps.items takes_place
-      (plan_pointers pool.tree p) (map new_block p.blocks.items) plan makes.planned (addresses_are p.blocks.items) makes.whole makes.freed makes.used refl
+      (plan_pointers pool.tree p) (map new_block p.blocks.items) plan objects (addresses_are p.blocks.items) makes.whole makes.freed makes.used refl
 
   -- what it takes is what its tree has at the places that it writes, in order
   pub group_takes : map (λ (place : Place). (plan_pointers pool.tree p place).address) (written_places (ops_of_group group past.entries) (synced_of pool) (has_block now (pool_shown pool).root)) ≡ plan.taken
   group_takes =
       takes_in_order now (pool_shown pool) past (pointers_of pool.tree) x.kept.stored x.explained group pool.unsynced.items (oldest_ops past pool group may x.explained) (contents_after_oldest pool) pool.tree.maps.items takes_place
-      (plan_pointers pool.tree p) (map new_block p.blocks.items) plan makes.planned (addresses_are p.blocks.items)
+      (plan_pointers pool.tree p) (map new_block p.blocks.items) plan makes.places (addresses_are p.blocks.items)
 
   pub group_takes_each : TakesForEach now (record { shown = pool_shown pool; past = past }) group plan
   group_takes_each =
       takes_for_each now (pool_shown pool) past (pointers_of pool.tree) x.kept.stored x.explained group pool.unsynced.items (oldest_ops past pool group may x.explained) (contents_after_oldest pool) pool.tree.maps.items takes_place
-      (plan_pointers pool.tree p) (map new_block p.blocks.items) plan makes.planned (addresses_are p.blocks.items)
+      (plan_pointers pool.tree p) (map new_block p.blocks.items) plan makes.places (addresses_are p.blocks.items)

@@ -22,7 +22,9 @@ use Rattle.base.proofs.history.Names.{name-unnamed}
 use Rattle.sync.specs.Runs.{other_calls}
 use Rattle.tree_plans.specs.declared.planner.PlannedBlock.{PlannedBlock}
 use Rattle.tree_plans.specs.Plans.{address_of}
+use Rattle.group_plans.specs.GroupPlans.{IsHeldRefusal, IsPlanRefusal}
 use Rattle.pool_tables.specs.Lines.{MayNotStart}
+use Rattle.pool_tables.proofs.HeldReads.{damage_is_not}
 
 -- a group has label stages exactly if its operations give a name
 given-some : (ops : List Op) (given : Option (List ℕ)) → list_any is_rename ops ≡ true → is_some (name_given_by_all ops given) ≡ true
@@ -56,6 +58,11 @@ steps-given ops = calls-given (name_given_by_all ops None) ∙ ap (λ b. 6 + (if
 abbrev pub StartsAt : Type 0 → List ℕ → ℕ → Result ℕ PoolError → Past → Shown → Shown → Type 0
 StartsAt keeps now moment answer past s n = StartSync keeps now moment answer (record { shown = s; past = past }) (record { shown = n; past = past })
 
+-- why a start that no test refuses is refused: it wants memory, or a read was refused, or found damage if the device
+-- does not keep the disk model
+abbrev pub IsWantOrRead : Type 0 → PoolError → Type 0
+IsWantOrRead keeps e = (e ≡ error.NoMemory) ⊎ (e ≡ error.Read) ⊎ ((kind address : ℕ) × (e ≡ error.Damaged kind address) × ¬ keeps)
+
 module _ (keeps : Type 0) (now : List ℕ) (past : Past) (s : Shown) (moment : ℕ) where
   pub start_suspended : s.suspended ≡ true → StartsAt keeps now moment (Err error.Suspended) past s s
   start_suspended h = rw h (refl, refl)
@@ -66,9 +73,10 @@ module _ (keeps : Type 0) (now : List ℕ) (past : Past) (s : Shown) (moment : �
   starts : (group : ℕ) → s.suspended ≡ false → quiesced_group s.line ≡ Some group → is_some s.line.syncing ≡ false → start_refusal s ≡ None
   starts group h is none = rw (h, is, none) refl
 
-  pub start_wants : (group : ℕ) (e : PoolError) → s.suspended ≡ false → quiesced_group s.line ≡ Some group → is_some s.line.syncing ≡ false → e ≡ error.NoMemory
+  -- a plan is refused that wants memory, or a read for it
+  pub start_wants : (group : ℕ) (e : PoolError) → s.suspended ≡ false → quiesced_group s.line ≡ Some group → is_some s.line.syncing ≡ false → IsWantOrRead keeps e
       → StartsAt keeps now moment (Err e) past s s
-  start_wants group e h is none wants = rw (starts group h is none) (inl wants, refl)
+  start_wants group e h is none wants = rw (starts group h is none) (wants, refl)
 
   -- a sync that is planned starts, where the past explains what was shown
   pub start_done : (n : Shown) (group : ℕ) (plan : SyncPlan) → IsExplainedNow s past → (keeps → TakesForEach now (record { shown = s; past = past }) group plan)
@@ -85,7 +93,15 @@ module _ (keeps : Type 0) (now : List ℕ) (past : Past) (s : Shown) (moment : �
 pub lowest_taken : (blocks : List PlannedBlock) (free : List ℕ) → map address_of blocks ≡ take (length blocks) free → map address_of blocks ≡ take (length (map address_of blocks)) free
 lowest_taken blocks free taken = taken ∙ sym (ap (λ n. take n free) (length-map blocks address_of))
 
--- where it never lacks blocks, it is for want of memory
-pub wants_only : (e : PoolError) → (e ≡ error.NoMemory) ⊎ (e ≡ error.NoSpace) → (e ≡ error.NoSpace → ⊥) → e ≡ error.NoMemory
-wants_only e (inl memory) never = memory
-wants_only e (inr space) never = absurd (never space)
+-- a plan that never lacks blocks, over a device that holds the tree
+held_want : (e : PoolError) → (e ≡ error.NoSpace → ⊥) → IsHeldRefusal e → (e ≡ error.NoMemory) ⊎ (e ≡ error.Read)
+held_want e never (inl (inl space)) = absurd (never space)
+held_want e never (inl (inr memory)) = inl memory
+held_want e never (inr read) = inr read
+
+-- and over any device: damage is found only over one that does not keep the model
+pub plan_wants : (keeps : Type 0) (e : PoolError) → (e ≡ error.NoSpace → ⊥) → IsPlanRefusal e → (keeps → IsHeldRefusal e) → IsWantOrRead keeps e
+plan_wants keeps e never (inl (inl space)) sound = absurd (never space)
+plan_wants keeps e never (inl (inr memory)) sound = inl memory
+plan_wants keeps e never (inr (inl read)) sound = inr (inl read)
+plan_wants keeps e never (inr (inr (kind, address, is))) sound = inr (inr (kind, address, is, damage_is_not keeps e (λ k. held_want e never (sound k)) kind address is))

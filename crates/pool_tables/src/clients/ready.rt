@@ -12,6 +12,7 @@ ghost use Rattle.pool_tables.specs.Shows.{geometry_of, pool_shown};
 use crate::pool::{PoolTables, Progress};
 use base::{Group, PoolError};
 use device_model::SectorDevice;
+use object_maps::BlockReader;
 
 // The open group is closed if no other one is, and the next one opens.
 fn an_open_group_is_closed(pool: &mut PoolTables) -> Result<Group, PoolError>
@@ -61,10 +62,12 @@ fn a_quiesced_group_is_not_quiesced_again(pool: &mut PoolTables) -> Result<Group
 }
 
 // Once no group is syncing, the sync of a quiesced one starts, or is refused for what no test sees.
-fn a_quiesced_group_is_ready_to_be_synced(
+fn a_quiesced_group_is_ready_to_be_synced<B: BlockReader>(
     pool: &mut PoolTables,
+    reader: &mut B,
     moment: u64,
 ) -> Result<Group, PoolError>
+    requires sized { B.size reader.old ≡ geometry_of pool.old }
     requires running { (pool_shown pool.old).suspended ≡ false }
     requires quiesced { (pool_shown pool.old).line.middle
         ≡ Some (record { group = 9; quiesced = true }) }
@@ -74,11 +77,16 @@ fn a_quiesced_group_is_ready_to_be_synced(
     ensures refused { (past : Past) → IsExplainedNow (pool_shown pool.old) past
         → IfErr result (λ e. e ≢ PoolError.NotReady) }
 {
-    pool.start_sync(moment)
+    pool.start_sync(reader, moment)
 }
 
 // Two groups are never syncing.
-fn no_sync_starts_beside_another(pool: &mut PoolTables, moment: u64) -> Result<Group, PoolError>
+fn no_sync_starts_beside_another<B: BlockReader>(
+    pool: &mut PoolTables,
+    reader: &mut B,
+    moment: u64,
+) -> Result<Group, PoolError>
+    requires sized { B.size reader.old ≡ geometry_of pool.old }
     requires running { (pool_shown pool.old).suspended ≡ false }
     requires quiesced { (pool_shown pool.old).line.middle
         ≡ Some (record { group = 10; quiesced = true }) }
@@ -88,14 +96,16 @@ fn no_sync_starts_beside_another(pool: &mut PoolTables, moment: u64) -> Result<G
     ensures unchanged { (past : Past) → IsExplainedNow (pool_shown pool.old) past
         → pool_shown pool.new ≡ pool_shown pool.old }
 {
-    pool.start_sync(moment)
+    pool.start_sync(reader, moment)
 }
 
 // A group whose transactions may still commit is not synced.
-fn a_group_that_quiesces_is_not_synced_yet(
+fn a_group_that_quiesces_is_not_synced_yet<B: BlockReader>(
     pool: &mut PoolTables,
+    reader: &mut B,
     moment: u64,
 ) -> Result<Group, PoolError>
+    requires sized { B.size reader.old ≡ geometry_of pool.old }
     requires running { (pool_shown pool.old).suspended ≡ false }
     requires closed { (pool_shown pool.old).line.middle
         ≡ Some (record { group = 9; quiesced = false }) }
@@ -104,7 +114,7 @@ fn a_group_that_quiesces_is_not_synced_yet(
     ensures unchanged { (past : Past) → IsExplainedNow (pool_shown pool.old) past
         → pool_shown pool.new ≡ pool_shown pool.old }
 {
-    pool.start_sync(moment)
+    pool.start_sync(reader, moment)
 }
 
 // A sync that runs goes on unless the device refuses its call, and syncs its own group.

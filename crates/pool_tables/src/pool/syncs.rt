@@ -1,11 +1,12 @@
-//! The groups of a pool and their syncs. A group closes, is quiesced, and is written out call by call; after the last
+//! The groups of a pool and their syncs. A group closes and is quiesced. When its sync starts, all that it writes is
+//! planned, for which the records that it changes in part are read. Then it is written out call by call. After the last
 //! call the pool lays its changes into the synced objects, and what the sync replaced is free.
 
-ghost use Rattle.std.specs.Prelude.{◌≡◌, ◌≤◌, ◌⊎◌, ℕ, List, count_by, length, take, IfErr, IfOk, IsTrue, OnErr, OnOk, false, is_some, unwrap_or};
+ghost use Rattle.std.specs.Prelude.{◌≡◌, ◌≤◌, ℕ, List, count_by, length, take, IfErr, IfOk, IsTrue, OnErr, false, is_some, unwrap_or};
 ghost use Rattle.base.specs.formats.Geometry.{block_count};
 ghost use Rattle.base.specs.stored.LabelConfigs.{WritesName};
 ghost use Rattle.base.specs.tree.PlacedTrees.{ArePlaced};
-ghost use Rattle.extents.specs.Synced.{HasRoomForPatches, patched_contents};
+ghost use Rattle.extents.specs.Synced.{patched_contents};
 ghost use Rattle.extents.specs.Unsynced.{MovesUp, changes_at, name_at};
 ghost use Rattle.object_maps.specs.ContentsShown.{contents_of};
 ghost use Rattle.object_maps.specs.Pointers.{pointers_of};
@@ -23,7 +24,7 @@ use device_model::SectorDevice;
 use extents::UnsyncedExtents;
 use group_plans::plan_group;
 use labels::{LabelConfig, Stage};
-use object_maps::Contents;
+use object_maps::{BlockReader, Contents};
 use sync::{LabelStages, SyncCall, SyncRun};
 use transactions::Record;
 use tree_plans::{PlanSource, TreePlan};
@@ -32,10 +33,11 @@ use uberblocks::{Uberblock, slot};
 impl PoolTables {
     ghost use Rattle.base.specs.disk.Disk.{bytes_of};
     ghost use Rattle.base.specs.disk.Calls.{counted};
+    ghost use Rattle.device_model.specs.Reading.{OnlyReads};
     ghost use Rattle.sync.specs.Calls.{plain_answer};
     ghost use Rattle.pool_tables.specs.NextCalls.{MakesNextOf};
-    ghost use Rattle.group_plans.specs.GroupPlans.{FitsIn, TakesLowest};
-    ghost use Rattle.pool_tables.specs.GroupPlans.{BeginsPlan, IsPoolShort, MakesOldestTree, begun_plan, uberblock_for};
+    ghost use Rattle.group_plans.specs.GroupPlans.{FitsIn, IsHeldRefusal, IsPlanRefusal, TakesLowest};
+    ghost use Rattle.pool_tables.specs.GroupPlans.{BeginsPlan, HoldsOldestObjects, HoldsSyncedTree, IsPoolShort, MakesOldestTree, begun_plan, uberblock_for};
     ghost use Rattle.pool_tables.specs.Told.{Leads, SamePlaces, config_of, sync_step_reply, pool_told, tree_after};
     ghost use Rattle.pool_tables.specs.SyncPhases.{StepsPhases, run_in};
     ghost use Rattle.pool_tables.specs.Lines.{ChecksStart};
@@ -65,16 +67,23 @@ impl PoolTables {
     }
 
     /// Starts the sync of the quiesced group, with this moment in its uberblocks, and takes the blocks that it writes.
-    /// Refused, in this order, `Suspended`, `NotReady` or `NoMemory`, and then nothing is shown changed.
-    pub fn start_sync(&mut self, moment: u64) -> Result<Group, PoolError>
+    /// It reads each record that the group changes in part. Refused, in this order, `Suspended` or `NotReady`, then
+    /// `NoMemory`, `Read` or `Damaged` as they come, and then nothing is changed.
+    pub fn start_sync<B: BlockReader>(
+        &mut self,
+        reader: &mut B,
+        moment: u64,
+    ) -> Result<Group, PoolError>
+        requires sized { B.size reader.old ≡ geometry_of self.old }
         ensures geometry { geometry_of self.new ≡ geometry_of self.old }
-        ensures start { IsSyncStart moment result (pool_told self.old) (pool_told self.new) }
-        ensures unmoved { OnErr result (run_in self.new ≡ run_in self.old) }
+        ensures start { IsSyncStart (IsTrue B.keeps_model) (bytes_of (B.disk reader.old).now) moment
+            result (pool_told self.old) (pool_told self.new) }
+        ensures reads { OnlyReads B.SectorDevice result reader.old reader.new }
+        ensures unchanged { OnErr result (self.new ≡ self.old) }
     {
         self.check_running()?;
         let group = self.check_start()?;
-        self.reserve_synced()?;
-        let planned = self.plan_oldest(group)?;
+        let planned = self.plan_oldest(reader, group)?;
         let running = self.running_sync(group, moment, planned);
         take_all(&mut self.free, &running.run.blocks);
         self.sync = Some(running);
@@ -92,26 +101,26 @@ impl PoolTables {
         self.groups.ready_to_sync()
     }
 
-    // Takes the room in the synced objects that the end of the next sync needs, if none runs (rule 8).
-    fn reserve_synced(&mut self) -> Result<(), PoolError>
-        requires { is_some self.old.groups.line.syncing ≡ false }
-        ensures geometry { self.new.geometry ≡ self.old.geometry }
-        ensures unchanged { pool_told self.new ≡ pool_told self.old }
-        ensures unmoved { run_in self.new ≡ run_in self.old }
-        ensures room { OnOk result
-            (HasRoomForPatches (changes_at self.new.changes 0) self.new.synced.slots.items) }
-        ensures refused { IfErr result (λ e. e ≡ PoolError.NoMemory) }
-    {
-        self.changes.oldest().reserve_in(&mut self.synced)?;
-        Ok(())
-    }
-
-    fn plan_oldest(&self, group: Group) -> Result<TreePlan, PoolError>
+    // The tree after the oldest unsynced group, which is this one. Over a device that holds the synced tree, its blocks
+    // hold the objects after the group, and no block is found damaged.
+    fn plan_oldest<B: BlockReader>(
+        &self,
+        reader: &mut B,
+        group: Group,
+    ) -> Result<TreePlan, PoolError>
+        requires sized { B.size reader.old ≡ self.now.geometry }
+        ensures reads { OnlyReads B.SectorDevice result reader.old reader.new }
         ensures fits { IfOk result (FitsIn self.now.geometry) }
         ensures taken { IfOk result (TakesLowest self.now.free.free) }
         ensures tree { IfOk result (MakesOldestTree self.now group.0) }
+        ensures objects { IsTrue B.keeps_model
+            → HoldsSyncedTree self.now (bytes_of (B.disk reader.old).now)
+            → IfOk result (HoldsOldestObjects self.now group.0) }
         ensures no_space { IfErr result (IsPoolShort self.now group.0) }
-        ensures refused { IfErr result (λ e. (e ≡ PoolError.NoMemory) ⊎ (e ≡ PoolError.NoSpace)) }
+        ensures refused { IfErr result IsPlanRefusal }
+        ensures sound { IsTrue B.keeps_model
+            → HoldsSyncedTree self.now (bytes_of (B.disk reader.old).now)
+            → IfErr result IsHeldRefusal }
     {
         let source = PlanSource {
             alloc: self.alloc,
@@ -121,7 +130,14 @@ impl PoolTables {
             tree: &self.tree,
             free: &self.free,
         };
-        plan_group(&source, &self.unsynced, self.changes.oldest(), &self.synced)
+        plan_group(
+            reader,
+            &self.synced_frame(),
+            &source,
+            &self.unsynced,
+            self.changes.oldest(),
+            &self.synced,
+        )
     }
 
     fn running_sync(&self, group: Group, moment: u64, planned: TreePlan) -> RunningSync
@@ -293,7 +309,6 @@ fn count_after(records: &[Record], group: Group) -> usize
 
 // The oldest group is synced: the synced objects are those that it left, and the groups after it move up.
 fn lay_oldest(changes: &mut UnsyncedExtents, synced: &mut Contents)
-    requires { HasRoomForPatches (changes_at changes.old 0) synced.old.slots.items }
     ensures contents { contents_of synced.new
         ≡ patched_contents (changes_at changes.old 0) (name_at changes.old 0)
         (contents_of synced.old) }

@@ -7,8 +7,6 @@ use Rattle.base.specs.formats.Records.{is_content_allowed}
 use Rattle.base.specs.steps.Refusals.{commit_refusal}
 use Rattle.base.specs.steps.Shown.{Shown}
 use Rattle.base.specs.steps.Steps.{Commit}
-use Rattle.extents.specs.Patches.{Patches}
-use Rattle.extents.specs.Synced.{HasRoomForPatches}
 use Rattle.pool_tables.specs.Meets.{MayCommit, MeetsExplained}
 use Rattle.pool_tables.specs.Entries.{shown_after_entry}
 use Rattle.pool_tables.specs.Running.{stages_for}
@@ -16,7 +14,7 @@ use Rattle.pool_tables.specs.Shows.{pool_shown, shown_contents}
 use Rattle.pool_tables.proofs.CommitSteps.{commit_refused, commit_wants}
 use Rattle.pool_tables.proofs.Entered.{entered}
 use Rattle.pool_tables.proofs.OfNoDevice.{commit_own}
-use Rattle.pool_tables.proofs.PendingChanges.{changes_left_at, names_left_at, committed_behind, same_changes, shown_left}
+use Rattle.pool_tables.proofs.PendingChanges.{changes_left_at, names_left_at, committed_behind, shown_left}
 use Rattle.pool_tables.proofs.pool.PoolTables.commit.Goals as goal
 
 pub returns-in_err-group-clause-step : goal.returns-in_err-group-clause-step
@@ -65,7 +63,6 @@ invariant_of-self-2 c =
         left = was.left;
         uberblock = was.uberblock;
         placed = was.placed;
-        room = subst (λ (patches : Patches). ∥ HasRoomForPatches patches pool.synced.slots.items ∥₁) (sym (same_changes pool.changes c.reserve-2.new.self c.reserve-2.ensures.same 0)) was.room;
       };
       sync_line = pool.sync_line;
       tree_placed = pool.tree_placed;

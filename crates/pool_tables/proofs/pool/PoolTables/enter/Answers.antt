@@ -5,8 +5,6 @@ use Rattle.std.proofs.lemmas.List.{length_push, map-append}
 use Rattle.std.proofs.lemmas.List.Elements.{All-filter, All-push}
 use Rattle.base.specs.formats.Records.{IsAllowed}
 use Rattle.base.specs.steps.Groups.{Admission}
-use Rattle.extents.specs.Patches.{Patches}
-use Rattle.extents.specs.Synced.{HasRoomForPatches}
 use Rattle.extents.specs.Unsynced.{laid_all, name_over}
 use Rattle.groups.specs.CountedLines.{CountedLine, after_release}
 use Rattle.groups.specs.Laws.{AreHoldsExact}
@@ -61,8 +59,6 @@ invariant_of-self c =
         left = was.left;
         uberblock = was.uberblock;
         placed = was.placed;
-        room = subst (λ (patches : Patches). ∥ HasRoomForPatches patches pool.synced.slots.items ∥₁)
-            (sym (kept_oldest pool group hold c.args.place c.apply.new.self c.requires.place r is c.apply.ensures.others).0) was.room;
       };
       sync_line = pool.sync_line ∙ ap (λ l. l.syncing) (sym line);
       tree_placed = pool.tree_placed;

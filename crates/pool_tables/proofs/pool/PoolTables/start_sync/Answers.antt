@@ -1,4 +1,4 @@
-use Rattle.std.proofs.Common.{◌≡◌, ◌∙◌, ℕ, ap, sym, subst, refl, inl, length, List, Some, arith}
+use Rattle.std.proofs.Common.{◌≡◌, ◌∙◌, ℕ, ap, sym, subst, refl, length, List, Some, arith}
 use Rattle.std.proofs.lemmas.Bool.{false≢true}
 use Rattle.std.proofs.lemmas.Result.{err_from_is_err_and}
 use Rattle.base.specs.declared.names.Group.{Group}
@@ -15,70 +15,44 @@ use Rattle.pool_tables.specs.RunningUberblocks.{WritesUberblock, uberblock_with}
 use Rattle.pool_tables.specs.Unsynced.{KeepsUnsynced}
 use Rattle.pool_tables.proofs.Closes.{accounts_move_on}
 use Rattle.pool_tables.proofs.UnsyncedChanges.{moved_on}
-use Rattle.pool_tables.specs.Told.{pool_told}
 use Rattle.pool_tables.proofs.syncs.StartLeads.{none_counted, taken_anew}
-use Rattle.pool_tables.proofs.syncs.StartedSyncs.{may_still, plan_starts_sync, plan_wants, suspended_refuses_start, unready_refuses_start, want_refuses_start}
+use Rattle.pool_tables.proofs.syncs.StartedSyncs.{plan_refuses_start, plan_starts_sync, suspended_refuses_start, unready_refuses_start}
 use Rattle.pool_tables.proofs.HeldGroups.{counted_start, exact_moves, may_start, started}
 use Rattle.pool_tables.proofs.syncs.SameSyncs.{RunsIn, kept_sync}
 use Rattle.pool_tables.proofs.pool.PoolTables.start_sync.Goals as goal
 
 pub returns-in_err-check_running-clause-start : goal.returns-in_err-check_running-clause-start
-returns-in_err-check_running-clause-start c =
+returns-in_err-check_running-clause-start g c =
     let p = err_from_is_err_and c.from_residual.result c.from_residual.ensures.1 in
     let told = c.in_err-check_running.ensures in
-    rw (p.1, p.2, told.0) (suspended_refuses_start c.args.self.now c.args.moment told.1)
+    rw (p.1, p.2, told.0) (suspended_refuses_start _ _ c.args.moment c.args.self.now told.1)
 
 pub returns-in_err-group-clause-start : goal.returns-in_err-group-clause-start
-returns-in_err-group-clause-start c =
+returns-in_err-group-clause-start g c =
     let p = err_from_is_err_and c.from_residual-in_err-group.result c.from_residual-in_err-group.ensures.1 in
     let told = c.in_err-group.ensures.may in
-    rw (p.1, p.2, told.0) (unready_refuses_start c.args.self.now c.args.moment c.in_ok-check_running.ensures told.1)
-
-pub returns-in_err-reserve_synced-clause-start : goal.returns-in_err-reserve_synced-clause-start
-returns-in_err-reserve_synced-clause-start c =
-    let p = err_from_is_err_and c.from_residual-in_err-reserve_synced.result c.from_residual-in_err-reserve_synced.ensures.1 in
-    let want = c.in_err-reserve_synced.ensures.refused in
-    rw (p.1, p.2) (want_refuses_start c.args.self.now c.args.moment (pool_told c.reserve_synced.new.self) c.reserve_synced.ensures.unchanged c.in_ok-group.group.0 c.in_err-reserve_synced.field-0.0 c.in_ok-check_running.ensures c.in_ok-group.ensures.may
-    (inl want) (λ past x. want))
+    rw (p.1, p.2, told.0) (unready_refuses_start _ _ c.args.moment c.args.self.now c.in_ok-check_running.ensures told.1)
 
 pub returns-in_err-planned-clause-start : goal.returns-in_err-planned-clause-start
-returns-in_err-planned-clause-start c =
+returns-in_err-planned-clause-start g c =
     let p = err_from_is_err_and c.from_residual-in_err-planned.result c.from_residual-in_err-planned.ensures.1 in
     let told = c.in_err-planned.ensures in
-    rw (p.1, p.2) (want_refuses_start c.args.self.now c.args.moment (pool_told c.reserve_synced.new.self) c.reserve_synced.ensures.unchanged c.in_ok-group.group.0 c.in_err-planned.field-0.0 c.in_ok-check_running.ensures c.in_ok-group.ensures.may
-    told.refused (plan_wants c.reserve_synced.new.self (pool_told c.args.self.now) c.reserve_synced.ensures.unchanged c.in_ok-group.group.0 c.in_ok-group.ensures.may c.in_err-planned.field-0.0 told.refused told.no_space))
-
-pub returns-in_err-check_running-clause-unmoved : goal.returns-in_err-check_running-clause-unmoved
-returns-in_err-check_running-clause-unmoved c = let p = err_from_is_err_and c.from_residual.result c.from_residual.ensures.1 in rw (p.1) refl
-
-pub returns-in_err-group-clause-unmoved : goal.returns-in_err-group-clause-unmoved
-returns-in_err-group-clause-unmoved c = let p = err_from_is_err_and c.from_residual-in_err-group.result c.from_residual-in_err-group.ensures.1 in rw (p.1) refl
-
-pub returns-in_err-reserve_synced-clause-unmoved : goal.returns-in_err-reserve_synced-clause-unmoved
-returns-in_err-reserve_synced-clause-unmoved c =
-    let p = err_from_is_err_and c.from_residual-in_err-reserve_synced.result c.from_residual-in_err-reserve_synced.ensures.1 in rw (p.1) c.reserve_synced.ensures.unmoved
-
-pub returns-in_err-planned-clause-unmoved : goal.returns-in_err-planned-clause-unmoved
-returns-in_err-planned-clause-unmoved c =
-    let p = err_from_is_err_and c.from_residual-in_err-planned.result c.from_residual-in_err-planned.ensures.1 in rw (p.1) c.reserve_synced.ensures.unmoved
+    rw (p.1, p.2) (plan_refuses_start _ _ c.args.moment c.args.self.now c.in_ok-group.group.0 c.in_err-planned.field-0.0 c.in_ok-check_running.ensures c.in_ok-group.ensures.may told.no_space told.refused told.sound)
 
 pub take_all-requires : goal.take_all-requires
-take_all-requires c =
-    let may = may_still c.reserve_synced.new.self (pool_told c.args.self.now) c.reserve_synced.ensures.unchanged c.in_ok-group.group.0 c.in_ok-group.ensures.may in
-    none_counted c.reserve_synced.new.self may.1
+take_all-requires g c = none_counted c.args.self.now c.in_ok-group.ensures.may.1
 
 pub unreachable-requires : goal.unreachable-requires
-unreachable-requires c =
-    let pool = c.reserve_synced.new.self in
-    let may = may_still pool (pool_told c.args.self.now) c.reserve_synced.ensures.unchanged c.in_ok-group.group.0 c.in_ok-group.ensures.may in
-    false≢true (sym (may_start pool.groups.line c.in_ok-group.group.0 may) ∙ c.in_default.ensures.refused.0 refl)
+unreachable-requires g c =
+    let may = may_start c.args.self.now.groups.line c.in_ok-group.group.0 c.in_ok-group.ensures.may in
+    false≢true (sym may ∙ c.in_default.ensures.refused.0 refl)
 
 pub invariant_of-self : goal.invariant_of-self
-invariant_of-self c =
-    let pool = c.reserve_synced.new.self in
+invariant_of-self g c =
+    let pool = c.args.self.now in
     let ts = pool.transactions.transactions in
     let group = c.in_ok-group.group.0 in
-    let may = may_still pool (pool_told c.args.self.now) c.reserve_synced.ensures.unchanged group c.in_ok-group.ensures.may in
+    let may = c.in_ok-group.ensures.may in
     let told = c.start_sync.ensures in
     let now : c.start_sync.new.self ≡ after_start group pool.groups = started c.start_sync.result pool.groups c.start_sync.new.self group may told.refused told.started told.group in
     let rs = c.running_sync-running.result in
@@ -101,7 +75,6 @@ invariant_of-self c =
         uberblock = subst (λ (h : Header). WritesUberblock (uberblock_with pool.guid pool.import_number h rs.group.0 rs.moment rs.root) rs.run) (sym (ap (λ (p : SyncPlan). p.header) ens.plan))
             (rw (ens.group, ens.moment, ens.begins.root) ens.uberblock);
         placed = rw (ens.begins.root, ens.begins.directories, ens.begins.maps) c.in_ok-planned.ensures.tree.placed;
-        room = ∣ c.in_ok-reserve_synced.ensures.room ∣₁;
       });
       sync_line = ap (λ (g : _). Some g.0) ens.group ∙ sym (ap (λ (l : CountedLine). l.line.syncing) now);
       tree_placed = pool.tree_placed;
@@ -113,13 +86,13 @@ invariant_of-self c =
     }
 
 pub returns-clause-start : goal.returns-clause-start
-returns-clause-start c =
-    let old = pool_told c.args.self.now in
-    let pool = c.reserve_synced.new.self in
-    let g = c.in_ok-group.group in
+returns-clause-start g c =
+    let pool = c.args.self.now in
+    let group = c.in_ok-group.group in
+    let may = c.in_ok-group.ensures.may in
+    let planned = c.in_ok-planned.ensures in
     let ens = c.running_sync-running.ensures in
-    let may = may_still pool old c.reserve_synced.ensures.unchanged g.0 c.in_ok-group.ensures.may in
     let told = c.start_sync.ensures in
-    let line = started c.start_sync.result pool.groups c.start_sync.new.self g.0 may told.refused told.started told.group in
-    plan_starts_sync pool g c.args.moment c.in_ok-planned.planned old c.reserve_synced.ensures.unchanged c.in_ok-check_running.ensures may c.in_ok-planned.ensures.taken c.in_ok-planned.ensures.tree
+    let line = started c.start_sync.result pool.groups c.start_sync.new.self group.0 may told.refused told.started told.group in
+    plan_starts_sync _ _ c.args.moment pool group c.in_ok-planned.planned c.in_ok-check_running.ensures may planned.taken planned.tree planned.objects
     c.start_sync.new.self c.take_all.new.free c.running_sync-running.result c.deref.result.now line c.take_all.ensures c.deref.ensures.value ens.begins ens.plan ens.uberblock.bytes ens.named

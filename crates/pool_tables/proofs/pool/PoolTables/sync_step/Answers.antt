@@ -17,8 +17,7 @@ use Rattle.pool_tables.proofs.FreeBlocks.{union_both}
 use Rattle.pool_tables.proofs.Mapped.{filter-map}
 use Rattle.pool_tables.proofs.WholeBlocks.{whole-filter}
 use Rattle.pool_tables.proofs.WrittenRecords.{all_after, front_within, noted-synced, pending-synced}
-use Rattle.pool_tables.proofs.UnsyncedChanges.{has_room, open_three, same_contents, synced_changes, synced_names, synced_within, syncing_follows}
-use Rattle.extents.specs.Unsynced.{changes_at}
+use Rattle.pool_tables.proofs.UnsyncedChanges.{open_three, same_contents, synced_changes, synced_names, synced_within, syncing_follows}
 use Rattle.base.specs.formats.Records.{IsAllowed, Record}
 use Rattle.base.specs.steps.Logs.{AreWhole, KeptBlock, committed_above, committed_in}
 use Rattle.transactions.specs.declared.record.Record as code
@@ -89,11 +88,6 @@ invariant_of-self-in-Ok-Last-clause-accounted g c =
       plans_allowed = pool.accounted.plans_allowed;
       plans_small = pool.accounted.plans_small;
     }
-
-pub lay_oldest-requires : goal.lay_oldest-requires
-lay_oldest-requires g c =
-    let pool = c.args.self.now in
-    has_room (changes_at pool.changes 0) pool.synced.slots.items ((pool.running c.in-Some.running c.in-Some.is).room)
 
 pub invariant_of-self-in-Ok-Last-clause-unsynced_kept : goal.invariant_of-self-in-Ok-Last-clause-unsynced_kept
 invariant_of-self-in-Ok-Last-clause-unsynced_kept g c =
