@@ -11,3 +11,4 @@ pub mod NewStates
 pub mod Callers
 pub mod crash
 pub mod GroupSyncs
+pub mod SyncedGroups

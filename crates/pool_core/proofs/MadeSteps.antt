@@ -39,16 +39,16 @@ use Rattle.pool_tables.specs.KeptTrees.{KeepsTree}
 use Rattle.pool_tables.specs.Meets.{Meets}
 use Rattle.pool_tables.specs.Progresses.{plain_progress}
 use Rattle.pool_core.specs.Holds.{StepsOver}
-use Rattle.pool_core.specs.States.{CountsRefused, MakesNoCall, MovesNothing, OnlyReadsOf, device_of, refused_calls, shown, tables_of, told, told_over}
+use Rattle.pool_core.specs.States.{CountsRefused, MakesNoCall, MovesNothing, OnlyReadsOf, device_of, refused_calls, shown, tables_of, told}
 use Rattle.pool_tables.specs.StepAnswers.{Commits, StartsSync, StepsSync, group_number, receipt_numbers}
 use Rattle.pool_core.specs.StepReplies.{IsStep, StepReplies, is_on_tables, rests_on_past}
-use Rattle.pool_tables.specs.SyncStarts.{StartLeads, StartsHeldOver}
+use Rattle.pool_tables.specs.SyncStarts.{StartsHeldOver}
 use Rattle.pool_tables.specs.Tables.{result_map}
 use Rattle.pool_core.specs.Turns.{MakesStep, Turns}
 use Rattle.pool_core.proofs.RepliedSteps.{result_map-same, reply_in-made, replied_with}
 use Rattle.pool_core.proofs.crash.SafeStates.{start_keeps, still_keeps, sync_keeps}
 use Rattle.pool_core.proofs.StepsOver.{start_over}
-use Rattle.pool_core.proofs.StillSteps.{is_still, answer_in-still, no_call_counts, read_counts, read_replied, start_told, still_replied, still_turn}
+use Rattle.pool_core.proofs.StillSteps.{is_still, answer_in-still, no_call_counts, read_counts, read_replied, still_replied, still_turn}
 use Rattle.pool_core.proofs.Turns.{any_turns, turns}
 
 answer_in-sync_step : (answer : Result Progress PoolError) → answer_in (sync_step_reply answer) ≡ plain_answer answer
@@ -145,7 +145,7 @@ module _ {Dev : Type 0} {G : Ghosts Dev} {old new : PoolState Dev G} where
     leads = leads;
     safe = λ keeps. still_keeps keeps old new s (reply_of make answer) (still_turn make answer (reply_of make answer) quiet refl) no_log (reads.disk keeps) (ap (λ (p : PoolTables). run_in p) tables) turned;
     calls = calls (reply_of make answer) reads.disk;
-    count = read_counts old new make answer quiet reads;
+    count = read_counts old new make answer (λ a. answer_in-still (make a) (quiet a)) reads;
   }
     where
       same_shown : shown new ≡ shown old
@@ -171,24 +171,25 @@ module _ {Dev : Type 0} {G : Ghosts Dev} {old new : PoolState Dev G} where
 
   -- the start of a sync
   pub start_step : {moment : ℕ} {answer : Result Group PoolError} → (IsTrue G.keeps_model → (d : Dev) → length (bytes_of (G.disk d).now) ≡ G.size d)
-      → StartsSync moment answer (shown old) (shown new) → (IsTrue G.keeps_model → StartsHeldOver moment answer (told old) (told new)) → StartLeads answer (told_over old) (told_over new)
-      → OnErr answer (run_of new ≡ run_of old) → MakesNoCall answer old new → MakesStep (step.StartSync moment) (start_reply answer) old new
-  start_step {moment} {answer} sized starts held leads_on unmoved no_call = record {
+      → StartsSync moment answer (shown old) (shown new) → (IsTrue G.keeps_model → StartsHeldOver moment answer (told old) (told new)) → (IsTrue G.keeps_model → Leads (start_reply answer) (told old) (told new))
+      → OnErr answer (tables_of new ≡ tables_of old) → OnlyReadsOf answer old new → MakesStep (step.StartSync moment) (start_reply answer) old new
+  start_step {moment} {answer} sized starts held leads unchanged reads = record {
     replied = replies;
     turns = turned;
     leads = leads;
-    safe = λ keeps. start_keeps keeps old new moment answer (start_reply answer) refl (sized keeps) no_call.device unmoved (leads keeps) turned;
-    calls = no_call.device;
-    count = no_call_counts old new (λ (g : Group). reply.Syncing g) answer (start_reply answer) (λ g. refl) refl no_call;
+    safe = λ keeps. start_keeps keeps old new moment answer (start_reply answer) refl (sized keeps) reads.size (reads.disk keeps) (same_run answer unchanged) (leads keeps) turned;
+    calls = reads.disk;
+    count = read_counts old new (λ (g : Group). reply.Syncing g) answer (λ g. refl) reads;
   }
     where
+      same_run : (a : Result Group PoolError) → OnErr a (tables_of new ≡ tables_of old) → OnErr a (run_of new ≡ run_of old)
+      same_run (Ok g) same = tt
+      same_run (Err e) same = ap (λ (p : PoolTables). run_in p) same
+
       replies : StepReplies (step.StartSync moment) (start_reply answer) (shown old) (shown new)
       replies past explained =
           replied_with (λ answer later. steps.StartSync ⊥ [] moment answer (record { shown = shown old; past = past }) (record { shown = shown new; past = later }))
           group_number (λ (g : ℕ). reply.Syncing (record { 0 = g })) answer (start_reply answer) refl (starts past (explained refl))
-
-      leads : IsTrue G.keeps_model → Leads (start_reply answer) (told old) (told new)
-      leads keeps = start_told old new answer (start_reply answer) refl no_call leads_on
 
       turned : Turns (step.StartSync moment) (start_reply answer) old new
       turned = turns (IsTrue G.keeps_model) (step.StartSync moment) (start_reply answer) (told old) (told new) replies (λ keeps. start_over old new (start_reply answer) moment answer (held keeps) refl) leads

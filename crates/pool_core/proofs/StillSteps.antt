@@ -1,9 +1,8 @@
 -- Steps that leave the bytes of the device, the tree and the running sync as they were.
-use Rattle.std.proofs.Common.{◌≡◌, ◌∙◌, ℕ, Bool, true, false, List, refl, ap, sym, subst}
+use Rattle.std.proofs.Common.{◌≡◌, ◌∙◌, Bool, true, false, refl, ap, sym}
 use Rattle.std.specs.Prelude.{Result, Ok, Err, option_map}
 use Rattle.std.proofs.lemmas.Bool.{false≢true}
 use Rattle.base.specs.declared.error.PoolError.{PoolError}
-use Rattle.base.specs.declared.names.Group.{Group}
 use Rattle.base.specs.declared.step.Reply as declared_reply
 use Rattle.base.specs.declared.step.Reply.TheVariants as reply
 use Rattle.base.specs.disk.Calls.{counted}
@@ -15,11 +14,10 @@ use Rattle.object_maps.specs.declared.tree.Tree.{Tree}
 use Rattle.object_maps.specs.Pointers.{pointers_of}
 use Rattle.pool_core.specs.declared.state.PoolState.{PoolState}
 use Rattle.pool_core.specs.Calls.{answer_in}
-use Rattle.pool_tables.specs.Told.{Leads, ShownPool, new_tree_of, start_reply}
+use Rattle.pool_tables.specs.Told.{Leads, ShownPool, new_tree_of}
 use Rattle.pool_tables.specs.KeptTrees.{IsOfNoDevice}
 use Rattle.pool_tables.specs.declared.pool.PoolTables.{PoolTables}
-use Rattle.pool_core.specs.States.{CountsRefused, MakesNoCall, MovesNothing, OnlyReadsOf, device_of, refused_calls, tables_of, told, told_over}
-use Rattle.pool_tables.specs.SyncStarts.{StartLeads}
+use Rattle.pool_core.specs.States.{CountsRefused, MakesNoCall, MovesNothing, OnlyReadsOf, device_of, refused_calls, tables_of, told}
 use Rattle.pool_tables.proofs.StillSteps.{leads_as}
 
 -- whether a reply is neither a refusal, nor says of a sync that it was started, goes on or is done, nor of a log block
@@ -88,20 +86,12 @@ module _ {Dev : Type 0} {G : Ghosts Dev} (old new : PoolState Dev G) where
         ap (λ (p : PoolTables). option_map (new_tree_of p.tree) p.sync) tables,
       )
 
-  -- so does the start of a sync
-  pub start_told : (answer : Result Group PoolError) (given : declared_reply.Reply) → given ≡ start_reply answer
-      → MakesNoCall answer old new → StartLeads answer (told_over old) (told_over new) → Leads given (told old) (told new)
-  start_told answer given is no_call leads =
-      let now : List ℕ = bytes_of (G.disk (device_of old)).now in
-      let here : Leads given (told_over old now) (told_over new now) = leads_as (start_reply answer) given (told_over old now) (told_over new now) (sym is) (leads now) in
-      subst (λ (d : Dev). Leads given (told old) (told_over new (bytes_of (G.disk d).now))) (sym no_call.device) here
-
   -- a step that only reads counts the call that was refused
-  pub read_counts : {A : Type 0} (make : A → declared_reply.Reply) (answer : Result A PoolError) → ((x : A) → is_still (make x) ≡ true) → OnlyReadsOf answer old new → CountsRefused (answer_in (reply_of make answer)) old new
-  read_counts {A} make answer quiet reads = reads.count ∙ sym (of_answer answer)
+  pub read_counts : {A : Type 0} (make : A → declared_reply.Reply) (answer : Result A PoolError) → ((x : A) → answer_in (make x) ≡ Ok tt) → OnlyReadsOf answer old new → CountsRefused (answer_in (reply_of make answer)) old new
+  read_counts {A} make answer plain reads = reads.count ∙ sym (of_answer answer)
     where
       of_answer : (r : Result A PoolError) → counted (answer_in (reply_of make r)) (refused_calls old) ≡ counted r (refused_calls old)
-      of_answer (Ok x) = ap (λ (a : Result (Unit {0}) PoolError). counted a (refused_calls old)) (answer_in-still (make x) (quiet x))
+      of_answer (Ok x) = ap (λ (a : Result (Unit {0}) PoolError). counted a (refused_calls old)) (plain x)
       of_answer (Err e) = refl
 
   -- a step without a call counts nothing

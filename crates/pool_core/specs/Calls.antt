@@ -40,11 +40,12 @@ module _ {Dev : Type 0} {G : Ghosts Dev} where
   WritesBlock (reply.Refused e) old new = WritesLogBlock (Err e) (shown old) (shown new) (disk_of old) (disk_of new)
   WritesBlock _ old new = disk_of new ≡ disk_of old
 
-  -- a log flush flushes it, a read and a digest keep its disk, and each other step makes no call
+  -- a log flush flushes it, a read, a digest and the start of a sync keep its disk, and each other step makes no call
   abbrev pub CallsDevice : declared_step.Step → declared_reply.Reply → PoolState Dev G → PoolState Dev G → Type 0
   CallsDevice step.SyncStep r old new = CallsNext (answer_in r) old new
   CallsDevice step.LogWrite r old new = IsTrue G.keeps_model → WritesBlock r old new
   CallsDevice step.LogFlush r old new = IsTrue G.keeps_model → Flushes (disk_of old) (answer_in r) (disk_of new)
   CallsDevice (step.Read owner object range) r old new = IsTrue G.keeps_model → disk_of new ≡ disk_of old
   CallsDevice step.Digest r old new = IsTrue G.keeps_model → disk_of new ≡ disk_of old
+  CallsDevice (step.StartSync moment) r old new = IsTrue G.keeps_model → disk_of new ≡ disk_of old
   CallsDevice _ r old new = device_of new ≡ device_of old

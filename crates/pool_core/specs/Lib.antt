@@ -8,3 +8,4 @@ pub mod States
 pub mod KeptSafe
 pub mod LogSafe
 pub mod GroupSyncs
+pub mod Starts

@@ -1,7 +1,7 @@
 //! What callers rest on: one function for each promise of this crate's calls, proved from the contract of the call
 //! alone. So it is refused as soon as that contract says less.
 
-ghost use Rattle.std.specs.Prelude.{◌≡◌, ◌∷◌, [], Err, IfErr, IfOk, IsTrue, None, Ok, Some, false, is_some, length, true};
+ghost use Rattle.std.specs.Prelude.{◌≡◌, ◌∷◌, [], Err, IfErr, IfOk, IfSome, IsTrue, None, Ok, Some, false, is_some, length, true};
 ghost use Rattle.base.specs.declared.step.Reply.TheVariants as reply;
 ghost use Rattle.base.specs.declared.step.Step.TheVariants as step;
 ghost use Rattle.base.specs.steps.Shown.{dirty_of};
@@ -112,6 +112,19 @@ fn an_open_group_is_closed_and_then_synced<D: SectorDevice>(
         result pool.old pool.new }
 {
     pool.sync_open_group(7)
+}
+
+// Whichever of its transactions it is, also if no log block has its record.
+fn a_commit_to_a_group_that_was_synced_is_durable<D: SectorDevice>(
+    pool: &mut PoolState<D>,
+    ordinal: Ordinal,
+) -> Option<bool>
+    ensures { IfSome result (λ is_durable. is_durable ≡ true) }
+{
+    match pool.sync_open_group(7) {
+        Ok(group) => Some(pool.durable(Receipt { ordinal, group })),
+        Err(_) => None,
+    }
 }
 
 // In a pool without a closed group, the open one is closed first. Its charges don't matter.

@@ -42,16 +42,17 @@ impl<D: SectorDevice> PoolState<D> {
     ghost use Rattle.pool_tables.specs.Duties.{due_step};
     ghost use Rattle.pool_tables.specs.Receipts.{ChecksReceipt};
     ghost use Rattle.pool_core.specs.Calls.{CallsNext};
-    ghost use Rattle.pool_tables.specs.Told.{Leads, sync_step_reply};
+    ghost use Rattle.pool_tables.specs.Told.{Leads, start_reply, sync_step_reply};
     ghost use Rattle.pool_tables.specs.SyncPhases.{StepsPhases};
     ghost use Rattle.pool_core.specs.KeptSafe.{BeginsSafe, disk_of, run_of};
     ghost use Rattle.pool_core.specs.NewStates.{IsExplainedAtFirst, IsHeldAtFirst};
-    ghost use Rattle.pool_core.specs.States.{CountsRefused, KeepsTreeOf, MakesNoCall, MovesNothing, OnlyReadsOf, device_of, shown, tables_of, told, told_over};
+    ghost use Rattle.pool_core.specs.States.{CountsRefused, KeepsTreeOf, MakesNoCall, MovesNothing, OnlyReadsOf, device_of, shown, tables_of, told};
     ghost use Rattle.pool_tables.specs.HeldReads.{DigestHeld, ReadsHeld};
     ghost use Rattle.pool_tables.specs.StepAnswers.{Aborts, Begins, ClosesGroup, Commits, FlushesLog, Locks, LocksAppend, MarksQuiesced, Reads, StartsSync, StepsSync, TellsDigest, TellsLength, Unlocks, WritesLog};
     ghost use Rattle.base.specs.disk.Calls.{Flushes};
     ghost use Rattle.pool_tables.specs.LogBlocks.{WritesLogBlock};
-    ghost use Rattle.pool_tables.specs.SyncStarts.{StartLeads, StartsHeldOver, StartsInOrder};
+    ghost use Rattle.pool_core.specs.Starts.{StartsInOrder};
+    ghost use Rattle.pool_tables.specs.SyncStarts.{StartsHeldOver};
 
     /// The pool that an import gave. It takes no memory.
     pub fn new(imported: Imported<D>) -> Self
@@ -375,23 +376,31 @@ impl<D: SectorDevice> PoolState<D> {
     /// takes the memory for all its steps. The moment, in seconds, is stored in its uberblocks. If the group gives a
     /// name, six more steps write it into the configs of the labels.
     ///
+    /// Of the synced tree it reads each record that the group changes in part, for rising objects and in each for
+    /// rising records. A block that the cache has is not read. If the start is refused, the group is still quiesced, and
+    /// the same call goes on with what the cache has.
+    ///
     /// # Errors
     /// In this order:
     /// - `Suspended`.
     /// - `NotReady` if no group is quiesced, or one is syncing.
-    /// - `NoMemory`.
+    /// - `NoMemory`, `Read` if the device refused a read, or `Damaged` if what it gave is not the block of the tree, as
+    ///   they come.
     ///
-    /// It is never refused `NoSpace`: what its transactions reserved suffices.
+    /// It is never refused `NoSpace`: what its transactions reserved suffices. Over a device that this pool alone writes
+    /// it is never refused `Damaged` (`held`).
     pub fn start_sync(&mut self, moment: u64) -> Result<Group, PoolError>
         ensures step { StartsSync moment result (shown self.old) (shown self.new) }
         ensures held { IsTrue D.keeps_model
             → StartsHeldOver moment result (told self.old) (told self.new) }
-        ensures order { StartsInOrder result (told_over self.old) (told_over self.new) }
-        ensures leads { StartLeads result (told_over self.old) (told_over self.new) }
-        ensures unmoved { OnErr result (run_of self.new ≡ run_of self.old) }
-        ensures no_call { MakesNoCall result self.old self.new }
+        ensures order { IsTrue D.keeps_model
+            → StartsInOrder result (told self.old) (told self.new) }
+        ensures leads { IsTrue D.keeps_model
+            → Leads (start_reply result) (told self.old) (told self.new) }
+        ensures unchanged { OnErr result (tables_of self.new ≡ tables_of self.old) }
+        ensures reads { OnlyReadsOf result self.old self.new }
     {
-        self.pool.start_sync(moment)
+        self.pool.start_sync(&mut self.device, moment)
     }
 
     /// Makes the next device call of the running sync. It takes no memory of its own. With the last call its group is

@@ -69,6 +69,7 @@ moved_by {G} step.LogWrite r old new calls keeps = written_adds r old new (calls
 moved_by {G} step.LogFlush r old new calls keeps = only_adds (disk_of old) (disk_of new) (leaves_flush Any (disk_of old) (disk_of old) (disk_of new) (answer_in r) (none_yet (disk_of old)) (calls keeps))
 moved_by {G} (step.Read owner object range) r old new reads keeps = reads keeps
 moved_by {G} step.Digest r old new reads keeps = reads keeps
+moved_by {G} (step.StartSync moment) r old new reads keeps = reads keeps
 moved_by {G} _ r old new same keeps = ap G.disk same
 
 -- so the disk goes on by a step

@@ -45,8 +45,9 @@ impl<'p, D: SectorDevice> Handle<'p, D> {
     /// A flush is made under the pool's lock: other threads wait for it.
     ///
     /// # Errors
-    /// `NoMemory`, and then it may be called again; `Write` or `Flush` if the device refused, and `Suspended` if it did
-    /// so before. Then the pool has to be opened again.
+    /// - `NoMemory`; `Read` or `Damaged` if a block that the sync needs can't be read. Then it may be called again.
+    /// - `Write` or `Flush` if the device refused, and `Suspended` if it did so before. Then the pool has to be opened
+    ///   again.
     pub fn syncer<'a, 'b, W: Wait>(&'a mut self, rt: &'b W) -> Result<(), PoolError>
         ensures worked { MatchResult result
             (λ _. Works (duty.Sync (moment_of self.old)) self.old self.new)

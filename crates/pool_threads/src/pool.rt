@@ -5,9 +5,9 @@ use crate::first::{first_view, state_behind, view_behind};
 use crate::handle::{Handle, LastSeen};
 use crate::rule::{PoolRule, PoolView};
 use crate::shared::{Shared, boxed};
-use base::{PoolError, Told};
+use base::{DEFAULT_CACHE_BLOCKS, PoolError, Told};
 use device_model::SectorDevice;
-use import_replay::{Imported, import};
+use import_replay::{Imported, import_with};
 use pool_core::PoolState;
 use std::alloc::Global;
 use std::snapshot::Snapshot;
@@ -24,8 +24,8 @@ pub struct Pool<D: SectorDevice> {
 }
 
 impl<D: SectorDevice> Pool<D> {
-    ghost use Rattle.std.specs.Prelude.{◌≡◌, ◌⊎◌, IfErr, IfOk, IfSome, IsSome, IsTrue};
-    ghost use Rattle.base.specs.crash.Imports.{is_dirty_max_allowed};
+    ghost use Rattle.std.specs.Prelude.{◌≡◌, ◌⊎◌, IfErr, IfOk, IfSome, IsSome, IsTrue, true};
+    ghost use Rattle.base.specs.crash.Imports.{are_limits_allowed, is_cache_allowed, is_dirty_max_allowed};
     ghost use Rattle.base.specs.disk.Calls.{with_refusal};
     ghost use Rattle.import_replay.specs.ImportRefusals.{IsImportRefusal};
     ghost use Rattle.import_replay.specs.Mounts.{shown_of_import};
@@ -33,19 +33,8 @@ impl<D: SectorDevice> Pool<D> {
     ghost use Rattle.pool_threads.specs.Handles.{IsLastState, IsLaterState, IsLeftByOpen, IsNewHandle, IsReadyBehind, LeavesSame, OpensBehind, ShowsImport, ShowsMounted, StartsBehind, WasOf, kin_left, moment_in, opening_view, shared_of};
     ghost use Rattle.pool_threads.specs.Views.{Explains, SeenPool};
 
-    /// Opens the pool on a device, as often as one likes: this is the way in for a program. The pool takes the device.
-    ///
-    /// The dirty limit is the most bytes that unsynced transactions may be charged, as `DEFAULT_DIRTY_MAX` of `base`;
-    /// `PoolState::begin` says what is charged. The moment is a time in seconds, or 0 if no clock is read. It is stored
-    /// in the uberblocks of this import, and in those of the syncs that handles start.
-    ///
-    /// For proofs: if the device keeps the model, the contents are what the run left that its disk holds, whichever
-    /// that was, and the crash rule is followed from there on.
-    ///
-    /// # Errors
-    /// Those of `import`, and `NoMemory` if there is none for the lock. The device comes back, as the import left it.
-    /// In a function that returns a `PoolError`, `?` drops the device. With `anyhow`, write
-    /// `.map_err(PoolError::from)?`.
+    /// Opens the pool on a device, as often as one likes: this is the way in for a program. It keeps 256 tree blocks in
+    /// memory at most, that is 1.1 MB. See `open_with`.
     pub fn open(
         alloc: Global,
         device: D,
@@ -68,8 +57,50 @@ impl<D: SectorDevice> Pool<D> {
         ensures still_left { IsTrue D.keeps_model
             → IfErr result (λ e. LeavesSame (D.disk device) (D.disk e.1)) }
     {
+        Pool::open_with(alloc, device, dirty_max, DEFAULT_CACHE_BLOCKS, moment)
+    }
+
+    /// Opens the pool on a device, with a limit of the tree blocks that stay in memory once they were read. The pool
+    /// takes the device.
+    ///
+    /// The dirty limit is the most bytes that unsynced transactions may be charged, as `DEFAULT_DIRTY_MAX` of `base`;
+    /// `PoolState::begin` says what is charged. At most `cache_blocks` blocks of 4,096 bytes stay in memory, 1 to 4,096.
+    /// The moment is a time in seconds, or 0 if no clock is read. It is stored in the uberblocks of this import, and in
+    /// those of the syncs that handles start.
+    ///
+    /// For proofs: if the device keeps the model, the contents are what the run left that its disk holds, whichever
+    /// that was, and the crash rule is followed from there on.
+    ///
+    /// # Errors
+    /// Those of `import_with`, and `NoMemory` if there is none for the lock. The device comes back, as the import left
+    /// it. In a function that returns a `PoolError`, `?` drops the device. With `anyhow`, write
+    /// `.map_err(PoolError::from)?`.
+    pub fn open_with(
+        alloc: Global,
+        device: D,
+        dirty_max: u64,
+        cache_blocks: u64,
+        moment: u64,
+    ) -> Result<Pool<D>, (PoolError, D)>
+        ensures opened { IfOk result (λ p. OpensBehind (IsTrue D.keeps_model) (D.disk device)
+            dirty_max (opening_view (shared_of p))) }
+        ensures imported { IsTrue D.keeps_model → IfOk result
+            (λ p. ShowsImport moment (D.disk device) (opening_view (shared_of p))) }
+        ensures moment { IfOk result (λ p. moment_in (shared_of p) ≡ moment) }
+        ensures cache { IfOk result (λ _. is_cache_allowed cache_blocks ≡ true) }
+        ensures refused { IfErr result (λ e. IsImportRefusal (D.size device)
+            (are_limits_allowed dirty_max cache_blocks) e.0) }
+        ensures counted { IfErr result
+            (λ e. D.refused e.1 ≡ with_refusal e.0 (D.refused device)) }
+        ensures untouched { IfErr result
+            (λ e. (e.0 ≡ PoolError.BadGeometry) ⊎ (e.0 ≡ PoolError.BadRange) → e.1 ≡ device) }
+        ensures given_back { IsTrue D.keeps_model
+            → IfErr result (λ e. IsLeftByOpen moment (D.disk device) e.0 (D.disk e.1)) }
+        ensures still_left { IsTrue D.keeps_model
+            → IfErr result (λ e. LeavesSame (D.disk device) (D.disk e.1)) }
+    {
         let before = Snapshot::of(&device);
-        let imported = match import(alloc, device, dirty_max, moment) {
+        let imported = match import_with(alloc, device, dirty_max, cache_blocks, moment) {
             Ok(imported) => imported,
             Err(refused) => return Err(refused),
         };

@@ -77,9 +77,9 @@ module _ {Dev : Type 0} {G : Ghosts Dev} where
         (still_safe (on_disk old past) x s r h (ap (λ (d : Disk). bytes_of d.now) disk) (turn.over keeps x.held) off no_log (turn.held keeps x.held))
 
     -- the start of a sync
-    started_keeps : (moment : ℕ) (group : Group) → ((d : Dev) → length (bytes_of (G.disk d).now) ≡ G.size d) → device_of new ≡ device_of old → Leads (reply.Syncing group) (told old) (told new)
+    started_keeps : (moment : ℕ) (group : Group) → ((d : Dev) → length (bytes_of (G.disk d).now) ≡ G.size d) → G.size (device_of new) ≡ G.size (device_of old) → disk_of new ≡ disk_of old → Leads (reply.Syncing group) (told old) (told new)
         → Turns (step.StartSync moment) (reply.Syncing group) old new → KeepsSafe (step.StartSync moment) (reply.Syncing group) old new
-    started_keeps moment group sized device leads turns past x =
+    started_keeps moment group sized size disk leads turns past x =
         let turn = turns past in
         let h : Held = held_after (step.StartSync moment) (reply.Syncing group) (told old) (told new) past in
         let starts = leads past past in
@@ -87,21 +87,21 @@ module _ {Dev : Type 0} {G : Ghosts Dev} where
         let r = made_of (new_tree_of pool.tree) pool.sync _ starts.running in
         let was = pool.running r.0 r.1 in
         subst (λ (y : OnDisk). IsSafeStep (step.StartSync moment) (reply.Syncing group) (on_disk old past) y)
-        (λ k. record { held = h; disk = G.disk (sym device k); run = option_map (λ (q : RunningSync). q.run) (sym r.1 k) })
+        (λ k. record { held = h; disk = sym disk k; run = option_map (λ (q : RunningSync). q.run) (sym r.1 k) })
         (start_safe (on_disk old past) x moment group h (r.0).run (tree_after r.0 pool.tree) (turn.over keeps x.held) (turn.held keeps x.held)
-        (ap (λ (d : Dev). bytes_of (G.disk d).now) device) (ap (λ (o : Option RunningSync). option_map (new_tree_of pool.tree) o) r.1)
-        (was.geometry ∙ sym new.sized ∙ ap (λ (d : Dev). G.size d) device ∙ sym (sized (device_of old)))
+        (ap (λ (d : Disk). bytes_of d.now) disk) (ap (λ (o : Option RunningSync). option_map (new_tree_of pool.tree) o) r.1)
+        (was.geometry ∙ sym new.sized ∙ size ∙ sym (sized (device_of old)))
         (λ g plan syncing is. staged_plan pool r.0 r.1 g plan was.geometry was.stages syncing is) (λ plan is. counted_plan pool r.0 r.1 plan (ap (λ (t : NewTree). t.done) r.2) is)
         (λ g syncing. was.uberblock.slot ∙ ap (λ (n : ℕ). slot_of n) (Some-injective (sym (was_syncing pool r.0 r.1) ∙ syncing))) (ap (λ (t : NewTree). t.done) r.2) was.left)
 
     -- started or refused
     pub start_keeps : (moment : ℕ) (answer : Result Group PoolError) (r : declared_reply.Reply) → r ≡ start_reply answer → ((d : Dev) → length (bytes_of (G.disk d).now) ≡ G.size d)
-        → device_of new ≡ device_of old → OnErr answer (run_of new ≡ run_of old) → Leads r (told old) (told new) → Turns (step.StartSync moment) r old new → KeepsSafe (step.StartSync moment) r old new
-    start_keeps moment (Ok group) r is sized device unmoved leads turns =
+        → G.size (device_of new) ≡ G.size (device_of old) → disk_of new ≡ disk_of old → OnErr answer (run_of new ≡ run_of old) → Leads r (told old) (told new) → Turns (step.StartSync moment) r old new → KeepsSafe (step.StartSync moment) r old new
+    start_keeps moment (Ok group) r is sized size disk unmoved leads turns =
         subst (λ (q : declared_reply.Reply). KeepsSafe (step.StartSync moment) q old new) (sym is)
-        (started_keeps moment group sized device (subst (λ (q : declared_reply.Reply). Leads q (told old) (told new)) is leads)
+        (started_keeps moment group sized size disk (subst (λ (q : declared_reply.Reply). Leads q (told old) (told new)) is leads)
         (subst (λ (q : declared_reply.Reply). Turns (step.StartSync moment) q old new) is turns))
-    start_keeps moment (Err e) r is sized device unmoved leads turns = still_keeps (step.StartSync moment) r (ap is_turn is) refl (ap (λ (d : Dev). G.disk d) device) unmoved turns
+    start_keeps moment (Err e) r is sized size disk unmoved leads turns = still_keeps (step.StartSync moment) r (ap is_turn is) refl disk unmoved turns
 
     -- a step of one, by what its call answered
     stepped_keeps : (answer : Result Progress PoolError) → StepsPhases answer (shown old).suspended (run_of old) (run_of new) (disk_of old) (disk_of new) → Turns step.SyncStep (sync_step_reply answer) old new

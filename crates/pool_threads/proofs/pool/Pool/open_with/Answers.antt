@@ -5,7 +5,7 @@ use Rattle.import_replay.specs.RunStarts.{StartsRun}
 use Rattle.std.specs.Prelude.{IsTrue}
 use Rattle.pool_threads.specs.Handles.{LeavesSame, OpensBehind, StartsBehind, opening_view, shared_of}
 use Rattle.base.proofs.crash.LeftDisks.{import_left}
-use Rattle.pool_threads.proofs.pool.Pool.open.Goals as goal
+use Rattle.pool_threads.proofs.pool.Pool.open_with.Goals as goal
 
 pub share_after-requires : goal.share_after-requires
 share_after-requires g c =
