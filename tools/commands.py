@@ -221,6 +221,7 @@ def faults():
         [*load, "--workers", "1", "--ops", "0", "--seed", past],
         [*load, "--workers", "1", "--ops", "0"],
         [*load, *LOAD, "--dirty", past],
+        [*load, *LOAD, "--cache", past],
         ["show", b"\xff"],
     ]:
         status, out, errors = run(words)
@@ -232,6 +233,12 @@ def faults():
             differ("a limit of", dirty, "ends with", (status, out, errors))
         if dirty != "4096" and pathlib.Path("fault.pool").read_bytes() != before:
             differ("a refused limit changes the file")
+    for cache in ["0", "4097"]:
+        status, out, errors = run([*load, *LOAD, "--cache", cache])
+        if (status, out, errors) != (1, "", "ztxg: refused 11 BadRange\n"):
+            differ("a cache of", cache, "ends with", (status, out, errors))
+        if pathlib.Path("fault.pool").read_bytes() != before:
+            differ("a refused cache changes the file")
 
 
 def commands(file):

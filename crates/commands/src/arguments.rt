@@ -63,6 +63,8 @@ pub struct LoadArguments<'a> {
     pub order: Order,
     /// The most bytes that unsynced transactions may be charged.
     pub dirty_max: u64,
+    /// The most tree blocks that stay in memory once they were read.
+    pub cache_blocks: u64,
     /// The moment, in seconds, of each uberblock that the run writes.
     pub moment: u64,
 }

@@ -148,6 +148,7 @@ fn tank_by(workers: u32) -> LoadArguments<'static>
             seed: 5,
         },
         dirty_max: 1_048_576,
+        cache_blocks: 256,
         moment: 0,
     }
 }

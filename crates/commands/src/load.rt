@@ -74,7 +74,8 @@ fn load_pool<
         return Err(Failure::Refused(PoolError::BadRange));
     }
     let alloc = rt.alloc();
-    let pool = Pool::open(alloc, device, arguments.dirty_max, arguments.moment).map_err(
+    let (dirty_max, cache_blocks) = (arguments.dirty_max, arguments.cache_blocks);
+    let pool = Pool::open_with(alloc, device, dirty_max, cache_blocks, arguments.moment).map_err(
         PoolError::from,
     )?;
     let progress = Progress::new(rt, arguments.order, shows_progress);

@@ -1,7 +1,8 @@
 //! The two loops of the pool beside the workers of a load.
 //!
-//! A loop that ends early would leave a write that waits at the dirty limit waiting for ever, with two exceptions: if
-//! the pool is suspended, each call is refused; and a syncer that lacks memory is called again until the work is done.
+//! A loop that ends early would leave a write that waits at the dirty limit waiting for ever, with two exceptions. If
+//! the pool is suspended, each call is refused. A syncer that lacks memory, or a block that it needs, is called again
+//! until the work is done.
 
 use crate::halt::Halt;
 use base::PoolError;
@@ -20,6 +21,8 @@ pub(crate) fn quiesce<D: SectorDevice, W: Wait>(
 }
 
 /// Syncs groups until the pool is stopped or suspended. It returns the first refusal.
+///
+/// A group whose start is refused memory or a read is still quiesced, so the same call may go on.
 pub(crate) fn sync<D: SectorDevice, W: Wait>(
     rt: &W,
     pool: &Pool<D>,
@@ -30,8 +33,9 @@ pub(crate) fn sync<D: SectorDevice, W: Wait>(
     let first = halt.note(handle.syncer(rt));
     let mut last = first;
     for _ in rt.forever() {
-        if last != Err(PoolError::NoMemory) {
-            break;
+        match last {
+            Err(PoolError::NoMemory | PoolError::Read | PoolError::Damaged { .. }) => {}
+            _ => break,
         }
         halt.rest(rt);
         last = handle.syncer(rt);

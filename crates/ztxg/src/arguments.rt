@@ -106,6 +106,10 @@ fn load_command<'a>(alloc: Global) -> Result<Command<'a>, AllocError> {
         .help("The most bytes that unsynced transactions may be charged: 4096 to 2^40")
         .value_parser(value_parser!(u64))
         .default_value("1048576");
+    let cache = option(alloc, "cache", "C")
+        .help("The most tree blocks of 4096 bytes that stay in memory: 1 to 4096")
+        .value_parser(value_parser!(u64))
+        .default_value("256");
     Command::new(alloc, "load")
         .about("Makes many small writes on the pool in a file, syncs it, and prints its digest")
         .after_help(help::LOAD)
@@ -118,6 +122,7 @@ fn load_command<'a>(alloc: Global) -> Result<Command<'a>, AllocError> {
         .arg(ops)?
         .arg(seed)?
         .arg(dirty)?
+        .arg(cache)?
         .arg(moment(alloc))
 }
 
@@ -221,6 +226,7 @@ fn read_load<'a>(given: &ArgMatches<'a>) -> Option<LoadArguments<'a>> {
             seed: given.get_one::<u64>("seed")?,
         },
         dirty_max: given.get_one::<u64>("dirty")?,
+        cache_blocks: given.get_one::<u64>("cache")?,
         moment: given.get_one::<u64>("moment")?,
     })
 }

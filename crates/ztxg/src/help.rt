@@ -66,7 +66,7 @@ Refusals, with status 1, and then nothing is printed on standard output:
    6 NoPool                no label has a valid uberblock with a config
    7 Damaged KIND ADDRESS  a block is not what the pool's tree or log says
    8 BadGeometry           FILE's size is none that a pool may have
-  11 BadRange              D is outside its limits
+  11 BadRange              D or C is outside its limits
   16 NoSpace               a write finds no blocks, also after 8 syncs
   17 Throttled             D is below the charge of one transaction
   22 TooMany               a group or an import is at its last number, 2^60";
