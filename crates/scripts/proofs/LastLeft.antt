@@ -34,7 +34,7 @@ use Rattle.scripts.specs.declared.place.Place.{Place}
 use Rattle.scripts.specs.SharedPools.{AsksOwned, AsksShared, HasNoRoom, IsDeviceIn, view_in}
 use Rattle.scripts.specs.declared.shared_pool.SharedPool.{SharedPool}
 
-disk_left : (shared : SharedPool) (device : MemState) → IsDeviceIn shared device → device.disk ≡ (view_in shared).disk
+pub disk_left : (shared : SharedPool) (device : MemState) → IsDeviceIn shared device → device.disk ≡ (view_in shared).disk
 disk_left shared device is = ap (λ (d : MemState). d.disk) is.device_is ∙ sym is.ends.explains.disk_is
 
 abbrev device_or : MemState → Place MemState SharedPool → MemState

@@ -1,7 +1,7 @@
 //! What callers rest on: one function for each promise of this crate's calls, proved from the contract of the call
 //! alone. So it is refused as soon as that contract says less.
 
-ghost use Rattle.std.specs.Prelude.{◌≡◌, ◌⊎◌, ◌∷◌, ◌-◌, ◌^◌, [], false, Some, Err, Ok, IsErr, length};
+ghost use Rattle.std.specs.Prelude.{◌≡◌, ◌⊎◌, ◌∷◌, ◌-◌, ◌^◌, [], false, true, Some, Err, Ok, IsErr, length};
 ghost use Rattle.base.specs.declared.error.PoolError.TheVariants as error;
 ghost use Rattle.base.specs.declared.operation.Op.TheVariants as op;
 ghost use Rattle.base.specs.declared.operation.Shape.TheVariants as shape;
@@ -15,15 +15,18 @@ ghost use Rattle.scripts.specs.Kept.{LeavesNew};
 ghost use Rattle.scripts.specs.Places.{has_pool};
 ghost use Rattle.scripts.specs.PoolSteps.{CommitsOps, MakesSteps};
 
+use crate::command_runner::CommandRunner;
 use crate::mounted_pool::FaultyPool;
 use crate::place::Place;
 use crate::pool_commands::run_pool_command;
+use crate::script::{run_script, run_script_on};
 use crate::session::{BadCommand, Session, new_device};
 use crate::stepped_pool::SteppedPool;
 use base::{Bytes, Piece, PoolError, Reply, TxId};
 use device_model::MemDevice;
 use script_lines::{Answer, Command, PoolCommand};
 use std::alloc::Global;
+use std::io::{Read, Write};
 
 // A command of a pool is a bad one if there is no pool, and leaves what is there.
 fn a_bad_command_leaves_the_device<'r, R, P: FaultyPool<R>>(
@@ -77,6 +80,17 @@ fn a_create_on_a_used_device_leaves_a_new_pool<P: Drop>(
     place.create(device, b"tank", 77, 0)
 }
 
+// A device that comes back with a refusal is kept, and no pool is there.
+fn a_device_that_comes_back_is_kept<P: Drop>(
+    place: &mut Place<MemDevice, P>,
+    device: MemDevice,
+) -> Answer
+    ensures answer { result ≡ Answer.Reply (reply.Refused error.Write) }
+    ensures kept { place.new ≡ Place.Device device }
+{
+    place.give_back(PoolError::Write, device)
+}
+
 // A crash that loses the one unflushed write does so.
 fn a_crash_leaves_its_pieces<P: Drop>(
     place: &mut Place<MemDevice, P>,
@@ -115,4 +129,28 @@ fn a_commit_fills_its_own_plan<P: SteppedPool>(
         (op.Write (record { 0 = 3 }) 0 (97 ∷ 98 ∷ []) ∷ []) result pool.old pool.new }
 {
     run_pool_command(alloc, pool, 77, PoolCommand::Commit(TxId(5), contents))
+}
+
+// A refusal of the pool ends no script: its status would be 1.
+fn a_script_ends_with_status_0_2_or_3<R: Read + Drop, W: Write + Drop>(
+    alloc: Global,
+    script: R,
+    out: W,
+) -> bool
+    ensures { result ≡ true }
+{
+    let status = run_script(alloc, 8_388_608, 77, script, out);
+    status == 0 || status == 2 || status == 3
+}
+
+// Nor does it on a session that ran commands before.
+fn a_script_on_a_session_ends_with_status_0_2_or_3<
+    S: CommandRunner,
+    R: Read + Drop,
+    W: Write + Drop,
+>(alloc: Global, session: &mut S, script: R, out: W) -> bool
+    ensures { result ≡ true }
+{
+    let status = run_script_on(alloc, session, script, out);
+    status == 0 || status == 2 || status == 3
 }

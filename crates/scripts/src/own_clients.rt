@@ -4,15 +4,19 @@
 ghost use Rattle.std.specs.Prelude.{◌≡◌, ◌≢◌, ◌⊎◌, true, None, Ok, IfOk, IfSome, IsErr, IsOk};
 ghost use Rattle.base.specs.declared.error.PoolError.TheVariants as error;
 ghost use Rattle.base.specs.declared.step.Reply.TheVariants as reply;
-ghost use Rattle.base.specs.declared.step.Step.TheVariants.{CloseGroup};
-ghost use Rattle.pool_core.specs.States.{shown};
+ghost use Rattle.base.specs.declared.step.Step.TheVariants.{CloseGroup, StartSync};
+ghost use Rattle.pool_core.specs.States.{device_of, shown};
 ghost use Rattle.scripts.specs.OwnPools.{IsStepOf, MemPool};
 ghost use Rattle.scripts.specs.declared.place.Place.TheVariants as place;
 ghost use Rattle.scripts.specs.Places.{AsksIn, has_device, has_pool};
 
+use crate::mounted_pool::MountedPool;
 use crate::script::run_line;
 use crate::session::{BadCommand, OwnSession};
-use script_lines::{Answer, Command};
+use base::Reply;
+use device_model::MemDevice;
+use pool_core::PoolState;
+use script_lines::{Answer, Command, PoolCommand};
 use std::alloc::Global;
 
 // An import has the limit of its line, however large.
@@ -51,4 +55,21 @@ fn a_bad_line_leaves_the_device(
     ensures { IsErr result → session.new.place ≡ session.old.place }
 {
     run_line(alloc, session, b"close")
+}
+
+// A sync that a command starts in a mounted pool has the moment of the command.
+fn a_mounted_pool_starts_its_sync_at_the_given_moment(
+    alloc: Global,
+    pool: PoolState<MemDevice>,
+) -> (PoolState<MemDevice>, Reply)
+    ensures { IsStepOf (StartSync 77) result.1 pool result.0 }
+{
+    pool.run_command(&(), alloc, 77, PoolCommand::Start)
+}
+
+// With its unflushed writes, its planned faults and its counts of refused calls.
+fn a_pool_gives_back_the_device_that_it_had(pool: PoolState<MemDevice>) -> MemDevice
+    ensures { result ≡ device_of pool }
+{
+    <PoolState<MemDevice> as MountedPool<MemDevice, ()>>::unmount(pool)
 }

@@ -3,6 +3,7 @@
 
 ghost use Rattle.std.specs.Prelude.{ℕ, ◌≡◌, ◌⊎◌, ◌+◌, ◌++◌, ◌∷◌, [], Ok, Some, IsOk, length};
 ghost use Rattle.std.specs.Option.{option_map};
+ghost use Rattle.base.specs.crash.LeftDisks.{IsLeft};
 ghost use Rattle.base.specs.declared.error.PoolError.{PoolError};
 ghost use Rattle.base.specs.declared.error.PoolError.TheVariants.{BadRange, NoMemory};
 ghost use Rattle.base.specs.declared.operation.Shape.TheVariants as shape;
@@ -13,7 +14,7 @@ ghost use Rattle.base.specs.disk.Disk.{certain, disk_size};
 ghost use Rattle.base.specs.disk.Fairness.{IsFairOn};
 ghost use Rattle.base.specs.formats.Geometry.{IsGeometry};
 ghost use Rattle.base.specs.history.Contents.{length_of};
-ghost use Rattle.base.specs.history.Past.{Past};
+ghost use Rattle.base.specs.history.Past.{Grows, Past};
 ghost use Rattle.device_model.specs.MemState.{MemState, after_crash};
 ghost use Rattle.device_model.specs.contracts.memory.MemDeviceSectorDevice.TheImpl.{ghosts};
 ghost use Rattle.import_replay.specs.ImportSyncs.{IsImportSynced};
@@ -178,4 +179,27 @@ fn an_import_keeps_the_crash_rule_and_the_moment<'r, W: Wait>(
         dirty_max: 2_097_152,
         cache_blocks: 2,
     })
+}
+
+// No turn of another comes after the last command.
+fn a_locked_pool_gives_back_the_disk_that_the_last_command_left<W: Wait>(
+    shared: SharedPool,
+) -> MemDevice
+    ensures { result.disk ≡ (view_in shared).disk }
+{
+    <SharedPool as MountedPool<MemDevice, W>>::unmount(shared)
+}
+
+// A run goes on by a command: its entries stay, and what was acknowledged stays so. What it comes to is left on the
+// device that the pool gives back.
+fn a_run_goes_on_to_the_device_that_comes_back<W: Wait>(
+    rt: &W,
+    alloc: Global,
+    shared: SharedPool,
+) -> MemDevice
+    ensures { (past : Past) → IsRunOf past shared
+        → ∥ ((later : Past) × Grows past later × IsLeft later result.disk) ∥₁ }
+{
+    let (after, _) = shared.run_command(rt, alloc, 77, PoolCommand::Sync);
+    <SharedPool as MountedPool<MemDevice, W>>::unmount(after)
 }
