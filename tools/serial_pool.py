@@ -147,6 +147,35 @@ def count_blocks(objects, records, entries):
     return blocks, {number: some for number, some in records.items() if number in objects}
 
 
+def count_reads(objects, records, entries):
+    """The number of blocks that a plan of these entries reads, over objects and the records of each that are no holes: of
+    each record that it writes, unless no byte of the record below shows."""
+    objects, shown, dirty = dict(objects), {}, set()
+    for number, some in records.items():
+        shown.update({(number, record): set(range(RECORD)) for record in some})
+    for entry in entries:
+        for op in entry.ops:
+            kind, number, place, content = op
+            old = len(objects.get(number, b""))
+            objects = apply(objects, [op]) if kind != "n" else objects
+            if kind in "cd":
+                shown = {at: bytes_ for at, bytes_ in shown.items() if at[0] != number}
+                dirty = {at for at in dirty if at[0] != number}
+            elif kind == "w":
+                for byte in range(place, place + len(content)):
+                    dirty.add((number, byte // RECORD))
+                    shown.get((number, byte // RECORD), set()).discard(byte % RECORD)
+            elif kind == "l":
+                dirty = {at for at in dirty if at[0] != number or at[1] * RECORD < place}
+                if place < old:
+                    for at in shown:
+                        if at[0] == number:
+                            shown[at] -= set(range(max(place - at[1] * RECORD, 0), RECORD))
+                    if place % RECORD:
+                        dirty.add((number, place // RECORD))
+    return sum(bool(shown.get(at)) for at in dirty)
+
+
 def tree_blocks(objects, records):
     """The number of blocks of a tree."""
     data = sum(map(len, records.values()))
@@ -355,13 +384,14 @@ class Image:
         self.tree, self.places, self.entries = tree, places, entries
         self.name, self.objects = rename(tree.name, entries), replay(tree.objects, entries)
         self.blocks, records = count_blocks(*tree[2:], entries)
+        self.reads = count_reads(*tree[2:], entries)
         self.synced = Tree(tree.group + 4, self.name, self.objects, records)
 
     def calls(self):
-        """The device calls of an import: a flush; the reads of four arrays of uberblocks, four configs, the tree and
-        the log; the blocks of the replayed entries, a flush; two configs, a flush; four uberblocks, a flush; two
-        configs, a flush."""
-        reads = 8 + tree_blocks(*self.tree[2:]) + self.places
+        """The device calls of an import: a flush; the reads of four arrays of uberblocks, four configs, the tree, the
+        log and the records that the replayed entries change in part; the blocks of these entries, a flush; two configs, a
+        flush; four uberblocks, a flush; two configs, a flush."""
+        reads = 8 + tree_blocks(*self.tree[2:]) + self.places + self.reads
         labels = [PART] * 2 + ["flush"]
         blocks = [PART] * self.blocks + ["flush"]
         return ["flush"] + ["read"] * reads + blocks + labels + [UBERBLOCK] * 4 + ["flush"] + labels

@@ -42,11 +42,11 @@ fn count_replies(replies: &[Reply]) -> Option<usize> {
     }
 }
 
-// The group, the number and the guid of an import, and whether the name and the object are found.
+// The group, the number and the guid of an import, and whether the name and the object of four bytes are found.
 fn found(imported: &Imported<MemDevice>) -> ([u64; 3], [bool; 2]) {
     let mounted = &imported.mounted;
     let is_tank = mounted.contents.name.as_slice() == b"tank".as_slice();
-    let is_stored = mounted.contents.object(OBJECT) == Some(b"abcd".as_slice());
+    let is_stored = mounted.contents.length(OBJECT) == Some(4);
     (
         [imported.group().0, mounted.import_number, mounted.guid],
         [is_tank, is_stored],

@@ -1,8 +1,7 @@
 //! What a group makes of bytes of an object below, by the calls that no pool makes.
 
-use base::{Bytes, ObjectId, Op, PoolError, PoolName, RECORD_SIZE, Range};
-use extents::{Extents, Laid};
-use object_maps::{Contents, read_range};
+use base::{Bytes, ObjectId, Op, PoolError, RECORD_SIZE};
+use extents::Extents;
 use std::alloc::Global;
 
 const OBJECT: ObjectId = ObjectId(1);
@@ -39,14 +38,6 @@ fn laid_over(alloc: Global) -> Result<(([u8; 3], [u8; 2]), [u8; 3]), PoolError> 
     Ok((ends_of_first(&group), front_of_second(&group)))
 }
 
-// Contents named `tank`, with no object.
-fn contents(alloc: Global) -> Result<Contents, PoolError> {
-    let Some(name) = PoolName::new(b"tank") else {
-        return Err(PoolError::BadRange);
-    };
-    Ok(Contents::new(alloc, name)?)
-}
-
 // A group that makes the object, with bytes across its first two records.
 fn written_group(alloc: Global) -> Result<Extents, PoolError> {
     let mut group = Extents::new(alloc);
@@ -55,15 +46,13 @@ fn written_group(alloc: Global) -> Result<Extents, PoolError> {
     Ok(group)
 }
 
-// Whether a range that ends after the object has these bytes, through such a group over empty contents.
-fn range_has(alloc: Global, wanted: &[u8]) -> Result<bool, PoolError> {
-    let across = Range {
-        low: 4_029,
-        high: 4_040,
-    };
-    let (group, below) = (written_group(alloc)?, contents(alloc)?);
-    let bytes = read_range(&mut Laid::new(&group, &below), alloc, OBJECT, across)?;
-    Ok(bytes.as_slice() == wanted)
+// The bytes around the end of the first record, through such a group over zeros.
+fn written_bytes(alloc: Global) -> Result<([u8; 3], [u8; 2]), PoolError> {
+    let group = written_group(alloc)?;
+    let (mut front, mut back) = ([0; 3], [0; 2]);
+    group.lay_on(OBJECT, 0, 4_029, &mut front);
+    group.lay_on(OBJECT, 1, 0, &mut back);
+    Ok((front, back))
 }
 
 #[test]
@@ -71,7 +60,7 @@ fn a_group_is_laid_over_a_record(rt: HostRuntime) {
     let alloc = rt.alloc();
     // of the second record the cut leaves one byte, and what lies below it doesn't show after the cut
     assert_eq!(rt;
-        (laid_over(alloc), range_has(alloc, b"\0abcd")),
-        (Ok(((*b"xy\0", *b"ab"), *b"c\0\0")), Ok(true))
+        (laid_over(alloc), written_bytes(alloc)),
+        (Ok(((*b"xy\0", *b"ab"), *b"c\0\0")), Ok((*b"\0ab", *b"cd")))
     );
 }

@@ -27,6 +27,7 @@ fn arguments<'a>() -> LoadArguments<'a> {
             seed: 9_223_372_036_854_775_814,
         },
         dirty_max: 1_048_576,
+        cache_blocks: 256,
         moment: 0,
     }
 }
@@ -157,6 +158,7 @@ where
         file,
         order: order(2, 0),
         dirty_max: 1_048_576,
+        cache_blocks: 256,
         moment,
     };
     let opened = FileDevice::open(rt, file);
