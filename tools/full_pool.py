@@ -1,20 +1,22 @@
 #!/usr/bin/env python3
-"""What `show` of a full pool of 1 GiB costs, beside the hash of the same blocks and their reading.
+"""What `show`, `check` and an import of a full pool of 1 GiB cost, beside the hash of the same blocks and their reading.
 
-    python3 tools/show_cost.py PROGRAM [FILE]
+    python3 tools/full_pool.py PROGRAM [FILE]
 
 PROGRAM is a built `ztxg`. FILE is made, or made anew, and stays; without one the pool lies in a temporary file that goes. The
-pool is written here, after docs/FORMATS.md and with no code of the program: each of its 260,992 blocks is one of the tree,
-which has 3,070 objects, all but the last of 338,688 bytes. Each block's bytes are its own.
+pool is written here, after docs/FORMATS.md and with no code of the program: each of its 260,992 blocks but one is one of the
+tree, which has 3,070 objects, all but the last of 338,688 bytes. Each block's bytes are its own. The last block is left for the
+log.
 
-Then nine rounds, each of two processes, one after the other: `PROGRAM show FILE`, and this script with `--hash`, which reads
-the same blocks one by one and makes of each the digest that its check is compared with, by Python's hashlib. A time is user and
-system seconds of the process, without the start of Python; the memory is the most that was resident. What `show` prints has
-to be the pool.
+Then nine rounds, each of four processes, one after the other: `PROGRAM show FILE`, `PROGRAM check FILE`, a script that imports
+the pool, and this script with `--hash`, which reads the same blocks one by one and makes of each the digest that its check is
+compared with, by Python's hashlib. A time is user and system seconds of the process, without the start of Python; the memory is
+the most that was resident. What they print has to be the pool's. At last a script imports the pool, reads, writes and syncs, and
+has the digest, for its memory alone.
 
-The ratio is that of the least times, and that of the medians is printed beside it. On a busy machine a few rounds tell
-little: single ones differ by half. The status is 1 where the ratio is above 1.2, or the memory above 32 MiB, and 2 where
-`show` does not tell the pool.
+A ratio is that of the least times, and that of the medians is printed beside it. On a busy machine a few rounds tell little:
+single ones differ by half. The status is 1 where a ratio or the memory is above its bound, and 2 where a process does not tell
+the pool.
 """
 
 import hashlib
@@ -33,6 +35,7 @@ BLOCK = 4096
 PAYLOAD = 4032
 BLOCK_AREA = 4_194_304
 BLOCKS = (SIZE - 2 * LABEL - BLOCK_AREA) // BLOCK
+USED = BLOCKS - 1
 CONFIG_AT = 16_384
 ARRAY_AT = 131_072
 SLOT = 1024
@@ -52,8 +55,9 @@ IMPORT = 1
 MAGIC = 0x00BAB10C
 
 ROUNDS = 9
-MOST_RATIO = 1.2
-MOST_MEMORY = 32 * MIB
+# Of each process: the greatest ratio of its time to that of the hash, and the most memory in bytes.
+BOUNDS = {"show": (1.2, 32 * MIB), "check": (1.2, 32 * MIB), "import": (1.1, 20 * MIB)}
+MOST_MEMORY_IN_USE = 20 * MIB
 NO_CHECK = bytes(32)
 NO_POINTER = bytes(48)
 
@@ -100,9 +104,9 @@ def write_object(blocks, index, records):
 
 
 def records_of_objects():
-    """How many records each object has, so that they, their directories and the root are all blocks."""
+    """How many records each object has, so that they, their directories and the root are all blocks but one."""
     counts = []
-    left = BLOCKS - 1
+    left = USED - 1
     while left > 0:
         if len(counts) % ENTRIES == 0:
             left -= 1
@@ -120,8 +124,8 @@ def write_tree(file, counts):
         entries = [write_object(blocks, first + at, records) for at, records in enumerate(counts[first : first + ENTRIES])]
         directories.append(blocks.add(DIRECTORY, first // ENTRIES, b"".join(entries)))
     root = blocks.add(ROOT, 0, b"".join(directories).ljust(POINTERS * len(NO_POINTER), b"\0"))
-    if blocks.count != BLOCKS:
-        sys.exit(f"{blocks.count} blocks in place of {BLOCKS}")
+    if blocks.count != USED:
+        sys.exit(f"{blocks.count} blocks in place of {USED}")
     return root
 
 
@@ -139,15 +143,14 @@ def write_labels(file, root):
 
 
 def write_pool(path):
-    """Writes the pool, and gives the lines that `show` has to print."""
+    """Writes the pool, and gives the lines that `show` prints of its blocks and objects."""
     counts = records_of_objects()
     with open(path, "wb") as file:
         file.truncate(SIZE)
         write_labels(file, write_tree(file, counts))
         file.flush()
         os.fsync(file.fileno())
-    lines = [f"name {NAME.decode()}", f"guid {GUID}", f"group {GROUP}", f"import {IMPORT}"]
-    lines += [f"blocks {BLOCKS} used {BLOCKS}", "records 0", f"objects {len(counts)}"]
+    lines = [f"blocks {BLOCKS} used {USED}", "records 0", f"objects {len(counts)}"]
     lines += [f"{index} {PAYLOAD * records}" for index, records in enumerate(counts)]
     return "".join(line + "\n" for line in lines)
 
@@ -164,7 +167,7 @@ def hash_blocks(path):
     wrong = 0
     with open(path, "rb", buffering=0) as file:
         file.seek(BLOCK_AREA)
-        for _ in range(BLOCKS):
+        for _ in range(USED):
             file.readinto(buffer)
             check = bytes(block[32:64])
             block[32:64] = NO_CHECK
@@ -174,9 +177,11 @@ def hash_blocks(path):
     print(seconds(resource.getrusage(resource.RUSAGE_SELF)) - before)
 
 
-def run(*command):
-    """What a command prints, its seconds, and the most bytes that it had in memory."""
-    process = subprocess.Popen(command, stdout=subprocess.PIPE, text=True)
+def run(*command, lines=()):
+    """What a command prints that is handed these lines, its seconds, and the most bytes that it had in memory."""
+    process = subprocess.Popen(command, stdin=subprocess.PIPE, stdout=subprocess.PIPE, text=True)
+    process.stdin.write("".join(line + "\n" for line in lines))
+    process.stdin.close()
     printed = process.stdout.read()
     _, status, usage = os.wait4(process.pid, 0)
     process.returncode = os.waitstatus_to_exitcode(status)
@@ -186,24 +191,55 @@ def run(*command):
     return printed, seconds(usage), usage.ru_maxrss * 1024
 
 
+def tell(is_told, what):
+    if not is_told:
+        print(f"{what} does not tell the pool", file=sys.stderr)
+        sys.exit(2)
+
+
+def script(program, path, imported, lines):
+    """What a script on the pool prints, whose first line is its import after so many others."""
+    printed, took, memory = run(program, "script", "--file", path, "-", lines=["import 1048576", *lines])
+    group = GROUP + 4 * (imported + 1)
+    tell(printed.startswith(f"synced {group} open {group + 1} records 0\n"), "import")
+    return printed, took, memory
+
+
+def use(program, path, imported):
+    """The most memory of a script that uses the pool: it removes an object, writes to another one, and syncs."""
+    lines = ["lock 1 0 w 0 338688", "begin 1 d:0", "commit 0", "sync", "lock 1 1 w 0 338688", "begin 1 w:1:4030:4"]
+    lines += ["commit 1 abcd", "read 1 1 4029 4035", "sync", "digest"]
+    printed, _, memory = script(program, path, imported, lines)
+    tell("\ndigest " in printed and "refused" not in printed, "a script")
+    return memory
+
+
 def measure(program, path):
     """The status of the rounds on a pool that is written here."""
     wanted = write_pool(path)
-    shows, hashes, memories = [], [], []
-    for _ in range(ROUNDS):
-        printed, show, memory = run(program, "show", path)
-        if printed != wanted:
-            print("show does not tell the pool", file=sys.stderr)
-            return 2
+    times, memories, hashes = {word: [] for word in BOUNDS}, {word: 0 for word in BOUNDS}, []
+    for imported in range(ROUNDS):
+        for word in BOUNDS:
+            if word == "import":
+                _, took, memory = script(program, path, imported, [])
+            else:
+                printed, took, memory = run(program, word, path)
+                tell(word == "check" or printed.endswith(wanted), word)
+            times[word].append(took)
+            memories[word] = max(memories[word], memory)
         hashed, _, _ = run(sys.executable, __file__, "--hash", path)
-        shows.append(show)
         hashes.append(float(hashed))
-        memories.append(memory)
-        print(f"show {show:.2f} s, hash {hashes[-1]:.2f} s, memory {memory / MIB:.1f} MiB", flush=True)
-    ratio = min(shows) / min(hashes)
-    print(f"ratio of the medians {statistics.median(shows) / statistics.median(hashes):.2f}")
-    print(f"ratio {ratio:.2f}, at most {MOST_RATIO}; memory {max(memories) / MIB:.1f} MiB, at most {MOST_MEMORY // MIB}")
-    return 1 if ratio > MOST_RATIO or max(memories) > MOST_MEMORY else 0
+        print(", ".join(f"{word} {times[word][-1]:.2f} s" for word in BOUNDS) + f", hash {hashes[-1]:.2f} s", flush=True)
+    is_above = False
+    for word, (most_ratio, most_memory) in BOUNDS.items():
+        ratio = min(times[word]) / min(hashes)
+        medians = statistics.median(times[word]) / statistics.median(hashes)
+        print(f"{word}: ratio {ratio:.2f}, at most {most_ratio} (of the medians {medians:.2f}); ", end="")
+        print(f"memory {memories[word] / MIB:.1f} MiB, at most {most_memory // MIB}")
+        is_above = is_above or ratio > most_ratio or memories[word] > most_memory
+    in_use = use(program, path, ROUNDS)
+    print(f"a pool in use: memory {in_use / MIB:.1f} MiB, at most {MOST_MEMORY_IN_USE // MIB}")
+    return 1 if is_above or in_use > MOST_MEMORY_IN_USE else 0
 
 
 def main(arguments):
