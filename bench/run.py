@@ -99,12 +99,13 @@ def numbers_of(output):
 @dataclass(frozen=True)
 class Ztxg:
     """`ztxg load` at one dirty limit, on a new pool. With `durable`, that program makes the load in its place: each
-    commit is durable then, and not only each eighth one of a stream."""
+    commit is durable then, and not only each eighth one of a stream. With `is_before` it is an earlier build."""
 
     program: pathlib.Path
     dirty: int
     size: int
     durable: pathlib.Path | None = None
+    is_before: bool = False
     is_log = False
 
     @property
@@ -113,7 +114,8 @@ class Ztxg:
 
     @property
     def name(self):
-        return f"ztxg {limit_name(self.dirty)}{'' if self.durable is None else ' each'}"
+        build = "before " if self.is_before else ""
+        return f"ztxg {build}{limit_name(self.dirty)}{'' if self.durable is None else ' each'}"
 
     def prepare(self, path, load):
         call([self.program, "create", path, POOL, GUID, self.size])
@@ -218,7 +220,12 @@ class Race:
         return [theirs.seconds / ours.seconds for theirs, ours in pairs]
 
     def ztxgs(self, flush):
-        return [it for it in self.contestants if isinstance(it, Ztxg) and it.flush == flush]
+        return [it for it in self.contestants if isinstance(it, Ztxg) and it.flush == flush and not it.is_before]
+
+    def before(self, ztxg):
+        """The earlier build at the same limit, if it ran."""
+        earlier = [it for it in self.contestants if isinstance(it, Ztxg) and it.is_before and it.dirty == ztxg.dirty]
+        return earlier[0] if earlier else None
 
     def peers(self, flush, is_log):
         return [it for it in self.contestants if isinstance(it, Peer) and it.flush == flush and it.is_log == is_log]
@@ -314,6 +321,17 @@ def ratio_rows(races, table):
             yield row
 
 
+def before_rows(races):
+    """For each race and each dirty limit the ratio to the earlier build."""
+    rows = []
+    for result in races:
+        for ztxg in result.ztxgs(EIGHTH):
+            before = result.before(ztxg)
+            if before is not None:
+                rows.append([f"{result.load.workers}, {limit_name(ztxg.dirty)}", ratio_cell(result.ratios(before, ztxg))])
+    return [["workers, limit", "earlier build"], *rows] if rows else []
+
+
 def log_rows(result, table):
     """At one worker, the ratios to the plain logs."""
     logs = result.peers(table.theirs, is_log=True)
@@ -366,6 +384,11 @@ def report(races, rounds, write):
     if not any(result.ztxgs(flush) for result in races for flush in (EACH, EIGHTH)):
         write("\nNo ratios: there was no ztxg.")
         return
+    rows = before_rows(races)
+    if rows:
+        write(f"\nBEFORE: the earlier build in place of a peer.\n{RATIOS}")
+        for line in table(rows):
+            write(line)
     for kind in TABLES:
         tables = [list(ratio_rows(races, kind)), *(list(log_rows(result, kind)) for result in races)]
         if any(tables):
@@ -384,6 +407,8 @@ def contestants_of(options, workers):
     if options.ztxg is not None:
         for dirty in options.dirty:
             yield Ztxg(options.ztxg, dirty, options.size)
+            if options.before is not None:
+                yield Ztxg(options.before, dirty, options.size, is_before=True)
         if options.durable is not None and EACH in options.flush:
             yield Ztxg(options.ztxg, max(options.dirty), options.size, options.durable)
     for name in ("sqlite", "rocksdb", "log"):
@@ -437,6 +462,7 @@ def numbers(text):
 def parse(words):
     parser = argparse.ArgumentParser(description=__doc__.split("\n")[0])
     parser.add_argument("--ztxg", type=pathlib.Path, metavar="PROGRAM", help="a built ztxg; without it the peers alone")
+    parser.add_argument("--before", type=pathlib.Path, metavar="PROGRAM", help="an earlier built ztxg, for a table of its own")
     parser.add_argument("--durable", type=pathlib.Path, metavar="PROGRAM", help="a built durable_load, for the table of durable commits")
     parser.add_argument("--workers", type=numbers, default=[1, 4, 16], metavar="W,..", help="each 1 to 16")
     parser.add_argument("--ops", type=int, default=500, metavar="N", help="writes of each of the 16 streams")
@@ -459,9 +485,10 @@ def parse(words):
         parser.exit(2, f"run.py: --folder {options.folder} is no folder\n")
     if not (PEERS / "log").is_file():
         parser.error("the peers are not built: make -C bench")
-    if options.durable is not None and options.ztxg is None:
-        parser.error("--durable needs --ztxg, which makes its pools")
-    for name in ("ztxg", "durable"):
+    for name in ("before", "durable"):
+        if getattr(options, name) is not None and options.ztxg is None:
+            parser.error(f"--{name} needs --ztxg")
+    for name in ("ztxg", "before", "durable"):
         program = getattr(options, name)
         if program is not None:
             setattr(options, name, program.resolve())

@@ -99,6 +99,13 @@ class StandIn(unittest.TestCase):
         row = next(line for line in printed.splitlines() if line.startswith("1, 1 MiB"))
         self.assertEqual(row.split()[3], f"{ratio:.2f}")
 
+    def test_an_earlier_build_has_a_table_of_its_own(self):
+        words = ["--ops", "8", "--rounds", "1", "--workers", "1", "--only", "ztxg", "--before", str(HERE / "stand_in.sh")]
+        printed, raw = self.run_with(*words, STAND_IN_SLOW="0.1", STAND_IN_FAST="0.1")
+        seconds = {it[2]: float(it[3]) for it in raw if it[0]}
+        row = next(line for line in printed.splitlines() if line.startswith("1, 64 MiB"))
+        self.assertEqual(row.split()[3], f"{seconds['ztxg before 64 MiB'] / seconds['ztxg 64 MiB']:.2f}")
+
     def test_another_digest_ends_the_run(self):
         words = ["--ops", "8", "--rounds", "1", "--workers", "1", "--only", "ztxg"]
         with self.assertRaisesRegex(run.Failure, "digest"):
