@@ -15,6 +15,7 @@ TOP = pathlib.Path(__file__).resolve().parent.parent
 PROGRAMS = {
     "durable_load": "durable_load: anyhow topzerad loads",
     "flush_counts": "flush_counts may_wait=9: anyhow topzerad",
+    "idle_loops": "idle_loops: anyhow topzerad",
     "load_receipts": "load_receipts: anyhow topzerad loads",
 }
 
