@@ -424,6 +424,7 @@ where
                 seed: 5,
             },
             dirty_max,
+            cache_blocks: 256,
             moment: 0,
         };
         if !loads(rt, given, outcome) {
