@@ -12,9 +12,9 @@ use std::sync::atomic::{AtomicBool, Ordering};
 use std::thread::{Threads, join, map_vec};
 
 /// The transactions of each of the four threads.
-const ROUNDS: u16 = 500;
+const ROUNDS: u16 = 2_500;
 
-/// A write is charged five blocks at most, 20,480 bytes, until it is synced. So 2,000 of them fit even where none is.
+/// A write is charged five blocks at most, 20,480 bytes, until it is synced. So 10,000 of them fit even where none is.
 const LARGE: Size = Size {
     sectors: 524_288,
     dirty_max: 268_435_456,
@@ -259,6 +259,6 @@ fn load_new_pool<R: Threads + Wait + Sync>(
 
 #[test]
 fn what_four_threads_write_beside_syncs_is_their_history(rt: HostRuntime) {
-    let loaded = (true, (2_000, [5, 5]));
+    let loaded = (true, (10_000, [5, 5]));
     assert_eq!(rt; load_new_pool(&rt, rt.alloc()), Ok(loaded));
 }
