@@ -233,6 +233,7 @@ def faults():
             differ("a limit of", dirty, "ends with", (status, out, errors))
         if dirty != "4096" and pathlib.Path("fault.pool").read_bytes() != before:
             differ("a refused limit changes the file")
+    before = pathlib.Path("fault.pool").read_bytes()
     for cache in ["0", "4097"]:
         status, out, errors = run([*load, *LOAD, "--cache", cache])
         if (status, out, errors) != (1, "", "ztxg: refused 11 BadRange\n"):
@@ -391,7 +392,7 @@ def texts():
         status, out, errors = run(words)
         if (status, errors) != (0, "") or not out:
             differ(words, "ends with", (status, errors))
-        defaults = {"create": ["0"], "script": ["0"], "load": ["1048576", "0"]}.get(words[0], [])
+        defaults = {"create": ["0"], "script": ["0"], "load": ["1048576", "256", "0"]}.get(words[0], [])
         if re.findall(r"\[default: (\w+)\]", out) != defaults:
             differ(words, "names other defaults than", defaults)
         if words != ["--help"]:
