@@ -4,9 +4,9 @@
     python3 tools/full_pool.py PROGRAM [FILE]
 
 PROGRAM is a built `ztxg`. FILE is made, or made anew, and stays; without one the pool lies in a temporary file that goes. The
-pool is written here, after docs/FORMATS.md and with no code of the program: each of its 260,992 blocks but one is one of the
-tree, which has 3,070 objects, all but the last of 338,688 bytes. Each block's bytes are its own. The last block is left for the
-log.
+pool is written here, after docs/FORMATS.md and with no code of the program: each of its 260,992 blocks but 64 is one of the
+tree, which has 3,070 objects, all but the last of 338,688 bytes. Each block's bytes are its own. The last 64 blocks are left for
+the log and for a sync.
 
 Then nine rounds, each of four processes, one after the other: `PROGRAM show FILE`, `PROGRAM check FILE`, a script that imports
 the pool, and this script with `--hash`, which reads the same blocks one by one and makes of each the digest that its check is
@@ -35,7 +35,7 @@ BLOCK = 4096
 PAYLOAD = 4032
 BLOCK_AREA = 4_194_304
 BLOCKS = (SIZE - 2 * LABEL - BLOCK_AREA) // BLOCK
-USED = BLOCKS - 1
+USED = BLOCKS - 64
 CONFIG_AT = 16_384
 ARRAY_AT = 131_072
 SLOT = 1024
@@ -104,7 +104,7 @@ def write_object(blocks, index, records):
 
 
 def records_of_objects():
-    """How many records each object has, so that they, their directories and the root are all blocks but one."""
+    """How many records each object has, so that they, their directories and the root are all blocks but 64."""
     counts = []
     left = USED - 1
     while left > 0:
