@@ -1,7 +1,7 @@
 //! What callers rest on: one function for each promise of this crate's calls, proved from the contract of the call
 //! alone. So it is refused as soon as that contract says less.
 
-ghost use Rattle.std.specs.Prelude.{◌≡◌, ◌≤◌, IfOk, IfSome, IsErrOf, IsTrue, true};
+ghost use Rattle.std.specs.Prelude.{◌≡◌, ◌≤◌, IfOk, IfSome, IsErrOf, IsTrue, false, true};
 ghost use Rattle.std.specs.FinSet as set;
 ghost use Rattle.space.specs.FreeSets.{is_free};
 
@@ -132,5 +132,16 @@ fn all_blocks_of_a_new_set_are_free(alloc: Global) -> Result<(), AllocError> {
     prove!(last);
     prove!(!past);
     prove!(blocks == 24 && available == count);
+    Ok(())
+}
+
+fn a_copy_has_the_same_free_blocks(alloc: Global, free: &FreeSet) -> Result<(), AllocError>
+    requires low { is_free 3 free.now ≡ true }
+    requires high { is_free 4 free.now ≡ false }
+{
+    let copy = free.copy(alloc)?;
+    let low = copy.is_free(3);
+    let high = copy.is_free(4);
+    prove!(low && !high);
     Ok(())
 }

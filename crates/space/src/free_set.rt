@@ -62,6 +62,19 @@ impl FreeSet {
         })
     }
 
+    /// A copy of the set. It is refused if no memory is left.
+    pub fn copy(&self, alloc: Global) -> Result<Self, AllocError>
+        ensures { IfOk result (λ copy. copy ≡ self.now) }
+    {
+        Ok(FreeSet {
+            flags: Vec::from_slice(alloc, &self.flags)?,
+            hint: self.hint,
+            free: self.free,
+            reserved: self.reserved,
+            taken: self.taken,
+        })
+    }
+
     /// How many blocks the area has.
     pub fn blocks(&self) -> usize
         ensures blocks { result ≡ self.now.blocks }
