@@ -31,6 +31,41 @@ fn a_sealed_block_opens_and_gives_its_payload(payload: &[u8]) -> Result<(), Pool
     Ok(())
 }
 
+fn a_sealed_block_opens_itself_and_gives_its_payload(payload: &[u8]) -> Result<(), PoolError>
+    requires { length payload.now ≡ 4032 }
+    ensures { IsOk result }
+{
+    let block = seal(5, 77, Group(9), 3, payload)?;
+    let expected = Expected {
+        address: 4_194_304,
+        kind: 5,
+        guid: 77,
+        number: 3,
+        group: Some(Group(9)),
+        check: Some(block.check()),
+    };
+    let opened = block.open(&expected)?;
+    let same = opened.as_slice() == payload;
+    prove!(same);
+    Ok(())
+}
+
+fn a_sealed_block_of_another_group_does_not_open_itself(
+    block: &Block,
+) -> Result<Payload<'_>, PoolError>
+    requires { number_at block.now 16 ≡ 8 }
+    ensures { IsErrOf result (PoolError.Damaged 5 4194304) }
+{
+    block.open(&Expected {
+        address: 4_194_304,
+        kind: 5,
+        guid: 77,
+        number: 3,
+        group: Some(Group(9)),
+        check: None,
+    })
+}
+
 fn no_block_has_kind_7() -> Result<Block, PoolError>
     ensures { IsErrOf result PoolError.BadRange }
 {
@@ -133,4 +168,11 @@ fn a_frame_has_the_fields_that_it_was_made_of() {
     let blocks = frame.blocks();
     let group = frame.group();
     prove!(guid == 77 && blocks == 2 && group.0 == 9);
+}
+
+fn a_frame_leads_to_the_number_of_its_version() {
+    let frame = Frame::new(Version::One, 77, 2, Group(9));
+    let version = frame.version();
+    let number = version.number();
+    prove!(number == 1);
 }

@@ -1,7 +1,7 @@
 //! Opening: what a block that was read has to be, and the payload that it holds.
 //!
 //! A block is accepted exactly if its check agrees and each field is the one expected. The cheap fields are compared
-//! before the check is made.
+//! before the check is made. A block that was sealed here has a check that agrees, so only its fields are compared.
 
 ghost use Rattle.std.specs.Prelude.{◌≡◌, ◌↔◌, IsTrue, IsOk, IfOk, IfErr, IfSome, drop};
 ghost use Rattle.base.specs.formats.Blocks.{IsBlock, IsSealed};
@@ -11,7 +11,7 @@ ghost use Rattle.sha2.specs.Sha256.{sha256};
 ghost use Rattle.checked_blocks.specs.Sealing.{hashed_bytes};
 ghost use Rattle.checked_blocks.specs.Opening.{IsExpected, damage_of};
 
-use crate::block::HEAD_SIZE;
+use crate::block::{Block, HEAD_SIZE};
 use crate::expected::Expected;
 use base::{BLOCK_SIZE, Group, PoolError, read_u64};
 use sha2::{Digest, Sha256};
@@ -70,25 +70,59 @@ pub fn open<'a>(block: &'a [u8; BLOCK_SIZE], expected: &Expected) -> Result<Payl
         expected.now.number payload.bytes) }
     ensures refused { IfErr result (λ e. e ≡ damage_of expected.now) }
 {
-    if is_expected(block, expected) {
+    if has_fields(block, expected) && is_sealed(block) {
         Ok(Payload { block })
     } else {
-        Err(PoolError::Damaged {
-            kind: expected.kind,
-            address: expected.address,
-        })
+        Err(damage(expected))
     }
 }
 
-fn is_expected(block: &[u8; BLOCK_SIZE], expected: &Expected) -> bool
-    ensures { IsTrue result ↔ IsExpected block.now expected.now }
+impl Block {
+    ghost use Rattle.std.specs.Prelude.{◌≡◌, ◌↔◌, IsOk, IfOk, IfErr};
+    ghost use Rattle.base.specs.formats.Blocks.{IsBlock};
+    ghost use Rattle.checked_blocks.specs.Opening.{IsExpected, damage_of};
+
+    /// Opens a block that was sealed here, as `open` does. Its check, the SHA-256 digest (FIPS 180-4) that it was
+    /// sealed with, is compared with an expected one, and isn't made again.
+    ///
+    /// # Errors
+    /// `Damaged` with the expected kind and address exactly if the kind, the guid, the number, or a group or check that
+    /// is expected is another.
+    pub fn open(&self, expected: &Expected) -> Result<Payload<'_>, PoolError>
+        ensures ok { IsOk result ↔ IsExpected self.now expected.now }
+        ensures opened { IfOk result
+            (λ payload. IsBlock self.now expected.now.kind expected.now.guid payload.group
+            expected.now.number payload.bytes) }
+        ensures refused { IfErr result (λ e. e ≡ damage_of expected.now) }
+    {
+        let block = self.as_bytes();
+        if has_fields(block, expected) {
+            Ok(Payload { block })
+        } else {
+            Err(damage(expected))
+        }
+    }
+}
+
+fn damage(expected: &Expected) -> PoolError
+    ensures { result ≡ damage_of expected.now }
+{
+    PoolError::Damaged {
+        kind: expected.kind,
+        address: expected.address,
+    }
+}
+
+// Whether each field of a block is the expected one. The check field is compared, and isn't made.
+fn has_fields(block: &[u8; BLOCK_SIZE], expected: &Expected) -> bool
+    ensures fields { IsSealed block.now → IsTrue result → IsExpected block.now expected.now }
+    ensures expected { IsExpected block.now expected.now → IsTrue result }
 {
     read_u64(block, 0) == expected.kind
         && read_u64(block, 8) == expected.guid
         && read_u64(block, 24) == expected.number
         && has_group(block, expected.group)
         && has_check(block, expected.check)
-        && is_sealed(block)
 }
 
 fn has_group(block: &[u8; BLOCK_SIZE], group: Option<Group>) -> bool
