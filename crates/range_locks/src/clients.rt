@@ -1,11 +1,13 @@
 //! What callers rest on: one function for each promise of this crate's calls, proved from the contract of the call
 //! alone. So it is refused as soon as that contract says less.
 
-ghost use Rattle.std.specs.Prelude.{◌≡◌, ◌∷◌, [], IfErr, IfOk, IsOk, OnErr, false, length, true};
+ghost use Rattle.std.specs.Prelude.{◌≡◌, ◌∷◌, [], IfErr, IfOk, IsOk, OnErr, false, length, map, true};
 ghost use Rattle.base.specs.declared.range.Mode.TheVariants as mode;
+ghost use Rattle.range_locks.specs.Locks.{grant_of};
 
 use crate::held::HeldPiece;
 use crate::locks::RangeLocks;
+use crate::table::HeldLocks;
 use base::{LockId, Mode, ObjectId, ObjectRange, Owner, PoolError, Range};
 use std::alloc::Global;
 
@@ -191,4 +193,15 @@ fn readers_that_overlap_have_three_pieces(locks: &RangeLocks) -> Result<Vec<Held
         ∷ record { low = 10; high = 15; writer = false; readers = 1 } ∷ []) }
 {
     locks.pieces(ObjectId(7))
+}
+
+// The held locks are listed in the order in which they were granted, each with its name.
+fn held_locks_come_in_order_of_grant(locks: &RangeLocks) -> HeldLocks<'_>
+    requires { locks.now.locks
+        ≡ record { id = 3; owner = 1; mode = mode.Reader; range = record { number = 7; low = 0; high = 10 } }
+        ∷ record { id = 4; owner = 2; mode = mode.Reader; range = record { number = 7; low = 5; high = 15 } }
+        ∷ [] }
+    ensures { map (λ lock. (grant_of lock).id) result ≡ 3 ∷ 4 ∷ [] }
+{
+    locks.held()
 }

@@ -1,14 +1,16 @@
 //! What callers rest on of plans: their limits, what they touch and what they are charged.
 
-ghost use Rattle.std.specs.Prelude.{◌≡◌, Some, false, true};
+ghost use Rattle.std.specs.Prelude.{◌≡◌, ◌∷◌, [], IfOk, Some, false, true};
 ghost use Rattle.base.specs.history.Contents.{Contents, length_of};
 ghost use Rattle.transactions.specs.Lengths.{TellsLengths};
 
+use crate::lock_plan::lock_ranges;
 use crate::plan::{
     charge, estimate, is_in_plan, is_plan_allowed, is_shrinking, is_too_large, plans_overlap,
     range_of,
 };
-use base::{ObjectId, Op, Shape};
+use base::{ObjectId, ObjectRange, Op, Shape};
+use std::alloc::{AllocError, Global};
 
 // A plan has a shape, and its writes end at the greatest length at most.
 fn a_write_ends_at_the_greatest_length() {
@@ -71,4 +73,20 @@ fn a_cut_object_shrinks<F: Fn(ObjectId) -> Option<u64>>(lengths: &F) -> bool
         → length_of c 5 ≡ Some 100 → result ≡ true }
 {
     is_shrinking(&[Shape::SetLength(ObjectId(5), 99)], lengths)
+}
+
+// Two writes that overlap are locked by one range, from the lower begin to the higher end.
+fn writes_that_overlap_have_one_lock(alloc: Global) -> Result<Vec<ObjectRange>, AllocError>
+    ensures { IfOk result (λ ranges. ranges.items ≡ record {
+      object = record { 0 = 7 };
+      range = record { low = 0; high = 30 };
+    } ∷ []) }
+{
+    lock_ranges(
+        alloc,
+        &[
+            Shape::Write(ObjectId(7), 10, 20),
+            Shape::Write(ObjectId(7), 0, 15),
+        ],
+    )
 }

@@ -1,0 +1,6 @@
+use Rattle.transactions.specs.LockRanges.{lock_ranges}
+use Rattle.transactions.proofs.clients.plans.writes_that_overlap_have_one_lock.Goals as goal
+
+pub returns : goal.returns
+unfolding lock_ranges
+returns c = c.lock_ranges.ensures
