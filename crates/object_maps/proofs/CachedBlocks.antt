@@ -1,5 +1,5 @@
 -- What a cache has after a look-up, a put and a drop, and after a write to the device.
-use Rattle.std.proofs.Common.{◌≡◌, ◌≢◌, Bool, true, false, ◌∷◌, ◌-◌, ℕ, ◌+◌, ◌*◌, ◌%◌, ◌≤◌, ◌<◌, ◌⊎◌, List, [], Contains, Option, Some, nat_eq, length, drop, refl, sym, subst, ap, inl, inr, ◌∙◌, arith}
+use Rattle.std.proofs.Common.{◌≡◌, ◌≢◌, Bool, true, false, ◌∷◌, ◌-◌, ℕ, ◌+◌, ◌%◌, ◌≤◌, ◌⊎◌, List, [], Contains, Some, nat_eq, length, drop, refl, sym, subst, ap, inl, inr, ◌∙◌, arith}
 use Rattle.std.specs.Prelude.{IsTrue}
 use Rattle.std.specs.List.{AllByRecursion, IsDistinct}
 use Rattle.std.specs.Map.{keys_of, lookup, remove_entry}
@@ -10,8 +10,7 @@ use Rattle.lru.specs.LruCache.{LruCache, lru_cache, promoted, put_entries}
 use Rattle.lru.proofs.CallerLemmas.{Contains-lookup, Contains-promoted, Contains-put_entries, Contains-remove_entry}
 use Rattle.base.specs.disk.Disk.{Apart, put}
 use Rattle.base.specs.formats.Blocks.{payload_at}
-use Rattle.base.specs.formats.Fields.{part}
-use Rattle.base.specs.formats.Geometry.{IsBlockAddress, block_address}
+use Rattle.base.specs.formats.Geometry.{IsBlockAddress}
 use Rattle.base.proofs.disk.Put.{part-put_apart}
 use Rattle.object_maps.specs.Cached.{AgreesWith, DropsIn, OnlyLeft}
 

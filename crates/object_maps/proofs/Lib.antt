@@ -3,6 +3,7 @@ pub mod Judged
 pub mod Records
 pub mod RisingObjects
 pub mod SetMaps
+pub mod FreeBlocks
 pub mod PutObjects
 pub mod CachedBlocks
 pub mod CachedDisks

@@ -16,15 +16,16 @@ use Rattle.base.specs.tree.Places.{Place, IsPlace}
 use Rattle.base.specs.tree.Places.Place.{Root, Directory, Indirect, Data}
 use Rattle.base.specs.tree.Tree.{OpensAt}
 use Rattle.base.specs.tree.PlacedTrees.{ArePlaced, StandsAt, HoldsTree}
-use Rattle.object_maps.specs.declared.tree.ObjectMap.{ObjectMap}
+use Rattle.object_maps.specs.declared.tree.ObjectEntry.{ObjectEntry}
 use Rattle.object_maps.specs.Pointers.{pointers_at, pointer_of_list, indirect_of, records_of}
-use Rattle.object_maps.specs.EmptyMaps.{IsEmptyMap}
-use Rattle.object_maps.specs.Lengths.{map_length, HaveLengthsOf}
+use Rattle.object_maps.specs.EmptyEntries.{IsEmptyEntry}
+use Rattle.object_maps.specs.Lengths.{length_in, HaveLengthsOf}
+use Rattle.object_maps.proofs.FreeBlocks.{kept_none}
 use Rattle.object_maps.specs.Loading.{IsLoadedAt, IsLimitedObject, IsObjectContent, AreEmptyFrom, DirectoryStands, AreLoadedDirectories, IsLoadedTree}
 use Rattle.object_maps.proofs.LoadedEntries.{no_directory}
 
 -- a tree with no root
-pub no_tree : (keeps : Bool) (image : List ℕ) (frame : Frame) (root : Pointer) (directories : List Pointer) (objects : FinMap nat_cmp (List ℕ)) (maps : List ObjectMap)
+pub no_tree : (keeps : Bool) (image : List ℕ) (frame : Frame) (root : Pointer) (directories : List Pointer) (objects : FinMap nat_cmp (List ℕ)) (maps : List ObjectEntry)
     → root ≡ no_pointer → ((d : ℕ) → pointer_of_list directories d ≡ no_pointer) → AreEmptyFrom 0 objects maps → IsLoadedTree keeps image frame root directories objects maps
 no_tree keeps image frame root directories objects maps none no_directories empty = record {
   placed = inl none;
@@ -34,7 +35,7 @@ no_tree keeps image frame root directories objects maps none no_directories empt
 }
 
 -- a tree with a root and all directories
-pub tree_loaded : (keeps : Bool) (image : List ℕ) (frame : Frame) (root : Pointer) (directories : List Pointer) (payload : List ℕ) (objects : FinMap nat_cmp (List ℕ)) (maps : List ObjectMap)
+pub tree_loaded : (keeps : Bool) (image : List ℕ) (frame : Frame) (root : Pointer) (directories : List Pointer) (payload : List ℕ) (objects : FinMap nat_cmp (List ℕ)) (maps : List ObjectEntry)
     → IsBlockAddress frame.blocks root.address → (IsTrue keeps → OpensAt image frame Root root payload)
     → ((d : ℕ) → d < pointer_count → pointer_of_list directories d ≡ pointer_in payload d)
     → AreLoadedDirectories keeps image frame directories pointer_count objects maps → IsLoadedTree keeps image frame root directories objects maps
@@ -46,7 +47,7 @@ tree_loaded keeps image frame root directories payload objects maps placed opens
 }
 
 -- an object of one of the directories
-object_loaded_at : (keeps : Bool) (image : List ℕ) (frame : Frame) (root : Pointer) (directories : List Pointer) (objects : FinMap nat_cmp (List ℕ)) (maps : List ObjectMap)
+object_loaded_at : (keeps : Bool) (image : List ℕ) (frame : Frame) (root : Pointer) (directories : List Pointer) (objects : FinMap nat_cmp (List ℕ)) (maps : List ObjectEntry)
     → IsLoadedTree keeps image frame root directories objects maps → (n : ℕ) → n < object_count → IsLoadedAt keeps image frame objects maps n
 object_loaded_at keeps image frame root directories objects maps t n low =
     let in_directory : n / entry_count < pointer_count = omega (arith, low) in
@@ -55,7 +56,7 @@ object_loaded_at keeps image frame root directories objects maps t n low =
     subst (λ (i : ℕ). IsLoadedAt keeps image frame objects maps i) whole ((t.each (n / entry_count) in_directory).each (n % entry_count) in_entries)
 
 -- its pointers are to blocks
-tree_placed : (keeps : Bool) (image : List ℕ) (frame : Frame) (root : Pointer) (directories : List Pointer) (objects : FinMap nat_cmp (List ℕ)) (maps : List ObjectMap)
+tree_placed : (keeps : Bool) (image : List ℕ) (frame : Frame) (root : Pointer) (directories : List Pointer) (objects : FinMap nat_cmp (List ℕ)) (maps : List ObjectEntry)
     → IsLoadedTree keeps image frame root directories objects maps → ArePlaced frame.blocks (pointers_at root directories maps)
 tree_placed keeps image frame root directories objects maps t Root there = t.placed
 tree_placed keeps image frame root directories objects maps t (Directory d) there = (t.each d there).placed
@@ -63,7 +64,7 @@ tree_placed keeps image frame root directories objects maps t (Indirect n) there
 tree_placed keeps image frame root directories objects maps t (Data n r) there = (object_loaded_at keeps image frame root directories objects maps t n there.0).records_placed r there.1
 
 -- its objects are within their limits
-tree_bounded : (keeps : Bool) (image : List ℕ) (frame : Frame) (root : Pointer) (directories : List Pointer) (objects : FinMap nat_cmp (List ℕ)) (maps : List ObjectMap)
+tree_bounded : (keeps : Bool) (image : List ℕ) (frame : Frame) (root : Pointer) (directories : List Pointer) (objects : FinMap nat_cmp (List ℕ)) (maps : List ObjectEntry)
     → IsLoadedTree keeps image frame root directories objects maps → (n : ℕ) → IfSome (finite.get objects n) (IsLimitedObject n)
 tree_bounded keeps image frame root directories objects maps t n = go (cases_lt n object_count)
   where
@@ -76,7 +77,7 @@ tree_bounded keeps image frame root directories objects maps t n = go (cases_lt 
     go (inr past) = rw (t.rest.each n past).object tt
 
 -- and the image holds it, if the device keeps the model
-tree_holds : (keeps : Bool) (image : List ℕ) (frame : Frame) (root : Pointer) (directories : List Pointer) (objects : FinMap nat_cmp (List ℕ)) (maps : List ObjectMap)
+tree_holds : (keeps : Bool) (image : List ℕ) (frame : Frame) (root : Pointer) (directories : List Pointer) (objects : FinMap nat_cmp (List ℕ)) (maps : List ObjectEntry)
     → IsLoadedTree keeps image frame root directories objects maps → IsTrue keeps → HoldsTree image frame (pointers_at root directories maps) objects
 tree_holds keeps image frame root directories objects maps t k = record { no_others = λ n past. (t.rest.each n past).object; each = stands }
   where
@@ -91,28 +92,28 @@ tree_holds keeps image frame root directories objects maps t k = record { no_oth
     stands (Data n r) there = (object_loaded_at keeps image frame root directories objects maps t n there.0).records_stand k r there.1
 
 -- pointers of objects that have none
-no_indirect : (maps : List ObjectMap) → All IsEmptyMap maps → (n : ℕ) → indirect_of maps n ≡ no_pointer
+no_indirect : (maps : List ObjectEntry) → All IsEmptyEntry maps → (n : ℕ) → indirect_of maps n ≡ no_pointer
 no_indirect [] empty n = refl
-no_indirect (m ∷ maps) empty zero = (All-head IsEmptyMap m maps empty).0
-no_indirect (m ∷ maps) empty (suc n) = no_indirect maps (All-tail IsEmptyMap m maps empty) n
+no_indirect (m ∷ maps) empty zero = (All-head IsEmptyEntry m maps empty).0
+no_indirect (m ∷ maps) empty (suc n) = no_indirect maps (All-tail IsEmptyEntry m maps empty) n
 
-no_records : (maps : List ObjectMap) → All IsEmptyMap maps → (n : ℕ) → records_of maps n ≡ []
+no_records : (maps : List ObjectEntry) → All IsEmptyEntry maps → (n : ℕ) → records_of maps n ≡ []
 no_records [] empty n = refl
-no_records (m ∷ maps) empty zero = (All-head IsEmptyMap m maps empty).1
-no_records (m ∷ maps) empty (suc n) = no_records maps (All-tail IsEmptyMap m maps empty) n
+no_records (m ∷ maps) empty zero = kept_none m (All-head IsEmptyEntry m maps empty).0
+no_records (m ∷ maps) empty (suc n) = no_records maps (All-tail IsEmptyEntry m maps empty) n
 
-no_length : (maps : List ObjectMap) → All IsEmptyMap maps → (n : ℕ) → map_length maps n ≡ None
+no_length : (maps : List ObjectEntry) → All IsEmptyEntry maps → (n : ℕ) → length_in maps n ≡ None
 no_length [] empty n = refl
-no_length (m ∷ maps) empty zero = (All-head IsEmptyMap m maps empty).2
-no_length (m ∷ maps) empty (suc n) = no_length maps (All-tail IsEmptyMap m maps empty) n
+no_length (m ∷ maps) empty zero = (All-head IsEmptyEntry m maps empty).2
+no_length (m ∷ maps) empty (suc n) = no_length maps (All-tail IsEmptyEntry m maps empty) n
 
 -- new maps are of no objects
-pub none_there : (maps : List ObjectMap) → All IsEmptyMap maps → AreEmptyFrom 0 finite.empty maps
+pub none_there : (maps : List ObjectEntry) → All IsEmptyEntry maps → AreEmptyFrom 0 finite.empty maps
 none_there maps empty = record {
   each = λ n _. record { object = get-empty {X = List ℕ} nat_cmp n; indirect = no_indirect maps empty n; records = no_records maps empty n };
 }
 
-pub no_lengths : (maps : List ObjectMap) → All IsEmptyMap maps → HaveLengthsOf maps finite.empty
+pub no_lengths : (maps : List ObjectEntry) → All IsEmptyEntry maps → HaveLengthsOf maps finite.empty
 no_lengths maps empty n = no_length maps empty n ∙ ap (option_map length) (sym (get-empty {X = List ℕ} nat_cmp n))
 
 -- a list that stands in a Vec of its length
@@ -121,13 +122,13 @@ standing new len items = take len (new ++ drop (length new) items)
 
 -- a tree has pointers to blocks alone, and objects within their limits with which the image holds it, if the device
 -- keeps the model
-pub record IsWhole (keeps : Bool) (image : List ℕ) (frame : Frame) (root : Pointer) (directories : List Pointer) (objects : FinMap nat_cmp (List ℕ)) (maps : List ObjectMap) : Type 0 where
+pub record IsWhole (keeps : Bool) (image : List ℕ) (frame : Frame) (root : Pointer) (directories : List Pointer) (objects : FinMap nat_cmp (List ℕ)) (maps : List ObjectEntry) : Type 0 where
   pub placed : ArePlaced frame.blocks (pointers_at root directories maps)
   pub bounded : (n : ℕ) → IfSome (finite.get objects n) (IsLimitedObject n)
   pub held : IsTrue keeps → HoldsTree image frame (pointers_at root directories maps) objects
 
 -- such is a tree that was loaded, once its directories stand in their Vec, and of objects that are the same
-pub whole_tree : (keeps : Bool) (image : List ℕ) (frame : Frame) (root : Pointer) (directories old_directories : List Pointer) (objects : FinMap nat_cmp (List ℕ)) (maps : List ObjectMap) (d : ℕ)
+pub whole_tree : (keeps : Bool) (image : List ℕ) (frame : Frame) (root : Pointer) (directories old_directories : List Pointer) (objects : FinMap nat_cmp (List ℕ)) (maps : List ObjectEntry) (d : ℕ)
     → length directories ≡ d → IsLoadedTree keeps image frame root directories objects maps → (same : FinMap nat_cmp (List ℕ)) → same ≡ objects
     → IsWhole keeps image frame root (standing directories d old_directories) same maps
 whole_tree keeps image frame root directories old_directories objects maps d long t same is =

@@ -5,15 +5,16 @@ use Rattle.std.specs.Ordering.{nat_cmp}
 use Rattle.std.specs.FinMap as finite
 use Rattle.std.specs.FinMap.{FinMap}
 use Rattle.base.specs.formats.Limits.{object_count}
+use Rattle.object_maps.specs.declared.tree.ObjectEntry.{ObjectEntry}
 use Rattle.object_maps.specs.declared.tree.ObjectMap.{ObjectMap}
 use Rattle.object_maps.specs.declared.tree.Tree.{Tree}
 
 -- the length of object n, None if there is no such object
-abbrev pub map_length : List ObjectMap → ℕ → Option ℕ
-map_length maps n = option_map_or (λ (m : ObjectMap). m.length) (slice_get maps n) None
+abbrev pub length_in : List ObjectEntry → ℕ → Option ℕ
+length_in entries n = option_map_or (λ (e : ObjectEntry). e.length) (slice_get entries n) None
 
 abbrev pub lengths_of : Tree → ℕ → Option ℕ
-lengths_of t n = map_length t.maps.items n
+lengths_of t n = length_in t.entries.items n
 
 -- the length of each object, if these objects have new maps
 abbrev pub with_lengths : (ℕ → Option ObjectMap) → (ℕ → Option ℕ) → ℕ → Option ℕ
@@ -23,6 +24,6 @@ with_lengths new old n = option_map_or (λ (m : ObjectMap). m.length) (new n) (o
 abbrev pub HasLengthsOf : Tree → FinMap nat_cmp (List ℕ) → Type 0
 HasLengthsOf t objects = (n : ℕ) → n < object_count → lengths_of t n ≡ option_map length (finite.get objects n)
 
--- maps have the lengths of these objects
-abbrev pub HaveLengthsOf : List ObjectMap → FinMap nat_cmp (List ℕ) → Type 0
-HaveLengthsOf maps objects = (n : ℕ) → map_length maps n ≡ option_map length (finite.get objects n)
+-- entries have the lengths of these objects
+abbrev pub HaveLengthsOf : List ObjectEntry → FinMap nat_cmp (List ℕ) → Type 0
+HaveLengthsOf entries objects = (n : ℕ) → length_in entries n ≡ option_map length (finite.get objects n)

@@ -8,6 +8,7 @@ use Rattle.base.specs.formats.Blocks.{Frame}
 use Rattle.base.specs.formats.Fields.{entry_in}
 use Rattle.base.specs.formats.Limits.{entry_count, record_count, record_size}
 use Rattle.base.specs.tree.Damages.{IsEntryForm, IsRecordPointerForm}
+use Rattle.object_maps.specs.declared.tree.ObjectEntry.{ObjectEntry}
 use Rattle.object_maps.specs.declared.tree.ObjectMap.{ObjectMap}
 use Rattle.object_maps.specs.declared.walk.Entry.{Entry}
 use Rattle.object_maps.specs.Loading.{AreEmptyFrom, Shows}
@@ -21,13 +22,13 @@ OnImage keeps disk P = (image : List ℕ) → Shows keeps disk image → P image
 abbrev pub OnWalk : Bool → Disk → (List ℕ → Pointer → Type 0) → Type 0
 OnWalk keeps disk P = IsTrue keeps → (image : List ℕ) (root : Pointer) → bytes_of disk.now ≡ image → P image root
 
--- The sink stands for objects of which none is there from this number on. After a load it stands for other objects, and
--- this is true of both and of the maps.
-abbrev pub LoadsFrom : {S : Type 0} → ℕ → (S → FinMap nat_cmp (List ℕ) → Type 0) → (S → List ObjectMap) → S → S
-    → (FinMap nat_cmp (List ℕ) → FinMap nat_cmp (List ℕ) → List ObjectMap → List ObjectMap → Type 0) → Type 0
-LoadsFrom start stands_for maps old new P =
-    (before : FinMap nat_cmp (List ℕ)) → stands_for old before → AreEmptyFrom start before (maps old)
-    → (after : FinMap nat_cmp (List ℕ)) × stands_for new after × P before after (maps old) (maps new)
+-- On a device with so many blocks the sink stands for objects of which none is there from this number on. After a load
+-- it stands for other objects, and this is true of both and of the entries.
+abbrev pub LoadsFrom : {S : Type 0} → ℕ → (S → ℕ → FinMap nat_cmp (List ℕ) → Type 0) → (S → List ObjectEntry) → S → S
+    → (FinMap nat_cmp (List ℕ) → FinMap nat_cmp (List ℕ) → List ObjectEntry → List ObjectEntry → Type 0) → Type 0
+LoadsFrom start stands_for entries old new P =
+    (blocks : ℕ) (before : FinMap nat_cmp (List ℕ)) → stands_for old blocks before → AreEmptyFrom start before (entries old)
+    → (after : FinMap nat_cmp (List ℕ)) × stands_for new blocks after × P before after (entries old) (entries new)
 
 -- the payload of a directory has the size of one, and each of its entries is absent and all zeros, or present and
 -- within its limits

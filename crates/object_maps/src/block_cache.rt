@@ -53,6 +53,11 @@ impl BlockCache {
         self.alloc
     }
 
+    /// How many blocks there may be.
+    pub fn count(&self) -> NonZeroUsize {
+        self.count
+    }
+
     /// Copies the payload of the block at an address, if it is there; it is then the most recently used one. It takes
     /// no memory.
     pub fn copy(&mut self, address: u64, into: &mut [u8]) -> bool

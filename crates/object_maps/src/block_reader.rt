@@ -22,7 +22,7 @@ ghost use Rattle.object_maps.specs.Sources.{AreBytesFrom};
 use crate::tree::RECORD_COUNT;
 use crate::walk::{BlockPlace, damaged};
 use base::{POINTER_SIZE, Pointer, PoolError, RECORD_SIZE, are_zeros, read_pointer};
-use checked_blocks::{Frame, Kind, PAYLOAD_SIZE};
+use checked_blocks::{Block, Frame, Kind, PAYLOAD_SIZE};
 use device_model::SectorDevice;
 
 /// A device whose tree blocks are read.
@@ -49,6 +49,13 @@ pub trait BlockReader: SectorDevice {
         ensures sound { IsTrue Self.keeps_model → (payload : List ℕ)
             → Opens (bytes_of (Self.disk self.old).now) frame.now (kind_number place.kind)
             place.number pointer.now payload → IfErr result (λ e. e ≡ error.Read) };
+
+    /// Takes a sealed block that was written to an address. A read of it there may compare its bytes in place of making
+    /// its check. It makes no device call, and without memory the block isn't kept.
+    fn keep_sealed(&mut self, address: u64, block: Block)
+        ensures size { Self.size self.new ≡ Self.size self.old }
+        ensures disk { Self.disk self.new ≡ Self.disk self.old }
+        ensures refused { Self.refused self.new ≡ Self.refused self.old };
 }
 
 /// The payload of the indirect block of an object whose directory entry has this pointer. If it has no such block, the

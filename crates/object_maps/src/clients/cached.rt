@@ -20,7 +20,7 @@ use crate::block_reader::{BlockReader, read_indirect, read_part, record_pointer}
 use crate::cached_device::CachedDevice;
 use crate::walk::BlockPlace;
 use base::{Pointer, PoolError};
-use checked_blocks::Frame;
+use checked_blocks::{Block, Frame};
 use device_model::SectorDevice;
 use std::alloc::Global;
 use std::num::NonZeroUsize;
@@ -93,6 +93,34 @@ fn a_forgotten_block_stays_on_the_device<D: SectorDevice>(device: &mut CachedDev
     ensures { D.disk (device_in device.new) ≡ D.disk (device_in device.old) }
 {
     device.forget(4096);
+}
+
+// What a sync wrote stays beside the device, which is left as it is.
+fn a_kept_block_leaves_the_device<D: SectorDevice>(device: &mut CachedDevice<D>, block: Block)
+    ensures disk { D.disk (device_in device.new) ≡ D.disk (device_in device.old) }
+    ensures size { D.size (device_in device.new) ≡ D.size (device_in device.old) }
+    ensures refused { D.refused (device_in device.new) ≡ D.refused (device_in device.old) }
+{
+    device.keep_sealed(4096, block);
+}
+
+// A block that a sync wrote is read as the device has it.
+fn a_kept_block_is_read_from_the_device<D: SectorDevice>(
+    device: &mut CachedDevice<D>,
+    frame: &Frame,
+    place: BlockPlace,
+    pointer: &Pointer,
+    block: Block,
+    into: &mut [u8],
+) -> Result<(), PoolError>
+    requires fits { block_address frame.now.blocks ≤ D.size (device_in device.old) }
+    requires size { length into.old ≡ payload_size }
+    ensures { IsTrue D.keeps_model → (payload : List ℕ)
+        → Opens (bytes_of (D.disk (device_in device.old)).now) frame.now (kind_number place.kind)
+        place.number pointer.now payload → OnOk result (into.new ≡ payload) }
+{
+    device.keep_sealed(pointer.address, block);
+    device.read_payload(frame, place, pointer, into)
 }
 
 // The payload of an object's indirect block has the pointer of each of its records.

@@ -1,6 +1,6 @@
 //! What callers rest on of loads: no tree with a damage is loaded, and what is loaded is what the image has.
 
-ghost use Rattle.std.specs.Prelude.{◌≡◌, ◌≢◌, ◌<◌, ◌≤◌, ◌⊎◌, IfErr, IfOk, IfSome, IsTrue, None, Some, replicate};
+ghost use Rattle.std.specs.Prelude.{◌≡◌, ◌≢◌, ◌<◌, ◌≤◌, ◌⊎◌, IfErr, IfOk, IfSome, IsTrue, None, Some, false, replicate};
 ghost use Rattle.std.specs.FinMap as finite;
 ghost use Rattle.base.specs.declared.error.PoolError.TheVariants as error;
 ghost use Rattle.base.specs.disk.Disk.{bytes_of};
@@ -14,12 +14,14 @@ ghost use Rattle.base.specs.tree.Places.Place.{Data, Directory};
 ghost use Rattle.object_maps.specs.Lengths.{lengths_of};
 ghost use Rattle.object_maps.specs.Loading.{IsLoadRefusal};
 ghost use Rattle.object_maps.specs.Pointers.{objects_of};
+ghost use Rattle.space.specs.FreeSets.{is_free};
 
 use crate::tree::Tree;
 use crate::walk::{Loaded, load, survey};
 use base::{Pointer, PoolError};
 use checked_blocks::Frame;
 use device_model::SectorDevice;
+use space::FreeSet;
 use std::alloc::Global;
 
 // A root that was born after the newest group is reported as damaged, by its address, unless memory or a read is
@@ -145,6 +147,36 @@ fn a_survey_has_the_lengths_of_entries<D: SectorDevice>(
         (directory_pointer (bytes_of (D.disk device.old).now) root 0).address) 7) ≡ 100 }
     ensures { IfOk result (λ t. lengths_of t 7 ≡ Some 100) }
 {
-    let tree = survey(alloc, device, frame, root)?;
+    let (tree, _free) = survey(alloc, device, frame, root)?;
     Ok(tree)
+}
+
+// The block of the root is not free once a tree is loaded.
+fn the_block_of_the_root_is_not_free<D: SectorDevice>(
+    alloc: Global,
+    device: &mut D,
+    frame: &Frame,
+    root: Pointer,
+) -> Result<Loaded, PoolError>
+    requires fits { block_address frame.now.blocks ≤ D.size device.old }
+    requires area { 0 < frame.now.blocks }
+    requires root { root.address ≡ 4194304 }
+    ensures { IfOk result (λ l. is_free 0 l.free ≡ false) }
+{
+    load(alloc, device, frame, root)
+}
+
+// Nor is it once the tree is surveyed.
+fn a_surveyed_root_is_not_free<D: SectorDevice>(
+    alloc: Global,
+    device: &mut D,
+    frame: &Frame,
+    root: Pointer,
+) -> Result<(Tree, FreeSet), PoolError>
+    requires fits { block_address frame.now.blocks ≤ D.size device.old }
+    requires area { 0 < frame.now.blocks }
+    requires root { root.address ≡ 4194304 }
+    ensures { IfOk result (λ t. is_free 0 t.1 ≡ false) }
+{
+    survey(alloc, device, frame, root)
 }

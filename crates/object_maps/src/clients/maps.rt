@@ -10,7 +10,7 @@ ghost use Rattle.object_maps.specs.Lengths.{HasLengthsOf, lengths_of};
 ghost use Rattle.object_maps.specs.Pointers.{map_among, pointers_of};
 ghost use Rattle.object_maps.specs.Sources.{AreWithin};
 
-use crate::tree::{ObjectMap, Tree};
+use crate::tree::{ObjectEntry, ObjectMap, Tree};
 use base::{ObjectId, Pointer};
 use std::alloc::{AllocError, Global};
 use std::collections::BTreeMap;
@@ -36,6 +36,14 @@ fn a_map_that_is_set_stays(tree: &mut Tree, maps: BTreeMap<ObjectId, ObjectMap>)
     ensures others { map_among maps 8 ≡ None → lengths_of tree.new 8 ≡ lengths_of tree.old 8 }
 {
     tree.set_all(maps)
+}
+
+// What is kept of a map has its length and its indirect block.
+fn an_entry_has_the_indirect_block_of_its_map(map: ObjectMap) -> ObjectEntry
+    ensures length { result.length ≡ map.length }
+    ensures indirect { result.indirect ≡ map.indirect }
+{
+    map.into_entry()
 }
 
 // The last object that there may be is listed, with its length.

@@ -4,11 +4,9 @@ use Rattle.std.specs.FinMap as finite
 use Rattle.std.specs.FinMap.{FinMap}
 use Rattle.std.proofs.lemmas.Result.{err_from_is_err_and}
 use Rattle.base.specs.disk.Disk.{bytes_of}
-use Rattle.object_maps.specs.declared.tree.ObjectMap.{ObjectMap}
 use Rattle.object_maps.specs.Lengths.{HaveLengthsOf}
 use Rattle.object_maps.specs.Pointers.{objects_of}
-use Rattle.object_maps.proofs.ContentsShown.{all_absent}
-use Rattle.object_maps.proofs.LoadedTrees.{no_lengths, no_pointers, none_there, whole_tree}
+use Rattle.object_maps.proofs.LoadedTrees.{no_pointers, whole_tree}
 use Rattle.object_maps.proofs.WalkParts.{first_damage}
 use Rattle.object_maps.proofs.walk.load.Goals as goal
 
@@ -19,29 +17,42 @@ load_tree-requires-clause-no_directories g c =
 pub returns-clause-placed : goal.returns-clause-placed
 returns-clause-placed g c =
     let image : List ℕ = bytes_of (g.D.SectorDevice.disk c.args.device.now).now in
-    let maps : List ObjectMap = c.in_ok-maps.maps.items in
-    let (objects, stands, tree) = c.in_ok-load_tree.ensures.loaded image (λ keeps. refl) finite.empty (all_absent c.in_ok-slots.slots.items c.in_ok-slots.ensures.absent, no_lengths maps c.in_ok-maps.ensures.empty) (none_there maps c.in_ok-maps.ensures.empty) in
+    let made = c.in_ok-objects.ensures in
+    let (objects, stands, tree) = c.in_ok-load_tree.ensures.loaded image (λ keeps. refl) c.args.frame.now.blocks finite.empty (made.objects, made.lengths, (let same = c.blocks-2.ensures in rw (sym same) made.marked)) made.empty in
     let whole = whole_tree g.D.SectorDevice.keeps_model image c.args.frame.now c.args.root c.load_tree.new.directories c.in_ok-directories.directories.items objects
-    c.load_tree.new.objects.maps.items c.in_ok-directories.directories.len (c.load_tree.auto.directories ∙ c.deref_mut.ensures.len) tree (objects_of c.load_tree.new.objects.slots.items) stands.0 in
-    whole.placed
+    c.load_tree.new.objects.entries.entries.items c.in_ok-directories.directories.len (c.load_tree.auto.directories ∙ c.deref_mut.ensures.len) tree (objects_of c.load_tree.new.objects.slots.items) stands.0 in
+    let of = c.into_tree-tree.ensures in
+    rw (of.root, of.directories, of.entries) whole.placed
+
+pub returns-clause-free : goal.returns-clause-free
+returns-clause-free g c =
+    let image : List ℕ = bytes_of (g.D.SectorDevice.disk c.args.device.now).now in
+    let made = c.in_ok-objects.ensures in
+    let (objects, stands, tree) = c.in_ok-load_tree.ensures.loaded image (λ keeps. refl) c.args.frame.now.blocks finite.empty (made.objects, made.lengths, (let same = c.blocks-2.ensures in rw (sym same) made.marked)) made.empty in
+    let whole = whole_tree g.D.SectorDevice.keeps_model image c.args.frame.now c.args.root c.load_tree.new.directories c.in_ok-directories.directories.items objects
+    c.load_tree.new.objects.entries.entries.items c.in_ok-directories.directories.len (c.load_tree.auto.directories ∙ c.deref_mut.ensures.len) tree (objects_of c.load_tree.new.objects.slots.items) stands.0 in
+    let of = c.into_tree-tree.ensures in
+    of.free c.args.frame.now.blocks stands.2
 
 pub returns-clause-objects : goal.returns-clause-objects
 returns-clause-objects g c =
     let image : List ℕ = bytes_of (g.D.SectorDevice.disk c.args.device.now).now in
-    let maps : List ObjectMap = c.in_ok-maps.maps.items in
-    let (objects, stands, tree) = c.in_ok-load_tree.ensures.loaded image (λ keeps. refl) finite.empty (all_absent c.in_ok-slots.slots.items c.in_ok-slots.ensures.absent, no_lengths maps c.in_ok-maps.ensures.empty) (none_there maps c.in_ok-maps.ensures.empty) in
+    let made = c.in_ok-objects.ensures in
+    let (objects, stands, tree) = c.in_ok-load_tree.ensures.loaded image (λ keeps. refl) c.args.frame.now.blocks finite.empty (made.objects, made.lengths, (let same = c.blocks-2.ensures in rw (sym same) made.marked)) made.empty in
     let whole = whole_tree g.D.SectorDevice.keeps_model image c.args.frame.now c.args.root c.load_tree.new.directories c.in_ok-directories.directories.items objects
-    c.load_tree.new.objects.maps.items c.in_ok-directories.directories.len (c.load_tree.auto.directories ∙ c.deref_mut.ensures.len) tree (objects_of c.load_tree.new.objects.slots.items) stands.0 in
-    (whole.bounded, λ n low. subst (λ (m : FinMap nat_cmp (List ℕ)). HaveLengthsOf c.load_tree.new.objects.maps.items m) (sym stands.0) stands.1 n)
+    c.load_tree.new.objects.entries.entries.items c.in_ok-directories.directories.len (c.load_tree.auto.directories ∙ c.deref_mut.ensures.len) tree (objects_of c.load_tree.new.objects.slots.items) stands.0 in
+    let of = c.into_tree-tree.ensures in
+    rw of.entries (whole.bounded, λ n low. subst (λ (m : FinMap nat_cmp (List ℕ)). HaveLengthsOf c.load_tree.new.objects.entries.entries.items m) (sym stands.0) stands.1 n)
 
 pub returns-clause-tree : goal.returns-clause-tree
 returns-clause-tree g c =
     let image : List ℕ = bytes_of (g.D.SectorDevice.disk c.args.device.now).now in
-    let maps : List ObjectMap = c.in_ok-maps.maps.items in
-    let (objects, stands, tree) = c.in_ok-load_tree.ensures.loaded image (λ keeps. refl) finite.empty (all_absent c.in_ok-slots.slots.items c.in_ok-slots.ensures.absent, no_lengths maps c.in_ok-maps.ensures.empty) (none_there maps c.in_ok-maps.ensures.empty) in
+    let made = c.in_ok-objects.ensures in
+    let (objects, stands, tree) = c.in_ok-load_tree.ensures.loaded image (λ keeps. refl) c.args.frame.now.blocks finite.empty (made.objects, made.lengths, (let same = c.blocks-2.ensures in rw (sym same) made.marked)) made.empty in
     let whole = whole_tree g.D.SectorDevice.keeps_model image c.args.frame.now c.args.root c.load_tree.new.directories c.in_ok-directories.directories.items objects
-    c.load_tree.new.objects.maps.items c.in_ok-directories.directories.len (c.load_tree.auto.directories ∙ c.deref_mut.ensures.len) tree (objects_of c.load_tree.new.objects.slots.items) stands.0 in
-    whole.held
+    c.load_tree.new.objects.entries.entries.items c.in_ok-directories.directories.len (c.load_tree.auto.directories ∙ c.deref_mut.ensures.len) tree (objects_of c.load_tree.new.objects.slots.items) stands.0 in
+    let of = c.into_tree-tree.ensures in
+    λ keeps. rw (of.root, of.directories, of.entries) (whole.held keeps)
 
 pub returns-in_err-load_tree-clause-damage : goal.returns-in_err-load_tree-clause-damage
 returns-in_err-load_tree-clause-damage g c = λ keeps.

@@ -1,9 +1,8 @@
-use Rattle.std.proofs.Common.{◌∙◌, ℕ, List, refl}
+use Rattle.std.proofs.Common.{◌∙◌, ℕ, List, refl, sym}
 use Rattle.std.specs.FinMap as finite
 use Rattle.std.proofs.lemmas.Result.{err_from_is_err_and}
 use Rattle.base.specs.disk.Disk.{bytes_of}
-use Rattle.object_maps.specs.declared.tree.ObjectMap.{ObjectMap}
-use Rattle.object_maps.proofs.LoadedTrees.{no_lengths, no_pointers, none_there, whole_tree}
+use Rattle.object_maps.proofs.LoadedTrees.{no_pointers, whole_tree}
 use Rattle.object_maps.proofs.WalkParts.{first_damage}
 use Rattle.object_maps.proofs.walk.survey.Goals as goal
 
@@ -14,20 +13,32 @@ load_tree-requires-clause-no_directories g c =
 pub returns-clause-placed : goal.returns-clause-placed
 returns-clause-placed g c =
     let image : List ℕ = bytes_of (g.D.SectorDevice.disk c.args.device.now).now in
-    let maps : List ObjectMap = c.in_ok-maps.maps.items in
-    let (objects, stands, tree) = c.in_ok-load_tree.ensures.loaded image (λ keeps. refl) finite.empty (no_lengths maps c.in_ok-maps.ensures.empty) (none_there maps c.in_ok-maps.ensures.empty) in
+    let made = c.in_ok-entries.ensures in
+    let (objects, stands, tree) = c.in_ok-load_tree.ensures.loaded image (λ keeps. refl) c.args.frame.now.blocks finite.empty (made.lengths, (let same = c.blocks-2.ensures in rw (sym same) made.marked)) made.empty in
     let whole = whole_tree g.D.SectorDevice.keeps_model image c.args.frame.now c.args.root c.load_tree.new.directories c.in_ok-directories.directories.items objects
-    c.load_tree.new.objects.maps.items c.in_ok-directories.directories.len (c.load_tree.auto.directories ∙ c.deref_mut.ensures.len) tree objects refl in
-    whole.placed
+    c.load_tree.new.objects.entries.items c.in_ok-directories.directories.len (c.load_tree.auto.directories ∙ c.deref_mut.ensures.len) tree objects refl in
+    let of = c.into_tree.ensures in
+    rw (of.root, of.directories, of.entries) whole.placed
+
+pub returns-clause-free : goal.returns-clause-free
+returns-clause-free g c =
+    let image : List ℕ = bytes_of (g.D.SectorDevice.disk c.args.device.now).now in
+    let made = c.in_ok-entries.ensures in
+    let (objects, stands, tree) = c.in_ok-load_tree.ensures.loaded image (λ keeps. refl) c.args.frame.now.blocks finite.empty (made.lengths, (let same = c.blocks-2.ensures in rw (sym same) made.marked)) made.empty in
+    let whole = whole_tree g.D.SectorDevice.keeps_model image c.args.frame.now c.args.root c.load_tree.new.directories c.in_ok-directories.directories.items objects
+    c.load_tree.new.objects.entries.items c.in_ok-directories.directories.len (c.load_tree.auto.directories ∙ c.deref_mut.ensures.len) tree objects refl in
+    let of = c.into_tree.ensures in
+    of.free c.args.frame.now.blocks stands.1
 
 pub returns-clause-objects : goal.returns-clause-objects
 returns-clause-objects g c =
     let image : List ℕ = bytes_of (g.D.SectorDevice.disk c.args.device.now).now in
-    let maps : List ObjectMap = c.in_ok-maps.maps.items in
-    let (objects, stands, tree) = c.in_ok-load_tree.ensures.loaded image (λ keeps. refl) finite.empty (no_lengths maps c.in_ok-maps.ensures.empty) (none_there maps c.in_ok-maps.ensures.empty) in
+    let made = c.in_ok-entries.ensures in
+    let (objects, stands, tree) = c.in_ok-load_tree.ensures.loaded image (λ keeps. refl) c.args.frame.now.blocks finite.empty (made.lengths, (let same = c.blocks-2.ensures in rw (sym same) made.marked)) made.empty in
     let whole = whole_tree g.D.SectorDevice.keeps_model image c.args.frame.now c.args.root c.load_tree.new.directories c.in_ok-directories.directories.items objects
-    c.load_tree.new.objects.maps.items c.in_ok-directories.directories.len (c.load_tree.auto.directories ∙ c.deref_mut.ensures.len) tree objects refl in
-    record { objects = objects; bounded = whole.bounded; lengths = λ n low. stands n; held = whole.held }
+    c.load_tree.new.objects.entries.items c.in_ok-directories.directories.len (c.load_tree.auto.directories ∙ c.deref_mut.ensures.len) tree objects refl in
+    let of = c.into_tree.ensures in
+    record { objects = objects; bounded = whole.bounded; lengths = rw of.entries (λ n low. stands.0 n); held = λ keeps. rw (of.root, of.directories, of.entries) (whole.held keeps) }
 
 pub returns-in_err-load_tree-clause-damage : goal.returns-in_err-load_tree-clause-damage
 returns-in_err-load_tree-clause-damage g c = λ keeps.

@@ -1,11 +1,9 @@
-use Rattle.std.proofs.Common.{◌≡◌, ◌∙◌, ℕ, List, refl, sym, ap, inl, inr, subst}
-use Rattle.std.specs.Prelude.{IsTrue}
+use Rattle.std.proofs.Common.{◌∙◌, ℕ, List, refl, sym, ap, inl, inr}
 use Rattle.std.proofs.lemmas.Result.{err_from_is_err_and}
 use Rattle.std.specs.Coded.{Coded-set, coded_list, coded_ℕ}
 use Rattle.std.proofs.Math.Logic.{∥∥₁_elim, ∥∥₁_map}
 use Rattle.lru.specs.LruCache.{LruCache}
-use Rattle.base.specs.disk.Disk.{Disk, bytes_of}
-use Rattle.object_maps.specs.Cached.{AgreesWith}
+use Rattle.base.specs.disk.Disk.{bytes_of}
 use Rattle.object_maps.proofs.CachedBlocks.{aligned, found-agrees, left-agrees, promoted-left, put-agrees}
 use Rattle.object_maps.proofs.CachedDisks.{same-agrees}
 use Rattle.object_maps.proofs.cached_device.CachedDeviceBlockReader.read_payload.Goals as goal

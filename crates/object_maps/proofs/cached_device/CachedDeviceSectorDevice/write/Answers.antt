@@ -1,4 +1,4 @@
-use Rattle.std.proofs.Common.{length, ◌≤◌, ◌+◌, sym, subst, arith}
+use Rattle.std.proofs.Common.{length, ◌≤◌, ◌+◌}
 use Rattle.std.proofs.Math.Logic.{∥∥₁_map}
 use Rattle.base.specs.disk.Disk.{disk_size}
 use Rattle.object_maps.proofs.CachedDisks.{written-disk_agrees}

@@ -4,15 +4,15 @@ use Rattle.std.specs.Option.{option_map_or}
 use Rattle.std.proofs.lemmas.Option.{slice_get-get_or}
 use Rattle.base.specs.formats.Limits.{object_count}
 use Rattle.base.specs.declared.names.ObjectId.{ObjectId}
-use Rattle.object_maps.specs.declared.tree.ObjectMap.{ObjectMap}
-use Rattle.object_maps.specs.Lengths.{map_length}
+use Rattle.object_maps.specs.declared.tree.ObjectEntry.{ObjectEntry}
+use Rattle.object_maps.specs.Lengths.{length_in}
 use Rattle.object_maps.proofs.RisingObjects.{listed_at, listed_below, listed_below-all, listed_next}
 use Rattle.object_maps.proofs.tree.Tree.list_objects.Goals as goal
 use Rattle.object_maps.proofs.tree.Tree.list_objects.Goals.{in-Some+in_ok-push, in_default}
 
 -- the length of a map among those of a tree
-length_at : (maps : List ObjectMap) (n : ℕ) (m : ObjectMap) → n < length maps → m ≡ get_or maps n m → m.length ≡ map_length maps n
-length_at maps n m low is = sym (ap (λ (o : Option ObjectMap). option_map_or (λ (p : ObjectMap). p.length) o None) (slice_get-get_or maps n m low ∙ ap Some (sym is)))
+length_at : (maps : List ObjectEntry) (n : ℕ) (m : ObjectEntry) → n < length maps → m ≡ get_or maps n m → m.length ≡ length_in maps n
+length_at maps n m low is = sym (ap (λ (o : Option ObjectEntry). option_map_or (λ (p : ObjectEntry). p.length) o None) (slice_get-get_or maps n m low ∙ ap Some (sym is)))
 
 pub loop-number-init : goal.loop-number-init
 unfolding listed_below
@@ -22,8 +22,8 @@ pub loop-number-preserved : goal.loop-number-preserved
 loop-number-preserved c = λ objects within lengths.
     let tree = c.args.self.now in
     let n : ℕ = c.loop-number.number in
-    let low : n < length tree.maps.items = omega (arith, c.loop-number-test.true, tree.maps.ok.0, tree.all_objects) in
-    let told = length_at tree.maps.items n c.index.result.now low c.index.ensures ∙ lengths n c.loop-number-test.true in
+    let low : n < length tree.entries.items = omega (arith, c.loop-number-test.true, tree.entries.ok.0, tree.all_objects) in
+    let told = length_at tree.entries.items n c.index.result.now low c.index.ensures ∙ lengths n c.loop-number-test.true in
     let so_far = c.loop-number.invariant objects within lengths in
     elim c.match-index.branch [
       | in-Some+in_ok-push w ↦ rw w.list-is (w.in_ok-push.ensures.items ∙ ap (λ (l : List (ObjectId × ℕ)). l ++ listed_at n (Some w.in-Some.length)) so_far

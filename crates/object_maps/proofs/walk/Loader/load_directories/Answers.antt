@@ -16,8 +16,8 @@ loop-index-init g c = record {
   disk = λ keeps. refl;
   count = refl;
   sound = λ keeps image top shows all. sound_none image c.args.self.now.frame.now top 1 1 (omega arith);
-  loaded = λ image shows before stood empty.
-      (before, stood, no_directories g.D.SectorDevice.keeps_model image c.args.self.now.frame.now c.args.directories.now before (g.S.ObjectSink.maps c.args.objects.now) empty);
+  loaded = λ image shows blocks before stood empty.
+      (before, stood, no_directories g.D.SectorDevice.keeps_model image c.args.self.now.frame.now c.args.directories.now before (g.S.ObjectSink.entries c.args.objects.now) empty);
 }
 
 pub loop-index-preserved-then-is_none : goal.loop-index-preserved-then-is_none
@@ -30,12 +30,12 @@ loop-index-preserved-then-is_none g c =
       count = i.count;
       sound = λ keeps image top shows all. directory_skip image c.args.self.now.frame.now top c.loop-index.index c.args.directories.now _ c.loop-index-test.true all within
           (c.if-is_none.ensures.0 refl) (i.sound keeps image top shows all);
-      loaded = λ image shows before stood empty.
-          let (after, stands, so_far) = i.loaded image shows before stood empty in (
+      loaded = λ image shows blocks before stood empty.
+          let (after, stands, so_far) = i.loaded image shows blocks before stood empty in (
             after,
             stands,
             directories_skip g.D.SectorDevice.keeps_model image c.args.self.now.frame.now c.args.directories.now c.loop-index.index
-                after (g.S.ObjectSink.maps c.loop-index.objects) so_far _ within (c.if-is_none.ensures.0 refl),
+                after (g.S.ObjectSink.entries c.loop-index.objects) so_far _ within (c.if-is_none.ensures.0 refl),
           );
     }
 
@@ -53,14 +53,14 @@ loop-index-preserved g c =
           (call.walked keeps image top (ap (λ (d : Disk). bytes_of d.now) (i.disk keeps) ∙ shows)
           (all.at c.loop-index.index c.loop-index-test.true ∙ get_or_default c.args.directories.now c.loop-index.index no_pointer _ within)
           (λ none. let no = c.if-is_none.ensures.1 none in cc));
-      loaded = λ image shows before stood empty.
-          let (so_many, stood_then, so_far) = i.loaded image shows before stood empty in
+      loaded = λ image shows blocks before stood empty.
+          let (so_many, stood_then, so_far) = i.loaded image shows blocks before stood empty in
           let now_shows = still_shows g.D.SectorDevice.keeps_model (g.D.SectorDevice.disk c.args.device.now) (g.D.SectorDevice.disk c.loop-index.device) image i.disk shows in
-          let (after, stands, here) = call.loaded image now_shows so_many stood_then so_far.rest in (
+          let (after, stands, here) = call.loaded image now_shows blocks so_many stood_then so_far.rest in (
             after,
             stands,
             directories_load g.D.SectorDevice.keeps_model image c.args.self.now.frame.now c.args.directories.now c.loop-index.index
-                so_many after (g.S.ObjectSink.maps c.loop-index.objects) (g.S.ObjectSink.maps c.load_directory.new.objects) so_far _ within here,
+                so_many after (g.S.ObjectSink.entries c.loop-index.objects) (g.S.ObjectSink.entries c.load_directory.new.objects) so_far _ within here,
           );
     }
 

@@ -16,6 +16,6 @@ invariant-loop-index g l = record {
   sound : IsTrue g.D.SectorDevice.keeps_model → (image : List ℕ) (top : Pointer) → bytes_of (g.D.SectorDevice.disk l.fn.device).now ≡ image
       → AreDirectoriesOf image top l.directories → AreSound image l.self.frame.now top 1 (1 + 5356 * l.index);
   loaded : (image : List ℕ) → Shows g.D.SectorDevice.keeps_model (g.D.SectorDevice.disk l.fn.device) image
-      → LoadsFrom 0 g.S.ObjectSink.stands_for g.S.ObjectSink.maps l.fn.objects l.objects
+      → LoadsFrom 0 g.S.ObjectSink.stands_for g.S.ObjectSink.entries l.fn.objects l.objects
       (λ _ after _. AreLoadedDirectories g.D.SectorDevice.keeps_model image l.self.frame.now l.directories l.index after);
 }

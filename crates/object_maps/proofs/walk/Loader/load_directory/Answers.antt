@@ -18,11 +18,11 @@ returns-clause-loaded g c = λ image shows.
     let same = still_shows keeps_model (g.D.SectorDevice.disk c.args.device.now) (g.D.SectorDevice.disk c.read_block.new.device) image read.reads.disk shows in
     let opens = λ (keeps : IsTrue keeps_model). subst (λ (l : List ℕ). OpensAt image frame (Directory c.args.directory) c.args.pointer.now l) (sym c.payload_of-payload.ensures.payload)
     (read.opens image shows keeps) in
-    let old_maps = g.S.ObjectSink.maps c.args.objects.now in
-    let maps = g.S.ObjectSink.maps c.load_entries.new.objects in
+    let old_maps = g.S.ObjectSink.entries c.args.objects.now in
+    let maps = g.S.ObjectSink.entries c.load_entries.new.objects in
     on_ok_weaker c.load_entries.result
-    (λ loads before stood empty.
-    let (after, stands, all) = loads before stood empty in
+    (λ loads blocks before stood empty.
+    let (after, stands, all) = loads blocks before stood empty in
     (after, stands, directory_loaded keeps_model image frame c.args.directory c.args.pointer.now c.payload_of-payload.result.now before after old_maps maps read.placed opens all))
     (c.load_entries.ensures.loaded image same)
 

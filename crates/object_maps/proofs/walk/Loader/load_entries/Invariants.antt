@@ -17,6 +17,6 @@ invariant-loop-index g l = record {
       → IsPayloadOf image l.self.frame.now top l.directory l.payload
       → AreSound image l.self.frame.now top (2 + 5356 * l.directory) (2 + 5356 * l.directory + 85 * l.index);
   loaded : (image : List ℕ) → Shows g.D.SectorDevice.keeps_model (g.D.SectorDevice.disk l.fn.device) image
-      → LoadsFrom (63 * l.directory) g.S.ObjectSink.stands_for g.S.ObjectSink.maps l.fn.objects l.objects
+      → LoadsFrom (63 * l.directory) g.S.ObjectSink.stands_for g.S.ObjectSink.entries l.fn.objects l.objects
       (AreLoadedEntries g.D.SectorDevice.keeps_model image l.self.frame.now l.directory l.payload l.index);
 }
