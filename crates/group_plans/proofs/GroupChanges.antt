@@ -15,16 +15,16 @@ use Rattle.base.specs.history.Contents.{Contents, length_of}
 use Rattle.base.specs.history.Plans.{IsRange, ranges, touched}
 use Rattle.base.specs.steps.Steps.{AreLengthsOf}
 use Rattle.base.specs.tree.Syncs.{is_on, record_state}
-use Rattle.base.proofs.tree.RecordStates.{object-off}
-use Rattle.object_maps.specs.declared.tree.ObjectMap.{ObjectMap}
-use Rattle.object_maps.specs.Lengths.{map_length}
+use Rattle.base.proofs.tree.RecordStates.{object-off, state-made}
+use Rattle.object_maps.specs.declared.tree.ObjectEntry.{ObjectEntry}
+use Rattle.object_maps.specs.Lengths.{length_in}
 use Rattle.object_maps.specs.Ops.{AreOpsAllowed, IsOpAllowed}
 use Rattle.transactions.specs.declared.record.Record.{Record}
 use Rattle.tree_plans.specs.declared.changes.ObjectChanges.{ObjectChanges}
 use Rattle.tree_plans.specs.Changes.{AreInRange, state_in}
 use Rattle.tree_plans.specs.Marks.{AreChangesOf, pending_ops, sets_length}
 use Rattle.tree_plans.specs.Pointers.{entry_of}
-use Rattle.group_plans.specs.GroupPlans.{HasGroupLengths}
+use Rattle.group_plans.specs.GroupPlans.{HasGroupLengths, MakesHoles}
 use Rattle.group_plans.specs.Laws.{AllowedOpsTakePlace}
 use Rattle.group_plans.specs.Operations.{TakesPlace}
 
@@ -88,7 +88,7 @@ any_on n (o ∷ ops) sets = by (sets_length n o) refl sets (any_on n ops)
     by false is any rest = ap (λ (c : Bool). is_on n o || c) (rest any) ∙ or-true (is_on n o)
 
 -- What is told of the operations of a group that take place.
-module _ (ops : List Op) (maps : List ObjectMap) (before after : Contents) (x : TakesPlace ops maps before after) where
+module _ (ops : List Op) (maps : List ObjectEntry) (before after : Contents) (x : TakesPlace ops maps before after) where
   module _ (objects : List (ObjectId × ObjectChanges)) (changes : AreChangesOf ops maps objects) where
     -- each object that they are on is in range
     pub in_range : AreInRange objects
@@ -98,16 +98,21 @@ module _ (ops : List Op) (maps : List ObjectMap) (before after : Contents) (x : 
     pub states_are : (n r : ℕ) → r < pointer_count → state_in objects n r ≡ record_state n r ops before Unchanged
     states_are n r below = changes.states before after x.leads x.within n r below (λ sets. x.sizes n (x.numbers n (any_on n ops sets)))
 
+    -- an object that they only create or remove has holes alone
+    pub makes_holes : MakesHoles objects
+    makes_holes n r low below there unchanged =
+        states_are n r below ∙ state-made n r ops before Unchanged (sym (changes.changed n) ∙ unchanged) (sym (changes.there n) ∙ there)
+
     -- an object that they aren't on is as it was
     pub object_kept : (n : ℕ) → is_some (entry_of objects n) ≡ false → finite.get before.objects n ≡ finite.get after.objects n
     object_kept n off = object-off n ops before after (sym (changes.there n) ∙ off) x.leads
 
 -- and the lengths that a plan of the group gives the tree are those after the group
-pub lengths_told : (group : ℕ) (records : List Record) (maps : List ObjectMap) (before after : Contents) → TakesPlace (pending_ops group records) maps before after
+pub lengths_told : (group : ℕ) (records : List Record) (maps : List ObjectEntry) (before after : Contents) → TakesPlace (pending_ops group records) maps before after
     → (new : ℕ → Option ℕ) → HasGroupLengths group records maps new after.objects → AreLengthsOf after new
 lengths_told group records maps before after x new from n below = from.each n below ∙ by (is_some (entry_of from.objects n)) refl
   where
-    by : (b : Bool) → is_some (entry_of from.objects n) ≡ b → (if b then option_map length (finite.get after.objects n) else map_length maps n) ≡ length_of after n
+    by : (b : Bool) → is_some (entry_of from.objects n) ≡ b → (if b then option_map length (finite.get after.objects n) else length_in maps n) ≡ length_of after n
     by true on = refl
     by false off =
         x.sizes n below

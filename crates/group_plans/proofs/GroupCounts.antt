@@ -12,7 +12,6 @@ use Rattle.base.specs.declared.names.ObjectId.{ObjectId}
 use Rattle.base.specs.declared.operation.Op.{Op}
 use Rattle.base.specs.declared.operation.Shape.{Shape}
 use Rattle.base.specs.declared.pointer.Pointer.{Pointer}
-use Rattle.base.specs.formats.Blocks.{Frame}
 use Rattle.base.specs.formats.Limits.{object_count, pointer_count}
 use Rattle.base.specs.history.Contents.{Contents}
 use Rattle.base.specs.history.Plans.{estimate_of, estimate_of_shape, shape_of}
@@ -22,8 +21,7 @@ use Rattle.base.specs.tree.PlannedTrees.{NewBlock}
 use Rattle.base.specs.tree.Syncs.{written_by, written_places}
 use Rattle.base.proofs.tree.Estimates.{syncs_fit}
 use Rattle.base.proofs.tree.WrittenPlaces.{written-places}
-use Rattle.object_maps.specs.declared.tree.ObjectMap.{ObjectMap}
-use Rattle.object_maps.specs.Pointers.{pointers_of}
+use Rattle.object_maps.specs.declared.tree.ObjectEntry.{ObjectEntry}
 use Rattle.transactions.specs.declared.record.Record.{Record}
 use Rattle.tree_plans.specs.declared.changes.ObjectChanges.{ObjectChanges}
 use Rattle.tree_plans.specs.Changes.{changes_of_group, has_address}
@@ -32,10 +30,10 @@ use Rattle.tree_plans.specs.Plans.{new_block}
 use Rattle.group_plans.specs.GroupPlans.{IsShortOfBlocks, TakesGroupPlaces, plan_pointers}
 use Rattle.group_plans.specs.Laws.{EstimatesAdd, PlansFitEstimates, ShortPlansLackBlocks}
 use Rattle.group_plans.specs.Operations.{TakesPlace}
-use Rattle.group_plans.proofs.GroupChanges.{in_range, states_are}
+use Rattle.group_plans.proofs.GroupChanges.{in_range, makes_holes, states_are}
 
 -- From whichever pointers it is planned.
-module _ (ops : List Op) (maps : List ObjectMap) (before after : Contents) (x : TakesPlace ops maps before after) (pointers : Place → Pointer) where
+module _ (ops : List Op) (maps : List ObjectEntry) (before after : Contents) (x : TakesPlace ops maps before after) (pointers : Place → Pointer) where
   -- the places that are written are those that the changes tell
   pub places_told : (objects : List (ObjectId × ObjectChanges)) → AreChangesOf ops maps objects
       → (had : Place → Bool) → ((n r : ℕ) → n < object_count → r < pointer_count → has_address (pointers (Data n r)) ≡ had (Data n r))
@@ -52,7 +50,7 @@ module _ (ops : List Op) (maps : List ObjectMap) (before after : Contents) (x : 
 abbrev pub named_by : (Place → Pointer) → Place → Bool
 named_by pointers place = has_address (pointers place)
 
-module _ (group : ℕ) (records : List Record) (maps : List ObjectMap) (before after : Contents) (x : TakesPlace (pending_ops group records) maps before after) (pointers : Place → Pointer) where
+module _ (group : ℕ) (records : List Record) (maps : List ObjectEntry) (before after : Contents) (x : TakesPlace (pending_ops group records) maps before after) (pointers : Place → Pointer) where
   abbrev ops : List Op
   ops = pending_ops group records
 
@@ -62,19 +60,19 @@ module _ (group : ℕ) (records : List Record) (maps : List ObjectMap) (before a
   count_told objects changes = ap (λ (l : List Place). length l) (places_told ops maps before after x pointers objects changes (named_by pointers) (λ n r low below. refl))
 
   -- the new tree has the addresses of the plan's blocks at these places, in order
-  pub takes_at_places : (new : Place → Pointer) (bs : List NewBlock) → TakesGroupPlaces group records maps pointers new bs after.objects
+  pub takes_at_places : (new : Place → Pointer) (bs : List NewBlock) (returned : List ℕ) → TakesGroupPlaces group records maps pointers new bs returned after.objects
       → (had : Place → Bool) → ((n r : ℕ) → n < object_count → r < pointer_count → has_address (pointers (Data n r)) ≡ had (Data n r))
       → map (λ (place : Place). (new place).address) (written_places ops before had) ≡ map (λ (b : NewBlock). b.address) bs
-  takes_at_places new bs from had same =
+  takes_at_places new bs returned from had same =
       ap (λ (ps : List Place). map (λ (place : Place). (new place).address) ps) (places_told ops maps before after x pointers from.objects from.changes had same)
-      ∙ sym (from.order (in_range ops maps before after x from.objects from.changes))
+      ∙ sym (from.order (in_range ops maps before after x from.objects from.changes) (makes_holes ops maps before after x from.objects from.changes))
 
   -- a plan takes no more blocks than the operations are estimated at
-  pub blocks_fit : (new : Place → Pointer) (bs : List NewBlock) → TakesGroupPlaces group records maps pointers new bs after.objects → length bs ≤ estimate_of (map shape_of ops)
-  blocks_fit new bs from =
+  pub blocks_fit : (new : Place → Pointer) (bs : List NewBlock) (returned : List ℕ) → TakesGroupPlaces group records maps pointers new bs returned after.objects → length bs ≤ estimate_of (map shape_of ops)
+  blocks_fit new bs returned from =
       let each : length bs ≡ length (written_by (changes_of_group from.objects pointers after.objects)) =
       sym (length-map bs (λ (b : NewBlock). b.address))
-      ∙ ap (λ (l : List ℕ). length l) (from.order (in_range ops maps before after x from.objects from.changes))
+      ∙ ap (λ (l : List ℕ). length l) (from.order (in_range ops maps before after x from.objects from.changes) (makes_holes ops maps before after x from.objects from.changes))
       ∙ length-map (written_by (changes_of_group from.objects pointers after.objects)) (λ (place : Place). (new place).address) in
       subst (λ (n : ℕ). n ≤ estimate_of (map shape_of ops)) (count_told from.objects from.changes ∙ sym each) (syncs_fit ops before (named_by pointers))
 
@@ -93,10 +91,10 @@ module _ (group : ℕ) (records : List Record) (maps : List ObjectMap) (before a
 pub plans_fit_estimates : PlansFitEstimates
 plans_fit_estimates frame tree records before after p makes x =
     subst (λ (n : ℕ). n ≤ estimate_of (map shape_of (pending_ops frame.group records))) (length-map p.blocks.items new_block)
-    (blocks_fit frame.group records tree.maps.items before after x (pointers_of tree) (plan_pointers tree p) (map new_block p.blocks.items) makes.places)
+    (blocks_fit frame.group records tree.entries.items before after x makes.0 (plan_pointers tree p) (map new_block p.blocks.items) p.freed.items makes.1.places)
 
 pub short_plans_lack_blocks : ShortPlansLackBlocks
-short_plans_lack_blocks group tree records before after free short x = short_of_estimate group records tree.maps.items before after x (pointers_of tree) (rising free) short
+short_plans_lack_blocks group tree records old before after free short x = short_of_estimate group records tree.entries.items before after x old (rising free) short
 
 -- what a record is estimated at
 abbrev record_estimate : Record → ℕ

@@ -10,7 +10,7 @@ use Rattle.base.specs.formats.Limits.{max_length, object_count}
 use Rattle.base.specs.history.Contents.{Contents}
 use Rattle.base.specs.tree.Syncs.{is_on}
 use Rattle.base.proofs.tree.RecordStates.{object-off}
-use Rattle.object_maps.specs.declared.tree.ObjectMap.{ObjectMap}
+use Rattle.object_maps.specs.declared.tree.ObjectEntry.{ObjectEntry}
 use Rattle.object_maps.specs.ContentsShown.{contents_of}
 use Rattle.object_maps.specs.Sources.{AreWithin}
 use Rattle.extents.specs.Patches.{AreNumbered}
@@ -37,7 +37,7 @@ sized objects within n = by (finite.get objects n) (within n)
     by (Some bytes) h = h.1
 
 -- operations on objects in range leave no others
-left_numbered : (ops : List Op) (maps : List ObjectMap) (before after : Contents) → TakesPlace ops maps before after → AreNumbered before.objects → AreNumbered after.objects
+left_numbered : (ops : List Op) (maps : List ObjectEntry) (before after : Contents) → TakesPlace ops maps before after → AreNumbered before.objects → AreNumbered after.objects
 left_numbered ops maps before after x in_range n past = by (list_any (is_on n) ops) refl
   where
     by : (b : Bool) → list_any (is_on n) ops ≡ b → finite.get after.objects n ≡ None

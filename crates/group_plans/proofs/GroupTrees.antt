@@ -17,7 +17,7 @@ use Rattle.base.specs.tree.PlannedTrees.{IsTreePlan, NewBlock}
 use Rattle.base.specs.tree.Syncs.{is_on, record_state}
 use Rattle.base.proofs.tree.PlacedTrees.{absent-indirect, none-by_address}
 use Rattle.base.proofs.tree.RecordStates.{HasRecord, dirty-record, hole-record, state-gone, state-made, tree-record, unchanged-record}
-use Rattle.object_maps.specs.declared.tree.ObjectMap.{ObjectMap}
+use Rattle.object_maps.specs.declared.tree.ObjectEntry.{ObjectEntry}
 use Rattle.object_maps.specs.Pointers.{pointers_of}
 use Rattle.transactions.specs.declared.record.Record.{Record}
 use Rattle.tree_plans.specs.declared.changes.ObjectChanges.{ObjectChanges}
@@ -35,7 +35,7 @@ record_within : (r : ℕ) (o : Option (List ℕ)) → HasRecord r o → IfSome o
 record_within r o (bytes, is, low) = subst (λ (q : Option (List ℕ)). IfSome q (λ (b : List ℕ). record_size * r < length b)) (sym is) low
 
 -- Some bytes hold the tree of the contents before the operations of a group, with these pointers.
-module _ (ops : List Op) (maps : List ObjectMap) (before after : Contents) (x : TakesPlace ops maps before after)
+module _ (ops : List Op) (maps : List ObjectEntry) (before after : Contents) (x : TakesPlace ops maps before after)
     (image : List ℕ) (frame : Frame) (pointers : Place → Pointer) (tree : HoldsTree image frame pointers before.objects) (objects : List (ObjectId × ObjectChanges)) (changes : AreChangesOf ops maps objects) where
   off : (n : ℕ) → entry_of objects n ≡ None → is_some (entry_of objects n) ≡ false
   off n none = ap (λ (o : Option ObjectChanges). is_some o) none
@@ -68,7 +68,7 @@ module _ (ops : List Op) (maps : List ObjectMap) (before after : Contents) (x : 
   }
 
 -- So the blocks of the plan make the tree of the contents after them.
-pub tree_planned : (group : ℕ) (records : List Record) (maps : List ObjectMap) (before after : Contents) → TakesPlace (pending_ops group records) maps before after → AreSized after.objects
+pub tree_planned : (group : ℕ) (records : List Record) (maps : List ObjectEntry) (before after : Contents) → TakesPlace (pending_ops group records) maps before after → AreSized after.objects
     → (image : List ℕ) (old_frame : Frame) (pointers : Place → Pointer) → HoldsTree image old_frame pointers before.objects
     → (frame : Frame) (new : Place → Pointer) (bs : List NewBlock) → IsPlannedGroup group records maps frame pointers new bs after.objects → IsTreePlan bs frame pointers new before.objects after.objects
 tree_planned group records maps before after x sized image old_frame pointers tree frame new bs from =
@@ -78,4 +78,4 @@ tree_planned group records maps before after x sized image old_frame pointers tr
 
 pub plans_make_trees : PlansMakeTrees
 plans_make_trees frame before_frame tree records before after p makes x sized image holds =
-    tree_planned frame.group records tree.maps.items before after x sized image before_frame (pointers_of tree) holds frame (plan_pointers tree p) (map new_block p.blocks.items) makes
+    tree_planned frame.group records tree.entries.items before after x sized image before_frame (pointers_of tree) holds frame (plan_pointers tree p) (map new_block p.blocks.items) makes.held

@@ -7,3 +7,5 @@ pub mod GroupCounts
 pub mod RecordsAtHand
 pub mod RecordReads
 pub mod PreparedPlans
+pub mod OldMaps
+pub mod ReadPlans

@@ -1,20 +1,15 @@
 -- The blocks that a plan takes and those that come back: their addresses are those of blocks.
-use Rattle.std.proofs.Common.{◌≡◌, ℕ, ◌-◌, ◌/◌, ◌%◌, ◌<◌, ◌≤◌, ◌&&◌, true, List, [], ◌∷◌, inl, inr, map, refl, ap, subst, arith, nat_le, nat_lt}
+use Rattle.std.proofs.Common.{◌≡◌, ℕ, ◌-◌, ◌/◌, ◌%◌, ◌<◌, ◌≤◌, ◌&&◌, true, List, [], ◌∷◌, map, refl, ap, arith, nat_le, nat_lt}
 use Rattle.std.specs.Prelude.{All, get_or, ◌==◌}
 use Rattle.std.proofs.Math.Nat.{div-add-mod}
 use Rattle.std.proofs.Math.Logic.{∥∥₁_elim}
 use mathlib.Core.Bool.{Bool-set}
 use Rattle.std.proofs.lemmas.Bool.{and_from, and_parts, eq-eqb, eqb-true, le-leb, leb-true, lt-ltb, ltb-true}
 use Rattle.base.specs.formats.Geometry.{IsBlockAddress, block_area, block_size}
-use Rattle.base.specs.tree.PlacedTrees.{ArePlaced, IsPlaced}
 use Rattle.base.specs.tree.PlannedTrees.{NewBlock}
-use Rattle.object_maps.specs.declared.tree.Tree.{Tree}
-use Rattle.object_maps.specs.Pointers as kept
 use Rattle.tree_plans.specs.declared.planner.PlannedBlock.{PlannedBlock}
 use Rattle.tree_plans.specs.Plans.{address_of, new_block}
-use Rattle.tree_plans.specs.Pointers as plans
 use Rattle.group_plans.specs.Areas.{is_block_of}
-use Rattle.group_plans.proofs.PlannedPointers.{same_tree}
 
 -- the addresses of blocks as they are written
 pub addresses_are : (blocks : List PlannedBlock) → map (λ (b : NewBlock). b.address) (map new_block blocks) ≡ map address_of blocks
@@ -43,7 +38,5 @@ block_passes blocks address (k, low, at) =
     (lt-ltb ((address - block_area) / block_size) blocks within)
 
 -- the addresses that come back are those of blocks, where the pointers of the tree are placed
-pub are_blocks : (blocks : ℕ) (tree : Tree) (freed : List ℕ) → ∥ ArePlaced blocks (kept.pointers_of tree) ∥₁
-    → (ArePlaced blocks (plans.pointers_before tree) → All (λ address. IsBlockAddress blocks address) freed) → All (λ address. is_block_of blocks address ≡ true) freed
-are_blocks blocks tree freed placed returned = λ k d low.
-    ∥∥₁_elim placed (Bool-set _ _) (λ at. block_passes blocks (get_or freed k d) (returned (λ p i. subst (IsPlaced blocks) (same_tree tree p) (at p i)) k d low))
+pub are_blocks : (blocks : ℕ) (placed : Type 0) (freed : List ℕ) → ∥ placed ∥₁ → (placed → All (λ address. IsBlockAddress blocks address) freed) → All (λ address. is_block_of blocks address ≡ true) freed
+are_blocks blocks placed freed is returned = λ k d low. ∥∥₁_elim is (Bool-set _ _) (λ at. block_passes blocks (get_or freed k d) (returned at k d low))

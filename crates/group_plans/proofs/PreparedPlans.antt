@@ -1,7 +1,7 @@
 -- A plan of objects of which some records are at hand is one of the objects after the group: it goes by the same
 -- lengths, and has the same bytes if each of these records is its object's.
-use Rattle.std.proofs.Common.{◌≡◌, ℕ, ◌<◌, ◌≤◌, List, length, map, refl, ap, subst, sym, ◌∙◌, inl, inr}
-use Rattle.std.specs.Prelude.{◌⊎◌, Option, None, Some, IfErr, Result, Ok, Err, is_some, option_map, if◌then◌else◌}
+use Rattle.std.proofs.Common.{◌≡◌, ℕ, ◌≤◌, List, length, refl, ap, sym, ◌∙◌, inl, inr}
+use Rattle.std.specs.Prelude.{Option, None, Some, IfErr, Result, Ok, Err, is_some, option_map}
 use Rattle.std.specs.Ordering.{nat_cmp}
 use Rattle.std.specs.FinMap as finite
 use Rattle.std.specs.FinMap.{FinMap}
@@ -14,12 +14,10 @@ use Rattle.base.specs.disk.Calls.{counted}
 use Rattle.base.specs.formats.Limits.{object_count}
 use Rattle.base.specs.tree.Places.{Place}
 use Rattle.base.specs.tree.Places.Place.{Data}
-use Rattle.base.specs.tree.Syncs.{GroupChanges}
 use Rattle.extents.specs.declared.extents.Extents.{Extents}
 use Rattle.extents.specs.Tables.{patches_of}
 use Rattle.extents.proofs.LaidObjects.{get-laid_past}
 use Rattle.object_maps.specs.declared.contents.Contents as slots
-use Rattle.object_maps.specs.Cached.{IsReadRefusal}
 use Rattle.object_maps.specs.ContentsShown.{contents_of}
 use Rattle.object_maps.specs.Sources.{object_length}
 use Rattle.tree_plans.specs.declared.changes.ObjectChanges.{ObjectChanges}

@@ -1,5 +1,5 @@
 -- What the plan of a group says of its blocks and of the tree that they make.
-use Rattle.std.specs.Prelude.{ℕ, ◌≡◌, ◌<◌, ◌⊎◌, All, List, Option, Some, is_some, length, map, option_map, slice_get, take, if◌then◌else◌}
+use Rattle.std.specs.Prelude.{ℕ, ◌≡◌, ◌<◌, ◌⊎◌, All, List, Option, Some, false, is_some, true, length, map, option_map, slice_get, take, if◌then◌else◌}
 use Rattle.std.specs.Ordering.{nat_cmp}
 use Rattle.std.specs.FinMap as finite
 use Rattle.std.specs.FinMap.{FinMap}
@@ -11,7 +11,8 @@ use Rattle.base.specs.declared.names.ObjectId.{ObjectId}
 use Rattle.base.specs.declared.pointer.Pointer.{Pointer}
 use Rattle.base.specs.formats.Blocks.{Frame}
 use Rattle.base.specs.formats.Geometry.{block_count, block_size}
-use Rattle.base.specs.formats.Limits.{object_count}
+use Rattle.base.specs.declared.record_state.RecordState.TheVariants.{Hole}
+use Rattle.base.specs.formats.Limits.{object_count, record_count}
 use Rattle.base.specs.stored.Stored.{AreUsed}
 use Rattle.base.specs.tree.PlacedTrees.{ArePlaced}
 use Rattle.base.specs.tree.Places.{Place}
@@ -19,11 +20,11 @@ use Rattle.base.specs.tree.PlannedTrees.{AreFreed, IsTreePlan, NewBlock}
 use Rattle.base.specs.tree.Syncs.{written_by}
 use Rattle.transactions.specs.declared.record.Record.{Record}
 use Rattle.object_maps.specs.declared.contents.Contents as slots
-use Rattle.object_maps.specs.declared.tree.ObjectMap.{ObjectMap}
+use Rattle.object_maps.specs.declared.tree.ObjectEntry.{ObjectEntry}
 use Rattle.object_maps.specs.declared.tree.Tree.{Tree}
 use Rattle.object_maps.specs.Cached.{IsReadRefusal}
 use Rattle.object_maps.specs.ContentsShown.{contents_of}
-use Rattle.object_maps.specs.Lengths.{map_length}
+use Rattle.object_maps.specs.Lengths.{length_in}
 use Rattle.object_maps.specs.Pointers.{pointers_of}
 use Rattle.extents.specs.declared.extents.Extents.{Extents}
 use Rattle.extents.specs.Patches.{laid_over}
@@ -31,42 +32,50 @@ use Rattle.extents.specs.Tables.{patches_of}
 use Rattle.tree_plans.specs.declared.changes.ObjectChanges.{ObjectChanges}
 use Rattle.tree_plans.specs.declared.planner.PlannedBlock.{PlannedBlock}
 use Rattle.tree_plans.specs.declared.planner.TreePlan.{TreePlan}
-use Rattle.tree_plans.specs.declared.walk.PlanSource.{PlanSource}
-use Rattle.tree_plans.specs.Changes.{AreBornBefore, AreChanges, AreInRange, AreTreePointers, IsCoveredBy, changes_of_group, written_frame}
+use Rattle.group_plans.specs.declared.planning.GroupSource.{GroupSource}
+use Rattle.tree_plans.specs.Changes.{AreBornBefore, AreChanges, AreInRange, AreTreePointers, IsCoveredBy, changes_of_group, is_changed_in, state_in, written_frame}
 use Rattle.tree_plans.specs.Marks.{AreChangesOf, pending_ops}
 use Rattle.tree_plans.specs.Plans.{IsWant, address_of, new_block}
 use Rattle.tree_plans.specs.Pointers.{entry_of}
 use Rattle.group_plans.specs.Areas.{AreBlocksOf}
 use Rattle.group_plans.specs.Pointers.{lengths_after, pointers_after}
 
--- Some changes are those of the group's operations among records, on a tree with these maps. By them these blocks make
+-- Some changes are those of the group's operations among records, on a tree with these entries. By them these blocks make
 -- the tree after the group from the old one, whatever objects were there before of which the changes cover all that
 -- differs.
-pub record IsPlannedGroup (group : ℕ) (records : List Record) (maps : List ObjectMap) (frame : Frame) (old new : Place → Pointer) (bs : List NewBlock) (after : FinMap nat_cmp (List ℕ)) : Type 0 where
+pub record IsPlannedGroup (group : ℕ) (records : List Record) (entries : List ObjectEntry) (frame : Frame) (old new : Place → Pointer) (bs : List NewBlock) (after : FinMap nat_cmp (List ℕ)) : Type 0 where
   pub objects : List (ObjectId × ObjectChanges)
-  pub changes : AreChangesOf (pending_ops group records) maps objects
+  pub changes : AreChangesOf (pending_ops group records) entries objects
   pub planned : (before : FinMap nat_cmp (List ℕ)) → IsCoveredBy objects old before after → AreChanges objects after → AreTreePointers objects old after → IsTreePlan bs frame old new before after
 
--- Some changes are those of the group's operations among records, on a tree with these maps. The blocks are those of the
--- places that they write, one for each, in their order.
-pub record TakesGroupPlaces (group : ℕ) (records : List Record) (maps : List ObjectMap) (old new : Place → Pointer) (bs : List NewBlock) (after : FinMap nat_cmp (List ℕ)) : Type 0 where
-  pub objects : List (ObjectId × ObjectChanges)
-  pub changes : AreChangesOf (pending_ops group records) maps objects
-  pub order : AreInRange objects → map (λ (b : NewBlock). b.address) bs ≡ map (λ (place : Place). (new place).address) (written_by (changes_of_group objects old after))
+-- an object that operations only create or remove has holes alone
+abbrev pub MakesHoles : List (ObjectId × ObjectChanges) → Type 0
+MakesHoles objects = (n r : ℕ) → n < object_count → r < record_count → is_some (entry_of objects n) ≡ true → is_changed_in objects n ≡ false → state_in objects n r ≡ Hole
 
--- Some changes are those of the group's operations among records, on a tree with these maps. Where they are in range,
--- fewer of these blocks are free than there are places that are written.
-pub record IsShortOfBlocks (group : ℕ) (records : List Record) (maps : List ObjectMap) (old : Place → Pointer) (after : FinMap nat_cmp (List ℕ)) (free : List ℕ) : Type 0 where
+-- Some changes are those of the group's operations among records, on a tree with these entries. If they make holes so,
+-- the blocks are those of the places that they write, one for each, in their order, and each one is used. If no old
+-- pointer was born in the group or later, what comes back is then what the old pointers have and the new ones have not.
+pub record TakesGroupPlaces (group : ℕ) (records : List Record) (entries : List ObjectEntry) (old new : Place → Pointer) (bs : List NewBlock) (returned : List ℕ) (after : FinMap nat_cmp (List ℕ)) : Type 0 where
   pub objects : List (ObjectId × ObjectChanges)
-  pub changes : AreChangesOf (pending_ops group records) maps objects
+  pub changes : AreChangesOf (pending_ops group records) entries objects
+  pub order : AreInRange objects → MakesHoles objects
+      → map (λ (b : NewBlock). b.address) bs ≡ map (λ (place : Place). (new place).address) (written_by (changes_of_group objects old after))
+  pub used : MakesHoles objects → AreUsed bs new
+  pub freed : MakesHoles objects → AreBornBefore group old → AreFreed old new returned
+
+-- Some changes are those of the group's operations among records, on a tree with these entries. Where they are in range,
+-- fewer of these blocks are free than there are places that are written.
+pub record IsShortOfBlocks (group : ℕ) (records : List Record) (entries : List ObjectEntry) (old : Place → Pointer) (after : FinMap nat_cmp (List ℕ)) (free : List ℕ) : Type 0 where
+  pub objects : List (ObjectId × ObjectChanges)
+  pub changes : AreChangesOf (pending_ops group records) entries objects
   pub fewer : AreInRange objects → length free < length (written_by (changes_of_group objects old after))
 
--- Some changes are those of the group's operations among records, on a tree with these maps. An object that an
+-- Some changes are those of the group's operations among records, on a tree with these entries. An object that an
 -- operation is on has the length that it has among these objects, and any other the one that the tree has.
-pub record HasGroupLengths (group : ℕ) (records : List Record) (maps : List ObjectMap) (new : ℕ → Option ℕ) (after : FinMap nat_cmp (List ℕ)) : Type 0 where
+pub record HasGroupLengths (group : ℕ) (records : List Record) (entries : List ObjectEntry) (new : ℕ → Option ℕ) (after : FinMap nat_cmp (List ℕ)) : Type 0 where
   pub objects : List (ObjectId × ObjectChanges)
-  pub changes : AreChangesOf (pending_ops group records) maps objects
-  pub each : (n : ℕ) → n < object_count → new n ≡ (if is_some (entry_of objects n) then option_map length (finite.get after n) else map_length maps n)
+  pub changes : AreChangesOf (pending_ops group records) entries objects
+  pub each : (n : ℕ) → n < object_count → new n ≡ (if is_some (entry_of objects n) then option_map length (finite.get after n) else length_in entries n)
 
 -- the pointers of the tree that a plan makes of another
 abbrev pub plan_pointers : Tree → TreePlan → Place → Pointer
@@ -81,25 +90,28 @@ pub record FitsIn (size : ℕ) (p : TreePlan) : Type 0 where
 abbrev pub TakesLowest : FinSet nat_cmp → TreePlan → Type 0
 TakesLowest free p = map address_of p.blocks.items ≡ take (length p.blocks.items) (rising free)
 
--- It makes of a tree one of the group of the frame, whose operations are among these records and lead to these objects.
--- Its pointers are placed, its blocks are whole and each one is used. They lie at the places that the operations write,
--- and its lengths are those after the group. If no pointer was born in the group or later, what comes back is what the
--- old tree has and the new one has not.
-pub record MakesGroupTree (frame : Frame) (tree : Tree) (records : List Record) (after : FinMap nat_cmp (List ℕ)) (p : TreePlan) : Type 0 where
+-- It makes of a tree, whose pointers before are these, one of the group of the frame, whose operations are among these
+-- records and lead to these objects. Its pointers are placed, and its blocks are whole and lie at the places that the
+-- operations write. Its lengths are those after the group.
+pub record MakesGroupTree (frame : Frame) (old : Place → Pointer) (tree : Tree) (records : List Record) (after : FinMap nat_cmp (List ℕ)) (p : TreePlan) : Type 0 where
   pub placed : ∥ ArePlaced frame.blocks (plan_pointers tree p) ∥₁
-  pub places : TakesGroupPlaces frame.group records tree.maps.items (pointers_of tree) (plan_pointers tree p) (map new_block p.blocks.items) after
-  pub freed : AreBornBefore frame.group (pointers_of tree) → AreFreed (pointers_of tree) (plan_pointers tree p) p.freed.items
-  pub used : AreUsed (map new_block p.blocks.items) (plan_pointers tree p)
+  pub places : TakesGroupPlaces frame.group records tree.entries.items old (plan_pointers tree p) (map new_block p.blocks.items) p.freed.items after
   pub whole : (i : ℕ) (b : NewBlock) → slice_get (map new_block p.blocks.items) i ≡ Some b → length b.content ≡ block_size
-  pub lengths : HasGroupLengths frame.group records tree.maps.items (lengths_after p.maps tree) after
+  pub lengths : HasGroupLengths frame.group records tree.entries.items (lengths_after p.maps tree) after
 
--- and its blocks hold these objects
-abbrev pub HoldsGroupObjects : Frame → Tree → List Record → FinMap nat_cmp (List ℕ) → TreePlan → Type 0
-HoldsGroupObjects frame tree records after p = IsPlannedGroup frame.group records tree.maps.items frame (pointers_of tree) (plan_pointers tree p) (map new_block p.blocks.items) after
+-- And so whichever pointers to records were read: the tree has told ones, which a device that doesn't hold it need not
+-- give.
+abbrev pub MakesReadTree : Frame → Tree → List Record → FinMap nat_cmp (List ℕ) → TreePlan → Type 0
+MakesReadTree frame tree records after p = (old : Place → Pointer) × MakesGroupTree frame old tree records after p
 
--- refused NoSpace, the free blocks are too few for the tree of the group
+-- Its pointers before are those that the tree has, and its blocks hold these objects.
+pub record HoldsGroupObjects (frame : Frame) (tree : Tree) (records : List Record) (after : FinMap nat_cmp (List ℕ)) (p : TreePlan) : Type 0 where
+  pub made : MakesGroupTree frame (pointers_of tree) tree records after p
+  pub held : IsPlannedGroup frame.group records tree.entries.items frame (pointers_of tree) (plan_pointers tree p) (map new_block p.blocks.items) after
+
+-- refused NoSpace, the free blocks are too few for the tree of the group, whichever pointers to records were read
 abbrev pub IsRefusedShort : ℕ → Tree → List Record → FinMap nat_cmp (List ℕ) → FinSet nat_cmp → PoolError → Type 0
-IsRefusedShort group tree records after free e = e ≡ NoSpace → IsShortOfBlocks group records tree.maps.items (pointers_of tree) after (rising free)
+IsRefusedShort group tree records after free e = e ≡ NoSpace → (old : Place → Pointer) × IsShortOfBlocks group records tree.entries.items old after (rising free)
 
 -- why a plan of a group is refused: it wants memory or blocks, or a read of a block was refused
 abbrev pub IsPlanRefusal : PoolError → Type 0
@@ -110,7 +122,7 @@ abbrev pub IsHeldRefusal : PoolError → Type 0
 IsHeldRefusal e = IsWant e ⊎ (e ≡ Read)
 
 -- the frame of the blocks that a source is planned for
-abbrev pub frame_of : PlanSource → Frame
+abbrev pub frame_of : GroupSource → Frame
 frame_of source = written_frame source.guid source.geometry source.group.0
 
 -- the objects that contents have with the changes of a group laid over them

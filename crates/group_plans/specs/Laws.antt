@@ -10,12 +10,14 @@ use Rattle.base.specs.history.History.{apply_all}
 use Rattle.base.specs.history.Plans.{estimate_of, shape_of}
 use Rattle.base.specs.steps.Steps.{AreLengthsOf}
 use Rattle.base.specs.tree.PlacedTrees.{HoldsTree}
+use Rattle.base.specs.declared.pointer.Pointer.{Pointer}
+use Rattle.base.specs.tree.Places.{Place}
 use Rattle.base.specs.tree.PlannedTrees.{IsTreePlan}
 use Rattle.object_maps.specs.declared.contents.Contents as slots
-use Rattle.object_maps.specs.declared.tree.ObjectMap.{ObjectMap}
+use Rattle.object_maps.specs.declared.tree.ObjectEntry.{ObjectEntry}
 use Rattle.object_maps.specs.declared.tree.Tree.{Tree}
 use Rattle.object_maps.specs.ContentsShown.{contents_of}
-use Rattle.object_maps.specs.Lengths.{map_length}
+use Rattle.object_maps.specs.Lengths.{length_in}
 use Rattle.object_maps.specs.Ops.{AreOpsAllowed}
 use Rattle.object_maps.specs.Pointers.{pointers_of}
 use Rattle.object_maps.specs.Sources.{AreWithin}
@@ -26,34 +28,35 @@ use Rattle.transactions.specs.declared.record.Record.{Record}
 use Rattle.tree_plans.specs.declared.planner.TreePlan.{TreePlan}
 use Rattle.tree_plans.specs.Marks.{pending_ops}
 use Rattle.tree_plans.specs.Plans.{new_block}
-use Rattle.group_plans.specs.GroupPlans.{HoldsGroupObjects, IsShortOfBlocks, MakesGroupTree, objects_with, plan_pointers}
+use Rattle.group_plans.specs.GroupPlans.{HoldsGroupObjects, IsShortOfBlocks, MakesReadTree, objects_with, plan_pointers}
 use Rattle.group_plans.specs.Operations.{AreSized, TakesPlace}
 
 -- allowed operations take place if they lead to some contents, and the maps have the lengths before them
 abbrev pub AllowedOpsTakePlace : Type 0
-AllowedOpsTakePlace = (ops : List Op) (maps : List ObjectMap) (before after : Contents) → AreOpsAllowed ops → apply_all ops before ≡ Ok after → AreLengthsOf before (map_length maps)
+AllowedOpsTakePlace = (ops : List Op) (maps : List ObjectEntry) (before after : Contents) → AreOpsAllowed ops → apply_all ops before ≡ Ok after → AreLengthsOf before (length_in maps)
     → TakesPlace ops maps before after
 
 -- what they leave are the objects with their changes laid over them, and no object is too long
 abbrev pub GroupsLeaveObjects : Type 0
-GroupsLeaveObjects = (ops : List Op) (maps : List ObjectMap) (extents : Extents) (contents : slots.Contents) (after : Contents) → ArePatchesOf ops (patches_of extents) → AreWithin (contents_of contents).objects
+GroupsLeaveObjects = (ops : List Op) (maps : List ObjectEntry) (extents : Extents) (contents : slots.Contents) (after : Contents) → ArePatchesOf ops (patches_of extents) → AreWithin (contents_of contents).objects
     → TakesPlace ops maps (contents_of contents) after → (after.objects ≡ objects_with extents contents) × AreSized after.objects
 
 -- if bytes hold the tree of the contents before the operations, the blocks of the plan make that of the contents after
 abbrev pub PlansMakeTrees : Type 0
 PlansMakeTrees = (frame before_frame : Frame) (tree : Tree) (records : List Record) (before after : Contents) (p : TreePlan) → HoldsGroupObjects frame tree records after.objects p
-    → TakesPlace (pending_ops frame.group records) tree.maps.items before after → AreSized after.objects → (image : List ℕ) → HoldsTree image before_frame (pointers_of tree) before.objects
+    → TakesPlace (pending_ops frame.group records) tree.entries.items before after → AreSized after.objects → (image : List ℕ) → HoldsTree image before_frame (pointers_of tree) before.objects
     → IsTreePlan (map new_block p.blocks.items) frame (pointers_of tree) (plan_pointers tree p) before.objects after.objects
 
 -- the plan takes no more blocks than the operations are estimated at
 abbrev pub PlansFitEstimates : Type 0
-PlansFitEstimates = (frame : Frame) (tree : Tree) (records : List Record) (before after : Contents) (p : TreePlan) → MakesGroupTree frame tree records after.objects p
-    → TakesPlace (pending_ops frame.group records) tree.maps.items before after → length p.blocks.items ≤ estimate_of (map shape_of (pending_ops frame.group records))
+PlansFitEstimates = (frame : Frame) (tree : Tree) (records : List Record) (before after : Contents) (p : TreePlan) → MakesReadTree frame tree records after.objects p
+    → TakesPlace (pending_ops frame.group records) tree.entries.items before after → length p.blocks.items ≤ estimate_of (map shape_of (pending_ops frame.group records))
 
 -- and if it is short of blocks, fewer are free than that
 abbrev pub ShortPlansLackBlocks : Type 0
-ShortPlansLackBlocks = (group : ℕ) (tree : Tree) (records : List Record) (before after : Contents) (free : FinSet nat_cmp) → IsShortOfBlocks group records tree.maps.items (pointers_of tree) after.objects (rising free)
-    → TakesPlace (pending_ops group records) tree.maps.items before after → length (rising free) < estimate_of (map shape_of (pending_ops group records))
+ShortPlansLackBlocks = (group : ℕ) (tree : Tree) (records : List Record) (old : Place → Pointer) (before after : Contents) (free : FinSet nat_cmp)
+    → IsShortOfBlocks group records tree.entries.items old after.objects (rising free)
+    → TakesPlace (pending_ops group records) tree.entries.items before after → length (rising free) < estimate_of (map shape_of (pending_ops group records))
 
 -- if all records are of one group, its operations are estimated at the sum of what theirs are
 abbrev pub EstimatesAdd : Type 0

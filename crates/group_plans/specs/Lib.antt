@@ -1,6 +1,8 @@
 pub mod Pointers
 pub mod Areas
 pub mod GroupPlans
+pub mod ReadPlans
 pub mod Prepared
+pub mod OldMaps
 pub mod Operations
 pub mod Laws

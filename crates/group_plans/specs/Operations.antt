@@ -11,16 +11,16 @@ use Rattle.base.specs.history.History.{apply_all}
 use Rattle.base.specs.history.Plans.{IsRange, ranges}
 use Rattle.base.specs.steps.Steps.{AreLengthsOf}
 use Rattle.base.specs.tree.Syncs.{is_on}
-use Rattle.object_maps.specs.declared.tree.ObjectMap.{ObjectMap}
-use Rattle.object_maps.specs.Lengths.{map_length}
+use Rattle.object_maps.specs.declared.tree.ObjectEntry.{ObjectEntry}
+use Rattle.object_maps.specs.Lengths.{length_in}
 
 -- Operations lead from contents to others. They are within the limits of ranges and of object numbers, and the maps of
 -- the tree before them have the lengths before them.
-pub record TakesPlace (ops : List Op) (maps : List ObjectMap) (before after : Contents) : Type 0 where
+pub record TakesPlace (ops : List Op) (maps : List ObjectEntry) (before after : Contents) : Type 0 where
   pub leads : apply_all ops before ≡ Ok after
   pub within : All IsRange (ranges ops)
   pub numbers : (n : ℕ) → list_any (is_on n) ops ≡ true → n < object_count
-  pub sizes : AreLengthsOf before (map_length maps)
+  pub sizes : AreLengthsOf before (length_in maps)
 
 -- no object is longer than the greatest length
 abbrev pub AreSized : FinMap nat_cmp (List ℕ) → Type 0

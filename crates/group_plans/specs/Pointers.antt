@@ -12,7 +12,7 @@ use Rattle.object_maps.specs.Pointers.{map_among, pointers_at, with_maps}
 
 -- the new root and directories, the new pointers of the objects that have some, and those of the tree for all others
 abbrev pub pointers_after : Pointer → List Pointer → BTreeMap ObjectId ObjectMap → Tree → Place → Pointer
-pointers_after root directories maps tree = with_maps (map_among maps) (pointers_at root directories tree.maps.items)
+pointers_after root directories maps tree = with_maps (map_among maps) (pointers_at root directories tree.entries.items)
 
 -- the new lengths of the objects that have some, and those of the tree for all others
 abbrev pub lengths_after : BTreeMap ObjectId ObjectMap → Tree → ℕ → Option ℕ

@@ -11,24 +11,25 @@ ghost use Rattle.object_maps.specs.ContentsShown.{contents_of};
 ghost use Rattle.object_maps.specs.Pointers.{pointers_of};
 ghost use Rattle.tree_plans.specs.Plans.{address_of};
 
-use crate::planning::plan_group;
+use crate::planning::{GroupSource, plan_group};
 use base::PoolError;
 use checked_blocks::Frame;
 use extents::Extents;
 use object_maps::{BlockReader, Contents};
 use transactions::Record;
-use tree_plans::{PlanSource, TreePlan};
+use tree_plans::TreePlan;
 
 // Blocks 0, 1 and 4 are free: a plan of two blocks takes blocks 0 and 1.
 fn a_group_takes_the_lowest_free_blocks<B: BlockReader>(
     reader: &mut B,
     before: &Frame,
-    source: &PlanSource<'_>,
+    source: &GroupSource<'_>,
     records: &[Record],
     extents: &Extents,
     contents: &Contents,
 ) -> Result<TreePlan, PoolError>
     requires room { block_address before.now.blocks ≤ B.size reader.old }
+    requires area { before.now.blocks ≡ block_count source.now.geometry }
     requires sized { source.now.free.now.blocks ≡ block_count source.now.geometry }
     requires placed { ∥ ArePlaced (block_count source.now.geometry)
         (pointers_of source.now.tree.now) ∥₁ }
@@ -43,12 +44,13 @@ fn a_group_takes_the_lowest_free_blocks<B: BlockReader>(
 fn a_plan_over_a_tree_that_is_held_finds_no_damage<B: BlockReader>(
     reader: &mut B,
     before: &Frame,
-    source: &PlanSource<'_>,
+    source: &GroupSource<'_>,
     records: &[Record],
     extents: &Extents,
     contents: &Contents,
 ) -> Result<TreePlan, PoolError>
     requires room { block_address before.now.blocks ≤ B.size reader.old }
+    requires area { before.now.blocks ≡ block_count source.now.geometry }
     requires sized { source.now.free.now.blocks ≡ block_count source.now.geometry }
     requires placed { ∥ ArePlaced (block_count source.now.geometry)
         (pointers_of source.now.tree.now) ∥₁ }
@@ -64,12 +66,13 @@ fn a_plan_over_a_tree_that_is_held_finds_no_damage<B: BlockReader>(
 fn a_plan_leaves_the_disk<B: BlockReader>(
     reader: &mut B,
     before: &Frame,
-    source: &PlanSource<'_>,
+    source: &GroupSource<'_>,
     records: &[Record],
     extents: &Extents,
     contents: &Contents,
 ) -> Result<TreePlan, PoolError>
     requires room { block_address before.now.blocks ≤ B.size reader.old }
+    requires area { before.now.blocks ≡ block_count source.now.geometry }
     requires sized { source.now.free.now.blocks ≡ block_count source.now.geometry }
     requires placed { ∥ ArePlaced (block_count source.now.geometry)
         (pointers_of source.now.tree.now) ∥₁ }

@@ -3,6 +3,7 @@
 
 mod clients;
 mod laws;
+mod old_maps;
 mod planning;
 mod prepared;
 mod preparing;
@@ -11,4 +12,4 @@ pub use laws::{
     allowed_ops_take_place, estimates_add, groups_leave_objects, plans_fit_estimates,
     plans_make_trees, short_plans_lack_blocks,
 };
-pub use planning::plan_group;
+pub use planning::{GroupSource, plan_group};

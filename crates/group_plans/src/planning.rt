@@ -1,35 +1,66 @@
 //! The tree after a group, planned from its transactions: `changed_objects` of `tree_plans` says what they do to each
-//! object, `prepare` reads the records that change in part, and `plan` takes a free block for each place that changes.
+//! object, `read_maps` reads the indirect blocks of these objects, `prepare` the records that change in part, and `plan`
+//! takes a free block for each place that changes.
 
-ghost use Rattle.std.specs.Prelude.{◌≡◌, ◌≤◌, IfErr, IfOk, IsTrue};
+ghost use Rattle.std.specs.Prelude.{◌≡◌, ◌≤◌, ℕ, IfErr, IfOk, IsTrue, false, is_some};
 ghost use Rattle.base.specs.disk.Disk.{bytes_of};
 ghost use Rattle.base.specs.formats.Geometry.{block_address, block_count};
 ghost use Rattle.base.specs.tree.PlacedTrees.{ArePlaced, HoldsTree};
 ghost use Rattle.device_model.specs.Reading.{OnlyReads};
 ghost use Rattle.object_maps.specs.ContentsShown.{contents_of};
 ghost use Rattle.object_maps.specs.Pointers.{pointers_of};
-ghost use Rattle.group_plans.specs.GroupPlans.{FitsIn, HoldsGroupObjects, IsHeldRefusal, IsPlanRefusal, IsRefusedShort, MakesGroupTree, TakesLowest, frame_of, objects_with};
+ghost use Rattle.base.specs.tree.Places.{Place};
+ghost use Rattle.base.specs.declared.pointer.Pointer.{Pointer};
+ghost use Rattle.tree_plans.specs.Changes.{written_frame};
+ghost use Rattle.tree_plans.specs.Parts.{AreMapsRead};
+ghost use Rattle.tree_plans.specs.Pointers.{entry_of};
+ghost use Rattle.group_plans.specs.OldMaps.{AreMapsOf, AreMapsOfObjects};
+ghost use Rattle.group_plans.specs.ReadPlans.{HoldsPlanned, IsShortFor, PlansTree};
+ghost use Rattle.group_plans.specs.GroupPlans.{FitsIn, HoldsGroupObjects, IsHeldRefusal, IsPlanRefusal, IsRefusedShort, MakesReadTree, TakesLowest, frame_of, objects_with};
 
+use crate::old_maps::read_maps;
 use crate::preparing::prepare;
-use base::PoolError;
+use base::{Group, ObjectId, PoolError};
 use checked_blocks::Frame;
 use extents::Extents;
-use object_maps::{BlockReader, Contents};
+use labels::Geometry;
+use object_maps::{BlockReader, Contents, Tree};
+use space::FreeSet;
+use std::alloc::Global;
+use std::collections::BTreeMap;
 use transactions::Record;
-use tree_plans::{PlanSource, TreePlan, changed_objects, plan};
+use tree_plans::{ObjectChanges, PlanSource, TreePlan, changed_objects, plan};
+
+/// What the plan of a group is made of, beside the group's changes.
+#[derive(Clone, Copy, Debug)]
+pub struct GroupSource<'a> {
+    /// Where the memory of the plan comes from.
+    pub alloc: Global,
+    /// The size of the device.
+    pub geometry: Geometry,
+    /// The guid of the pool.
+    pub guid: u64,
+    /// The group that is synced.
+    pub group: Group,
+    /// The pointers and lengths before the group. Those to records are told.
+    pub tree: &'a Tree,
+    /// The blocks that may be taken.
+    pub free: &'a FreeSet,
+}
 
 /// Plans the tree after the group of a source. `records` are committed transactions in order, and those of other groups
 /// are passed over. `extents` are the changes that those of the group make, over the contents of the tree. `before` is
 /// the frame of that tree's blocks.
 ///
-/// It reads each record that the group changes in part, for rising objects and in each for rising records.
+/// It reads the indirect block of each object that the group changes, rising, and then each record that the group changes
+/// in part, for rising objects and in each for rising records.
 ///
 /// - `fits`: each block that is written or comes back lies in the block area of the device.
 /// - `taken`: the blocks are the lowest free ones, in their order.
 /// - `tree`: the blocks make a tree after the group, with its pointers and its lengths, and what comes back is what
-///   that tree replaces.
-/// - `objects`: if the device keeps the model and holds the tree of the contents, that tree has the objects after the
-///   group.
+///   that tree replaces, by the pointers that were read.
+/// - `objects`: if the device keeps the model and holds the tree of the contents, these are the tree's pointers, and the
+///   new tree has the objects after the group.
 ///
 /// # Errors
 /// - `NoSpace`, only if fewer blocks are free than there are places to write (`no_space`).
@@ -39,19 +70,20 @@ use tree_plans::{PlanSource, TreePlan, changed_objects, plan};
 pub fn plan_group<B: BlockReader>(
     reader: &mut B,
     before: &Frame,
-    source: &PlanSource<'_>,
+    source: &GroupSource<'_>,
     records: &[Record],
     extents: &Extents,
     contents: &Contents,
 ) -> Result<TreePlan, PoolError>
     requires room { block_address before.now.blocks ≤ B.size reader.old }
+    requires area { before.now.blocks ≡ block_count source.now.geometry }
     requires sized { source.now.free.now.blocks ≡ block_count source.now.geometry }
     requires placed { ∥ ArePlaced (block_count source.now.geometry)
         (pointers_of source.now.tree.now) ∥₁ }
     ensures reads { OnlyReads B.SectorDevice result reader.old reader.new }
     ensures fits { IfOk result (FitsIn source.now.geometry) }
     ensures taken { IfOk result (TakesLowest source.now.free.now.free) }
-    ensures tree { IfOk result (MakesGroupTree (frame_of source.now) source.now.tree.now
+    ensures tree { IfOk result (MakesReadTree (frame_of source.now) source.now.tree.now
         records.now (objects_with extents.now contents.now)) }
     ensures objects { IsTrue B.keeps_model → HoldsTree (bytes_of (B.disk reader.old).now) before.now
         (pointers_of source.now.tree.now) (contents_of contents.now).objects
@@ -64,8 +96,60 @@ pub fn plan_group<B: BlockReader>(
         (pointers_of source.now.tree.now) (contents_of contents.now).objects
         → IfErr result IsHeldRefusal }
 {
-    let maps = &source.tree.maps;
-    let objects = changed_objects(source.alloc, maps, records, source.group)?;
-    let after = prepare(reader, before, source, &objects, extents, contents)?;
-    plan(source, &after, &objects)
+    let alloc = source.alloc;
+    let tree = source.tree;
+    let objects = changed_objects(alloc, &tree.entries, records, source.group)?;
+    let old_maps = read_maps(alloc, reader, before, tree, contents, &objects)?;
+    let read = PlanSource {
+        alloc,
+        geometry: source.geometry,
+        guid: source.guid,
+        group: source.group,
+        tree,
+        old_maps: &old_maps,
+        free: source.free,
+    };
+    plan_read(reader, before, &read, &objects, extents, contents)
+}
+
+// Plans the tree after a group that changes these objects, whose old maps were read.
+fn plan_read<B: BlockReader>(
+    reader: &mut B,
+    before: &Frame,
+    read: &PlanSource<'_>,
+    objects: &BTreeMap<ObjectId, ObjectChanges>,
+    extents: &Extents,
+    contents: &Contents,
+) -> Result<TreePlan, PoolError>
+    requires room { block_address before.now.blocks ≤ B.size reader.old }
+    requires sized { read.now.free.now.blocks ≡ block_count read.now.geometry }
+    requires placed { ∥ ArePlaced (block_count read.now.geometry)
+        (pointers_of read.now.tree.now) ∥₁ }
+    requires maps { AreMapsRead read.now objects.now.entries }
+    requires none { (n : ℕ) → is_some (entry_of objects.now.entries n) ≡ false
+        → is_some (entry_of read.now.old_maps.now.entries n) ≡ false }
+    requires old { AreMapsOf (block_count read.now.geometry) read.now.tree.now
+        read.now.old_maps.now.entries }
+    ensures reads { OnlyReads B.SectorDevice result reader.old reader.new }
+    ensures fits { IfOk result (FitsIn read.now.geometry) }
+    ensures taken { IfOk result (TakesLowest read.now.free.now.free) }
+    ensures tree { IfOk result (λ p. (old : Place → Pointer) × PlansTree
+        (written_frame read.now.guid read.now.geometry read.now.group.0) old read.now.tree.now
+        objects.now.entries (objects_with extents.now contents.now) p) }
+    ensures objects { IsTrue B.keeps_model → HoldsTree (bytes_of (B.disk reader.old).now) before.now
+        (pointers_of read.now.tree.now) (contents_of contents.now).objects
+        → AreMapsOfObjects (pointers_of read.now.tree.now) read.now.old_maps.now.entries
+        → IfOk result (HoldsPlanned
+        (written_frame read.now.guid read.now.geometry read.now.group.0) read.now.tree.now
+        objects.now.entries (objects_with extents.now contents.now)) }
+    ensures no_space { IfErr result (IsShortFor objects.now.entries
+        (objects_with extents.now contents.now) read.now.free.now.free) }
+    ensures refused { IfErr result IsPlanRefusal }
+    ensures sound { IsTrue B.keeps_model → HoldsTree (bytes_of (B.disk reader.old).now) before.now
+        (pointers_of read.now.tree.now) (contents_of contents.now).objects
+        → AreMapsOfObjects (pointers_of read.now.tree.now) read.now.old_maps.now.entries
+        → IfErr result IsHeldRefusal }
+{
+    let after = prepare(reader, before, read, objects, extents, contents)?;
+    plan(read, &after, objects)
 }

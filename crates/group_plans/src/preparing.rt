@@ -9,19 +9,19 @@ ghost use Rattle.base.specs.formats.Limits.{object_count, record_count, record_s
 ghost use Rattle.device_model.specs.Reading.{OnlyReads};
 ghost use Rattle.object_maps.specs.Cached.{IsReadRefusal};
 ghost use Rattle.object_maps.specs.ContentsShown.{contents_of};
-ghost use Rattle.object_maps.specs.Pointers.{pointers_of};
 ghost use Rattle.extents.specs.Tables.{patches_of};
 ghost use Rattle.group_plans.specs.GroupPlans.{objects_with};
 ghost use Rattle.base.specs.tree.PlacedTrees.{HoldsTree};
 ghost use Rattle.tree_plans.specs.Plans.{IsReady};
-ghost use Rattle.tree_plans.specs.Parts.{AreReady};
+ghost use Rattle.tree_plans.specs.Parts.{AreMapsRead, AreReady};
+ghost use Rattle.tree_plans.specs.Pointers.{entry_of, pointers_before};
 ghost use Rattle.group_plans.specs.Prepared.{AreBelow, AreExact, HoldsMap, HoldsRecord, IsPlainRefusal, IsPrepareRefusal, IsRecordOf, KeepsHand, at_hand};
 
 use crate::prepared::PreparedObjects;
 use base::{OBJECT_COUNT, ObjectId, Pointer, PoolError, RECORD_SIZE, RecordState};
 use checked_blocks::Frame;
 use extents::Extents;
-use object_maps::{BlockReader, Contents, ObjectMap, RECORD_COUNT, Tree, read_part};
+use object_maps::{BlockReader, Contents, ObjectMap, RECORD_COUNT, read_part};
 use std::collections::BTreeMap;
 use tree_plans::{ObjectChanges, PlanSource};
 
@@ -213,16 +213,18 @@ fn prepare_object<B: BlockReader>(
     Ok(())
 }
 
-// Puts the records of an object that change at hand, if the tree has a place for it.
+// Puts the records of an object that change at hand, if the tree has a place for it. Its map was read.
 fn prepare_changed<B: BlockReader>(
     reader: &mut B,
     frame: &Frame,
-    tree: &Tree,
+    source: &PlanSource<'_>,
     prepared: &mut PreparedObjects<'_>,
     id: ObjectId,
     changes: &ObjectChanges,
 ) -> Result<(), PoolError>
     requires fits { block_address frame.now.blocks ≤ B.size reader.old }
+    requires map { id.0 < object_count
+        → is_some (entry_of source.now.old_maps.now.entries id.0) ≡ true }
     ensures reads { OnlyReads B.SectorDevice result reader.old reader.new }
     ensures extents { prepared.new.extents.now ≡ prepared.old.extents.now }
     ensures contents { prepared.new.contents.now ≡ prepared.old.contents.now }
@@ -231,28 +233,28 @@ fn prepare_changed<B: BlockReader>(
     ensures kept { KeepsHand (at_hand prepared.old.records) (at_hand prepared.new.records) }
     ensures refused { IfErr result IsPrepareRefusal }
     ensures exact { IsTrue B.keeps_model → HoldsTree (bytes_of (B.disk reader.old).now) frame.now
-        (pointers_of tree.now) (contents_of prepared.old.contents.now).objects
+        (pointers_before source.now) (contents_of prepared.old.contents.now).objects
         → AreExact (at_hand prepared.old.records)
         (objects_with prepared.old.extents.now prepared.old.contents.now)
         → OnOk result (AreExact (at_hand prepared.new.records)
         (objects_with prepared.old.extents.now prepared.old.contents.now)) }
     ensures sound { IsTrue B.keeps_model → HoldsTree (bytes_of (B.disk reader.old).now) frame.now
-        (pointers_of tree.now) (contents_of prepared.old.contents.now).objects
+        (pointers_before source.now) (contents_of prepared.old.contents.now).objects
         → IfErr result IsPlainRefusal }
 {
     if id.0 >= OBJECT_COUNT {
         return Ok(());
     }
-    let map = &tree.maps[id.0 as usize];
-    prepare_object(reader, frame, prepared, id, map, changes)
+    prepare_object(reader, frame, prepared, id, source.old_map(id), changes)
 }
 
 // The objects after a group, with each record at hand that the group changes. It reads those that the group does not
 // hide, for rising objects and in each for rising records. `extents` are the group's changes, over the contents of the
-// tree of the source.
+// tree of the source. The source has the maps of these objects, which were read.
 //
 // - `ready`: a plan of these changes finds what it needs.
-// - `exact`: where the model is kept and the tree is held, each record at hand is that of the object after the group.
+// - `exact`: where the model is kept and the source has the pointers of the tree that is held, each record at hand is
+//   that of the object after the group.
 //
 // It is refused `NoMemory`, `Read` or `Damaged`. Where the model is kept it is not `Damaged` (`sound`).
 pub(crate) fn prepare<'a, B: BlockReader>(
@@ -264,6 +266,7 @@ pub(crate) fn prepare<'a, B: BlockReader>(
     contents: &'a Contents,
 ) -> Result<PreparedObjects<'a>, PoolError>
     requires fits { block_address frame.now.blocks ≤ B.size reader.old }
+    requires maps { AreMapsRead source.now objects.now.entries }
     ensures reads { OnlyReads B.SectorDevice result reader.old reader.new }
     ensures extents { IfOk result (λ p. p.extents.now ≡ extents.now) }
     ensures contents { IfOk result (λ p. p.contents.now ≡ contents.now) }
@@ -271,15 +274,15 @@ pub(crate) fn prepare<'a, B: BlockReader>(
         AreReady (λ n r. is_some (at_hand p.records n r) ≡ true) objects.now.entries) }
     ensures refused { IfErr result IsPrepareRefusal }
     ensures exact { IsTrue B.keeps_model → HoldsTree (bytes_of (B.disk reader.old).now) frame.now
-        (pointers_of source.now.tree.now) (contents_of contents.now).objects
+        (pointers_before source.now) (contents_of contents.now).objects
         → IfOk result (λ p. AreExact (at_hand p.records) (objects_with extents.now contents.now)) }
     ensures sound { IsTrue B.keeps_model → HoldsTree (bytes_of (B.disk reader.old).now) frame.now
-        (pointers_of source.now.tree.now) (contents_of contents.now).objects
+        (pointers_before source.now) (contents_of contents.now).objects
         → IfErr result IsPlainRefusal }
 {
     let mut prepared = PreparedObjects::new(source.alloc, extents, contents);
     for (id, changes) in objects.iter() {
-        prepare_changed(reader, frame, source.tree, &mut prepared, *id, changes)?;
+        prepare_changed(reader, frame, source, &mut prepared, *id, changes)?;
     }
     Ok(prepared)
 }

@@ -21,7 +21,7 @@ use Rattle.base.specs.tree.Syncs.{contents_after, contents_after_all, is_change_
 use Rattle.base.proofs.common.Sequences.{joined, parted}
 use Rattle.base.proofs.history.Writes.{length-bytes_after_write, length-resize}
 use Rattle.base.proofs.tree.RecordStates.{at-object, bytes-changed, bytes-created, bytes-removed, contents-after_all, elsewhere}
-use Rattle.object_maps.specs.declared.tree.ObjectMap.{ObjectMap}
+use Rattle.object_maps.specs.declared.tree.ObjectEntry.{ObjectEntry}
 use Rattle.tree_plans.specs.declared.changes.ObjectChanges.{ObjectChanges}
 use Rattle.tree_plans.specs.Marks.{AreToldSoFar, NotesOp, length_so_far, length_with, sets_length, object_size, marked_after}
 
@@ -109,7 +109,7 @@ any_last : (p : Op → Bool) (done : List Op) (op : Op) → p op ≡ true → li
 any_last p done op is = list_any-append p done (op ∷ []) ∙ or_right (list_any p done) (p op || false) (or_left (p op) false is)
 
 -- one operation more
-pub told_more : (done : List Op) (op : Op) (maps : List ObjectMap) (old new : List (ObjectId × ObjectChanges)) → AreToldSoFar done maps old → NotesOp op maps old new → AreToldSoFar (done ++ op ∷ []) maps new
+pub told_more : (done : List Op) (op : Op) (maps : List ObjectEntry) (old new : List (ObjectId × ObjectChanges)) → AreToldSoFar done maps old → NotesOp op maps old new → AreToldSoFar (done ++ op ∷ []) maps new
 told_more done op maps old new told noted = record {
   changes = record {
     there = λ n. noted.there n ∙ ap (λ (b : Bool). is_on n op || b) (told.changes.there n) ∙ or_swapped (list_any (is_on n) done) (is_on n op) ∙ sym (list_any-append (is_on n) done (op ∷ []));

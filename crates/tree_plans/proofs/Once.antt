@@ -1,8 +1,7 @@
 -- What comes back comes back once, if no two places of the tree before have blocks at one address.
-use Rattle.std.proofs.Common.{◌≡◌, ◌≢◌, ◌==◌, ℕ, suc, ◌+◌, ◌<◌, ◌⊎◌, inl, inr, Bool, true, false, List, [], ◌∷◌, ◌++◌, nat_eq, Option, Some, None, refl, sym, ◌∙◌, ap, subst, arith}
+use Rattle.std.proofs.Common.{◌≡◌, ◌≢◌, ◌==◌, ℕ, suc, ◌+◌, ◌<◌, ◌⊎◌, inl, inr, Bool, true, false, List, [], ◌∷◌, ◌++◌, nat_eq, Some, None, refl, sym, ◌∙◌, ap, subst, arith}
 use Rattle.std.specs.Prelude.{slice_get, slice_index_or, is_some}
 use Rattle.std.specs.List.{IsDistinct, list_any}
-use Rattle.std.specs.Option.{option_map_or}
 use Rattle.std.specs.Ordering.{nat_cmp}
 use Rattle.std.specs.FinMap.{FinMap}
 use Rattle.std.proofs.lemmas.Bool.{eq-eqb, eqb-true, false≢true}
@@ -16,10 +15,9 @@ use Rattle.base.specs.formats.Fields.{no_pointer}
 use Rattle.base.specs.tree.Places.{Place, IsPlace}
 use Rattle.base.specs.tree.Places.Place.{Root, Directory, Indirect, Data}
 use Rattle.object_maps.specs.declared.tree.ObjectMap.{ObjectMap}
-use Rattle.object_maps.specs.declared.tree.Tree.{Tree}
 use Rattle.tree_plans.specs.declared.changes.ObjectChanges.{ObjectChanges}
 use Rattle.tree_plans.specs.Changes.{state_at}
-use Rattle.tree_plans.specs.Pointers.{IsPut, entry_of, pointers_before, record_in}
+use Rattle.tree_plans.specs.Pointers.{IsPut, ObjectPointers, OldTree, entry_of, old_pointers}
 use Rattle.tree_plans.specs.Plans.{AreApart, FreesOnce, IsAmong, IsApart, IsOf, IsOfMap, IsOfPlace, IsOfRecord, RecordsFree, replaces}
 use Rattle.tree_plans.specs.Walks.{DirectoriesFree, IsOfDirectory, IsOfObject, ObjectsFree, directory_state, root_state}
 use Rattle.tree_plans.proofs.Walks.{some_either}
@@ -47,7 +45,7 @@ once_twice f0 f1 f2 One Two Both only first second apart one two fresh distinct 
     (one (λ address of. fresh address (first address of)) distinct)
 
 -- one record more
-pub once_push : (first old new : List ℕ) (changes : ObjectChanges) (map : ObjectMap) (i : ℕ) (state : RecordState) (was : Pointer) → was ≡ record_in map i → state ≡ state_at changes i → i < 84 → IsApart map
+pub once_push : (first old new : List ℕ) (changes : ObjectChanges) (map : ObjectPointers) (i : ℕ) (state : RecordState) (was : Pointer) → was ≡ map.record_at i → state ≡ state_at changes i → i < 84 → IsApart map
     → RecordsFree first old changes map i → FreesOnce first old (IsOfRecord changes map i) → FreesOnce old new (IsOfPlace state was) → FreesOnce first new (IsOfRecord changes map (i + 1))
 once_push first old new changes map i state was is state_is low apart frees one two =
     once_twice first old new (IsOfRecord changes map i) (IsOfPlace state was) (IsOfRecord changes map (i + 1)) frees
@@ -60,7 +58,7 @@ once_push first old new changes map i state was is state_is low apart frees one 
     one two
 
 -- the records of an object, and then its indirect block
-pub object_once : (first old new : List ℕ) (changes : ObjectChanges) (map : ObjectMap) → IsApart map → RecordsFree first old changes map 84
+pub object_once : (first old new : List ℕ) (changes : ObjectChanges) (map : ObjectPointers) → IsApart map → RecordsFree first old changes map 84
     → FreesOnce first old (IsOfRecord changes map 84) → FreesOnce old new (IsOf map.indirect) → FreesOnce first new (IsOfMap changes map)
 object_once first old new changes map apart frees one two =
     once_twice first old new (IsOfRecord changes map 84) (IsOf map.indirect) (IsOfMap changes map) frees
@@ -91,21 +89,21 @@ record_of (Directory d) = 0
 record_of (Indirect n) = 0
 record_of (Data n r) = suc r
 
-module _ (t : Tree) where
+module _ (t : OldTree) where
   -- an address that a place of a kind had
   record HasPlace (Kind : Place → Type 0) (address : ℕ) : Type 0 where
     place : Place
     in_range : IsPlace place
-    is_of : IsOf (pointers_before t place) address
+    is_of : IsOf (old_pointers t place) address
     kind : Kind place
 
-  data_was : (n r : ℕ) (m : ObjectMap) → slice_get t.maps.items n ≡ Some m → pointers_before t (Data n r) ≡ record_in m r
-  data_was n r m is = ap (λ (o : Option ObjectMap). option_map_or (λ (m : ObjectMap). record_in m r) o no_pointer) is
+  data_was : (n r : ℕ) (m : ObjectPointers) → t.maps n ≡ m → old_pointers t (Data n r) ≡ m.record_at r
+  data_was n r m is = ap (λ (m : ObjectPointers). m.record_at r) is
 
-  indirect_was : (n : ℕ) (m : ObjectMap) → slice_get t.maps.items n ≡ Some m → pointers_before t (Indirect n) ≡ m.indirect
-  indirect_was n m is = ap (λ (o : Option ObjectMap). option_map_or (λ (m : ObjectMap). m.indirect) o no_pointer) is
+  indirect_was : (n : ℕ) (m : ObjectPointers) → t.maps n ≡ m → old_pointers t (Indirect n) ≡ m.indirect
+  indirect_was n m is = ap (λ (m : ObjectPointers). m.indirect) is
 
-  object_place : (changes : ObjectChanges) (n : ℕ) (m : ObjectMap) (address : ℕ) → n < object_count → slice_get t.maps.items n ≡ Some m → IsOfMap changes m address → HasPlace (IsPlaceOf n) address
+  object_place : (changes : ObjectChanges) (n : ℕ) (m : ObjectPointers) (address : ℕ) → n < object_count → t.maps n ≡ m → IsOfMap changes m address → HasPlace (IsPlaceOf n) address
   object_place changes n m address low is (inl of) = record {
     place = Data n of.index;
     in_range = (low, of.low);
@@ -119,14 +117,14 @@ module _ (t : Tree) where
     kind = refl;
   }
 
-  module _ (apart : AreApart (pointers_before t)) where
+  module _ (apart : AreApart (old_pointers t)) where
     apart_kinds : (One Two : Place → Type 0) (address : ℕ) → HasPlace One address → HasPlace Two address → (place : Place) × One place × Two place
     apart_kinds One Two address one two =
         let same : one.place ≡ two.place = apart one.place two.place address one.in_range two.in_range one.is_of two.is_of in
         (two.place, subst One same one.kind, two.kind)
 
     -- the map of an object
-    apart_map : (n : ℕ) (m : ObjectMap) → n < object_count → slice_get t.maps.items n ≡ Some m → IsApart m
+    apart_map : (n : ℕ) (m : ObjectPointers) → n < object_count → t.maps n ≡ m → IsApart m
     apart_map n m low is = record {
       records = λ i j address below above one two.
           let same : Data n i ≡ Data n j = apart (Data n i) (Data n j) address (low, below) (low, above)
@@ -141,12 +139,12 @@ module _ (t : Tree) where
     }
 
   -- one object more
-  pub objects_once_put : (first freed released : List ℕ) (objects : List (ObjectId × ObjectChanges)) (old new : List (ObjectId × ObjectMap)) (id : ObjectId) (changes : ObjectChanges) (was m : ObjectMap)
-      → IsPut old id m new → id.0 < object_count → entry_of objects id.0 ≡ Some changes → slice_get t.maps.items id.0 ≡ Some was → entry_of old id.0 ≡ None
-      → AreApart (pointers_before t) → ObjectsFree first freed t.maps.items objects old → FreesOnce first freed (IsOfObject t.maps.items objects old)
-      → (IsApart was → FreesOnce freed released (IsOfMap changes was)) → FreesOnce first released (IsOfObject t.maps.items objects new)
+  pub objects_once_put : (first freed released : List ℕ) (objects : List (ObjectId × ObjectChanges)) (old new : List (ObjectId × ObjectMap)) (id : ObjectId) (changes : ObjectChanges) (was : ObjectPointers) (m : ObjectMap)
+      → IsPut old id m new → id.0 < object_count → entry_of objects id.0 ≡ Some changes → t.maps id.0 ≡ was → entry_of old id.0 ≡ None
+      → AreApart (old_pointers t) → ObjectsFree first freed t.maps objects old → FreesOnce first freed (IsOfObject t.maps objects old)
+      → (IsApart was → FreesOnce freed released (IsOfMap changes was)) → FreesOnce first released (IsOfObject t.maps objects new)
   objects_once_put first freed released objects old new id changes was m put low changes_are was_is unplanned apart frees one two =
-      once_twice first freed released (IsOfObject t.maps.items objects old) (IsOfMap changes was) (IsOfObject t.maps.items objects new) frees
+      once_twice first freed released (IsOfObject t.maps objects old) (IsOfMap changes was) (IsOfObject t.maps objects new) frees
       (λ address of. record {
         number = of.number;
         low = of.low;
@@ -176,10 +174,10 @@ module _ (t : Tree) where
 
   -- one directory more
   pub directories_once_push : (first old new : List ℕ) (objects : List (ObjectId × ObjectChanges)) (after : FinMap nat_cmp (List ℕ)) (i : ℕ) (state : RecordState) → state ≡ directory_state objects after i → i < 84
-      → AreApart (pointers_before t) → DirectoriesFree first old objects after t.directories.items i → FreesOnce first old (IsOfDirectory objects after t.directories.items i)
-      → FreesOnce old new (IsOfPlace state (slice_index_or t.directories.items i no_pointer)) → FreesOnce first new (IsOfDirectory objects after t.directories.items (i + 1))
+      → AreApart (old_pointers t) → DirectoriesFree first old objects after t.directories i → FreesOnce first old (IsOfDirectory objects after t.directories i)
+      → FreesOnce old new (IsOfPlace state (slice_index_or t.directories i no_pointer)) → FreesOnce first new (IsOfDirectory objects after t.directories (i + 1))
   directories_once_push first old new objects after i state is low apart frees one two =
-      once_twice first old new (IsOfDirectory objects after t.directories.items i) (IsOfPlace state (slice_index_or t.directories.items i no_pointer)) (IsOfDirectory objects after t.directories.items (i + 1)) frees
+      once_twice first old new (IsOfDirectory objects after t.directories i) (IsOfPlace state (slice_index_or t.directories i no_pointer)) (IsOfDirectory objects after t.directories (i + 1)) frees
       (λ address of. record { number = of.number; low = (let before = of.low in omega (arith, before)); replaced = of.replaced; is_of = of.is_of })
       (λ address here. record { number = i; low = omega arith; replaced = ap replaces (sym is) ∙ here.0; is_of = here.1 })
       (λ address of here.
@@ -190,18 +188,18 @@ module _ (t : Tree) where
       one two
 
   -- the whole walk
-  pub tree_once : (objects : List (ObjectId × ObjectChanges)) (after : FinMap nat_cmp (List ℕ)) (planned : List (ObjectId × ObjectMap)) (f0 f1 f2 f3 : List ℕ) → f0 ≡ [] → AreApart (pointers_before t)
-      → ObjectsFree f0 f1 t.maps.items objects planned → FreesOnce f0 f1 (IsOfObject t.maps.items objects planned)
-      → DirectoriesFree f1 f2 objects after t.directories.items 84 → FreesOnce f1 f2 (IsOfDirectory objects after t.directories.items 84)
+  pub tree_once : (objects : List (ObjectId × ObjectChanges)) (after : FinMap nat_cmp (List ℕ)) (planned : List (ObjectId × ObjectMap)) (f0 f1 f2 f3 : List ℕ) → f0 ≡ [] → AreApart (old_pointers t)
+      → ObjectsFree f0 f1 t.maps objects planned → FreesOnce f0 f1 (IsOfObject t.maps objects planned)
+      → DirectoriesFree f1 f2 objects after t.directories 84 → FreesOnce f1 f2 (IsOfDirectory objects after t.directories 84)
       → FreesOnce f2 f3 (IsOfPlace (root_state objects after) t.root) → IsDistinct nat_eq f3
   unfolding IsDistinct
   tree_once objects after planned f0 f1 f2 f3 start apart frees one more two three = all nothing (subst (λ (l : List ℕ). IsDistinct nat_eq l) (sym start) tt)
     where
       AtObject : ℕ → Type 0
-      AtObject = IsOfObject t.maps.items objects planned
+      AtObject = IsOfObject t.maps objects planned
 
       AtDirectory : ℕ → Type 0
-      AtDirectory = IsOfDirectory objects after t.directories.items 84
+      AtDirectory = IsOfDirectory objects after t.directories 84
 
       AtRoot : ℕ → Type 0
       AtRoot = IsOfPlace (root_state objects after) t.root

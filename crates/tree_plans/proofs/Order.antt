@@ -1,6 +1,6 @@
 -- The blocks of a plan stand in the order of their places.
 use Rattle.std.proofs.Common.{◌≡◌, ◌==◌, ℕ, zero, suc, ◌+◌, ◌*◌, ◌/◌, ◌≤◌, ◌<◌, inl, inr, Bool, true, false, not, cond, ◌&&◌, ◌||◌, List, [], ◌∷◌, ◌++◌, length, map, filter, Option, Ordering, Less, Equal, Greater, Some, None, refl, sym, ◌∙◌, ap, append_assoc, arith, nat_lt, ltb-true, if◌then◌else◌}
-use Rattle.std.specs.Prelude.{slice_get, slice_index_or, is_some}
+use Rattle.std.specs.Prelude.{slice_index_or, is_some}
 use Rattle.std.specs.List.{AllByRecursion, list_any, flat_map, range_with_len}
 use Rattle.std.specs.List.Sorted.{IsStrictlySortedBy}
 use Rattle.std.specs.Map.{keys_of}
@@ -29,9 +29,8 @@ use Rattle.base.proofs.common.KeptLists.{any_found, filter_same}
 use Rattle.base.proofs.tree.WrittenPlaces.{any-same, in-range}
 use Rattle.base.specs.tree.PlannedTrees.{NewBlock}
 use Rattle.object_maps.specs.declared.tree.ObjectMap.{ObjectMap}
-use Rattle.object_maps.specs.declared.tree.Tree.{Tree}
 use Rattle.tree_plans.specs.declared.changes.ObjectChanges.{ObjectChanges}
-use Rattle.tree_plans.specs.Pointers.{IsPut, entry_of, planned_map, pointers_before, pointers_from, record_in}
+use Rattle.tree_plans.specs.Pointers.{IsPut, ObjectPointers, OldTree, entry_of, old_pointers, planned_map, pointers_from, pointers_in, record_in}
 use Rattle.tree_plans.specs.Changes.{AreInRange, changes_of_group, has_address, state_at, state_in}
 use Rattle.tree_plans.specs.declared.planner.PlannedBlock.{PlannedBlock}
 use Rattle.tree_plans.specs.Plans.{AreRecordsPlanned, IsRecordPlanned, Progress, address_of, indirect_state, is_dirty_in, is_indirect_written_in, new_block, state_above}
@@ -112,11 +111,11 @@ no_addresses : (p : ℕ → Bool) (f : ℕ → Pointer) (count : ℕ) → ((r : 
 unfolding addresses_where
 no_addresses p f count none = ap (map (λ i. (f i).address)) (none_passes p none _)
 
-pub none_written : (group : GroupChanges) (n : ℕ) (o : Option ObjectMap) → ((r : ℕ) → is_record_written group n r ≡ false) → is_indirect_written group n ≡ false → object_addresses group n o ≡ []
+pub none_written : (group : GroupChanges) (n : ℕ) (o : ObjectPointers) → ((r : ℕ) → is_record_written group n r ≡ false) → is_indirect_written group n ≡ false → object_addresses group n o ≡ []
 unfolding object_addresses
 none_written group n o none not_written =
-    ap (λ (l : List ℕ). l ++ address_if (is_indirect_written group n) (option_map_or (λ (m : ObjectMap). m.indirect) o no_pointer)) (no_addresses (is_record_written group n) _ 84 none)
-    ∙ ap (λ (b : Bool). address_if b (option_map_or (λ (m : ObjectMap). m.indirect) o no_pointer)) not_written
+    ap (λ (l : List ℕ). l ++ address_if (is_indirect_written group n) o.indirect) (no_addresses (is_record_written group n) _ 84 none)
+    ∙ ap (λ (b : Bool). address_if b o.indirect) not_written
 
 -- a number of a range that passes
 pub passes_at : (p : ℕ → Bool) (a n k : ℕ) → a ≤ k → k < a + n → p k ≡ true → list_any p (range_with_len a n) ≡ true
@@ -141,7 +140,7 @@ module _ (objects : List (ObjectId × ObjectChanges)) (pointers : Place → Poin
   pub entry-written : (changes : ObjectChanges) → entry_of objects n ≡ Some changes → is_record_written entry_group n ≡ is_dirty_in changes
   entry-written changes is = λ k r. is_dirty (entry-state changes is r k)
 
-  pub entry-indirect : (changes : ObjectChanges) (was : ObjectMap) → entry_of objects n ≡ Some changes → ((r : ℕ) → pointers (Data n r) ≡ record_in was r) → is_indirect_written entry_group n ≡ is_indirect_written_in changes was
+  pub entry-indirect : (changes : ObjectChanges) (was : ObjectPointers) → entry_of objects n ≡ Some changes → ((r : ℕ) → pointers (Data n r) ≡ was.record_at r) → is_indirect_written entry_group n ≡ is_indirect_written_in changes was
   entry-indirect changes was is pointers_are =
       (λ k. option_map_or (λ (c : ObjectChanges). c.is_changed) (is k) false
       && list_any (λ r. has_block_after (entry-state changes is r k) (has_address (pointers_are r k))) record_numbers)
@@ -153,15 +152,15 @@ module _ (objects : List (ObjectId × ObjectChanges)) (pointers : Place → Poin
   absent-indirect_written none = ap (λ (o : Option ObjectChanges). option_map_or (λ (c : ObjectChanges). c.is_changed) o false && list_any (has_record_after entry_group n) record_numbers) none
 
 -- an object that is gone over
-pub object_added : (group : GroupChanges) (n : ℕ) (changes : ObjectChanges) (was m : ObjectMap) (o : Option ObjectMap) (s t : List NewBlock) → o ≡ Some m
+pub object_added : (group : GroupChanges) (n : ℕ) (changes : ObjectChanges) (was : ObjectPointers) (m : ObjectMap) (o : ObjectPointers) (s t : List NewBlock) → o ≡ pointers_in m
     → is_record_written group n ≡ is_dirty_in changes → is_indirect_written group n ≡ is_indirect_written_in changes was
     → Adds s t (addresses_where (is_dirty_in changes) (λ r. record_in m r) 84 ++ address_if (is_indirect_written_in changes was) m.indirect) → Adds s t (object_addresses group n o)
 unfolding object_addresses
 object_added group n changes was m o s t there records indirect added =
     added ∙ ap (λ (q : ℕ → Bool). addresses_of s ++ (addresses_where q (λ r. record_in m r) 84 ++ address_if (is_indirect_written_in changes was) m.indirect)) (sym records)
     ∙ ap (λ (b : Bool). addresses_of s ++ (addresses_where (is_record_written group n) (λ r. record_in m r) 84 ++ address_if b m.indirect)) (sym indirect)
-    ∙ ap (λ (q : Option ObjectMap). addresses_of s ++ (addresses_where (is_record_written group n) (λ r. option_map_or (λ (m : ObjectMap). record_in m r) q no_pointer) 84
-    ++ address_if (is_indirect_written group n) (option_map_or (λ (m : ObjectMap). m.indirect) q no_pointer))) (sym there)
+    ∙ ap (λ (q : ObjectPointers). addresses_of s ++ (addresses_where (is_record_written group n) q.record_at 84
+    ++ address_if (is_indirect_written group n) q.indirect)) (sym there)
 
 -- the records after a plan that have a block are those that the states say
 pub record-names_block : (s : Progress) (n r : ℕ) (bytes : List ℕ) (state : RecordState) (old new : Pointer) → IsRecordPlanned s n r bytes state old new → has_address new ≡ has_block_after state (has_address old)
@@ -179,14 +178,14 @@ any-range p q (x ∷ xs) a same =
     (λ k. first k || any-range p q xs (a + 1) (λ i low. same (suc i) (omega (arith, low)) ∙ ap p (let e : a + suc i ≡ a + 1 + i = omega arith in e)) k)
 
 -- an indirect block is written if its object's changes say so
-pub indirect-told : (s : Progress) (n : ℕ) (bytes : List ℕ) (changes : ObjectChanges) (was : ObjectMap) (records : List Pointer) → length records ≡ 84 → AreRecordsPlanned s n bytes changes was 84 records
+pub indirect-told : (s : Progress) (n : ℕ) (bytes : List ℕ) (changes : ObjectChanges) (was : ObjectPointers) (records : List Pointer) → length records ≡ 84 → AreRecordsPlanned s n bytes changes was 84 records
     → is_dirty (indirect_state changes.is_changed records) ≡ is_indirect_written_in changes was
 indirect-told s n bytes changes was records long planned =
-    let any : list_any has_address records ≡ list_any (λ r. has_block_after (state_at changes r) (has_address (record_in was r))) (range_with_len 0 84) =
-    any-range (λ r. has_block_after (state_at changes r) (has_address (record_in was r))) has_address records 0
-    (λ k low. record-names_block s n k bytes (state_at changes k) (record_in was k) (slice_index_or records k no_pointer) (planned k (omega (arith, low, long)))
-    ∙ ap (λ (i : ℕ). has_block_after (state_at changes i) (has_address (record_in was i))) (let e : k ≡ 0 + k = omega arith in e))
-    ∙ ap (λ (c : ℕ). list_any (λ r. has_block_after (state_at changes r) (has_address (record_in was r))) (range_with_len 0 c)) long in
+    let any : list_any has_address records ≡ list_any (λ r. has_block_after (state_at changes r) (has_address (was.record_at r))) (range_with_len 0 84) =
+    any-range (λ r. has_block_after (state_at changes r) (has_address (was.record_at r))) has_address records 0
+    (λ k low. record-names_block s n k bytes (state_at changes k) (was.record_at k) (slice_index_or records k no_pointer) (planned k (omega (arith, low, long)))
+    ∙ ap (λ (i : ℕ). has_block_after (state_at changes i) (has_address (was.record_at i))) (let e : k ≡ 0 + k = omega arith in e))
+    ∙ ap (λ (c : ℕ). list_any (λ r. has_block_after (state_at changes r) (has_address (was.record_at r))) (range_with_len 0 c)) long in
     told (changes.is_changed && list_any has_address records) ∙ ap (λ (b : Bool). changes.is_changed && b) any
   where
     told : (b : Bool) → is_dirty (if b then Dirty else Hole) ≡ b
@@ -194,18 +193,18 @@ indirect-told s n bytes changes was records long planned =
     told false = refl
 
 -- the records' pointers of a tree in memory
-pub data_before : (t : Tree) (n : ℕ) (was : ObjectMap) → slice_get t.maps.items n ≡ Some was → (r : ℕ) → pointers_before t (Data n r) ≡ record_in was r
-data_before t n was is r = ap (λ (o : Option ObjectMap). option_map_or (λ (m : ObjectMap). record_in m r) o no_pointer) is
+pub data_before : (t : OldTree) (n : ℕ) (was : ObjectPointers) → t.maps n ≡ was → (r : ℕ) → old_pointers t (Data n r) ≡ was.record_at r
+data_before t n was is r = ap (λ (m : ObjectPointers). m.record_at r) is
 
 -- no address of an object that no operation is on
-pub absent_addresses : (objects : List (ObjectId × ObjectChanges)) (pointers : Place → Pointer) (after : FinMap nat_cmp (List ℕ)) (n : ℕ) (o : Option ObjectMap) → entry_of objects n ≡ None
+pub absent_addresses : (objects : List (ObjectId × ObjectChanges)) (pointers : Place → Pointer) (after : FinMap nat_cmp (List ℕ)) (n : ℕ) (o : ObjectPointers) → entry_of objects n ≡ None
     → object_addresses (changes_of_group objects pointers after) n o ≡ []
 absent_addresses objects pointers after n o none = none_written (changes_of_group objects pointers after) n o (absent-written objects pointers after n none) (absent-indirect_written objects pointers after n none)
 
 -- an object that is put has the pointers that are put
-pub map_put : (maps : List ObjectMap) (old new : List (ObjectId × ObjectMap)) (id : ObjectId) (m : ObjectMap) → IsPut old id m new → planned_map maps new id.0 ≡ Some m
+pub map_put : (maps : ℕ → ObjectPointers) (old new : List (ObjectId × ObjectMap)) (id : ObjectId) (m : ObjectMap) → IsPut old id m new → planned_map maps new id.0 ≡ pointers_in m
 map_put maps old new id m put =
-    ap (λ (o : Option ObjectMap). option_map_or (λ (m : ObjectMap). Some m) o (slice_get maps id.0)) (put id.0 ∙ ap (λ b. cond b (Some m) (entry_of old id.0)) (eq-eqb id.0 id.0 refl))
+    ap (λ (o : Option ObjectMap). option_map_or pointers_in o (maps id.0)) (put id.0 ∙ ap (λ b. cond b (Some m) (entry_of old id.0)) (eq-eqb id.0 id.0 refl))
 
 -- one object more: what the others have stays
 same_elsewhere : {X : Type 0} (F G : ℕ → List ℕ) (n : ℕ) (done : List (ObjectId × X)) → entry_of done n ≡ None → ((k : ℕ) → (n == k) ≡ false → F k ≡ G k)
@@ -217,7 +216,7 @@ same_elsewhere {X} F G n (x ∷ done) none same =
       | false ↦ λ is e. rw (same x.0.0 is, same_elsewhere F G n done e same) refl
     ] refl none
 
-pub objects_added : {X : Type 0} (g : GroupChanges) (maps : List ObjectMap) (old new : List (ObjectId × ObjectMap)) (first s t : List NewBlock) (done : List (ObjectId × X)) (e : ObjectId × X)
+pub objects_added : {X : Type 0} (g : GroupChanges) (maps : ℕ → ObjectPointers) (old new : List (ObjectId × ObjectMap)) (first s t : List NewBlock) (done : List (ObjectId × X)) (e : ObjectId × X)
     → entry_of done e.0.0 ≡ None → ((n : ℕ) → (e.0.0 == n) ≡ false → entry_of new n ≡ entry_of old n)
     → Adds first s (flat_map (λ (x : ObjectId × X). object_addresses g x.0.0 (planned_map maps old x.0.0)) done) → Adds s t (object_addresses g e.0.0 (planned_map maps new e.0.0))
     → Adds first t (flat_map (λ (x : ObjectId × X). object_addresses g x.0.0 (planned_map maps new x.0.0)) (done ++ e ∷ []))
@@ -295,7 +294,7 @@ module _ (R : ObjectId → ObjectId → Ordering) (less : (a b : ObjectId) → R
   all_from_none [] = tt
   all_from_none (y ∷ ys) = (omega arith, all_from_none ys)
 
-  pub all_added : (count : ℕ) (g : GroupChanges) (maps : List ObjectMap) (planned : List (ObjectId × ObjectMap)) (objects done : List (ObjectId × ObjectChanges)) (s t : List NewBlock)
+  pub all_added : (count : ℕ) (g : GroupChanges) (maps : ℕ → ObjectPointers) (planned : List (ObjectId × ObjectMap)) (objects done : List (ObjectId × ObjectChanges)) (s t : List NewBlock)
       → done ≡ objects → IsStrictlySortedBy R (keys_of objects) → ((n : ℕ) → is_some (entry_of objects n) ≡ true → n < count)
       → ((n : ℕ) → entry_of objects n ≡ None → object_addresses g n (planned_map maps planned n) ≡ [])
       → Adds s t (flat_map (λ (e : ObjectId × ObjectChanges). object_addresses g e.0.0 (planned_map maps planned e.0.0)) done)
@@ -357,7 +356,7 @@ map-flat_map : {A B C : Type 0} (f : B → C) (g : A → List B) (h : A → List
 map-flat_map f g h same [] = refl
 map-flat_map f g h same (x ∷ xs) = map-append f (g x) (flat_map g xs) ∙ ap (λ l. l ++ map f (flat_map g xs)) (same x) ∙ ap (λ l. h x ++ l) (map-flat_map f g h same xs)
 
-module _ (root : Pointer) (directories : List Pointer) (map_of : ℕ → Option ObjectMap) where
+module _ (root : Pointer) (directories : List Pointer) (map_of : ℕ → ObjectPointers) where
   abbrev address_at : Place → ℕ
   address_at place = (pointers_from root directories map_of place).address
 
@@ -365,12 +364,12 @@ module _ (root : Pointer) (directories : List Pointer) (map_of : ℕ → Option 
   directory_at d = slice_index_or directories d no_pointer
 
   of_object : (n : ℕ) (xs : List ℕ) (b : Bool) → map address_at (map (λ r. Data n r) xs ++ (if b then Indirect n ∷ [] else []))
-      ≡ map (λ r. (option_map_or (λ (m : ObjectMap). record_in m r) (map_of n) no_pointer).address) xs ++ address_if b (option_map_or (λ (m : ObjectMap). m.indirect) (map_of n) no_pointer)
+      ≡ map (λ r. ((map_of n).record_at r).address) xs ++ address_if b (map_of n).indirect
   of_object n xs b = map-append address_at (map (λ r. Data n r) xs) (if b then Indirect n ∷ [] else [])
       ∙ ap (λ l. l ++ map address_at (if b then Indirect n ∷ [] else [])) (map-map address_at (λ r. Data n r) xs)
       ∙ ap (λ l. map (λ r. address_at (Data n r)) xs ++ l) (last b)
     where
-      last : (b : Bool) → map address_at (if b then Indirect n ∷ [] else []) ≡ address_if b (option_map_or (λ (m : ObjectMap). m.indirect) (map_of n) no_pointer)
+      last : (b : Bool) → map address_at (if b then Indirect n ∷ [] else []) ≡ address_if b (map_of n).indirect
       last true = refl
       last false = refl
 
@@ -448,7 +447,7 @@ module _ (objects : List (ObjectId × ObjectChanges)) (pointers : Place → Poin
   written-directories = filter_same (is_directory_written whole_group) (is_directory_dirty objects after) (range_with_len 0 84) (λ i d at. directory-written d (let to = (in-range 0 84 i d at).1 in omega (arith, to)))
 
   -- the blocks of a whole walk are those of the places that are written, in their order
-  pub tree_in_order : (maps : List ObjectMap) (planned : List (ObjectId × ObjectMap)) (directories : List Pointer) (root : Pointer) (first one two three : List NewBlock)
+  pub tree_in_order : (maps : ℕ → ObjectPointers) (planned : List (ObjectId × ObjectMap)) (directories : List Pointer) (root : Pointer) (first one two three : List NewBlock)
       → first ≡ [] → AreInRange objects → Adds first one (all_addresses whole_group (planned_map maps planned) 5292)
       → Adds one two (addresses_where (is_directory_dirty objects after) (λ d. slice_index_or directories d no_pointer) 84) → Adds two three (address_if (is_dirty (root_state objects after)) root)
       → AreInOrder (addresses_of three) (pointers_from root directories (planned_map maps planned)) whole_group

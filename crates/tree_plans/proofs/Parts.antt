@@ -17,11 +17,12 @@ use Rattle.tree_plans.specs.declared.place.RecordPlace.{RecordPlace}
 use Rattle.tree_plans.specs.declared.planner.PlannedBlock.{PlannedBlock}
 use Rattle.tree_plans.specs.declared.planner.Planner.{Planner}
 use Rattle.tree_plans.specs.Order.{Adds, address_if}
-use Rattle.tree_plans.specs.Parts.{ClearsPlace, ExtendsPlan, PlansDirectory, PlansIndirect, PlansRecord, PlansRoot, TakesBlock, blocks_of, directory_before, maps_before}
+use Rattle.tree_plans.specs.Pointers.{maps_before}
+use Rattle.tree_plans.specs.Parts.{ClearsPlace, ExtendsPlan, PlansDirectory, PlansIndirect, PlansRecord, PlansRoot, TakesBlock, blocks_of, directory_before}
 use Rattle.tree_plans.specs.Plans.{FreesOnce, FreesOnly, HasBecome, IsOf, IsOfPlace, PlaceFrees, indirect_state, new_block, place_of, progress_of, state_above}
 use Rattle.tree_plans.specs.Walks.{AreEntriesWritten, has_object, has_objects, is_any_touched, root_state}
 use Rattle.tree_plans.specs.declared.changes.ObjectChanges.{ObjectChanges}
-use Rattle.tree_plans.specs.declared.walk.PlanSource.{PlanSource}
+use Rattle.tree_plans.specs.declared.plan_source.PlanSource.{PlanSource}
 use Rattle.object_maps.specs.declared.tree.ObjectMap.{ObjectMap}
 use Rattle.std.specs.BTreeMap.{BTreeMap}
 use Rattle.std.specs.Ordering.{nat_cmp}

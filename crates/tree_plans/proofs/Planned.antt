@@ -26,12 +26,11 @@ use Rattle.base.specs.common.Rising.{rising}
 use Rattle.space.specs.FreeSets.{free_from}
 use Rattle.space.proofs.FreeLists.{free_from-0}
 use Rattle.object_maps.specs.declared.tree.ObjectMap.{ObjectMap}
-use Rattle.object_maps.specs.declared.tree.Tree.{Tree}
-use Rattle.object_maps.specs.Lengths.{lengths_of}
 use Rattle.tree_plans.specs.declared.changes.ObjectChanges.{ObjectChanges}
 use Rattle.tree_plans.specs.declared.planner.PlannedBlock.{PlannedBlock}
-use Rattle.tree_plans.specs.Pointers.{entry_of, record_in, planned_map, pointers_from, pointers_before}
+use Rattle.tree_plans.specs.Pointers.{ObjectPointers, OldTree, entry_of, old_pointers, planned_map, pointers_from, pointers_in, record_in}
 use Rattle.tree_plans.specs.Plans.{Progress, HasBecome, IsRecordPlanned, Goes, HasTaken, IsAmong, IsOf, address_of, indirect_state, new_block, replaces, state_above}
+use Rattle.tree_plans.specs.TreePlans.{IsMapAfter}
 use Rattle.tree_plans.specs.Walks.{IsEntryWritten, IsPlannedFrom, IsOfObject, IsDirectoryPlanned, IsRootPlanned, IsWalked, directory_state, has_object, has_objects, is_any_touched, is_directory_replaced, is_directory_touched, is_emptied, root_state}
 use Rattle.tree_plans.specs.Changes.{AreBornBefore, AreChanges, AreTreePointers, IsCoveredBy, has_address, state_at, state_in}
 use Rattle.base.specs.declared.record_state.RecordState.{RecordState}
@@ -59,17 +58,17 @@ taken_lowest free start blocks next freed frame at_first none g =
     as_many (b ∷ bs) = ap suc (as_many bs)
 
 -- the pointers of an object that is planned, and of one that is not
-planned_there : (maps : List ObjectMap) (planned : List (ObjectId × ObjectMap)) (n : ℕ) (m : ObjectMap) → entry_of planned n ≡ Some m → planned_map maps planned n ≡ Some m
-planned_there maps planned n m e = ap (λ (o : Option ObjectMap). option_map_or (λ (m : ObjectMap). Some m) o (slice_get maps n)) e
+planned_there : (maps : ℕ → ObjectPointers) (planned : List (ObjectId × ObjectMap)) (n : ℕ) (m : ObjectMap) → entry_of planned n ≡ Some m → planned_map maps planned n ≡ pointers_in m
+planned_there maps planned n m e = ap (λ (o : Option ObjectMap). option_map_or pointers_in o (maps n)) e
 
-planned_not : (maps : List ObjectMap) (planned : List (ObjectId × ObjectMap)) (n : ℕ) → entry_of planned n ≡ None → planned_map maps planned n ≡ slice_get maps n
-planned_not maps planned n e = ap (λ (o : Option ObjectMap). option_map_or (λ (m : ObjectMap). Some m) o (slice_get maps n)) e
+planned_not : (maps : ℕ → ObjectPointers) (planned : List (ObjectId × ObjectMap)) (n : ℕ) → entry_of planned n ≡ None → planned_map maps planned n ≡ maps n
+planned_not maps planned n e = ap (λ (o : Option ObjectMap). option_map_or pointers_in o (maps n)) e
 
-abbrev indirect_in : Option ObjectMap → Pointer
-indirect_in o = option_map_or (λ (m : ObjectMap). m.indirect) o no_pointer
+abbrev indirect_in : ObjectPointers → Pointer
+indirect_in m = m.indirect
 
-abbrev data_in : ℕ → Option ObjectMap → Pointer
-data_in r o = option_map_or (λ (m : ObjectMap). record_in m r) o no_pointer
+abbrev data_in : ℕ → ObjectPointers → Pointer
+data_in r m = m.record_at r
 
 -- no object of a directory that is not touched changes
 untouched : (objects : List (ObjectId × ObjectChanges)) (d n : ℕ) → n / 63 ≡ d → is_directory_touched objects d ≡ false → entry_of objects n ≡ None
@@ -119,13 +118,13 @@ if_some : {A : Type 0} (P Q : A → Type 0) (o : Option A) → ((a : A) → o �
 if_some P Q None f p = p
 if_some P Q (Some a) f p = f a refl p
 
-module _ (s : Progress) (t : Tree) (after : FinMap nat_cmp (List ℕ)) (objects : List (ObjectId × ObjectChanges)) (planned : List (ObjectId × ObjectMap)) (directories : List Pointer) (root : Pointer)
+module _ (s : Progress) (t : OldTree) (after : FinMap nat_cmp (List ℕ)) (objects : List (ObjectId × ObjectChanges)) (planned : List (ObjectId × ObjectMap)) (directories : List Pointer) (root : Pointer)
     (w : IsWalked s t after objects planned directories root) where
   abbrev new : Place → Pointer
-  new = pointers_from root directories (planned_map t.maps.items planned)
+  new = pointers_from root directories (planned_map t.maps planned)
 
   -- an object that operations are on is planned
-  not_touched : (n : ℕ) → n < object_count → entry_of planned n ≡ None → entry_of objects n ≡ None
+  pub not_touched : (n : ℕ) → n < object_count → entry_of planned n ≡ None → entry_of objects n ≡ None
   not_touched n low none = go (entry_of objects n) refl
     where
       go : (o : Option ObjectChanges) → entry_of objects n ≡ o → o ≡ None
@@ -138,45 +137,77 @@ module _ (s : Progress) (t : Tree) (after : FinMap nat_cmp (List ℕ)) (objects 
           absurd (none_some (entry_of planned n) none none_there)
 
   -- the length of each object
-  pub length_planned : (n : ℕ) → n < object_count → option_map_or (λ (m : ObjectMap). m.length) (entry_of planned n) (lengths_of t n)
-      ≡ (if is_some (entry_of objects n) then option_map length (finite.get after n) else lengths_of t n)
+  pub length_planned : (n : ℕ) → n < object_count → option_map_or (λ (m : ObjectMap). m.length) (entry_of planned n) (t.lengths n)
+      ≡ (if is_some (entry_of objects n) then option_map length (finite.get after n) else t.lengths n)
   length_planned n low = by (entry_of planned n) refl
     where
       after_them : Option ObjectChanges → Option ℕ
-      after_them o = if is_some o then option_map length (finite.get after n) else lengths_of t n
+      after_them o = if is_some o then option_map length (finite.get after n) else t.lengths n
 
-      by : (o : Option ObjectMap) → entry_of planned n ≡ o → option_map_or (λ (m : ObjectMap). m.length) o (lengths_of t n) ≡ after_them (entry_of objects n)
+      by : (o : Option ObjectMap) → entry_of planned n ≡ o → option_map_or (λ (m : ObjectMap). m.length) o (t.lengths n) ≡ after_them (entry_of objects n)
       by None e = sym (ap after_them (not_touched n low e))
       by (Some m) e = let f = w.objects_planned.each n m e in f.length ∙ sym (ap after_them f.changes_are)
+
+  -- the map of each object that operations are on
+  hole_none : (n r : ℕ) (changes : ObjectChanges) (state : RecordState) (was is : Pointer) → state ≡ Hole
+      → HasBecome s (Data n r) state was is (λ payload. payload ≡ padded_record r (unwrap_or (finite.get after n) [])) → is ≡ no_pointer
+  hole_none n r changes Hole was is hole become = become.none
+  hole_none n r changes Unchanged was is hole become = absurd (let e : Unchanged ≡ Hole = hole in cc)
+  hole_none n r changes Dirty was is hole become = absurd (let e : Dirty ≡ Hole = hole in cc)
+
+  no_block : (n : ℕ) (m : ObjectMap) (is_changed : Bool) (was : Pointer) → is_changed ≡ true → m.indirect.address ≡ 0
+      → HasBecome s (Indirect n) (indirect_state is_changed m.records.items) was m.indirect (λ payload. (r : ℕ) → r < 84 → pointer_in payload r ≡ slice_index_or m.records.items r no_pointer)
+      → list_any has_address m.records.items ≡ false
+  no_block n m true was changed nowhere become = by (list_any has_address m.records.items) become
+    where
+      by : (b : Bool) → HasBecome s (Indirect n) (if b then Dirty else Hole) was m.indirect (λ payload. (r : ℕ) → r < 84 → pointer_in payload r ≡ slice_index_or m.records.items r no_pointer) → b ≡ false
+      by false become = refl
+      by true (payload, written, fits) = absurd (let (k, low, at) = written.in_area in omega (arith, nowhere, at))
+  no_block n m false was changed nowhere become = absurd (cc)
+
+  pub map_made : (n : ℕ) (m : ObjectMap) → entry_of planned n ≡ Some m → IsMapAfter after objects n m
+  map_made n m e =
+      let f = w.objects_planned.each n m e in record {
+        low = f.low;
+        touched = ap is_some f.changes_are;
+        size = f.length;
+        count = f.planned.count;
+        holes = λ r low hole. hole_none n r f.changes (state_at f.changes r) _ _
+            (sym (ap (λ (o : Option ObjectChanges). option_map_or (λ (c : ObjectChanges). state_at c r) o Unchanged) f.changes_are) ∙ hole) (f.planned.records r low);
+        none = λ changed nowhere r low.
+            let is : f.changes.is_changed ≡ true = sym (ap (λ (o : Option ObjectChanges). option_map_or (λ (c : ObjectChanges). c.is_changed) o false) f.changes_are) ∙ changed in
+            let inside : r < length m.records.items = omega (arith, low, f.planned.count) in
+            named_zero (record_in m r) (none_any has_address m.records.items r (record_in m r) (no_block n m f.changes.is_changed f.old.indirect is nowhere f.planned.indirect) (slice_get-get_or m.records.items r no_pointer inside));
+      }
 
   unchanged_there : (n r : ℕ) → n < object_count → entry_of planned n ≡ None → state_in objects n r ≡ Unchanged
   unchanged_there n r low none = ap (λ (o : Option ObjectChanges). option_map_or (λ (c : ObjectChanges). state_at c r) o Unchanged) (not_touched n low none)
 
-  data_kept : (n r : ℕ) → entry_of planned n ≡ None → new (Data n r) ≡ pointers_before t (Data n r)
-  data_kept n r e = ap (data_in r) (planned_not t.maps.items planned n e)
+  data_kept : (n r : ℕ) → entry_of planned n ≡ None → new (Data n r) ≡ old_pointers t (Data n r)
+  data_kept n r e = ap (data_in r) (planned_not t.maps planned n e)
 
-  indirect_kept : (n : ℕ) → entry_of planned n ≡ None → new (Indirect n) ≡ pointers_before t (Indirect n)
-  indirect_kept n e = ap indirect_in (planned_not t.maps.items planned n e)
+  indirect_kept : (n : ℕ) → entry_of planned n ≡ None → new (Indirect n) ≡ old_pointers t (Indirect n)
+  indirect_kept n e = ap indirect_in (planned_not t.maps planned n e)
 
   data_now : (n r : ℕ) (m : ObjectMap) → entry_of planned n ≡ Some m → new (Data n r) ≡ record_in m r
-  data_now n r m e = ap (data_in r) (planned_there t.maps.items planned n m e)
+  data_now n r m e = ap (data_in r) (planned_there t.maps planned n m e)
 
   indirect_now : (n : ℕ) (m : ObjectMap) → entry_of planned n ≡ Some m → new (Indirect n) ≡ m.indirect
-  indirect_now n m e = ap indirect_in (planned_there t.maps.items planned n m e)
+  indirect_now n m e = ap indirect_in (planned_there t.maps planned n m e)
 
-  data_was : (n r : ℕ) (old : ObjectMap) → slice_get t.maps.items n ≡ Some old → pointers_before t (Data n r) ≡ record_in old r
+  data_was : (n r : ℕ) (old : ObjectPointers) → t.maps n ≡ old → old_pointers t (Data n r) ≡ old.record_at r
   data_was n r old e = ap (data_in r) e
 
-  indirect_was : (n : ℕ) (old : ObjectMap) → slice_get t.maps.items n ≡ Some old → pointers_before t (Indirect n) ≡ old.indirect
+  indirect_was : (n : ℕ) (old : ObjectPointers) → t.maps n ≡ old → old_pointers t (Indirect n) ≡ old.indirect
   indirect_was n old e = ap indirect_in e
 
-  module _ (before : FinMap nat_cmp (List ℕ)) (covered : IsCoveredBy objects (pointers_before t) before after) (changes : AreChanges objects after) (whole : AreTreePointers objects (pointers_before t) after) where
+  module _ (before : FinMap nat_cmp (List ℕ)) (covered : IsCoveredBy objects (old_pointers t) before after) (changes : AreChanges objects after) (whole : AreTreePointers objects (old_pointers t) after) where
     abbrev Planned : Place → Type 0
-    Planned = IsPlannedAt s.blocks s.frame (pointers_before t) new before after
+    Planned = IsPlannedAt s.blocks s.frame (old_pointers t) new before after
 
     -- a record of an object that is planned
-    record_planned : (n r : ℕ) (m : ObjectMap) (f : IsPlannedFrom s t.maps.items after objects n m) → r < 84 → entry_of planned n ≡ Some m
-        → (state : RecordState) → state_in objects n r ≡ state → IsRecordPlanned s n r (unwrap_or (finite.get after n) []) state (record_in f.old r) (record_in m r) → Planned (Data n r)
+    record_planned : (n r : ℕ) (m : ObjectMap) (f : IsPlannedFrom s t.maps after objects n m) → r < 84 → entry_of planned n ≡ Some m
+        → (state : RecordState) → state_in objects n r ≡ state → IsRecordPlanned s n r (unwrap_or (finite.get after n) []) state (f.old.record_at r) (record_in m r) → Planned (Data n r)
     record_planned n r m f low e Unchanged is same = inl (data_now n r m e ∙ same ∙ sym (data_was n r f.old f.old_is), covered.records n r f.low low is)
     record_planned n r m f low e Dirty is (payload, written, fits) =
         inr (inl (if_some (λ (bytes : List ℕ). 4032 * r < length bytes) (λ (bytes : List ℕ). (4032 * r < length bytes) × IsNewAt s.blocks s.frame (Data n r) (new (Data n r)) (padded_record r bytes)) (finite.get after n)
@@ -192,23 +223,23 @@ module _ (s : Progress) (t : Tree) (after : FinMap nat_cmp (List ℕ)) (objects 
     data_planned n r low below None e = inl (data_kept n r e, covered.records n r low below (unchanged_there n r low e))
     data_planned n r low below (Some m) e =
         let f = w.objects_planned.each n m e in
-        let state : state_in objects n r ≡ state_at f.changes r = entry-state objects (pointers_before t) after n f.changes f.changes_are r in
+        let state : state_in objects n r ≡ state_at f.changes r = entry-state objects (old_pointers t) after n f.changes f.changes_are r in
         record_planned n r m f below e (state_at f.changes r) state (f.planned.records r below)
 
     -- no record of an object has a block, if its indirect block is not written
-    none_below : (n : ℕ) (m : ObjectMap) (f : IsPlannedFrom s t.maps.items after objects n m) → entry_of planned n ≡ Some m → (f.changes.is_changed && list_any has_address m.records.items) ≡ false
+    none_below : (n : ℕ) (m : ObjectMap) (f : IsPlannedFrom s t.maps after objects n m) → entry_of planned n ≡ Some m → (f.changes.is_changed && list_any has_address m.records.items) ≡ false
         → (r : ℕ) → r < 84 → record_in m r ≡ no_pointer
     none_below n m f e none r low = elim (cases_Bool f.changes.is_changed) as (λ _. record_in m r ≡ no_pointer) [
       | inr untouched_is ↦
           let hole : state_in objects n r ≡ Hole = changes.holes n r f.low low (ap is_some f.changes_are) (inl (ap (λ (o : Option ObjectChanges). option_map_or (λ (c : ObjectChanges). c.is_changed) o false) f.changes_are ∙ untouched_is)) in
-          let state : state_at f.changes r ≡ Hole = sym (entry-state objects (pointers_before t) after n f.changes f.changes_are r) ∙ hole in
+          let state : state_at f.changes r ≡ Hole = sym (entry-state objects (old_pointers t) after n f.changes f.changes_are r) ∙ hole in
           hole_cleared n r m f low state
       | inl changed_is ↦ by_state changed_is (state_at f.changes r) refl (f.planned.records r low)
     ]
       where
-        hole_cleared : (n r : ℕ) (m : ObjectMap) (f : IsPlannedFrom s t.maps.items after objects n m) → r < 84 → state_at f.changes r ≡ Hole → record_in m r ≡ no_pointer
+        hole_cleared : (n r : ℕ) (m : ObjectMap) (f : IsPlannedFrom s t.maps after objects n m) → r < 84 → state_at f.changes r ≡ Hole → record_in m r ≡ no_pointer
         hole_cleared n r m f low state =
-            let done : IsRecordPlanned s n r (unwrap_or (finite.get after n) []) Hole (record_in f.old r) (record_in m r) = rw state at (f.planned.records r low) in
+            let done : IsRecordPlanned s n r (unwrap_or (finite.get after n) []) Hole (f.old.record_at r) (record_in m r) = rw state at (f.planned.records r low) in
             done.none
 
         no_names : f.changes.is_changed ≡ true → has_address (record_in m r) ≡ false
@@ -216,9 +247,9 @@ module _ (s : Progress) (t : Tree) (after : FinMap nat_cmp (List ℕ)) (objects 
             let all : list_any has_address m.records.items ≡ false = sym (ap (λ (b : Bool). b && list_any has_address m.records.items) changed_is) ∙ none in
             none_any has_address m.records.items r (record_in m r) all (slice_get-get_or m.records.items r no_pointer (let long = f.planned.count in omega (arith, low, long)))
 
-        by_state : f.changes.is_changed ≡ true → (state : RecordState) → state_at f.changes r ≡ state → IsRecordPlanned s n r (unwrap_or (finite.get after n) []) state (record_in f.old r) (record_in m r) → record_in m r ≡ no_pointer
+        by_state : f.changes.is_changed ≡ true → (state : RecordState) → state_at f.changes r ≡ state → IsRecordPlanned s n r (unwrap_or (finite.get after n) []) state (f.old.record_at r) (record_in m r) → record_in m r ≡ no_pointer
         by_state changed_is Unchanged is same =
-            let was : pointers_before t (Data n r) ≡ record_in f.old r = data_was n r f.old f.old_is in
+            let was : old_pointers t (Data n r) ≡ f.old.record_at r = data_was n r f.old f.old_is in
             let zero_is : (record_in m r).address ≡ 0 = named_zero (record_in m r) (no_names changed_is) in
             same ∙ sym was ∙ whole.named n r f.low low (ap (λ (p : Pointer). p.address) (was ∙ sym same) ∙ zero_is)
         by_state changed_is Dirty is h =
@@ -232,7 +263,7 @@ module _ (s : Progress) (t : Tree) (after : FinMap nat_cmp (List ℕ)) (objects 
         let f = w.objects_planned.each n m e in
         by_choice n m f e (f.changes.is_changed && list_any has_address m.records.items) refl f.planned.indirect
       where
-        by_choice : (n : ℕ) (m : ObjectMap) (f : IsPlannedFrom s t.maps.items after objects n m) → entry_of planned n ≡ Some m → (b : Bool) → (f.changes.is_changed && list_any has_address m.records.items) ≡ b
+        by_choice : (n : ℕ) (m : ObjectMap) (f : IsPlannedFrom s t.maps after objects n m) → entry_of planned n ≡ Some m → (b : Bool) → (f.changes.is_changed && list_any has_address m.records.items) ≡ b
             → HasBecome s (Indirect n) (if b then Dirty else Hole) f.old.indirect m.indirect (λ payload. (r : ℕ) → r < 84 → pointer_in payload r ≡ slice_index_or m.records.items r no_pointer) → Planned (Indirect n)
         by_choice n m f e true is (payload, written, fits) = inr (inl (
           payload,
@@ -248,15 +279,15 @@ module _ (s : Progress) (t : Tree) (after : FinMap nat_cmp (List ℕ)) (objects 
         let f = w.objects_planned.each n m e in
         by_choice n m f e none (f.changes.is_changed && list_any has_address m.records.items) refl f.planned.indirect
       where
-        no_names : (n : ℕ) (m : ObjectMap) (f : IsPlannedFrom s t.maps.items after objects n m) → finite.get after n ≡ None → (i : ℕ) (p : Pointer) → slice_get m.records.items i ≡ Some p → has_address p ≡ false
+        no_names : (n : ℕ) (m : ObjectMap) (f : IsPlannedFrom s t.maps after objects n m) → finite.get after n ≡ None → (i : ℕ) (p : Pointer) → slice_get m.records.items i ≡ Some p → has_address p ≡ false
         no_names n m f none i p at =
             let low : i < 84 = (let long = f.planned.count in let below = get_below m.records.items i p at in omega (arith, long, below)) in
             let hole : state_in objects n i ≡ Hole = changes.holes n i f.low low (ap is_some f.changes_are) (inr none) in
-            let state : state_at f.changes i ≡ Hole = sym (entry-state objects (pointers_before t) after n f.changes f.changes_are i) ∙ hole in
-            let done : IsRecordPlanned s n i (unwrap_or (finite.get after n) []) Hole (record_in f.old i) (record_in m i) = rw state at (f.planned.records i low) in
+            let state : state_at f.changes i ≡ Hole = sym (entry-state objects (old_pointers t) after n f.changes f.changes_are i) ∙ hole in
+            let done : IsRecordPlanned s n i (unwrap_or (finite.get after n) []) Hole (f.old.record_at i) (record_in m i) = rw state at (f.planned.records i low) in
             ap has_address (get_or-slice_get m.records.items i p no_pointer at) ∙ ap has_address done.none
 
-        by_choice : (n : ℕ) (m : ObjectMap) (f : IsPlannedFrom s t.maps.items after objects n m) → entry_of planned n ≡ Some m → finite.get after n ≡ None → (b : Bool) → (f.changes.is_changed && list_any has_address m.records.items) ≡ b
+        by_choice : (n : ℕ) (m : ObjectMap) (f : IsPlannedFrom s t.maps after objects n m) → entry_of planned n ≡ Some m → finite.get after n ≡ None → (b : Bool) → (f.changes.is_changed && list_any has_address m.records.items) ≡ b
             → HasBecome s (Indirect n) (if b then Dirty else Hole) f.old.indirect m.indirect (λ payload. (r : ℕ) → r < 84 → pointer_in payload r ≡ slice_index_or m.records.items r no_pointer) → new (Indirect n) ≡ no_pointer
         by_choice n m f e none true is h =
             let all : list_any has_address m.records.items ≡ false = any_none has_address m.records.items (no_names n m f none) in
@@ -277,7 +308,7 @@ module _ (s : Progress) (t : Tree) (after : FinMap nat_cmp (List ℕ)) (objects 
         absent_by (Some x) e = absurd (true≢false e)
 
     directory_planned : (d : ℕ) → d < 84 → (touched left : Bool) → is_directory_replaced objects after d ≡ touched → has_object after d ≡ left
-        → IsDirectoryPlanned s t.maps.items planned after d (state_above touched left) (slice_index_or t.directories.items d no_pointer) (slice_index_or directories d no_pointer) → Planned (Directory d)
+        → IsDirectoryPlanned s t.maps planned after d (state_above touched left) (slice_index_or t.directories d no_pointer) (slice_index_or directories d no_pointer) → Planned (Directory d)
     directory_planned d low true true e there p =
         inr (inl (
           p.0,
@@ -313,12 +344,12 @@ module _ (s : Progress) (t : Tree) (after : FinMap nat_cmp (List ℕ)) (objects 
         all_emptied : is_emptied objects after ≡ true
         all_emptied = (λ k. e k && not (none k))
 
-        emptied : (d : ℕ) → d < 84 → IsDirectoryPlanned s t.maps.items planned after d (directory_state objects after d) (slice_index_or t.directories.items d no_pointer) (slice_index_or directories d no_pointer)
+        emptied : (d : ℕ) → d < 84 → IsDirectoryPlanned s t.maps planned after d (directory_state objects after d) (slice_index_or t.directories d no_pointer) (slice_index_or directories d no_pointer)
             → slice_index_or directories d no_pointer ≡ no_pointer
         emptied d low p =
-            let no_object : has_object after d ≡ false = false_from_ne_true (has_object after d) (λ there. false≢true (sym none ∙ left-left objects (pointers_before t) after d low there)) in
+            let no_object : has_object after d ≡ false = false_from_ne_true (has_object after d) (λ there. false≢true (sym none ∙ left-left objects (old_pointers t) after d low there)) in
             let state : directory_state objects after d ≡ Hole = (λ k. state_above (all_emptied k || is_directory_touched objects d) (no_object k)) in
-            let gone : IsDirectoryPlanned s t.maps.items planned after d Hole (slice_index_or t.directories.items d no_pointer) (slice_index_or directories d no_pointer) = rw state at p in
+            let gone : IsDirectoryPlanned s t.maps planned after d Hole (slice_index_or t.directories d no_pointer) (slice_index_or directories d no_pointer) = rw state at p in
             gone.none
     root_planned false left e there same = inl (same, λ d low. kept_directory d low (w.directories_planned d low))
       where
@@ -326,15 +357,15 @@ module _ (s : Progress) (t : Tree) (after : FinMap nat_cmp (List ℕ)) (objects 
         none [] e d = refl
         none (o ∷ os) e d = absurd (some_touched (suc (length os)) e (omega arith))
 
-        kept_directory : (d : ℕ) → d < 84 → IsDirectoryPlanned s t.maps.items planned after d (directory_state objects after d) (slice_index_or t.directories.items d no_pointer) (slice_index_or directories d no_pointer)
-            → slice_index_or directories d no_pointer ≡ slice_index_or t.directories.items d no_pointer
+        kept_directory : (d : ℕ) → d < 84 → IsDirectoryPlanned s t.maps planned after d (directory_state objects after d) (slice_index_or t.directories d no_pointer) (slice_index_or directories d no_pointer)
+            → slice_index_or directories d no_pointer ≡ slice_index_or t.directories d no_pointer
         kept_directory d low p =
             let state : directory_state objects after d ≡ Unchanged = (λ k. state_above ((e k && not (has_objects after)) || none objects e d k) (has_object after d)) in
-            let same : IsDirectoryPlanned s t.maps.items planned after d Unchanged (slice_index_or t.directories.items d no_pointer) (slice_index_or directories d no_pointer) = rw state at p in
+            let same : IsDirectoryPlanned s t.maps planned after d Unchanged (slice_index_or t.directories d no_pointer) (slice_index_or directories d no_pointer) = rw state at p in
             same
 
     -- each place is planned
-    pub tree_planned : IsTreePlan s.blocks s.frame (pointers_before t) (pointers_from root directories (planned_map t.maps.items planned)) before after
+    pub tree_planned : IsTreePlan s.blocks s.frame (old_pointers t) (pointers_from root directories (planned_map t.maps planned)) before after
     tree_planned Root low = root_planned (is_any_touched objects) (has_objects after) refl refl w.root_planned
     tree_planned (Directory d) low = directory_planned d low (is_directory_replaced objects after d) (has_object after d) refl refl (w.directories_planned d low)
     tree_planned (Indirect n) low = indirect_planned n (entry_of planned n) refl
@@ -346,14 +377,14 @@ module _ (s : Progress) (t : Tree) (after : FinMap nat_cmp (List ℕ)) (objects 
   become_placed place Dirty old now Fits h was = inr h.1.in_area
   become_placed place Hole old now Fits gone was = inl gone.none
 
-  data_placed : ArePlaced s.frame.blocks (pointers_before t) → (n r : ℕ) → n < object_count → r < 84 → (o : Option ObjectMap) → entry_of planned n ≡ o → IsPlaced s.frame.blocks (new (Data n r))
+  data_placed : ArePlaced s.frame.blocks (old_pointers t) → (n r : ℕ) → n < object_count → r < 84 → (o : Option ObjectMap) → entry_of planned n ≡ o → IsPlaced s.frame.blocks (new (Data n r))
   data_placed old n r low below None e = subst (λ (p : Pointer). IsPlaced s.frame.blocks p) (sym (data_kept n r e)) (old (Data n r) (low, below))
   data_placed old n r low below (Some m) e =
       let f = w.objects_planned.each n m e in
-      let was : IsPlaced s.frame.blocks (record_in f.old r) = subst (λ (p : Pointer). IsPlaced s.frame.blocks p) (data_was n r f.old f.old_is) (old (Data n r) (low, below)) in
-      subst (λ (p : Pointer). IsPlaced s.frame.blocks p) (sym (data_now n r m e)) (become_placed (Data n r) (state_at f.changes r) (record_in f.old r) (record_in m r) _ (f.planned.records r below) was)
+      let was : IsPlaced s.frame.blocks (f.old.record_at r) = subst (λ (p : Pointer). IsPlaced s.frame.blocks p) (data_was n r f.old f.old_is) (old (Data n r) (low, below)) in
+      subst (λ (p : Pointer). IsPlaced s.frame.blocks p) (sym (data_now n r m e)) (become_placed (Data n r) (state_at f.changes r) (f.old.record_at r) (record_in m r) _ (f.planned.records r below) was)
 
-  indirect_placed : ArePlaced s.frame.blocks (pointers_before t) → (n : ℕ) → n < object_count → (o : Option ObjectMap) → entry_of planned n ≡ o → IsPlaced s.frame.blocks (new (Indirect n))
+  indirect_placed : ArePlaced s.frame.blocks (old_pointers t) → (n : ℕ) → n < object_count → (o : Option ObjectMap) → entry_of planned n ≡ o → IsPlaced s.frame.blocks (new (Indirect n))
   indirect_placed old n low None e = subst (λ (p : Pointer). IsPlaced s.frame.blocks p) (sym (indirect_kept n e)) (old (Indirect n) low)
   indirect_placed old n low (Some m) e =
       let f = w.objects_planned.each n m e in
@@ -361,9 +392,9 @@ module _ (s : Progress) (t : Tree) (after : FinMap nat_cmp (List ℕ)) (objects 
       subst (λ (p : Pointer). IsPlaced s.frame.blocks p) (sym (indirect_now n m e))
       (become_placed (Indirect n) (indirect_state f.changes.is_changed m.records.items) f.old.indirect m.indirect _ f.planned.indirect was)
 
-  pub tree_placed : ArePlaced s.frame.blocks (pointers_before t) → ArePlaced s.frame.blocks (pointers_from root directories (planned_map t.maps.items planned))
+  pub tree_placed : ArePlaced s.frame.blocks (old_pointers t) → ArePlaced s.frame.blocks (pointers_from root directories (planned_map t.maps planned))
   tree_placed old Root low = become_placed Root (root_state objects after) t.root root _ w.root_planned (old Root tt)
-  tree_placed old (Directory d) low = become_placed (Directory d) (directory_state objects after d) (slice_index_or t.directories.items d no_pointer) (slice_index_or directories d no_pointer) _ (w.directories_planned d low) (old (Directory d) low)
+  tree_placed old (Directory d) low = become_placed (Directory d) (directory_state objects after d) (slice_index_or t.directories d no_pointer) (slice_index_or directories d no_pointer) _ (w.directories_planned d low) (old (Directory d) low)
   tree_placed old (Indirect n) low = indirect_placed old n low (entry_of planned n) refl
   tree_placed old (Data n r) low = data_placed old n r low.0 low.1 (entry_of planned n) refl
 
@@ -374,7 +405,7 @@ module _ (s : Progress) (t : Tree) (after : FinMap nat_cmp (List ℕ)) (objects 
   record IsReplaced (address : ℕ) : Type 0 where
     place : Place
     in_range : IsPlace place
-    is_of : IsOf (pointers_before t place) address
+    is_of : IsOf (old_pointers t place) address
     is_new : IsNew (new place)
 
   become_new : (place : Place) (state : RecordState) (old now : Pointer) (Fits : List ℕ → Type 0) → replaces state ≡ true → HasBecome s place state old now Fits → IsNew now
@@ -386,7 +417,7 @@ module _ (s : Progress) (t : Tree) (after : FinMap nat_cmp (List ℕ)) (objects 
   replaces_choice true = refl
   replaces_choice false = refl
 
-  object_replaced : (address : ℕ) → (o : IsOfObject t.maps.items objects planned address) → (m : Option ObjectMap) → entry_of planned o.number ≡ m → IsReplaced address
+  object_replaced : (address : ℕ) → (o : IsOfObject t.maps objects planned address) → (m : Option ObjectMap) → entry_of planned o.number ≡ m → IsReplaced address
   object_replaced address o None e = absurd (none_some (entry_of planned o.number) e o.there)
   object_replaced address o (Some m) e =
       let f = w.objects_planned.each o.number m e in
@@ -397,7 +428,7 @@ module _ (s : Progress) (t : Tree) (after : FinMap nat_cmp (List ℕ)) (objects 
           in_range = (o.low, of.low);
           is_of = subst (λ (p : Pointer). IsOf p address) (sym (data_was o.number of.index o.old o.old_is)) of.was;
           is_new = subst IsNew (sym (data_now o.number of.index m e))
-              (become_new (Data o.number of.index) (state_at f.changes of.index) (record_in f.old of.index) (record_in m of.index) _ (rw (← same) of.replaced) (f.planned.records of.index of.low));
+              (become_new (Data o.number of.index) (state_at f.changes of.index) (f.old.record_at of.index) (record_in m of.index) _ (rw (← same) of.replaced) (f.planned.records of.index of.low));
         }
         | inr of ↦ record {
           place = Indirect o.number;
@@ -416,13 +447,13 @@ module _ (s : Progress) (t : Tree) (after : FinMap nat_cmp (List ℕ)) (objects 
         place = Directory d.number;
         in_range = d.low;
         is_of = d.is_of;
-        is_new = become_new (Directory d.number) (directory_state objects after d.number) (slice_index_or t.directories.items d.number no_pointer) (slice_index_or directories d.number no_pointer) _ d.replaced (w.directories_planned d.number d.low);
+        is_new = become_new (Directory d.number) (directory_state objects after d.number) (slice_index_or t.directories d.number no_pointer) (slice_index_or directories d.number no_pointer) _ d.replaced (w.directories_planned d.number d.low);
       }
       | inr r ↦ record { place = Root; in_range = tt; is_of = r.1; is_new = become_new Root (root_state objects after) t.root root _ r.0 w.root_planned }
     ]
   ]
 
-  pub freed_in_area : ArePlaced s.frame.blocks (pointers_before t) → All (λ address. IsBlockAddress s.frame.blocks address) s.freed
+  pub freed_in_area : ArePlaced s.frame.blocks (old_pointers t) → All (λ address. IsBlockAddress s.frame.blocks address) s.freed
   freed_in_area old k d low =
       let r = replaced (slice_index_or s.freed k d) (k, slice_get-get_or s.freed k d low) in
       elim (old r.place r.in_range) [ inl none ↦ absurd (r.is_of.0 none) | inr area ↦ rw (← r.is_of.1) area ]
@@ -433,15 +464,15 @@ module _ (s : Progress) (t : Tree) (after : FinMap nat_cmp (List ℕ)) (objects 
   become_freed place Dirty old now Fits h ne there = h.1.freed there
   become_freed place Hole old now Fits gone ne there = gone.freed there
 
-  freed_data : (n r : ℕ) → r < 84 → (o : Option ObjectMap) → entry_of planned n ≡ o → new (Data n r) ≢ pointers_before t (Data n r) → pointers_before t (Data n r) ≢ no_pointer → IsAmong s.freed (pointers_before t (Data n r)).address
+  freed_data : (n r : ℕ) → r < 84 → (o : Option ObjectMap) → entry_of planned n ≡ o → new (Data n r) ≢ old_pointers t (Data n r) → old_pointers t (Data n r) ≢ no_pointer → IsAmong s.freed (old_pointers t (Data n r)).address
   freed_data n r low None e ne there = absurd (ne (data_kept n r e))
   freed_data n r low (Some m) e ne there =
       let f = w.objects_planned.each n m e in
       let was = data_was n r f.old f.old_is in
       subst (λ (p : Pointer). IsAmong s.freed p.address) (sym was)
-      (become_freed (Data n r) (state_at f.changes r) (record_in f.old r) (record_in m r) _ (f.planned.records r low) (λ same. ne (data_now n r m e ∙ same ∙ sym was)) (λ none. there (was ∙ none)))
+      (become_freed (Data n r) (state_at f.changes r) (f.old.record_at r) (record_in m r) _ (f.planned.records r low) (λ same. ne (data_now n r m e ∙ same ∙ sym was)) (λ none. there (was ∙ none)))
 
-  freed_indirect : (n : ℕ) → (o : Option ObjectMap) → entry_of planned n ≡ o → new (Indirect n) ≢ pointers_before t (Indirect n) → pointers_before t (Indirect n) ≢ no_pointer → IsAmong s.freed (pointers_before t (Indirect n)).address
+  freed_indirect : (n : ℕ) → (o : Option ObjectMap) → entry_of planned n ≡ o → new (Indirect n) ≢ old_pointers t (Indirect n) → old_pointers t (Indirect n) ≢ no_pointer → IsAmong s.freed (old_pointers t (Indirect n)).address
   freed_indirect n None e ne there = absurd (ne (indirect_kept n e))
   freed_indirect n (Some m) e ne there =
       let f = w.objects_planned.each n m e in
@@ -449,20 +480,20 @@ module _ (s : Progress) (t : Tree) (after : FinMap nat_cmp (List ℕ)) (objects 
       subst (λ (p : Pointer). IsAmong s.freed p.address) (sym was)
       (become_freed (Indirect n) (indirect_state f.changes.is_changed m.records.items) f.old.indirect m.indirect _ f.planned.indirect (λ same. ne (indirect_now n m e ∙ same ∙ sym was)) (λ none. there (was ∙ none)))
 
-  freed_at : (place : Place) → IsPlace place → new place ≢ pointers_before t place → pointers_before t place ≢ no_pointer → IsAmong s.freed (pointers_before t place).address
+  freed_at : (place : Place) → IsPlace place → new place ≢ old_pointers t place → old_pointers t place ≢ no_pointer → IsAmong s.freed (old_pointers t place).address
   freed_at Root low ne there = become_freed Root (root_state objects after) t.root root _ w.root_planned ne there
-  freed_at (Directory d) low ne there = become_freed (Directory d) (directory_state objects after d) (slice_index_or t.directories.items d no_pointer) (slice_index_or directories d no_pointer) _ (w.directories_planned d low) ne there
+  freed_at (Directory d) low ne there = become_freed (Directory d) (directory_state objects after d) (slice_index_or t.directories d no_pointer) (slice_index_or directories d no_pointer) _ (w.directories_planned d low) ne there
   freed_at (Indirect n) low ne there = freed_indirect n (entry_of planned n) refl ne there
   freed_at (Data n r) low ne there = freed_data n r low.1 (entry_of planned n) refl ne there
 
-  differs : AreBornBefore s.frame.group (pointers_before t) → (place : Place) → IsPlace place → pointers_before t place ≢ no_pointer → IsNew (new place) → new place ≢ pointers_before t place
+  differs : AreBornBefore s.frame.group (old_pointers t) → (place : Place) → IsPlace place → old_pointers t place ≢ no_pointer → IsNew (new place) → new place ≢ old_pointers t place
   differs older place in_range there (inl born) same =
       let before = older place in_range in
-      let birth : (pointers_before t place).birth ≡ s.frame.group = ap (λ (p : Pointer). p.birth) (sym same) ∙ born in
+      let birth : (old_pointers t place).birth ≡ s.frame.group = ap (λ (p : Pointer). p.birth) (sym same) ∙ born in
       omega (arith, before, birth)
   differs older place in_range there (inr none) same = there (sym same ∙ none)
 
-  pub all_freed : AreBornBefore s.frame.group (pointers_before t) → AreFreed (pointers_before t) (pointers_from root directories (planned_map t.maps.items planned)) s.freed
+  pub all_freed : AreBornBefore s.frame.group (old_pointers t) → AreFreed (old_pointers t) (pointers_from root directories (planned_map t.maps planned)) s.freed
   all_freed older = record {
     all = freed_at;
     no_others = λ i address e. let r = replaced address (i, e) in (r.place, r.in_range, differs older r.place r.in_range r.is_of.0 r.is_new, r.is_of.1, r.is_of.0);

@@ -14,7 +14,7 @@ use Rattle.space.specs.FreeSets.{free_from}
 use Rattle.tree_plans.specs.declared.planner.PlannedBlock.{PlannedBlock}
 use Rattle.std.proofs.lemmas.Bool.{cases_lt}
 use Rattle.object_maps.specs.declared.tree.ObjectMap.{ObjectMap}
-use Rattle.tree_plans.specs.Pointers.{record_in}
+use Rattle.tree_plans.specs.Pointers.{ObjectPointers}
 use Rattle.tree_plans.specs.Plans.{Progress, Keeps, IsAmong, Goes, HasBecome, LosesBlock, IsWritten, IsRecordPlanned, AreRecordsPlanned, IsIndirectPlanned, PlaceFrees, RecordsFree, FreesOnly, ObjectFrees, IsObjectPlanned, indirect_state, new_block}
 use Rattle.tree_plans.specs.Changes.{state_at}
 use Rattle.tree_plans.specs.declared.changes.ObjectChanges.{ObjectChanges}
@@ -144,14 +144,14 @@ each_push P xs a d i long each here r low = go (cases_lt r i)
         rw (e, last_of xs a d) (rw f here)
 
 -- one record more is planned
-pub records_push : {free : FinSet nat_cmp} {s t : Progress} (n : ℕ) (bytes : List ℕ) (changes : ObjectChanges) (old : ObjectMap) (i : ℕ) (records : List Pointer) (state : RecordState) (was new : Pointer)
-    → Goes free s t → length records ≡ i → was ≡ record_in old i → state ≡ state_at changes i → AreRecordsPlanned s n bytes changes old i records → IsRecordPlanned t n i bytes state was new
+pub records_push : {free : FinSet nat_cmp} {s t : Progress} (n : ℕ) (bytes : List ℕ) (changes : ObjectChanges) (old : ObjectPointers) (i : ℕ) (records : List Pointer) (state : RecordState) (was new : Pointer)
+    → Goes free s t → length records ≡ i → was ≡ old.record_at i → state ≡ state_at changes i → AreRecordsPlanned s n bytes changes old i records → IsRecordPlanned t n i bytes state was new
     → AreRecordsPlanned t n bytes changes old (i + 1) (records ++ new ∷ [])
 records_push {s = s} {t = t} n bytes changes old i records state was new g long is state_is each here =
-    each_push (λ r p. IsRecordPlanned t n r bytes (state_at changes r) (record_in old r) p) records new no_pointer i long
-    (λ r low. record_stays n r bytes (state_at changes r) (record_in old r) (slice_index_or records r no_pointer) g (each r low)) (rw (← is, ← state_is) here)
+    each_push (λ r p. IsRecordPlanned t n r bytes (state_at changes r) (old.record_at r) p) records new no_pointer i long
+    (λ r low. record_stays n r bytes (state_at changes r) (old.record_at r) (slice_index_or records r no_pointer) g (each r low)) (rw (← is, ← state_is) here)
 
-pub frees_push : (first old new : List ℕ) (changes : ObjectChanges) (map : ObjectMap) (i : ℕ) (state : RecordState) (was : Pointer) → was ≡ record_in map i → state ≡ state_at changes i → RecordsFree first old changes map i
+pub frees_push : (first old new : List ℕ) (changes : ObjectChanges) (map : ObjectPointers) (i : ℕ) (state : RecordState) (was : Pointer) → was ≡ map.record_at i → state ≡ state_at changes i → RecordsFree first old changes map i
     → PlaceFrees old new state was → RecordsFree first new changes map (i + 1)
 frees_push first old new changes map i state was is state_is frees more address among =
     elim (more address among) [
@@ -159,12 +159,12 @@ frees_push first old new changes map i state was is state_is frees more address 
       | inr here ↦ inr (record { index = i; low = omega arith; replaced = rw (← state_is) here.0; was = rw (← is) here.1 })
     ]
 
-pub records_stay : {free : FinSet nat_cmp} {s t : Progress} (n : ℕ) (bytes : List ℕ) (changes : ObjectChanges) (old : ObjectMap) (count : ℕ) (records : List Pointer)
+pub records_stay : {free : FinSet nat_cmp} {s t : Progress} (n : ℕ) (bytes : List ℕ) (changes : ObjectChanges) (old : ObjectPointers) (count : ℕ) (records : List Pointer)
     → Goes free s t → AreRecordsPlanned s n bytes changes old count records → AreRecordsPlanned t n bytes changes old count records
-records_stay n bytes changes old count records g each r low = record_stays n r bytes (state_at changes r) (record_in old r) (slice_index_or records r no_pointer) g (each r low)
+records_stay n bytes changes old count records g each r low = record_stays n r bytes (state_at changes r) (old.record_at r) (slice_index_or records r no_pointer) g (each r low)
 
 -- an object whose records are planned, and then its indirect block
-pub object_planned : {free : FinSet nat_cmp} {s t : Progress} (n : ℕ) (bytes : List ℕ) (changes : ObjectChanges) (old new : ObjectMap)
+pub object_planned : {free : FinSet nat_cmp} {s t : Progress} (n : ℕ) (bytes : List ℕ) (changes : ObjectChanges) (old : ObjectPointers) (new : ObjectMap)
     → Goes free s t → length new.records.items ≡ 84 → AreRecordsPlanned s n bytes changes old 84 new.records.items
     → IsIndirectPlanned t n changes.is_changed new.records.items old.indirect new.indirect → IsObjectPlanned t n bytes changes old new
 object_planned n bytes changes old new g count records indirect = record {
@@ -173,14 +173,14 @@ object_planned n bytes changes old new g count records indirect = record {
   indirect = indirect;
 }
 
-pub object_stays : {free : FinSet nat_cmp} {s t : Progress} (n : ℕ) (bytes : List ℕ) (changes : ObjectChanges) (old new : ObjectMap) → Goes free s t → IsObjectPlanned s n bytes changes old new → IsObjectPlanned t n bytes changes old new
+pub object_stays : {free : FinSet nat_cmp} {s t : Progress} (n : ℕ) (bytes : List ℕ) (changes : ObjectChanges) (old : ObjectPointers) (new : ObjectMap) → Goes free s t → IsObjectPlanned s n bytes changes old new → IsObjectPlanned t n bytes changes old new
 object_stays n bytes changes old new g p = record {
   count = p.count;
   records = records_stay n bytes changes old 84 new.records.items g p.records;
   indirect = become_stays (Indirect n) (indirect_state changes.is_changed new.records.items) old.indirect new.indirect _ g p.indirect;
 }
 
-pub object_frees : (first old new : List ℕ) (changes : ObjectChanges) (map : ObjectMap) → RecordsFree first old changes map 84 → FreesOnly old new map.indirect → ObjectFrees first new changes map
+pub object_frees : (first old new : List ℕ) (changes : ObjectChanges) (map : ObjectPointers) → RecordsFree first old changes map 84 → FreesOnly old new map.indirect → ObjectFrees first new changes map
 object_frees first old new changes map records indirect address among =
     elim (indirect address among) [
       | inl before ↦ elim (records address before) [ inl at_first ↦ inl at_first | inr of ↦ inr (inl of) ]

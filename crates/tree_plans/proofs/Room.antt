@@ -1,5 +1,5 @@
 -- A plan that is refused for want of blocks: they are not free.
-use Rattle.std.proofs.Common.{◌≡◌, ℕ, zero, suc, ◌+◌, ◌-◌, ◌≤◌, ◌<◌, Bool, true, false, List, [], ◌∷◌, ◌++◌, length, map, filter, Option, Ordering, Less, None, refl, sym, ◌∙◌, ap, arith, if◌then◌else◌, Result, IfErr, IsErrAnd}
+use Rattle.std.proofs.Common.{◌≡◌, ℕ, zero, suc, ◌+◌, ◌-◌, ◌≤◌, ◌<◌, Bool, true, false, List, [], ◌∷◌, ◌++◌, length, map, filter, Ordering, Less, None, refl, sym, ◌∙◌, ap, arith, if◌then◌else◌, Result, IfErr, IsErrAnd}
 use Rattle.std.specs.Prelude.{is_some}
 use Rattle.std.specs.List.{flat_map, range_with_len}
 use Rattle.std.specs.Ordering.{nat_cmp}
@@ -7,7 +7,6 @@ use Rattle.std.specs.FinMap.{FinMap}
 use Rattle.std.specs.FinSet.{FinSet}
 use Rattle.std.specs.List.Sorted.{IsStrictlySortedBy}
 use Rattle.std.specs.Map.{keys_of}
-use Rattle.std.specs.Option.{option_map_or}
 use Rattle.std.proofs.lemmas.List.{append-nil, length-append, length-map}
 use Rattle.std.proofs.lemmas.Grind.{flat_map-append}
 use Rattle.std.proofs.lemmas.Result.{err_from_is_err_and}
@@ -26,7 +25,7 @@ use Rattle.base.specs.common.Rising.{rising}
 use Rattle.space.specs.FreeSets.{free_from}
 use Rattle.space.proofs.FreeLists.{free_from-0}
 use Rattle.tree_plans.specs.declared.changes.ObjectChanges.{ObjectChanges}
-use Rattle.tree_plans.specs.Pointers.{entry_of, planned_map, record_in}
+use Rattle.tree_plans.specs.Pointers.{ObjectPointers, entry_of, planned_map}
 use Rattle.tree_plans.specs.Changes.{AreInRange, changes_of_group}
 use Rattle.tree_plans.specs.Plans.{Goes, Progress, is_dirty_in, is_indirect_written_in}
 use Rattle.tree_plans.specs.Walks.{is_directory_dirty, root_state}
@@ -92,7 +91,7 @@ lacks_at free s t p f index count b low is goes adds lacks =
     lacks_behind free s t (addresses_where p f index) (count_if b) (count_where p count) goes adds (omega (arith, below, next, rest)) lacks
 
 -- the addresses of an object are as many as the places that it has to write
-object_length : (g : GroupChanges) (n : ℕ) (o : Option ObjectMap) → length (object_addresses g n o) ≡ object_blocks g n
+object_length : (g : GroupChanges) (n : ℕ) (o : ObjectPointers) → length (object_addresses g n o) ≡ object_blocks g n
 unfolding object_addresses object_blocks addresses_where
 object_length g n o = by (filter (is_record_written g n) (range_with_len 0 84)) (is_indirect_written g n)
   where
@@ -100,9 +99,9 @@ object_length g n o = by (filter (is_record_written g n) (range_with_len 0 84)) 
     last true p = refl
     last false p = refl
 
-    by : (xs : List ℕ) (b : Bool) → length (map (λ r. (option_map_or (λ (m : ObjectMap). record_in m r) o no_pointer).address) xs ++ address_if b (option_map_or (λ (m : ObjectMap). m.indirect) o no_pointer))
+    by : (xs : List ℕ) (b : Bool) → length (map (λ r. (o.record_at r).address) xs ++ address_if b o.indirect)
         ≡ length (map (λ r. Data n r) xs ++ (if b then Indirect n ∷ [] else []))
-    by [] b = last b (option_map_or (λ (m : ObjectMap). m.indirect) o no_pointer)
+    by [] b = last b o.indirect
     by (x ∷ xs) b = ap suc (by xs b)
 
 flat_length : {X A B : Type 0} (f : X → List A) (g : X → List B) → ((x : X) → length (f x) ≡ length (g x)) → (xs : List X) → length (flat_map f xs) ≡ length (flat_map g xs)
@@ -114,7 +113,7 @@ flat_length f g same (x ∷ xs) =
     let rest = flat_length f g same xs in
     omega (arith, one, two, here, rest)
 
-all_length : (g : GroupChanges) (map_of : ℕ → Option ObjectMap) (count : ℕ) → length (all_addresses g map_of count) ≡ all_blocks g count
+all_length : (g : GroupChanges) (map_of : ℕ → ObjectPointers) (count : ℕ) → length (all_addresses g map_of count) ≡ all_blocks g count
 unfolding all_addresses all_blocks object_blocks
 all_length g map_of count = flat_length (λ n. object_addresses g n (map_of n)) (places_of_object g) (λ n. object_length g n (map_of n)) (range_with_len 0 count)
 
@@ -130,7 +129,7 @@ blocks_are g n =
     last true = refl
     last false = refl
 
-pub object_needs : (g : GroupChanges) (n : ℕ) (changes : ObjectChanges) (was : ObjectMap) → is_record_written g n ≡ is_dirty_in changes → is_indirect_written g n ≡ is_indirect_written_in changes was
+pub object_needs : (g : GroupChanges) (n : ℕ) (changes : ObjectChanges) (was : ObjectPointers) → is_record_written g n ≡ is_dirty_in changes → is_indirect_written g n ≡ is_indirect_written_in changes was
     → needed_blocks changes was ≡ object_blocks g n
 object_needs g n changes was records indirect = sym (blocks_are g n ∙ ap (λ (q : ℕ → Bool). count_where q 84 + count_if (is_indirect_written g n)) records ∙ ap (λ (b : Bool). count_where (is_dirty_in changes) 84 + count_if b) indirect)
 
@@ -144,7 +143,7 @@ module _ (R : ObjectId → ObjectId → Ordering) (less : (a b : ObjectId) → R
       (all_numbers (places_of_object g) count 0 count objects (omega arith) (rising_of R less 0 count objects (all_from_none R less (keys_of objects)) sorted within)
       (λ n low absent. nothing n absent))
 
-  pub lacks_object : (free : FinSet nat_cmp) (s t : Progress) (g : GroupChanges) (maps : List ObjectMap) (planned : List (ObjectId × ObjectMap)) (count : ℕ) (objects done rest : List (ObjectId × ObjectChanges)) (e : ObjectId × ObjectChanges)
+  pub lacks_object : (free : FinSet nat_cmp) (s t : Progress) (g : GroupChanges) (maps : ℕ → ObjectPointers) (planned : List (ObjectId × ObjectMap)) (count : ℕ) (objects done rest : List (ObjectId × ObjectChanges)) (e : ObjectId × ObjectChanges)
       → objects ≡ done ++ (e ∷ rest) → IsStrictlySortedBy R (keys_of objects) → ((n : ℕ) → is_some (entry_of objects n) ≡ true → n < count)
       → ((n : ℕ) → entry_of objects n ≡ None → places_of_object g n ≡ []) → Goes free s t
       → Adds s.blocks t.blocks (flat_map (λ (x : ObjectId × ObjectChanges). object_addresses g x.0.0 (planned_map maps planned x.0.0)) done)
@@ -203,14 +202,14 @@ module _ (free : FinSet nat_cmp) (objects : List (ObjectId × ObjectChanges)) (p
   pub objects_lack : (s : Progress) → Lacks free s (all_blocks group 5292) → Lacks free s all
   objects_lack s lacks = let sum = tree_length in lacks_more free s (all_blocks group 5292) all (omega (arith, sum)) lacks
 
-  pub directories_lack : (s t : Progress) (map_of : ℕ → Option ObjectMap) → Goes free s t → Adds s.blocks t.blocks (all_addresses group map_of 5292)
+  pub directories_lack : (s t : Progress) (map_of : ℕ → ObjectPointers) → Goes free s t → Adds s.blocks t.blocks (all_addresses group map_of 5292)
       → Lacks free t (count_where (is_directory_dirty objects after) 84) → Lacks free s all
   directories_lack s t map_of goes adds lacks =
       let sum = tree_length in
       let first = all_length group map_of 5292 in
       lacks_behind free s t (all_addresses group map_of 5292) (count_where (is_directory_dirty objects after) 84) all goes adds (omega (arith, sum, first)) lacks
 
-  pub root_lacks : (r s t : Progress) (map_of : ℕ → Option ObjectMap) (directories : ℕ → Pointer) → Goes free r s → Adds r.blocks s.blocks (all_addresses group map_of 5292)
+  pub root_lacks : (r s t : Progress) (map_of : ℕ → ObjectPointers) (directories : ℕ → Pointer) → Goes free r s → Adds r.blocks s.blocks (all_addresses group map_of 5292)
       → Goes free s t → Adds s.blocks t.blocks (addresses_where (is_directory_dirty objects after) directories 84) → Lacks free t (count_if (is_dirty (root_state objects after))) → Lacks free r all
   root_lacks r s t map_of directories goes adds goes_on adds_more lacks =
       let sum = tree_length in

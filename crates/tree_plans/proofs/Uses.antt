@@ -16,7 +16,7 @@ use Rattle.base.specs.tree.PlannedTrees.{NewBlock}
 use Rattle.base.specs.stored.Stored.{AreUsed}
 use Rattle.object_maps.specs.declared.tree.ObjectMap.{ObjectMap}
 use Rattle.tree_plans.specs.declared.planner.PlannedBlock.{PlannedBlock}
-use Rattle.tree_plans.specs.Pointers.{IsPut, entry_of, planned_map, pointers_from, record_in}
+use Rattle.tree_plans.specs.Pointers.{IsPut, ObjectPointers, entry_of, planned_map, pointers_from, pointers_in}
 use Rattle.tree_plans.specs.Plans.{new_block}
 use Rattle.tree_plans.specs.Uses.{AreOf, IsPointedAt, IsInObject, IsInPlanned, IsTaken, ObjectUses, ObjectsUse, PointersUse, UsesOnly}
 use Rattle.tree_plans.proofs.Progress.{front_of, last_of}
@@ -129,7 +129,7 @@ module _ (R : ObjectId → ObjectId → Ordering) (ties : (a b : ObjectId) → i
   next_is_new all done rest e split sorted = not_yet done e rest (rw split at sorted)
 
 -- of a whole walk, each block is one of the new tree
-pub tree_used : (first one two three : List NewBlock) (maps : List ObjectMap) (planned : List (ObjectId × ObjectMap)) (directories : List Pointer) (root : Pointer)
+pub tree_used : (first one two three : List NewBlock) (maps : ℕ → ObjectPointers) (planned : List (ObjectId × ObjectMap)) (directories : List Pointer) (root : Pointer)
     → first ≡ [] → ObjectsUse first one planned → PointersUse one two directories 84 → UsesOnly two three root.address → AreUsed three (pointers_from root directories (planned_map maps planned))
 tree_used first one two three maps planned directories root none objects across top i b e =
     elim (top b.address (i, b, e, refl)) [
@@ -151,12 +151,12 @@ tree_used first one two three maps planned directories root none objects across 
     in_object of (inl r) = (
       Data of.number r.index,
       (of.low, r.low),
-      ap (λ (o : Option ObjectMap). (option_map_or (λ (m : ObjectMap). record_in m r.index) (option_map_or (λ (m : ObjectMap). Some m) o (slice_get maps of.number)) no_pointer).address) of.map_is ∙ r.is,
+      ap (λ (o : Option ObjectMap). ((option_map_or pointers_in o (maps of.number)).record_at r.index).address) of.map_is ∙ r.is,
     )
     in_object of (inr is) = (
       Indirect of.number,
       of.low,
-      ap (λ (o : Option ObjectMap). (option_map_or (λ (m : ObjectMap). m.indirect) (option_map_or (λ (m : ObjectMap). Some m) o (slice_get maps of.number)) no_pointer).address) of.map_is ∙ is,
+      ap (λ (o : Option ObjectMap). (option_map_or pointers_in o (maps of.number)).indirect.address) of.map_is ∙ is,
     )
 
 -- each block is whole

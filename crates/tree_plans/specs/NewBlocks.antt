@@ -13,21 +13,21 @@ use Rattle.base.specs.tree.PlacedTrees.{padded_record}
 use Rattle.base.specs.tree.PlannedTrees.{NewBlock}
 use Rattle.tree_plans.specs.declared.changes.ObjectChanges.{ObjectChanges}
 use Rattle.tree_plans.specs.declared.planner.TreePlan.{TreePlan}
-use Rattle.tree_plans.specs.declared.walk.PlanSource.{PlanSource}
+use Rattle.tree_plans.specs.declared.plan_source.PlanSource.{PlanSource}
 use Rattle.tree_plans.specs.Changes.{AreChanges, AreTreePointers, IsCoveredBy}
 use Rattle.tree_plans.specs.Plans.{new_block}
 use Rattle.tree_plans.specs.Pointers.{planned_pointers, pointers_before}
 
 -- the changes say all that differs from objects before, and fit the objects after and the pointers of the tree
 pub record IsScene (source : PlanSource) (after : FinMap nat_cmp (List ℕ)) (objects : List (ObjectId × ObjectChanges)) (before : FinMap nat_cmp (List ℕ)) : Type 0 where
-  pub covered : IsCoveredBy objects (pointers_before source.tree.now) before after
+  pub covered : IsCoveredBy objects (pointers_before source) before after
   pub changes : AreChanges objects after
-  pub pointers : AreTreePointers objects (pointers_before source.tree.now) after
+  pub pointers : AreTreePointers objects (pointers_before source) after
 
 -- the plan has another block at this place than the tree
 pub record IsNewPlace (source : PlanSource) (plan : TreePlan) (place : Place) : Type 0 where
-  pub there : planned_pointers source.tree.now plan place ≢ no_pointer
-  pub other : planned_pointers source.tree.now plan place ≢ pointers_before source.tree.now place
+  pub there : planned_pointers source plan place ≢ no_pointer
+  pub other : planned_pointers source plan place ≢ pointers_before source place
 
 -- one of the plan's blocks is of this pool and group, and has this kind, number and payload
 pub record HasBlockOf (source : PlanSource) (plan : TreePlan) (kind number : ℕ) (payload : List ℕ) : Type 0 where
@@ -45,4 +45,4 @@ HasNewRecord source after objects plan = (before : FinMap nat_cmp (List ℕ)) (b
 abbrev pub HasNewIndirect : PlanSource → FinMap nat_cmp (List ℕ) → List (ObjectId × ObjectChanges) → TreePlan → Type 0
 HasNewIndirect source after objects plan = (before : FinMap nat_cmp (List ℕ)) → IsScene source after objects before
     → IsNewPlace source plan (Indirect 7)
-    → (payload : List ℕ) × HasBlockOf source plan 4 7 payload × ((r : ℕ) → r < pointer_count → pointer_in payload r ≡ planned_pointers source.tree.now plan (Data 7 r))
+    → (payload : List ℕ) × HasBlockOf source plan 4 7 payload × ((r : ℕ) → r < pointer_count → pointer_in payload r ≡ planned_pointers source plan (Data 7 r))

@@ -1,15 +1,12 @@
 -- The order in which a plan takes its blocks: which addresses its steps take, one after another.
-use Rattle.std.specs.Prelude.{ℕ, ◌≡◌, Bool, List, [], ◌∷◌, ◌++◌, map, filter, Option, if◌then◌else◌}
+use Rattle.std.specs.Prelude.{ℕ, ◌≡◌, Bool, List, [], ◌∷◌, ◌++◌, map, filter, if◌then◌else◌}
 use Rattle.std.specs.List.{flat_map, range_with_len}
-use Rattle.std.specs.Option.{option_map_or}
 use Rattle.base.specs.declared.pointer.Pointer.{Pointer}
 use Rattle.base.specs.formats.Limits.{record_count}
-use Rattle.base.specs.formats.Fields.{no_pointer}
 use Rattle.base.specs.tree.Places.{Place}
 use Rattle.base.specs.tree.PlannedTrees.{NewBlock}
 use Rattle.base.specs.tree.Syncs.{GroupChanges, is_indirect_written, is_record_written, written_by}
-use Rattle.object_maps.specs.declared.tree.ObjectMap.{ObjectMap}
-use Rattle.tree_plans.specs.Pointers.{record_in}
+use Rattle.tree_plans.specs.Pointers.{ObjectPointers}
 
 abbrev pub addresses_of : List NewBlock → List ℕ
 addresses_of blocks = map (λ (b : NewBlock). b.address) blocks
@@ -28,12 +25,12 @@ addresses_where is_marked pointers count = map (λ i. (pointers i).address) (fil
 
 -- of an object: the addresses of its dirty records, rising, and after them that of its indirect block, if it is
 -- written
-unfoldable pub object_addresses : GroupChanges → ℕ → Option ObjectMap → List ℕ
-object_addresses group n o = addresses_where (is_record_written group n) (λ r. option_map_or (λ (m : ObjectMap). record_in m r) o no_pointer) record_count
-    ++ address_if (is_indirect_written group n) (option_map_or (λ (m : ObjectMap). m.indirect) o no_pointer)
+unfoldable pub object_addresses : GroupChanges → ℕ → ObjectPointers → List ℕ
+object_addresses group n o = addresses_where (is_record_written group n) o.record_at record_count
+    ++ address_if (is_indirect_written group n) o.indirect
 
 -- of the objects below a number, rising
-unfoldable pub all_addresses : GroupChanges → (ℕ → Option ObjectMap) → ℕ → List ℕ
+unfoldable pub all_addresses : GroupChanges → (ℕ → ObjectPointers) → ℕ → List ℕ
 all_addresses group map_of count = flat_map (λ n. object_addresses group n (map_of n)) (range_with_len 0 count)
 
 -- the addresses are those of the places that are written, one for each, in their order

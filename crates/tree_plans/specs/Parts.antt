@@ -1,5 +1,5 @@
 -- What each part of a walk has done, from the plan before it (old) to the plan after it (new).
-use Rattle.std.specs.Prelude.{ℕ, ◌≡◌, ◌<◌, ◌==◌, ◌++◌, ◌∷◌, [], Bool, false, nat_eq, List, map, slice_index_or, Option, Some, None, unwrap_or, vec_len}
+use Rattle.std.specs.Prelude.{ℕ, ◌≡◌, ◌<◌, ◌==◌, ◌++◌, ◌∷◌, [], Bool, true, false, nat_eq, List, map, slice_index_or, Option, Some, None, is_some, unwrap_or, vec_len}
 use Rattle.std.specs.BTreeMap.{BTreeMap}
 use Rattle.std.specs.List.{IsDistinct}
 use Rattle.std.specs.Ordering.{nat_cmp}
@@ -23,8 +23,8 @@ use Rattle.tree_plans.specs.declared.place.RecordPlace.{RecordPlace}
 use Rattle.tree_plans.specs.declared.changes.ObjectChanges.{ObjectChanges}
 use Rattle.tree_plans.specs.declared.planner.Planner.{Planner}
 use Rattle.tree_plans.specs.declared.walk.NewTree.{NewTree}
-use Rattle.tree_plans.specs.declared.walk.PlanSource.{PlanSource}
-use Rattle.tree_plans.specs.Pointers.{entry_of, planned_map, pointers_before, pointers_from, record_in}
+use Rattle.tree_plans.specs.declared.plan_source.PlanSource.{PlanSource}
+use Rattle.tree_plans.specs.Pointers.{ObjectPointers, entry_of, maps_before, old_tree, planned_map, pointers_before, pointers_from, record_in}
 use Rattle.tree_plans.specs.Changes.{AreInRange, changes_of_group}
 use Rattle.tree_plans.specs.Plans.{AreRecordsPlanned, AreApart, FreesOnce, FreesOnly, Goes, IsApart, IsOf, IsOfMap, IsOfPlace, IsOfRecord, LosesBlock, IsIndirectPlanned, IsObjectPlanned, IsRecordPlanned, IsReady, IsWritten, ObjectFrees, PlaceFrees, RecordsFree, indirect_state, is_dirty_in, is_indirect_written_in, new_block, place_of, progress_of, state_above}
 use Rattle.tree_plans.specs.Walks.{AreDirectoriesPlanned, AreObjectsPlanned, DirectoriesFree, IsDirectoryPlanned, IsOfDirectory, IsOfObject, IsRootPlanned, IsWalked, ObjectsFree, is_directory_dirty, has_object, root_state}
@@ -35,6 +35,10 @@ use Rattle.tree_plans.specs.Room.{Lacks}
 -- and so of each of these objects that has a place in the tree
 abbrev pub AreReady : (ℕ → ℕ → Type 0) → List (ObjectId × ObjectChanges) → Type 0
 AreReady has objects = (n : ℕ) (changes : ObjectChanges) → n < object_count → entry_of objects n ≡ Some changes → IsReady (has n) changes
+
+-- the pointers of each of these objects that is in the tree were read
+abbrev pub AreMapsRead : PlanSource → List (ObjectId × ObjectChanges) → Type 0
+AreMapsRead source objects = (n : ℕ) → n < object_count → is_some (entry_of objects n) ≡ true → is_some (entry_of source.old_maps.now.entries n) ≡ true
 
 -- the new blocks of a plan so far
 abbrev pub blocks_of : Planner → List NewBlock
@@ -48,16 +52,13 @@ ExtendsPlan free old new = Goes free.free (progress_of old) (progress_of new)
 abbrev pub TellsLack : FreeSpace → Planner → ℕ → PoolError → Type 0
 TellsLack free planner count e = e ≡ error.NoSpace → Lacks free.free (progress_of planner) count
 
--- the pointers that the tree of a source has to its objects, and to a directory
-abbrev pub maps_before : PlanSource → List ObjectMap
-maps_before source = source.tree.now.maps.items
-
+-- the pointer that the tree of a source has to a directory
 abbrev pub directory_before : PlanSource → ℕ → Pointer
 directory_before source d = slice_index_or source.tree.now.directories.items d no_pointer
 
 -- what a group makes of the objects of a source, if these are the objects after it
 abbrev pub group_in : PlanSource → FinMap nat_cmp (List ℕ) → List (ObjectId × ObjectChanges) → GroupChanges
-group_in source after objects = changes_of_group objects (pointers_before source.tree.now) after
+group_in source after objects = changes_of_group objects (pointers_before source) after
 
 -- one block is taken: it stands at its place, and the one that it replaces comes back
 pub record TakesBlock (free : FreeSpace) (place : BlockPlace) (payload : List ℕ) (replaced : Pointer) (old new : Planner) (pointer : Pointer) : Type 0 where
@@ -86,7 +87,7 @@ pub record PlansRecord (free : FreeSpace) (place : RecordPlace) (bytes : List �
   pub adds : Adds (blocks_of old) (blocks_of new) (address_if (is_dirty state) pointer)
 
 -- the records of an object, rising
-pub record PlansRecords (free : FreeSpace) (id : ObjectId) (bytes : List ℕ) (was : ObjectMap) (changes : ObjectChanges) (old new : Planner) (records : List Pointer) : Type 0 where
+pub record PlansRecords (free : FreeSpace) (id : ObjectId) (bytes : List ℕ) (was : ObjectPointers) (changes : ObjectChanges) (old new : Planner) (records : List Pointer) : Type 0 where
   pub goes : ExtendsPlan free old new
   pub planned : AreRecordsPlanned (progress_of new) id.0 bytes changes was record_count records
   pub frees : RecordsFree old.freed.items new.freed.items changes was record_count
@@ -104,7 +105,7 @@ pub record PlansIndirect (free : FreeSpace) (id : ObjectId) (records : List Poin
   pub adds : Adds (blocks_of old) (blocks_of new) (address_if (is_dirty (indirect_state is_changed records)) pointer)
 
 -- an object: its records, and then its indirect block
-pub record PlansObject (free : FreeSpace) (id : ObjectId) (object : Option (List ℕ)) (was : ObjectMap) (changes : ObjectChanges) (old new : Planner) (map : ObjectMap) : Type 0 where
+pub record PlansObject (free : FreeSpace) (id : ObjectId) (object : Option (List ℕ)) (was : ObjectPointers) (changes : ObjectChanges) (old new : Planner) (map : ObjectMap) : Type 0 where
   pub goes : ExtendsPlan free old new
   pub planned : IsObjectPlanned (progress_of new) id.0 (unwrap_or object []) changes was map
   pub frees : ObjectFrees old.freed.items new.freed.items changes was
@@ -123,7 +124,7 @@ pub record GoesOver (source : PlanSource) (after : FinMap nat_cmp (List ℕ)) (i
       → ObjectsFree first old.freed.items (maps_before source) objects maps
       → ObjectsFree first new.freed.items (maps_before source) objects planned_maps
   pub once : (objects : List (ObjectId × ObjectChanges)) (first : List ℕ) → entry_of objects id.0 ≡ Some changes → entry_of maps id.0 ≡ None
-      → AreApart (pointers_before source.tree.now)
+      → AreApart (pointers_before source)
       → ObjectsFree first old.freed.items (maps_before source) objects maps
       → FreesOnce first old.freed.items (IsOfObject (maps_before source) objects maps)
       → FreesOnce first new.freed.items (IsOfObject (maps_before source) objects planned_maps)
@@ -137,7 +138,7 @@ pub record PlansObjects (source : PlanSource) (after : FinMap nat_cmp (List ℕ)
   pub goes : ExtendsPlan source.free.now old new
   pub planned : AreObjectsPlanned (progress_of new) (maps_before source) after objects.entries objects.entries maps.entries
   pub frees : ObjectsFree old.freed.items new.freed.items (maps_before source) objects.entries maps.entries
-  pub once : AreApart (pointers_before source.tree.now)
+  pub once : AreApart (pointers_before source)
       → FreesOnce old.freed.items new.freed.items (IsOfObject (maps_before source) objects.entries maps.entries)
   pub uses : ObjectsUse (blocks_of old) (blocks_of new) maps.entries
   pub adds : AreInRange objects.entries → Adds (blocks_of old) (blocks_of new) (all_addresses (group_in source after objects.entries) (planned_map (maps_before source) maps.entries) object_count)
@@ -157,7 +158,7 @@ pub record PlansDirectories (source : PlanSource) (after : FinMap nat_cmp (List 
   pub goes : ExtendsPlan source.free.now old new
   pub planned : AreDirectoriesPlanned (progress_of new) (maps_before source) maps.entries after objects.entries source.tree.now.directories.items pointer_count directories
   pub frees : DirectoriesFree old.freed.items new.freed.items objects.entries after source.tree.now.directories.items pointer_count
-  pub once : AreApart (pointers_before source.tree.now)
+  pub once : AreApart (pointers_before source)
       → FreesOnce old.freed.items new.freed.items (IsOfDirectory objects.entries after source.tree.now.directories.items pointer_count)
   pub uses : PointersUse (blocks_of old) (blocks_of new) directories pointer_count
   pub adds : Adds (blocks_of old) (blocks_of new) (addresses_where (is_directory_dirty objects.entries after) (pointer_of_list directories) pointer_count)
@@ -180,7 +181,7 @@ pub record HasNothing (planner : Planner) : Type 0 where
 pub record PlansTree (source : PlanSource) (after : FinMap nat_cmp (List ℕ)) (objects : BTreeMap ObjectId ObjectChanges) (old new : Planner) (tree : NewTree) : Type 0 where
   pub goes : ExtendsPlan source.free.now old new
   pub count : vec_len tree.directories ≡ pointer_count
-  pub walked : IsWalked (progress_of new) source.tree.now after objects.entries tree.maps.entries tree.directories.items tree.root
+  pub walked : IsWalked (progress_of new) (old_tree source) after objects.entries tree.maps.entries tree.directories.items tree.root
   pub used : AreUsed (blocks_of new) (pointers_from tree.root tree.directories.items (planned_map (maps_before source) tree.maps.entries))
-  pub once : AreApart (pointers_before source.tree.now) → IsDistinct nat_eq new.freed.items
+  pub once : AreApart (pointers_before source) → IsDistinct nat_eq new.freed.items
   pub order : AreInRange objects.entries → AreInOrder (addresses_of (blocks_of new)) (pointers_from tree.root tree.directories.items (planned_map (maps_before source) tree.maps.entries)) (group_in source after objects.entries)

@@ -4,13 +4,13 @@ use Rattle.std.specs.List.{flat_map, range_with_len}
 use Rattle.std.specs.Ordering.{nat_cmp}
 use Rattle.std.specs.FinMap.{FinMap}
 use Rattle.std.specs.FinSet.{FinSet}
-use Rattle.object_maps.specs.declared.tree.ObjectMap.{ObjectMap}
 use Rattle.base.specs.declared.names.ObjectId.{ObjectId}
 use Rattle.base.specs.formats.Limits.{object_count, pointer_count, record_count}
 use Rattle.base.specs.tree.Syncs.{GroupChanges, places_of_object, written_by}
 use Rattle.base.specs.common.Rising.{rising}
 use Rattle.tree_plans.specs.declared.changes.ObjectChanges.{ObjectChanges}
 use Rattle.tree_plans.specs.Plans.{HasTaken, Progress, is_dirty_in, is_indirect_written_in}
+use Rattle.tree_plans.specs.Pointers.{ObjectPointers}
 use Rattle.tree_plans.specs.Walks.{is_directory_dirty}
 
 -- the blocks of a plan so far and so many more are more than are free
@@ -26,7 +26,7 @@ unfoldable pub count_where : (ℕ → Bool) → ℕ → ℕ
 count_where is_marked count = length (filter is_marked (range_with_len 0 count))
 
 -- how many blocks an object takes, by its changes and the pointers that it had
-abbrev pub needed_blocks : ObjectChanges → ObjectMap → ℕ
+abbrev pub needed_blocks : ObjectChanges → ObjectPointers → ℕ
 needed_blocks changes was = count_where (is_dirty_in changes) record_count + count_if (is_indirect_written_in changes was)
 
 -- and by what a group makes of it

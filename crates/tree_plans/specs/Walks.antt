@@ -1,7 +1,6 @@
 -- What a walk over a tree plans: objects, directories, the root.
 use Rattle.std.specs.Prelude.{ℕ, ◌≡◌, ◌<◌, ◌+◌, ◌*◌, ◌/◌, ◌==◌, ◌&&◌, ◌||◌, ◌⊎◌, Bool, true, not, List, [], length, replicate, slice_get, slice_index_or, Option, Some, None, is_some, option_map, unwrap_or}
 use Rattle.std.specs.List.{list_any, range_with_len}
-use Rattle.std.specs.Option.{option_map_or}
 use Rattle.std.specs.Map.{keys_of}
 use Rattle.std.specs.Ordering.{nat_cmp}
 use Rattle.std.specs.FinMap as finite
@@ -14,14 +13,13 @@ use Rattle.base.specs.declared.record_state.RecordState.{RecordState}
 use Rattle.base.specs.tree.Places.Place.{Root, Directory}
 use Rattle.base.specs.tree.Syncs.{is_dirty, object_numbers}
 use Rattle.object_maps.specs.declared.tree.ObjectMap.{ObjectMap}
-use Rattle.object_maps.specs.declared.tree.Tree.{Tree}
 use Rattle.tree_plans.specs.declared.changes.ObjectChanges.{ObjectChanges}
-use Rattle.tree_plans.specs.Pointers.{entry_of, planned_map}
+use Rattle.tree_plans.specs.Pointers.{ObjectPointers, OldTree, entry_of, planned_map}
 use Rattle.tree_plans.specs.Plans.{HasBecome, Progress, IsObjectPlanned, IsAmong, IsOf, IsOfRecord, replaces, state_above}
 
 -- the pointer to the indirect block of an object after a plan
-abbrev pub indirect_after : List ObjectMap → List (ObjectId × ObjectMap) → ℕ → Pointer
-indirect_after maps planned n = option_map_or (λ (m : ObjectMap). m.indirect) (planned_map maps planned n) no_pointer
+abbrev pub indirect_after : (ℕ → ObjectPointers) → List (ObjectId × ObjectMap) → ℕ → Pointer
+indirect_after maps planned n = (planned_map maps planned n).indirect
 
 -- an entry of a directory, for an object of this length
 abbrev pub IsEntryOfLength : List ℕ → Pointer → Option ℕ → Type 0
@@ -33,37 +31,37 @@ abbrev pub IsEntryWritten : List ℕ → Pointer → Option (List ℕ) → Type 
 IsEntryWritten entry indirect object = IsEntryOfLength entry indirect (option_map length object)
 
 -- the first entries of a directory's payload
-abbrev pub AreEntriesWritten : List ObjectMap → List (ObjectId × ObjectMap) → FinMap nat_cmp (List ℕ) → ℕ → ℕ → List ℕ → Type 0
+abbrev pub AreEntriesWritten : (ℕ → ObjectPointers) → List (ObjectId × ObjectMap) → FinMap nat_cmp (List ℕ) → ℕ → ℕ → List ℕ → Type 0
 AreEntriesWritten maps planned after d count payload = (k : ℕ) → k < count
     → IsEntryWritten (entry_in payload k) (indirect_after maps planned (entry_count * d + k)) (finite.get after (entry_count * d + k))
 
 -- what a planned object is made of: its changes, and the pointers that it had. Its length is the one after them.
-pub record IsPlannedFrom (s : Progress) (maps : List ObjectMap) (after : FinMap nat_cmp (List ℕ)) (objects : List (ObjectId × ObjectChanges)) (n : ℕ) (new : ObjectMap) : Type 0 where
+pub record IsPlannedFrom (s : Progress) (maps : ℕ → ObjectPointers) (after : FinMap nat_cmp (List ℕ)) (objects : List (ObjectId × ObjectChanges)) (n : ℕ) (new : ObjectMap) : Type 0 where
   pub low : n < object_count
   pub changes : ObjectChanges
   pub changes_are : entry_of objects n ≡ Some changes
-  pub old : ObjectMap
-  pub old_is : slice_get maps n ≡ Some old
+  pub old : ObjectPointers
+  pub old_is : maps n ≡ old
   pub planned : IsObjectPlanned s n (unwrap_or (finite.get after n) []) changes old new
   pub length : new.length ≡ option_map length (finite.get after n)
 
 -- of objects, those that were gone over are planned
-pub record AreObjectsPlanned (s : Progress) (maps : List ObjectMap) (after : FinMap nat_cmp (List ℕ)) (objects done : List (ObjectId × ObjectChanges)) (planned : List (ObjectId × ObjectMap)) : Type 0 where
+pub record AreObjectsPlanned (s : Progress) (maps : ℕ → ObjectPointers) (after : FinMap nat_cmp (List ℕ)) (objects done : List (ObjectId × ObjectChanges)) (planned : List (ObjectId × ObjectMap)) : Type 0 where
   pub each : (n : ℕ) (m : ObjectMap) → entry_of planned n ≡ Some m → IsPlannedFrom s maps after objects n m
   pub all : (i : ℕ) (id : ObjectId) (changes : ObjectChanges) → slice_get done i ≡ Some (id, changes) → id.0 < object_count → is_some (entry_of planned id.0) ≡ true
 
 -- an address is that of a block that a planned object replaces
-pub record IsOfObject (maps : List ObjectMap) (objects : List (ObjectId × ObjectChanges)) (planned : List (ObjectId × ObjectMap)) (address : ℕ) : Type 0 where
+pub record IsOfObject (maps : ℕ → ObjectPointers) (objects : List (ObjectId × ObjectChanges)) (planned : List (ObjectId × ObjectMap)) (address : ℕ) : Type 0 where
   pub number : ℕ
   pub low : number < object_count
   pub there : is_some (entry_of planned number) ≡ true
   pub changes : ObjectChanges
   pub changes_are : entry_of objects number ≡ Some changes
-  pub old : ObjectMap
-  pub old_is : slice_get maps number ≡ Some old
+  pub old : ObjectPointers
+  pub old_is : maps number ≡ old
   pub is_of : IsOfRecord changes old record_count address ⊎ IsOf old.indirect address
 
-abbrev pub ObjectsFree : List ℕ → List ℕ → List ObjectMap → List (ObjectId × ObjectChanges) → List (ObjectId × ObjectMap) → Type 0
+abbrev pub ObjectsFree : List ℕ → List ℕ → (ℕ → ObjectPointers) → List (ObjectId × ObjectChanges) → List (ObjectId × ObjectMap) → Type 0
 ObjectsFree old new maps objects planned = (address : ℕ) → IsAmong new address → IsAmong old address ⊎ IsOfObject maps objects planned address
 
 -- whether an operation is on an object of a directory
@@ -97,10 +95,10 @@ abbrev pub is_directory_dirty : List (ObjectId × ObjectChanges) → FinMap nat_
 is_directory_dirty objects after d = is_dirty (directory_state objects after d)
 
 -- what becomes of a directory
-abbrev pub IsDirectoryPlanned : Progress → List ObjectMap → List (ObjectId × ObjectMap) → FinMap nat_cmp (List ℕ) → ℕ → RecordState → Pointer → Pointer → Type 0
+abbrev pub IsDirectoryPlanned : Progress → (ℕ → ObjectPointers) → List (ObjectId × ObjectMap) → FinMap nat_cmp (List ℕ) → ℕ → RecordState → Pointer → Pointer → Type 0
 IsDirectoryPlanned s maps planned after d state old new = HasBecome s (Directory d) state old new (AreEntriesWritten maps planned after d entry_count)
 
-abbrev pub AreDirectoriesPlanned : Progress → List ObjectMap → List (ObjectId × ObjectMap) → FinMap nat_cmp (List ℕ) → List (ObjectId × ObjectChanges) → List Pointer → ℕ → List Pointer → Type 0
+abbrev pub AreDirectoriesPlanned : Progress → (ℕ → ObjectPointers) → List (ObjectId × ObjectMap) → FinMap nat_cmp (List ℕ) → List (ObjectId × ObjectChanges) → List Pointer → ℕ → List Pointer → Type 0
 AreDirectoriesPlanned s maps planned after objects old count new = (d : ℕ) → d < count
     → IsDirectoryPlanned s maps planned after d (directory_state objects after d) (slice_index_or old d no_pointer) (slice_index_or new d no_pointer)
 
@@ -122,10 +120,10 @@ abbrev pub IsRootPlanned : Progress → List Pointer → RecordState → Pointer
 IsRootPlanned s directories state old new = HasBecome s Root state old new (λ payload. (d : ℕ) → d < pointer_count → pointer_in payload d ≡ slice_index_or directories d no_pointer)
 
 -- the whole walk: objects, directories, root
-pub record IsWalked (s : Progress) (tree : Tree) (after : FinMap nat_cmp (List ℕ)) (objects : List (ObjectId × ObjectChanges)) (planned : List (ObjectId × ObjectMap)) (directories : List Pointer) (root : Pointer) : Type 0 where
-  pub objects_planned : AreObjectsPlanned s tree.maps.items after objects objects planned
-  pub directories_planned : AreDirectoriesPlanned s tree.maps.items planned after objects tree.directories.items pointer_count directories
+pub record IsWalked (s : Progress) (tree : OldTree) (after : FinMap nat_cmp (List ℕ)) (objects : List (ObjectId × ObjectChanges)) (planned : List (ObjectId × ObjectMap)) (directories : List Pointer) (root : Pointer) : Type 0 where
+  pub objects_planned : AreObjectsPlanned s tree.maps after objects objects planned
+  pub directories_planned : AreDirectoriesPlanned s tree.maps planned after objects tree.directories pointer_count directories
   pub root_planned : IsRootPlanned s directories (root_state objects after) tree.root root
   pub frees : (address : ℕ) → IsAmong s.freed address
-      → IsOfObject tree.maps.items objects planned address
-      ⊎ (IsOfDirectory objects after tree.directories.items pointer_count address ⊎ ((replaces (root_state objects after) ≡ true) × IsOf tree.root address))
+      → IsOfObject tree.maps objects planned address
+      ⊎ (IsOfDirectory objects after tree.directories pointer_count address ⊎ ((replaces (root_state objects after) ≡ true) × IsOf tree.root address))

@@ -12,13 +12,13 @@ ghost use Rattle.std.specs.Prelude.{◌≡◌, ◌≢◌, ◌<◌, ◌≤◌, �
 ghost use Rattle.base.specs.declared.error.PoolError.TheVariants as error;
 ghost use Rattle.base.specs.declared.operation.Op.{Op};
 ghost use Rattle.base.specs.formats.Limits.{max_length, record_count, record_size};
-ghost use Rattle.object_maps.specs.Lengths.{map_length};
+ghost use Rattle.object_maps.specs.Lengths.{length_in};
 ghost use Rattle.tree_plans.specs.Changes.{is_changed_in, state_at, state_in};
 ghost use Rattle.tree_plans.specs.Marks.{AreChangesOf, AreToldSoFar, NotesOp, length_so_far, pending_ops};
 ghost use Rattle.tree_plans.specs.Pointers.{IsPut, entry_of};
 
 use base::{Group, MAX_LENGTH, ObjectId, Op, PoolError, RECORD_SIZE, RecordState};
-use object_maps::ObjectMap;
+use object_maps::ObjectEntry;
 use std::alloc::Global;
 use std::collections::{BTreeMap, BTreeSet};
 use transactions::Record;
@@ -185,7 +185,7 @@ fn touched_end(offset: u64, count: usize) -> usize
 /// `NoMemory`.
 pub fn changed_objects(
     alloc: Global,
-    maps: &[ObjectMap],
+    maps: &[ObjectEntry],
     pending: &[Record],
     group: Group,
 ) -> Result<BTreeMap<ObjectId, ObjectChanges>, PoolError>
@@ -203,7 +203,7 @@ pub fn changed_objects(
 fn note_committed(
     alloc: Global,
     objects: &mut BTreeMap<ObjectId, ObjectChanges>,
-    maps: &[ObjectMap],
+    maps: &[ObjectEntry],
     committed: &Record,
     group: Group,
 ) -> Result<(), PoolError>
@@ -222,7 +222,7 @@ fn note_committed(
 fn note_ops(
     alloc: Global,
     objects: &mut BTreeMap<ObjectId, ObjectChanges>,
-    maps: &[ObjectMap],
+    maps: &[ObjectEntry],
     ops: &[Op],
 ) -> Result<(), PoolError>
     ensures told { OnOk result ((done : List Op)
@@ -239,7 +239,7 @@ fn note_ops(
 fn note_op(
     alloc: Global,
     objects: &mut BTreeMap<ObjectId, ObjectChanges>,
-    maps: &[ObjectMap],
+    maps: &[ObjectEntry],
     op: &Op,
 ) -> Result<(), PoolError>
     ensures noted { OnOk result
@@ -270,7 +270,7 @@ fn note_op(
 fn take_changes(
     alloc: Global,
     objects: &mut BTreeMap<ObjectId, ObjectChanges>,
-    maps: &[ObjectMap],
+    maps: &[ObjectEntry],
     id: ObjectId,
 ) -> ObjectChanges
     ensures records { (r : ℕ) → state_at result r ≡ state_in objects.old.entries id.0 r }
@@ -286,8 +286,8 @@ fn take_changes(
 }
 
 // The length of an object before the group, 0 if it is absent.
-fn length_before(maps: &[ObjectMap], id: ObjectId) -> u64
-    ensures { result ≡ unwrap_or (map_length maps.now id.0) 0 }
+fn length_before(maps: &[ObjectEntry], id: ObjectId) -> u64
+    ensures { result ≡ unwrap_or (length_in maps.now id.0) 0 }
 {
     maps.get(id.0 as usize)
         .and_then(|map| map.length)

@@ -6,9 +6,11 @@ mod clients;
 mod freed;
 mod payload;
 mod place;
+mod plan_source;
 mod planner;
 mod walk;
 
 pub use changes::{ObjectChanges, changed_objects};
+pub use plan_source::PlanSource;
 pub use planner::{PlannedBlock, TreePlan};
-pub use walk::{PlanSource, plan};
+pub use walk::plan;

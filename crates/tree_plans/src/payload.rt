@@ -6,11 +6,13 @@ ghost use Rattle.base.specs.formats.Fields.{entry_in, entry_length, entry_pointe
 ghost use Rattle.base.specs.formats.Limits.{entry_count, entry_size, object_count, payload_size, pointer_count};
 ghost use Rattle.checked_blocks.specs.Sealing.{zeros};
 ghost use Rattle.tree_plans.specs.Changes.{has_address};
+ghost use Rattle.tree_plans.specs.Pointers.{maps_before};
 ghost use Rattle.tree_plans.specs.Walks.{AreEntriesWritten, IsEntryOfLength, indirect_after};
 
+use crate::plan_source::PlanSource;
 use base::{ENTRY_COUNT, ENTRY_SIZE, ObjectId, POINTER_SIZE, Pointer, write_pointer, write_u64};
 use checked_blocks::PAYLOAD_SIZE;
-use object_maps::{ObjectMap, ObjectSource, Tree};
+use object_maps::{ObjectMap, ObjectSource};
 use std::collections::BTreeMap;
 
 /// A payload of pointers.
@@ -56,19 +58,19 @@ fn put_pointer(payload: &mut [u8], index: usize, pointer: Pointer)
 /// The payload of a directory: an entry for each of its objects that is there, and zeros for the others.
 pub fn directory_payload<O: ObjectSource>(
     after: &O,
-    tree: &Tree,
+    source: &PlanSource<'_>,
     maps: &BTreeMap<ObjectId, ObjectMap>,
     directory: usize,
 ) -> [u8; PAYLOAD_SIZE]
     requires { directory < pointer_count }
     ensures size { length result ≡ payload_size }
-    ensures entries { AreEntriesWritten tree.now.maps.items maps.now.entries
+    ensures entries { AreEntriesWritten (maps_before source.now) maps.now.entries
         (O.objects after.now) directory entry_count result }
 {
     let mut payload = empty_payload();
     for index in 0..ENTRY_COUNT {
         let id = ObjectId((ENTRY_COUNT * directory + index) as u32);
-        let indirect = planned_indirect(tree, maps, id);
+        let indirect = planned_indirect(source, maps, id);
         put_object(&mut payload, index, after.length(id), indirect);
     }
     payload
@@ -97,13 +99,17 @@ pub fn empty_payload() -> [u8; PAYLOAD_SIZE]
 }
 
 // The pointer to the indirect block of an object after the plan.
-fn planned_indirect(tree: &Tree, maps: &BTreeMap<ObjectId, ObjectMap>, id: ObjectId) -> Pointer
+fn planned_indirect(
+    source: &PlanSource<'_>,
+    maps: &BTreeMap<ObjectId, ObjectMap>,
+    id: ObjectId,
+) -> Pointer
     requires { id.0 < object_count }
-    ensures { result ≡ indirect_after tree.now.maps.items maps.now.entries id.0 }
+    ensures { result ≡ indirect_after (maps_before source.now) maps.now.entries id.0 }
 {
     match maps.get(&id) {
         Some(map) => map.indirect,
-        None => tree.maps[id.0 as usize].indirect,
+        None => source.old_indirect(id),
     }
 }
 

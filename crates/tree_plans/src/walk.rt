@@ -14,7 +14,7 @@
 //! Each block takes the lowest free place after the one before it. No flag of the free set changes here, so a plan that
 //! is refused has changed nothing.
 
-ghost use Rattle.std.specs.Prelude.{◌≡◌, ◌<◌, ◌||◌, [], List, Some, false, length, vec_len, IfOk, IfErr, OnOk};
+ghost use Rattle.std.specs.Prelude.{◌≡◌, ◌<◌, ◌||◌, [], List, Some, false, is_some, length, true, vec_len, IfOk, IfErr, OnOk};
 ghost use Rattle.base.specs.declared.error.PoolError.TheVariants as error;
 ghost use Rattle.base.specs.declared.names.ObjectId.{ObjectId};
 ghost use Rattle.base.specs.formats.Geometry.{block_count};
@@ -22,24 +22,20 @@ ghost use Rattle.base.specs.formats.Limits.{object_count, pointer_count};
 ghost use Rattle.base.specs.tree.Syncs.{is_dirty};
 ghost use Rattle.tree_plans.specs.Changes.{AreInRange};
 ghost use Rattle.tree_plans.specs.declared.changes.ObjectChanges.{ObjectChanges};
-ghost use Rattle.tree_plans.specs.Parts.{AreReady, GoesOver, HasNothing, PlansDirectories, PlansDirectory, PlansObjects, PlansRoot, PlansTree, TellsLack, group_in};
+ghost use Rattle.tree_plans.specs.Parts.{AreMapsRead, AreReady, GoesOver, HasNothing, PlansDirectories, PlansDirectory, PlansObjects, PlansRoot, PlansTree, TellsLack, group_in};
 ghost use Rattle.tree_plans.specs.Plans.{IsReady, IsWant, state_above};
 ghost use Rattle.tree_plans.specs.Pointers.{entry_of};
 ghost use Rattle.tree_plans.specs.Room.{changed_blocks, count_if, directory_blocks, object_blocks, tree_blocks};
-ghost use Rattle.tree_plans.specs.TreePlans.{GivesBack, HasLengths, GivesTree, TakesBlocks, TellsFull};
+ghost use Rattle.tree_plans.specs.TreePlans.{GivesBack, GivesTree, HasLengths, HasMaps, TakesBlocks, TellsFull};
 ghost use Rattle.tree_plans.specs.Walks.{has_object, has_objects, is_directory_touched, is_emptied, root_state};
 
 use crate::changes::ObjectChanges;
 use crate::payload::{directory_payload, payload_of};
 use crate::place::BlockPlace;
+use crate::plan_source::PlanSource;
 use crate::planner::{Planner, TreePlan};
-use base::{
-    ENTRY_COUNT, Group, OBJECT_COUNT, ObjectId, POINTER_COUNT, Pointer, PoolError, RecordState,
-};
-use labels::Geometry;
-use object_maps::{ObjectMap, ObjectSource, RecordSource, Tree};
-use space::FreeSet;
-use std::alloc::Global;
+use base::{ENTRY_COUNT, OBJECT_COUNT, ObjectId, POINTER_COUNT, Pointer, PoolError, RecordState};
+use object_maps::{ObjectMap, ObjectSource, RecordSource};
 use std::collections::BTreeMap;
 
 // Whether an operation is on an object of a directory.
@@ -92,29 +88,13 @@ fn state_of(touched: bool, left: bool) -> RecordState
     }
 }
 
-/// What a plan is made of, beside the objects.
-#[derive(Clone, Copy, Debug)]
-pub struct PlanSource<'a> {
-    /// Where the memory of the plan comes from.
-    pub alloc: Global,
-    /// The size of the device.
-    pub geometry: Geometry,
-    /// The guid of the pool.
-    pub guid: u64,
-    /// The group that is synced.
-    pub group: Group,
-    /// The pointers and lengths before the group.
-    pub tree: &'a Tree,
-    /// The blocks that may be taken.
-    pub free: &'a FreeSet,
-}
-
 /// Plans the tree after a group whose operations do this to objects: for rising objects their dirty records rising and
 /// then their indirect block; then directories rising; then the root. Each takes the lowest free block. Live blocks are
 /// not overwritten (On-Disk Specification, chapter 2): what is replaced, or has no place any more, comes back by its
 /// address.
 ///
-/// `after` gives the objects after the group. The records that are written are at hand (`ready`): a plan reads nothing.
+/// `after` gives the objects after the group. The records that are written are at hand (`ready`), and the maps of the
+/// objects that operations are on were read (`maps`). The pointers before are those maps' and otherwise the tree's.
 ///
 /// - `taken`: the blocks are whole and the lowest free ones. If each object that an operation is on has a number below
 ///   5,292 they stand in the order of the places that the definitions write, one for each.
@@ -123,6 +103,7 @@ pub struct PlanSource<'a> {
 ///   tree (`AreTreePointers`). Each block has a pointer to it, and the root stays if no operation is on an object.
 /// - `lengths`: of each object that an operation is on, the tree has the length that it has after the group, and of any
 ///   other the one that it had.
+/// - `maps`: the plan has a map of each object that an operation is on, with no pointer for a hole.
 /// - `freed`: what comes back lies in the block area, and is what the plan replaces or clears, each once if no two
 ///   places had blocks at one address (`AreApart`).
 ///
@@ -137,9 +118,11 @@ pub fn plan<O: RecordSource>(
 ) -> Result<TreePlan, PoolError>
     requires free { source.now.free.now.blocks ≡ block_count source.now.geometry }
     requires ready { AreReady (O.has_record after.now) objects.now.entries }
+    requires maps { AreMapsRead source.now objects.now.entries }
     ensures taken { IfOk result (TakesBlocks source.now (O.objects after.now) objects.now) }
     ensures tree { IfOk result (GivesTree source.now (O.objects after.now) objects.now) }
     ensures lengths { IfOk result (HasLengths source.now (O.objects after.now) objects.now) }
+    ensures maps { IfOk result (HasMaps (O.objects after.now) objects.now) }
     ensures freed { IfOk result (GivesBack source.now) }
     ensures full { IfErr result
         (TellsFull source.now (O.objects after.now) objects.now.entries) }
@@ -183,6 +166,7 @@ fn place_tree<O: RecordSource>(
     requires free { source.now.free.now.blocks ≡ block_count source.now.geometry }
     requires begun { HasNothing planner.old }
     requires ready { AreReady (O.has_record after.now) objects.now.entries }
+    requires maps { AreMapsRead source.now objects.now.entries }
     ensures geometry { planner.new.geometry ≡ planner.old.geometry }
     ensures planned { IfOk result
         (PlansTree source.now (O.objects after.now) objects.now planner.old planner.new) }
@@ -247,6 +231,7 @@ fn place_objects<O: RecordSource>(
     requires geometry { planner.old.geometry ≡ source.now.geometry }
     requires free { source.now.free.now.blocks ≡ block_count source.now.geometry }
     requires ready { AreReady (O.has_record after.now) objects.now.entries }
+    requires maps { AreMapsRead source.now objects.now.entries }
     ensures geometry { planner.new.geometry ≡ planner.old.geometry }
     ensures planned { IfOk result
         (PlansObjects source.now (O.objects after.now) objects.now planner.old planner.new) }
@@ -275,6 +260,8 @@ fn place_changed<O: RecordSource>(
     requires geometry { planner.old.geometry ≡ source.now.geometry }
     requires free { source.now.free.now.blocks ≡ block_count source.now.geometry }
     requires ready { id.0 < object_count → IsReady (O.has_record after.now id.0) changes.now }
+    requires map { id.0 < object_count
+        → is_some (entry_of source.now.old_maps.now.entries id.0) ≡ true }
     ensures geometry { planner.new.geometry ≡ planner.old.geometry }
     ensures planned { OnOk result
         (GoesOver source.now (O.objects after.now) id changes.now maps.old.entries
@@ -288,7 +275,7 @@ fn place_changed<O: RecordSource>(
     if id.0 >= OBJECT_COUNT {
         return Ok(());
     }
-    let old = &source.tree.maps[id.0 as usize];
+    let old = source.old_map(id);
     let map = planner.place_object(source.free, id, after, old, changes)?;
     maps.insert(id, map)?;
     Ok(())
@@ -352,6 +339,6 @@ fn place_directory<O: ObjectSource>(
     if !has_object_in(after, index) {
         return planner.clear(&old);
     }
-    let payload = directory_payload(after, source.tree, maps, index);
+    let payload = directory_payload(after, source, maps, index);
     planner.place(source.free, BlockPlace::Directory(index), &payload, &old)
 }

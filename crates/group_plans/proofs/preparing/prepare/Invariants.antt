@@ -1,4 +1,4 @@
-use Rattle.std.proofs.Common.{◌≡◌, ◌++◌, ◌<◌, ℕ, List, Some, true}
+use Rattle.std.proofs.Common.{◌≡◌, ◌++◌, List, true}
 use Rattle.std.specs.Prelude.{IsTrue, is_some}
 use Rattle.base.specs.declared.names.ObjectId.{ObjectId}
 use Rattle.base.specs.disk.Disk.{bytes_of}
@@ -6,7 +6,7 @@ use Rattle.base.specs.tree.PlacedTrees.{HoldsTree}
 use Rattle.object_maps.specs.ContentsShown.{contents_of}
 use Rattle.tree_plans.specs.declared.changes.ObjectChanges.{ObjectChanges}
 use Rattle.tree_plans.specs.Parts.{AreReady}
-use Rattle.object_maps.specs.Pointers.{pointers_of}
+use Rattle.tree_plans.specs.Pointers.{pointers_before}
 use Rattle.group_plans.specs.GroupPlans.{objects_with}
 use Rattle.group_plans.specs.Prepared.{AreExact, at_hand}
 use Rattle.group_plans.proofs.preparing.prepare.Given as goal
@@ -23,6 +23,6 @@ invariant-loop-id g l = record {
   done : List (ObjectId × ObjectChanges);
   split : l.objects.entries ≡ done ++ l.id-iterator;
   ready : AreReady (λ n r. is_some (at_hand l.prepared.records n r) ≡ true) done;
-  exact : IsTrue g.B.SectorDevice.keeps_model → HoldsTree (bytes_of (g.B.SectorDevice.disk l.fn.reader).now) l.frame (pointers_of l.source.tree.now) (contents_of l.contents).objects
+  exact : IsTrue g.B.SectorDevice.keeps_model → HoldsTree (bytes_of (g.B.SectorDevice.disk l.fn.reader).now) l.frame (pointers_before l.source) (contents_of l.contents).objects
       → AreExact (at_hand l.prepared.records) (objects_with l.extents l.contents);
 }

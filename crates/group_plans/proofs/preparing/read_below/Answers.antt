@@ -1,4 +1,4 @@
-use Rattle.std.proofs.Common.{rules, ◌≡◌, Some, sym}
+use Rattle.std.proofs.Common.{rules, ◌≡◌, Some}
 use Rattle.base.specs.disk.Disk.{bytes_of}
 use Rattle.object_maps.specs.ContentsShown.{contents_of}
 use Rattle.object_maps.specs.Sources.{object_length}

@@ -1,5 +1,6 @@
 use Rattle.std.proofs.Common.{ℕ, ◌+◌, ◌*◌, List, arith, ◌∙◌}
 use Rattle.std.specs.FinMap as finite
+use Rattle.tree_plans.specs.Pointers.{maps_before}
 use Rattle.tree_plans.specs.Walks.{IsEntryWritten, indirect_after}
 use Rattle.tree_plans.proofs.Entries.{entry_in-zeros, length-zeros, one_entry_more}
 use Rattle.tree_plans.proofs.payload.directory_payload.Goals as goal
@@ -14,7 +15,7 @@ loop-index-init g c = record {
 pub loop-index-preserved : goal.loop-index-preserved
 loop-index-preserved g c =
     let objects = g.O.ObjectSource.objects c.args.after.now in
-    let P : ℕ → List ℕ → Type 0 = λ k entry. IsEntryWritten entry (indirect_after c.args.tree.now.maps.items c.args.maps.now.entries (63 * c.args.directory + k)) (finite.get objects (63 * c.args.directory + k)) in
+    let P : ℕ → List ℕ → Type 0 = λ k entry. IsEntryWritten entry (indirect_after (maps_before c.args.source.now) c.args.maps.now.entries (63 * c.args.directory + k)) (finite.get objects (63 * c.args.directory + k)) in
     record {
       size = c.put_object.ensures.size;
       written = one_entry_more P c.loop-index.index c.loop-index.payload _ c.loop-index-test.true c.put_object.ensures.others c.loop-index.invariant.written

@@ -1,6 +1,7 @@
 use Rattle.std.proofs.Common.{◌≡◌, ◌||◌, Bool, length, arith, ap, inl, refl, rules, ◌∙◌}
 use Rattle.base.specs.tree.Syncs.{is_dirty}
 use Rattle.tree_plans.specs.Plans.{state_above}
+use Rattle.tree_plans.specs.Pointers.{maps_before, old_tree}
 use Rattle.tree_plans.specs.Walks.{has_object, is_directory_dirty, is_directory_replaced, is_directory_touched}
 use Rattle.tree_plans.proofs.Progress.{goes_nowhere, goes_twice}
 use Rattle.tree_plans.proofs.Walks.{directories_push, directories_free_push}
@@ -38,9 +39,9 @@ loop-index-preserved g c =
       room = omega (arith, c.push_reserved.ensures.capacity, c.loop-index.invariant.room);
       kept = λ none. c.in_ok-pointer.ensures.kept (touched ∙ ap (λ l. is_directory_replaced l after c.loop-index.index) none) ∙ c.loop-index.invariant.kept none;
       goes = goes_twice c.loop-index.invariant.goes c.in_ok-pointer.ensures.planned.goes;
-      planned = rw c.push_reserved.ensures.items (directories_push _ _ after entries was _ _ _ _ c.in_ok-pointer.ensures.planned.goes long state c.loop-index.invariant.planned c.in_ok-pointer.ensures.planned.planned);
+      planned = rw c.push_reserved.ensures.items (directories_push (maps_before c.args.source.now) c.args.maps.now.entries after entries was _ _ _ _ c.in_ok-pointer.ensures.planned.goes long state c.loop-index.invariant.planned c.in_ok-pointer.ensures.planned.planned);
       frees = directories_free_push _ _ _ entries after was _ _ state c.loop-index.invariant.frees c.in_ok-pointer.ensures.planned.frees;
-      once = λ apart. directories_once_push c.args.source.now.tree.now _ _ _ entries after _ _ state c.loop-index-test.true apart c.loop-index.invariant.frees (c.loop-index.invariant.once apart) c.in_ok-pointer.ensures.planned.once;
+      once = λ apart. directories_once_push (old_tree c.args.source.now) _ _ _ entries after _ _ state c.loop-index-test.true apart c.loop-index.invariant.frees (c.loop-index.invariant.once apart) c.in_ok-pointer.ensures.planned.once;
       uses = rw c.push_reserved.ensures.items (pointers_use_push _ _ _ _ _ _ long c.loop-index.invariant.uses c.in_ok-pointer.ensures.planned.uses);
       adds = rw c.push_reserved.ensures.items (adds_push (is_directory_dirty entries after) _ _ _ _ _ _ _ long (ap is_dirty state) c.loop-index.invariant.adds c.in_ok-pointer.ensures.planned.adds);
     }

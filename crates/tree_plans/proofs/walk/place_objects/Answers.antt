@@ -4,7 +4,7 @@ use Rattle.std.proofs.lemmas.List.{append-nil}
 use Rattle.base.specs.declared.names.ObjectId.{ObjectId}
 use Rattle.tree_plans.specs.declared.changes.ObjectChanges.{ObjectChanges}
 use Rattle.tree_plans.specs.Parts.{group_in}
-use Rattle.tree_plans.specs.Pointers.{entry_of, pointers_before}
+use Rattle.tree_plans.specs.Pointers.{entry_of, maps_before, pointers_before}
 use Rattle.tree_plans.proofs.Progress.{goes_twice}
 use Rattle.tree_plans.proofs.Walks.{found_of, next_of, not_empty}
 use Rattle.tree_plans.proofs.Uses.{are_of_more, next_is_new}
@@ -51,8 +51,8 @@ returns-clause-planned g c =
       frees = c.loop-id.invariant.frees;
       once = c.loop-id.invariant.once;
       uses = c.loop-id.invariant.uses;
-      adds = λ within. all_added _ (λ a b. less_below a.0 b.0) 5292 (group_in c.args.source.now (g.O.ObjectSource.objects c.args.after.now) all) c.args.source.now.tree.now.maps.items c.loop-id.maps.entries all done _ _ whole c.iter-id-items.ensures.ordered within
-          (λ n none. absent_addresses all (pointers_before c.args.source.now.tree.now) (g.O.ObjectSource.objects c.args.after.now) n _ none) (c.loop-id.invariant.adds within);
+      adds = λ within. all_added _ (λ a b. less_below a.0 b.0) 5292 (group_in c.args.source.now (g.O.ObjectSource.objects c.args.after.now) all) (maps_before c.args.source.now) c.loop-id.maps.entries all done _ _ whole c.iter-id-items.ensures.ordered within
+          (λ n none. absent_addresses all (pointers_before c.args.source.now) (g.O.ObjectSource.objects c.args.after.now) n _ none) (c.loop-id.invariant.adds within);
     }
 
 pub returns-in_err-place_changed-clause-full : goal.returns-in_err-place_changed-clause-full
@@ -63,8 +63,8 @@ returns-in_err-place_changed-clause-full g c =
     let rest : List (ObjectId × ObjectChanges) = c.next.new.self in
     let split : all ≡ done ++ (e ∷ rest) = c.loop-id.invariant.split ∙ ap (λ (l : List (ObjectId × ObjectChanges)). done ++ l) c.in-Some.ensures.steps in
     let found : entry_of all e.0.0 ≡ Some e.1 = next_of (λ (x : ObjectId × ObjectChanges). entry_of all x.0.0 ≡ Some x.1) all done rest e split (found_of _ (λ a b. unsigned_tied a.0 b.0) c.args.objects.now c.iter-id-items.ensures.found) in
-    handed_on c.from_residual.result _ _ c.from_residual.ensures.1 (λ within no_space. lacks_object _ (λ a b. less_below a.0 b.0) _ _ _ (group_in c.args.source.now (g.O.ObjectSource.objects c.args.after.now) all) c.args.source.now.tree.now.maps.items c.loop-id.maps.entries 5292 all done rest e split c.iter-id-items.ensures.ordered within
-    (λ n none. no_places all (pointers_before c.args.source.now.tree.now) (g.O.ObjectSource.objects c.args.after.now) n none) c.loop-id.invariant.goes (c.loop-id.invariant.adds within) (c.in_err-place_changed.ensures.full all found no_space))
+    handed_on c.from_residual.result _ _ c.from_residual.ensures.1 (λ within no_space. lacks_object _ (λ a b. less_below a.0 b.0) _ _ _ (group_in c.args.source.now (g.O.ObjectSource.objects c.args.after.now) all) (maps_before c.args.source.now) c.loop-id.maps.entries 5292 all done rest e split c.iter-id-items.ensures.ordered within
+    (λ n none. no_places all (pointers_before c.args.source.now) (g.O.ObjectSource.objects c.args.after.now) n none) c.loop-id.invariant.goes (c.loop-id.invariant.adds within) (c.in_err-place_changed.ensures.full all found no_space))
 
 pub place_changed-requires-clause-ready : goal.place_changed-requires-clause-ready
 place_changed-requires-clause-ready g c =
@@ -75,3 +75,13 @@ place_changed-requires-clause-ready g c =
     let split : all ≡ done ++ (e ∷ rest) = c.loop-id.invariant.split ∙ ap (λ (l : List (ObjectId × ObjectChanges)). done ++ l) c.in-Some.ensures.steps in
     let found : entry_of all e.0.0 ≡ Some e.1 = next_of (λ (x : ObjectId × ObjectChanges). entry_of all x.0.0 ≡ Some x.1) all done rest e split (found_of _ (λ a b. unsigned_tied a.0 b.0) c.args.objects.now c.iter-id-items.ensures.found) in
     λ low. c.requires.ready e.0.0 e.1 low found
+
+pub place_changed-requires-clause-map : goal.place_changed-requires-clause-map
+place_changed-requires-clause-map g c =
+    let all : List (ObjectId × ObjectChanges) = c.args.objects.now.entries in
+    let done : List (ObjectId × ObjectChanges) = c.loop-id.invariant.done in
+    let e : ObjectId × ObjectChanges = (c.in-Some.id.now, c.in-Some.changes.now) in
+    let rest : List (ObjectId × ObjectChanges) = c.next.new.self in
+    let split : all ≡ done ++ (e ∷ rest) = c.loop-id.invariant.split ∙ ap (λ (l : List (ObjectId × ObjectChanges)). done ++ l) c.in-Some.ensures.steps in
+    let found : entry_of all e.0.0 ≡ Some e.1 = next_of (λ (x : ObjectId × ObjectChanges). entry_of all x.0.0 ≡ Some x.1) all done rest e split (found_of _ (λ a b. unsigned_tied a.0 b.0) c.args.objects.now c.iter-id-items.ensures.found) in
+    λ low. c.requires.maps e.0.0 low (ap is_some found)

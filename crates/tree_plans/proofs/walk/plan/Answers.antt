@@ -12,8 +12,8 @@ use Rattle.tree_plans.specs.declared.planner.Planner.{Planner}
 use Rattle.base.specs.formats.Fields.{no_pointer}
 use Rattle.tree_plans.specs.Parts.{group_in}
 use Rattle.tree_plans.specs.Plans.{new_block, progress_of}
-use Rattle.tree_plans.specs.Pointers.{planned_map, pointers_from, pointers_before}
-use Rattle.tree_plans.proofs.Planned.{all_freed, freed_in_area, length_planned, root_cases, taken_lowest, tree_placed, tree_planned}
+use Rattle.tree_plans.specs.Pointers.{old_pointers, old_tree, planned_map, pointers_from}
+use Rattle.tree_plans.proofs.Planned.{all_freed, freed_in_area, length_planned, map_made, not_touched, root_cases, taken_lowest, tree_placed, tree_planned}
 use Rattle.tree_plans.proofs.Uses.{all_whole}
 use Rattle.tree_plans.proofs.Order.{planned_in_order}
 use Rattle.tree_plans.proofs.Room.{handed_on, plan_lacks}
@@ -33,18 +33,18 @@ returns-clause-taken g c =
 pub returns-clause-tree : goal.returns-clause-tree
 returns-clause-tree g c =
     let s = progress_of c.place_tree.new.planner in
-    let t = c.args.source.now.tree.now in
+    let t = old_tree c.args.source.now in
     let after = (g.O.ObjectSource.objects c.args.after.now) in
     let objects = c.args.objects.now.entries in
     let tree = c.in_ok-tree.tree in
     let told = c.in_ok-tree.ensures.planned in
-    let new : Place → Pointer = pointers_from tree.root tree.directories.items (planned_map t.maps.items tree.maps.entries) in
+    let new : Place → Pointer = pointers_from tree.root tree.directories.items (planned_map t.maps tree.maps.entries) in
     let cases = root_cases s t after objects tree.maps.entries tree.directories.items tree.root told.walked in
     record {
       planned = λ before covered changes whole.
-          subst (λ (f : Frame). IsTreePlan s.blocks f (pointers_before t) new before after) told.goes.frame
+          subst (λ (f : Frame). IsTreePlan s.blocks f (old_pointers t) new before after) told.goes.frame
           (tree_planned s t after objects tree.maps.entries tree.directories.items tree.root told.walked before covered changes whole);
-      placed = subst (λ (f : Frame). ArePlaced f.blocks (pointers_before t) → ArePlaced f.blocks new) told.goes.frame
+      placed = subst (λ (f : Frame). ArePlaced f.blocks (old_pointers t) → ArePlaced f.blocks new) told.goes.frame
           (tree_placed s t after objects tree.maps.entries tree.directories.items tree.root told.walked);
       used = told.used;
       kept_root = cases.0;
@@ -53,22 +53,35 @@ returns-clause-tree g c =
 
 pub returns-clause-lengths : goal.returns-clause-lengths
 returns-clause-lengths g c =
-    length_planned (progress_of c.place_tree.new.planner) c.args.source.now.tree.now (g.O.ObjectSource.objects c.args.after.now) c.args.objects.now.entries
+    length_planned (progress_of c.place_tree.new.planner) (old_tree c.args.source.now) (g.O.ObjectSource.objects c.args.after.now) c.args.objects.now.entries
     c.in_ok-tree.tree.maps.entries c.in_ok-tree.tree.directories.items c.in_ok-tree.tree.root c.in_ok-tree.ensures.planned.walked
 
-pub returns-clause-freed : goal.returns-clause-freed
-returns-clause-freed g c =
+pub returns-clause-maps : goal.returns-clause-maps
+returns-clause-maps g c =
     let s = progress_of c.place_tree.new.planner in
-    let t = c.args.source.now.tree.now in
+    let t = old_tree c.args.source.now in
     let after = (g.O.ObjectSource.objects c.args.after.now) in
     let objects = c.args.objects.now.entries in
     let tree = c.in_ok-tree.tree in
     let told = c.in_ok-tree.ensures.planned in
-    let new : Place → Pointer = pointers_from tree.root tree.directories.items (planned_map t.maps.items tree.maps.entries) in
     record {
-      returned = subst (λ (f : Frame). ArePlaced f.blocks (pointers_before t) → All (λ address. IsBlockAddress f.blocks address) s.freed) told.goes.frame
+      each = map_made s t after objects tree.maps.entries tree.directories.items tree.root told.walked;
+      all = not_touched s t after objects tree.maps.entries tree.directories.items tree.root told.walked;
+    }
+
+pub returns-clause-freed : goal.returns-clause-freed
+returns-clause-freed g c =
+    let s = progress_of c.place_tree.new.planner in
+    let t = old_tree c.args.source.now in
+    let after = (g.O.ObjectSource.objects c.args.after.now) in
+    let objects = c.args.objects.now.entries in
+    let tree = c.in_ok-tree.tree in
+    let told = c.in_ok-tree.ensures.planned in
+    let new : Place → Pointer = pointers_from tree.root tree.directories.items (planned_map t.maps tree.maps.entries) in
+    record {
+      returned = subst (λ (f : Frame). ArePlaced f.blocks (old_pointers t) → All (λ address. IsBlockAddress f.blocks address) s.freed) told.goes.frame
           (freed_in_area s t after objects tree.maps.entries tree.directories.items tree.root told.walked);
-      freed = subst (λ (f : Frame). AreBornBefore f.group (pointers_before t) → AreFreed (pointers_before t) new s.freed) told.goes.frame
+      freed = subst (λ (f : Frame). AreBornBefore f.group (old_pointers t) → AreFreed (old_pointers t) new s.freed) told.goes.frame
           (all_freed s t after objects tree.maps.entries tree.directories.items tree.root told.walked);
       once = told.once;
     }
