@@ -1,17 +1,13 @@
--- The free blocks of a tree and a chain: those that they have are taken one after another. And those that a plan
--- leaves.
-use Rattle.std.proofs.Common.{◌≡◌, ℕ, zero, suc, ◌+◌, ◌<◌, Bool, true, false, not, ◌&&◌, ◌||◌, List, [], ◌∷◌, length, take, get_or, nat_eq, Option, Some, None, ◌⊎◌, inl, inr, refl, sym, subst, ap, ◌∙◌, arith}
-use Rattle.std.specs.Prelude.{Contains, Err, IfErr, IsErr, Ok, Result, slice_get}
+-- The free blocks of a tree and a chain. And those that a plan leaves.
+use Rattle.std.proofs.Common.{◌≡◌, ℕ, zero, suc, ◌<◌, ◌≤◌, Bool, true, false, not, ◌&&◌, ◌||◌, List, [], ◌∷◌, length, take, get_or, Option, Some, None, ◌⊎◌, inl, inr, refl, sym, subst, ap, ◌∙◌, arith}
+use Rattle.std.specs.Prelude.{◌==◌, if◌then◌else◌, Contains, Err, IfErr, IsErr, Ok, Result, slice_get}
 use Rattle.std.specs.List.{list_any}
 use Rattle.std.specs.Option.{option_map_or}
-use Rattle.std.specs.Ordering.{nat_cmp, eq_by_cmp}
-use Rattle.std.specs.Cmp.{unsigned_tied, nat_eq_equiv}
+use Rattle.std.specs.Ordering.{nat_cmp}
 use Rattle.std.specs.FinSet as set
-use Rattle.std.specs.FinSet.{FinSet, contains-empty, contains-remove, empty_of_len}
-use Rattle.std.proofs.lemmas.Cmp.{nat_cmp_total}
-use Rattle.std.proofs.lemmas.Bool.{cases_eq, eq-eqb, eqb-true, ne_eqb, false≢true}
-use Rattle.std.proofs.lemmas.List.{get_or-take, length-take}
-use Rattle.std.proofs.lemmas.List.Folds.{list_any_more}
+use Rattle.std.specs.FinSet.{FinSet, contains-empty, empty_of_len}
+use Rattle.std.proofs.lemmas.Bool.{eq-eqb, eqb-true, false≢true}
+use Rattle.std.proofs.lemmas.List.{length-take}
 use Rattle.std.proofs.lemmas.Option.{get_or_from_slice_get, slice_get-get_or}
 use Rattle.base.specs.declared.error.PoolError.{PoolError}
 use Rattle.base.specs.declared.pointer.Pointer.{Pointer}
@@ -20,62 +16,14 @@ use Rattle.base.specs.formats.Fields.{no_pointer}
 use Rattle.base.specs.formats.Geometry.{block_address, IsBlockAddress}
 use Rattle.base.specs.tree.Places.{Place, IsPlace}
 use Rattle.base.specs.tree.Places.Place.{Root, Directory, Indirect, Data}
-use Rattle.object_maps.specs.declared.tree.ObjectMap.{ObjectMap}
+use Rattle.object_maps.specs.declared.tree.ObjectEntry.{ObjectEntry}
 use Rattle.object_maps.specs.declared.tree.Tree.{Tree}
-use Rattle.object_maps.specs.Pointers.{pointers_of}
-use Rattle.space.specs.FreeSets.{FreeSpace, HasAllOf, IsLowestFree, after_take, is_free}
+use Rattle.object_maps.specs.Pointers.{kept_records, pointers_of}
+use Rattle.space.specs.FreeSets.{FreeSpace, IsLowestFree, after_take, is_free}
 use Rattle.tree_plans.specs.declared.planner.PlannedBlock.{PlannedBlock}
-use Rattle.import_replay.specs.FreeBlocks.{AreAllOthers, AreAllPlanned, AreUnused, BlocksTaken, IsLowestLeft, IsNamed, IsUsedBy, chain_addresses, is_block_at, is_planned, logs_block, map_names, names_block, plans_block, tree_names, uses_block}
-
--- two takes one after another
-both_taken : (a b c : Bool) → ((a && not b) && not c) ≡ (a && not (b || c))
-both_taken true true c = refl
-both_taken true false c = refl
-both_taken false b c = refl
-
-blocks_kept : (p : ℕ → Bool) (old new : FreeSpace) → BlocksTaken p old new → new.blocks ≡ old.blocks
-blocks_kept p old new t = ap (λ (s : FreeSpace). s.blocks) t.rest
-
-pub taken_twice : (p q : ℕ → Bool) (old mid new : FreeSpace) → BlocksTaken p old mid → BlocksTaken q mid new → BlocksTaken (λ k. p k || q k) old new
-taken_twice p q old mid new first second = record {
-  each = λ k low. second.each k (let same = blocks_kept p old mid first in omega (arith, low, same)) ∙ ap (λ (b : Bool). b && not (q k)) (first.each k low) ∙ both_taken (is_free k old) (p k) (q k);
-  fewer = λ address h. first.fewer address (second.fewer address h);
-  rest = second.rest ∙ ap (λ (s : FreeSpace). record s { free = new.free }) first.rest;
-}
-
-taken_same : (p q : ℕ → Bool) (old new : FreeSpace) → ((k : ℕ) → p k ≡ q k) → BlocksTaken p old new → BlocksTaken q old new
-taken_same p q old new same t = record { each = λ k low. t.each k low ∙ ap (λ (b : Bool). is_free k old && not b) (same k); fewer = t.fewer; rest = t.rest }
-
--- one more of a list
-pub taken_more : {A : Type 0} (p : ℕ → A → Bool) (xs : List A) (i : ℕ) (x : A) (old mid new : FreeSpace) → i < length xs → x ≡ get_or xs i x
-    → BlocksTaken (λ k. list_any (p k) (take i xs)) old mid → BlocksTaken (λ k. p k x) mid new → BlocksTaken (λ k. list_any (p k) (take (i + 1) xs)) old new
-taken_more p xs i x old mid new low is first second =
-    taken_same _ _ old new (λ k. sym (list_any_more (p k) xs i x low ∙ ap (λ y. list_any (p k) (take i xs) || p k y) (sym is)))
-    (taken_twice (λ j. list_any (p j) (take i xs)) (λ j. p j x) old mid new first second)
-
-tied : (q k : ℕ) → eq_by_cmp nat_cmp q k ≡ nat_eq k q
-tied q k = unsigned_tied q k ∙ nat_eq_equiv.symm q k
-
-pub contains-without : (numbers : FinSet nat_cmp) (n q : ℕ) → set.contains (set.remove numbers n) q ≡ (not (nat_eq n q) && set.contains numbers q)
-contains-without numbers n q = contains-remove nat_cmp_total numbers n q ∙ ap (λ (b : Bool). not b && set.contains numbers q) (tied q n)
-
-swapped : (a b : Bool) → (a && b) ≡ (b && a)
-swapped true true = refl
-swapped true false = refl
-swapped false true = refl
-swapped false false = refl
-
-and_right : (a b : Bool) → (a && b) ≡ true → b ≡ true
-and_right true b h = h
-and_right false b h = absurd (false≢true h)
-
--- the block at an address is taken
-pub address_taken : (address i : ℕ) (s : FreeSpace) → block_address i ≡ address → BlocksTaken (λ k. is_block_at k address) s (after_take i s)
-address_taken address i s is = record {
-  each = λ k low. contains-without s.free (block_address i) (block_address k) ∙ swapped (not (nat_eq (block_address i) (block_address k))) (is_free k s) ∙ ap (λ (a : ℕ). is_free k s && not (nat_eq a (block_address k))) is;
-  fewer = λ other h. and_right (not (nat_eq (block_address i) other)) (set.contains s.free other) (sym (contains-without s.free (block_address i) other) ∙ h);
-  rest = refl;
-}
+use Rattle.object_maps.specs.FreeBlocks.{AreUnnamed, BlocksTaken, entry_names, is_block_at, names_block, tree_names}
+use Rattle.object_maps.proofs.FreeBlocks.{address_taken, blocks_kept}
+use Rattle.import_replay.specs.FreeBlocks.{AreAllPlanned, AreUnused, IsLowestLeft, IsNamed, IsUsedBy, chain_addresses, is_planned, logs_block, plans_block, uses_block}
 
 or_left : (a b : Bool) → a ≡ true → (a || b) ≡ true
 or_left true b h = refl
@@ -118,21 +66,27 @@ any_pointer k [] i h = absurd (none_names k h)
 any_pointer k (x ∷ xs) zero h = or_left (names_block k x) (list_any (names_block k) xs) h
 any_pointer k (x ∷ xs) (suc i) h = or_right (names_block k x) (list_any (names_block k) xs) (any_pointer k xs i h)
 
-module _ (t : Tree) (directories : length t.directories.items ≡ 84) (maps : length t.maps.items ≡ 5292) (k : ℕ) where
+-- an entry has pointers to 84 records at most
+few_kept : (m : ObjectEntry) → length (kept_records m) ≤ 84
+few_kept m = by (m.indirect.address == 0)
+  where
+    by : (b : Bool) → length (if b then [] else take 84 m.records.value) ≤ 84
+    by true = omega arith
+    by false = omega (arith, length-take 84 m.records.value)
+
+module _ (t : Tree) (directories : length t.directories.items ≡ 84) (entries : length t.entries.items ≡ 5292) (k : ℕ) where
   abbrev HasName : Type 0
   HasName = IsNamed (pointers_of t) (block_address k)
 
-  by_indirect : (n : ℕ) (o : Option ObjectMap) → slice_get t.maps.items n ≡ o → (option_map_or (λ (m : ObjectMap). m.indirect) o no_pointer).address ≡ block_address k → list_any (map_names k) t.maps.items ≡ true
+  by_indirect : (n : ℕ) (o : Option ObjectEntry) → slice_get t.entries.items n ≡ o → (option_map_or (λ (m : ObjectEntry). m.indirect) o no_pointer).address ≡ block_address k → list_any (entry_names k) t.entries.items ≡ true
   by_indirect n None is h = absurd (none_names k (eq-eqb 0 (block_address k) h))
-  by_indirect n (Some m) is h = any_at (map_names k) t.maps.items n m is (or_left (names_block k m.indirect) _ (eq-eqb (m.indirect.address) (block_address k) h))
+  by_indirect n (Some m) is h = any_at (entry_names k) t.entries.items n m is (or_left (names_block k m.indirect) _ (eq-eqb (m.indirect.address) (block_address k) h))
 
-  by_data : (n r : ℕ) (o : Option ObjectMap) → r < 84 → slice_get t.maps.items n ≡ o → (get_or (option_map_or (λ (m : ObjectMap). m.records.items) o []) r no_pointer).address ≡ block_address k
-      → list_any (map_names k) t.maps.items ≡ true
-  by_data n r None low is h = absurd (none_names k (eq-eqb 0 (block_address k) h))
-  by_data n r (Some m) low is h =
-      let here : names_block k (get_or (take 84 m.records.items) r no_pointer) ≡ true =
-      ap (λ (p : Pointer). names_block k p) (get_or-take 84 m.records.items r no_pointer low) ∙ eq-eqb (get_or m.records.items r no_pointer).address (block_address k) h in
-      any_at (map_names k) t.maps.items n m is (or_right (names_block k m.indirect) _ (any_pointer k (take 84 m.records.items) r here))
+  by_data : (n r : ℕ) (o : Option ObjectEntry) → slice_get t.entries.items n ≡ o → (get_or (option_map_or kept_records o []) r no_pointer).address ≡ block_address k
+      → list_any (entry_names k) t.entries.items ≡ true
+  by_data n r None is h = absurd (none_names k (eq-eqb 0 (block_address k) h))
+  by_data n r (Some m) is h =
+      any_at (entry_names k) t.entries.items n m is (or_right (names_block k m.indirect) _ (any_pointer k (kept_records m) r (eq-eqb (get_or (kept_records m) r no_pointer).address (block_address k) h)))
 
   -- a block that a place names is found
   named-found : (place : Place) → IsPlace place → (pointers_of t place).address ≡ block_address k → tree_names k t ≡ true
@@ -141,29 +95,27 @@ module _ (t : Tree) (directories : length t.directories.items ≡ 84) (maps : le
       or_right (names_block k t.root) _ (or_left (list_any (names_block k) t.directories.items) _
       (any_pointer k t.directories.items d (eq-eqb (get_or t.directories.items d no_pointer).address (block_address k) h)))
   named-found (Indirect n) in_range h =
-      or_right (names_block k t.root) _ (or_right (list_any (names_block k) t.directories.items) _ (by_indirect n (slice_get t.maps.items n) refl h))
+      or_right (names_block k t.root) _ (or_right (list_any (names_block k) t.directories.items) _ (by_indirect n (slice_get t.entries.items n) refl h))
   named-found (Data n r) in_range h =
-      or_right (names_block k t.root) _ (or_right (list_any (names_block k) t.directories.items) _ (by_data n r (slice_get t.maps.items n) in_range.1 refl h))
+      or_right (names_block k t.root) _ (or_right (list_any (names_block k) t.directories.items) _ (by_data n r (slice_get t.entries.items n) refl h))
 
   pub is_found : HasName → tree_names k t ≡ true
   is_found named = named-found named.0 named.1 named.2
 
-  in_map : (n : ℕ) (m : ObjectMap) → n < 5292 → slice_get t.maps.items n ≡ Some m → map_names k m ≡ true → HasName
-  in_map n m low at h = elim (or_cases (names_block k m.indirect) (list_any (names_block k) (take 84 m.records.items)) h) as (λ _. HasName) [
+  in_entry : (n : ℕ) (m : ObjectEntry) → n < 5292 → slice_get t.entries.items n ≡ Some m → entry_names k m ≡ true → HasName
+  in_entry n m low at h = elim (or_cases (names_block k m.indirect) (list_any (names_block k) (kept_records m)) h) as (λ _. HasName) [
     | inl here ↦ (
       Indirect n,
       low,
-      ap (λ (o : Option ObjectMap). (option_map_or (λ (x : ObjectMap). x.indirect) o no_pointer).address) at ∙ eqb-true m.indirect.address (block_address k) here,
+      ap (λ (o : Option ObjectEntry). (option_map_or (λ (x : ObjectEntry). x.indirect) o no_pointer).address) at ∙ eqb-true m.indirect.address (block_address k) here,
     )
     | inr behind ↦ (
-        let f = found_at (names_block k) (take 84 m.records.items) behind in
-        let r_low : f.index < 84 = (let h = f.low in omega (arith, length-take 84 m.records.items)) in
-        let is : get_or m.records.items f.index no_pointer ≡ f.item =
-        sym (get_or-take 84 m.records.items f.index no_pointer r_low) ∙ get_or_from_slice_get (take 84 m.records.items) f.index f.item no_pointer f.found in (
+        let f = found_at (names_block k) (kept_records m) behind in
+        let r_low : f.index < 84 = (let h = f.low in omega (arith, h, few_kept m)) in (
           Data n f.index,
           (low, r_low),
-          ap (λ (o : Option ObjectMap). (get_or (option_map_or (λ (x : ObjectMap). x.records.items) o []) f.index no_pointer).address) at
-              ∙ ap (λ (p : Pointer). p.address) is ∙ eqb-true f.item.address (block_address k) f.passes,
+          ap (λ (o : Option ObjectEntry). (get_or (option_map_or kept_records o []) f.index no_pointer).address) at
+              ∙ ap (λ (p : Pointer). p.address) (get_or_from_slice_get (kept_records m) f.index f.item no_pointer f.found) ∙ eqb-true f.item.address (block_address k) f.passes,
         )
         )
   ]
@@ -177,27 +129,27 @@ module _ (t : Tree) (directories : length t.directories.items ≡ 84) (maps : le
         ap (λ (p : Pointer). p.address) (get_or_from_slice_get t.directories.items f.index f.item no_pointer f.found) ∙ eqb-true f.item.address (block_address k) f.passes,
       )
 
-  in_maps : list_any (map_names k) t.maps.items ≡ true → HasName
-  in_maps h =
-      let f = found_at (map_names k) t.maps.items h in
+  in_entries : list_any (entry_names k) t.entries.items ≡ true → HasName
+  in_entries h =
+      let f = found_at (entry_names k) t.entries.items h in
       let n_low : f.index < 5292 = (let h = f.low in omega arith) in
-      in_map f.index f.item n_low f.found f.passes
+      in_entry f.index f.item n_low f.found f.passes
 
   -- and a block that is found is named by a place
   pub found-named : tree_names k t ≡ true → HasName
   found-named h = elim (or_cases (names_block k t.root) _ h) as (λ _. HasName) [
     | inl here ↦ (Root, tt, eqb-true t.root.address (block_address k) here)
-    | inr below ↦ (elim (or_cases (list_any (names_block k) t.directories.items) (list_any (map_names k) t.maps.items) below) as (λ _. HasName) [
+    | inr below ↦ (elim (or_cases (list_any (names_block k) t.directories.items) (list_any (entry_names k) t.entries.items) below) as (λ _. HasName) [
       | inl d ↦ in_directories d
-      | inr m ↦ in_maps m
+      | inr m ↦ in_entries m
     ])
   ]
 
-not-true : (b : Bool) → not b ≡ true → b ≡ true → ⊥
+pub not-true : (b : Bool) → not b ≡ true → b ≡ true → ⊥
 not-true true h e = false≢true h
 not-true false h e = false≢true e
 
-not-false : (b : Bool) → not b ≡ false → b ≡ true
+pub not-false : (b : Bool) → not b ≡ false → b ≡ true
 not-false true h = refl
 not-false false h = absurd (false≢true (sym h))
 
@@ -214,81 +166,63 @@ any-logged : (k : ℕ) (chain : List LogPiece) → list_any (is_block_at k) (cha
 any-logged k [] = refl
 any-logged k (b ∷ bs) = ap (λ (there : Bool). logs_block k b || there) (any-logged k bs)
 
-module _ (t : Tree) (directories : length t.directories.items ≡ 84) (maps : length t.maps.items ≡ 5292) (chain : List LogPiece) (k : ℕ) where
+module _ (t : Tree) (directories : length t.directories.items ≡ 84) (entries : length t.entries.items ≡ 5292) (chain : List LogPiece) (k : ℕ) where
   logs : list_any (is_block_at k) (chain_addresses chain) ≡ list_any (logs_block k) chain
   logs = any-logged k chain
 
   used-found : IsUsedBy (pointers_of t) (chain_addresses chain) (block_address k) → uses_block k t chain ≡ true
-  used-found (inl named) = or_left (tree_names k t) _ (is_found t directories maps k named)
+  used-found (inl named) = or_left (tree_names k t) _ (is_found t directories entries k named)
   used-found (inr there) = or_right (tree_names k t) _ (sym logs ∙ at-found k (chain_addresses chain) there)
 
   found-used : uses_block k t chain ≡ true → IsUsedBy (pointers_of t) (chain_addresses chain) (block_address k)
   found-used h = elim (or_cases (tree_names k t) (list_any (logs_block k) chain) h) as (λ _. IsUsedBy (pointers_of t) (chain_addresses chain) (block_address k)) [
-    | inl here ↦ inl (found-named t directories maps k here)
+    | inl here ↦ inl (found-named t directories entries k here)
     | inr there ↦ inr (found-at k (chain_addresses chain) (logs ∙ there))
   ]
 
--- where all were free, and the blocks of a tree and a chain are taken
-pub unused-from_taken : (t : Tree) (chain : List LogPiece) (blocks : ℕ) (all left : FreeSpace) → length t.directories.items ≡ 84 → length t.maps.items ≡ 5292 → all.blocks ≡ blocks → HasAllOf blocks all.free
-    → BlocksTaken (λ k. uses_block k t chain) all left → AreUnused (pointers_of t) (chain_addresses chain) blocks left.free
-unused-from_taken t chain blocks all left directories maps count whole taken = record {
-  in_area = in_area;
-  unused = λ q h used.
-      (let is = in_area q h in
-      let free : is_free is.0 left ≡ true = ap (λ (a : ℕ). set.contains left.free a) (sym is.2) ∙ h in
-      not-true (uses_block is.0 t chain) (sym (each is.0 is.1) ∙ free) (used-found t directories maps chain is.0 (subst (λ (a : ℕ). IsUsedBy (pointers_of t) (chain_addresses chain) a) is.2 used)));
-  others = λ q h is.
-      (let free : is_free is.0 left ≡ false = ap (λ (a : ℕ). set.contains left.free a) (sym is.2) ∙ h in
-      subst (λ (a : ℕ). IsUsedBy (pointers_of t) (chain_addresses chain) a) (sym is.2) (found-used t directories maps chain is.0 (not-false (uses_block is.0 t chain) (sym (each is.0 is.1) ∙ free))));
-}
-  where
-    in_area : (q : ℕ) → set.contains left.free q ≡ true → IsBlockAddress blocks q
-    in_area q h = (whole q).0 (taken.fewer q h)
+neither : (a b : Bool) → (not a && not b) ≡ not (a || b)
+neither true b = refl
+neither false b = refl
 
-    each : (k : ℕ) → k < blocks → is_free k left ≡ not (uses_block k t chain)
-    each k low =
-        let was : is_free k all ≡ true = (whole (block_address k)).1 (k, low, refl) in
-        taken.each k (omega (arith, low, count)) ∙ ap (λ (b : Bool). b && not (uses_block k t chain)) was
+-- where just the blocks were free that no pointer of the tree names, and those of a chain are taken
+module _ (t : Tree) (chain : List LogPiece) (blocks : ℕ) (all left : FreeSpace) (unnamed : AreUnnamed blocks t all) (taken : BlocksTaken (λ k. list_any (logs_block k) chain) all left) where
+  directories : length t.directories.items ≡ 84
+  directories = omega (arith, t.directories.ok.0)
 
--- the blocks that no place names, without one of them
-pub others_free : (pointers : Place → Pointer) (blocks : ℕ) (s : FreeSpace) (b : ℕ) → AreUnused pointers [] blocks s.free → AreAllOthers pointers blocks (block_address b) (after_take b s).free
-others_free pointers blocks s b were = record {
-  in_area = λ q h. were.in_area q (was_free q h);
-  unnamed = λ q h named. were.unused q (was_free q h) (inl named);
-  not_taken = λ q h same. not-true (nat_eq (block_address b) q) (and_left (not (nat_eq (block_address b) q)) (set.contains s.free q) (sym (contains-without s.free (block_address b) q) ∙ h)) (eq-eqb (block_address b) q (sym same));
-  others = λ q h is. elim (cases_eq q (block_address b)) as (λ _. IsNamed pointers q ⊎ (q ≡ block_address b)) [
-    | inl same ↦ inr same
-    | inr other ↦ inl (only_named q (were.others q (stays (nat_eq (block_address b) q) (set.contains s.free q) (ne_eqb (block_address b) q (λ same. other (sym same))) (sym (contains-without s.free (block_address b) q) ∙ h)) is))
-  ];
-}
-  where
-    was_free : (q : ℕ) → set.contains (set.remove s.free (block_address b)) q ≡ true → set.contains s.free q ≡ true
-    was_free q h = and_right (not (nat_eq (block_address b) q)) (set.contains s.free q) (sym (contains-without s.free (block_address b) q) ∙ h)
+  entries : length t.entries.items ≡ 5292
+  entries = omega (arith, t.entries.ok.0)
 
-    and_left : (a b : Bool) → (a && b) ≡ true → a ≡ true
-    and_left true b h = refl
-    and_left false b h = absurd (false≢true h)
+  in_area : (q : ℕ) → set.contains left.free q ≡ true → IsBlockAddress blocks q
+  in_area q h = subst (λ (n : ℕ). IsBlockAddress n q) unnamed.sized (unnamed.placed q (taken.fewer q h))
 
-    stays : (a b : Bool) → a ≡ false → (not a && b) ≡ false → b ≡ false
-    stays true b is h = absurd (false≢true (sym is))
-    stays false b is h = h
+  each : (k : ℕ) → k < blocks → is_free k left ≡ not (uses_block k t chain)
+  each k low =
+      taken.each k (let count = unnamed.sized in omega (arith, low, count)) ∙ ap (λ (b : Bool). b && not (list_any (logs_block k) chain)) (unnamed.each k low)
+      ∙ neither (tree_names k t) (list_any (logs_block k) chain)
 
-    -- without a chain
-    only_named : (q : ℕ) → IsUsedBy pointers [] q → IsNamed pointers q
-    only_named q (inl named) = named
-    only_named q (inr (i, low, is)) = absurd (omega (arith, low))
+  pub unused-from_taken : AreUnused (pointers_of t) (chain_addresses chain) blocks left.free
+  unused-from_taken = record {
+    in_area = in_area;
+    unused = λ q h used.
+        (let is = in_area q h in
+        let free : is_free is.0 left ≡ true = ap (λ (a : ℕ). set.contains left.free a) (sym is.2) ∙ h in
+        not-true (uses_block is.0 t chain) (sym (each is.0 is.1) ∙ free) (used-found t directories entries chain is.0 (subst (λ (a : ℕ). IsUsedBy (pointers_of t) (chain_addresses chain) a) is.2 used)));
+    others = λ q h is.
+        (let free : is_free is.0 left ≡ false = ap (λ (a : ℕ). set.contains left.free a) (sym is.2) ∙ h in
+        subst (λ (a : ℕ). IsUsedBy (pointers_of t) (chain_addresses chain) a) (sym is.2) (found-used t directories entries chain is.0 (not-false (uses_block is.0 t chain) (sym (each is.0 is.1) ∙ free))));
+  }
 
 -- the block of a number is taken
 pub number_taken : (i : ℕ) (s : FreeSpace) → BlocksTaken (λ k. is_block_at k (block_address i)) s (after_take i s)
 number_taken i s = address_taken (block_address i) i s refl
 
 -- what two tests say together
-both_are : (a b : Bool) → (a && not b) ≡ true → (a ≡ true) × (b ≡ false)
+pub both_are : (a b : Bool) → (a && not b) ≡ true → (a ≡ true) × (b ≡ false)
 both_are true true h = absurd (false≢true h)
 both_are true false h = (refl, refl)
 both_are false b h = absurd (false≢true h)
 
-not_both : (a b : Bool) → (a && not b) ≡ false → a ≡ true → b ≡ true
+pub not_both : (a b : Bool) → (a && not b) ≡ false → a ≡ true → b ≡ true
 not_both true true h is = refl
 not_both true false h is = absurd (false≢true (sym h))
 not_both false b h is = absurd (false≢true is)

@@ -7,6 +7,8 @@ pub mod Flushes
 pub mod FirstWrites
 pub mod OwnCreations
 pub mod FreeBlocks
+pub mod GivenBlocks
+pub mod LeftBlocks
 pub mod Rings
 pub mod Configs
 pub mod Reasons
@@ -26,6 +28,7 @@ pub mod PlannedPools
 pub mod ReadPools
 pub mod StoppedImports
 pub mod OwnImports
+pub mod OwnMounts
 pub mod OwnRefusals
 pub mod Refused
 pub mod CachedImports

@@ -33,7 +33,7 @@ use Rattle.tree_plans.specs.declared.planner.PlannedBlock.{PlannedBlock}
 use Rattle.import_replay.specs.FreeBlocks.{IsNamed, IsUsedBy, chain_addresses}
 use Rattle.import_replay.specs.ImportRefusals.{CanImport, HasSoundPool}
 use Rattle.import_replay.specs.Mounts.{IsMountedAnew, IsMountedFrom, StandsOn, frame_of_import, parts_mounted, shown_of_import}
-use Rattle.import_replay.specs.NextPools.{AreMadeOver, ArePartsFor, PoolParts, next_frame}
+use Rattle.import_replay.specs.NextPools.{AreMadeOver, ArePartsFor, AreWithinLimits, PoolParts, next_frame}
 use Rattle.import_replay.specs.ReadPools.{IsReadPool, frame_of_size}
 use Rattle.import_replay.specs.declared.mounted.Mounted.{Mounted}
 
@@ -91,12 +91,12 @@ group-within group import_number within = ltb-false last_number (group + 5) (or_
 pub import-within : (group import_number : ℕ) → is_past_last group import_number ≡ false → import_number + 1 ≤ last_number
 import-within group import_number within = ltb-false last_number (import_number + 1) (or_parts (nat_lt last_number (group + 5)) (nat_lt last_number (import_number + 1)) within).1
 
-module _ (size : ℕ) (u : Uberblock) (p : PoolParts) (dirty_max : ℕ) (m : Mounted) (from : IsMountedFrom size u p dirty_max m) (parts : ArePartsFor size p) where
+module _ (size : ℕ) (u : Uberblock) (p : PoolParts) (dirty_max : ℕ) (m : Mounted) (from : IsMountedFrom size u p dirty_max m) (within : AreWithinLimits p) where
   abbrev shown : Shown
   shown = shown_of_import m
 
-  mine : ArePartsFor m.geometry (parts_mounted m)
-  mine = subst (λ (n : ℕ). ArePartsFor n (parts_mounted m)) (sym from.geometry) (subst (λ (q : PoolParts). ArePartsFor size q) (sym from.parts) parts)
+  limited : AreWithinLimits (parts_mounted m)
+  limited = subst AreWithinLimits (sym from.parts) within
 
   is_imported : IsImported u (block_count size) (contents_of m.contents) dirty_max shown
   is_imported = record {
@@ -120,7 +120,7 @@ module _ (size : ℕ) (u : Uberblock) (p : PoolParts) (dirty_max : ℕ) (m : Mou
     log_number = refl;
     sync = refl;
     synced_are = refl;
-    lengths = λ n below. mine.lengths n below;
+    lengths = λ n below. limited.lengths n below;
   }
 
   within_last : u.group + 5 ≤ last_number
@@ -129,7 +129,7 @@ module _ (size : ℕ) (u : Uberblock) (p : PoolParts) (dirty_max : ℕ) (m : Mou
   -- what the import gives on any device: what is shown of it is exact, with the empty past
   pub mounted_anew : CanImport size dirty_max → IsMountedAnew size dirty_max m
   mounted_anew can =
-      let bounded : IsBounded (contents_of m.contents) = record { name = mine.named; objects = mine.bounded } in
+      let bounded : IsBounded (contents_of m.contents) = record { name = limited.named; objects = limited.bounded } in
       record {
         geometry = from.geometry;
         limit = from.limit;
@@ -139,13 +139,16 @@ module _ (size : ℕ) (u : Uberblock) (p : PoolParts) (dirty_max : ℕ) (m : Mou
         group = m.group_fits;
       }
 
-  module _ (image now : List ℕ) (chain : List LogPiece) (blocks : List PlannedBlock) (long : length image ≡ size) (over : AreMadeOver image u chain size blocks p) (same_long : length now ≡ length image)
+  module _ (parts : ArePartsFor size p) (image now : List ℕ) (chain : List LogPiece) (blocks : List PlannedBlock) (long : length image ≡ size) (over : AreMadeOver image u chain size blocks p) (same_long : length now ≡ length image)
       (written : BlocksWritten image size blocks (length blocks) now) where
     abbrev pointers : Place → Pointer
     pointers = pointers_of m.tree
 
     abbrev objects : FinMap nat_cmp (List ℕ)
     objects = (contents_of m.contents).objects
+
+    mine : ArePartsFor m.geometry (parts_mounted m)
+    mine = subst (λ (n : ℕ). ArePartsFor n (parts_mounted m)) (sym from.geometry) (subst (λ (q : PoolParts). ArePartsFor size q) (sym from.parts) parts)
 
     made : AreMadeOver image u chain size blocks (parts_mounted m)
     made = subst (λ (q : PoolParts). AreMadeOver image u chain size blocks q) (sym from.parts) over

@@ -27,11 +27,11 @@ use Rattle.base.specs.formats.Limits.{object_count, pointer_count}
 use Rattle.base.specs.formats.Names.{IsName}
 use Rattle.base.specs.formats.Uberblocks.{Uberblock}
 use Rattle.base.specs.history.Contents.{Contents, length_of}
-use Rattle.base.specs.stored.Stored.{AreBlocks}
+use Rattle.base.specs.stored.Stored.{AreBlocks, AreUsed}
 use Rattle.base.specs.tree.PlacedTrees.{ArePlaced, HoldsTree, IsPlaced}
 use Rattle.base.specs.tree.Places.{IsInTree, Place, has_block}
 use Rattle.base.specs.tree.Places.Place.{Data}
-use Rattle.base.specs.tree.PlannedTrees.{IsTreePlan, NewBlock}
+use Rattle.base.specs.tree.PlannedTrees.{AreFreed, IsTreePlan, NewBlock}
 use Rattle.base.specs.tree.Syncs.{group_changes, written_places}
 use Rattle.base.specs.tree.Tree.{IsTree}
 use Rattle.base.proofs.common.KeptLists.{at_take}
@@ -39,11 +39,11 @@ use Rattle.base.proofs.crash.LogRoom.{subset_len, with_all}
 use Rattle.base.proofs.formats.Geometry.{IsGeometry-IsSize}
 use Rattle.base.proofs.history.KeptContents.{bounded-no_others}
 use Rattle.base.proofs.tree.FreedBlocks.{IsNewAddress}
-use Rattle.base.proofs.tree.PlacedTrees.{holds-tree, pointers-told}
+use Rattle.base.proofs.tree.PlacedTrees.{holds-tree, none_or_opens, pointers-told}
 use Rattle.base.proofs.stored.StoredSets.{IsAt, at-map, map-at, rising-in, rising-rises}
-use Rattle.group_plans.specs.GroupPlans.{plan_pointers}
+use Rattle.group_plans.specs.GroupPlans.{MakesGroupTree, MakesHoles, plan_pointers}
 use Rattle.group_plans.specs.Pointers.{lengths_after}
-use Rattle.group_plans.proofs.GroupChanges.{lengths_told}
+use Rattle.group_plans.proofs.GroupChanges.{lengths_told, makes_holes}
 use Rattle.group_plans.proofs.GroupCounts.{plans_fit_estimates, short_plans_lack_blocks, takes_at_places}
 use Rattle.group_plans.proofs.GroupTrees.{plans_make_trees}
 use Rattle.group_plans.proofs.PlannedBlocks.{addresses_are}
@@ -56,16 +56,17 @@ use Rattle.object_maps.specs.declared.contents.Slot.{Slot}
 use Rattle.object_maps.specs.declared.tree.Tree.{Tree}
 use Rattle.space.proofs.FreeLists.{length-rising}
 use Rattle.sync.specs.Made.{BlocksWritten}
-use Rattle.tree_plans.specs.Changes.{has_address}
+use Rattle.tree_plans.specs.Changes.{AreBornBefore, has_address}
+use Rattle.tree_plans.specs.Marks.{pending_ops}
 use Rattle.tree_plans.specs.Plans.{address_of, new_block}
 use Rattle.tree_plans.specs.declared.planner.PlannedBlock.{PlannedBlock}
 use Rattle.tree_plans.specs.declared.planner.TreePlan.{TreePlan}
-use Rattle.import_replay.specs.FreeBlocks.{AreAllPlanned}
+use Rattle.import_replay.specs.FreeBlocks.{AreAllOthers, AreAllPlanned}
 use Rattle.import_replay.specs.ImportRefusals.{HasLastNumbers, IsReason, LacksImportRoom}
 use Rattle.import_replay.specs.ImportStops.{writes_of_next}
 use Rattle.import_replay.specs.LabelSyncs.{AreApartIn, IsGroupSynced}
 use Rattle.import_replay.specs.Mounts.{IsImport, IsMountedFrom}
-use Rattle.import_replay.specs.NextPools.{AreMadeOver, ArePartsFor, IsPlannedFrom, IsReadyFor, IsReplayedPool, LacksBlocks, PoolParts, next_frame, parts_of, synced_with}
+use Rattle.import_replay.specs.NextPools.{AreMadeOver, ArePartsFor, AreWithinLimits, IsPlannedFrom, IsReadyFor, IsReplayedPool, LacksBlocks, PoolParts, next_frame, objects_replayed, parts_of, synced_with}
 use Rattle.import_replay.specs.ReadPools.{IsLoadedFor, IsReadPool, frame_of_size}
 use Rattle.import_replay.specs.TakenBlocks.{AreForEachPlace, AreLowestSpare, replayed_places}
 use Rattle.import_replay.specs.declared.mounted.Mounted.{Mounted}
@@ -73,8 +74,9 @@ use Rattle.import_replay.specs.declared.next_pool.NextPool.{NextPool}
 use Rattle.import_replay.specs.declared.next_pool.ReplayedPool.{ReplayedPool}
 use Rattle.import_replay.proofs.FreeBlocks.{at_planned, planned_at}
 use Rattle.import_replay.proofs.MountedPools.{found_read, import_of, mounts_read, named-of_tree, not_zero, stands_on, used_on_image}
+use Rattle.import_replay.proofs.LeftBlocks.{all_others_left}
 use Rattle.import_replay.proofs.KeptBlocks.{no_log_written, used_kept}
-use Rattle.import_replay.proofs.PlannedPools.{planned_over}
+use Rattle.import_replay.proofs.PlannedPools.{planned_over, pointers_made}
 use Rattle.import_replay.proofs.Reasons.{reason-record}
 use Rattle.import_replay.proofs.ReplayedPools as replays
 use Rattle.import_replay.proofs.WrittenPlaces.{each_place, map_same}
@@ -229,7 +231,7 @@ module _ (size : ℕ) (u : Uberblock) (name : List ℕ) (tree : Tree) (slots : L
     all = λ address is unused. ⊎_elim (λ spare. spare) (λ used. absurd (unused used)) (spare-or_used address (subst (λ (n : ℕ). IsBlockAddress (block_count n) address) read.long is));
     few = ⊎_elim
         (λ short.
-        let fewer = short_plans_lack_blocks (u.group + 4) pool.tree pool.replayed.records.items (contents_of pool.synced) (replays.after size u name tree slots chain pool named loaded r) pool.spare.free short (replays.takes_place size u name tree slots chain pool named loaded r) in
+        let fewer = short_plans_lack_blocks (u.group + 4) pool.tree pool.replayed.records.items short.0 (contents_of pool.synced) (replays.after size u name tree slots chain pool named loaded r) pool.spare.free short.1 (replays.takes_place size u name tree slots chain pool named loaded r) in
         let count = length-rising pool.spare.free in
         let same = replays.estimate size u name tree slots chain pool named loaded r in
         omega (arith, fewer, count, same))
@@ -274,7 +276,7 @@ module _ (holds : Type 0) (size : ℕ) (u : Uberblock) (name : List ℕ) (tree :
   are_blocks = record {
     in_area = λ i n at. let (b, there, same) = at-map new_block blocks i n at in
         subst (λ (x : NewBlock). IsBlockAddress (block_count size) x.address) same (is.replayed.spare.in_area (block_address b.index) (was_spare i b there));
-    whole = λ i n at. is.planned.made.whole i n at;
+    whole = λ i n at. is.planned.made.1.whole i n at;
     apart = λ i j n m at_i at_j same.
         let (b, there_i, same_i) = at-map new_block blocks i n at_i in
         let (c, there_j, same_j) = at-map new_block blocks j m at_j in
@@ -294,7 +296,7 @@ module _ (holds : Type 0) (size : ℕ) (u : Uberblock) (name : List ℕ) (tree :
       in_area = is.planned.fits.within;
       distinct = distinct_blocks blocks (λ i j b c at_i at_j same. one_place i j b c at_i at_j (ap block_address same));
     });
-    placed = ∥∥₁_map {A = ArePlaced (block_count size) (plan_pointers pool.tree plan)} {B = ArePlaced (block_count size) (pointers_of next.tree)} is.planned.made.placed
+    placed = ∥∥₁_map {A = ArePlaced (block_count size) (plan_pointers pool.tree plan)} {B = ArePlaced (block_count size) (pointers_of next.tree)} is.planned.made.1.placed
         (λ placed place in_range. subst (IsPlaced (block_count size)) (sym (is.planned.pointers place in_range)) (placed place in_range));
     log_placed = log_placed;
     sized = is.planned.sized;
@@ -304,18 +306,16 @@ module _ (holds : Type 0) (size : ℕ) (u : Uberblock) (name : List ℕ) (tree :
   contents_left : contents_of next.contents ≡ left
   contents_left = is.planned.contents_are
 
-  -- its parts are those of a pool
-  pub prepared_parts : ArePartsFor size (parts_of next)
-  prepared_parts = record {
+  -- its contents and its tree are within the limits of a pool
+  pub prepared_within : AreWithinLimits (parts_of next)
+  prepared_within = record {
     named = subst (λ (c : Contents). IsName c.name) (sym contents_left) (replays.bounded size u name tree slots chain pool is.named is.loaded is.replayed).name;
     bounded = subst (λ (c : Contents). (n : ℕ) → IfSome (finite.get c.objects n) (IsLimitedObject n)) (sym contents_left) (replays.bounded size u name tree slots chain pool is.named is.loaded is.replayed).objects;
     lengths = λ n below.
         is.planned.lengths n below
-        ∙ lengths_told (u.group + 4) pool.replayed.records.items pool.tree.maps.items (contents_of pool.synced) left (replays.takes_place size u name tree slots chain pool is.named is.loaded is.replayed)
-        (lengths_after plan.maps pool.tree) is.planned.made.lengths n below
+        ∙ lengths_told (u.group + 4) pool.replayed.records.items pool.tree.entries.items (contents_of pool.synced) left (replays.takes_place size u name tree slots chain pool is.named is.loaded is.replayed)
+        (lengths_after plan.maps pool.tree) is.planned.made.1.lengths n below
         ∙ ap (λ (c : Contents). length_of c n) (sym contents_left);
-    log_block = log_placed;
-    free = is.planned.free;
   }
 
   -- so many records were replayed
@@ -335,6 +335,18 @@ module _ (holds : Type 0) (size : ℕ) (u : Uberblock) (name : List ℕ) (tree :
     planned : IsTreePlan (map new_block blocks) (next_frame u size) (pointers_of pool.tree) (plan_pointers pool.tree plan) (contents_of pool.synced).objects left.objects
     planned = plans_make_trees (next_frame u size) (frame_of_size u size) pool.tree pool.replayed.records.items (contents_of pool.synced) left plan (is.planned.objects held)
         (replays.takes_place size u name tree slots chain pool is.named is.loaded is.replayed) (replays.sized size u name tree slots chain pool is.named is.loaded is.replayed) image mine.held
+
+    -- the plan is one from the pointers of the tree
+    from_tree : MakesGroupTree (next_frame u size) (pointers_of pool.tree) pool.tree pool.replayed.records.items (objects_replayed pool) plan
+    from_tree = (is.planned.objects held).made
+
+    -- each of its blocks is used
+    holes : MakesHoles from_tree.places.objects
+    holes = makes_holes (pending_ops (u.group + 4) pool.replayed.records.items) pool.tree.entries.items (contents_of pool.synced) left (replays.takes_place size u name tree slots chain pool is.named is.loaded is.replayed)
+        from_tree.places.objects from_tree.places.changes
+
+    blocks_used : AreUsed (map new_block blocks) (plan_pointers pool.tree plan)
+    blocks_used = from_tree.places.used holes
 
     -- its blocks lie at the lowest spare addresses
     prepared_lowest : AreLowestSpare image u chain (map address_of blocks)
@@ -361,8 +373,8 @@ module _ (holds : Type 0) (size : ℕ) (u : Uberblock) (name : List ℕ) (tree :
           (λ i place at. ap (λ (q : Pointer). q.address) (is.planned.pointers place (each_place (group_changes (ops_of_records (records_above u.group chain)) (contents_of pool.synced) (has_block image u.root)) i place at)))
           ∙ ap (λ (ops : List Op). map (λ (place : Place). (plan_pointers pool.tree plan place).address) (written_places ops (contents_of pool.synced) (has_block image u.root)))
           (replays.ops_replayed size u name tree slots chain pool is.named is.loaded is.replayed)
-          ∙ takes_at_places (u.group + 4) pool.replayed.records.items pool.tree.maps.items (contents_of pool.synced) left (replays.takes_place size u name tree slots chain pool is.named is.loaded is.replayed) (pointers_of pool.tree)
-          (plan_pointers pool.tree plan) (map new_block blocks) is.planned.made.places (has_block image u.root) had
+          ∙ takes_at_places (u.group + 4) pool.replayed.records.items pool.tree.entries.items (contents_of pool.synced) left (replays.takes_place size u name tree slots chain pool is.named is.loaded is.replayed) (pointers_of pool.tree)
+          (plan_pointers pool.tree plan) (map new_block blocks) plan.freed.items from_tree.places (has_block image u.root) had
           ∙ addresses_are blocks;
     }
       where
@@ -374,17 +386,46 @@ module _ (holds : Type 0) (size : ℕ) (u : Uberblock) (name : List ℕ) (tree :
             ap (λ (q : Pointer). not (q.address == 0)) (sym (pointers-told image (frame_of_size u size) (pointers_of pool.tree) (objects_of pool.synced.slots.items) mine.held (Data n r) (low, below)))
             ∙ ap (λ (q : Pointer). has_block image q (Data n r)) mine.root
 
+    all_unused : (i : ℕ) (b : PlannedBlock) → slice_get blocks i ≡ Some b → IsUsed image u.root chain (block_address b.index) → ⊥
+    all_unused i b at = spare-unused size u name tree slots chain pool is.named is.loaded is.replayed image read (block_address b.index) (was_spare i b at)
+
+    planned_contents : IsTreePlan (map new_block blocks) (next_frame u size) (pointers_of pool.tree) (plan_pointers pool.tree plan) (contents_of pool.synced).objects (contents_of next.contents).objects
+    planned_contents =
+        subst (λ (c : Contents). IsTreePlan (map new_block blocks) (next_frame u size) (pointers_of pool.tree) (plan_pointers pool.tree plan) (contents_of pool.synced).objects c.objects) (sym contents_left) planned
+
+    no_others : (n : ℕ) → object_count ≤ n → finite.get (contents_of next.contents).objects n ≡ None
+    no_others = subst (λ (c : Contents). (n : ℕ) → object_count ≤ n → finite.get c.objects n ≡ None) (sym contents_left)
+        (bounded-no_others left (replays.bounded size u name tree slots chain pool is.named is.loaded is.replayed))
+
+    -- each block of the old tree was born before the group
+    born : AreBornBefore (u.group + 4) (pointers_of pool.tree)
+    born place in_range = elim (none_or_opens image (frame_of_size u size) (pointers_of pool.tree) (objects_of pool.synced.slots.items) mine.held place in_range) as (λ _. (pointers_of pool.tree place).birth < u.group + 4) [
+      | inl none ↦ (let zero_is : (pointers_of pool.tree place).birth ≡ 0 = ap (λ (q : Pointer). q.birth) none in omega (arith, zero_is))
+      | inr o ↦ (let before = o.1.born in omega (arith, before))
+    ]
+
+    -- what comes back is what the plan replaces
+    replaced : AreFreed (pointers_of pool.tree) (plan_pointers pool.tree plan) plan.freed.items
+    replaced = from_tree.places.freed holes born
+
+    -- just the blocks are free that neither the new tree nor the log has
+    free_left : AreAllOthers (pointers_of next.tree) (block_count size) next.log_address next.free.free
+    free_left = subst (λ (a : ℕ). AreAllOthers (pointers_of next.tree) (block_count size) a next.free.free) (sym is.planned.log_is)
+        (all_others_left pool.tree (block_count size) pool.free next.free plan is.planned.log_block is.replayed.free is.planned.free is.planned.fits.freed (pointers_of next.tree)
+        (pointers_made image size u chain blocks are_blocks all_unused (pointers_of pool.tree) (contents_of pool.synced).objects mine.root mine.held (parts_of next) (plan_pointers pool.tree plan) is.planned.pointers planned_contents
+        no_others blocks_used room plan.freed.items replaced))
+
+    -- so its parts are those of a pool
+    pub prepared_parts : ArePartsFor size (parts_of next)
+    prepared_parts = record { within = prepared_within; log_block = log_placed; free = free_left }
+
     -- it is made over the image
     pub prepared_over : AreMadeOver image u chain size next.blocks.items (parts_of next)
     prepared_over =
         subst (λ (bs : List PlannedBlock). AreMadeOver image u chain size bs (parts_of next)) (sym is.planned.blocks_are)
-        (planned_over image size u chain blocks are_blocks
-        (λ i b at. spare-unused size u name tree slots chain pool is.named is.loaded is.replayed image read (block_address b.index) (was_spare i b at))
-        (pointers_of pool.tree) (contents_of pool.synced).objects mine.root mine.held (parts_of next) (plan_pointers pool.tree plan) is.planned.pointers
-        (subst (λ (c : Contents). IsTreePlan (map new_block blocks) (next_frame u size) (pointers_of pool.tree) (plan_pointers pool.tree plan) (contents_of pool.synced).objects c.objects) (sym contents_left) planned)
-        (subst (λ (c : Contents). (n : ℕ) → object_count ≤ n → finite.get c.objects n ≡ None) (sym contents_left)
-        (bounded-no_others left (replays.bounded size u name tree slots chain pool is.named is.loaded is.replayed)))
-        is.planned.made.used room few prepared_lowest prepared_each records_counted (not_zero (block_count size) next.log_address log_placed)
+        (planned_over image size u chain blocks are_blocks all_unused
+        (pointers_of pool.tree) (contents_of pool.synced).objects mine.root mine.held (parts_of next) (plan_pointers pool.tree plan) is.planned.pointers planned_contents no_others
+        blocks_used room few prepared_lowest prepared_each records_counted (not_zero (block_count size) next.log_address log_placed)
         (spare-unused size u name tree slots chain pool is.named is.loaded is.replayed image read next.log_address log_spare) log_left lowest)
       where
         few : length blocks ≤ records_estimate (records_above u.group chain)
@@ -415,9 +456,9 @@ module _ (holds : Type 0) (size : ℕ) (u : Uberblock) (name : List ℕ) (tree :
     pub is_import : (dirty_max moment : ℕ) (m : Mounted) → IsMountedFrom size u (parts_of next) dirty_max m → is_dirty_max_allowed dirty_max ≡ true
         → (even_first : Bool) (before after : Disk) → bytes_of before.now ≡ image → IsGroupSynced (writes_of_next size u moment next) even_first before after → IsImport image (bytes_of after.now) dirty_max m
     is_import dirty_max moment m from limit even_first before after same done = record {
-      imported = import_of size u (parts_of next) dirty_max m from prepared_parts image now chain next.blocks.items read.long prepared_over long written limit
+      imported = import_of size u (parts_of next) dirty_max m from prepared_within prepared_parts image now chain next.blocks.items read.long prepared_over long written limit
           (subst (λ (p : PoolParts). Mounts image u chain (contents_of p.contents)) (sym from.parts) prepared_mounts);
-      stands = stands_on size u (parts_of next) dirty_max m from prepared_parts image now chain next.blocks.items read.long prepared_over long written;
+      stands = stands_on size u (parts_of next) dirty_max m from prepared_within prepared_parts image now chain next.blocks.items read.long prepared_over long written;
       size = long;
       no_log = no_log_written size u name pool.tree (objects_of pool.synced.slots.items) chain image now next.blocks.items is.loaded.sound mine prepared_over.unused prepared_ready.apart long written;
       kept = used_kept size u name pool.tree (objects_of pool.synced.slots.items) chain image now next.blocks.items is.loaded.sound mine prepared_over.unused prepared_ready.apart long written;

@@ -1,5 +1,6 @@
 -- What a plan makes of the tree of an image may be synced over it: the tree stands if just the plan's blocks are
--- written, and these are blocks of a tree. The first log block is none of it.
+-- written, and these are blocks of a tree. The first log block is none of it. The new tree has the blocks of the plan,
+-- and those of the old tree that the plan does not replace.
 use Rattle.std.proofs.Common.{◌≡◌, ⊎_elim, inl, inr, ℕ, ◌+◌, ◌*◌, ◌<◌, ◌≤◌, List, length, map, None, Some, refl, sym, ◌∙◌, ap, subst, arith}
 use Rattle.std.specs.Prelude.{◌≢◌, ◌⊎◌, slice_get}
 use Rattle.std.specs.Ordering.{nat_cmp}
@@ -19,13 +20,13 @@ use Rattle.base.specs.stored.Stored.{AreBlocks, AreUsed, LeavesTree}
 use Rattle.base.specs.tree.PlacedTrees.{HoldsTree, IsPlaced}
 use Rattle.base.specs.tree.Places.{IsInTree, IsPlace, Place, kind_of}
 use Rattle.base.specs.tree.Places.Place.{Data, Directory, Indirect, Root}
-use Rattle.base.specs.tree.PlannedTrees.{IsBlockWritten, IsTreePlan, NewBlock, SameBlock}
+use Rattle.base.specs.tree.PlannedTrees.{AreFreed, IsBlockWritten, IsTreePlan, NewBlock, SameBlock}
 use Rattle.base.proofs.common.KeptLists.{All-each}
 use Rattle.base.proofs.disk.Put.{part_same}
 use Rattle.base.proofs.disk.WrittenBlocks.{blocks-apart, new-stand, planned-written, put_blocks}
 use Rattle.base.proofs.stored.StoredSets.{at-map, map-at}
-use Rattle.base.proofs.tree.PlacedTrees.{holds-placed, opens-at, told-in_tree}
-use Rattle.base.proofs.tree.FreedBlocks.{IsNewAddress, in-new_tree}
+use Rattle.base.proofs.tree.PlacedTrees.{holds-placed, in-tree, opens-at, told-in_tree}
+use Rattle.base.proofs.tree.FreedBlocks.{IsNewAddress, freed-left, in-new_tree, stays-or_freed}
 use Rattle.base.proofs.tree.PlannedTrees.{planned-holds}
 use Rattle.base.proofs.tree.SamePlaces.{holds_as}
 use Rattle.object_maps.specs.ContentsShown.{contents_of}
@@ -37,6 +38,8 @@ use Rattle.import_replay.specs.FreeBlocks.{IsNamed}
 use Rattle.import_replay.specs.ImportViews.{IsTreeMade}
 use Rattle.import_replay.specs.NextPools.{AreMadeOver, IsUnusedBlock, PoolParts, next_frame, tree_of}
 use Rattle.import_replay.specs.ReadPools.{frame_of_size}
+use Rattle.import_replay.proofs.LeftBlocks.{AreMadeOf}
+use Rattle.import_replay.proofs.MountedPools.{named-of_tree, not_zero, tree-of_named}
 use Rattle.import_replay.specs.TakenBlocks.{AreForEachPlace, AreLowestSpare}
 
 -- the block of a tree's place is neither a config nor a log block
@@ -113,20 +116,45 @@ module _ (image : List ℕ) (size : ℕ) (u : Uberblock) (chain : List LogPiece)
     news : HoldsTree other (next_frame u size) new after
     news = planned-written image (frame_of_size u size) (next_frame u size) bs old new before after refl refl (omega arith) held planned no_others are leaves room
 
-    -- a block of the new tree is one of the old tree or of the plan
-    named_from : (address : ℕ) → address ≢ 0 → IsNamed (pointers_of p.tree) address → IsInTree image u.root address ⊎ IsNewAddress bs address
-    named_from address some (place, in_range, at) =
+    -- the pool's pointers name just the blocks that this image has in the new tree
+    in_other : (address : ℕ) → address ≢ 0 → IsNamed (pointers_of p.tree) address → IsInTree other (new Root) address
+    in_other address some (place, in_range, at) =
         let named : (new place).address ≡ address = ap (λ (q : Pointer). q.address) (sym (same place in_range)) ∙ at in
-        let there : IsInTree other (new Root) address = subst (λ (a : ℕ). IsInTree other (new Root) a) named
-        (told-in_tree other (next_frame u size) new after news place in_range (λ none. some (sym named ∙ ap (λ (q : Pointer). q.address) none))) in
-        subst (λ (r : Pointer). IsInTree image r address ⊎ IsNewAddress bs address) root
-        (in-new_tree image other (frame_of_size u size) (next_frame u size) bs old new before after held news planned leaves address there)
+        subst (λ (a : ℕ). IsInTree other (new Root) a) named
+        (told-in_tree other (next_frame u size) new after news place in_range (λ none. some (sym named ∙ ap (λ (q : Pointer). q.address) none)))
+
+    of_other : (address : ℕ) → IsInTree other (new Root) address → IsNamed (pointers_of p.tree) address
+    of_other address is =
+        let (place, in_range, at, some) = in-tree other (next_frame u size) new after news address is in
+        (place, in_range, ap (λ (q : Pointer). q.address) (same place in_range) ∙ at)
+
+    -- a block of the new tree is one of the old tree or of the plan
+    named_from : (address : ℕ) → address ≢ 0 → IsNamed (pointers_of p.tree) address → IsInTree image (old Root) address ⊎ IsNewAddress bs address
+    named_from address some named = in-new_tree image other (frame_of_size u size) (next_frame u size) bs old new before after held news planned leaves address (in_other address some named)
 
     -- and each block of the plan is one of the new tree
     new_named : (i : ℕ) (b : PlannedBlock) → slice_get blocks i ≡ Some b → IsNamed (pointers_of p.tree) (block_address b.index)
     new_named i b at =
         let (place, in_range, named) = used i (new_block b) (map-at new_block blocks i b at) in
         (place, in_range, ap (λ (q : Pointer). q.address) (same place in_range) ∙ named)
+
+    -- so the new pointers come from the old ones, where just the blocks come back that the plan replaces
+    pub pointers_made : (freed : List ℕ) → AreFreed old new freed → AreMadeOf (block_count size) old blocks freed (pointers_of p.tree)
+    pointers_made freed are_freed = record {
+      named_from = λ address at named. ⊎_elim (λ is. inl (named-of_tree image (frame_of_size u size) old before held address is)) (λ there. inr (planned_at_address address there))
+          (named_from address (not_zero (block_count size) address at) named);
+      new_named = new_named;
+      freed_unnamed = λ address at there named.
+          freed-left image other (frame_of_size u size) (next_frame u size) bs old new before after held news planned leaves freed are_freed there.0 address there.1 (in_other address (not_zero (block_count size) address at) named);
+      stays_or_freed = λ address at named. ⊎_elim (λ stays. inl (of_other address stays)) (λ came. inr came)
+          (stays-or_freed image other (frame_of_size u size) (next_frame u size) bs old new before after held news planned leaves freed are_freed address
+          (tree-of_named image (frame_of_size u size) old before held address (not_zero (block_count size) address at) named));
+    }
+      where
+        planned_at_address : (address : ℕ) → IsNewAddress bs address → (i : ℕ) × (b : PlannedBlock) × (slice_get blocks i ≡ Some b) × (block_address b.index ≡ address)
+        planned_at_address address (i, n, there, is_at) =
+            let (b, there_b, is_b) = at-map new_block blocks i n there in
+            (i, b, there_b, ap (λ (x : NewBlock). x.address) is_b ∙ is_at)
 
     -- each block is that of a place of the new tree
     kind_is : (i : ℕ) (b : PlannedBlock) → slice_get blocks i ≡ Some b → (place : Place) × (number_at b.block 0 ≡ kind_of place)
@@ -157,6 +185,6 @@ module _ (image : List ℕ) (size : ℕ) (u : Uberblock) (chain : List LogPiece)
       each = each;
       records = records;
       log_unused = log_unused;
-      log_unnamed = λ named. ⊎_elim (λ old_tree. log_unused (inl old_tree)) log_left (named_from p.log_address some named);
+      log_unnamed = λ named. ⊎_elim (λ old_tree. log_unused (inl (subst (λ (r : Pointer). IsInTree image r p.log_address) root old_tree))) log_left (named_from p.log_address some named);
       log_lowest = λ address below is. ⊎_elim (λ is_used. inl is_used) (λ planned. inr (subst (λ (a : ℕ). IsNamed (pointers_of p.tree) a) planned.3 (new_named planned.0 planned.1 planned.2))) (log_lowest address below is);
     }

@@ -22,12 +22,9 @@ not_full : (e : PoolError) → IsSyncRefusal e → e ≡ NoSpace → ⊥
 not_full e (inl is) full = let no : Write ≡ NoSpace = sym is ∙ full in cc
 not_full e (inr is) full = let no : Flush ≡ NoSpace = sym is ∙ full in cc
 
--- a pool is not planned for want of blocks, or for want of memory
+-- a pool is not planned for want of blocks
 pub next_full : (holds : Type 0) (size : ℕ) (u : Uberblock) (pool : ReplayedPool) (e : PoolError) → e ≡ NoSpace → LacksBlocks size u pool → IsNextRefused holds size u pool e
 next_full holds size u pool e is lacks = record { kind = inl (inl is); sound = λ held. inl (inl is); full = λ full. lacks }
-
-pub next_lacks_memory : (holds : Type 0) (size : ℕ) (u : Uberblock) (pool : ReplayedPool) (e : PoolError) → e ≡ NoMemory → IsNextRefused holds size u pool e
-next_lacks_memory holds size u pool e is = record { kind = inl (inr is); sound = λ held. inl (inr is); full = λ full. absurd (let no : NoMemory ≡ NoSpace = sym is ∙ full in cc) }
 
 -- an import that had begun
 module _ (keeps : Bool) (moment : ℕ) (old mid new : Disk) (e : PoolError) where

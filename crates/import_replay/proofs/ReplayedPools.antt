@@ -157,8 +157,8 @@ module _ (size : ℕ) (u : Uberblock) (name : List ℕ) (tree : Tree) (slots : L
   pub sized : AreSized after.objects
   sized n = sized_object (finite.get after.objects n) n (bounded.objects n)
 
-  pub takes_place : TakesPlace (pending_ops group records) pool.tree.maps.items synced after
-  takes_place = allowed_ops_take_place (pending_ops group records) pool.tree.maps.items synced after (subst AreOpsAllowed (sym ops_are) (all_allowed records r.replayed.allowed)) leads mine.lengths
+  pub takes_place : TakesPlace (pending_ops group records) pool.tree.entries.items synced after
+  takes_place = allowed_ops_take_place (pending_ops group records) pool.tree.entries.items synced after (subst AreOpsAllowed (sym ops_are) (all_allowed records r.replayed.allowed)) leads mine.lengths
 
   pub estimate : estimate_of (map shape_of (pending_ops group records)) ≡ records_estimate placed
   estimate = estimates_add group records all_in_group ∙ same_estimate group records placed r.replayed.records_are

@@ -23,7 +23,7 @@ pub stopped_import : (holds : Type 0) (size : ℕ) (old mid before new : Disk) (
     → IsPrepared holds size u name tree slots chain pool next → holds → is_past_last u.group u.import_number ≡ false
     → IsStoppedSync (writes_of_next size u moment next) even_first e before new → IsImportStopped old new moment e
 stopped_import holds size old mid before new u name slots tree chain pool next moment even_first e flushed same read first is held within stopped =
-    let parts = prepared_parts holds size u name tree slots chain pool next is in
+    let parts = prepared_parts holds size u name tree slots chain pool next is (bytes_of old.now) read held in
     inr (record {
       u = u;
       name = name;

@@ -22,7 +22,7 @@ use Rattle.object_maps.specs.Pointers.{pointers_of}
 use Rattle.space.proofs.Counts.{one_there}
 use Rattle.import_replay.specs.FreeBlocks.{AreUnused, IsNamed, IsUsedBy, chain_addresses}
 use Rattle.import_replay.specs.ReadPools.{HoldsPool, frame_of_size}
-use Rattle.import_replay.proofs.FreeBlocks.{contains-without}
+use Rattle.object_maps.proofs.FreeBlocks.{contains-without}
 use Rattle.import_replay.proofs.MountedPools.{named-of_tree, used_on_image}
 
 -- the addresses of those below the n-th that the set does not have

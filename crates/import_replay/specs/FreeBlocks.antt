@@ -1,5 +1,5 @@
 -- The free blocks of a tree and a chain, and the one that a plan leaves for the log.
-use Rattle.std.specs.Prelude.{ℕ, ◌≡◌, ◌≢◌, ◌<◌, ◌⊎◌, ◌==◌, ◌||◌, ◌&&◌, Bool, Contains, List, true, false, not, take}
+use Rattle.std.specs.Prelude.{ℕ, ◌≡◌, ◌≢◌, ◌<◌, ◌⊎◌, ◌||◌, Bool, Contains, List, true, false}
 use Rattle.std.specs.List.{flat_map, list_any}
 use Rattle.std.specs.Ordering.{nat_cmp}
 use Rattle.std.specs.FinSet as set
@@ -7,12 +7,12 @@ use Rattle.std.specs.FinSet.{FinSet}
 use Rattle.base.specs.declared.pointer.Pointer.{Pointer}
 use Rattle.base.specs.formats.Chain.{LogPiece, addresses_of}
 use Rattle.base.specs.formats.Geometry.{block_address, IsBlockAddress}
-use Rattle.base.specs.formats.Limits.{record_count}
 use Rattle.base.specs.tree.Places.{Place, IsPlace}
-use Rattle.object_maps.specs.declared.tree.ObjectMap.{ObjectMap}
+use Rattle.object_maps.specs.FreeBlocks.{BlocksTaken, is_block_at, tree_names}
 use Rattle.object_maps.specs.declared.tree.Tree.{Tree}
-use Rattle.space.specs.FreeSets.{FreeSpace, is_free}
+use Rattle.space.specs.FreeSets.{FreeSpace, after_take, is_free}
 use Rattle.tree_plans.specs.declared.planner.PlannedBlock.{PlannedBlock}
+use Rattle.tree_plans.specs.declared.planner.TreePlan.{TreePlan}
 
 -- the pointer at some place has this address
 abbrev pub IsNamed : (Place → Pointer) → ℕ → Type 0
@@ -39,22 +39,6 @@ pub record AreAllOthers (pointers : Place → Pointer) (blocks address : ℕ) (f
   pub not_taken : (other : ℕ) → set.contains free other ≡ true → other ≢ address
   pub others : (other : ℕ) → set.contains free other ≡ false → IsBlockAddress blocks other → IsNamed pointers other ⊎ (other ≡ address)
 
--- whether this is the address of the k-th block
-abbrev pub is_block_at : ℕ → ℕ → Bool
-is_block_at k address = address == block_address k
-
--- whether a pointer names the k-th block
-abbrev pub names_block : ℕ → Pointer → Bool
-names_block k pointer = is_block_at k pointer.address
-
--- whether one of an object's pointers does, of which the first `record_count` are to its records
-abbrev pub map_names : ℕ → ObjectMap → Bool
-map_names k map = names_block k map.indirect || list_any (names_block k) (take record_count map.records.items)
-
--- whether one of a tree's pointers does
-abbrev pub tree_names : ℕ → Tree → Bool
-tree_names k tree = names_block k tree.root || (list_any (names_block k) tree.directories.items || list_any (map_names k) tree.maps.items)
-
 -- whether a log block is the k-th block
 abbrev pub logs_block : ℕ → LogPiece → Bool
 logs_block k logged = is_block_at k logged.address
@@ -63,11 +47,9 @@ logs_block k logged = is_block_at k logged.address
 abbrev pub uses_block : ℕ → Tree → List LogPiece → Bool
 uses_block k tree chain = tree_names k tree || list_any (logs_block k) chain
 
--- of a set's blocks those of these numbers are taken, and nothing else has changed
-pub record BlocksTaken (is_taken : ℕ → Bool) (old new : FreeSpace) : Type 0 where
-  pub each : (k : ℕ) → k < old.blocks → is_free k new ≡ (is_free k old && not (is_taken k))
-  pub fewer : (address : ℕ) → set.contains new.free address ≡ true → set.contains old.free address ≡ true
-  pub rest : new ≡ record old { free = new.free }
+-- these addresses are free once more
+abbrev pub after_gives : List ℕ → FreeSpace → FreeSpace
+after_gives addresses s = record s { free = set.union s.free (set.from_list addresses) }
 
 -- whether one of these planned blocks is the k-th block
 abbrev pub plans_block : ℕ → PlannedBlock → Bool
@@ -86,3 +68,9 @@ pub record IsLowestLeft (spare : FreeSpace) (planned : List PlannedBlock) (block
 -- each free block of a set is planned
 abbrev pub AreAllPlanned : FreeSpace → List PlannedBlock → Type 0
 AreAllPlanned spare planned = (k : ℕ) → k < spare.blocks → is_free k spare ≡ true → is_planned k planned ≡ true
+
+-- Of a set's blocks those of a plan are taken. Then what the plan replaces comes back, and the first log block is taken.
+pub record IsLeftBy (plan : TreePlan) (log_block : ℕ) (old new : FreeSpace) : Type 0 where
+  pub left : FreeSpace
+  pub taken : BlocksTaken (λ k. is_planned k plan.blocks.items) old left
+  pub new_is : new ≡ after_take log_block (after_gives plan.freed.items left)

@@ -9,6 +9,7 @@ use Rattle.base.specs.crash.LogRoom.{records_estimate}
 use Rattle.base.specs.crash.Mount.{IsUsed, records_above}
 use Rattle.base.specs.declared.error.PoolError.{PoolError}
 use Rattle.base.specs.declared.error.PoolError.TheVariants.{NoSpace}
+use Rattle.base.specs.declared.pointer.Pointer.{Pointer}
 use Rattle.base.specs.disk.Disk.{bytes_of}
 use Rattle.base.specs.formats.Blocks.{Frame}
 use Rattle.base.specs.formats.Chain.{LogPiece}
@@ -24,10 +25,11 @@ use Rattle.base.specs.tree.Places.{IsPlace, Place}
 use Rattle.device_model.specs.declared.device.SectorDevice.{Ghosts}
 use Rattle.extents.specs.Synced.{patched_contents}
 use Rattle.extents.specs.Tables.{name_of, patches_of}
-use Rattle.group_plans.specs.GroupPlans.{FitsIn, HoldsGroupObjects, IsHeldRefusal, IsPlanRefusal, IsShortOfBlocks, MakesGroupTree, TakesLowest, objects_with, plan_pointers}
+use Rattle.group_plans.specs.GroupPlans.{FitsIn, HoldsGroupObjects, IsHeldRefusal, IsPlanRefusal, IsShortOfBlocks, MakesReadTree, TakesLowest, objects_with, plan_pointers}
 use Rattle.group_plans.specs.Pointers.{lengths_after}
 use Rattle.log_replay.specs.Replays.{IsReplay}
 use Rattle.object_maps.specs.ContentsShown.{contents_of}
+use Rattle.object_maps.specs.FreeBlocks.{AreUnnamed}
 use Rattle.object_maps.specs.Lengths.{HasLengthsOf, lengths_of}
 use Rattle.object_maps.specs.Loading.{IsLimitedObject}
 use Rattle.object_maps.specs.Pointers.{objects_of, pointers_of}
@@ -38,7 +40,7 @@ use Rattle.space.specs.FreeSets.{IsIdle}
 use Rattle.tree_plans.specs.Plans.{address_of}
 use Rattle.tree_plans.specs.declared.planner.PlannedBlock.{PlannedBlock}
 use Rattle.tree_plans.specs.declared.planner.TreePlan.{TreePlan}
-use Rattle.import_replay.specs.FreeBlocks.{AreAllOthers, AreAllPlanned, AreUnused, IsLowestLeft, IsNamed, chain_addresses}
+use Rattle.import_replay.specs.FreeBlocks.{AreAllOthers, AreAllPlanned, AreUnused, IsLeftBy, IsLowestLeft, IsNamed, chain_addresses}
 use Rattle.import_replay.specs.ImportViews.{IsTreeMade, ViewTree}
 use Rattle.import_replay.specs.LabelSyncs.{AreApartIn}
 use Rattle.import_replay.specs.ReadPools.{frame_of_size}
@@ -65,12 +67,16 @@ tree_of p = record { pointers = pointers_of p.tree; contents = contents_of p.con
 abbrev pub next_frame : Uberblock → ℕ → Frame
 next_frame u size = record { version = written_version; guid = u.guid; blocks = block_count size; group = u.group + 4 }
 
--- On a device of so many bytes the pool has contents within the limits, and a tree of blocks of the area that has their
--- lengths. The first log block lies in the area, and the free blocks are all others.
-pub record ArePartsFor (size : ℕ) (p : PoolParts) : Type 0 where
+-- the pool has contents within the limits, and a tree that has their lengths
+pub record AreWithinLimits (p : PoolParts) : Type 0 where
   pub named : IsName p.contents.name
   pub bounded : (n : ℕ) → IfSome (finite.get (objects_of p.contents.slots.items) n) (IsLimitedObject n)
   pub lengths : HasLengthsOf p.tree (objects_of p.contents.slots.items)
+
+-- On a device of so many bytes it has such contents and such a tree. The first log block lies in the area, and the free
+-- blocks are all others.
+pub record ArePartsFor (size : ℕ) (p : PoolParts) : Type 0 where
+  pub within : AreWithinLimits p
   pub log_block : IsBlockAddress (block_count size) p.log_address
   pub free : AreAllOthers (pointers_of p.tree) (block_count size) p.log_address p.free
 
@@ -100,11 +106,13 @@ abbrev pub synced_with : List ℕ → List Slot → history.Contents
 synced_with name slots = record { name = name; objects = objects_of slots }
 
 -- The pool that was loaded, with this name, this tree, these slots and this chain: the records of the chain above the
--- group were replayed on its contents, and the spare blocks are those that neither the tree nor the chain has.
+-- group were replayed on its contents. The free blocks are those that no pointer of the tree names, and the spare ones
+-- are no block of the chain either.
 pub record IsReplayedPool (size group : ℕ) (name : List ℕ) (tree : Tree) (slots : List Slot) (chain : List LogPiece) (pool : ReplayedPool) : Type 0 where
   pub tree_is : pool.tree ≡ tree
   pub name_is : pool.synced.name ≡ name
   pub slots_are : pool.synced.slots.items ≡ slots
+  pub free : AreUnnamed (block_count size) pool.tree pool.free
   pub spare : AreUnused (pointers_of pool.tree) (chain_addresses chain) (block_count size) pool.spare.free
   pub sized : pool.spare.blocks ≡ block_count size
   pub replayed : IsReplay group (contents_of pool.synced) chain pool.replayed
@@ -117,24 +125,25 @@ objects_replayed pool = objects_with pool.replayed.extents pool.synced
 abbrev pub HoldsLoaded : {Dev : Type 0} (D : Ghosts Dev) (device : Dev) → ℕ → Uberblock → ReplayedPool → Type 0
 HoldsLoaded D device size u pool = IsTrue D.keeps_model × HoldsTree (bytes_of (D.disk device).now) (frame_of_size u size) (pointers_of pool.tree) (contents_of pool.synced).objects
 
--- a plan makes of its tree that of these objects, as the tree of an import's group
-abbrev pub MakesNextTree : ℕ → Uberblock → ReplayedPool → TreePlan → Type 0
-MakesNextTree size u pool plan = MakesGroupTree (next_frame u size) pool.tree pool.replayed.records.items (objects_replayed pool) plan
+-- a plan makes of its tree that of these objects, as the tree of an import's group, whichever pointers to records were
+-- read
+abbrev pub MakesReadNext : ℕ → Uberblock → ReplayedPool → TreePlan → Type 0
+MakesReadNext size u pool plan = MakesReadTree (next_frame u size) pool.tree pool.replayed.records.items (objects_replayed pool) plan
 
--- and its blocks hold them
+-- and so from the pointers of the tree, with blocks that hold the objects
 abbrev pub HoldsNextObjects : ℕ → Uberblock → ReplayedPool → TreePlan → Type 0
 HoldsNextObjects size u pool plan = HoldsGroupObjects (next_frame u size) pool.tree pool.replayed.records.items (objects_replayed pool) plan
 
 -- the spare blocks are too few for that tree
 abbrev pub IsShortPlan : Uberblock → ReplayedPool → Type 0
-IsShortPlan u pool = IsShortOfBlocks (u.group + 4) pool.replayed.records.items pool.tree.maps.items (pointers_of pool.tree) (objects_replayed pool) (rising pool.spare.free)
+IsShortPlan u pool = (old : Place → Pointer) × IsShortOfBlocks (u.group + 4) pool.replayed.records.items pool.tree.entries.items old (objects_replayed pool) (rising pool.spare.free)
 
 abbrev pub TellsShortPlan : Uberblock → ReplayedPool → PoolError → Type 0
 TellsShortPlan u pool e = e ≡ NoSpace → IsShortPlan u pool
 
 -- or its plan takes all of them, and leaves none for the log
 abbrev pub TakesAll : ℕ → Uberblock → ReplayedPool → Type 0
-TakesAll size u pool = (plan : TreePlan) × MakesNextTree size u pool plan × AreAllPlanned pool.spare plan.blocks.items
+TakesAll size u pool = (plan : TreePlan) × MakesReadNext size u pool plan × AreAllPlanned pool.spare plan.blocks.items
 
 abbrev pub LacksBlocks : ℕ → Uberblock → ReplayedPool → Type 0
 LacksBlocks size u pool = IsShortPlan u pool ⊎ TakesAll size u pool
@@ -148,12 +157,12 @@ pub record IsNextRefused (holds : Type 0) (size : ℕ) (u : Uberblock) (pool : R
 
 -- The pool has the tree of a plan, which takes the lowest spare blocks, and the contents that the records leave. Where
 -- this holds, the plan's blocks hold the objects of these. The first log block is the lowest spare one that the plan
--- leaves, and the free blocks are those of neither.
+-- leaves. The free blocks are those that were free, without these, and with those that the plan replaces.
 pub record IsPlannedFrom (holds : Type 0) (size : ℕ) (u : Uberblock) (pool : ReplayedPool) (next : NextPool) : Type 0 where
   pub plan : TreePlan
   pub fits : FitsIn size plan
   pub taken : TakesLowest pool.spare.free plan
-  pub made : MakesNextTree size u pool plan
+  pub made : MakesReadNext size u pool plan
   pub objects : holds → HoldsNextObjects size u pool plan
   pub blocks_are : next.blocks.items ≡ plan.blocks.items
   pub pointers : (place : Place) → IsPlace place → pointers_of next.tree place ≡ plan_pointers pool.tree plan place
@@ -162,7 +171,7 @@ pub record IsPlannedFrom (holds : Type 0) (size : ℕ) (u : Uberblock) (pool : R
   pub log_block : ℕ
   pub log_is : next.log_address ≡ block_address log_block
   pub lowest : IsLowestLeft pool.spare plan.blocks.items log_block
-  pub free : AreAllOthers (pointers_of next.tree) (block_count size) next.log_address next.free.free
+  pub free : IsLeftBy plan log_block pool.free next.free
   pub sized : next.free.blocks ≡ block_count size
   pub idle : IsIdle next.free
   pub records_are : next.records ≡ length pool.replayed.records.items

@@ -14,16 +14,21 @@ ghost use Rattle.base.specs.formats.Geometry.{block_address, block_count};
 ghost use Rattle.base.specs.history.Contents.{Contents};
 ghost use Rattle.base.specs.tree.Places.{IsInTree, data_pointer, indirect_pointer};
 ghost use Rattle.base.specs.tree.Syncs.{is_on};
+ghost use Rattle.group_plans.specs.Areas.{AreBlocksOf};
 ghost use Rattle.object_maps.specs.ContentsShown.{contents_of};
 ghost use Rattle.object_maps.specs.Surveys.{listed};
+ghost use Rattle.space.specs.FreeSets.{is_free};
 ghost use Rattle.import_replay.specs.TakenBlocks.{ChangesBlock, KeepsBlock};
 
 use crate::creation::create;
+use crate::free_blocks::give_all;
 use crate::imported::Imported;
 use crate::importing::{import, import_with};
 use crate::inspection::{Inspected, inspect};
 use base::{Group, PoolError};
 use device_model::SectorDevice;
+use labels::Geometry;
+use space::FreeSet;
 use std::alloc::Global;
 
 // A pool that was just made is found and imported by its name, as group 8 and import 1.
@@ -109,6 +114,26 @@ fn a_cache_has_its_size<D: SectorDevice>(
     ensures empty { IfOk result (λ i. i.cache.entries ≡ []) }
 {
     import_with(alloc, device, 1_048_576, 2, 0)
+}
+
+// An import that is told no number of cache blocks lets 256 stay in memory.
+fn an_import_lets_256_blocks_stay<D: SectorDevice>(
+    alloc: Global,
+    device: D,
+) -> Result<Imported<D>, (PoolError, D)>
+    ensures { IfOk result (λ i. i.cache.cap ≡ 256) }
+{
+    import(alloc, device, 1_048_576, 0)
+}
+
+// The block at address 4,198,400 comes back: block 1 is free then.
+fn a_block_that_comes_back_is_free(free: &mut FreeSet, geometry: Geometry, addresses: &[u64])
+    requires count { free.old.blocks ≡ block_count geometry }
+    requires placed { AreBlocksOf (block_count geometry) addresses.now }
+    requires addresses { addresses.now ≡ 4198400 ∷ [] }
+    ensures { is_free 1 free.new ≡ true }
+{
+    give_all(free, geometry, addresses);
 }
 
 // If an import synced group 9 and replayed 3 records, `group` returns 9 and `records` returns 3.

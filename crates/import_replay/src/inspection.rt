@@ -1,4 +1,5 @@
-//! What an import would mount, found by reads alone. No object's bytes stay in memory; their lengths are reported.
+//! What an import would mount, found by reads alone. No object's bytes and no pointer to a record stay in memory. The
+//! lengths of the objects are reported.
 
 ghost use Rattle.std.specs.Prelude.{◌≡◌, IfErr, IfOk, IsTrue, OnOk};
 ghost use Rattle.base.specs.disk.Disk.{bytes_of};
@@ -8,7 +9,7 @@ ghost use Rattle.uberblocks.specs.Slots.{fields_of};
 ghost use Rattle.import_replay.specs.Inspections.{AgreesWithImports, IsInspectedFrom, IsInspectionOf, IsToldOfBounded};
 ghost use Rattle.import_replay.specs.Refused.{IsInspectionRefused};
 
-use crate::free_blocks::free_set;
+use crate::free_blocks::take_logged;
 use crate::reading::survey_pool;
 use base::{Group, ObjectId, PoolError, PoolName};
 use device_model::SectorDevice;
@@ -63,8 +64,8 @@ pub fn inspect<D: SectorDevice>(alloc: Global, device: &mut D) -> Result<Inspect
         (IsInspectionRefused D.SectorDevice device.old device.new) }
 {
     let geometry = Geometry::of(device.sectors())?;
-    let (found, tree, logged) = survey_pool(alloc, device, geometry)?;
-    let free = free_set(alloc, geometry, &tree, &logged)?;
+    let (found, tree, mut free, logged) = survey_pool(alloc, device, geometry)?;
+    take_logged(&mut free, geometry, &logged);
     let mut outline = Outline {
         name: found.name,
         tree,

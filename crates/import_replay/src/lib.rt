@@ -16,6 +16,7 @@ mod next_pool;
 mod reading;
 
 pub use creation::create;
+pub use free_blocks::give_all;
 pub use imported::Imported;
 pub use importing::{import, import_with};
 pub use inspection::{Inspected, inspect};

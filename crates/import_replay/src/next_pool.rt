@@ -1,10 +1,11 @@
 //! What an import makes of the pool that it read, before it writes: the records of the chain are replayed, and the tree
-//! that they leave is planned. The plan reads each data block that they change in part. All memory of the import is
-//! taken here.
+//! that they leave is planned. The plan reads the indirect block of each object that they change, and each data block
+//! that they change in part. All memory of the import is taken here.
 //!
 //! The blocks of the old tree and of the chain stay as they are until the sync is done, so that a crash finds one pool
 //! or the other: the new blocks and the first log block are none of them. After the sync the free blocks are all but
-//! those of the new tree and the first log block.
+//! those of the new tree and the first log block. They are told from those that the load found: the blocks of the plan
+//! are taken, and what the plan replaces comes back. So the new tree isn't walked.
 
 ghost use Rattle.std.specs.Prelude.{◌≡◌, ◌<◌, ℕ, false, IfErr, IfOk};
 ghost use Rattle.base.specs.crash.Imports as numbers;
@@ -17,24 +18,25 @@ ghost use Rattle.device_model.specs.Reading.{OnlyReads};
 ghost use Rattle.group_plans.specs.GroupPlans.{FitsIn, IsHeldRefusal, IsPlanRefusal, TakesLowest, plan_pointers};
 ghost use Rattle.group_plans.specs.Pointers.{lengths_after};
 ghost use Rattle.log_replay.specs.Replays.{IsChainAllowed, IsReplayCause, IsReplayRefusal};
+ghost use Rattle.object_maps.specs.FreeBlocks.{AreUnnamed};
 ghost use Rattle.object_maps.specs.Lengths.{lengths_of};
 ghost use Rattle.object_maps.specs.Pointers.{pointers_of};
 ghost use Rattle.uberblocks.specs.Slots.{fields_of};
 ghost use Rattle.import_replay.specs.Devices.{IsSizedFor};
-ghost use Rattle.import_replay.specs.NextPools.{HoldsLoaded, HoldsNextObjects, IsNextRefused, IsPlannedFrom, IsReplayedPool, MakesNextTree, TellsShortPlan, synced_with};
+ghost use Rattle.import_replay.specs.NextPools.{HoldsLoaded, HoldsNextObjects, IsNextRefused, IsPlannedFrom, IsReplayedPool, MakesReadNext, TellsShortPlan, synced_with};
 
 use crate::finding::{Found, copy_name};
-use crate::free_blocks::{free_set, lowest_left};
+use crate::free_blocks::{give_all, lowest_left, take_logged, take_planned};
 use crate::reading::frame_of;
 use base::{Group, PoolError};
-use group_plans::plan_group;
+use group_plans::{GroupSource, plan_group};
 use intent_log::LoggedBlock;
 use labels::Geometry;
 use log_replay::{Replayed, replay};
 use object_maps::{BlockReader, Contents, Loaded, Tree};
 use space::FreeSet;
 use std::alloc::Global;
-use tree_plans::{PlanSource, PlannedBlock, TreePlan};
+use tree_plans::{PlannedBlock, TreePlan};
 use uberblocks::Uberblock;
 
 /// A pool that was read, with the records of its chain replayed.
@@ -44,6 +46,8 @@ pub(crate) struct ReplayedPool {
     pub tree: Tree,
     /// The pool's name and the lengths of the objects of that tree, whose bytes are told.
     pub synced: Contents,
+    /// The blocks that no pointer of that tree names.
+    pub free: FreeSet,
     /// The blocks that neither that tree nor the chain has.
     pub spare: FreeSet,
     /// What the records of the chain change of these objects, and the records.
@@ -75,7 +79,8 @@ pub(crate) fn replay_pool(
     loaded: Loaded,
     logged: Vec<LoggedBlock>,
 ) -> Result<ReplayedPool, PoolError>
-    requires { IsChainAllowed logged.items }
+    requires allowed { IsChainAllowed logged.items }
+    requires free { AreUnnamed (block_count geometry) loaded.tree loaded.free }
     ensures replayed { IfOk result (IsReplayedPool geometry found.now.uberblock.group.0
         found.now.name loaded.tree loaded.slots.items logged.items) }
     ensures refused { IfErr result (IsReplayRefusal
@@ -83,12 +88,14 @@ pub(crate) fn replay_pool(
         (synced_with found.now.name loaded.slots.items)) }
     ensures cause { IfErr result IsReplayCause }
 {
-    let spare = free_set(alloc, geometry, &loaded.tree, &logged)?;
+    let mut spare = loaded.free.copy(alloc)?;
+    take_logged(&mut spare, geometry, &logged);
     let synced = Contents::of(copy_name(&found.name), loaded.slots);
     let replayed = replay(alloc, found.uberblock.group, &synced, logged)?;
     Ok(ReplayedPool {
         tree: loaded.tree,
         synced,
+        free: loaded.free,
         spare,
         replayed,
     })
@@ -106,6 +113,7 @@ pub(crate) fn plan_pool<B: BlockReader>(
     requires device { IsSizedFor B.SectorDevice geometry reader.old }
     requires within { numbers.is_past_last uberblock.now.group.0 uberblock.now.import_number
         ≡ false }
+    requires free { AreUnnamed (block_count geometry) pool.tree pool.free }
     requires sized { pool.spare.blocks ≡ block_count geometry }
     requires placed { ∥ ArePlaced (block_count geometry) (pointers_of pool.tree) ∥₁ }
     ensures reads { OnlyReads B.SectorDevice result reader.old reader.new }
@@ -120,14 +128,16 @@ pub(crate) fn plan_pool<B: BlockReader>(
     let ReplayedPool {
         tree,
         mut synced,
+        mut free,
         spare,
         replayed,
     } = pool;
     let log_block = lowest_left(spare, &planned.blocks)?;
+    take_planned(&mut free, &planned.blocks);
+    give_all(&mut free, geometry, &planned.freed);
+    free.take(log_block);
     replayed.extents.lay_into(&mut synced);
     let (tree, blocks) = with_plan(tree, planned);
-    let mut free = free_set(alloc, geometry, &tree, &[])?;
-    free.take(log_block);
     Ok(NextPool {
         blocks,
         tree,
@@ -138,8 +148,9 @@ pub(crate) fn plan_pool<B: BlockReader>(
     })
 }
 
-// The tree that the records leave, planned as that of the import's group. The data blocks that they change in part are
-// read, for rising objects and in each for rising blocks.
+// The tree that the records leave, planned as that of the import's group. The indirect blocks of the objects that they
+// change are read, rising, and then the data blocks that they change in part, for rising objects and in each for rising
+// blocks.
 fn plan_tree<B: BlockReader>(
     alloc: Global,
     reader: &mut B,
@@ -155,7 +166,7 @@ fn plan_tree<B: BlockReader>(
     ensures reads { OnlyReads B.SectorDevice result reader.old reader.new }
     ensures fits { IfOk result (FitsIn geometry) }
     ensures taken { IfOk result (TakesLowest pool.now.spare.free) }
-    ensures tree { IfOk result (MakesNextTree geometry (fields_of uberblock.now) pool.now) }
+    ensures tree { IfOk result (MakesReadNext geometry (fields_of uberblock.now) pool.now) }
     ensures objects { HoldsLoaded B.SectorDevice reader.old geometry
         (fields_of uberblock.now) pool.now
         → IfOk result (HoldsNextObjects geometry (fields_of uberblock.now) pool.now) }
@@ -166,7 +177,7 @@ fn plan_tree<B: BlockReader>(
         → IfErr result IsHeldRefusal }
 {
     let before = frame_of(uberblock, geometry);
-    let source = PlanSource {
+    let source = GroupSource {
         alloc,
         geometry,
         guid: uberblock.guid,

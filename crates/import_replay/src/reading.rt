@@ -1,11 +1,14 @@
 //! What an import and an inspection read: the pool that a device has, the tree under its root, and then the chain of
-//! log blocks. Both keep the lengths of the objects; an import is told their bytes as well.
+//! log blocks. Both keep the lengths of the objects, the tree's pointers down to its indirect blocks, and a flag for
+//! each block: whether the tree leaves it free. No pointer to a record stays in memory. An import is told the bytes of
+//! the objects as well.
 
 ghost use Rattle.std.specs.Prelude.{◌≡◌, All, IfErr, IfOk, IsTrue};
 ghost use Rattle.base.specs.disk.Disk.{bytes_of};
 ghost use Rattle.base.specs.formats.Geometry.{block_count};
 ghost use Rattle.base.specs.crash.Mount.{IsChainOf};
 ghost use Rattle.device_model.specs.Reading.{OnlyReads};
+ghost use Rattle.object_maps.specs.FreeBlocks.{AreUnnamed};
 ghost use Rattle.uberblocks.specs.Slots.{fields_of};
 ghost use Rattle.intent_log.specs.Chains.{IsChainRefusal, IsSoundBlock};
 ghost use Rattle.import_replay.specs.Devices.{IsSizedFor};
@@ -21,10 +24,12 @@ use device_model::SectorDevice;
 use intent_log::{ChainHeader, LoggedBlock, chain};
 use labels::Geometry;
 use object_maps::{Loaded, Tree, load, survey};
+use space::FreeSet;
 use std::alloc::Global;
 use uberblocks::Uberblock;
 
-// The pool of a device, with its tree, the lengths of its objects, and its chain. The bytes of the objects are told.
+// The pool of a device, with its tree, the lengths of its objects, the blocks that the tree leaves free, and its chain.
+// The bytes of the objects are told.
 // Nothing is written, and nothing is flushed.
 pub(crate) fn read_pool<D: SectorDevice>(
     alloc: Global,
@@ -36,6 +41,7 @@ pub(crate) fn read_pool<D: SectorDevice>(
     ensures refused { IfErr result IsWalkRefusal }
     ensures loaded { IfOk result (λ r. IsLoadedFor (fields_of r.0.uberblock) (block_count geometry)
         r.1.tree r.1.slots.items r.2.items) }
+    ensures free { IfOk result (λ r. AreUnnamed (block_count geometry) r.1.tree r.1.free) }
     ensures pool { IsTrue D.keeps_model
         → IfOk result (λ r. IsReadPool (bytes_of (D.disk device.old).now) geometry
         (fields_of r.0.uberblock) r.0.name r.1.tree r.1.slots.items r.2.items) }
@@ -52,27 +58,28 @@ pub(crate) fn read_pool<D: SectorDevice>(
     Ok((found, loaded, logged))
 }
 
-// The pool of a device, with its tree and its chain, by the same reads; no object's bytes stay. Nothing is written,
-// and nothing is flushed.
+// The pool of a device, with its tree, the blocks that the tree leaves free, and its chain, by the same reads; no
+// object's bytes are told. Nothing is written, and nothing is flushed.
 pub(crate) fn survey_pool<D: SectorDevice>(
     alloc: Global,
     device: &mut D,
     geometry: Geometry,
-) -> Result<(Found, Tree, Vec<LoggedBlock>), PoolError>
+) -> Result<(Found, Tree, FreeSet, Vec<LoggedBlock>), PoolError>
     requires sized { IsSizedFor D.SectorDevice geometry device.old }
     ensures reads { OnlyReads D.SectorDevice result device.old device.new }
     ensures refused { IfErr result IsWalkRefusal }
     ensures surveyed { IfOk result (λ r. IsSurveyedFor D.keeps_model
         (bytes_of (D.disk device.old).now) geometry (fields_of r.0.uberblock) r.0.name r.1
-        r.2.items) }
+        r.3.items) }
+    ensures free { IfOk result (λ r. AreUnnamed (block_count geometry) r.1 r.2) }
     ensures reason { IsTrue D.keeps_model
         → IfErr result (IsReason (bytes_of (D.disk device.old).now)) }
 {
     let found = find_pool(alloc, device, geometry)?;
     let frame = frame_of(&found.uberblock, geometry);
-    let tree = survey(alloc, device, &frame, found.uberblock.root)?;
+    let (tree, free) = survey(alloc, device, &frame, found.uberblock.root)?;
     let logged = read_chain(alloc, device, geometry, &found)?;
-    Ok((found, tree, logged))
+    Ok((found, tree, free, logged))
 }
 
 // The chain of log blocks that the active uberblock of a pool begins.

@@ -132,7 +132,7 @@ impl Outline {
         requires { id.0 < object_count }
         ensures { result ≡ lengths_of self.now.tree id.0 }
     {
-        self.tree.maps[id.0 as usize].length
+        self.tree.entries[id.0 as usize].length
     }
 
     fn set_length(&mut self, id: ObjectId, length: Option<u64>)
@@ -141,6 +141,6 @@ impl Outline {
         ensures length { lengths_of self.new.tree id.0 ≡ length }
         ensures others { (n : ℕ) → n ≢ id.0 → lengths_of self.new.tree n ≡ lengths_of self.old.tree n }
     {
-        self.tree.maps[id.0 as usize].length = length;
+        self.tree.entries[id.0 as usize].length = length;
     }
 }

@@ -1,7 +1,8 @@
 use Rattle.std.proofs.Common.{◌≡◌, take}
 use Rattle.std.specs.List.{list_any}
 use Rattle.base.specs.formats.Geometry.{block_count}
-use Rattle.import_replay.specs.FreeBlocks.{BlocksTaken, logs_block}
+use Rattle.object_maps.specs.FreeBlocks.{BlocksTaken}
+use Rattle.import_replay.specs.FreeBlocks.{logs_block}
 use Rattle.import_replay.proofs.free_blocks.take_logged.Given as goal
 
 -- the blocks of the chain so far are taken

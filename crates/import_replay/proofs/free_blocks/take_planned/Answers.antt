@@ -1,5 +1,6 @@
 use Rattle.import_replay.specs.FreeBlocks.{plans_block}
-use Rattle.import_replay.proofs.FreeBlocks.{number_taken, taken_more}
+use Rattle.object_maps.proofs.FreeBlocks.{taken_more}
+use Rattle.import_replay.proofs.FreeBlocks.{number_taken}
 use Rattle.import_replay.proofs.free_blocks.take_planned.Goals as goal
 
 pub loop-block-preserved : goal.loop-block-preserved

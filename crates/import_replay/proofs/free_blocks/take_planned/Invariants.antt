@@ -1,6 +1,7 @@
 use Rattle.std.proofs.Common.{take}
 use Rattle.std.specs.List.{list_any}
-use Rattle.import_replay.specs.FreeBlocks.{BlocksTaken, plans_block}
+use Rattle.object_maps.specs.FreeBlocks.{BlocksTaken}
+use Rattle.import_replay.specs.FreeBlocks.{plans_block}
 use Rattle.import_replay.proofs.free_blocks.take_planned.Given as goal
 
 -- the planned blocks so far are taken

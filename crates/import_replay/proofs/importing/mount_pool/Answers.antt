@@ -1,16 +1,12 @@
 use Rattle.std.proofs.Common.{◌≡◌, ℕ, Bool, List, ap, refl, sym, subst, ◌∙◌}
-use Rattle.std.specs.Prelude.{OnOk}
 use Rattle.base.specs.declared.error.PoolError.TheVariants.{TooMany}
 use Rattle.base.specs.disk.Disk.{Disk, bytes_of}
 use Rattle.base.specs.formats.Chain.{LogPiece}
 use Rattle.base.specs.formats.Uberblocks.{Uberblock}
-use Rattle.labels.specs.declared.stage.Stage.{Stage}
 use Rattle.object_maps.specs.declared.contents.Slot.{Slot}
 use Rattle.object_maps.specs.declared.tree.Tree.{Tree}
 use Rattle.uberblocks.specs.Slots.{fields_of}
 use Rattle.import_replay.specs.Found.{HasFirstStage}
-use Rattle.import_replay.specs.ImportStops.{writes_of_next}
-use Rattle.import_replay.specs.ImportViews.{EndsBehind, KeepsViews}
 use Rattle.import_replay.specs.LabelSyncs.{is_even}
 use Rattle.import_replay.specs.Mounts.{IsMountedAnew}
 use Rattle.import_replay.specs.NextPools.{HoldsLoaded, parts_of}
@@ -18,8 +14,9 @@ use Rattle.import_replay.specs.declared.next_pool.NextPool.{NextPool}
 use Rattle.import_replay.specs.declared.next_pool.ReplayedPool.{ReplayedPool}
 use Rattle.import_replay.proofs.Configs.{err_weaker, ok_weaker, ok_both}
 use Rattle.import_replay.proofs.MountedPools.{mounted_anew}
-use Rattle.import_replay.proofs.NextPools.{IsPrepared, chain_allowed, is_import, lacks_room, last_numbers, loaded_held, loaded_placed, prepared_mounts, prepared_over, prepared_parts, prepared_ready, reason_of_replay}
-use Rattle.import_replay.proofs.OwnImports.{kept_before, kept_own, kept_unwritten, starts_run}
+use Rattle.import_replay.proofs.NextPools.{IsPrepared, chain_allowed, is_import, lacks_room, last_numbers, loaded_held, loaded_placed, prepared_over, prepared_ready, prepared_within, reason_of_replay}
+use Rattle.import_replay.proofs.OwnImports.{kept_before, kept_unwritten}
+use Rattle.import_replay.proofs.OwnMounts.{own_kept, run_started}
 use Rattle.import_replay.proofs.ReadPools.{flushed, read_behind_flush}
 use Rattle.import_replay.proofs.Reasons.{passed_on}
 use Rattle.import_replay.proofs.Refused.{flush_refused, next_refused, numbers_refused, open_refused, reading_refused, replay_refused}
@@ -27,8 +24,8 @@ use Rattle.import_replay.proofs.StoppedImports.{stopped_import}
 use Rattle.import_replay.proofs.WrittenImports.{ok_written}
 use Rattle.import_replay.proofs.importing.mount_pool.Goals as goal
 
-pub replay_pool-requires : goal.replay_pool-requires
-replay_pool-requires g c = chain_allowed c.args.geometry c.in_ok-found.logged.items c.in_ok-found.ensures.loaded.sound
+pub replay_pool-requires-clause-allowed : goal.replay_pool-requires-clause-allowed
+replay_pool-requires-clause-allowed g c = chain_allowed c.args.geometry c.in_ok-found.logged.items c.in_ok-found.ensures.loaded.sound
 
 pub plan_pool-requires-clause-sized : goal.plan_pool-requires-clause-sized
 plan_pool-requires-clause-sized g c = c.in_ok-replayed.ensures.replayed.sized
@@ -51,7 +48,7 @@ returns-clause-mounted g c =
     let is : IsPrepared (HoldsLoaded g.B.SectorDevice c.read_pool.new.device size u pool) size u name tree slots chain pool next =
     record { named = c.in_ok-found.found.named; loaded = c.in_ok-found.ensures.loaded; replayed = c.in_ok-replayed.ensures.replayed; planned = c.in_ok-next.ensures.planned } in
     ok_weaker c.open_pool.result _ (IsMountedAnew size c.args.dirty_max)
-    (λ m h. mounted_anew size u (parts_of next) c.args.dirty_max m h (prepared_parts _ size u name tree slots chain pool next is) c.requires.can.allowed) c.open_pool.ensures.mounted
+    (λ m h. mounted_anew size u (parts_of next) c.args.dirty_max m h (prepared_within _ size u name tree slots chain pool next is) c.requires.can.allowed) c.open_pool.ensures.mounted
 
 pub returns-clause-imported : goal.returns-clause-imported
 returns-clause-imported g c = λ keeps.
@@ -233,7 +230,6 @@ pub returns-clause-own : goal.returns-clause-own
 returns-clause-own g c = λ keeps.
     let u : Uberblock = fields_of c.in_ok-found.found.uberblock in
     let name : List ℕ = c.in_ok-found.found.name in
-    let first : Stage = c.in_ok-found.found.first in
     let tree : Tree = c.in_ok-found.loaded.tree in
     let slots : List Slot = c.in_ok-found.loaded.slots.items in
     let chain : List LogPiece = c.in_ok-found.logged.items in
@@ -242,23 +238,17 @@ returns-clause-own g c = λ keeps.
     let size : ℕ = c.args.geometry in
     let is : IsPrepared (HoldsLoaded g.B.SectorDevice c.read_pool.new.device size u pool) size u name tree slots chain pool next =
     record { named = c.in_ok-found.found.named; loaded = c.in_ok-found.ensures.loaded; replayed = c.in_ok-replayed.ensures.replayed; planned = c.in_ok-next.ensures.planned } in
-    let old = g.B.SectorDevice.disk c.args.device.now in
     let mid = g.B.SectorDevice.disk c.flush.new.self in
-    let new = g.B.SectorDevice.disk c.open_pool.new.device in
-    let flushes = c.in_ok-flush.ensures.disk keeps in
     let read = c.in_ok-found.ensures.pool keeps in
-    let stage = c.in_ok-found.ensures.first keeps in
     let still = c.read_pool.ensures.reads.disk keeps in
-    let held = loaded_held size u name tree slots chain pool is.replayed mid _ still read in
-    kept_own old mid flushes size u name first read.long read.pool stage next c.args.moment chain (prepared_parts _ size u name tree slots chain pool next is)
-    (prepared_over _ size u name tree slots chain pool next is (bytes_of mid.now) read (keeps, held)) (prepared_mounts _ size u name tree slots chain pool next is (bytes_of mid.now) read (keeps, held))
-    new (subst (λ (d : Disk). KeepsViews (writes_of_next size u c.args.moment next) first d new) (c.plan_pool.ensures.reads.disk keeps ∙ still) (c.open_pool.ensures.views keeps))
+    own_kept _ size u name c.in_ok-found.found.first tree slots chain pool next is (keeps, loaded_held size u name tree slots chain pool is.replayed mid _ still read) c.args.moment
+    (g.B.SectorDevice.disk c.args.device.now) mid _ (g.B.SectorDevice.disk c.open_pool.new.device) (c.in_ok-flush.ensures.disk keeps) read (c.in_ok-found.ensures.first keeps)
+    (c.plan_pool.ensures.reads.disk keeps ∙ still) (c.open_pool.ensures.views keeps)
 
 pub returns-clause-starts : goal.returns-clause-starts
 returns-clause-starts g c = λ keeps.
     let u : Uberblock = fields_of c.in_ok-found.found.uberblock in
     let name : List ℕ = c.in_ok-found.found.name in
-    let first : Stage = c.in_ok-found.found.first in
     let tree : Tree = c.in_ok-found.loaded.tree in
     let slots : List Slot = c.in_ok-found.loaded.slots.items in
     let chain : List LogPiece = c.in_ok-found.logged.items in
@@ -267,22 +257,14 @@ returns-clause-starts g c = λ keeps.
     let size : ℕ = c.args.geometry in
     let is : IsPrepared (HoldsLoaded g.B.SectorDevice c.read_pool.new.device size u pool) size u name tree slots chain pool next =
     record { named = c.in_ok-found.found.named; loaded = c.in_ok-found.ensures.loaded; replayed = c.in_ok-replayed.ensures.replayed; planned = c.in_ok-next.ensures.planned } in
-    let old = g.B.SectorDevice.disk c.args.device.now in
     let mid = g.B.SectorDevice.disk c.flush.new.self in
-    let new = g.B.SectorDevice.disk c.open_pool.new.device in
-    let flushes = c.in_ok-flush.ensures.disk keeps in
     let read = c.in_ok-found.ensures.pool keeps in
-    let stage = c.in_ok-found.ensures.first keeps in
     let still = c.read_pool.ensures.reads.disk keeps in
-    let same = c.plan_pool.ensures.reads.disk keeps ∙ still in
-    let held = loaded_held size u name tree slots chain pool is.replayed mid _ still read in
-    let views = subst (λ (d : Disk). KeepsViews (writes_of_next size u c.args.moment next) first d new) same (c.open_pool.ensures.views keeps) in
-    let ends = subst (λ (d : Disk). OnOk c.open_pool.result (EndsBehind (writes_of_next size u c.args.moment next) first d new)) same (c.open_pool.ensures.behind keeps) in
     ok_weaker c.open_pool.result _ _
-    (λ m h. starts_run old mid flushes size u name first read.long read.pool stage next c.args.moment chain (prepared_parts _ size u name tree slots chain pool next is)
-    (prepared_over _ size u name tree slots chain pool next is (bytes_of mid.now) read (keeps, held)) (prepared_mounts _ size u name tree slots chain pool next is (bytes_of mid.now) read (keeps, held))
-    new views c.args.dirty_max m h.0 h.1.0 h.1.1.settled)
-    (ok_both c.open_pool.result _ _ c.open_pool.ensures.mounted (ok_both c.open_pool.result _ _ ends (c.open_pool.ensures.written keeps)))
+    (λ m h. run_started _ size u name c.in_ok-found.found.first tree slots chain pool next is (keeps, loaded_held size u name tree slots chain pool is.replayed mid _ still read) c.args.moment
+    (g.B.SectorDevice.disk c.args.device.now) mid _ (g.B.SectorDevice.disk c.open_pool.new.device) (c.in_ok-flush.ensures.disk keeps) read (c.in_ok-found.ensures.first keeps)
+    (c.plan_pool.ensures.reads.disk keeps ∙ still) (c.open_pool.ensures.views keeps) c.args.dirty_max m h.0 h.1.0 h.1.1.settled)
+    (ok_both c.open_pool.result _ _ c.open_pool.ensures.mounted (ok_both c.open_pool.result _ _ (c.open_pool.ensures.behind keeps) (c.open_pool.ensures.written keeps)))
 
 pub open_pool-requires-clause-next : goal.open_pool-requires-clause-next
 open_pool-requires-clause-next g c =

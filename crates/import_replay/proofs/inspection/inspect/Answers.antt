@@ -7,8 +7,10 @@ use Rattle.base.specs.formats.Chain.{LogPiece}
 use Rattle.base.specs.formats.Geometry.{IsGeometry, block_count}
 use Rattle.uberblocks.specs.Slots.{fields_of}
 use Rattle.intent_log.specs.Chains.{IsSoundBlock}
-use Rattle.object_maps.specs.Pointers.{pointers_of}
-use Rattle.import_replay.specs.FreeBlocks.{AreUnused, chain_addresses}
+use Rattle.object_maps.specs.FreeBlocks.{BlocksTaken}
+use Rattle.std.specs.List.{list_any}
+use Rattle.import_replay.proofs.FreeBlocks.{unused-from_taken}
+use Rattle.import_replay.specs.FreeBlocks.{logs_block}
 use Rattle.log_replay.specs.Outlines.{ReplaysOutline}
 use Rattle.log_replay.specs.Replays.{IsBlockAllowed, IsChainAllowed}
 use Rattle.log_replay.specs.declared.outline.Outline.{Outline}
@@ -32,8 +34,9 @@ returns-clause-mounted g c = λ keeps.
     let last : Outline = c.replay.new.self in
     let replayed = subst (λ (bs : List LogPiece). ReplaysOutline (records_above group bs) first (Ok c.in_ok-records.records) last) c.deref-2.ensures.value c.in_ok-records.ensures in
     is_inspection g.D.SectorDevice.keeps_model image c.in_ok-geometry.geometry (fields_of found.uberblock) found.name found.named c.in_ok-found.tree c.in_ok-found.logged.items c.in_ok-found.ensures.surveyed
-    last c.in_ok-records.records replayed c.in_ok-lengths.lengths.items c.in_ok-lengths.ensures c.in_ok-free.free.free c.tell.result c.tell.ensures keeps
-    (subst (λ (bs : List LogPiece). AreUnused (pointers_of c.in_ok-found.tree) (chain_addresses bs) (block_count c.in_ok-geometry.geometry) c.in_ok-free.free.free) c.deref.ensures.value c.in_ok-free.ensures.free)
+    last c.in_ok-records.records replayed c.in_ok-lengths.lengths.items c.in_ok-lengths.ensures c.take_logged.new.free.free c.tell.result c.tell.ensures keeps
+    (unused-from_taken c.in_ok-found.tree c.in_ok-found.logged.items (block_count c.in_ok-geometry.geometry) c.in_ok-found.free c.take_logged.new.free c.in_ok-found.ensures.free
+    (subst (λ (bs : List LogPiece). BlocksTaken (λ k. list_any (logs_block k) bs) c.in_ok-found.free c.take_logged.new.free) c.deref.ensures.value c.take_logged.ensures.taken))
 
 pub returns-clause-agrees : goal.returns-clause-agrees
 returns-clause-agrees g c = λ keeps.
@@ -44,7 +47,7 @@ returns-clause-agrees g c = λ keeps.
     let last : Outline = c.replay.new.self in
     let replayed = subst (λ (bs : List LogPiece). ReplaysOutline (records_above group bs) first (Ok c.in_ok-records.records) last) c.deref-2.ensures.value c.in_ok-records.ensures in
     agrees_with_imports g.D.SectorDevice.keeps_model image c.in_ok-geometry.geometry (fields_of found.uberblock) found.name found.named c.in_ok-found.tree c.in_ok-found.logged.items c.in_ok-found.ensures.surveyed
-    last c.in_ok-records.records replayed c.in_ok-lengths.lengths.items c.in_ok-lengths.ensures c.in_ok-free.free.free c.tell.result c.tell.ensures keeps
+    last c.in_ok-records.records replayed c.in_ok-lengths.lengths.items c.in_ok-lengths.ensures c.take_logged.new.free.free c.tell.result c.tell.ensures keeps
 
 pub returns-clause-bounded : goal.returns-clause-bounded
 returns-clause-bounded g c =
@@ -55,7 +58,7 @@ returns-clause-bounded g c =
     let last : Outline = c.replay.new.self in
     let replayed = subst (λ (bs : List LogPiece). ReplaysOutline (records_above group bs) first (Ok c.in_ok-records.records) last) c.deref-2.ensures.value c.in_ok-records.ensures in
     is_told_bounded g.D.SectorDevice.keeps_model image c.in_ok-geometry.geometry (fields_of found.uberblock) found.name found.named c.in_ok-found.tree c.in_ok-found.logged.items c.in_ok-found.ensures.surveyed
-    last c.in_ok-records.records replayed c.in_ok-lengths.lengths.items c.in_ok-lengths.ensures c.in_ok-free.free.free c.tell.result c.tell.ensures
+    last c.in_ok-records.records replayed c.in_ok-lengths.lengths.items c.in_ok-lengths.ensures c.take_logged.new.free.free c.tell.result c.tell.ensures
 
 pub returns-in_err-records-clause-refused : goal.returns-in_err-records-clause-refused
 returns-in_err-records-clause-refused g c =
@@ -83,13 +86,6 @@ returns-in_err-found-clause-refused g c =
     let sized : IsGeometry (g.D.SectorDevice.size c.args.device.now) = subst IsGeometry c.sectors.ensures.size (c.in_ok-geometry.ensures.ok.0 refl) in
     passed_on c.from_residual-in_err-found.result x _ c.from_residual-in_err-found.ensures.1
     (walk_refused g.D.SectorDevice c.args.device.now _ x sized c.in_err-found.ensures.refused c.in_err-found.ensures.reason)
-
-pub returns-in_err-free-clause-refused : goal.returns-in_err-free-clause-refused
-returns-in_err-free-clause-refused g c =
-    let x = c.in_err-free.field-0.0 in
-    let sized : IsGeometry (g.D.SectorDevice.size c.args.device.now) = subst IsGeometry c.sectors.ensures.size (c.in_ok-geometry.ensures.ok.0 refl) in
-    passed_on c.from_residual-in_err-free.result x _ c.from_residual-in_err-free.ensures.1
-    (memory_refused g.D.SectorDevice c.args.device.now _ x sized c.in_err-free.ensures.refused)
 
 pub returns-in_err-lengths-clause-refused : goal.returns-in_err-lengths-clause-refused
 returns-in_err-lengths-clause-refused g c =

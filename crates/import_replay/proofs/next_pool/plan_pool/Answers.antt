@@ -1,16 +1,15 @@
-use Rattle.std.proofs.Common.{ℕ, List, ap, arith, inl, inr, subst, sym}
+use Rattle.std.proofs.Common.{ℕ, List, ◌∙◌, ap, arith, inl, inr, subst}
 use Rattle.std.specs.Global.{Vec}
 use Rattle.std.proofs.lemmas.Result.{err_from_is_err_and}
-use Rattle.base.specs.formats.Geometry.{block_address, block_count}
-use Rattle.object_maps.specs.Pointers.{pointers_of}
-use Rattle.object_maps.specs.declared.tree.Tree.{Tree}
-use Rattle.space.specs.FreeSets.{IsIdle}
+use Rattle.base.specs.formats.Geometry.{block_count}
+use Rattle.space.specs.FreeSets.{FreeSpace, after_take}
+use Rattle.object_maps.specs.FreeBlocks.{BlocksTaken}
 use Rattle.tree_plans.specs.declared.planner.PlannedBlock.{PlannedBlock}
 use Rattle.tree_plans.specs.declared.planner.TreePlan.{TreePlan}
-use Rattle.import_replay.specs.FreeBlocks.{AreAllOthers, AreAllPlanned, IsLowestLeft}
-use Rattle.import_replay.proofs.FreeBlocks.{others_free}
+use Rattle.import_replay.specs.FreeBlocks.{AreAllPlanned, IsLeftBy, IsLowestLeft, after_gives, is_planned}
+use Rattle.import_replay.proofs.LeftBlocks.{left_idle, left_sized}
 use Rattle.import_replay.proofs.Reasons.{passed_on}
-use Rattle.import_replay.proofs.Refused.{next_full, next_lacks_memory}
+use Rattle.import_replay.proofs.Refused.{next_full}
 use Rattle.import_replay.proofs.next_pool.plan_pool.Goals as goal
 
 pub returns-in_err-planned-clause-refused : goal.returns-in_err-planned-clause-refused
@@ -25,21 +24,11 @@ returns-in_err-log_block-clause-refused g c =
     passed_on c.from_residual-in_err-log_block.result c.in_err-log_block.field-0.0 _ c.from_residual-in_err-log_block.ensures.1
     (next_full _ _ _ c.args.pool _ c.in_err-log_block.ensures.refused (inr (plan, c.in_ok-planned.ensures.tree, all)))
 
-pub returns-in_err-free-clause-refused : goal.returns-in_err-free-clause-refused
-returns-in_err-free-clause-refused g c =
-    passed_on c.from_residual-in_err-free.result c.in_err-free.field-0.0 _ c.from_residual-in_err-free.ensures.1 (next_lacks_memory _ _ _ c.args.pool _ c.in_err-free.ensures.refused)
-
 pub returns-in_err-log_block-clause-reads : goal.returns-in_err-log_block-clause-reads
 returns-in_err-log_block-clause-reads g c =
     let p = err_from_is_err_and c.from_residual-in_err-log_block.result c.from_residual-in_err-log_block.ensures.1 in
     let reads = c.in_ok-planned.ensures.reads in
     record { size = reads.size; disk = reads.disk; count = rw (p.1, p.2, c.in_err-log_block.ensures.refused) reads.count }
-
-pub returns-in_err-free-clause-reads : goal.returns-in_err-free-clause-reads
-returns-in_err-free-clause-reads g c =
-    let p = err_from_is_err_and c.from_residual-in_err-free.result c.from_residual-in_err-free.ensures.1 in
-    let reads = c.in_ok-planned.ensures.reads in
-    record { size = reads.size; disk = reads.disk; count = rw (p.1, p.2, c.in_err-free.ensures.refused) reads.count }
 
 pub block_address-requires : goal.block_address-requires
 block_address-requires g c = let within = c.in_ok-log_block.ensures.lowest.within in omega (arith, within, c.requires.sized)
@@ -47,13 +36,14 @@ block_address-requires g c = let within = c.in_ok-log_block.ensures.lowest.withi
 pub returns-clause-planned : goal.returns-clause-planned
 returns-clause-planned g c =
     let plan : TreePlan = c.in_ok-planned.planned in
-    let tree : Tree = c.with_plan-tree.result.0 in
-    let blocks : ℕ = block_count c.args.geometry in
     let log_block : ℕ = c.in_ok-log_block.log_block in
-    let others : AreAllOthers (pointers_of tree) blocks (block_address log_block) c.take.new.self.free =
-    rw c.take.ensures (others_free (pointers_of tree) blocks c.in_ok-free.free log_block c.in_ok-free.ensures.free) in
-    let idle : IsIdle c.in_ok-free.free = c.in_ok-free.ensures.idle in
     let counted = c.args.pool.replayed.records.ok.0 in
+    let left : FreeSpace = c.take_planned.new.free in
+    let free : IsLeftBy plan log_block c.args.pool.free c.take.new.self = record {
+      left = left;
+      taken = subst (λ (bs : List PlannedBlock). BlocksTaken (λ k. is_planned k bs) c.args.pool.free left) c.deref-2.ensures.value c.take_planned.ensures;
+      new_is = c.take.ensures ∙ ap (after_take log_block) (c.give_all.ensures ∙ ap (λ (freed : List ℕ). after_gives freed left) c.deref-3.ensures.value);
+    } in
     record {
       plan = plan;
       fits = c.in_ok-planned.ensures.fits;
@@ -67,8 +57,8 @@ returns-clause-planned g c =
       log_block = log_block;
       log_is = c.block_address.ensures.address;
       lowest = subst (λ (bs : List PlannedBlock). IsLowestLeft c.args.pool.spare bs log_block) c.deref.ensures.value c.in_ok-log_block.ensures.lowest;
-      free = subst (λ (a : ℕ). AreAllOthers (pointers_of tree) blocks a c.take.new.self.free) (sym c.block_address.ensures.address) others;
-      sized = rw c.take.ensures c.in_ok-free.ensures.count;
-      idle = rw c.take.ensures (record { reserved = idle.reserved; taken = idle.taken });
+      free = free;
+      sized = left_sized c.args.pool.tree (block_count c.args.geometry) c.args.pool.free c.take.new.self plan log_block c.requires.free free;
+      idle = left_idle c.args.pool.tree (block_count c.args.geometry) c.args.pool.free c.take.new.self plan log_block c.requires.free free;
       records_are = omega (arith, c.len.ensures, counted);
     }

@@ -1,10 +1,12 @@
 use Rattle.std.proofs.Common.{◌≡◌, ◌+◌, ℕ, List, IfErr, IfOk, subst, sym}
 use Rattle.base.specs.common.Rising.{rising}
 use Rattle.base.specs.declared.error.PoolError.TheVariants.{NoSpace}
+use Rattle.base.specs.declared.pointer.Pointer.{Pointer}
 use Rattle.base.specs.disk.Disk.{bytes_of}
 use Rattle.base.specs.formats.Blocks.{Frame}
 use Rattle.base.specs.formats.Uberblocks.{Uberblock}
 use Rattle.base.specs.tree.PlacedTrees.{HoldsTree}
+use Rattle.base.specs.tree.Places.{Place}
 use Rattle.group_plans.specs.GroupPlans.{HoldsGroupObjects, IsShortOfBlocks}
 use Rattle.object_maps.specs.ContentsShown.{contents_of}
 use Rattle.object_maps.specs.Pointers.{pointers_of}
@@ -32,5 +34,5 @@ pub returns-clause-no_space : goal.returns-clause-no_space
 returns-clause-no_space g c =
     let pool : ReplayedPool = c.args.pool.now in
     subst (λ (rs : List Record). IfErr c.plan_group.result (λ e. e ≡ NoSpace
-    → IsShortOfBlocks (c.args.uberblock.now.group.0 + 4) rs pool.tree.maps.items (pointers_of pool.tree) (objects_replayed pool) (rising pool.spare.free)))
+    → (old : Place → Pointer) × IsShortOfBlocks (c.args.uberblock.now.group.0 + 4) rs pool.tree.entries.items old (objects_replayed pool) (rising pool.spare.free)))
     c.deref.ensures.value c.plan_group.ensures.no_space

@@ -1,18 +1,29 @@
-use Rattle.std.proofs.Common.{List, ap, refl, subst, ◌∙◌}
+use Rattle.std.proofs.Common.{ℕ, List, ap, refl, subst, ◌∙◌}
 use Rattle.std.specs.Global.{Vec}
+use Rattle.std.specs.List.{list_any}
 use Rattle.base.specs.formats.Chain.{LogPiece}
 use Rattle.base.specs.formats.Geometry.{block_count}
-use Rattle.object_maps.specs.Pointers.{pointers_of}
+use Rattle.object_maps.specs.FreeBlocks.{BlocksTaken}
 use Rattle.object_maps.specs.declared.contents.Slot.{Slot}
-use Rattle.import_replay.specs.FreeBlocks.{AreUnused, chain_addresses}
+use Rattle.space.specs.FreeSets.{FreeSpace}
+use Rattle.import_replay.specs.FreeBlocks.{logs_block}
+use Rattle.import_replay.proofs.FreeBlocks.{unused-from_taken}
 use Rattle.import_replay.proofs.next_pool.replay_pool.Goals as goal
 
 pub returns-clause-replayed : goal.returns-clause-replayed
-returns-clause-replayed c = record {
-  tree_is = refl;
-  name_is = c.of-synced.ensures.name ∙ c.copy_name.ensures.copy;
-  slots_are = ap (λ (v : Vec Slot). v.items) c.of-synced.ensures.slots;
-  spare = subst (λ (bs : List LogPiece). AreUnused (pointers_of c.args.loaded.tree) (chain_addresses bs) (block_count c.args.geometry) c.in_ok-spare.spare.free) c.deref.ensures.value c.in_ok-spare.ensures.free;
-  sized = c.in_ok-spare.ensures.count;
-  replayed = c.in_ok-replayed.ensures.replayed;
-}
+returns-clause-replayed c =
+    let blocks : ℕ = block_count c.args.geometry in
+    let chain : List LogPiece = c.args.logged.items in
+    let left : FreeSpace = c.take_logged.new.free in
+    let taken : BlocksTaken (λ k. list_any (logs_block k) chain) c.args.loaded.free left =
+    subst (λ (s : FreeSpace). BlocksTaken (λ k. list_any (logs_block k) chain) s left) c.in_ok-spare.ensures
+    (subst (λ (bs : List LogPiece). BlocksTaken (λ k. list_any (logs_block k) bs) c.in_ok-spare.spare left) c.deref.ensures.value c.take_logged.ensures.taken) in
+    record {
+      tree_is = refl;
+      name_is = c.of-synced.ensures.name ∙ c.copy_name.ensures.copy;
+      slots_are = ap (λ (v : Vec Slot). v.items) c.of-synced.ensures.slots;
+      free = c.requires.free;
+      spare = unused-from_taken c.args.loaded.tree chain blocks c.args.loaded.free left c.requires.free taken;
+      sized = c.take_logged.ensures.count;
+      replayed = c.in_ok-replayed.ensures.replayed;
+    }

@@ -3,7 +3,9 @@ use Rattle.base.specs.crash.Mount.{IsChainOf}
 use Rattle.base.specs.disk.Disk.{Disk, bytes_of}
 use Rattle.uberblocks.specs.Slots.{fields_of}
 use Rattle.import_replay.specs.ImportRefusals.{IsReason}
-use Rattle.object_maps.specs.Pointers.{objects_of}
+use Rattle.base.specs.formats.Blocks.{Frame}
+use Rattle.base.specs.tree.PlacedTrees.{ArePlaced}
+use Rattle.object_maps.specs.Pointers.{objects_of, pointers_of}
 use Rattle.import_replay.proofs.ReadPools.{is_read_damaged, is_read_pool}
 use Rattle.import_replay.proofs.Reasons.{passed_on, reason-chain, reason-load}
 use Rattle.import_replay.proofs.reading.read_pool.Goals as goal
@@ -34,3 +36,15 @@ returns-clause-pool g c = λ keeps.
     (c.in_ok-found.ensures.pool keeps) c.frame_of-frame.ensures
     c.in_ok-loaded.loaded.tree (objects_of c.in_ok-loaded.loaded.slots.items) c.in_ok-logged.logged.items (c.in_ok-loaded.ensures.tree keeps) c.in_ok-loaded.ensures.root
     (subst (λ (d : Disk). IsChainOf (bytes_of d.now) u c.in_ok-logged.logged.items) (c.load.ensures.reads.disk keeps ∙ c.find_pool.ensures.reads.disk keeps) (c.in_ok-logged.ensures.chain keeps))
+
+pub returns-clause-loaded : goal.returns-clause-loaded
+returns-clause-loaded g c =
+    let loaded = c.in_ok-loaded.loaded in
+    let told = c.in_ok-loaded.ensures in
+    record {
+      root = told.root;
+      placed = subst (λ (f : Frame). ArePlaced f.blocks (pointers_of loaded.tree)) c.frame_of-frame.ensures told.placed;
+      bounded = told.objects.0;
+      lengths = told.objects.1;
+      sound = c.in_ok-logged.ensures.sound;
+    }

@@ -1,0 +1,10 @@
+use Rattle.std.proofs.Common.{ℕ, List, ◌∙◌, ap}
+use Rattle.space.specs.FreeSets.{FreeSpace, is_free}
+use Rattle.import_replay.specs.FreeBlocks.{after_gives}
+use Rattle.import_replay.proofs.GivenBlocks.{given_free}
+use Rattle.import_replay.proofs.clients.a_block_that_comes_back_is_free.Goals as goal
+
+pub returns : goal.returns
+returns c =
+    ap (λ (s : FreeSpace). is_free 1 s) (c.give_all.ensures ∙ ap (λ (l : List ℕ). after_gives l c.args.free.now) c.requires.addresses)
+    ∙ given_free c.args.free.now 4198400

@@ -1,0 +1,7 @@
+use Rattle.std.proofs.Common.{◌≡◌, take}
+use Rattle.import_replay.specs.FreeBlocks.{after_gives}
+use Rattle.import_replay.proofs.free_blocks.give_all.Given as goal
+
+-- the addresses so far have come back
+abbrev pub invariant-loop-address : goal.invariant-loop-address
+invariant-loop-address l = l.free ≡ after_gives (take l.address-index l.addresses) l.fn.free
