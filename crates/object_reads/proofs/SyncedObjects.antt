@@ -14,7 +14,7 @@ use Rattle.base.specs.tree.Tree.{IsRecord}
 use Rattle.device_model.specs.declared.device.SectorDevice.{Ghosts}
 use Rattle.object_maps.specs.Cached.{HoldsObject, IsRecordPointer}
 use Rattle.object_maps.specs.Pointers.{indirect_of, pointers_of}
-use Rattle.object_maps.specs.declared.tree.ObjectMap.{ObjectMap}
+use Rattle.object_maps.specs.declared.tree.ObjectEntry.{ObjectEntry}
 use Rattle.object_maps.proofs.ObjectReads.{records_formed}
 use Rattle.object_reads.specs.declared.shown_tree.ShownTree.{ShownTree}
 use Rattle.object_reads.specs.ShownTrees.{StandsOn, synced_objects}
@@ -28,9 +28,9 @@ pub bytes_long : (o : Option (List ℕ)) (size : ℕ) → Some size ≡ option_m
 bytes_long (Some bytes) size is = (bytes, refl, cc)
 bytes_long None size is = absurd cc
 
--- the indirect pointer of an object's map
-pub indirect_at : (maps : List ObjectMap) (n : ℕ) (m : ObjectMap) → n < length maps → m ≡ get_or maps n m → indirect_of maps n ≡ m.indirect
-indirect_at maps n m low is = ap (λ (o : Option ObjectMap). option_map_or (λ (p : ObjectMap). p.indirect) o no_pointer) (slice_get-get_or maps n m low ∙ ap Some (sym is))
+-- the indirect pointer of an object's entry
+pub indirect_at : (entries : List ObjectEntry) (n : ℕ) (e : ObjectEntry) → n < length entries → e ≡ get_or entries n e → indirect_of entries n ≡ e.indirect
+indirect_at entries n e low is = ap (λ (o : Option ObjectEntry). option_map_or (λ (x : ObjectEntry). x.indirect) o no_pointer) (slice_get-get_or entries n e low ∙ ap Some (sym is))
 
 module _ {Dev : Type 0} (D : Ghosts Dev) (t : ShownTree) where
   -- a disk that stays holds the tree, before and after

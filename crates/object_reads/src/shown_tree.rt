@@ -24,7 +24,7 @@ use object_maps::{
 pub struct ShownTree<'a> {
     /// The frame of the synced tree's blocks.
     pub frame: Frame,
-    /// The pointers of the synced tree.
+    /// The pointers of the synced tree, down to its indirect blocks.
     pub tree: &'a Tree,
     /// The lengths of its objects.
     pub contents: &'a Contents,
@@ -155,7 +155,7 @@ impl<'a> ShownTree<'a> {
         if block.is_read {
             return Ok(());
         }
-        let indirect = self.tree.maps[id.0 as usize].indirect;
+        let indirect = self.tree.entries[id.0 as usize].indirect;
         read_indirect(
             reader,
             &self.frame,

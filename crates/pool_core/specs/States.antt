@@ -7,7 +7,7 @@ use Rattle.base.specs.disk.Disk.{bytes_of}
 use Rattle.base.specs.steps.Shown.{Shown}
 use Rattle.device_model.specs.Reading.{OnlyReads}
 use Rattle.device_model.specs.declared.device.SectorDevice.{Ghosts}
-use Rattle.object_maps.specs.CachedDevices.{device_in}
+use Rattle.object_maps.specs.CachedDevices.{cache_of, device_in}
 use Rattle.pool_core.specs.declared.state.PoolState.{PoolState}
 use Rattle.pool_tables.specs.Told.{ShownPool, told_of}
 use Rattle.pool_tables.specs.declared.pool.PoolTables.{PoolTables}
@@ -25,6 +25,10 @@ module _ {Dev : Type 0} {G : Ghosts Dev} where
 
   abbrev pub refused_calls : PoolState Dev G → RefusedCalls
   refused_calls state = G.refused (device_of state)
+
+  -- how many tree blocks may stay in its cache
+  abbrev pub cache_room_of : PoolState Dev G → ℕ
+  cache_room_of state = (cache_of state.device).cap
 
   -- all of it but its device
   abbrev pub tables_of : PoolState Dev G → PoolTables

@@ -46,7 +46,7 @@ impl<D: SectorDevice> PoolState<D> {
     ghost use Rattle.pool_tables.specs.SyncPhases.{StepsPhases};
     ghost use Rattle.pool_core.specs.KeptSafe.{BeginsSafe, disk_of, run_of};
     ghost use Rattle.pool_core.specs.NewStates.{IsExplainedAtFirst, IsHeldAtFirst};
-    ghost use Rattle.pool_core.specs.States.{CountsRefused, KeepsTreeOf, MakesNoCall, MovesNothing, OnlyReadsOf, device_of, shown, tables_of, told};
+    ghost use Rattle.pool_core.specs.States.{CountsRefused, KeepsTreeOf, MakesNoCall, MovesNothing, OnlyReadsOf, cache_room_of, device_of, shown, tables_of, told};
     ghost use Rattle.pool_tables.specs.HeldReads.{DigestHeld, ReadsHeld};
     ghost use Rattle.pool_tables.specs.StepAnswers.{Aborts, Begins, ClosesGroup, Commits, FlushesLog, Locks, LocksAppend, MarksQuiesced, Reads, StartsSync, StepsSync, TellsDigest, TellsLength, Unlocks, WritesLog};
     ghost use Rattle.base.specs.disk.Calls.{Flushes};
@@ -54,10 +54,11 @@ impl<D: SectorDevice> PoolState<D> {
     ghost use Rattle.pool_core.specs.Starts.{StartsInOrder};
     ghost use Rattle.pool_tables.specs.SyncStarts.{StartsHeldOver};
 
-    /// The pool that an import gave. It takes no memory.
+    /// The pool that an import gave. It keeps so many tree blocks as the import's cache may have. It takes no memory.
     pub fn new(imported: Imported<D>) -> Self
         ensures shown { shown result ≡ shown_of_import imported.mounted }
         ensures device { device_of result ≡ imported.device }
+        ensures cache { cache_room_of result ≡ imported.cache.cap }
         ensures explained { ∥ IsExplainedAtFirst (shown result) ∥₁ }
         ensures held { ∥ (IsTrue D.keeps_model → IsHeldAtFirst (told result)) ∥₁ }
         ensures safe { BeginsSafe result }
@@ -376,9 +377,9 @@ impl<D: SectorDevice> PoolState<D> {
     /// takes the memory for all its steps. The moment, in seconds, is stored in its uberblocks. If the group gives a
     /// name, six more steps write it into the configs of the labels.
     ///
-    /// Of the synced tree it reads each record that the group changes in part, for rising objects and in each for
-    /// rising records. A block that the cache has is not read. If the start is refused, the group is still quiesced, and
-    /// the same call goes on with what the cache has.
+    /// Of the synced tree it reads the indirect block of each changed object, rising, and then each record that the group
+    /// changes in part, for rising objects and in each for rising records. A block that the cache has is not read. If the start is refused, the group is
+    /// still quiesced, and the same call goes on with what the cache has.
     ///
     /// # Errors
     /// In this order:
@@ -403,8 +404,9 @@ impl<D: SectorDevice> PoolState<D> {
         self.pool.start_sync(&mut self.device, moment)
     }
 
-    /// Makes the next device call of the running sync. It takes no memory of its own. With the last call its group is
-    /// synced: the blocks that it replaced come back, and its charges and reservations end.
+    /// Makes the next device call of the running sync. It is never refused memory. With the last call its group is
+    /// synced: the blocks that it replaced come back, and its charges and reservations end. Those that it wrote stay in
+    /// memory, as many as the cache may have, so that a read of them needs no hash.
     ///
     /// # Errors
     /// In this order:

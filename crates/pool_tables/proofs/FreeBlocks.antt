@@ -12,7 +12,8 @@ use Rattle.base.specs.formats.Geometry.{block_address}
 use Rattle.space.specs.FreeSets.{FreeSpace, after_give, after_sync_take}
 use Rattle.tree_plans.specs.declared.planner.PlannedBlock.{PlannedBlock}
 use Rattle.tree_plans.specs.Plans.{address_of}
-use Rattle.pool_tables.specs.Areas.{after_gives, after_sync_takes}
+use Rattle.import_replay.specs.FreeBlocks.{after_gives}
+use Rattle.pool_tables.specs.Areas.{after_sync_takes}
 
 and_true : (b : Bool) → (b && true) ≡ b
 and_true true = refl
@@ -25,10 +26,6 @@ or_false false = refl
 pub difference_none : (s : FinSet nat_cmp) → s ≡ set.difference s (set.from_list [])
 difference_none s = same_set nat_cmp_total nat_cmp-IsAntisymmetric _ _ (λ q.
     sym (contains-difference nat_cmp_total s (set.from_list []) q ∙ ap (λ b. set.contains s q && not b) (contains-empty nat_cmp q) ∙ and_true (set.contains s q)))
-
-pub union_none : (s : FinSet nat_cmp) → s ≡ set.union s (set.from_list [])
-union_none s = same_set nat_cmp_total nat_cmp-IsAntisymmetric _ _ (λ q.
-    sym (contains-union nat_cmp_total s (set.from_list []) q ∙ ap (λ b. set.contains s q || b) (contains-empty nat_cmp q) ∙ or_false (set.contains s q)))
 
 one_more : (xs : List ℕ) (x q : ℕ) → set.contains (set.from_list {R = nat_cmp} (xs ++ x ∷ [])) q ≡ (set.contains (set.from_list {R = nat_cmp} xs) q || eq_by_cmp nat_cmp q x)
 one_more xs x q =
@@ -51,21 +48,6 @@ difference_more s xs x = same_set nat_cmp_total nat_cmp-IsAntisymmetric _ _ (λ 
     turned false true true = refl
     turned false true false = refl
     turned false false l = refl
-
-pub union_more : (s : FinSet nat_cmp) (xs : List ℕ) (x : ℕ) → set.insert (set.union s (set.from_list xs)) x ≡ set.union s (set.from_list (xs ++ x ∷ []))
-union_more s xs x = same_set nat_cmp_total nat_cmp-IsAntisymmetric _ _ (λ q.
-    contains-insert nat_cmp_total (set.union s (set.from_list xs)) x q
-    ∙ ap (λ b. eq_by_cmp nat_cmp q x || b) (contains-union nat_cmp_total s (set.from_list xs) q)
-    ∙ turned (eq_by_cmp nat_cmp q x) (set.contains s q) (set.contains (set.from_list {R = nat_cmp} xs) q)
-    ∙ sym (contains-union nat_cmp_total s (set.from_list (xs ++ x ∷ [])) q ∙ ap (λ b. set.contains s q || b) (one_more xs x q)))
-  where
-    turned : (e c l : Bool) → (e || (c || l)) ≡ (c || (l || e))
-    turned true true l = refl
-    turned true false true = refl
-    turned true false false = refl
-    turned false true l = refl
-    turned false false true = refl
-    turned false false false = refl
 
 -- the first one may come back before the others
 union_first : (s : FinSet nat_cmp) (x : ℕ) (rest : List ℕ) → set.union s (set.from_list (x ∷ rest)) ≡ set.union (set.insert s x) (set.from_list rest)
@@ -125,15 +107,3 @@ pub taken_so_far : (first old : FreeSpace) (blocks : List PlannedBlock) (i : ℕ
 taken_so_far first old blocks i low none so_far =
     let count : length (map address_of (take i blocks)) ≡ i = length-map (take i blocks) address_of ∙ length-take-le i blocks (omega (arith, low)) in
     omega (arith, none, count, ap (λ (s : FreeSpace). s.taken) so_far)
-
--- of addresses none has come back yet, and one more each time
-pub none_given : (s : FreeSpace) → s ≡ after_gives [] s
-none_given s = λ k. record s { free = union_none s.free k }
-
-pub given_more : (first old new : FreeSpace) (addresses : List ℕ) (i k : ℕ) → i < length addresses → block_address k ≡ get_or addresses i 0
-    → old ≡ after_gives (take i addresses) first → new ≡ after_give k old → new ≡ after_gives (take (i + 1) addresses) first
-given_more first old new addresses i k low at so_far now =
-    let a = get_or addresses i 0 in
-    now ∙ (λ j. record (so_far j) { free = set.insert (so_far j).free (at j) })
-    ∙ (λ j. record first { free = union_more first.free (take i addresses) a j })
-    ∙ ap (λ (l : List ℕ). after_gives l first) (sym (take_more addresses i 0 low))

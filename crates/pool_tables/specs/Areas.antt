@@ -1,4 +1,4 @@
--- The free blocks once a sync took some, and once some have come back.
+-- The free blocks once a sync took some, and the kept log blocks before a header, which come back.
 use Rattle.std.specs.Prelude.{ℕ, List, filter, length, map, nat_le, ◌+◌}
 use Rattle.std.specs.FinSet as set
 use Rattle.base.specs.formats.Chain.{Header}
@@ -8,9 +8,6 @@ use Rattle.space.specs.FreeSets.{FreeSpace}
 -- those at these addresses
 abbrev pub after_sync_takes : List ℕ → FreeSpace → FreeSpace
 after_sync_takes addresses s = record s { free = set.difference s.free (set.from_list addresses); taken = s.taken + length addresses }
-
-abbrev pub after_gives : List ℕ → FreeSpace → FreeSpace
-after_gives addresses s = record s { free = set.union s.free (set.from_list addresses) }
 
 -- the addresses of the kept log blocks before a header, and the blocks from it on
 abbrev pub addresses_before : Header → List KeptBlock → List ℕ

@@ -12,18 +12,18 @@ use Rattle.extents.specs.Unsynced.{name_at}
 use Rattle.object_maps.specs.Pointers.{pointers_of}
 use Rattle.tree_plans.specs.declared.planner.TreePlan.{TreePlan}
 use Rattle.tree_plans.specs.Plans.{address_of}
-use Rattle.group_plans.specs.GroupPlans.{HoldsGroupObjects, IsRefusedShort, MakesGroupTree}
+use Rattle.group_plans.specs.GroupPlans.{HoldsGroupObjects, IsRefusedShort, MakesReadTree}
 use Rattle.group_plans.specs.Pointers.{lengths_after}
 use Rattle.pool_tables.specs.declared.pool.PoolTables.{PoolTables}
 use Rattle.pool_tables.specs.declared.pool.RunningSync.{RunningSync}
 use Rattle.pool_tables.specs.RunningUberblocks.{uberblock_with}
 use Rattle.pool_tables.specs.Shows.{contents_after_oldest, new_plan, pool_shown, synced_of}
 
--- it makes of a pool's tree that of its oldest unsynced group, which is this one
+-- it makes of a pool's tree that of its oldest unsynced group, which is this one, whichever pointers to records were read
 abbrev pub MakesOldestTree : PoolTables → ℕ → TreePlan → Type 0
-MakesOldestTree pool group p = MakesGroupTree (frame_at (pool_shown pool) group) pool.tree pool.unsynced.items (contents_after_oldest pool).objects p
+MakesOldestTree pool group p = MakesReadTree (frame_at (pool_shown pool) group) pool.tree pool.unsynced.items (contents_after_oldest pool).objects p
 
--- its blocks hold the objects after that group
+-- its pointers before are those of the pool's tree, and its blocks hold the objects after that group
 abbrev pub HoldsOldestObjects : PoolTables → ℕ → TreePlan → Type 0
 HoldsOldestObjects pool group p = HoldsGroupObjects (frame_at (pool_shown pool) group) pool.tree pool.unsynced.items (contents_after_oldest pool).objects p
 

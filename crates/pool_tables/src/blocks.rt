@@ -1,4 +1,5 @@
-//! The free blocks of a pool, as its syncs and its log take and give them, and the end of a synced group's charges.
+//! The free blocks of a pool, as its syncs take them and its log gives them back. What a synced group wrote stays with
+//! the device, and its charges end.
 
 ghost use Rattle.std.specs.Prelude.{◌≡◌, ◌+◌, map};
 ghost use Rattle.base.specs.formats.Geometry.{block_count};
@@ -9,12 +10,15 @@ ghost use Rattle.throttle.specs.Blocks.{AreWholeBlocks, blocks_in};
 ghost use Rattle.throttle.specs.DirtyBytes.{after_synced, sum_of, total_of};
 ghost use Rattle.tree_plans.specs.Plans.{address_of};
 ghost use Rattle.group_plans.specs.Areas.{AreBlocksOf};
-ghost use Rattle.pool_tables.specs.Areas.{addresses_before, after_gives, after_sync_takes, blocks_from};
+ghost use Rattle.import_replay.specs.FreeBlocks.{after_gives};
+ghost use Rattle.pool_tables.specs.Areas.{addresses_before, after_sync_takes, blocks_from};
 
 use base::{BLOCK_SIZE, Group};
 use intent_log::{Log, LogHeader};
 use labels::Geometry;
+use object_maps::BlockReader;
 use space::FreeSet;
+use sync::SyncRun;
 use throttle::Dirty;
 use tree_plans::PlannedBlock;
 
@@ -42,6 +46,23 @@ pub fn take_all(free: &mut FreeSet, blocks: &[PlannedBlock])
     }
 }
 
+/// The device keeps the blocks that a sync wrote.
+pub fn keep_blocks<B: BlockReader>(device: &mut B, run: SyncRun)
+    ensures size { B.size device.new ≡ B.size device.old }
+    ensures disk { B.disk device.new ≡ B.disk device.old }
+    ensures refused { B.refused device.new ≡ B.refused device.old }
+{
+    let SyncRun {
+        geometry,
+        blocks,
+        ..
+    } = run;
+    for planned in blocks {
+        let PlannedBlock { index, block } = planned;
+        device.keep_sealed(geometry.block_address(index as u64), block);
+    }
+}
+
 /// The kept log blocks before a header come back.
 pub fn give_log(free: &mut FreeSet, geometry: Geometry, log: &mut Log, header: LogHeader)
     requires count { free.old.blocks ≡ block_count geometry }
@@ -54,16 +75,5 @@ pub fn give_log(free: &mut FreeSet, geometry: Geometry, log: &mut Log, header: L
 {
     while let Some(address) = log.give_back(header) {
         free.give(geometry.block_index(address) as usize);
-    }
-}
-
-/// The blocks at these addresses come back.
-pub fn give_all(free: &mut FreeSet, geometry: Geometry, addresses: &[u64])
-    requires count { free.old.blocks ≡ block_count geometry }
-    requires placed { AreBlocksOf (block_count geometry) addresses.now }
-    ensures { free.new ≡ after_gives addresses.now free.old }
-{
-    for address in addresses {
-        free.give(geometry.block_index(*address) as usize);
     }
 }

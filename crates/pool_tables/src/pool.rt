@@ -98,6 +98,7 @@ struct RunningSync {
     moment: u64,
     header: LogHeader,
     run: SyncRun,
+    // the maps of the objects that the group changes, of which the tree keeps the entries once it is synced
     maps: BTreeMap<ObjectId, ObjectMap>,
     directories: Vec<Pointer>,
     root: Pointer,
@@ -133,6 +134,7 @@ pub struct PoolTables {
     written: usize,
     free: FreeSet,
     log: Log,
+    // the pointers of the synced tree down to its indirect blocks: those to records are read from these
     tree: Tree,
     sync: Option<RunningSync>,
     ghost sized: { IsGeometry geometry },

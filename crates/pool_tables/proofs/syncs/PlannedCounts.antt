@@ -19,7 +19,7 @@ use Rattle.base.specs.tree.PlannedTrees.{NewBlock}
 use Rattle.base.specs.tree.Syncs.{written_places}
 use Rattle.base.proofs.steps.Reservations.{syncs_have_room}
 use Rattle.base.proofs.tree.PlacedTrees.{pointers-told}
-use Rattle.object_maps.specs.declared.tree.ObjectMap.{ObjectMap}
+use Rattle.object_maps.specs.declared.tree.ObjectEntry.{ObjectEntry}
 use Rattle.transactions.specs.declared.record.Record.{Record}
 use Rattle.tree_plans.specs.Marks.{pending_ops}
 use Rattle.group_plans.specs.GroupPlans.{IsShortOfBlocks, TakesGroupPlaces}
@@ -29,12 +29,12 @@ use Rattle.pool_tables.proofs.syncs.PlannedGroups.{synced_tree}
 
 -- Whatever the device holds, and from whichever pointers it is planned.
 module _ (s : Shown) (p : Past) (explained : IsExplainedNow s p) (group : ℕ) (pending : List Record) (ops_are : ops_of_group group p.entries ≡ pending_ops group pending)
-    (after : Contents) (maps : List ObjectMap) (place : TakesPlace (pending_ops group pending) maps s.synced_contents after) (pointers : Place → Pointer) where
+    (after : Contents) (maps : List ObjectEntry) (place : TakesPlace (pending_ops group pending) maps s.synced_contents after) (pointers : Place → Pointer) where
   -- a plan takes no more blocks than the operations are estimated at
-  pub taken_fit : (new : Place → Pointer) (bs : List NewBlock) → TakesGroupPlaces group pending maps pointers new bs after.objects
+  pub taken_fit : (new : Place → Pointer) (bs : List NewBlock) (returned : List ℕ) → TakesGroupPlaces group pending maps pointers new bs returned after.objects
       → length bs ≤ estimate_of (map shape_of (ops_of_group group p.entries))
-  taken_fit new bs from =
-      subst (λ (ops : List Op). length bs ≤ estimate_of (map shape_of ops)) (sym ops_are) (blocks_fit group pending maps s.synced_contents after place pointers new bs from)
+  taken_fit new bs returned from =
+      subst (λ (ops : List Op). length bs ≤ estimate_of (map shape_of ops)) (sym ops_are) (blocks_fit group pending maps s.synced_contents after place pointers new bs returned from)
 
   -- and with what is reserved for the group no plan is short of blocks
   pub enough_blocks : s.line.syncing ≡ None → quiesced_group s.line ≡ Some group → (free : List ℕ) → length free ≡ free_count s → IsShortOfBlocks group pending maps pointers after.objects free → ⊥
@@ -46,8 +46,8 @@ module _ (s : Shown) (p : Past) (explained : IsExplainedNow s p) (group : ℕ) (
       omega (arith, room, same, fewer, counted)
 
 module _ (now : List ℕ) (s : Shown) (p : Past) (pointers : Place → Pointer) (x : IsStored now s pointers p) (explained : IsExplainedNow s p) (group : ℕ) (pending : List Record)
-    (ops_are : ops_of_group group p.entries ≡ pending_ops group pending) (after : Contents) (maps : List ObjectMap) (place : TakesPlace (pending_ops group pending) maps s.synced_contents after)
-    (new : Place → Pointer) (bs : List NewBlock) (plan : SyncPlan) (from : TakesGroupPlaces group pending maps pointers new bs after.objects) (taken : map (λ (b : NewBlock). b.address) bs ≡ plan.taken) where
+    (ops_are : ops_of_group group p.entries ≡ pending_ops group pending) (after : Contents) (maps : List ObjectEntry) (place : TakesPlace (pending_ops group pending) maps s.synced_contents after)
+    (new : Place → Pointer) (bs : List NewBlock) (returned : List ℕ) (plan : SyncPlan) (from : TakesGroupPlaces group pending maps pointers new bs returned after.objects) (taken : map (λ (b : NewBlock). b.address) bs ≡ plan.taken) where
   -- the places that the sync of the group writes
   abbrev pub places : List Place
   places = written_places (ops_of_group group p.entries) s.synced_contents (has_block now s.root)
@@ -56,7 +56,7 @@ module _ (now : List ℕ) (s : Shown) (p : Past) (pointers : Place → Pointer) 
   pub takes_in_order : map (λ (place : Place). (new place).address) places ≡ plan.taken
   takes_in_order =
       ap (λ (ops : List Op). map (λ (place : Place). (new place).address) (written_places ops s.synced_contents (has_block now s.root))) ops_are
-      ∙ takes_at_places group pending maps s.synced_contents after place pointers new bs from (has_block now s.root)
+      ∙ takes_at_places group pending maps s.synced_contents after place pointers new bs returned from (has_block now s.root)
       (λ n r low below. ap (λ (q : Pointer). not (q.address == 0)) (sym (pointers-told now (frame_at s s.line.synced) pointers s.synced_contents.objects (synced_tree now s p pointers x explained) (Data n r) (low, below)))
       ∙ ap (λ (q : Pointer). has_block now q (Data n r)) x.root)
       ∙ taken

@@ -22,8 +22,8 @@ use Rattle.base.specs.tree.PlannedTrees.{AreFreed, IsTreePlan, NewBlock}
 use Rattle.base.specs.tree.Syncs.{is_on}
 use Rattle.base.proofs.stored.StoredTrees.{stored-births}
 use Rattle.base.proofs.tree.WrittenPlaces.{group-numbers, group-ranges}
-use Rattle.object_maps.specs.declared.tree.ObjectMap.{ObjectMap}
-use Rattle.object_maps.specs.Lengths.{map_length}
+use Rattle.object_maps.specs.declared.tree.ObjectEntry.{ObjectEntry}
+use Rattle.object_maps.specs.Lengths.{length_in}
 use Rattle.transactions.specs.declared.record.Record.{Record}
 use Rattle.transactions.specs.Records.{record_fields}
 use Rattle.tree_plans.specs.Changes.{AreBornBefore}
@@ -43,7 +43,7 @@ module _ (s : Shown) (p : Past) (explained : IsExplainedNow s p) (group : ℕ) (
   ops_are = unsynced_are s p explained unsynced log group above
 
   -- if its operations lead from the synced contents to others, they take place within the limits
-  pub group_takes_place : (after : Contents) → apply_all (pending_ops group unsynced) s.synced_contents ≡ Ok after → (maps : List ObjectMap) → ((n : ℕ) → s.lengths n ≡ map_length maps n)
+  pub group_takes_place : (after : Contents) → apply_all (pending_ops group unsynced) s.synced_contents ≡ Ok after → (maps : List ObjectEntry) → ((n : ℕ) → s.lengths n ≡ length_in maps n)
       → TakesPlace (pending_ops group unsynced) maps s.synced_contents after
   group_takes_place after leads maps told = record {
     leads = leads;
@@ -62,7 +62,7 @@ module _ (now : List ℕ) (s : Shown) (p : Past) (pointers : Place → Pointer) 
 
 -- and of the plan of a group that leads from them to others
 module _ (now : List ℕ) (s : Shown) (p : Past) (pointers : Place → Pointer) (x : IsStored now s pointers p) (explained : IsExplainedNow s p) (group : ℕ) (above : s.line.synced < group)
-    (unsynced : List Record) (after : Contents) (bounded : IsBounded after) (maps : List ObjectMap) (place : TakesPlace (pending_ops group unsynced) maps s.synced_contents after) where
+    (unsynced : List Record) (after : Contents) (bounded : IsBounded after) (maps : List ObjectEntry) (place : TakesPlace (pending_ops group unsynced) maps s.synced_contents after) where
   born_before : AreBornBefore group pointers
   born_before p_at is = let birth = stored-births now s pointers p x p_at is in omega (arith, above, birth)
 

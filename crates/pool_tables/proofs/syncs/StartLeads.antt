@@ -35,7 +35,7 @@ use Rattle.tree_plans.specs.Plans.{address_of, new_block}
 use Rattle.group_plans.specs.GroupPlans.{IsShortOfBlocks, plan_pointers}
 use Rattle.group_plans.specs.Operations.{TakesPlace}
 use Rattle.group_plans.specs.Pointers.{lengths_after, pointers_after}
-use Rattle.group_plans.proofs.GroupChanges.{lengths_told}
+use Rattle.group_plans.proofs.GroupChanges.{lengths_told, makes_holes}
 use Rattle.group_plans.proofs.PlannedBlocks.{addresses_are}
 use Rattle.pool_tables.specs.declared.pool.PoolTables.{PoolTables}
 use Rattle.pool_tables.specs.declared.pool.RunningSync.{RunningSync}
@@ -109,14 +109,14 @@ module _ (past : Past) (pool : PoolTables) (group : ℕ) (may : MayStart group p
   pub oldest_ops : ops_of_group group past.entries ≡ pending_ops group pool.unsynced.items
   oldest_ops = ops_are (pool_shown pool) past explained group group_above pool.unsynced.items refl
 
-  pub oldest_takes_place : TakesPlace (pending_ops group pool.unsynced.items) pool.tree.maps.items (synced_of pool) (contents_after_oldest pool)
-  oldest_takes_place = group_takes_place (pool_shown pool) past explained group group_above pool.unsynced.items refl (contents_after_oldest pool) oldest_leads.leads pool.tree.maps.items (λ n. refl)
+  pub oldest_takes_place : TakesPlace (pending_ops group pool.unsynced.items) pool.tree.entries.items (synced_of pool) (contents_after_oldest pool)
+  oldest_takes_place = group_takes_place (pool_shown pool) past explained group group_above pool.unsynced.items refl (contents_after_oldest pool) oldest_leads.leads pool.tree.entries.items (λ n. refl)
 
   -- Whatever the device holds: it takes no more blocks than its operations are estimated at.
   pub group_fits : (p : TreePlan) → MakesOldestTree pool group p → length (map address_of p.blocks.items) ≤ estimate_of (map shape_of (ops_of_group group past.entries))
   group_fits p makes =
-      let fits = taken_fit (pool_shown pool) past explained group pool.unsynced.items oldest_ops (contents_after_oldest pool) pool.tree.maps.items oldest_takes_place (pointers_of pool.tree)
-      (plan_pointers pool.tree p) (map new_block p.blocks.items) makes.places in
+      let fits = taken_fit (pool_shown pool) past explained group pool.unsynced.items oldest_ops (contents_after_oldest pool) pool.tree.entries.items oldest_takes_place makes.0
+      (plan_pointers pool.tree p) (map new_block p.blocks.items) p.freed.items makes.1.places in
       subst (λ (n : ℕ). n ≤ estimate_of (map shape_of (ops_of_group group past.entries))) (length-map p.blocks.items new_block ∙ sym (length-map p.blocks.items address_of)) fits
 
   -- it has a step for each block, and its other steps
@@ -127,23 +127,23 @@ module _ (past : Past) (pool : PoolTables) (group : ℕ) (may : MayStart group p
 
   -- its lengths are those after the group
   pub group_lengths : (p : TreePlan) → MakesOldestTree pool group p → AreLengthsOf (contents_after_oldest pool) (lengths_after p.maps pool.tree)
-  group_lengths p makes = lengths_told group pool.unsynced.items pool.tree.maps.items (synced_of pool) (contents_after_oldest pool) oldest_takes_place (lengths_after p.maps pool.tree) makes.lengths
+  group_lengths p makes = lengths_told group pool.unsynced.items pool.tree.entries.items (synced_of pool) (contents_after_oldest pool) oldest_takes_place (lengths_after p.maps pool.tree) makes.1.lengths
 
   -- and its plan is not short of blocks
-  pub never_short : IsShortOfBlocks group pool.unsynced.items pool.tree.maps.items (pointers_of pool.tree) (contents_after_oldest pool).objects (rising pool.free.free) → ⊥
-  never_short short =
-      enough_blocks (pool_shown pool) past explained group pool.unsynced.items oldest_ops (contents_after_oldest pool) pool.tree.maps.items oldest_takes_place (pointers_of pool.tree)
+  pub never_short : (old : Place → Pointer) → IsShortOfBlocks group pool.unsynced.items pool.tree.entries.items old (contents_after_oldest pool).objects (rising pool.free.free) → ⊥
+  never_short old short =
+      enough_blocks (pool_shown pool) past explained group pool.unsynced.items oldest_ops (contents_after_oldest pool) pool.tree.entries.items oldest_takes_place old
       idle may.0 (rising pool.free.free) (length-rising pool.free.free) short
 
 -- What a device holds: a plan of the group is what a start of its sync asks, with each past.
-module _ (now : List ℕ) (past : Past) (pool : PoolTables) (group moment : ℕ) (p : TreePlan) (may : MayStart group pool.groups.line) (makes : MakesOldestTree pool group p) (x : IsHeld (held_with (pool_told pool now) past)) where
+module _ (now : List ℕ) (past : Past) (pool : PoolTables) (group moment : ℕ) (p : TreePlan) (may : MayStart group pool.groups.line) (objects : HoldsOldestObjects pool group p) (x : IsHeld (held_with (pool_told pool now) past)) where
   abbrev pub plan : SyncPlan
   plan = begun_plan pool group moment p
 
   to : LeadsTo (pool_shown pool) past group pool.unsynced.items (contents_after_oldest pool)
   to = oldest_leads past pool group may x.explained
 
-  takes_place : TakesPlace (pending_ops group pool.unsynced.items) pool.tree.maps.items (synced_of pool) (contents_after_oldest pool)
+  takes_place : TakesPlace (pending_ops group pool.unsynced.items) pool.tree.entries.items (synced_of pool) (contents_after_oldest pool)
   takes_place = oldest_takes_place past pool group may x.explained
 
   -- its stages write the name of the contents that it leaves
@@ -156,20 +156,21 @@ module _ (now : List ℕ) (past : Past) (pool : PoolTables) (group moment : ℕ)
       subst (λ (c : Contents). WritesName stages (length now) pool.guid group c.name (contents_after_oldest pool).name) same
       (subst (λ (n : ℕ). WritesName stages n pool.guid group pool.synced.name (contents_after_oldest pool).name) long (writes pool.synced.name))
 
-  -- and the plan makes the tree of these contents, if its blocks hold them
-  pub group_planned : HoldsOldestObjects pool group p
-      → IsPlannedSync (frame_at (pool_shown pool) group) (pointers_of pool.tree) (plan_pointers pool.tree p) (map new_block p.blocks.items) x.kept.stored.synced.objects (contents_after_oldest pool).objects plan
-  group_planned objects =
-      planned_sync now (pool_shown pool) past (pointers_of pool.tree) x.kept.stored x.explained group (group_above past pool group may x.explained) pool.unsynced.items (contents_after_oldest pool) to.bounded pool.tree.maps.items takes_place
-      (plan_pointers pool.tree p) (map new_block p.blocks.items) plan objects (addresses_are p.blocks.items) makes.whole makes.freed makes.used refl
+  -- and the plan makes the tree of these contents
+  pub group_planned : IsPlannedSync (frame_at (pool_shown pool) group) (pointers_of pool.tree) (plan_pointers pool.tree p) (map new_block p.blocks.items) x.kept.stored.synced.objects (contents_after_oldest pool).objects plan
+  group_planned =
+      let places = objects.made.places in
+      let holes = makes_holes (pending_ops group pool.unsynced.items) pool.tree.entries.items (synced_of pool) (contents_after_oldest pool) takes_place places.objects places.changes in
+      planned_sync now (pool_shown pool) past (pointers_of pool.tree) x.kept.stored x.explained group (group_above past pool group may x.explained) pool.unsynced.items (contents_after_oldest pool) to.bounded pool.tree.entries.items takes_place
+      (plan_pointers pool.tree p) (map new_block p.blocks.items) plan objects.held (addresses_are p.blocks.items) objects.made.whole (places.freed holes) (places.used holes) refl
 
   -- what it takes is what its tree has at the places that it writes, in order
   pub group_takes : map (λ (place : Place). (plan_pointers pool.tree p place).address) (written_places (ops_of_group group past.entries) (synced_of pool) (has_block now (pool_shown pool).root)) ≡ plan.taken
   group_takes =
-      takes_in_order now (pool_shown pool) past (pointers_of pool.tree) x.kept.stored x.explained group pool.unsynced.items (oldest_ops past pool group may x.explained) (contents_after_oldest pool) pool.tree.maps.items takes_place
-      (plan_pointers pool.tree p) (map new_block p.blocks.items) plan makes.places (addresses_are p.blocks.items)
+      takes_in_order now (pool_shown pool) past (pointers_of pool.tree) x.kept.stored x.explained group pool.unsynced.items (oldest_ops past pool group may x.explained) (contents_after_oldest pool) pool.tree.entries.items takes_place
+      (plan_pointers pool.tree p) (map new_block p.blocks.items) p.freed.items plan objects.made.places (addresses_are p.blocks.items)
 
   pub group_takes_each : TakesForEach now (record { shown = pool_shown pool; past = past }) group plan
   group_takes_each =
-      takes_for_each now (pool_shown pool) past (pointers_of pool.tree) x.kept.stored x.explained group pool.unsynced.items (oldest_ops past pool group may x.explained) (contents_after_oldest pool) pool.tree.maps.items takes_place
-      (plan_pointers pool.tree p) (map new_block p.blocks.items) plan makes.places (addresses_are p.blocks.items)
+      takes_for_each now (pool_shown pool) past (pointers_of pool.tree) x.kept.stored x.explained group pool.unsynced.items (oldest_ops past pool group may x.explained) (contents_after_oldest pool) pool.tree.entries.items takes_place
+      (plan_pointers pool.tree p) (map new_block p.blocks.items) p.freed.items plan objects.made.places (addresses_are p.blocks.items)

@@ -63,7 +63,7 @@ module _ (keeps : Type 0) (now : List ℕ) (moment : ℕ) (pool : PoolTables) wh
       (λ k past x. start_wants (Unit {0}) now past (pool_shown pool) moment group e stands may.0 may.1 (plan_wants (Unit {0}) e (none_short past x.explained) refused (λ _. sound k (tree_held now past pool x))))
     where
       none_short : (past : Past) → IsExplainedNow (pool_shown pool) past → e ≡ error.NoSpace → ⊥
-      none_short past x space = never_short past pool group may x (short space)
+      none_short past x space = never_short past pool group may x (short space).0 (short space).1
 
   -- a sync of this group that starts by this plan
   module _ (g : Group) (planned : TreePlan) where
@@ -105,7 +105,7 @@ module _ (keeps : Type 0) (now : List ℕ) (moment : ℕ) (pool : PoolTables) wh
           let shows = ap (λ (q : SyncPlan). Some q) plan_is in
           record {
             step = λ past x. (past, starts_at ⊥ [] past _ is x (λ never. absurd never));
-            held = λ k past x. (past, starts_at (Unit {0}) now past _ is x.explained (λ _. group_takes_each now past pool g.0 moment planned may makes x));
+            held = λ k past x. (past, starts_at (Unit {0}) now past _ is x.explained (λ _. group_takes_each now past pool g.0 moment planned may (objects k (tree_held now past pool x)) x));
             order = λ k past x. record {
               synced = synced_of pool;
               replayed = x.explained.trees.synced.replayed;
@@ -113,7 +113,7 @@ module _ (keeps : Type 0) (now : List ℕ) (moment : ℕ) (pool : PoolTables) wh
               running = running;
               plan = plan;
               plan_is = shows;
-              each = group_takes now past pool g.0 moment planned may makes x;
+              each = group_takes now past pool g.0 moment planned may (objects k (tree_held now past pool x)) x;
             };
             leads = λ k past later. record {
               same = refl;
@@ -126,7 +126,7 @@ module _ (keeps : Type 0) (now : List ℕ) (moment : ℕ) (pool : PoolTables) wh
               running = running;
               plan_is = shows;
               slot_is = slot_is;
-              planned = λ x. group_planned now past pool g.0 moment planned may makes x (objects k (tree_held now past pool x));
-              named = λ x. group_named now past pool g.0 moment planned may makes x (config_of r.run.stages) writes;
+              planned = λ x. group_planned now past pool g.0 moment planned may (objects k (tree_held now past pool x)) x;
+              named = λ x. group_named now past pool g.0 moment planned may (objects k (tree_held now past pool x)) x (config_of r.run.stages) writes;
             };
           }

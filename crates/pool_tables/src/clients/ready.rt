@@ -118,11 +118,11 @@ fn a_group_that_quiesces_is_not_synced_yet<B: BlockReader>(
 }
 
 // A sync that runs goes on unless the device refuses its call, and syncs its own group.
-fn a_running_sync_goes_on<D: SectorDevice>(
+fn a_running_sync_goes_on<B: BlockReader>(
     pool: &mut PoolTables,
-    device: &mut D,
+    device: &mut B,
 ) -> Result<Progress, PoolError>
-    requires sized { D.size device.old ≡ geometry_of pool.old }
+    requires sized { B.size device.old ≡ geometry_of pool.old }
     requires running { (pool_shown pool.old).suspended ≡ false }
     requires syncing { (pool_shown pool.old).line.syncing ≡ Some 9 }
     ensures goes_on { IfOk result
@@ -133,11 +133,11 @@ fn a_running_sync_goes_on<D: SectorDevice>(
 }
 
 // Without a sync none goes on.
-fn no_sync_goes_on_if_none_runs<D: SectorDevice>(
+fn no_sync_goes_on_if_none_runs<B: BlockReader>(
     pool: &mut PoolTables,
-    device: &mut D,
+    device: &mut B,
 ) -> Result<Progress, PoolError>
-    requires sized { D.size device.old ≡ geometry_of pool.old }
+    requires sized { B.size device.old ≡ geometry_of pool.old }
     requires running { (pool_shown pool.old).suspended ≡ false }
     requires none { (pool_shown pool.old).line.syncing ≡ None }
     ensures refused { result ≡ Err PoolError.NotReady }

@@ -9,17 +9,17 @@ use device_model::SectorDevice;
 use object_maps::BlockReader;
 
 // A step of a sync that is refused as a write, or as a flush, had that call refused, once.
-fn a_refused_sync_step_is_one_refused_call<D: SectorDevice>(
+fn a_refused_sync_step_is_one_refused_call<B: BlockReader>(
     pool: &mut PoolTables,
-    device: &mut D,
+    device: &mut B,
 ) -> Result<Progress, PoolError>
-    requires sized { D.size device.old ≡ geometry_of pool.old }
-    requires count { D.refused device.old ≡ record { reads = 1; writes = 4; flushes = 7 } }
+    requires sized { B.size device.old ≡ geometry_of pool.old }
+    requires count { B.refused device.old ≡ record { reads = 1; writes = 4; flushes = 7 } }
     ensures write { result ≡ Err PoolError.Write
-        → D.refused device.new ≡ record { reads = 1; writes = 5; flushes = 7 } }
+        → B.refused device.new ≡ record { reads = 1; writes = 5; flushes = 7 } }
     ensures flush { result ≡ Err PoolError.Flush
-        → D.refused device.new ≡ record { reads = 1; writes = 4; flushes = 8 } }
-    ensures good { OnOk result (D.refused device.new ≡ D.refused device.old) }
+        → B.refused device.new ≡ record { reads = 1; writes = 4; flushes = 8 } }
+    ensures good { OnOk result (B.refused device.new ≡ B.refused device.old) }
 {
     pool.sync_step(device)
 }

@@ -1,5 +1,6 @@
 //! The groups of a pool and their syncs. A group closes and is quiesced. When its sync starts, all that it writes is
-//! planned, for which the records that it changes in part are read. Then it is written out call by call. After the last
+//! planned. For that the indirect block of each object that it changes is read, with the records that it changes in
+//! part: the tables keep no pointer to a record of the synced tree. Then it is written out call by call. After the last
 //! call the pool lays its changes into the synced objects, and what the sync replaced is free.
 
 ghost use Rattle.std.specs.Prelude.{◌≡◌, ◌≤◌, ℕ, List, count_by, length, take, IfErr, IfOk, IsTrue, OnErr, false, is_some, unwrap_or};
@@ -17,17 +18,17 @@ ghost use Rattle.intent_log.specs.Kept.{header_fields, log_shown};
 ghost use Rattle.pool_tables.specs.Running.{KeepsHeader, stages_for};
 ghost use Rattle.pool_tables.specs.RunningUberblocks.{WritesUberblock};
 
-use crate::blocks::{end_charges, give_all, give_log, take_all};
+use crate::blocks::{end_charges, give_log, keep_blocks, take_all};
 use crate::pool::{PoolTables, Progress, RunningSync};
 use base::{Group, PoolError, WRITTEN_VERSION};
-use device_model::SectorDevice;
 use extents::UnsyncedExtents;
-use group_plans::plan_group;
+use group_plans::{GroupSource, plan_group};
+use import_replay::give_all;
 use labels::{LabelConfig, Stage};
 use object_maps::{BlockReader, Contents};
 use sync::{LabelStages, SyncCall, SyncRun};
 use transactions::Record;
-use tree_plans::{PlanSource, TreePlan};
+use tree_plans::TreePlan;
 use uberblocks::{Uberblock, slot};
 
 impl PoolTables {
@@ -67,8 +68,9 @@ impl PoolTables {
     }
 
     /// Starts the sync of the quiesced group, with this moment in its uberblocks, and takes the blocks that it writes.
-    /// It reads each record that the group changes in part. Refused, in this order, `Suspended` or `NotReady`, then
-    /// `NoMemory`, `Read` or `Damaged` as they come, and then nothing is changed.
+    /// It reads the indirect block of each changed object, rising, and then each record that the group changes in part.
+    /// Refused, in this order, `Suspended` or `NotReady`, then `NoMemory`, `Read` or `Damaged` as they come, and then
+    /// nothing is changed.
     pub fn start_sync<B: BlockReader>(
         &mut self,
         reader: &mut B,
@@ -122,7 +124,7 @@ impl PoolTables {
             → HoldsSyncedTree self.now (bytes_of (B.disk reader.old).now)
             → IfErr result IsHeldRefusal }
     {
-        let source = PlanSource {
+        let source = GroupSource {
             alloc: self.alloc,
             geometry: self.geometry,
             guid: self.guid,
@@ -149,7 +151,8 @@ impl PoolTables {
         ensures begins { BeginsPlan planned result }
         ensures plan { plan_of self.now.tree (contents_after_oldest self.now) result
             ≡ begun_plan self.now group.0 moment planned }
-        ensures header { KeepsHeader group.0 (header_fields result.header) (log_shown self.now.log) }
+        ensures header { KeepsHeader group.0 (header_fields result.header)
+            (log_shown self.now.log) }
         ensures uberblock { WritesUberblock
             (uberblock_for self.now group.0 moment planned.root) result.run }
         ensures stages { result.run.stages ≡ stages_for self.now.guid group.0 self.now.geometry
@@ -211,21 +214,22 @@ impl PoolTables {
         })
     }
 
-    /// Makes the next device call of the running sync; after the last one its group is synced. Refused, in this order,
-    /// `Suspended`, `NotReady`, or `Write` or `Flush` as the device refused, and then the pool is suspended.
-    pub fn sync_step<D: SectorDevice>(&mut self, device: &mut D) -> Result<Progress, PoolError>
-        requires { D.size device.old ≡ geometry_of self.old }
-        ensures size { D.size device.new ≡ D.size device.old }
+    /// Makes the next device call of the running sync; after the last one its group is synced, and the device keeps the
+    /// blocks that it wrote. Refused, in this order, `Suspended`, `NotReady`, or `Write` or `Flush` as the device
+    /// refused, and then the pool is suspended.
+    pub fn sync_step<B: BlockReader>(&mut self, device: &mut B) -> Result<Progress, PoolError>
+        requires { B.size device.old ≡ geometry_of self.old }
+        ensures size { B.size device.new ≡ B.size device.old }
         ensures geometry { geometry_of self.new ≡ geometry_of self.old }
         ensures step { StepsSync result (pool_shown self.old) (pool_shown self.new) }
-        ensures called { MakesNextOf (IsTrue D.keeps_model) D.disk self.old (plain_answer result)
+        ensures called { MakesNextOf (IsTrue B.keeps_model) B.disk self.old (plain_answer result)
             device.old device.new }
-        ensures count { D.refused device.new ≡ counted result (D.refused device.old) }
-        ensures leads { IsTrue D.keeps_model → Leads (sync_step_reply result)
-            (pool_told self.old (bytes_of (D.disk device.old).now))
-            (pool_told self.new (bytes_of (D.disk device.new).now)) }
-        ensures phases { IsTrue D.keeps_model → StepsPhases result self.old.suspended
-            (run_in self.old) (run_in self.new) (D.disk device.old) (D.disk device.new) }
+        ensures count { B.refused device.new ≡ counted result (B.refused device.old) }
+        ensures leads { IsTrue B.keeps_model → Leads (sync_step_reply result)
+            (pool_told self.old (bytes_of (B.disk device.old).now))
+            (pool_told self.new (bytes_of (B.disk device.new).now)) }
+        ensures phases { IsTrue B.keeps_model → StepsPhases result self.old.suspended
+            (run_in self.old) (run_in self.new) (B.disk device.old) (B.disk device.new) }
     {
         self.check_running()?;
         let Some(running) = &mut self.sync else {
@@ -244,7 +248,8 @@ impl PoolTables {
                 drop_synced(&mut self.unsynced, &mut self.written, group);
                 lay_oldest(&mut self.changes, &mut self.synced);
                 give_log(&mut self.free, self.geometry, &mut self.log, synced.header);
-                self.finish_tree(synced);
+                let run = self.finish_tree(synced);
+                keep_blocks(device, run);
                 Ok(Progress::Synced(group))
             }
             Ok(SyncCall::More) => Ok(Progress::More),
@@ -255,8 +260,9 @@ impl PoolTables {
         }
     }
 
-    // The synced group's tree is the pool's, and what it replaced is free (rule 6).
-    fn finish_tree(&mut self, running: RunningSync)
+    // The synced group's tree is the pool's, and what it replaced is free (rule 6). The run of its sync comes
+    // back.
+    fn finish_tree(&mut self, running: RunningSync) -> SyncRun
         requires none { is_some self.old.sync ≡ false }
         requires geometry { running.run.geometry ≡ self.old.geometry }
         requires placed { ∥ ArePlaced (block_count self.old.geometry)
@@ -272,7 +278,7 @@ impl PoolTables {
             group: _,
             moment: _,
             header: _,
-            run: _,
+            run,
             maps,
             directories,
             root,
@@ -282,6 +288,7 @@ impl PoolTables {
         self.tree.directories = directories;
         self.tree.set_all(maps);
         give_all(&mut self.free, self.geometry, &freed);
+        run
     }
 }
 

@@ -1,7 +1,6 @@
 use Rattle.std.proofs.Common.{◌∙◌, ℕ, List, ap}
-use Rattle.std.specs.Prelude.{Err, Result}
+use Rattle.std.specs.Prelude.{Result}
 use Rattle.base.specs.declared.error.PoolError.{PoolError}
-use Rattle.base.specs.declared.error.PoolError.TheVariants as error
 use Rattle.base.specs.disk.Calls.{counted}
 use Rattle.base.specs.steps.Refusals.{object_range}
 use Rattle.pool_tables.specs.Shows.{pool_shown}

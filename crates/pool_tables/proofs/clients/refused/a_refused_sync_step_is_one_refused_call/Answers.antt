@@ -9,4 +9,4 @@ pub returns-clause-flush : goal.returns-clause-flush
 returns-clause-flush g c = λ is. c.sync_step.ensures.count ∙ rw (is, c.requires.count) refl
 
 pub returns-clause-good : goal.returns-clause-good
-returns-clause-good g c = ok_counts c.sync_step.result (g.D.SectorDevice.refused c.args.device.now) (g.D.SectorDevice.refused c.sync_step.new.device) c.sync_step.ensures.count
+returns-clause-good g c = ok_counts c.sync_step.result (g.B.SectorDevice.refused c.args.device.now) (g.B.SectorDevice.refused c.sync_step.new.device) c.sync_step.ensures.count

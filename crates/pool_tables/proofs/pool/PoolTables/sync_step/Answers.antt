@@ -59,8 +59,8 @@ next-requires-clause-sized g c =
     let was = c.args.self.now.running c.in-Some.running c.in-Some.is in
     c.requires ∙ sym was.geometry
 
-pub finish_tree-requires-clause-placed : goal.finish_tree-requires-clause-placed
-finish_tree-requires-clause-placed g c =
+pub finish_tree-run-requires-clause-placed : goal.finish_tree-run-requires-clause-placed
+finish_tree-run-requires-clause-placed g c =
     let pool = c.args.self.now in
     let same = kept_sync c.in-Some-take.synced _ c.in-Some-take.ensures.value in
     subst (λ (r : RunningSync). ∥ ArePlaced (block_count pool.geometry) (tree_after r pool.tree) ∥₁) (sym same) ((pool.running c.in-Some.running c.in-Some.is).placed)
@@ -189,7 +189,7 @@ returns-in-Ok-clause-step g c =
     let contents = same_contents pool.changes pool.synced c.lay_oldest.new.synced c.lay_oldest.ensures.contents c.lay_oldest.new.changes c.lay_oldest.ensures.changes in
     step_synced s _ c.in-Some.running.group.0 c.in-Some-take.synced.group.0 _ c.in_ok-check_running.ensures syncing (was_planned pool c.in-Some.running is)
     (one_left c.in-Some.running.run c.next.new.self told.counts.same told.counts.done (told.counts.last.0 c.in-Ok-Last.field-0-is)) (ap (λ (r : RunningSync). r.group.0) same)
-    (c.finish_tree.ensures.shown ∙ rw (finished, c.take.ensures.after, c.end_charges.ensures.dirty, c.give_log.ensures.free, c.end_charges.ensures.free, blocks_of-remove)
+    (c.finish_tree-run.ensures.shown ∙ rw (finished, c.take.ensures.after, c.end_charges.ensures.dirty, c.give_log.ensures.free, c.end_charges.ensures.free, blocks_of-remove)
     (λ k. shown_after_tree (same k) pool.tree (record s {
       line = line_after_sync (same k).group.0 s.line;
       dirty = finite.remove s.dirty (same k).group.0;
@@ -227,7 +227,7 @@ returns-in-Err-clause-step g c =
 pub returns-in_err-check_running-clause-leads : goal.returns-in_err-check_running-clause-leads
 returns-in_err-check_running-clause-leads g c = λ keeps.
     let p = err_from_is_err_and c.from_residual.result c.from_residual.ensures.1 in
-    still_pool (sync_step_reply c.from_residual.result) p.0 (bytes_of (g.D.SectorDevice.disk c.args.device.now).now) c.args.self.now (ap (λ (r : Result Progress PoolError). sync_step_reply r) p.1)
+    still_pool (sync_step_reply c.from_residual.result) p.0 (bytes_of (g.B.SectorDevice.disk c.args.device.now).now) c.args.self.now (ap (λ (r : Result Progress PoolError). sync_step_reply r) p.1)
 
 pub returns-in_default-clause-leads : goal.returns-in_default-clause-leads
 returns-in_default-clause-leads g c = λ keeps past later. (refl, refl, refl)
@@ -239,12 +239,12 @@ returns-in-Ok-clause-leads g c = λ keeps.
     let was = pool.running c.in-Some.running is in
     let told = c.in-Ok-Last.ensures in
     let same = kept_sync c.in-Some-take.synced _ c.in-Some-take.ensures.value in
-    let sized = g.met.D.SectorDevice.sized keeps c.args.device.now ∙ c.requires in
-    leads_as (reply.Synced c.in-Some.running.group) (reply.Synced c.in-Some-take.synced.group) (pool_told pool (bytes_of (g.D.SectorDevice.disk c.args.device.now).now))
-    (pool_told c.finish_tree.new.self (bytes_of (g.D.SectorDevice.disk c.next.new.device).now)) (ap (λ (r : RunningSync). reply.Synced r.group) (sym same))
-    (synced_told pool c.in-Some.running c.next.new.self (g.D.SectorDevice.disk c.args.device.now) (g.D.SectorDevice.disk c.next.new.device) is told.counts.same sized was.geometry told.called.call told.called.next
-    c.finish_tree.new.self told.counts.done (told.counts.last.0 c.in-Ok-Last.field-0-is) (told.called.made keeps) (c.finish_tree.ensures.sync ∙ c.take.ensures.after)
-    (subst (λ (r : RunningSync). SamePlaces (pointers_of c.finish_tree.new.self.tree) (tree_after r pool.tree)) same c.finish_tree.ensures.pointers))
+    let sized = g.met.B.SectorDevice.sized keeps c.args.device.now ∙ c.requires in
+    rw c.keep_blocks.ensures.disk (leads_as (reply.Synced c.in-Some.running.group) (reply.Synced c.in-Some-take.synced.group) (pool_told pool (bytes_of (g.B.SectorDevice.disk c.args.device.now).now))
+    (pool_told c.finish_tree-run.new.self (bytes_of (g.B.SectorDevice.disk c.next.new.device).now)) (ap (λ (r : RunningSync). reply.Synced r.group) (sym same))
+    (synced_told pool c.in-Some.running c.next.new.self (g.B.SectorDevice.disk c.args.device.now) (g.B.SectorDevice.disk c.next.new.device) is told.counts.same sized was.geometry told.called.call told.called.next
+    c.finish_tree-run.new.self told.counts.done (told.counts.last.0 c.in-Ok-Last.field-0-is) (told.called.made keeps) (c.finish_tree-run.ensures.sync ∙ c.take.ensures.after)
+    (subst (λ (r : RunningSync). SamePlaces (pointers_of c.finish_tree-run.new.self.tree) (tree_after r pool.tree)) same c.finish_tree-run.ensures.pointers)))
 
 pub returns-in-Ok-More-clause-leads : goal.returns-in-Ok-More-clause-leads
 returns-in-Ok-More-clause-leads g c = λ keeps past later.
@@ -253,9 +253,9 @@ returns-in-Ok-More-clause-leads g c = λ keeps past later.
     let is = c.in-Some.is in
     let size = (pool.running r is).geometry in
     let told = c.in-Ok-More.ensures in
-    let sized = g.met.D.SectorDevice.sized keeps c.args.device.now ∙ c.requires in
-    let before = g.D.SectorDevice.disk c.args.device.now in
-    let after = g.D.SectorDevice.disk c.next.new.device in
+    let sized = g.met.B.SectorDevice.sized keeps c.args.device.now ∙ c.requires in
+    let before = g.B.SectorDevice.disk c.args.device.now in
+    let after = g.B.SectorDevice.disk c.next.new.device in
     let advances = advanced pool r c.next.new.self before after is told.counts.same sized size told.called.call told.called.next told.counts.done (told.called.made keeps) in
     (made_by (tree_after r pool.tree) c.next.new.self, record { before = made_by (tree_after r pool.tree) r.run; running = was_running pool r is; group = r.group.0; syncing = was_syncing pool r is; advances = advances }, refl, refl)
 
@@ -265,8 +265,8 @@ returns-in-Err-clause-leads g c = λ keeps past later.
     let r = c.in-Some.running in
     let is = c.in-Some.is in
     let told = c.in-Err.ensures in
-    let before = g.D.SectorDevice.disk c.args.device.now in
-    let after = g.D.SectorDevice.disk c.next.new.device in
+    let before = g.B.SectorDevice.disk c.args.device.now in
+    let after = g.B.SectorDevice.disk c.next.new.device in
     (failed_call r.run told.called.call c.in-Err.error before after (told.called.made keeps), refl, failed_running pool r c.next.new.self is told.counts.same told.counts.done)
 
 pub returns-in_err-check_running-clause-phases : goal.returns-in_err-check_running-clause-phases
@@ -281,9 +281,9 @@ returns-in-Ok-clause-phases g c = λ keeps.
       c.in-Some.running.run,
       c.next.new.self,
       ap (λ (o : Option RunningSync). option_map (λ (r : RunningSync). r.run) o) c.in-Some.is,
-      ap (λ (o : Option RunningSync). option_map (λ (r : RunningSync). r.run) o) (c.finish_tree.ensures.sync ∙ c.take.ensures.after),
+      ap (λ (o : Option RunningSync). option_map (λ (r : RunningSync). r.run) o) (c.finish_tree-run.ensures.sync ∙ c.take.ensures.after),
       told.counts.last.0 c.in-Ok-Last.field-0-is,
-      record { running = c.in_ok-check_running.ensures; same = told.counts.same; written = told.written keeps; phases = told.phases keeps },
+      record { running = c.in_ok-check_running.ensures; same = told.counts.same; written = rw c.keep_blocks.ensures.disk (told.written keeps); phases = rw c.keep_blocks.ensures.disk (told.phases keeps) },
     )
 
 pub returns-in-Ok-More-clause-phases : goal.returns-in-Ok-More-clause-phases
@@ -317,7 +317,7 @@ pub returns-in-Ok-clause-called : goal.returns-in-Ok-clause-called
 returns-in-Ok-clause-called g c =
     let told = c.in-Ok-Last.ensures in
     rw (c.in_ok-check_running.ensures, c.in-Some.is)
-    (record { call = told.called.call; next = told.called.next; refusal = tt; made = λ keeps. told.called.made keeps })
+    (record { call = told.called.call; next = told.called.next; refusal = tt; made = λ keeps. rw c.keep_blocks.ensures.disk (told.called.made keeps) })
 
 pub returns-in-Ok-More-clause-called : goal.returns-in-Ok-More-clause-called
 returns-in-Ok-More-clause-called g c =

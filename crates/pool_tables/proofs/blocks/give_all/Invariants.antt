@@ -1,7 +1,0 @@
-use Rattle.std.proofs.Common.{◌≡◌, take}
-use Rattle.pool_tables.specs.Areas.{after_gives}
-use Rattle.pool_tables.proofs.blocks.give_all.Given as goal
-
--- the addresses so far have come back
-abbrev pub invariant-loop-address : goal.invariant-loop-address
-invariant-loop-address l = l.free ≡ after_gives (take l.address-index l.addresses) l.fn.free
