@@ -12,7 +12,7 @@ use Rattle.base.specs.formats.Limits.{object_count}
 use Rattle.base.specs.history.Past.{Past}
 use Rattle.base.specs.steps.Shown.{Shown, SyncPlan}
 use Rattle.device_model.specs.declared.device.SectorDevice.{Ghosts}
-use Rattle.object_maps.specs.declared.tree.ObjectMap.{ObjectMap}
+use Rattle.object_maps.specs.declared.tree.ObjectEntry.{ObjectEntry}
 use Rattle.object_maps.specs.declared.tree.Tree.{Tree}
 use Rattle.object_maps.specs.Lengths.{lengths_of}
 use Rattle.pool_tables.specs.declared.pool.RunningSync.{RunningSync}
@@ -49,7 +49,7 @@ shown_in-note s lengths plan =
     ∙ ap (λ (o : Option SyncPlan). record s { sync = o }) (plan_in-note_plan s.sync plan)
 
 tree_is_of_objects : (tree : Tree) → AreOfObjects (lengths_of tree)
-tree_is_of_objects tree n past = ap (λ (o : Option ObjectMap). option_map_or (λ (m : ObjectMap). m.length) o None) (slice_get_past tree.maps.items n (omega (arith, past, tree.maps.ok.0, tree.all_objects)))
+tree_is_of_objects tree n past = ap (λ (o : Option ObjectEntry). option_map_or (λ (m : ObjectEntry). m.length) o None) (slice_get_past tree.entries.items n (omega (arith, past, tree.entries.ok.0, tree.all_objects)))
 
 -- so are the lengths after a sync
 lengths_after_of_objects : (r : RunningSync) (tree : Tree) → AreOfObjects (lengths_after r.maps tree)

@@ -14,7 +14,8 @@ use word_lock::Seat;
 /// step; a flush of a sync is such a step. `transact` makes a whole transaction, of several steps.
 ///
 /// For proofs: a handle is a seat at the pool's lock. Its calls say that its number stays, except for `split`, which
-/// adds 1. No call has a seat from elsewhere, so none makes a step in a turn that the handle does not show.
+/// adds 1, and `join`, which adds the number of the handle that it takes in. No call but `join` has a seat from
+/// elsewhere, and `join` lists the turns of that seat. So none makes a step in a turn that the handle does not show.
 #[derive(Drop)]
 pub struct Handle<'p, D: SectorDevice> {
     pub(crate) shared: &'p Shared<D>,
