@@ -148,8 +148,11 @@ def count_blocks(objects, records, entries):
 
 
 def count_reads(objects, records, entries):
-    """The number of blocks that a plan of these entries reads, over objects and the records of each that are no holes: of
-    each record that it writes, unless no byte of the record below shows."""
+    """The number of blocks that a plan of these entries reads, over objects and the records of each that are no holes: the
+    indirect block of each object that has one and that an operation is on, and then of each record that it writes, unless
+    no byte of the record below shows."""
+    numbers = {op[1] for entry in entries for op in entry.ops}
+    indirect = sum(bool(records.get(number)) for number in numbers)
     objects, shown, dirty = dict(objects), {}, set()
     for number, some in records.items():
         shown.update({(number, record): set(range(RECORD)) for record in some})
@@ -173,7 +176,7 @@ def count_reads(objects, records, entries):
                             shown[at] -= set(range(max(place - at[1] * RECORD, 0), RECORD))
                     if place % RECORD:
                         dirty.add((number, place // RECORD))
-    return sum(bool(shown.get(at)) for at in dirty)
+    return indirect + sum(bool(shown.get(at)) for at in dirty)
 
 
 def tree_blocks(objects, records):
@@ -388,9 +391,10 @@ class Image:
         self.synced = Tree(tree.group + 4, self.name, self.objects, records)
 
     def calls(self):
-        """The device calls of an import: a flush; the reads of four arrays of uberblocks, four configs, the tree, the
-        log and the records that the replayed entries change in part; the blocks of these entries, a flush; two configs, a
-        flush; four uberblocks, a flush; two configs, a flush."""
+        """The device calls of an import: a flush; the reads of four arrays of uberblocks, four configs, the tree and the
+        log; those of the indirect blocks of the objects that the replayed entries are on, and of the records that they
+        change in part; the blocks of these entries, a flush; two configs, a flush; four uberblocks, a flush; two configs, a
+        flush."""
         reads = 8 + tree_blocks(*self.tree[2:]) + self.places + self.reads
         labels = [PART] * 2 + ["flush"]
         blocks = [PART] * self.blocks + ["flush"]
