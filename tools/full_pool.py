@@ -11,9 +11,8 @@ the log and for a sync.
 Then nine rounds, each of four processes, one after the other: `PROGRAM show FILE`, `PROGRAM check FILE`, a script that imports
 the pool, and this script with `--hash`, which reads the same blocks one by one and makes of each the digest that its check is
 compared with, by Python's hashlib. A time is user and system seconds of the process, without the start of Python. The memory is
-the most that was resident: it has to be under 12 MiB for `show` and for `check`, and under 20 MiB for an import. What they print
-has to be the pool's. At last a script imports the pool, reads, writes and syncs, and has the digest, for its memory alone: under
-20 MiB.
+the most that was resident: it has to be under 6 MiB. What they print has to be the pool's. At last a script imports the pool, reads,
+writes and syncs, and has the digest, for its memory alone: under 8 MiB.
 
 A ratio is that of the least times, and that of the medians is printed beside it. On a busy machine a few rounds tell little:
 single ones differ by half. The status is 1 if a ratio is above its bound or the memory not under its own, and 2 if a process
@@ -28,6 +27,7 @@ import statistics
 import subprocess
 import sys
 import tempfile
+import time
 
 MIB = 2**20
 SIZE = 2**30
@@ -57,8 +57,8 @@ MAGIC = 0x00BAB10C
 
 ROUNDS = 9
 # Of each process: the greatest ratio of its time to that of the hash, and the bytes that its memory stays under.
-BOUNDS = {"show": (1.2, 12 * MIB), "check": (1.2, 12 * MIB), "import": (1.1, 20 * MIB)}
-MEMORY_IN_USE = 20 * MIB
+BOUNDS = {"show": (1.2, 6 * MIB), "check": (1.2, 6 * MIB), "import": (1.1, 6 * MIB)}
+MEMORY_IN_USE = 8 * MIB
 NO_CHECK = bytes(32)
 NO_POINTER = bytes(48)
 
@@ -178,18 +178,38 @@ def hash_blocks(path):
     print(seconds(resource.getrusage(resource.RUSAGE_SELF)) - before)
 
 
+def peak(process):
+    """The most bytes that a process had in memory, as the kernel tells until it ends.
+
+    `ru_maxrss` would count what this script had in memory when it began the process.
+    """
+    most = 0
+    while process.poll() is None:
+        try:
+            status = pathlib.Path(f"/proc/{process.pid}/status").read_text()
+        except OSError:
+            break
+        for line in status.splitlines():
+            if line.startswith("VmHWM:"):
+                most = max(most, int(line.split()[1]) * 1024)
+        time.sleep(0.005)
+    return most
+
+
 def run(*command, lines=()):
     """What a command prints that is handed these lines, its seconds, and the most bytes that it had in memory."""
-    process = subprocess.Popen(command, stdin=subprocess.PIPE, stdout=subprocess.PIPE, text=True)
-    process.stdin.write("".join(line + "\n" for line in lines))
-    process.stdin.close()
-    printed = process.stdout.read()
-    _, status, usage = os.wait4(process.pid, 0)
-    process.returncode = os.waitstatus_to_exitcode(status)
-    if process.returncode != 0:
-        print(f"{command} ended with {process.returncode}", file=sys.stderr)
-        sys.exit(2)
-    return printed, seconds(usage), usage.ru_maxrss * 1024
+    with tempfile.TemporaryFile("w+") as printed, tempfile.TemporaryFile("w+") as handed:
+        handed.write("".join(line + "\n" for line in lines))
+        handed.seek(0)
+        before = seconds(resource.getrusage(resource.RUSAGE_CHILDREN))
+        process = subprocess.Popen(command, stdin=handed, stdout=printed, text=True)
+        memory = peak(process)
+        if process.wait() != 0:
+            print(f"{command} ended with {process.returncode}", file=sys.stderr)
+            sys.exit(2)
+        took = seconds(resource.getrusage(resource.RUSAGE_CHILDREN)) - before
+        printed.seek(0)
+        return printed.read(), took, memory
 
 
 def tell(is_told, what):

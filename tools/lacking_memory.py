@@ -4,8 +4,8 @@
     python3 tools/lacking_memory.py PROGRAM [WORD [JOBS]]
 
 PROGRAM is a built `ztxg`, which takes its memory by `malloc` of the C library. The scripts are those of
-`tools/rows/*.rows` whose file or title has the WORD (all if not given). `cc` compiles a `malloc` that refuses one
-request of a run. For each request of each script,
+`tools/rows/*.rows` whose file or title has the WORD (all if not given), without the reads that they plan to fail. `cc`
+compiles a `malloc` that refuses one request of a run. For each request of each script,
 
 - the answers are those of the undisturbed run up to a line, which is refused `1 NoMemory`. That line again and all later
   lines then answer as undisturbed. In place of a `sync` a `start` and a `finish` do, since its group is closed by then.
@@ -79,8 +79,9 @@ class Script:
     def __init__(self, program, shim, row):
         self.program, self.shim, self.head = program, shim, row.head
         _, self.size, self.moment, _ = row.head.split(" ", 3)
-        # Lines that print nothing would move the answers away from their lines.
-        self.lines = [line for line, answer in row.lines if answer is not None]
+        # Lines that print nothing would move the answers away from their lines. A read that is planned to fail would be another
+        # one if a block isn't kept for lack of memory.
+        self.lines = [line for line, answer in row.lines if answer is not None and not line.startswith(b"fail read ")]
         self.kept = {}
 
     def run(self, lines, fail_at=0, count_file=None):
