@@ -19,11 +19,6 @@ pub cut-three : (p : Patch) (below : Option (List ℕ)) → p.basis ≡ Cut 1 3 
     → patched p below ≡ Some (1 ∷ 0 ∷ 0 ∷ [])
 cut-three p below is none there = rw (is, there, none 0, none 1, none 2) refl
 
--- with its first byte written
-pub written-three : (p : Patch) (below : Option (List ℕ)) → p.basis ≡ Grown 1 → p.written 0 ≡ Some 9 → p.written 1 ≡ None → below ≡ Some (1 ∷ 2 ∷ 3 ∷ [])
-    → patched p below ≡ Some (9 ∷ 2 ∷ unwrap_or (p.written 2) 3 ∷ [])
-written-three p below is first second there = rw (is, there, first, second) refl
-
 made-bytes : (p : Patch) (below : Option (List ℕ)) (size : ℕ) → p.basis ≡ Made size → patched p below ≡ Some (filled p.written [] size)
 made-bytes p below size is = rw is refl
 

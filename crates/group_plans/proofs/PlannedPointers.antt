@@ -64,11 +64,6 @@ records_short entries n = by (slice_get entries n)
     by None = omega arith
     by (Some e) = kept_short e
 
--- what entries have that none has at a number
-not_there : {X : Type 0} (o : Option X) → is_some o ≡ false → o ≡ None
-not_there None e = refl
-not_there (Some x) e = absurd (true≢false e)
-
 module _ (source : PlanSource) (objects : List (ObjectId × ObjectChanges))
     (none : (n : ℕ) → is_some (entry_of objects n) ≡ false → is_some (entry_of source.old_maps.now.entries n) ≡ false) (blocks : ℕ) (of : AreMapsOf blocks source.tree.now source.old_maps.now.entries) where
   abbrev read : List (ObjectId × ObjectMap)
@@ -225,8 +220,3 @@ lengths-set tree new maps told = λ k n. each n k
 pub IfOk_both : {A : Type 0} {P Q R : A → Type 0} (r : Result A PoolError) → ((a : A) → P a → Q a → R a) → IfOk r P → IfOk r Q → IfOk r R
 IfOk_both (Ok a) f h k = f a h k
 IfOk_both (Err e) f h k = tt
-
--- and four
-pub IfOk_all : {A : Type 0} {P Q R S T : A → Type 0} (r : Result A PoolError) → ((a : A) → P a → Q a → R a → S a → T a) → IfOk r P → IfOk r Q → IfOk r R → IfOk r S → IfOk r T
-IfOk_all (Ok a) f p q r s = f a p q r s
-IfOk_all (Err e) f p q r s = tt

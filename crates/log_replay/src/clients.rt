@@ -27,7 +27,8 @@ fn an_empty_chain_has_no_record(
 ) -> Result<Replayed, PoolError>
     requires { blocks.items ≡ [] }
     ensures records { IfOk result (λ r. r.records.items ≡ []) }
-    ensures objects { IfOk result (λ r. laid_over (patches_of r.extents) (contents_of contents.now).objects
+    ensures objects { IfOk result (λ r.
+        laid_over (patches_of r.extents) (contents_of contents.now).objects
         ≡ (contents_of contents.now).objects) }
 {
     replay(alloc, Group(9), contents, blocks)
@@ -42,7 +43,8 @@ fn a_record_of_the_active_group_is_passed_over(
     requires chain { blocks.items ≡ creation_chain 9 }
     requires allowed { IsChainAllowed blocks.items }
     ensures records { IfOk result (λ r. r.records.items ≡ []) }
-    ensures objects { IfOk result (λ r. laid_over (patches_of r.extents) (contents_of contents.now).objects
+    ensures objects { IfOk result (λ r.
+        laid_over (patches_of r.extents) (contents_of contents.now).objects
         ≡ (contents_of contents.now).objects) }
 {
     replay(alloc, Group(9), contents, blocks)

@@ -69,7 +69,8 @@ impl Outline {
         logged: &Record,
     ) -> Result<u64, PoolError>
         requires { IsAllowed (record_fields logged.now) }
-        ensures { ReplaysOutline (above_at group.0 address (logged.now ∷ [])) self.old result self.new }
+        ensures { ReplaysOutline (above_at group.0 address (logged.now ∷ []))
+            self.old result self.new }
     {
         if logged.group.0 <= group.0 {
             return Ok(0);
@@ -139,7 +140,8 @@ impl Outline {
         requires { id.0 < object_count }
         ensures name { self.new.name ≡ self.old.name }
         ensures length { lengths_of self.new.tree id.0 ≡ length }
-        ensures others { (n : ℕ) → n ≢ id.0 → lengths_of self.new.tree n ≡ lengths_of self.old.tree n }
+        ensures others { (n : ℕ) → n ≢ id.0
+            → lengths_of self.new.tree n ≡ lengths_of self.old.tree n }
     {
         self.tree.entries[id.0 as usize].length = length;
     }

@@ -59,7 +59,8 @@ pub fn replay(
 impl Replayed {
     // No records. It takes no memory.
     fn new(alloc: Global) -> Self
-        ensures { (group : ℕ) (contents : Contents) → IsReplayOf group (contents_of contents) [] result }
+        ensures { (group : ℕ) (contents : Contents)
+            → IsReplayOf group (contents_of contents) [] result }
     {
         Replayed {
             extents: Extents::new(alloc),
@@ -76,10 +77,12 @@ impl Replayed {
     ) -> Result<(), PoolError>
         requires group { group.0 ≤ last_number }
         requires allowed { IsBlockAllowed block }
-        ensures applied { (records rest : List Placed) → HasReplayedTo group.0 (contents_of contents.now)
+        ensures applied { (records rest : List Placed)
+            → HasReplayedTo group.0 (contents_of contents.now)
             records (records_above group.0 (block ∷ []) ++ rest) self.old
             → OnOk result (HasReplayedTo group.0 (contents_of contents.now) records rest self.new) }
-        ensures refused { (records rest : List Placed) → HasReplayedTo group.0 (contents_of contents.now)
+        ensures refused { (records rest : List Placed)
+            → HasReplayedTo group.0 (contents_of contents.now)
             records (records_above group.0 (block ∷ []) ++ rest) self.old
             → IfErr result (IsReplayRefusal records (contents_of contents.now)) }
         ensures cause { IfErr result IsReplayCause }

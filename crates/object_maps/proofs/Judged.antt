@@ -1,10 +1,12 @@
 -- Operations that are judged one after another, by whether each object is there.
-use Rattle.std.proofs.Common.{◌≡◌, ℕ, suc, ◌<◌, ◌+◌, List, [], ◌∷◌, ◌++◌, Option, Some, None, Result, Ok, Err, refl, ap, sym, ◌∙◌, ◌⊎◌, inl, inr, true, false, Bool, cond, arith, length, take, drop, subst, Fits, w8}
+use Rattle.std.proofs.Common.{◌≡◌, ℕ, suc, replicate, ◌<◌, ◌+◌, List, [], ◌∷◌, ◌++◌, Option, Some, None, Result, Ok, Err, refl, ap, sym, ◌∙◌, ◌⊎◌, inl, inr, true, false, Bool, cond, arith, length, take, drop, subst, Fits, w8}
 use Rattle.std.specs.Prelude.{◌==◌, ◌||◌, ◌&&◌, not, is_some, get_or, nat_lt, option_map, fold, IfOk}
 use Rattle.std.specs.List.{list_all}
 use Rattle.std.proofs.lemmas.Bool.{and_from, lt-ltb}
-use Rattle.std.proofs.lemmas.List.{append-nil, take_more, take-append-drop}
+use Rattle.std.proofs.lemmas.List.{append-nil, get_or-replicate, take_more, take-append-drop}
+use Rattle.std.specs.Ordering.{nat_cmp}
 use Rattle.std.specs.FinMap as finite
+use Rattle.base.specs.formats.Limits.{object_count}
 use Rattle.base.specs.declared.error.PoolError.{PoolError}
 use Rattle.base.specs.declared.error.PoolError.TheVariants.{NoObject, Exists}
 use Rattle.base.specs.declared.names.ObjectId.{ObjectId}
@@ -16,7 +18,10 @@ use Rattle.base.specs.history.History.{Entry, apply_all, run, replay}
 use Rattle.base.proofs.common.Sequences.{parted, joined}
 use Rattle.base.proofs.history.Objects.{reach}
 use Rattle.base.proofs.history.Projections.{objects_replay}
-use Rattle.object_maps.specs.Presence.{is_present_after, is_present_after_all}
+use Rattle.object_maps.specs.declared.judging.Presence.{Presence}
+use Rattle.object_maps.specs.declared.judging.Presence.TheVariants as noted
+use Rattle.object_maps.specs.Judging.{TellsAfter, with_name}
+use Rattle.object_maps.specs.Presence.{AreNoted, is_present_after, is_present_after_all, is_there_noted}
 use Rattle.object_maps.specs.ContentsShown.{Apply}
 
 -- a front that is refused refuses the whole
@@ -80,6 +85,18 @@ IfOk-from (Err e) P each = tt
 pub IfOk-at : {A : Type 0} (r : Result A PoolError) (P : A → Type 0) (a : A) → r ≡ Ok a → IfOk r P → P a
 IfOk-at (Ok b) P a e h = let f : b ≡ a = cc in subst P f h
 IfOk-at (Err x) P a e h = cc
+
+-- before any operation nothing is noted
+pub none_noted : (k : ℕ) → k ≡ object_count → AreNoted [] (replicate k noted.AsBefore)
+none_noted k is n present low = ap (λ p. is_there_noted p present) (get_or-replicate k n noted.AsBefore noted.AsBefore (subst (λ m. n < m) (sym is) low))
+
+-- what was noted of an object tells whether it is there after the operations
+pub tells_noted : (before : List Op) (all : List Presence) (objects : finite.FinMap nat_cmp (List ℕ)) (n : ℕ) (there : Bool) → n < object_count → AreNoted before all
+    → there ≡ is_there_noted (get_or all n noted.AsBefore) (is_some (finite.get objects n)) → TellsAfter before objects n there
+tells_noted before all objects n there low are is = λ name.
+    let now : Contents = with_name objects name in
+    IfOk-from (apply_all before now) (λ (d : Contents). there ≡ is_some (finite.get d.objects n))
+    (λ d h. is ∙ are n (is_some (finite.get objects n)) low ∙ sym (there_after before now d n h))
 
 one_more : (before : List Op) (op : Op) (c d e : Contents) → apply_all before c ≡ Ok d → apply op d ≡ Ok e → Apply (before ++ op ∷ []) c
 one_more before op c d e h k = (e, apply-append before (op ∷ []) c d h ∙ joined (apply op d) (apply_all []) e e k refl)
@@ -156,6 +173,10 @@ name_judged before c bytes op is done = one_more before op c (done.0) (record { 
 -- one more operation of a list is judged
 pub judged_more : (ops : List Op) (i : ℕ) (op : Op) (c : Contents) → i < length ops → op ≡ get_or ops i op → Apply (take i ops ++ op ∷ []) c → Apply (take (i + 1) ops) c
 judged_more ops i op c low is h = (h.0, ap (λ l. apply_all l c) (take_more ops i op low ∙ ap (λ (x : Op). take i ops ++ x ∷ []) (sym is)) ∙ h.1)
+
+-- and noted
+pub noted_more : (ops : List Op) (i : ℕ) (op : Op) (all : List Presence) → i < length ops → op ≡ get_or ops i op → AreNoted (take i ops ++ op ∷ []) all → AreNoted (take (i + 1) ops) all
+noted_more ops i op all low is = subst (λ (l : List Op). AreNoted l all) (sym (take_more ops i op low ∙ ap (λ (x : Op). take i ops ++ x ∷ []) (sym is)))
 
 -- a refusal of one operation is that of the list
 pub judged_refused : (ops : List Op) (i : ℕ) (op : Op) (c : Contents) (e : PoolError) → i < length ops → op ≡ get_or ops i op

@@ -28,6 +28,10 @@ abbrev pub DropsIn : ℕ → ℕ → List (ℕ × List ℕ) → List (ℕ × Lis
 DropsIn at count old new = (address : ℕ) (payload : List ℕ) → Contains new (address, payload)
     → Contains old (address, payload) × (address % block_size ≡ 0 → Apart at count address block_size)
 
+-- no entry is of the block at this address
+abbrev pub HasNoneAt : ℕ → List (ℕ × List ℕ) → Type 0
+HasNoneAt at entries = (payload : List ℕ) → Contains entries (at, payload) → ⊥
+
 -- why a read of a block is refused: the device refused it, or what it gave is damaged
 abbrev pub IsDamage : PoolError → Type 0
 IsDamage e = (kind : ℕ) × (address : ℕ) × (e ≡ Damaged kind address)
@@ -35,12 +39,20 @@ IsDamage e = (kind : ℕ) × (address : ℕ) × (e ≡ Damaged kind address)
 abbrev pub IsReadRefusal : PoolError → Type 0
 IsReadRefusal e = (e ≡ Read) ⊎ IsDamage e
 
+-- and why that of the block of a kind at an address is
+abbrev pub IsBlockRefusal : ℕ → ℕ → PoolError → Type 0
+IsBlockRefusal kind address e = (e ≡ Read) ⊎ (e ≡ Damaged kind address)
+
 -- the image holds a tree in which object n has these bytes and its indirect block this pointer
 pub record HoldsObject (image : List ℕ) (frame : Frame) (n : ℕ) (indirect : Pointer) (pointers : Place → Pointer) (bytes : List ℕ) : Type 0 where
   pub objects : FinMap nat_cmp (List ℕ)
   pub tree : HoldsTree image frame pointers objects
   pub object : finite.get objects n ≡ Some bytes
   pub indirect_is : pointers (Indirect n) ≡ indirect
+
+-- a pointer to record r, if there is one, stands in an object that reaches so far
+abbrev pub BeginsInside : ℕ → ℕ → Pointer → Type 0
+BeginsInside size r pointer = (pointer ≡ no_pointer) ⊎ (record_size * r < size)
 
 -- a pointer to record r of an object of this length: none, or one to a block of the area, where the record begins
 -- before the end

@@ -1,7 +1,10 @@
 -- Whether an object is there after operations, by those that create and remove it.
-use Rattle.std.specs.Prelude.{◌==◌, ◌||◌, ◌&&◌, not, ℕ, Bool, List, fold}
+use Rattle.std.specs.Prelude.{◌≡◌, ◌<◌, ◌==◌, ◌||◌, ◌&&◌, not, ℕ, Bool, true, false, List, fold, get_or}
 use Rattle.base.specs.declared.operation.Op.{Op}
 use Rattle.base.specs.declared.operation.Op.TheVariants.{Create, Remove, Write, SetLength, SetName}
+use Rattle.base.specs.formats.Limits.{object_count}
+use Rattle.object_maps.specs.declared.judging.Presence.{Presence}
+use Rattle.object_maps.specs.declared.judging.Presence.TheVariants as noted
 
 -- whether the object of this number is there after an operation that takes place, from whether it was there before
 abbrev pub is_present_after : ℕ → Op → Bool → Bool
@@ -14,3 +17,13 @@ is_present_after n (SetName bytes) present = present
 -- and after operations in order: the last that creates or removes it decides
 abbrev pub is_present_after_all : ℕ → List Op → Bool → Bool
 is_present_after_all n ops present = fold (λ before op. is_present_after n op before) present ops
+
+-- whether an object is there, from what was noted of it and whether it was there before
+abbrev pub is_there_noted : Presence → Bool → Bool
+is_there_noted noted.AsBefore present = present
+is_there_noted noted.Created present = true
+is_there_noted noted.Removed present = false
+
+-- of each number it is noted what these operations make of its object
+abbrev pub AreNoted : List Op → List Presence → Type 0
+AreNoted ops all = (n : ℕ) (present : Bool) → n < object_count → is_there_noted (get_or all n noted.AsBefore) present ≡ is_present_after_all n ops present

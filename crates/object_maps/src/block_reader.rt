@@ -15,7 +15,7 @@ ghost use Rattle.base.specs.tree.Places.{Place};
 ghost use Rattle.base.specs.tree.Places.Place.{Data};
 ghost use Rattle.base.specs.tree.Tree.{IsRecord};
 ghost use Rattle.device_model.specs.Reading.{OnlyReads};
-ghost use Rattle.object_maps.specs.Cached.{HoldsObject, IsDamage, IsReadRefusal, IsRecordPointer};
+ghost use Rattle.object_maps.specs.Cached.{BeginsInside, HasNoneAt, HoldsObject, IsBlockRefusal, IsReadRefusal, IsRecordPointer, OnlyLeft};
 ghost use Rattle.object_maps.specs.Kinds.{kind_number};
 ghost use Rattle.object_maps.specs.Sources.{AreBytesFrom};
 
@@ -27,6 +27,9 @@ use device_model::SectorDevice;
 
 /// A device whose tree blocks are read.
 pub trait BlockReader: SectorDevice {
+    /// The payloads that a read may take from memory, by the addresses of their blocks.
+    ghost cached: { Self → List (ℕ × List ℕ) };
+
     /// Reads the payload of the block at a place, which this pointer names. It makes one device call at most.
     ///
     /// # Errors
@@ -42,7 +45,8 @@ pub trait BlockReader: SectorDevice {
         requires size { length into.old ≡ payload_size }
         ensures reads { OnlyReads Self.SectorDevice result self.old self.new }
         ensures size { length into.new ≡ payload_size }
-        ensures refused { IfErr result IsReadRefusal }
+        ensures refused { IfErr result
+            (IsBlockRefusal (kind_number place.kind) pointer.now.address) }
         ensures exact { IsTrue Self.keeps_model → (payload : List ℕ)
             → Opens (bytes_of (Self.disk self.old).now) frame.now (kind_number place.kind)
             place.number pointer.now payload → OnOk result (into.new ≡ payload) }
@@ -55,7 +59,16 @@ pub trait BlockReader: SectorDevice {
     fn keep_sealed(&mut self, address: u64, block: Block)
         ensures size { Self.size self.new ≡ Self.size self.old }
         ensures disk { Self.disk self.new ≡ Self.disk self.old }
-        ensures refused { Self.refused self.new ≡ Self.refused self.old };
+        ensures refused { Self.refused self.new ≡ Self.refused self.old }
+        ensures cached { Self.cached self.new ≡ Self.cached self.old };
+
+    /// No read takes the block at an address from memory any more. It makes no device call and takes no memory.
+    fn forget(&mut self, address: u64)
+        ensures size { Self.size self.new ≡ Self.size self.old }
+        ensures disk { Self.disk self.new ≡ Self.disk self.old }
+        ensures refused { Self.refused self.new ≡ Self.refused self.old }
+        ensures gone { HasNoneAt address (Self.cached self.new) }
+        ensures left { OnlyLeft (Self.cached self.old) (Self.cached self.new) };
 }
 
 /// The payload of the indirect block of an object whose directory entry has this pointer. If it has no such block, the
@@ -106,7 +119,9 @@ pub fn record_pointer(
     requires index { index < record_count }
     ensures pointer { IfOk result (λ p. p ≡ pointer_in payload.now index) }
     ensures placed { IfOk result (IsPlaced frame.now.blocks) }
-    ensures refused { IfErr result IsDamage }
+    ensures inside { IfOk result (BeginsInside size index) }
+    ensures refused { IfErr result (λ e. e ≡ error.Damaged (kind_number Kind.Data)
+        (pointer_in payload.now index).address) }
     ensures sound { IsRecordPointer frame.now.blocks size index (pointer_in payload.now index)
         → IfErr result (λ _. ⊥) }
 {

@@ -1,16 +1,29 @@
 //! Operations that are judged before they take place, each by whether its object is there. A name that is given, and is
 //! one, is never refused.
 //!
-//! Whether an object is there after the operations before is found without memory: the last create or remove of it
-//! among them decides, or else whether it is there now.
+//! What the operations before made of an object is noted in a table of all numbers, which stands on the stack. So each
+//! operation is judged by one look at it, and without memory.
 
-ghost use Rattle.std.specs.Prelude.{◌≡◌, ◌++◌, ◌∷◌, []};
+ghost use Rattle.std.specs.Prelude.{◌≡◌, ◌<◌, ◌++◌, ◌∷◌, List, [], length};
+ghost use Rattle.base.specs.declared.operation.Op.{Op};
+ghost use Rattle.base.specs.formats.Limits.{object_count};
 ghost use Rattle.object_maps.specs.Judging.{ApplyTo, JudgesOver, TellsAfter};
 ghost use Rattle.object_maps.specs.Ops.{AreOpsAllowed, IsOpAllowed};
-ghost use Rattle.object_maps.specs.Presence.{is_present_after, is_present_after_all};
+ghost use Rattle.object_maps.specs.Presence.{AreNoted};
 
 use crate::source::ObjectSource;
-use base::{ObjectId, Op, PoolError};
+use base::{OBJECT_COUNT, ObjectId, Op, PoolError};
+
+/// What operations made of an object.
+#[derive(Debug, Clone, Copy, PartialEq, Eq)]
+enum Presence {
+    /// None of them creates or removes it.
+    AsBefore,
+    /// The last of these creates it.
+    Created,
+    /// The last of these removes it.
+    Removed,
+}
 
 /// Judges operations in order, each on the objects after those before it, and gives the first refusal:
 /// `Exists` for an object that is created but is there, `NoObject` for one that is removed, written or set to
@@ -19,27 +32,30 @@ pub fn judge<O: ObjectSource>(objects: &O, ops: &[Op]) -> Result<(), PoolError>
     requires { AreOpsAllowed ops.now }
     ensures { JudgesOver ops.now (O.objects objects.now) result }
 {
-    for (i, op) in ops.iter().enumerate() {
-        judge_after(objects, &ops[..i], op)?;
+    let mut noted = [Presence::AsBefore; OBJECT_COUNT as usize];
+    for op in ops {
+        judge_after(objects, &noted, op)?;
+        note(&mut noted, op);
     }
     Ok(())
 }
 
-// Judges an operation after others that apply.
-fn judge_after<O: ObjectSource>(objects: &O, before: &[Op], op: &Op) -> Result<(), PoolError>
+// Judges an operation after others that apply, from what was noted of them.
+fn judge_after<O: ObjectSource>(objects: &O, noted: &[Presence], op: &Op) -> Result<(), PoolError>
     requires allowed { IsOpAllowed op.now }
-    requires before { ApplyTo before.now (O.objects objects.now) }
-    ensures { JudgesOver (before.now ++ (op.now ∷ [])) (O.objects objects.now) result }
+    requires length { length noted.now ≡ object_count }
+    ensures { (before : List Op) → AreNoted before noted.now → ApplyTo before (O.objects objects.now)
+        → JudgesOver (before ++ (op.now ∷ [])) (O.objects objects.now) result }
 {
     match op {
         Op::Create(id) => {
-            if has_after(objects, before, *id) {
+            if has_after(objects, noted, *id) {
                 return Err(PoolError::Exists);
             }
             Ok(())
         }
         Op::Remove(id) | Op::Write(id, _, _) | Op::SetLength(id, _) => {
-            if !has_after(objects, before, *id) {
+            if !has_after(objects, noted, *id) {
                 return Err(PoolError::NoObject);
             }
             Ok(())
@@ -50,26 +66,30 @@ fn judge_after<O: ObjectSource>(objects: &O, before: &[Op], op: &Op) -> Result<(
 
 // Whether an object is there after operations that apply: as the last of them that creates or removes it says,
 // and if none does, as it is now.
-fn has_after<O: ObjectSource>(objects: &O, before: &[Op], id: ObjectId) -> bool
-    ensures { TellsAfter before.now (O.objects objects.now) id.0 result }
+fn has_after<O: ObjectSource>(objects: &O, noted: &[Presence], id: ObjectId) -> bool
+    requires within { id.0 < object_count }
+    requires length { length noted.now ≡ object_count }
+    ensures { (before : List Op) → AreNoted before noted.now
+        → TellsAfter before (O.objects objects.now) id.0 result }
 {
-    is_there_after_all(before, id, objects.has(id))
+    match noted[id.0 as usize] {
+        Presence::AsBefore => objects.has(id),
+        Presence::Created => true,
+        Presence::Removed => false,
+    }
 }
 
-// Whether an object is there after operations, from whether it was there before them.
-fn is_there_after_all(ops: &[Op], id: ObjectId, was_there: bool) -> bool
-    ensures { result ≡ is_present_after_all id.0 ops.now was_there }
-{
-    ops.iter()
-        .fold(was_there, |there, op| is_there_after(op, id, there))
-}
-
-fn is_there_after(op: &Op, id: ObjectId, was_there: bool) -> bool
-    ensures { result ≡ is_present_after id.0 op.now was_there }
+// Notes what an operation makes of its object.
+fn note(noted: &mut [Presence], op: &Op)
+    requires allowed { IsOpAllowed op.now }
+    requires length { length noted.old ≡ object_count }
+    ensures length { length noted.new ≡ object_count }
+    ensures noted { (before : List Op) → AreNoted before noted.old
+        → AreNoted (before ++ (op.now ∷ [])) noted.new }
 {
     match op {
-        Op::Create(created) => id == *created || was_there,
-        Op::Remove(removed) => id != *removed && was_there,
-        _ => was_there,
+        Op::Create(id) => noted[id.0 as usize] = Presence::Created,
+        Op::Remove(id) => noted[id.0 as usize] = Presence::Removed,
+        _ => {}
     }
 }

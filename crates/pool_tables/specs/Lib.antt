@@ -10,6 +10,7 @@ pub mod Lines
 pub mod BeginTests
 pub mod GroupPlans
 pub mod Areas
+pub mod Forgotten
 pub mod Progresses
 pub mod RunningUberblocks
 pub mod Running

@@ -12,6 +12,7 @@ ghost use Rattle.tree_plans.specs.Plans.{address_of};
 ghost use Rattle.group_plans.specs.Areas.{AreBlocksOf};
 ghost use Rattle.import_replay.specs.FreeBlocks.{after_gives};
 ghost use Rattle.pool_tables.specs.Areas.{addresses_before, after_sync_takes, blocks_from};
+ghost use Rattle.pool_tables.specs.Forgotten.{HasNoneOf};
 
 use base::{BLOCK_SIZE, Group};
 use intent_log::{Log, LogHeader};
@@ -51,6 +52,7 @@ pub fn keep_blocks<B: BlockReader>(device: &mut B, run: SyncRun)
     ensures size { B.size device.new ≡ B.size device.old }
     ensures disk { B.disk device.new ≡ B.disk device.old }
     ensures refused { B.refused device.new ≡ B.refused device.old }
+    ensures cached { B.cached device.new ≡ B.cached device.old }
 {
     let SyncRun {
         geometry,
@@ -60,6 +62,18 @@ pub fn keep_blocks<B: BlockReader>(device: &mut B, run: SyncRun)
     for planned in blocks {
         let PlannedBlock { index, block } = planned;
         device.keep_sealed(geometry.block_address(index as u64), block);
+    }
+}
+
+/// No read takes a block at these addresses from memory any more.
+pub fn forget_all<B: BlockReader>(device: &mut B, addresses: &[u64])
+    ensures size { B.size device.new ≡ B.size device.old }
+    ensures disk { B.disk device.new ≡ B.disk device.old }
+    ensures refused { B.refused device.new ≡ B.refused device.old }
+    ensures gone { HasNoneOf addresses.now (B.cached device.new) }
+{
+    for address in addresses {
+        device.forget(*address);
     }
 }
 

@@ -33,7 +33,8 @@ pub(crate) trait RetriedCall<D: SectorDevice>: PoolCall<D> + Copy {
     /// Whether the call may pass later, in a pool in which it was refused so.
     fn may_pass(&self, error: PoolError, state: &PoolState<D>) -> bool
         ensures again { result ≡ true → error ≡ retried }
-        ensures for_good { result ≡ false → error ≡ retried → is_in_vain self.now (shown state.now) };
+        ensures for_good { result ≡ false → error ≡ retried
+            → is_in_vain self.now (shown state.now) };
 }
 
 impl<D: SectorDevice> RetriedCall<D> for Lock {

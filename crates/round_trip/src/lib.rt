@@ -73,7 +73,8 @@ pub fn open<D: SectorDevice + Drop>(
     ensures starts { IsTrue D.keeps_model
         → IfOk result (λ i. StartsRun (D.disk device) dirty_max (D.disk i.device) i.mounted) }
     ensures mounted { IfOk result (λ i. IsMountedAnew (D.size device) dirty_max i.mounted) }
-    ensures refusal { IfErr result (λ e. IsImportRefusal (D.size device) (is_dirty_max_allowed dirty_max) e) }
+    ensures refusal { IfErr result (λ e. IsImportRefusal (D.size device)
+        (is_dirty_max_allowed dirty_max) e) }
     ensures reason { IsTrue D.keeps_model → IfErr result
         (λ e. IsReason (bytes_of (D.disk device).now) e × FindsOwn (D.disk device) e) }
 {

@@ -1,6 +1,6 @@
 //! What callers rest on of blocks that stay in memory, and of reads of one object.
 
-ghost use Rattle.std.specs.Prelude.{◌≡◌, ◌≤◌, ◌∷◌, ℕ, List, [], IfErr, IfOk, IsTrue, OnOk, false, get_or, length};
+ghost use Rattle.std.specs.Prelude.{◌≡◌, ◌≢◌, ◌≤◌, ◌*◌, ◌∷◌, ℕ, Contains, List, [], IfErr, IfOk, IsTrue, OnOk, false, get_or, length};
 ghost use Rattle.base.specs.declared.error.PoolError.TheVariants as error;
 ghost use Rattle.base.specs.declared.pointer.Pointer.{Pointer};
 ghost use Rattle.base.specs.disk.Disk.{bytes_of};
@@ -12,15 +12,15 @@ ghost use Rattle.base.specs.tree.Places.{Place};
 ghost use Rattle.base.specs.tree.Places.Place.{Data};
 ghost use Rattle.base.specs.tree.Tree.{IsRecord};
 ghost use Rattle.object_maps.specs.Cached.{HoldsObject};
-ghost use Rattle.object_maps.specs.CachedDevices.{device_in};
+ghost use Rattle.object_maps.specs.CachedDevices.{cache_of, device_in};
 ghost use Rattle.object_maps.specs.Kinds.{kind_number};
 
 use crate::block_cache::BlockCache;
 use crate::block_reader::{BlockReader, read_indirect, read_part, record_pointer};
 use crate::cached_device::CachedDevice;
 use crate::walk::BlockPlace;
-use base::{Pointer, PoolError};
-use checked_blocks::{Block, Frame};
+use base::{Pointer, PoolError, RECORD_SIZE};
+use checked_blocks::{Block, Frame, Kind};
 use device_model::SectorDevice;
 use std::alloc::Global;
 use std::num::NonZeroUsize;
@@ -88,9 +88,11 @@ fn a_device_comes_back<D: SectorDevice>(device: D, cache: BlockCache) -> D
     device
 }
 
-// What is forgotten stays on the device.
+// What is forgotten stays on the device, and no entry is of it.
 fn a_forgotten_block_stays_on_the_device<D: SectorDevice>(device: &mut CachedDevice<D>)
-    ensures { D.disk (device_in device.new) ≡ D.disk (device_in device.old) }
+    ensures disk { D.disk (device_in device.new) ≡ D.disk (device_in device.old) }
+    ensures gone { (payload : List ℕ)
+        → Contains (cache_of device.new).entries (4096, payload) → ⊥ }
 {
     device.forget(4096);
 }
@@ -147,6 +149,36 @@ fn zeros_are_no_pointer(frame: &Frame, payload: &[u8]) -> Result<Pointer, PoolEr
     ensures undamaged { IfErr result (λ _. ⊥) }
 {
     record_pointer(frame, payload, 3, 20_000)
+}
+
+// At an object's end there is no record any more. A pointer to one is damage, told with the address that it names.
+fn a_record_past_the_end_is_damage(frame: &Frame, payload: &[u8]) -> Result<Pointer, PoolError>
+    requires size { length payload.now ≡ payload_size }
+    requires there { pointer_in payload.now 3 ≢ no_pointer }
+    ensures refused { IfOk result (λ _. ⊥) }
+    ensures named { IfErr result
+        (λ e. e ≡ error.Damaged 5 (pointer_in payload.now 3).address) }
+{
+    record_pointer(frame, payload, 3, 3 * RECORD_SIZE)
+}
+
+// What the device has in place of a block is told with the block's kind and address.
+fn a_damaged_block_is_named<B: BlockReader>(
+    reader: &mut B,
+    frame: &Frame,
+    pointer: &Pointer,
+    payload: &mut [u8],
+) -> Result<(), PoolError>
+    requires fits { block_address frame.now.blocks ≤ B.size reader.old }
+    requires size { length payload.old ≡ payload_size }
+    ensures { IfErr result
+        (λ e. e ≢ error.Read → e ≡ error.Damaged 5 pointer.now.address) }
+{
+    let place = BlockPlace {
+        kind: Kind::Data,
+        number: 9,
+    };
+    reader.read_payload(frame, place, pointer, payload)
 }
 
 // A read of a record begins at its offset, and has zeros after the object's end.

@@ -18,7 +18,7 @@ ghost use Rattle.intent_log.specs.Kept.{header_fields, log_shown};
 ghost use Rattle.pool_tables.specs.Running.{KeepsHeader, stages_for};
 ghost use Rattle.pool_tables.specs.RunningUberblocks.{WritesUberblock};
 
-use crate::blocks::{end_charges, give_log, keep_blocks, take_all};
+use crate::blocks::{end_charges, forget_all, give_log, keep_blocks, take_all};
 use crate::pool::{PoolTables, Progress, RunningSync};
 use base::{Group, PoolError, WRITTEN_VERSION};
 use extents::UnsyncedExtents;
@@ -38,6 +38,7 @@ impl PoolTables {
     ghost use Rattle.sync.specs.Calls.{plain_answer};
     ghost use Rattle.pool_tables.specs.NextCalls.{MakesNextOf};
     ghost use Rattle.group_plans.specs.GroupPlans.{FitsIn, IsHeldRefusal, IsPlanRefusal, TakesLowest};
+    ghost use Rattle.pool_tables.specs.Forgotten.{ForgetsFreed};
     ghost use Rattle.pool_tables.specs.GroupPlans.{BeginsPlan, HoldsOldestObjects, HoldsSyncedTree, IsPoolShort, MakesOldestTree, begun_plan, uberblock_for};
     ghost use Rattle.pool_tables.specs.Told.{Leads, SamePlaces, config_of, sync_step_reply, pool_told, tree_after};
     ghost use Rattle.pool_tables.specs.SyncPhases.{StepsPhases, run_in};
@@ -214,8 +215,8 @@ impl PoolTables {
         })
     }
 
-    /// Makes the next device call of the running sync; after the last one its group is synced, and the device keeps the
-    /// blocks that it wrote. Refused, in this order, `Suspended`, `NotReady`, or `Write` or `Flush` as the device
+    /// Makes the next device call of the running sync; after the last one its group is synced. Then no read takes a
+    /// block that it freed from memory, and the device keeps those that it wrote. Refused, in this order, `Suspended`, `NotReady`, or `Write` or `Flush` as the device
     /// refused, and then the pool is suspended.
     pub fn sync_step<B: BlockReader>(&mut self, device: &mut B) -> Result<Progress, PoolError>
         requires { B.size device.old ≡ geometry_of self.old }
@@ -230,6 +231,7 @@ impl PoolTables {
             (pool_told self.new (bytes_of (B.disk device.new).now)) }
         ensures phases { IsTrue B.keeps_model → StepsPhases result self.old.suspended
             (run_in self.old) (run_in self.new) (B.disk device.old) (B.disk device.new) }
+        ensures forgets { ForgetsFreed result self.old (B.cached device.new) }
     {
         self.check_running()?;
         let Some(running) = &mut self.sync else {
@@ -248,6 +250,7 @@ impl PoolTables {
                 drop_synced(&mut self.unsynced, &mut self.written, group);
                 lay_oldest(&mut self.changes, &mut self.synced);
                 give_log(&mut self.free, self.geometry, &mut self.log, synced.header);
+                forget_all(device, &synced.freed);
                 let run = self.finish_tree(synced);
                 keep_blocks(device, run);
                 Ok(Progress::Synced(group))

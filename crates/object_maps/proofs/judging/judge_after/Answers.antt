@@ -3,16 +3,21 @@ use Rattle.object_maps.proofs.Judged.{create_judged, create_refused, change_judg
 use Rattle.object_maps.proofs.judging.judge_after.Goals as goal
 
 pub returns-then-has_after : goal.returns-then-has_after
-returns-then-has_after g c = λ name. create_refused c.args.before.now (with_name (g.O.ObjectSource.objects c.args.objects.now) name) (c.requires.before name) c.in-Create.id c.args.op.now c.in-Create.is (c.if-has_after.ensures name)
+returns-then-has_after g c = λ before noted applies name.
+    create_refused before (with_name (g.O.ObjectSource.objects c.args.objects.now) name) (applies name) c.in-Create.id c.args.op.now c.in-Create.is (c.if-has_after.ensures before noted name)
 
 pub returns-else-has_after : goal.returns-else-has_after
-returns-else-has_after g c = λ name. create_judged c.args.before.now (with_name (g.O.ObjectSource.objects c.args.objects.now) name) (c.requires.before name) c.in-Create.id c.args.op.now c.in-Create.is (c.if-has_after.ensures name)
+returns-else-has_after g c = λ before noted applies name.
+    create_judged before (with_name (g.O.ObjectSource.objects c.args.objects.now) name) (applies name) c.in-Create.id c.args.op.now c.in-Create.is (c.if-has_after.ensures before noted name)
 
 pub returns-else-not-has_after : goal.returns-else-not-has_after
-returns-else-not-has_after g c = λ name. change_judged c.args.before.now (with_name (g.O.ObjectSource.objects c.args.objects.now) name) (c.requires.before name) c.in-Remove.id c.args.op.now c.in-Remove.is (c.if-not-has_after.ensures name)
+returns-else-not-has_after g c = λ before noted applies name.
+    change_judged before (with_name (g.O.ObjectSource.objects c.args.objects.now) name) (applies name) c.in-Remove.id c.args.op.now c.in-Remove.is (c.if-not-has_after.ensures before noted name)
 
 pub returns-then-not-has_after : goal.returns-then-not-has_after
-returns-then-not-has_after g c = λ name. change_refused c.args.before.now (with_name (g.O.ObjectSource.objects c.args.objects.now) name) (c.requires.before name) c.in-Remove.id c.args.op.now c.in-Remove.is (c.if-not-has_after.ensures name)
+returns-then-not-has_after g c = λ before noted applies name.
+    change_refused before (with_name (g.O.ObjectSource.objects c.args.objects.now) name) (applies name) c.in-Remove.id c.args.op.now c.in-Remove.is (c.if-not-has_after.ensures before noted name)
 
 pub returns-in-SetName : goal.returns-in-SetName
-returns-in-SetName g c = λ name. name_judged c.args.before.now (with_name (g.O.ObjectSource.objects c.args.objects.now) name) c.in-SetName.field-0 c.args.op.now c.in-SetName.is (c.requires.before name)
+returns-in-SetName g c = λ before noted applies name.
+    name_judged before (with_name (g.O.ObjectSource.objects c.args.objects.now) name) c.in-SetName.field-0 c.args.op.now c.in-SetName.is (applies name)

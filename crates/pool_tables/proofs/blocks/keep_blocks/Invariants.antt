@@ -7,4 +7,5 @@ invariant-loop-planned g l =
     let size = g.B.SectorDevice.size in
     let disk = g.B.SectorDevice.disk in
     let refused = g.B.SectorDevice.refused in
-    (size l.device ≡ size l.fn.device) × (disk l.device ≡ disk l.fn.device) × (refused l.device ≡ refused l.fn.device)
+    let cached = g.B.BlockReader.cached in
+    (size l.device ≡ size l.fn.device) × (disk l.device ≡ disk l.fn.device) × (refused l.device ≡ refused l.fn.device) × (cached l.device ≡ cached l.fn.device)

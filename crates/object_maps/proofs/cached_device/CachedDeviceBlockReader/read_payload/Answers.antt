@@ -4,6 +4,7 @@ use Rattle.std.specs.Coded.{Coded-set, coded_list, coded_ℕ}
 use Rattle.std.proofs.Math.Logic.{∥∥₁_elim, ∥∥₁_map}
 use Rattle.lru.specs.LruCache.{LruCache}
 use Rattle.base.specs.disk.Disk.{bytes_of}
+use Rattle.object_maps.specs.Kinds.{kind_number}
 use Rattle.object_maps.proofs.CachedBlocks.{aligned, found-agrees, left-agrees, promoted-left, put-agrees}
 use Rattle.object_maps.proofs.CachedDisks.{same-agrees}
 use Rattle.object_maps.proofs.cached_device.CachedDeviceBlockReader.read_payload.Goals as goal
@@ -35,7 +36,7 @@ returns-in_err-read_block-clause-sound g c = λ keeps payload opens.
     let tells = c.in_err-read_block.ensures.refused keeps (bytes_of (g.D.SectorDevice.disk c.args.self.now.device).now) refl in
     rw (p.1, p.2) (elim c.in_err-read_block.ensures.read [
       | inl read ↦ read
-      | inr d ↦ absurd ((tells d.0 d.1 d.2).1.1 payload opens)
+      | inr d ↦ absurd ((tells (kind_number c.args.place.kind) c.args.pointer.now.address d).1.1 payload opens)
     ])
 
 pub invariant_of-self-2 : goal.invariant_of-self-2

@@ -1,4 +1,4 @@
-use Rattle.std.proofs.Common.{◌≡◌, ◌∙◌, ◌≤◌, List, arith, drop, ap, filter, inl, inr, map, nat_lt, sym, subst, refl, true, Some, None}
+use Rattle.std.proofs.Common.{ℕ, ◌≡◌, ◌∙◌, ◌≤◌, List, arith, drop, ap, filter, inl, inr, map, nat_lt, sym, subst, refl, true, Some, None}
 use Rattle.std.specs.Prelude.{Bool, Option, Result, option_map}
 use Rattle.std.proofs.lemmas.Result.{err_from_is_err_and}
 use Rattle.base.specs.formats.Geometry.{block_count}
@@ -38,6 +38,7 @@ use Rattle.pool_tables.specs.Told.{SamePlaces, pool_told, made_by, sync_step_rep
 use Rattle.pool_tables.proofs.StillSteps.{leads_as, still_pool}
 use Rattle.pool_tables.proofs.syncs.SyncLeads.{advanced, failed_call, failed_running, planned_still, synced_told, was_planned, was_running, was_syncing}
 use Rattle.pool_tables.proofs.syncs.SyncSteps.{shown_synced, step_failed, step_more, step_not_ready, step_suspended, step_synced}
+use Rattle.pool_tables.specs.Forgotten.{HasNoneOf}
 use Rattle.pool_tables.proofs.pool.PoolTables.sync_step.Goals as goal
 
 pub returns-in_err-check_running-clause-step : goal.returns-in_err-check_running-clause-step
@@ -240,7 +241,7 @@ returns-in-Ok-clause-leads g c = λ keeps.
     let told = c.in-Ok-Last.ensures in
     let same = kept_sync c.in-Some-take.synced _ c.in-Some-take.ensures.value in
     let sized = g.met.B.SectorDevice.sized keeps c.args.device.now ∙ c.requires in
-    rw c.keep_blocks.ensures.disk (leads_as (reply.Synced c.in-Some.running.group) (reply.Synced c.in-Some-take.synced.group) (pool_told pool (bytes_of (g.B.SectorDevice.disk c.args.device.now).now))
+    rw (c.keep_blocks.ensures.disk ∙ c.forget_all.ensures.disk) (leads_as (reply.Synced c.in-Some.running.group) (reply.Synced c.in-Some-take.synced.group) (pool_told pool (bytes_of (g.B.SectorDevice.disk c.args.device.now).now))
     (pool_told c.finish_tree-run.new.self (bytes_of (g.B.SectorDevice.disk c.next.new.device).now)) (ap (λ (r : RunningSync). reply.Synced r.group) (sym same))
     (synced_told pool c.in-Some.running c.next.new.self (g.B.SectorDevice.disk c.args.device.now) (g.B.SectorDevice.disk c.next.new.device) is told.counts.same sized was.geometry told.called.call told.called.next
     c.finish_tree-run.new.self told.counts.done (told.counts.last.0 c.in-Ok-Last.field-0-is) (told.called.made keeps) (c.finish_tree-run.ensures.sync ∙ c.take.ensures.after)
@@ -283,7 +284,7 @@ returns-in-Ok-clause-phases g c = λ keeps.
       ap (λ (o : Option RunningSync). option_map (λ (r : RunningSync). r.run) o) c.in-Some.is,
       ap (λ (o : Option RunningSync). option_map (λ (r : RunningSync). r.run) o) (c.finish_tree-run.ensures.sync ∙ c.take.ensures.after),
       told.counts.last.0 c.in-Ok-Last.field-0-is,
-      record { running = c.in_ok-check_running.ensures; same = told.counts.same; written = rw c.keep_blocks.ensures.disk (told.written keeps); phases = rw c.keep_blocks.ensures.disk (told.phases keeps) },
+      record { running = c.in_ok-check_running.ensures; same = told.counts.same; written = rw (c.keep_blocks.ensures.disk ∙ c.forget_all.ensures.disk) (told.written keeps); phases = rw (c.keep_blocks.ensures.disk ∙ c.forget_all.ensures.disk) (told.phases keeps) },
     )
 
 pub returns-in-Ok-More-clause-phases : goal.returns-in-Ok-More-clause-phases
@@ -317,7 +318,7 @@ pub returns-in-Ok-clause-called : goal.returns-in-Ok-clause-called
 returns-in-Ok-clause-called g c =
     let told = c.in-Ok-Last.ensures in
     rw (c.in_ok-check_running.ensures, c.in-Some.is)
-    (record { call = told.called.call; next = told.called.next; refusal = tt; made = λ keeps. rw c.keep_blocks.ensures.disk (told.called.made keeps) })
+    (record { call = told.called.call; next = told.called.next; refusal = tt; made = λ keeps. rw (c.keep_blocks.ensures.disk ∙ c.forget_all.ensures.disk) (told.called.made keeps) })
 
 pub returns-in-Ok-More-clause-called : goal.returns-in-Ok-More-clause-called
 returns-in-Ok-More-clause-called g c =
@@ -335,3 +336,10 @@ pub returns-in_err-check_running-clause-count : goal.returns-in_err-check_runnin
 returns-in_err-check_running-clause-count g c =
     let p = err_from_is_err_and c.from_residual.result c.from_residual.ensures.1 in
     rw (p.1, p.2, c.in_err-check_running.ensures.0) refl
+
+pub returns-in-Ok-clause-forgets : goal.returns-in-Ok-clause-forgets
+returns-in-Ok-clause-forgets g c = λ running is answer.
+    let same = kept_sync c.in-Some-take.synced _ c.in-Some-take.ensures.value in
+    let met : c.in-Some.running ≡ running = kept_sync c.in-Some.running running (sym c.in-Some.is ∙ is) in
+    let freed = c.deref.ensures.value ∙ ap (λ (r : RunningSync). r.freed.items) same ∙ ap (λ (r : RunningSync). r.freed.items) met in
+    rw c.keep_blocks.ensures.cached (subst (λ (l : List ℕ). HasNoneOf l (g.B.BlockReader.cached c.forget_all.new.device)) freed c.forget_all.ensures.gone)
