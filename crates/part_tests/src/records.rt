@@ -1,10 +1,12 @@
 //! Records of the log, with bytes made by hand; and, of transactions, the calls that no pool makes.
 
-use base::{Bytes, Group, ObjectId, Op, Ops, Ordinal, Owner, Plan, PoolError, Shape, TxId};
+use base::{
+    Bytes, Group, ObjectId, ObjectRange, Op, Ops, Ordinal, Owner, Plan, PoolError, Shape, TxId,
+};
 use std::alloc::{AllocError, Global};
 use transactions::{
     OpenTransactions, Record, decode_record, encode_into, encode_record, is_plan_allowed,
-    plans_overlap,
+    lock_ranges, plans_overlap,
 };
 
 /// The create of object 1, in group 9 with ordinal 0.
@@ -331,5 +333,35 @@ fn a_group_holds_its_open_transactions_and_plans_overlap(rt: HostRuntime) {
     assert_eq!(rt;
         (end_one_of_64(rt.alloc()), overlaps()),
         (Ok(([64, 0], ended, 63)), [true, true, false, false])
+    );
+}
+
+/// Where eighteen writes begin, in no order.
+const LOW_ENDS: [u64; 18] = [
+    30, 0, 170, 10, 20, 160, 150, 40, 50, 140, 130, 60, 70, 120, 110, 80, 90, 100,
+];
+
+/// What writes of so many bytes there lock of object 1.
+fn locked(alloc: Global, count: u64) -> Result<Vec<ObjectRange>, AllocError> {
+    let plan: Vec<Shape> = LOW_ENDS
+        .iter()
+        .map(|low| Shape::Write(ObjectId(1), *low, count))
+        .collect(alloc)?;
+    lock_ranges(alloc, plan.as_slice())
+}
+
+/// How many ranges they lock, and the ends of the last one.
+fn count_and_last(alloc: Global, count: u64) -> Result<(usize, Option<(u64, u64)>), AllocError> {
+    let ranges = locked(alloc, count)?;
+    let last = ranges.last().map(|last| (last.range.low, last.range.high));
+    Ok((ranges.len(), last))
+}
+
+#[test]
+fn ranges_that_overlap_are_locked_as_one(rt: HostRuntime) {
+    let alloc = rt.alloc();
+    assert_eq!(rt;
+        (count_and_last(alloc, 10), count_and_last(alloc, 11)),
+        (Ok((18, Some((170, 180)))), Ok((1, Some((0, 181)))))
     );
 }

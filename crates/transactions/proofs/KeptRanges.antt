@@ -38,7 +38,7 @@ any_agree P p q same (x ∷ xs) all =
     let parts = and_parts (P x) (list_all P xs) all in
     rw (same x parts.0, any_agree P p q same xs parts.1) refl
 
-list_any-map : {X Y : Type 0} (p : Y → Bool) (f : X → Y) (xs : List X) → list_any p (map f xs) ≡ list_any (λ x. p (f x)) xs
+pub list_any-map : {X Y : Type 0} (p : Y → Bool) (f : X → Y) (xs : List X) → list_any p (map f xs) ≡ list_any (λ x. p (f x)) xs
 list_any-map p f [] = refl
 list_any-map p f (x ∷ xs) = ap (λ b. p (f x) || b) (list_any-map p f xs)
 

@@ -11,3 +11,8 @@ pub mod Loop
 pub mod RecordsRead
 pub mod LockPlans
 pub mod RisingRanges
+pub mod RangeIndexes
+pub mod RangeEnds
+pub mod RangePoints
+pub mod ApartRanges
+pub mod JoinedRanges

@@ -86,6 +86,12 @@ module _ (slots reserved new : Slab OpenTransaction) (order keys : List ℕ) (ke
   held_admitted named allowed =
       subst (λ (l : List ℕ). AreOpenAt new l (next + 1)) (sym keys_are) (held_push slots new key t (sym (get_same key) ∙ vacant) updates_slots order next held named allowed)
 
+-- after a reserve alone
+pub held_reserved : (old new : Slab OpenTransaction) (order keys : List ℕ) (next : ℕ) → new.slots ≡ old.slots → keys ≡ order → AreOpenAt old order next → AreOpenAt new keys next
+held_reserved old new order keys next same is held =
+    let before : AreOpenAt (record new { slots = old.slots }) order next = record { present = held.present; allowed = held.allowed; named = held.named } in
+    subst (λ l. AreOpenAt new l next) (sym is) (subst (λ (l : List (Option OpenTransaction)). AreOpenAt (record new { slots = l }) order next) (sym same) before)
+
 all_step : (b : Bool) (a : Admission) (rest : List Admission) → has_allowed_plan a ≡ true → list_all has_allowed_plan rest ≡ true → list_all has_allowed_plan (cond b (a ∷ rest) rest) ≡ true
 all_step true a rest this others = rw (this, others) refl
 all_step false a rest this others = others

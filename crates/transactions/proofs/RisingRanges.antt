@@ -7,7 +7,7 @@ use Rattle.base.specs.declared.range.ObjectRange.{ObjectRange}
 use Rattle.transactions.specs.LockRanges.{AreAfter, LockRangesRise, Rise, is_before, lock_ranges, placed, shape_range, with_range}
 
 -- of pairs of numbers: whether the first comes first
-abbrev is_less : ℕ → ℕ → ℕ → ℕ → Bool
+abbrev pub is_less : ℕ → ℕ → ℕ → ℕ → Bool
 is_less a b c d = nat_lt a c || ((a == c) && nat_lt b d)
 
 less_asym : (a b c d : ℕ) → is_less a b c d ≡ true → is_less c d a b ≡ false
@@ -16,13 +16,13 @@ less_asym a b c d h = grind (arith, common_steps)
 less_trans : (a b c d e f : ℕ) → is_less a b c d ≡ false → is_less c d e f ≡ false → is_less a b e f ≡ false
 less_trans a b c d e f h k = grind (arith, common_steps)
 
-before_asym : (a b : ObjectRange) → is_before a b ≡ true → is_before b a ≡ false
+pub before_asym : (a b : ObjectRange) → is_before a b ≡ true → is_before b a ≡ false
 before_asym a b h = less_asym a.object.0 a.range.low b.object.0 b.range.low h
 
-before_trans : (a b c : ObjectRange) → is_before a b ≡ false → is_before b c ≡ false → is_before a c ≡ false
+pub before_trans : (a b c : ObjectRange) → is_before a b ≡ false → is_before b c ≡ false → is_before a c ≡ false
 before_trans a b c h k = less_trans a.object.0 a.range.low b.object.0 b.range.low c.object.0 c.range.low h k
 
-filter_next : (p : ObjectRange → Bool) (y : ObjectRange) (ys : List ObjectRange) (P : List ObjectRange → Type 0) → (p y ≡ true → P (y ∷ filter p ys)) → (p y ≡ false → P (filter p ys)) → P (filter p (y ∷ ys))
+pub filter_next : (p : ObjectRange → Bool) (y : ObjectRange) (ys : List ObjectRange) (P : List ObjectRange → Type 0) → (p y ≡ true → P (y ∷ filter p ys)) → (p y ≡ false → P (filter p ys)) → P (filter p (y ∷ ys))
 filter_next p y ys P there gone = go (p y) refl
   where
     go : (b : Bool) → p y ≡ b → P (filter p (y ∷ ys))
@@ -50,20 +50,20 @@ count_next : (w y : ObjectRange) (ys : List ObjectRange) → count_by (λ x. is_
 count_next w y ys = sum_by-cons (λ x. cond (is_before x w) 1 0) y ys
 
 -- how many of the ranges begin before this one
-abbrev count_before : ObjectRange → List ObjectRange → ℕ
+abbrev pub count_before : ObjectRange → List ObjectRange → ℕ
 count_before w ys = count_by (λ x. is_before x w) ys
 
 count_at : (b : Bool) (w y : ObjectRange) (ys : List ObjectRange) → is_before y w ≡ b → count_before w (y ∷ ys) ≡ cond b 1 0 + count_before w ys
 count_at b w y ys is = count_next w y ys ∙ ap (λ c. cond c 1 0 + count_before w ys) is
 
-none_counted : (w : ObjectRange) (ys : List ObjectRange) → AreAfter w ys → count_before w ys ≡ 0
+pub none_counted : (w : ObjectRange) (ys : List ObjectRange) → AreAfter w ys → count_before w ys ≡ 0
 none_counted w [] h = refl
 none_counted w (y ∷ ys) (first, rest) =
     let none : count_before w ys ≡ 0 = none_counted w ys rest in
     let sum : 0 + count_before w ys ≡ 0 = omega (arith, none) in
     count_at false w y ys first ∙ sum
 
-one_counted : (w y : ObjectRange) (ys : List ObjectRange) → is_before y w ≡ true → count_before w (y ∷ ys) ≡ suc (count_before w ys)
+pub one_counted : (w y : ObjectRange) (ys : List ObjectRange) → is_before y w ≡ true → count_before w (y ∷ ys) ≡ suc (count_before w ys)
 one_counted w y ys is =
     let sum : 1 + count_before w ys ≡ suc (count_before w ys) = omega arith in
     count_at true w y ys is ∙ sum

@@ -7,3 +7,4 @@ pub mod Lengths
 pub mod Open
 pub mod Laws
 pub mod LockRanges
+pub mod RangeIndexes

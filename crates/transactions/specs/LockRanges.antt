@@ -41,6 +41,19 @@ shape_range x = record { object = record { 0 = (kept_range_of x).number }; range
 unfoldable pub lock_ranges : List Shape → List ObjectRange
 lock_ranges plan = fold with_range [] (map shape_range plan)
 
+-- whether a range has a byte
+abbrev pub has_byte : ObjectRange → Bool
+has_byte x = nat_lt x.range.low x.range.high
+
+-- a range and those after it, each joined with the next ones as long as it overlaps them
+abbrev pub joined_after : ObjectRange → List ObjectRange → List ObjectRange
+joined_after whole [] = whole ∷ []
+joined_after whole (x ∷ xs) = if is_shared x whole then joined_after (hull whole x) xs else whole ∷ joined_after x xs
+
+abbrev pub joined_neighbours : List ObjectRange → List ObjectRange
+joined_neighbours [] = []
+joined_neighbours (x ∷ xs) = joined_after x xs
+
 -- none of these ranges begins before this one
 abbrev pub AreAfter : ObjectRange → List ObjectRange → Type 0
 AreAfter x [] = Unit {0}

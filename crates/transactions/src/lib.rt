@@ -2,10 +2,12 @@
 #![tactic(auto)]
 
 mod clients;
+mod indexed;
 mod laws;
 mod lock_plan;
 mod open;
 mod plan;
+mod range_index;
 mod reading;
 mod record;
 mod writing;

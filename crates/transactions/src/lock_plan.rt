@@ -1,12 +1,20 @@
 //! The ranges that a transaction has to lock.
+//!
+//! If each range of a plan has a byte, as in allowed plans, the order in which they are joined makes no difference. So
+//! many of them are sorted, and each is joined with the next ones. Else they are joined one by one in the plan's order.
 
 ghost use Rattle.std.specs.Prelude.{◌≡◌, ◌<◌, ◌+◌, ◌≤◌, IfOk, count_by, filter, length, max, min, not, vec_capacity, vec_len};
+ghost use Rattle.std.specs.List.{list_all};
 ghost use Rattle.transactions.specs.LockRanges as words;
-ghost use Rattle.transactions.specs.LockRanges.{hull, is_shared, joined, placed, with_range, with_shared};
+ghost use Rattle.transactions.specs.LockRanges.{is_shared, joined, placed, shape_range, with_range, with_shared};
 
 use crate::plan::range_of;
+use crate::range_index::sorted_ranges;
 use base::{ObjectRange, Range, Shape};
 use std::alloc::{AllocError, Global};
+
+// Fewer ranges are joined one by one: a sort would take more memory and time.
+const SORTED_FROM: usize = 16;
 
 /// The ranges that a plan has to lock: those of its shapes, each joined with those that it overlaps, and put after
 /// those that begin before it, by object and then by low end.
@@ -14,6 +22,51 @@ use std::alloc::{AllocError, Global};
 /// # Errors
 /// `AllocError` if there is no memory for them.
 pub fn lock_ranges(alloc: Global, plan: &[Shape]) -> Result<Vec<ObjectRange>, AllocError>
+    ensures { IfOk result (λ ranges. ranges.items ≡ words.lock_ranges plan.now) }
+{
+    if plan.len() < SORTED_FROM || !have_bytes(plan) {
+        return joined_in_turn(alloc, plan);
+    }
+    let sorted = sorted_ranges(alloc, plan)?;
+    joined_neighbours(alloc, &sorted)
+}
+
+// Whether each range of a plan has a byte, as those of allowed plans do.
+fn have_bytes(plan: &[Shape]) -> bool
+    ensures { result ≡ list_all (λ s. words.has_byte (shape_range s)) plan.now }
+{
+    plan.iter().all(|shape| has_byte(&range_of(shape)))
+}
+
+fn has_byte(range: &ObjectRange) -> bool
+    ensures { result ≡ words.has_byte range.now }
+{
+    range.range.low < range.range.high
+}
+
+// Ranges in order, each joined with the next ones as long as it overlaps them.
+fn joined_neighbours(alloc: Global, sorted: &[ObjectRange]) -> Result<Vec<ObjectRange>, AllocError>
+    ensures { IfOk result (λ ranges. ranges.items ≡ words.joined_neighbours sorted.now) }
+{
+    let mut ranges = Vec::with_capacity(alloc, sorted.len())?;
+    let Some((first, rest)) = sorted.split_first() else {
+        return Ok(ranges);
+    };
+    let mut whole = *first;
+    for range in rest {
+        if range.overlaps(&whole) {
+            whole = hull(whole, range);
+        } else {
+            ranges.push_reserved(whole);
+            whole = *range;
+        }
+    }
+    ranges.push_reserved(whole);
+    Ok(ranges)
+}
+
+// The ranges of a plan, each joined with those before it.
+fn joined_in_turn(alloc: Global, plan: &[Shape]) -> Result<Vec<ObjectRange>, AllocError>
     ensures { IfOk result (λ ranges. ranges.items ≡ words.lock_ranges plan.now) }
 {
     let mut ranges = Vec::with_capacity(alloc, plan.len())?;
@@ -83,9 +136,17 @@ fn joined(ranges: &[ObjectRange], range: ObjectRange) -> ObjectRange
 fn with_shared(range: &ObjectRange, whole: ObjectRange, other: &ObjectRange) -> ObjectRange
     ensures { result ≡ words.with_shared range.now whole other.now }
 {
-    if !other.overlaps(range) {
-        return whole;
+    if other.overlaps(range) {
+        hull(whole, other)
+    } else {
+        whole
     }
+}
+
+// The least range of the first one's object that has the bytes of both.
+fn hull(whole: ObjectRange, other: &ObjectRange) -> ObjectRange
+    ensures { result ≡ words.hull whole other.now }
+{
     ObjectRange {
         object: whole.object,
         range: Range {

@@ -4,7 +4,8 @@
 //! which is the order of the names. Contracts see the admissions in that order, and the name of the next one.
 //!
 //! A transaction is admitted if no range of its plan overlaps one of an open transaction. So open transactions commute,
-//! and those of a group may be committed in any order.
+//! and those of a group may be committed in any order. Each lies beside an index of its plan's ranges: so each shape of a
+//! new plan is compared with an open plan by halves.
 
 ghost use Rattle.std.specs.Prelude.{◌≡◌, [], IfErr, IfOk, None, OnErr, OnOk, count_by, option_map, true};
 ghost use Rattle.std.specs.List.{find, list_any};
@@ -16,7 +17,7 @@ ghost use Rattle.transactions.specs.Open as words;
 ghost use Rattle.transactions.specs.Open.{admission_of, admit_refusal, has_plan_in, are_too_many, is_kept_blocked, is_of_group, is_of_name, is_range_in_use, keys_without, next_to_open, overlaps_plan_of, passes_at, admission_of_name, with_admission};
 ghost use Rattle.transactions.specs.Refusals.{Refuses};
 
-use crate::plan::{has_range_in, ranges_overlap};
+use crate::indexed::IndexedTransaction;
 use base::{
     Group, LAST_NUMBER, MAX_TRANSACTIONS, ObjectRange, Owner, Plan, PoolError, Shape, TxId,
 };
@@ -40,7 +41,7 @@ pub struct OpenTransaction {
 /// The open transactions of a pool, at most 64. Contracts see their admissions, in order, and the next name.
 #[derive(Debug, Drop)]
 pub struct OpenTransactions {
-    slots: Slab<OpenTransaction>,
+    slots: Slab<IndexedTransaction>,
     /// The keys of the slots, in order of admission.
     order: Vec<usize>,
     /// The name of the next transaction.
@@ -111,15 +112,19 @@ impl OpenTransactions {
         if self.is_full() {
             return Err(PoolError::TooMany);
         }
+        let tx = TxId(self.next);
+        let opened = IndexedTransaction::new(
+            *self.order.allocator(),
+            OpenTransaction {
+                tx,
+                group,
+                owner,
+                plan,
+            },
+        )?;
         self.order.reserve(1)?;
         self.slots.reserve(1)?;
-        let tx = TxId(self.next);
-        let key = self.slots.insert_reserved(OpenTransaction {
-            tx,
-            group,
-            owner,
-            plan,
-        });
+        let key = self.slots.insert_reserved(opened);
         self.order.push_reserved(key);
         self.next += 1;
         Ok(tx)
@@ -131,7 +136,8 @@ impl OpenTransactions {
             ≡ admission_of_name tx.0 self.now.transactions }
     {
         let key = key_of(&self.slots, &self.order, tx)?;
-        self.slots.get(key)
+        let found = self.slots.get(key)?;
+        Some(found.transaction())
     }
 
     /// The transaction of this name is open no more, and comes back. `None` if there is none, and then all is as
@@ -146,7 +152,7 @@ impl OpenTransactions {
     {
         let key = key_of(&self.slots, &self.order, tx)?;
         remove_named(&self.slots, &mut self.order, tx);
-        self.slots.try_remove(key)
+        without_index(self.slots.try_remove(key))
     }
 
     /// Whether a range of an open transaction lies in this one: if it is a writer lock's, the lock is in use.
@@ -172,31 +178,38 @@ fn is_too_many(count: usize, next: u64) -> bool
 }
 
 /// The key of the transaction of this name.
-fn key_of(slots: &Slab<OpenTransaction>, order: &[usize], tx: TxId) -> Option<usize>
+fn key_of(slots: &Slab<IndexedTransaction>, order: &[usize], tx: TxId) -> Option<usize>
     ensures { result ≡ find (passes_at (is_of_name tx.0) slots.now) order.now }
 {
     order.iter().copied().find(|key| is_named(slots, *key, tx))
 }
 
 /// Takes the key of the transaction of this name out of the order.
-fn remove_named(slots: &Slab<OpenTransaction>, order: &mut Vec<usize>, tx: TxId)
+fn remove_named(slots: &Slab<IndexedTransaction>, order: &mut Vec<usize>, tx: TxId)
     ensures { order.new.items ≡ keys_without tx.0 slots.now order.old.items }
 {
     order.retain(|key| !is_named(slots, *key, tx));
 }
 
+/// The transaction that a slot had, without its index.
+fn without_index(slot: Option<IndexedTransaction>) -> Option<OpenTransaction>
+    ensures { result ≡ slot }
+{
+    slot.map(|ended| ended.into_transaction())
+}
+
 /// Whether the transaction at a key has this name.
-fn is_named(slots: &Slab<OpenTransaction>, key: usize, tx: TxId) -> bool
+fn is_named(slots: &Slab<IndexedTransaction>, key: usize, tx: TxId) -> bool
     ensures { result ≡ passes_at (is_of_name tx.0) slots.now key }
 {
     match slots.get(key) {
-        Some(transaction) => transaction.tx.0 == tx.0,
+        Some(opened) => opened.transaction().tx.0 == tx.0,
         None => false,
     }
 }
 
 /// How many of the transactions at these keys are of a group.
-fn count_of_group(slots: &Slab<OpenTransaction>, order: &[usize], group: Group) -> usize
+fn count_of_group(slots: &Slab<IndexedTransaction>, order: &[usize], group: Group) -> usize
     ensures { result ≡ count_by (passes_at (is_of_group group.0) slots.now) order.now }
 {
     order
@@ -205,44 +218,44 @@ fn count_of_group(slots: &Slab<OpenTransaction>, order: &[usize], group: Group) 
         .count()
 }
 
-fn is_in_group(slots: &Slab<OpenTransaction>, key: usize, group: Group) -> bool
+fn is_in_group(slots: &Slab<IndexedTransaction>, key: usize, group: Group) -> bool
     ensures { result ≡ passes_at (is_of_group group.0) slots.now key }
 {
     match slots.get(key) {
-        Some(transaction) => transaction.group.0 == group.0,
+        Some(opened) => opened.transaction().group.0 == group.0,
         None => false,
     }
 }
 
 /// Whether a range of a plan overlaps one of the transactions at these keys.
-fn any_blocks(slots: &Slab<OpenTransaction>, order: &[usize], plan: &[Shape]) -> bool
+fn any_blocks(slots: &Slab<IndexedTransaction>, order: &[usize], plan: &[Shape]) -> bool
     ensures { result ≡ list_any (passes_at (overlaps_plan_of plan.now) slots.now) order.now }
 {
     order.iter().any(|key| blocks(slots, *key, plan))
 }
 
-fn blocks(slots: &Slab<OpenTransaction>, key: usize, plan: &[Shape]) -> bool
+fn blocks(slots: &Slab<IndexedTransaction>, key: usize, plan: &[Shape]) -> bool
     ensures { result ≡ passes_at (overlaps_plan_of plan.now) slots.now key }
 {
     match slots.get(key) {
-        Some(transaction) => ranges_overlap(plan, transaction.plan.as_slice()),
+        Some(opened) => opened.blocks(plan),
         None => false,
     }
 }
 
 /// Whether a range of the transactions at these keys lies in this one.
-fn any_lies_in(slots: &Slab<OpenTransaction>, order: &[usize], range: &ObjectRange) -> bool
+fn any_lies_in(slots: &Slab<IndexedTransaction>, order: &[usize], range: &ObjectRange) -> bool
     ensures { result
         ≡ list_any (passes_at (has_plan_in (number_range range.now)) slots.now) order.now }
 {
     order.iter().any(|key| lies_in(slots, *key, range))
 }
 
-fn lies_in(slots: &Slab<OpenTransaction>, key: usize, range: &ObjectRange) -> bool
+fn lies_in(slots: &Slab<IndexedTransaction>, key: usize, range: &ObjectRange) -> bool
     ensures { result ≡ passes_at (has_plan_in (number_range range.now)) slots.now key }
 {
     match slots.get(key) {
-        Some(transaction) => has_range_in(transaction.plan.as_slice(), range),
+        Some(opened) => opened.lies_in(range),
         None => false,
     }
 }

@@ -1,15 +1,9 @@
-use Rattle.std.proofs.Common.{◌∙◌, arith}
-use Rattle.base.specs.declared.operation.Shape.TheVariants.{Create}
-use Rattle.transactions.proofs.LockPlans.{all_shapes_added, one_more_range}
+use Rattle.std.proofs.Common.{sym}
+use Rattle.transactions.proofs.JoinedRanges.{sorted_are_locked}
 use Rattle.transactions.proofs.lock_plan.lock_ranges.Goals as goal
 
-pub loop-shape-preserved : goal.loop-shape-preserved
-loop-shape-preserved c = (
-  one_more_range c.loop-shape.shape-index c.args.plan.now (Create record { 0 = 0 }) c.loop-shape.ranges.items _ c.range_of.result c.loop-shape-test.true c.loop-shape.invariant.0 c.range_of.ensures.kept
-      c.add_range.ensures.added,
-  omega (arith, c.add_range.ensures.length, c.loop-shape.invariant.1),
-  omega (arith, c.add_range.ensures.capacity, c.loop-shape.invariant.2),
-)
-
 pub returns : goal.returns
-returns c = c.loop-shape.invariant.0 ∙ all_shapes_added c.loop-shape.shape-index c.args.plan.now c.loop-shape-test.false
+returns c =
+    let sorted = c.in_ok-sorted.sorted.items in
+    let locked = sorted_are_locked c.args.plan.now sorted (sym c.if-not-have_bytes.ensures) c.in_ok-sorted.ensures.order c.in_ok-sorted.ensures.ranges in
+    rw (c.deref.ensures.value, locked) at c.joined_neighbours.ensures

@@ -23,7 +23,7 @@ invariant_of-self c =
 pub returns-clause-ended : goal.returns-clause-ended
 returns-clause-ended c =
     rw (← c.self.view_is)
-    (ap (option_map admission_of) c.try_remove.ensures.value ∙ found_as c.args.tx.0 c.self.inside.slots c.self.inside.order.items c.deref.result.now c.key_of.result _ c.deref.ensures.value c.key_of.ensures c.in_ok-key.was)
+    (ap (option_map admission_of) (c.without_index.ensures ∙ c.try_remove.ensures.value) ∙ found_as c.args.tx.0 c.self.inside.slots c.self.inside.order.items c.deref.result.now c.key_of.result _ c.deref.ensures.value c.key_of.ensures c.in_ok-key.was)
 
 pub returns-clause-others : goal.returns-clause-others
 returns-clause-others c =

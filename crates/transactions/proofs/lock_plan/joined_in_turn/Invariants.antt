@@ -1,6 +1,6 @@
 use Rattle.std.proofs.Common.{◌≡◌, ◌≤◌, length, vec_capacity, vec_len}
 use Rattle.transactions.proofs.LockPlans.{ranges_of_front}
-use Rattle.transactions.proofs.lock_plan.lock_ranges.Given as goal
+use Rattle.transactions.proofs.lock_plan.joined_in_turn.Given as goal
 
 -- the ranges of the shapes so far, with room for one of each shape that is left
 abbrev pub invariant-loop-shape : goal.invariant-loop-shape
