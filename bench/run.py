@@ -2,7 +2,7 @@
 """Times `ztxg load` beside SQLite, RocksDB and a plain log that make the same writes, and prints ratios.
 
     make -C bench
-    python3 tools/build_program.py durable_load bench/out/durable_load
+    python3 tools build_program durable_load bench/out/durable_load
     python3 bench/run.py --ztxg crates/ztxg/out/ztxg --durable bench/out/durable_load
 
 In each round each contestant runs once, in the same folder, each on a store made anew; the next round begins with the

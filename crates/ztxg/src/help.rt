@@ -1,7 +1,7 @@
 //! What the program's help says after its arguments: examples, exit statuses and the lines of a script.
 
-/// The program's version, and the kit that it was tested with. `tools/version.py` compares it with README.md and with
-/// the kit that runs the gate.
+/// The program's version, and the kit that it was tested with. `python3 tools version` compares it with README.md and
+/// with the kit that runs the gate.
 pub const VERSION: &str = "0.1.0 (rattle-kit-13f logic dac8208d650f15bf)";
 
 /// What stands after the help of the program.

@@ -1,0 +1,1 @@
+"""What runs a built program, and judges what it prints and writes."""

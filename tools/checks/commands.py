@@ -1,0 +1,397 @@
+"""Runs each command of the program on files of its own, against `docs/FORMATS.md`.
+
+What is expected stands there ("The program", "Refusals", "The script", "The load"): the checksums of new files, the
+digests of loads and the refusals are read from its tables. Compared are what a command prints, its status, and what the
+files hold.
+
+- New files, byte for byte; a file that is there keeps what a create doesn't write.
+- What `show` and `check` print of a pool that is new, synced, logged, damaged or missing. The moments that are stored.
+- Faults of the command line, files that can't be used and why, locks of other processes, output that can't be written.
+- A script answers each line before the next one comes. A load shows its progress on a terminal alone.
+- The help and the version.
+
+Each difference is printed, and then the status is 1. The end prints how many runs were compared.
+"""
+
+import errno
+import fcntl
+import hashlib
+import os
+import pathlib
+import pty
+import re
+import shutil
+import subprocess
+import tempfile
+
+from tools import TOP
+from tools.harness import program
+from tools.harness.judge import Judge
+from tools.harness.program import Conversation, add_program
+from tools.model.formats import table
+from tools.model.layout import AREA, BLOCK, CONFIG_AT, LABEL, MIB, block_count, slot_places
+from tools.model.pool_bytes import number_at
+
+SIZE = 8 * MIB
+SECONDS = 20
+LOAD_SECONDS = 300
+
+NEW = "name tank\nguid 77\ngroup 4\nimport 0\nblocks 896 used 0\nrecords 0\nobjects 0\n"
+# Object 1 has four bytes, in one block of each of the four kinds. The data block is the second of the area.
+SYNCED = "name tank\nguid 77\ngroup 9\nimport 1\nblocks 896 used 4\nrecords 0\nobjects 1\n1 4\n"
+DATA = AREA + BLOCK
+SYNC = """\
+import 1048576
+lock 1 1 w 0 338688
+begin 1 c:1 w:1:0:4
+commit 0 abcd
+sync
+"""
+SYNC_ANSWERS = "synced 8 open 9 records 0\nlock 0\ntx 0 group 9\nentry 0 group 9\nsynced 9\n"
+# Two records in one log block, and nothing is synced.
+LOGGED = "name tank\nguid 77\ngroup 8\nimport 1\nblocks 896 used 1\nrecords 2\nobjects 1\n1 104\n"
+LOG = """\
+import 1048576
+lock 1 1 w 0 338688
+begin 1 c:1
+commit 0
+begin 1 w:1:100:4
+commit 1 wxyz
+log-write
+log-flush
+"""
+
+LOAD = ["--workers", "3", "--ops", "0", "--seed", "5"]
+NOT_REGULAR, IN_USE = "not a regular file", "in use by another process or device"
+
+
+def flawed(name, at):
+    with open(name, "r+b") as file:
+        file.seek(at)
+        byte = file.read(1)[0]
+        file.seek(at)
+        file.write(bytes([byte ^ 1]))
+    return name
+
+
+def system(number):
+    """The system's words for a failed call."""
+    return f"{os.strerror(number)} (os error {number})"
+
+
+def commands(file):
+    """Each command that needs a file."""
+    return {
+        "create": ["create", file, "tank", "77", str(SIZE)],
+        "show": ["show", file],
+        "check": ["check", file],
+        "load": ["load", file, *LOAD],
+        "script": ["script", "--file", file, "-"],
+    }
+
+
+class Commands(Judge):
+    """Runs of the commands in the current folder."""
+
+    def __init__(self, ztxg):
+        super().__init__("commands")
+        self.ztxg, self.runs = ztxg, 0
+
+    def run(self, words, script="", seconds=SECONDS, ztxg=None, **process):
+        """The status of a run, what it printed, and what it printed on standard error."""
+        self.runs += 1
+        ran = program.run([ztxg or self.ztxg, *words], script.splitlines(), seconds, **process)
+        return ran.status, ran.text(), ran.error_text()
+
+    def ends(self, words, status, out="", errors="", **how):
+        """How a run has to end."""
+        found = self.run(words, **how)
+        if found != (status, out, errors):
+            self.differ(words, "ends with", found, "and not with", (status, out, errors))
+
+    def make(self, name="tank.pool", script=None, answers=None):
+        """A new pool in a file, on which a script has run."""
+        self.ends(["create", name, "tank", "77", str(SIZE)], 0, "created tank 896 blocks\n")
+        if script:
+            status, out, errors = self.run(["script", "--file", name, "-"], script)
+            if (status, errors) != (0, "") or answers not in (None, out):
+                self.differ("the script of", name, "ends with", (status, out, errors))
+        return name
+
+    def new_files(self):
+        """Files of new pools, byte for byte, and those that a refused create leaves."""
+        for words, checksum in table("| command | SHA-256 of FILE |"):
+            words = words.replace("FILE", "new.pool").split()
+            size = int(words[4])
+            self.ends(words, 0, f"created {words[2]} {block_count(size)} blocks\n")
+            made = pathlib.Path("new.pool").read_bytes()
+            if (len(made), hashlib.sha256(made).hexdigest()) != (size, checksum):
+                self.differ(words, "makes another file")
+            os.remove("new.pool")
+        guid = str(2**64 - 1)
+        self.ends(["create", "new.pool", "tank", guid, str(SIZE), "--new"], 0, "created tank 896 blocks\n")
+        self.ends(["show", "new.pool"], 0, NEW.replace("77", guid))
+        made = pathlib.Path("new.pool").read_bytes()
+        self.ends(["create", "new.pool", "pond", "78", str(SIZE), "--new"], 3, errors="ztxg: cannot use new.pool\n")
+        refused = [(0, "", "8 BadGeometry"), (SIZE - 1, "tank", "8 BadGeometry"), (SIZE, "4", "11 BadRange")]
+        for size, name, refusal in refused:
+            self.ends(["create", "new.pool", name, "77", str(size)], 1, errors=f"ztxg: refused {refusal}\n")
+        if pathlib.Path("new.pool").read_bytes() != made:
+            self.differ("a refused create changes its file")
+
+    def kept_bytes(self):
+        """The boot area and the ends of the labels stay; a longer file is cut, a shorter one gets zeros."""
+        for before in (16 * MIB, SIZE, MIB):
+            pathlib.Path("old.pool").write_bytes(b"\x55" * before)
+            self.make("old.pool")
+            made = pathlib.Path("old.pool").read_bytes()
+            if len(made) != SIZE:
+                self.differ("a file has another size than its pool")
+            last = SIZE - LABEL
+            head = CONFIG_AT
+            for low, high in [(0, head), (LABEL, LABEL + head), (2 * LABEL, AREA), (last, last + head)]:
+                kept = min(max(before - low, 0), high - low)
+                if made[low:high] != b"\x55" * kept + bytes(high - low - kept):
+                    self.differ(f"bytes {low} to {high} of a file of {before} bytes don't stay")
+
+    def pools(self):
+        for name, shown, checked in [
+            (self.make("made.pool"), NEW, "clean group 4 records 0\n"),
+            (self.make("synced.pool", SYNC, SYNC_ANSWERS), SYNCED, "clean group 9 records 0\n"),
+            (self.make("logged.pool", LOG), LOGGED, "clean group 8 records 2\n"),
+        ]:
+            self.ends(["show", name], 0, shown)
+            self.ends(["check", name], 0, checked)
+        flawed("synced.pool", DATA + 64)
+        refusal = f"refused 7 Damaged 5 {DATA}\n"
+        self.ends(["check", "synced.pool"], 1, f"damaged 5 {DATA}\n")
+        self.ends(["show", "synced.pool"], 1, errors=f"ztxg: {refusal}")
+        self.ends(["load", "synced.pool", *LOAD], 1, errors=f"ztxg: {refusal}")
+        self.ends(["script", "--file", "synced.pool", "-"], 0, refusal, script="import 1048576\n")
+        for size, checked, errors in [
+            (SIZE, "no pool\n", "6 NoPool"),
+            (6 * MIB - 1, "", "8 BadGeometry"),
+            (2**30 + LABEL, "", "8 BadGeometry"),
+            (0, "", "8 BadGeometry"),
+        ]:
+            with open("zeros.pool", "wb") as file:
+                file.truncate(size)
+            errors = f"ztxg: refused {errors}\n"
+            self.ends(["check", "zeros.pool"], 1, checked, "" if checked else errors)
+            self.ends(["show", "zeros.pool"], 1, errors=errors)
+            self.ends(["load", "zeros.pool", *LOAD], 1, errors=errors)
+
+    def moments(self):
+        """The uberblock of group g lies in slot g mod 128 of each label, with its moment from byte 32 on."""
+        self.ends(["create", "timed.pool", "tank", "77", str(SIZE), "--moment", "5"], 0, "created tank 896 blocks\n")
+        self.ends(["script", "--file", "timed.pool", "-", "--moment", "1700000000"], 0, SYNC_ANSWERS, script=SYNC)
+        status, _, _ = self.run(["load", "timed.pool", *LOAD, "--moment", "7"])
+        made = pathlib.Path("timed.pool").read_bytes()
+        for group, moment in [(4, 5), (8, 1_700_000_000), (9, 1_700_000_000), (13, 7), (14, 7)]:
+            for slot in slot_places(SIZE, group):
+                if [number_at(made, slot + at) for at in (16, 32)] != [group, moment]:
+                    self.differ(f"the uberblock of group {group} hasn't the moment {moment}")
+        if status:
+            self.differ("a load ends with", status)
+
+    def faults(self):
+        self.make("fault.pool")
+        before = pathlib.Path("fault.pool").read_bytes()
+        past = str(2**64)
+        load = ["load", "fault.pool"]
+        for words in [
+            [],
+            ["nothing"],
+            ["create", "fault.pool", "tank", "77"],
+            ["create", "fault.pool", "tank", past, str(SIZE)],
+            ["create", "fault.pool", "tank", "77x", str(SIZE)],
+            ["create", "fault.pool", "tank", "77", past],
+            ["create", "fault.pool", "tank", "77", str(SIZE), "--moment", past],
+            ["create", "fault.pool", "tank", "77", str(SIZE), "--old"],
+            ["show"],
+            ["show", "fault.pool", "fault.pool"],
+            ["check"],
+            ["script"],
+            ["script", str(SIZE)],
+            ["script", past, "-"],
+            ["script", str(SIZE), "-", "--file", "fault.pool"],
+            load,
+            [*load, "--workers", "0", "--ops", "0", "--seed", "5"],
+            [*load, "--workers", "17", "--ops", "0", "--seed", "5"],
+            [*load, "--workers", "1", "--ops", "1000001", "--seed", "5"],
+            [*load, "--workers", "1", "--ops", "0", "--seed", past],
+            [*load, "--workers", "1", "--ops", "0"],
+            [*load, *LOAD, "--dirty", past],
+            [*load, *LOAD, "--cache", past],
+            ["show", b"\xff"],
+        ]:
+            status, out, errors = self.run(words)
+            if (status, out) != (2, "") or not errors:
+                self.differ(words, "ends with", (status, out, errors))
+        for dirty, refusal in [("4095", "11 BadRange"), ("1099511627777", "11 BadRange"), ("4096", "17 Throttled")]:
+            status, out, errors = self.run([*load, *LOAD, "--dirty", dirty])
+            if (status, out, errors) != (1, "", f"ztxg: refused {refusal}\n"):
+                self.differ("a limit of", dirty, "ends with", (status, out, errors))
+            if dirty != "4096" and pathlib.Path("fault.pool").read_bytes() != before:
+                self.differ("a refused limit changes the file")
+        before = pathlib.Path("fault.pool").read_bytes()
+        for cache in ["0", "4097"]:
+            status, out, errors = self.run([*load, *LOAD, "--cache", cache])
+            if (status, out, errors) != (1, "", "ztxg: refused 11 BadRange\n"):
+                self.differ("a cache of", cache, "ends with", (status, out, errors))
+            if pathlib.Path("fault.pool").read_bytes() != before:
+                self.differ("a refused cache changes the file")
+
+    def unusable(self, words, file, cause, **how):
+        """The file can't be used. Why is told in a second line, if -v stands before the command's name or after it."""
+        fact = f"ztxg: cannot use {file}\n"
+        for told in (words, ["-v", *words], [words[0], "-v", *words[1:]], [*words, "--verbose"]):
+            self.ends(told, 3, errors=fact if told is words else f"{fact}ztxg: cause: {cause}\n", **how)
+
+    def unusable_files(self):
+        os.mkdir("folder")
+        os.mkfifo("pipe")
+        for file, cause in [
+            ("no/file", system(errno.ENOENT)),
+            ("folder/" + "x" * 256, system(errno.ENAMETOOLONG)),
+            ("folder", NOT_REGULAR),
+            ("pipe", NOT_REGULAR),
+            ("/dev/null", NOT_REGULAR),
+        ]:
+            for words in commands(file).values():
+                self.unusable(words, file, cause)
+        for words in (["script", str(SIZE), "no/script"], ["script", "--file", "no/file", "no/script"]):
+            self.unusable(words, "no/script", system(errno.ENOENT))
+        pathlib.Path("lines").write_text("create tank 77")
+        self.unusable(["script", "--file", "no/file", "lines"], "no/file", system(errno.ENOENT))
+        self.ends(["script", str(SIZE), "lines"], 0, "ok\n")
+        self.make("held.pool")
+        made = pathlib.Path("held.pool").read_bytes()
+        self.unusable([*commands("held.pool")["create"], "--new"], "held.pool", system(errno.EEXIST))
+        with open("held.pool", "rb") as file:
+            for lock, readers in [(fcntl.LOCK_EX, False), (fcntl.LOCK_SH, True)]:
+                fcntl.flock(file, lock)
+                for name, words in commands("held.pool").items():
+                    if readers and name in ("show", "check"):
+                        self.ends([*words, "-v"], 0, self.run(words)[1])
+                    else:
+                        self.unusable(words, "held.pool", IN_USE)
+        if pathlib.Path("held.pool").read_bytes() != made:
+            self.differ("a file that is held changes")
+        # -v changes nothing else
+        os.truncate("held.pool", 0)
+        self.ends(["-v", "check", "held.pool"], 1, errors="ztxg: refused 8 BadGeometry\n")
+
+    def denied_files(self):
+        """Files and folders that this user may not use. For root the program runs as nobody does."""
+        for name, mode in [("denied", 0o777), ("denied/read", 0o555), ("denied/write", 0o333)]:
+            os.mkdir(name)
+            os.chmod(name, mode)
+        denied = system(errno.EACCES)
+        self.make("denied/0.pool")
+        os.chmod("denied/0.pool", 0)
+        how = {"ztxg": shutil.copy(self.ztxg, "denied/ztxg")}
+        if os.geteuid() == 0:
+            os.chmod(".", 0o755)
+            os.chmod("denied/ztxg", 0o755)
+            how.update(user=65_534, group=65_534, extra_groups=[])
+        for words in commands("denied/0.pool").values():
+            self.unusable(words, "denied/0.pool", denied, **how)
+        self.unusable(commands("denied/read/1.pool")["create"], "denied/read/1.pool", denied, **how)
+        # This one is made, but a power failure could lose its name.
+        file = "denied/write/1.pool"
+        self.unusable(commands(file)["create"], file, f"the folder of the file can't be synced: {denied}", **how)
+        os.chmod("denied/write", 0o777)
+        if os.path.getsize(file):
+            self.differ(file, "isn't left empty")
+        self.ends(commands(file)["create"], 0, "created tank 896 blocks\n", **how)
+
+    def full_output(self):
+        self.make("full.pool")
+        with open("/dev/full", "wb") as full:
+            for words in [*commands("full.pool").values(), ["--help"], ["--version"], ["load", "--help"]]:
+                status, _, errors = self.run(words, "import 1048576\nstatus\n", out=full)
+                if status != 3 or errors and "--" not in words[-1]:
+                    self.differ(words, "into a full output ends with", (status, errors))
+
+    def scripts(self):
+        """Each answer comes before the next line. With a file, a crash and a planned failure are no commands."""
+        self.runs += 1
+        self.make("lines.pool")
+        with Conversation([self.ztxg, "script", "--file", "lines.pool", "-"], SECONDS) as running:
+            lines = [*SYNC.splitlines(), "fail read 1"]
+            answers = [*SYNC_ANSWERS.splitlines(), "line 6: bad command"]
+            for line, answer in zip(lines, answers):
+                found = running.ask(line)
+                if found != answer + "\n":
+                    self.differ(line, "prints", found, "before the next line comes")
+                    break
+            status = running.end()
+            if status != 2:
+                self.differ("a script with a bad command ends with", status)
+        self.ends(["script", "--file", "lines.pool", "-"], 2, "line 1: bad command\n", script="crash\n")
+
+    def loads(self):
+        for count, digest in table("| N | digest |"):
+            loaded = ["load", self.make("load.pool"), "--workers", "3", "--ops", count, "--seed", "5"]
+            found = self.run(loaded, seconds=LOAD_SECONDS)
+            if found != (0, f"committed {17 + 16 * int(count)}\ndigest {digest}\n", ""):
+                self.differ(loaded, "ends with", found)
+        main, other = pty.openpty()
+        words = [self.ztxg, "load", self.make("load.pool"), "--workers", "2", "--ops", "8", "--seed", "5"]
+        with subprocess.Popen(words, stdout=subprocess.PIPE, stderr=other) as running:
+            out = running.stdout.read()
+        os.close(other)
+        shown = os.read(main, 65_536)
+        os.close(main)
+        percents = [int(found) for found in re.findall(rb"(\d+) percent of the writes are durable", shown)]
+        if running.returncode or not out.startswith(b"committed 145\n") or not percents or max(percents) != 100:
+            self.differ("a load on a terminal shows", shown)
+
+    def texts(self):
+        """The version and the help, against README.md and the tables of docs/FORMATS.md."""
+        readme = (TOP / "README.md").read_text()
+        version, kit = re.search(r"This is version ([0-9.]+), .*? names `(.*?)`", readme).groups()
+        self.ends(["--version"], 0, f"ztxg {version} ({kit})\n")
+        names = {(number, name) for number, name, _ in table("| n | name | when |")}
+        names |= {("7", "Damaged KIND ADDRESS")}
+        for words in [["--help"], *([name, "--help"] for name in commands(""))]:
+            status, out, errors = self.run(words)
+            if (status, errors) != (0, "") or not out:
+                self.differ(words, "ends with", (status, errors))
+            defaults = {"create": ["0"], "script": ["0"], "load": ["1048576", "256", "0"]}.get(words[0], [])
+            if re.findall(r"\[default: (\w+)\]", out) != defaults:
+                self.differ(words, "names other defaults than", defaults)
+            if words != ["--help"]:
+                refusals = out.split("Refusals, with status 1")[1:]
+                for found in re.findall(r"^ *(\d+) (\w+(?: KIND ADDRESS)?)  ", "".join(refusals), re.M):
+                    if found not in names:
+                        self.differ(words, "names", found)
+        lines = {word for cell, _ in table("| line | answer |")[:25] for word in [cell.split()[0].strip("`,")]}
+        missing = [line for line in lines if not re.search(rf"\b{line}\b", self.run(["script", "--help"])[1])]
+        if missing:
+            self.differ("the help of a script lacks", missing)
+
+
+def add_arguments(parser):
+    add_program(parser)
+
+
+def main(ztxg):
+    judge = Commands(ztxg)
+    with tempfile.TemporaryDirectory() as folder:
+        os.chdir(folder)
+        judge.new_files()
+        judge.kept_bytes()
+        judge.pools()
+        judge.moments()
+        judge.faults()
+        judge.unusable_files()
+        judge.denied_files()
+        judge.full_output()
+        judge.scripts()
+        judge.loads()
+        judge.texts()
+        os.chdir(TOP)
+    print(f"{judge.runs} runs of the program, {judge.differences} differences")
+    return int(judge.differences > 0)

@@ -1,0 +1,289 @@
+"""Judges images of a hostile writer by chance, by `check`, `show` and an import.
+
+The program makes a few pools in files. COUNT times the image of one of them gets one to three edits by chance, with the
+checks above them made right (`tools/rows/hostile_edits.py`). What the image mounts is worked out by Python alone
+(`tools/model/pool_image.py`). Then these have to print exactly that, without a crash or a hang:
+
+- `check FILE` and `show FILE`, which leave the file as it is;
+- a script on the file, which imports the pool and prints its name, its digest and the lengths of objects. A refused
+  import leaves the file as it is;
+- after an import `check` and `show` again: the same contents, four groups and one import later. Each label has a config
+  of that group with the name.
+
+The first difference ends it with status 1, and prints the number of its image. The same SEED makes the same images. The
+end prints how many images were judged how, and which edits they had.
+"""
+
+import collections
+import multiprocessing
+import pathlib
+import random
+
+from tools import Failed
+from tools.harness.pool_files import IN_MEMORY, pool_file
+from tools.harness.program import Lines, add_program, run
+from tools.model.contents import digest
+from tools.model.layout import DIRTY_MAX, NAMED, RECORD, TOP
+from tools.model.pool_bytes import Config
+from tools.model.pool_image import (
+    BadGeometry,
+    Damaged,
+    Image,
+    NoPool,
+    import_line,
+    mount,
+    read_pool,
+    show_lines,
+)
+from tools.model.serial_pool import LEAST
+from tools.rows.hostile_edits import Edits
+
+SECONDS = 60
+
+
+# The pools: for each the scripts that make it, one import in each.
+
+
+def transact(tx, shapes, *words):
+    """A transaction on locked objects."""
+    return [f"begin 1 {shapes}", " ".join(["commit", str(tx), *words])]
+
+
+def start(objects):
+    """An import, and locks of objects and of the name."""
+    return [f"import {DIRTY_MAX}", *(f"lock 1 {number} w 0 {TOP}" for number in [*objects, NAMED])]
+
+
+def several():
+    """Objects in three directories, with holes, over two imports. Then a log of four blocks, with records of the synced
+    group and of two later ones. The synced group and one of the later ones give the pool a name."""
+    objects = [0, 1, 2, 62, 63, 5_291]
+    first = ["create tank 77", *start(objects)]
+    first += transact(0, "c:0 w:0:0:5 w:0:8064:10", "hello", "@10:z") + transact(1, "c:1 c:2 w:2:4030:4", "abcd")
+    first += transact(2, "c:62 l:62:9000 c:63 w:63:0:3", "xyz") + ["sync"]
+    first += transact(3, "c:5291 w:5291:338000:600", "@600:q") + transact(4, "w:0:4032:3000", "@3000:m") + ["sync"]
+    second = start(objects)
+    second += transact(0, "w:1:0:3900", "@3900:a") + transact(1, "d:62") + ["sync"]
+    second += transact(2, "w:2:0:6 n:6", "synced", "synced") + ["close", "log-write"]
+    second += transact(3, "c:62 w:62:7:2000", "@2000:b") + transact(4, "w:63:1:1500", "@1500:c") + ["log-write"]
+    second += transact(5, "l:0:4100 n:4", "pond") + ["log-write", "log-flush"]
+    second += transact(6, "w:5291:0:3000", "@3000:d") + ["log-write", "quiesce", "start", "finish"]
+    second += transact(7, "d:1") + ["log-write", "log-flush"]
+    return [first, second]
+
+
+def small():
+    """One object, and a log of one block with two records."""
+    lines = ["create pond 12345678901234567", *start([1, 2])]
+    lines += transact(0, "c:1 w:1:0:4", "abcd") + ["sync"]
+    lines += transact(1, "c:2") + transact(2, "w:1:100:4", "wxyz") + ["log-write", "log-flush"]
+    return [lines]
+
+
+def empty():
+    return [["create tank 77", f"import {DIRTY_MAX}"], [f"import {DIRTY_MAX}"]]
+
+
+def full():
+    """Four objects of 72 records each and a small one, and a log of one block. 89 of 384 blocks are free."""
+    lines = ["create tank 77", *start(range(5))]
+    lines += transact(0, "c:0 c:1 c:2 c:3 c:4") + ["sync"]
+    for tx in range(1, 73):
+        number, first = divmod(4 * (tx - 1), 72)
+        shapes = (f"w:{number}:{RECORD * record}:900" for record in range(first, first + 4))
+        lines += transact(tx, " ".join(shapes), *["@900:e"] * 4) + ["sync"] * (tx % 6 == 0)
+    lines += transact(73, "w:4:0:1", "f") + ["log-write", "log-flush"]
+    return [lines]
+
+
+# Each with its share of the images.
+POOLS = {several: 4, small: 2, empty: 1, full: 1}
+
+
+def make_pool(ztxg, pool):
+    """The image of a pool, and what it mounts."""
+    with pool_file(IN_MEMORY) as path:
+        file = pathlib.Path(path)
+        file.write_bytes(bytes(LEAST))
+        for lines in pool():
+            ran = run([ztxg, "script", "--file", path, "-"], lines, SECONDS).in_lines()
+            if ran.status != 0 or any(line.startswith("refused") for line in ran.out):
+                fail(f"the pool `{pool.__name__}` isn't made: {ran}")
+        base = file.read_bytes()
+    return base, mount(read_pool(Image(bytearray(base))))
+
+
+def fail(reason):
+    raise Failed(f"hostile.py: {reason}")
+
+
+# What is expected
+
+
+class Refusal:
+    """A refusal of an inspection or an import: its number, its name, and what is damaged."""
+
+    def __init__(self, number, *words):
+        self.text = " ".join([str(number), *words])
+        # What a check finds, if it isn't refused too; and how the end counts it.
+        self.found = {6: "no pool", 7: " ".join(["damaged", *words[1:]])}.get(number)
+        self.kind = " ".join(self.text.split()[:3])
+
+    def shown(self):
+        return Lines(1, [], [f"ztxg: refused {self.text}"])
+
+    def checked(self):
+        return Lines(1, [self.found], []) if self.found else self.shown()
+
+
+def outcome(image):
+    """What an image mounts, or the refusal."""
+    try:
+        return mount(read_pool(image))
+    except Damaged as damage:
+        return Refusal(7, "Damaged", str(damage.kind), str(damage.address))
+    except NoPool:
+        return Refusal(6, "NoPool")
+    except BadGeometry:
+        return Refusal(8, "BadGeometry")
+
+
+class Expected:
+    """What an inspection and an import make of an image."""
+
+    def __init__(self, image):
+        self.mount = outcome(image)
+        self.is_whole = not isinstance(self.mount, Refusal)
+
+    def check(self):
+        one = self.mount
+        if not self.is_whole:
+            return one.checked()
+        return Lines(0, [f"clean group {one.uberblock.group} records {one.records}"], [])
+
+    def show(self):
+        return Lines(0, show_lines(self.mount), []) if self.is_whole else self.mount.shown()
+
+    def import_answer(self):
+        one = self.mount
+        return f"refused {one.text}" if isinstance(one, Refusal) else import_line(one)
+
+    def script(self):
+        """The lines of a script that imports the pool, each with its answer."""
+        lines = {f"import {DIRTY_MAX}": self.import_answer()}
+        if self.import_answer().startswith("synced"):
+            name, objects = self.mount.name, self.mount.objects
+            lines.update({"name": f"name {name.decode()}", "digest": f"digest {digest(name, objects)}"})
+            for number in sorted({*objects, 0, 1, 7}):
+                answer = f"length {len(objects[number])}" if number in objects else "refused 9 NoObject"
+                lines[f"length {number}"] = answer
+        return lines
+
+    def kinds(self):
+        """How the image is counted."""
+        answer = self.import_answer()
+        if not self.is_whole:
+            return [self.mount.kind]
+        if answer.startswith("synced"):
+            return ["clean", "clean, with records"] if self.mount.records else ["clean"]
+        return [f"clean, but {answer}"]
+
+    def after(self):
+        """What is left of the pool by an import: its group, import, guid, log, name and objects."""
+        one = self.mount
+        return one.uberblock.group + 4, one.uberblock.import_number + 1, one.uberblock.guid, 0, one.name, one.objects
+
+    def left(self):
+        one = self.mount
+        return one.uberblock.group, one.uberblock.import_number, one.uberblock.guid, one.records, one.name, one.objects
+
+
+class Bench:
+    """A file in which images are judged."""
+
+    def __init__(self, ztxg, path):
+        self.ztxg, self.path, self.file, self.counts = ztxg, path, pathlib.Path(path), collections.Counter()
+
+    def differs(self, wanted, *words, script=()):
+        """How a command differs from what is wanted, or None."""
+        found = run([self.ztxg, *words], script, SECONDS).in_lines()
+        return None if found == wanted else f"{words[0]}: wanted {wanted}, found {found}"
+
+    def look(self, expected):
+        """How a check or a show differs, or None."""
+        return self.differs(expected.check(), "check", self.path) or self.differs(expected.show(), "show", self.path)
+
+    def judge(self, image):
+        """How a command differs on an image, or None."""
+        self.file.write_bytes(image.content)
+        expected = Expected(image)
+        self.counts.update(expected.kinds())
+        difference = self.look(expected)
+        if difference or self.file.read_bytes() != image.content:
+            return difference or "check or show wrote to the file"
+        lines = expected.script()
+        answers = Lines(0, list(lines.values()), [])
+        difference = self.differs(answers, "script", "--file", self.path, "-", script=lines)
+        left = self.file.read_bytes()
+        if difference or not expected.import_answer().startswith("synced"):
+            return difference or (None if left == image.content else "a refused import wrote to the file")
+        left = Image(bytearray(left))
+        return self.judge_left(expected, Expected(left), left.configs())
+
+    def judge_left(self, before, after, configs):
+        """How the pool that an import left differs, or None."""
+        if not after.is_whole or after.left() != before.after():
+            return f"the import left another pool: {after.check()}"
+        wanted = Config(after.mount.uberblock.guid, after.mount.uberblock.group, after.mount.name)
+        if configs != [wanted] * 4:
+            return f"the import left the configs {configs}"
+        return self.look(after)
+
+
+def judge_images(ztxg, bases, seed, images):
+    """Judges images: their counts, and the first that differs."""
+    pools, shares = list(POOLS), list(POOLS.values())
+    with pool_file(IN_MEMORY) as path:
+        bench = Bench(ztxg, path)
+        for at in images:
+            chance = random.Random(f"{seed}/{at}")
+            pool = chance.choices(range(len(pools)), shares)[0]
+            edits = Edits(chance, *bases[pool])
+            for _ in range(chance.choice([1, 1, 1, 2, 3])):
+                edits.edit()
+            if chance.random() < 0.01:
+                edits.resize()
+            difference = bench.judge(edits.image)
+            if difference:
+                made = f"{pools[pool].__name__}, {', '.join(edits.names)}"
+                return bench.counts, f"image {at} of seed {seed} ({made}): {difference}"
+            bench.counts.update(f"edit: {name}" for name in edits.names)
+    return bench.counts, None
+
+
+def numbers_of(text):
+    """The numbers of the images that `COUNT` or `FROM:TO` names."""
+    first, _, end = text.rpartition(":")
+    return range(int(first or 0), int(end))
+
+
+def add_arguments(parser):
+    add_program(parser)
+    told = "how many images, or FROM:TO for those from one number to before another (1000)"
+    parser.add_argument("images", metavar="COUNT", type=numbers_of, nargs="?", default="1000", help=told)
+    parser.add_argument("seed", metavar="SEED", type=int, nargs="?", default=0, help="of the chance (0)")
+    parser.add_argument("jobs", metavar="JOBS", type=int, nargs="?", default=1, help="processes at once (1)")
+
+
+def main(ztxg, images, seed, jobs):
+    bases = [make_pool(ztxg, pool) for pool in POOLS]
+    parts = [(ztxg, bases, seed, images[first::jobs]) for first in range(jobs)]
+    counts = collections.Counter()
+    with multiprocessing.Pool(jobs) as workers:
+        for part, difference in workers.starmap(judge_images, parts):
+            counts.update(part)
+            if difference:
+                fail(difference)
+    print(f"{len(images)} images of seed {seed}: check, show and import agree")
+    for kind, count in sorted(counts.items()):
+        print(f"{count:8} {kind}")

@@ -1,0 +1,1 @@
+"""What a built program costs: instructions, requests for memory, wakes, times."""

@@ -1,0 +1,128 @@
+"""Counts the instructions of commits, reads, syncs and the log, by callgrind of valgrind.
+
+Each row of a table is a pool on which a script runs (`tools/rows/cost_rows.py`). A number is the mean of the
+instructions that the pool spends on a counted line, and `all` is the sum of those of a row. The lines that make a pool
+ready don't count. With a WORD only the tables run whose names have it.
+
+The compiler puts the pool's calls into the function that runs the lines, so none of them can be counted by its name.
+What stays a function of its own is the reading of a command, and what prints an answer. Callgrind starts a part of its
+file where a command was read, and the next one where a part of the answer is printed first, or at the latest where the
+program calls `write`. In between lies what the session and the pool do. What the session does is measured by the same
+lines on a suspended pool, which refuses them at once, and taken off. A question whether a commit is durable isn't
+refused there, but that pool keeps no log block.
+
+The rows of a pair differ in one number. Their sums have to be within 10 percent of one another. The status is 1 if
+those of a pair are not, and 2 if a script can't be counted. Other rows are printed alone. The pool of 1 GiB takes some
+minutes.
+"""
+
+import collections
+import pathlib
+import re
+import tempfile
+
+from tools import Failed
+from tools.harness.program import add_program, run
+from tools.model.layout import DIRTY_MAX, MIB
+from tools.rows.cost_rows import TABLES
+
+# A line's command was read where the one function returns. One of the others prints its answer.
+READ = "script_lines::command::parse_command*"
+PRINTED = ["core::fmt::formatter::Formatter::pad::*", "core::fmt::tuples::*", "write"]
+# The lines that suspend a pool, and how many lines of a kind are then measured.
+SUSPENDED = ["create tank 77", f"import {DIRTY_MAX}", "fail flush 1", "sync"]
+REFUSED = 20
+FREE = re.compile(r"free (\d+)")
+MOST_APART = 0.10
+
+
+def fail(reason):
+    raise Failed(f"costs.py: {reason}", status=2)
+
+
+def count_lines(ztxg, size, lines, folder):
+    """The answers of a script, and the instructions of each line from its command to its answer."""
+    counts = folder / "counts"
+    words = ["valgrind", "--tool=callgrind", f"--callgrind-out-file={counts}", "--combine-dumps=yes"]
+    words += [f"--dump-after={READ}", *(f"--dump-before={name}" for name in PRINTED)]
+    script = folder / "script"
+    script.write_text("\n".join(lines) + "\n")
+    ran = run([*words, ztxg, "script", str(size), str(script)])
+    answers = ran.lines()
+    if ran.status != 0 or len(answers) != len(lines):
+        fail(ran.error_text()[-1000:])
+    totals, ended, began = [], "", ""
+    with open(counts) as parts:
+        for line in parts:
+            if line.startswith("desc: Trigger:"):
+                began, ended = ended, line
+            elif line.startswith("totals:") and "--dump-after" in began:
+                totals.append(int(line.split()[1]))
+    if len(totals) != len(lines):
+        fail(f"the program doesn't call {READ} once for each line")
+    return answers, totals
+
+
+def count(ztxg, size, made, folder):
+    """The mean of the instructions of the counted lines, by their kinds."""
+    answers, totals = count_lines(ztxg, size, made.lines, folder)
+    for line, answer in zip(made.lines, answers):
+        if answer.startswith(("refused", "line")):
+            fail(f"`{line[:60]}` is answered `{answer}`")
+    for at, blocks in made.takes.items():
+        before, after = (int(FREE.search(answer)[1]) for answer in (answers[at - 1], answers[at + 1]))
+        if before - after != blocks:
+            fail(f"`{made.lines[at]}` takes {before - after} blocks instead of {blocks}")
+    costs, lines = collections.defaultdict(list), collections.defaultdict(list)
+    for at, kind in made.counted.items():
+        costs[kind].append(totals[at])
+        lines[kind].append(made.lines[at])
+    return {kind: mean(some) - own_cost(ztxg, lines[kind][-REFUSED:], folder) for kind, some in costs.items()}
+
+
+def own_cost(ztxg, lines, folder):
+    """The mean of the instructions of lines that a suspended pool refuses."""
+    _, totals = count_lines(ztxg, 8 * MIB, SUSPENDED + lines, folder)
+    return mean(totals[len(SUSPENDED) :])
+
+
+def mean(numbers):
+    return sum(numbers) / len(numbers)
+
+
+def head(row, kinds):
+    """The head of a table."""
+    return "".join(f"{word:>10}" for word in [*row._fields, *kinds])
+
+
+def judge(name, one, other):
+    """Prints how far two sums are apart, and tells whether that is too far."""
+    low, high = sorted([one, other])
+    apart = high / low - 1
+    verdict = "within" if apart <= MOST_APART else "not within"
+    print(f"{name}: {apart:.1%} apart, {verdict} {MOST_APART:.0%}", flush=True)
+    return apart > MOST_APART
+
+
+def run_table(ztxg, table, folder):
+    """Prints a table and its verdicts, and tells whether a pair is too far apart."""
+    rows = list(dict.fromkeys([*(row for pair in table.pairs.values() for row in pair), *table.rows]))
+    print(f"{table.name}\n{head(rows[0], table.kinds + ['all', 'sync'])}")
+    sums = {}
+    for row in rows:
+        costs = count(ztxg, table.size or row.MiB * MIB, table.script(row), folder)
+        sums[row] = sum(costs[kind] for kind in table.kinds)
+        numbers = [*(costs[kind] for kind in table.kinds), sums[row], costs.get("sync", 0)]
+        print("".join(f"{number:10.0f}" for number in [*row, *numbers]), flush=True)
+    return any([judge(name, sums[one], sums[other]) for name, (one, other) in table.pairs.items()])
+
+
+def add_arguments(parser):
+    add_program(parser)
+    parser.add_argument("word", metavar="WORD", nargs="?", default="", help="of the tables that are made (all)")
+
+
+def main(ztxg, word):
+    tables = [table for table in TABLES if word.lower() in table.name.lower()]
+    with tempfile.TemporaryDirectory() as folder:
+        return int(any([run_table(ztxg, table, pathlib.Path(folder)) for table in tables]))

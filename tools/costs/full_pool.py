@@ -1,0 +1,200 @@
+"""Times `show`, `check` and an import of a full pool of 1 GiB beside the hashes of its blocks.
+
+The pool is written here, after docs/FORMATS.md and with no code of the program. Each of its 260,992 blocks except 64 is
+one of the tree, which has 3,070 objects, all but the last of 338,688 bytes. Each block's bytes are its own. The last 64
+blocks are left for the log and for a sync. FILE is made, or made anew, and stays; without one the pool lies in a
+temporary file.
+
+Then there are nine rounds, each of four processes, one after the other: `ztxg show FILE`, `ztxg check FILE`, a script
+that imports the pool, and HASH_BLOCKS, which reads the same blocks one by one and makes of each the digest that its
+check is compared with. So a ratio says what the walk of a tree costs beside the hashes that it can't do without. A
+time is user and system seconds of the process. The memory is the most that was resident: it has to be under 6 MiB.
+What they print has to be the pool's. At last a script imports the pool, reads, writes and syncs, and has the digest,
+for its memory alone: under 8 MiB.
+
+A ratio is that of the least times, and that of the medians is printed beside it. On a busy machine a few rounds tell
+little: single ones differ by half. The status is 1 if a ratio is above its bound or the memory not under its own, and 2
+if a process does not print the pool's.
+"""
+
+import os
+import statistics
+
+from tools import Failed
+from tools.harness.pool_files import pool_file
+from tools.harness.program import add_program, measure
+from tools.model.layout import (
+    AREA,
+    BLOCK,
+    CONFIG_AT,
+    DATA,
+    DIRECTORY,
+    ENTRIES,
+    INDIRECT,
+    MIB,
+    PAYLOAD,
+    POINTERS,
+    ROOT,
+    block_count,
+    label_places,
+    slot_places,
+)
+from tools.model.pool_bytes import Pointer, check_of, config, numbers, seal, uberblock
+
+SIZE = 2**30
+BLOCKS = block_count(SIZE)
+USED = BLOCKS - 64
+NAME, GUID, CREATED, GROUP, IMPORT = b"tank", 77, 4, 9, 1
+
+ROUNDS = 9
+# Of each process: the greatest ratio of its time to that of the hash, and the bytes that its memory stays under.
+BOUNDS = {"show": (1.2, 6 * MIB), "check": (1.2, 6 * MIB), "import": (1.1, 6 * MIB)}
+MEMORY_IN_USE = 8 * MIB
+
+
+class Blocks:
+    """Writes the blocks of a tree one after the other, from the first one of the area on."""
+
+    def __init__(self, file):
+        self.file = file
+        self.count = 0
+        file.seek(AREA)
+
+    def add(self, kind, index, payload):
+        """The bytes of the pointer to a new block."""
+        block = seal(kind, GUID, GROUP, index, payload)
+        pointer = Pointer(AREA + BLOCK * self.count, GROUP, check_of(block))
+        self.file.write(block)
+        self.count += 1
+        return pointer.bytes()
+
+
+def record(index):
+    """Bytes that no other record has."""
+    return numbers(index) * (PAYLOAD // 8)
+
+
+def write_object(blocks, index, records):
+    """The directory's entry of an object of so many records."""
+    places = range(POINTERS * index, POINTERS * index + records)
+    pointers = [blocks.add(DATA, place, record(place)) for place in places]
+    return numbers(1, PAYLOAD * records) + blocks.add(INDIRECT, index, b"".join(pointers))
+
+
+def records_of_objects():
+    """How many records each object has, so that they, their directories and the root are all blocks except 64."""
+    counts = []
+    left = USED - 1
+    while left > 0:
+        if len(counts) % ENTRIES == 0:
+            left -= 1
+        records = min(POINTERS, left - 1)
+        counts.append(records)
+        left -= 1 + records
+    return counts
+
+
+def write_tree(file, counts):
+    """The pointer to the root of a tree of these objects."""
+    blocks = Blocks(file)
+    directories = []
+    for first in range(0, len(counts), ENTRIES):
+        some = enumerate(counts[first : first + ENTRIES], first)
+        entries = [write_object(blocks, index, records) for index, records in some]
+        directories.append(blocks.add(DIRECTORY, first // ENTRIES, b"".join(entries)))
+    root = blocks.add(ROOT, 0, b"".join(directories))
+    if blocks.count != USED:
+        raise Failed(f"{blocks.count} blocks in place of {USED}")
+    return Pointer.at(root, 0)
+
+
+def write_labels(file, root):
+    for place in label_places(SIZE):
+        file.seek(place + CONFIG_AT)
+        file.write(config(GUID, CREATED, SIZE, NAME))
+    for place in slot_places(SIZE, GROUP):
+        file.seek(place)
+        file.write(uberblock(GROUP, GUID, root, IMPORT).bytes())
+
+
+def write_pool(path):
+    """Writes the pool, and gives the lines that `show` prints of its blocks and objects."""
+    counts = records_of_objects()
+    with open(path, "wb") as file:
+        file.truncate(SIZE)
+        write_labels(file, write_tree(file, counts))
+        file.flush()
+        os.fsync(file.fileno())
+    lines = [f"blocks {BLOCKS} used {USED}", "records 0", f"objects {len(counts)}"]
+    lines += [f"{index} {PAYLOAD * records}" for index, records in enumerate(counts)]
+    return "".join(line + "\n" for line in lines)
+
+
+def tell(is_told, what):
+    if not is_told:
+        raise Failed(f"{what} does not tell the pool", status=2)
+
+
+def seconds_of_hashes(hasher, path):
+    """The seconds in which the hasher reads and hashes the blocks of the pool."""
+    printed, cost = measure([hasher, path, str(AREA), str(USED)])
+    tell(printed == "wrong 0\n", "the hasher")
+    return cost.seconds
+
+
+def script(ztxg, path, imported, lines=()):
+    """What a script on the pool prints, whose first line is its import after so many others, and its cost."""
+    printed, cost = measure([ztxg, "script", "--file", path, "-"], ["import 1048576", *lines])
+    group = GROUP + 4 * (imported + 1)
+    tell(printed.startswith(f"synced {group} open {group + 1} records 0\n"), "import")
+    return printed, cost
+
+
+def use(ztxg, path, imported):
+    """The most memory of a script that uses the pool: it removes an object, writes to another one, and syncs."""
+    lines = ["lock 1 0 w 0 338688", "begin 1 d:0", "commit 0", "sync", "lock 1 1 w 0 338688", "begin 1 w:1:4030:4"]
+    lines += ["commit 1 abcd", "read 1 1 4029 4035", "sync", "digest"]
+    printed, cost = script(ztxg, path, imported, lines)
+    tell("\ndigest " in printed and "refused" not in printed, "a script")
+    return cost.memory
+
+
+def judge(ztxg, hasher, path):
+    """The status of the rounds on a pool that is written here."""
+    wanted = write_pool(path)
+    costs, hashes = {word: [] for word in BOUNDS}, []
+    for imported in range(ROUNDS):
+        for word in BOUNDS:
+            if word == "import":
+                _, cost = script(ztxg, path, imported)
+            else:
+                printed, cost = measure([ztxg, word, path])
+                tell(word == "check" or printed.endswith(wanted), word)
+            costs[word].append(cost)
+        hashes.append(seconds_of_hashes(hasher, path))
+        times = ", ".join(f"{word} {costs[word][-1].seconds:.2f} s" for word in BOUNDS)
+        print(f"{times}, hash {hashes[-1]:.2f} s", flush=True)
+    is_above = False
+    for word, (most_ratio, memory_bound) in BOUNDS.items():
+        times, memory = [cost.seconds for cost in costs[word]], max(cost.memory for cost in costs[word])
+        ratio = min(times) / min(hashes)
+        medians = statistics.median(times) / statistics.median(hashes)
+        print(f"{word}: ratio {ratio:.2f}, at most {most_ratio} (of the medians {medians:.2f}); ", end="")
+        print(f"memory {memory / MIB:.1f} MiB, under {memory_bound // MIB}")
+        is_above = is_above or ratio > most_ratio or memory >= memory_bound
+    in_use = use(ztxg, path, ROUNDS)
+    print(f"a pool in use: memory {in_use / MIB:.1f} MiB, under {MEMORY_IN_USE // MIB}")
+    return int(is_above or in_use >= MEMORY_IN_USE)
+
+
+def add_arguments(parser):
+    add_program(parser)
+    add_program(parser, "hash_blocks")
+    parser.add_argument("file", metavar="FILE", nargs="?", help="where the pool is made and stays (a temporary file)")
+
+
+def main(ztxg, hash_blocks, file):
+    if file:
+        return judge(ztxg, hash_blocks, file)
+    with pool_file() as path:
+        return judge(ztxg, hash_blocks, path)

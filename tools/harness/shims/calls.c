@@ -1,0 +1,49 @@
+/* Notes the writes, syncs and sizes of regular files and the syncs of folders, a line each, in the file that CALLS_FILE
+   names. */
+
+#include "shim.h"
+#include <stdio.h>
+#include <sys/stat.h>
+#include <sys/types.h>
+
+static int noted = -1;
+
+__attribute__((constructor)) static void begin(void) {
+    const char *path = getenv("CALLS_FILE");
+    noted = path ? open(path, O_WRONLY | O_APPEND | O_CREAT, 0600) : -1;
+}
+
+static void note(int file, const char *name, long long place, long long size) {
+    struct stat is;
+    if (noted >= 0 && !fstat(file, &is) && S_ISREG(is.st_mode)) dprintf(noted, "%s %lld %lld\n", name, place, size);
+}
+
+ssize_t pwrite64(int file, const void *bytes, size_t size, off64_t place) {
+    NEXT(ssize_t (*next)(int, const void *, size_t, off64_t), "pwrite64");
+    note(file, "write", place, size);
+    return next(file, bytes, size, place);
+}
+
+ssize_t pwrite(int file, const void *bytes, size_t size, off_t place) { return pwrite64(file, bytes, size, place); }
+
+int fsync(int file) {
+    NEXT(int (*next)(int), "fsync");
+    struct stat is;
+    if (noted >= 0 && !fstat(file, &is) && S_ISDIR(is.st_mode)) dprintf(noted, "folder 0 0\n");
+    note(file, "fsync", 0, 0);
+    return next(file);
+}
+
+int fdatasync(int file) {
+    NEXT(int (*next)(int), "fdatasync");
+    note(file, "fdatasync", 0, 0);
+    return next(file);
+}
+
+int ftruncate64(int file, off64_t size) {
+    NEXT(int (*next)(int, off64_t), "ftruncate64");
+    note(file, "size", 0, size);
+    return next(file, size);
+}
+
+int ftruncate(int file, off_t size) { return ftruncate64(file, size); }

@@ -1,0 +1,242 @@
+"""What an image of a device mounts, with its objects' bytes, or why it mounts nothing.
+
+`read_pool` and `mount` say it by the labels, the walk of the tree, the log chain and the records there. Only `hashlib`
+is used, so nothing is taken from a program.
+"""
+
+import collections
+import struct
+
+from tools.model.charges import count_blocks
+from tools.model.contents import apply, rename
+from tools.model.layout import (
+    ARRAY_AT,
+    BLOCK,
+    CONFIG_AT,
+    DATA,
+    DIRECTORY,
+    ENTRIES,
+    INDIRECT,
+    LAST,
+    LOG,
+    POINTERS,
+    RECORD,
+    ROOT,
+    SLOT,
+    SLOTS,
+    TOP,
+    block_count,
+    is_block_address,
+    is_geometry,
+    label_places,
+    slot_places,
+)
+from tools.model.pool_bytes import MAGIC, Pointer, Uberblock, check_of, number_at, opens, read_config, read_records
+
+
+class Damaged(Exception):
+    """A block is not what the tree or the log says of it."""
+
+    def __init__(self, kind, address):
+        super().__init__(kind, address)
+        self.kind, self.address = kind, address
+
+
+class NoPool(Exception):
+    """There is no active uberblock, or no config for it."""
+
+
+class BadGeometry(Exception):
+    """No pool may have the size."""
+
+
+# A block of a tree or a log chain: its kind, number and address, its own pointer, and the place of that pointer (the
+# address of the block that holds it and the byte in it; None for the root pointer of the uberblock and for log blocks).
+Node = collections.namedtuple("Node", "kind number address pointer holder at")
+
+# What an image mounts: with how many blocks of the device, the nodes of its tree and its chain, the number of records
+# that are replayed, the objects after them, and the number of free blocks that an import needs.
+Mount = collections.namedtuple("Mount", "name uberblock blocks nodes records objects needed")
+
+
+class Image:
+    """The bytes of a device."""
+
+    def __init__(self, content):
+        self.content = content
+        # The bytes of the whole sectors.
+        self.size = len(content) - len(content) % 512
+
+    def block(self, address):
+        return bytes(self.content[address : address + BLOCK])
+
+    def slot(self, place):
+        return bytes(self.content[place : place + SLOT])
+
+    def put(self, place, content):
+        self.content[place : place + len(content)] = content
+
+    def put_configs(self, block):
+        """Writes a config into each label."""
+        for label in label_places(self.size):
+            self.put(label + CONFIG_AT, block)
+
+    def put_uberblock(self, new):
+        """Writes an uberblock into its slot of each label."""
+        for place in slot_places(self.size, new.group):
+            self.put(place, new.bytes())
+
+    def active(self):
+        """The active uberblock."""
+        found = []
+        for label in label_places(self.size):
+            for slot in range(SLOTS):
+                at = label + ARRAY_AT + SLOT * slot
+                if self.content[at : at + 8] == MAGIC:
+                    read = Uberblock.read(self.slot(at))
+                    if read and read.group % SLOTS == slot:
+                        found.append(read)
+        if not found:
+            raise NoPool
+        return max(found, key=lambda read: read.group)
+
+    def configs(self):
+        """What the configs of the four labels say, or None for one that isn't valid."""
+        return [read_config(self.block(label + CONFIG_AT), self.size) for label in label_places(self.size)]
+
+    def name(self, active):
+        """The name in the config that is chosen."""
+        fitting = [one for one in self.configs() if one and one.guid == active.guid and one.group <= active.group]
+        if not fitting:
+            raise NoPool
+        return max(fitting, key=lambda one: one.group).name
+
+
+class Walk:
+    """The walk of an image's tree: its nodes and its objects. It raises the first damage."""
+
+    def __init__(self, image, active):
+        self.image, self.active = image, active
+        self.nodes, self.objects, self.records = [], {}, {}
+        if active.root.address == 0 and not active.root.is_none():
+            raise Damaged(ROOT, 0)
+        root = self.visit(ROOT, 0, active.root, None, None)
+        for index, directory in self.pointers(root, ROOT, active.root.address):
+            self.walk_directory(index, directory, active.root.address)
+
+    def visit(self, kind, number, pointer, holder, at):
+        """The payload of a block by its pointer, or None for a hole."""
+        if pointer.is_none():
+            return None
+        block = self.image.block(pointer.address)
+        is_open = is_block_address(self.image.size, pointer.address) and pointer.birth <= self.active.group
+        is_open = is_open and number_at(block, 16) == pointer.birth and check_of(block) == pointer.check
+        if not is_open or not opens(block, kind, self.active.guid, number):
+            raise Damaged(kind, pointer.address)
+        self.nodes.append(Node(kind, number, pointer.address, pointer, holder, at))
+        return block[64:]
+
+    def pointers(self, payload, kind, address):
+        """The pointers of a root or an indirect block that are not none, each with its index."""
+        if payload is None:
+            return []
+        found = [(index, Pointer.at(payload, 48 * index)) for index in range(POINTERS)]
+        found = [(index, pointer) for index, pointer in found if not pointer.is_none()]
+        if any(pointer.address == 0 for _, pointer in found):
+            raise Damaged(kind, address)
+        return found
+
+    def walk_directory(self, index, pointer, root):
+        payload = self.visit(DIRECTORY, index, pointer, root, 64 + 48 * index)
+        entries = []
+        for at in range(0, 64 * ENTRIES, 64):
+            (present, length), indirect = struct.unpack_from("<QQ", payload, at), Pointer.at(payload, at + 16)
+            is_absent = not any(payload[at : at + 64])
+            is_odd = indirect.address == 0 and not indirect.is_none()
+            if not is_absent and (present != 1 or length > TOP or is_odd):
+                raise Damaged(DIRECTORY, pointer.address)
+            if present:
+                entries.append((ENTRIES * index + at // 64, length, indirect, at))
+        for number, length, indirect, at in entries:
+            self.walk_object(number, length, indirect, pointer.address, 64 + at + 16)
+
+    def walk_object(self, number, length, indirect, holder, at):
+        payload = self.visit(INDIRECT, number, indirect, holder, at)
+        found = self.pointers(payload, INDIRECT, indirect.address)
+        if any(RECORD * index >= length for index, _ in found):
+            raise Damaged(INDIRECT, indirect.address)
+        content = bytearray(length)
+        for index, pointer in found:
+            data = self.visit(DATA, POINTERS * number + index, pointer, indirect.address, 64 + 48 * index)
+            left = min(length - RECORD * index, RECORD)
+            if any(data[left:]):
+                raise Damaged(DATA, pointer.address)
+            content[RECORD * index : RECORD * index + left] = data[:left]
+        self.objects[number] = bytes(content)
+        self.records[number] = {index for index, _ in found}
+
+
+def read_chain(image, active):
+    """The blocks of the log chain, each with its node and its entries."""
+    address, number, found = active.log_address, active.log_number, []
+    while is_block_address(image.size, address):
+        block = image.block(address)
+        if not opens(block, LOG, active.guid, number):
+            break
+        read = read_records(block[64:], active.import_number)
+        if read is None:
+            break
+        entries, follower = read
+        found.append((Node(LOG, number, address, None, None, None), entries))
+        address, number = follower, number + 1
+    return found
+
+
+# What is read of an image: its active uberblock, the name of its pool, the walk of its tree, and its log chain.
+Found = collections.namedtuple("Found", "image uberblock name walk chain")
+
+
+def read_pool(image):
+    """What is read of an image. It raises `BadGeometry`, `NoPool` or `Damaged`, in this order."""
+    if not is_geometry(image.size):
+        raise BadGeometry
+    active = image.active()
+    name = image.name(active)
+    return Found(image, active, name, Walk(image, active), read_chain(image, active))
+
+
+def mount(found):
+    """What a pool that was read mounts. It raises `Damaged` for the first record that can't take place."""
+    active, walk, chain = found.uberblock, found.walk, found.chain
+    above = [(node, entry) for node, entries in chain for entry in entries if entry.group > active.group]
+    objects, entries = walk.objects, [entry for _, entry in above]
+    for node, entry in above:
+        objects = apply(objects, entry.ops)
+        if objects is None:
+            raise Damaged(LOG, node.address)
+    name = rename(found.name, entries)
+    needed, _ = count_blocks(walk.objects, walk.records, entries)
+    nodes = walk.nodes + [node for node, _ in chain]
+    return Mount(name, active, block_count(found.image.size), nodes, len(above), objects, needed + 1)
+
+
+# What the program prints
+
+
+def show_lines(mount):
+    """What `show` prints of a pool."""
+    active, objects = mount.uberblock, sorted(mount.objects.items())
+    lines = [f"name {mount.name.decode()}", f"guid {active.guid}", f"group {active.group}"]
+    lines += [f"import {active.import_number}", f"blocks {mount.blocks} used {len(mount.nodes)}"]
+    lines += [f"records {mount.records}", f"objects {len(objects)}"]
+    return lines + [f"{number} {len(content)}" for number, content in objects]
+
+
+def import_line(mount):
+    """What a script's `import` prints of a pool that an inspection mounts."""
+    active = mount.uberblock
+    if active.group + 5 > LAST or active.import_number + 1 > LAST:
+        return "refused 22 TooMany"
+    if mount.needed > mount.blocks - len(mount.nodes):
+        return "refused 16 NoSpace"
+    return f"synced {active.group + 4} open {active.group + 5} records {mount.records}"

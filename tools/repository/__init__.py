@@ -1,0 +1,1 @@
+"""What judges or makes files of the repository, and needs no built program."""

@@ -1,0 +1,348 @@
+"""Edits by chance of a pool's image, as a hostile writer makes them.
+
+An edit changes a byte, a field, a pointer, an entry, a record, a whole block, an uberblock or a config. Then the checks
+from there up to the uberblock are made right, so that the change itself is judged and not a check that fails.
+"""
+
+from tools.model.layout import (
+    AREA,
+    ARRAY_AT,
+    BLOCK,
+    CONFIG_AT,
+    DATA,
+    DIRECTORY,
+    ENTRIES,
+    INDIRECT,
+    LABEL,
+    LAST,
+    LOG,
+    LOG_ROOM,
+    NAMED,
+    OBJECTS,
+    POINTERS,
+    RECORD,
+    ROOT,
+    SLOT,
+    SLOTS,
+    TOP,
+    block_count,
+    label_places,
+    slot_places,
+)
+from tools.model.pool_bytes import NONE, Uberblock, check_of, config, number_at, numbers, record, sealed_again, sha
+from tools.model.pool_image import Image
+
+# Where the fields of a log block lie in it: the chain number, the next address, the used length, the records.
+CHAIN_AT, NEXT_AT, USED_AT, RECORDS_AT = 64, 72, 80, 88
+LIMITS = [0, 1, 2, 22, LOG_ROOM, LOG_ROOM + 1, RECORD - 1, RECORD, RECORD + 1, TOP - 1, TOP, TOP + 1, OBJECTS, 2**32]
+
+
+def replaced(content, at, new):
+    """The content with new bytes at a place."""
+    return content[:at] + new + content[at + len(new) :]
+
+
+class Edits:
+    """Edits of a pool's image. `mount` is what the image mounts before them."""
+
+    def __init__(self, chance, base, mount):
+        self.chance, self.mount, self.active = chance, mount, mount.uberblock
+        self.image, self.size = Image(bytearray(base)), len(base)
+        self.nodes = {node.address: node for node in mount.nodes}
+        # Whether the checks above an edited block are made right.
+        self.seals = chance.random() < 0.95
+        self.names = []
+
+    def edit(self):
+        """One edit, of a kind that the pool has blocks for."""
+        kinds = [self.uberblock, self.slot, self.config, self.configs, self.tear]
+        if self.some(ROOT):
+            kinds += [self.pointer, self.entry, self.byte, self.head, self.data, self.swap] * 2 + [self.move]
+        if self.some(LOG):
+            kinds += [self.log, self.records, self.records, self.records]
+        kind = self.chance.choice(kinds)
+        self.names.append(kind.__name__)
+        kind()
+
+    def some(self, *kinds):
+        """The blocks of these kinds."""
+        return [node for node in self.mount.nodes if node.kind in kinds]
+
+    # Numbers and bytes
+
+    def address(self):
+        """The address of a block of the pool, of a free one, or of none."""
+        blocks = block_count(self.size)
+        last = AREA + BLOCK * (blocks - 1)
+        odd = [AREA, last, last + BLOCK, AREA - BLOCK, 0, CONFIG_AT, self.size, 2**63, 2**64 - BLOCK]
+        used = [node.address for node in self.mount.nodes]
+        address = self.chance.choice([*used, *used, *odd, AREA + BLOCK * self.chance.randrange(blocks)])
+        return (address + self.chance.choice([0] * 8 + [1, 512, -1])) % 2**64
+
+    def number(self, old):
+        """A number in place of this one."""
+        group = self.active.group
+        near = [old + 1, old - 1, old ^ (1 << self.chance.randrange(64))]
+        groups = [group - 1, group, group + 1, 3, 4, LAST - 5, LAST - 4, LAST - 1, LAST, LAST + 1, 2**64 - 1]
+        others = [self.chance.choice(groups), self.chance.choice(LIMITS), self.address(), self.chance.getrandbits(64)]
+        return self.chance.choice(near + others) % 2**64
+
+    def set_number(self, content, at):
+        return replaced(content, at, numbers(self.number(number_at(content, at))))
+
+    def set_byte(self, content, at):
+        flipped = content[at] ^ 1 << self.chance.randrange(8)
+        return replaced(content, at, bytes([self.chance.choice([0, 1, 2, 255, flipped])]))
+
+    # What is written, with its checks
+
+    def put_block(self, address, block):
+        """Writes a block of the tree or the log, and makes its check and those above it right."""
+        if not self.seals:
+            self.image.put(address, block)
+            return
+        block = sealed_again(block)
+        self.image.put(address, block)
+        node = self.nodes[address]
+        if node.kind != LOG:
+            # Mostly the pointer follows the group of the block.
+            birth = number_at(block, 16) if self.chance.random() < 0.7 else node.pointer.birth
+            self.put_pointer(node, check_of(block), birth)
+
+    def put_pointer(self, node, check, birth):
+        """Writes the check and the birth of a block of the tree where its pointer lies, and makes the checks above it
+        right."""
+        if node.holder is None:
+            self.put_uberblock(lambda read: read._replace(root=read.root._replace(check=check, birth=birth)))
+        else:
+            self.put_block(node.holder, replaced(self.image.block(node.holder), node.at + 8, numbers(birth) + check))
+
+    def put_uberblock(self, change, share=1):
+        """Changes the uberblock of the active group, in each label with this chance, and makes its check right."""
+        for place in slot_places(self.size, self.active.group):
+            if self.chance.random() < share:
+                self.image.put(place, change(Uberblock.at(self.image.slot(place))).bytes())
+
+    # The tree
+
+    def pointer(self):
+        """A field of a pointer in a root, a directory or an indirect block, or of one that was none."""
+        node = self.chance.choice(self.some(ROOT, DIRECTORY, INDIRECT))
+        block = self.image.block(node.address)
+        places = range(64, 64 + 48 * POINTERS, 48) if node.kind != DIRECTORY else range(80, 64 + 64 * ENTRIES, 64)
+        held = [at for at in places if any(block[at : at + 48])]
+        at = self.chance.choice(held if held and self.chance.random() < 0.8 else places)
+        kind = self.chance.choice(["address", "address", "birth", "check", "none", "no address", "another"])
+        if kind == "address":
+            block = replaced(block, at, numbers(self.address()))
+        elif kind == "birth":
+            block = self.set_number(block, at + 8)
+        elif kind == "check":
+            block = self.set_byte(block, at + 16 + self.chance.randrange(32))
+        elif kind == "none":
+            block = replaced(block, at, NONE.bytes())
+        elif kind == "no address":
+            block = replaced(block, at, numbers(0))
+        else:
+            other = self.chance.choice(self.some(ROOT, DIRECTORY, INDIRECT, DATA))
+            block = replaced(block, at, other.pointer.bytes())
+        self.put_block(node.address, block)
+
+    def entry(self):
+        """Whether an entry is present, its length, or all of it."""
+        node = self.chance.choice(self.some(DIRECTORY))
+        block = self.image.block(node.address)
+        places = range(64, 64 + 64 * ENTRIES, 64)
+        present = [at for at in places if any(block[at : at + 64])]
+        at = self.chance.choice(present if present and self.chance.random() < 0.8 else places)
+        kind = self.chance.choice(["present", "length", "length", "absent", "another"])
+        if kind == "present":
+            block = self.set_number(block, at)
+        elif kind == "length":
+            old = number_at(block, at + 8)
+            length = self.chance.choice([0, 1, old + 1, abs(old - 1), TOP, TOP + 1, self.chance.randrange(TOP)])
+            block = replaced(block, at + 8, numbers(length % 2**64))
+        elif kind == "absent":
+            block = replaced(block, at, bytes(64))
+        else:
+            other = self.chance.choice(present or places)
+            block = replaced(block, at, block[other : other + 64])
+        self.put_block(node.address, block)
+
+    def byte(self):
+        """Any byte of a block of the tree."""
+        node = self.chance.choice(self.some(ROOT, DIRECTORY, INDIRECT, DATA))
+        self.put_block(node.address, self.set_byte(self.image.block(node.address), self.chance.randrange(BLOCK)))
+
+    def head(self):
+        """The kind, guid, group or number of a block."""
+        node = self.chance.choice(self.mount.nodes)
+        block, at = self.image.block(node.address), self.chance.choice([0, 8, 16, 16, 24])
+        is_kind = at == 0 and self.chance.random() < 0.7
+        new = replaced(block, 0, numbers(self.chance.randrange(9))) if is_kind else self.set_number(block, at)
+        self.put_block(node.address, new)
+
+    def data(self):
+        """A byte of a record, often about the end of its object."""
+        node = self.chance.choice(self.some(DATA) or self.mount.nodes)
+        content = self.mount.objects.get(node.number // POINTERS, b"")
+        end = min(max(0, len(content) - RECORD * (node.number % POINTERS)), RECORD)
+        at = self.chance.choice([self.chance.randrange(RECORD), min(end, RECORD - 1), max(end - 1, 0), RECORD - 1])
+        self.put_block(node.address, self.set_byte(self.image.block(node.address), 64 + at))
+
+    def swap(self):
+        """A block at the place of another one, and mostly that one at its place."""
+        one, other = self.chance.choice(self.mount.nodes), self.chance.choice(self.mount.nodes)
+        first, second = self.image.block(one.address), self.image.block(other.address)
+        self.put_block(one.address, second)
+        if self.chance.random() < 0.5:
+            self.put_block(other.address, first)
+
+    def move(self):
+        """A block at another address, which may be the place of no block, and the pointer to it."""
+        node, address = self.chance.choice(self.mount.nodes), self.address()
+        block = self.image.block(node.address)
+        if address <= self.size - BLOCK:
+            self.image.put(address, block)
+        before = [one for one in self.some(LOG) if one.number == node.number - 1]
+        if node.kind == LOG and before:
+            self.put_block(before[0].address, replaced(self.image.block(before[0].address), NEXT_AT, numbers(address)))
+        elif node.kind == LOG:
+            self.put_uberblock(lambda read: read._replace(log_address=address))
+        elif node.holder is None:
+            self.put_uberblock(lambda read: read._replace(root=read.root._replace(address=address)))
+        else:
+            self.put_block(node.holder, replaced(self.image.block(node.holder), node.at, numbers(address)))
+
+    def tear(self):
+        """A sector of a block, an uberblock or a config."""
+        places = [node.address for node in self.mount.nodes] + slot_places(self.size, self.active.group)
+        places += [label + CONFIG_AT for label in label_places(self.size)]
+        self.image.put(self.chance.choice(places), bytes([self.chance.randrange(256)]) * 512)
+
+    # The labels
+
+    def resize(self):
+        """Another number of bytes, as the last edit."""
+        self.names.append("resize")
+        size = self.size + self.chance.choice([-self.size, -LABEL, -512, -1, 1, 511, 512, LABEL, 2 * LABEL])
+        self.image = Image(self.image.content[:size].ljust(size, b"\0"))
+
+    def some_root(self):
+        """A root pointer in place of the active one."""
+        root = self.active.root
+        odd = [root._replace(address=0), root._replace(address=self.address()), NONE, NONE._replace(check=root.check)]
+        odd += [root._replace(birth=self.number(root.birth))]
+        return self.chance.choice(odd + [node.pointer for node in self.some(ROOT, DIRECTORY, INDIRECT, DATA)])
+
+    def uberblock(self):
+        """A field of the active uberblock, in all labels or in some."""
+        fields = ["root", "root", "group", "log_address", "log_number", "import_number", "guid", "version", "moment"]
+        field, group = self.chance.choice(fields), self.active.group
+        if field == "root":
+            new = self.some_root()
+        elif field == "log_address":
+            new = self.address()
+        elif field == "group" and self.chance.random() < 0.5:
+            # A group of the same slot.
+            new = group + SLOTS * self.chance.choice([1, 2, (LAST - group) // SLOTS])
+        elif field in ("import_number", "log_number") and self.chance.random() < 0.3:
+            new = LAST
+        else:
+            new = self.number(getattr(self.active, field))
+        self.put_uberblock(lambda read: read._replace(**{field: new}), self.chance.choice([1, 1, 0.5]))
+
+    def slot(self):
+        """A byte of an uberblock, with or without its check, or an uberblock in any slot."""
+        place = self.chance.choice(slot_places(self.size, self.active.group))
+        slot = self.image.slot(place)
+        if self.chance.random() < 0.3:
+            read = Uberblock.at(slot)
+            group = self.number(read.group)
+            index = self.chance.choice([group % SLOTS, self.chance.randrange(SLOTS)])
+            label = self.chance.choice(label_places(self.size))
+            self.image.put(label + ARRAY_AT + SLOT * index, read._replace(group=group).bytes())
+            return
+        slot = self.set_byte(slot, self.chance.randrange(SLOT))
+        is_sealed = self.chance.random() < 0.7
+        self.image.put(place, slot[:992] + sha(slot[:992]) if is_sealed else slot)
+
+    def config(self):
+        """A field or a byte of the configs, in all labels or in some."""
+        fields, name = [8, 16, 24, 64, 72, 80], range(88, 160)
+        at = self.chance.choice([*fields, *fields, 88, 91, 92, self.chance.choice(name), self.chance.randrange(BLOCK)])
+        new = numbers(self.number(self.active.group)) if at in fields else bytes([self.chance.choice(b"\0-.4Zz~")])
+        share = self.chance.choice([1, 0.5])
+        for label in label_places(self.size):
+            block = replaced(self.image.block(label + CONFIG_AT), at, new)
+            if self.chance.random() < share:
+                self.image.put(label + CONFIG_AT, sealed_again(block) if self.chance.random() < 0.9 else block)
+
+    def configs(self):
+        """Whole configs in some labels: another name, mostly of the group or one before."""
+        for label in label_places(self.size):
+            if self.chance.random() < 0.6:
+                group = self.active.group + self.chance.choice([-9, -2, -1, 0, 0, 1])
+                name = self.chance.choice([b"pond", b"lake", b"a" * 64])
+                self.image.put(label + CONFIG_AT, config(self.active.guid, group, self.size, name))
+
+    # The log
+
+    def log(self):
+        """The chain number, the next address, the used length, or any byte of a log block."""
+        node = self.chance.choice(self.some(LOG))
+        block, used = self.image.block(node.address), number_at(self.image.block(node.address), USED_AT)
+        at = self.chance.choice([CHAIN_AT, NEXT_AT, NEXT_AT, USED_AT, USED_AT, None])
+        if at == CHAIN_AT:
+            block = self.set_number(block, at)
+        elif at == NEXT_AT:
+            block = replaced(block, at, numbers(self.address()))
+        elif at == USED_AT:
+            new = self.chance.choice([0, used - 1, used + 1, used + 22, LOG_ROOM, LOG_ROOM + 1, RECORD])
+            block = replaced(block, at, numbers(new % 2**64))
+        else:
+            block = self.set_byte(block, self.chance.randrange(CHAIN_AT, RECORDS_AT + 200))
+        self.put_block(node.address, block)
+
+    def records(self):
+        """A byte of the records in a log block, or new records in place of them or after them."""
+        node = self.chance.choice(self.some(LOG))
+        block = self.image.block(node.address)
+        content = block[RECORDS_AT : RECORDS_AT + min(number_at(block, USED_AT), LOG_ROOM)]
+        if content and self.chance.random() < 0.3:
+            content = self.set_byte(content, self.chance.randrange(len(content)))
+        else:
+            kept = content if self.chance.random() < 0.5 else b""
+            content = (kept + b"".join(self.some_record() for _ in range(self.chance.choice([1, 1, 2, 3]))))[:LOG_ROOM]
+        block = block[:USED_AT] + numbers(len(content)) + content
+        self.put_block(node.address, block.ljust(BLOCK, b"\0"))
+
+    def some_record(self):
+        """A record, mostly of a group above the active one; sometimes one of its fields is odd."""
+        group = self.active.group + self.chance.choice([0, 1, 1, 2, 3])
+        some = record(group, self.chance.randrange(9), self.some_ops())
+        odd = self.chance.choice([0, 4, 12, 20, len(some) - 1])
+        return self.set_byte(some, odd) if self.chance.random() < 0.1 else some
+
+    def some_ops(self):
+        """One to three operations; or none; or a byte in each of many records, for which blocks may lack."""
+        if self.mount.objects and self.chance.random() < 0.1:
+            number = self.chance.choice(sorted(self.mount.objects))
+            return [("w", number, RECORD * at, b"x") for at in range(self.chance.choice([5, 40, 60, POINTERS]))]
+        count = self.chance.choice([1, 1, 1, 2, 3])
+        return [self.some_op() for _ in range(count * (self.chance.random() < 0.97))]
+
+    def some_op(self):
+        """An operation, mostly one that may take place."""
+        number = self.chance.choice([*self.mount.objects, 0, 1, 2, 7, 62, self.chance.choice([OBJECTS - 1, OBJECTS])])
+        kind = self.chance.choice("cccddwwwwwwlllln")
+        if kind == "n":
+            names = [b"tank", b"pond", b"a", b"a" * 64, b"a" * 65, b"4tank", b""]
+            return (kind, NAMED, 0, self.chance.choice(names))
+        if kind == "l":
+            return (kind, number, self.chance.choice([0, 3, RECORD, 9_000, TOP, TOP + 1]), b"")
+        if kind == "w":
+            content = self.chance.choice([b"a", b"bc", b"defgh"]) * self.chance.choice([1, 1, 20, 300])
+            top = TOP - len(content)
+            return (kind, number, self.chance.choice([0, 1, 4_030, RECORD, 12_000, top, top + 1]), content)
+        return (kind, number, 0, b"")

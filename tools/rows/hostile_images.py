@@ -1,0 +1,162 @@
+"""Worked images of a hostile writer, with what `check` has to print of each.
+
+A pool gets two transactions in two groups at once; the older one is synced. Each row makes one edit of its image, with
+every other check made right.
+"""
+
+from tools.model.layout import (
+    AREA,
+    BLOCK,
+    CONFIG_AT,
+    DATA,
+    DIRECTORY,
+    INDIRECT,
+    MIB,
+    NAMED,
+    ROOT,
+    SLOT,
+    label_places,
+    slot_places,
+)
+from tools.model.pool_bytes import Pointer, check_of, config, log_block, numbers, record, seal, uberblock
+from tools.model.pool_image import Image
+
+SIZE, GUID, GROUP = 8 * MIB, 77, 9
+LOG_AT, DATA_AT, INDIRECT_AT, DIRECTORY_AT, ROOT_AT = range(AREA, AREA + 5 * BLOCK, BLOCK)
+
+# The lines by which a program makes it, after its create.
+SCRIPT = [
+    "import 1048576",
+    "lock 1 1 w 0 338688",
+    "begin 1 c:1",
+    "commit 0",
+    "unlock 1 0",
+    "lock 1 1 w 0 4",
+    "begin 1 w:1:0:4",
+    "close",
+    "lock 2 1 w 100 104",
+    "begin 2 w:1:100:4",
+    "commit 2 wxyz",
+    "commit 1 abcd",
+    "quiesce",
+    "start",
+    "finish",
+]
+
+
+class Tank(Image):
+    """The pool after group 9 is synced. Object 1 has the bytes `abcd`, in one block of each kind."""
+
+    def __init__(self):
+        super().__init__(bytearray(SIZE))
+        self.put_configs(config(GUID, 8, SIZE, b"tank"))
+        self.put_uberblock(uberblock(4, GUID))
+        self.put_uberblock(uberblock(8, GUID, import_number=1, log_address=LOG_AT))
+        self.data = b"abcd"
+        self.indirect = lambda data: data.bytes()
+        self.length = 4
+        self.entry = lambda indirect: indirect
+        self.root = lambda directory: directory.bytes()
+        self.write()
+
+    def put_block(self, kind, number, address, payload):
+        block = seal(kind, GUID, GROUP, number, payload)
+        self.put(address, block)
+        return Pointer(address, GROUP, check_of(block))
+
+    def write(self, root=None):
+        """Writes the tree, each block with its check, and the uberblock of group 9 with the pointer to its root."""
+        data = self.put_block(DATA, 84, DATA_AT, self.data)
+        indirect = self.put_block(INDIRECT, 1, INDIRECT_AT, self.indirect(data))
+        entry = numbers(1, self.length) + self.entry(indirect).bytes()
+        directory = self.put_block(DIRECTORY, 0, DIRECTORY_AT, bytes(64) + entry)
+        top = self.put_block(ROOT, 0, ROOT_AT, self.root(directory))
+        self.put_uberblock(uberblock(GROUP, GUID, root or top, 1, LOG_AT))
+        return self
+
+    def log(self, group=10, length=None, used=None, op=("c", 2, 0, b"")):
+        """The first block of the log, which names itself as the next one."""
+        records = [record(group, 0, [op], length)]
+        self.put(LOG_AT, log_block(GUID, 10, 0, 1, LOG_AT, records, used))
+        return self
+
+
+def edited(**fields):
+    tank = Tank()
+    vars(tank).update(fields)
+    return tank.write()
+
+
+def without_root():
+    root = Pointer.at(Tank().content, slot_places(SIZE, GROUP)[0] + 40)
+    return Tank().write(root._replace(address=0))
+
+
+def torn():
+    tank = Tank()
+    for group in (4, 8, 9):
+        for place in slot_places(SIZE, group):
+            tank.put(place, bytes([0xAA]) * SLOT)
+    return tank
+
+
+def even_configs(group):
+    """The configs of labels 0 and 2 have this group and another name."""
+    tank = Tank()
+    for place in label_places(SIZE)[::2]:
+        tank.put(place + CONFIG_AT, config(GUID, group, SIZE, b"pond"))
+    return tank
+
+
+def naming(content):
+    """An operation of a record that gives the pool this name."""
+    return ("n", NAMED, 0, content)
+
+
+# What is edited, what `check` prints, and the name if it isn't `tank`.
+ROWS = [
+    ("nothing", Tank, "clean group 9 records 0"),
+    (
+        "the root's pointer 0 names the root itself",
+        lambda: edited(root=lambda directory: directory._replace(address=ROOT_AT).bytes()),
+        "damaged 3 4210688",
+    ),
+    ("entry 1 has length 338,689", lambda: edited(length=338_689), "damaged 3 4206592"),
+    ("entry 1 has length 0, and its record's pointer is kept", lambda: edited(length=0), "damaged 4 4202496"),
+    (
+        "entry 1's pointer has the address 4,202,497",
+        lambda: edited(entry=lambda indirect: indirect._replace(address=INDIRECT_AT + 1)),
+        "damaged 4 4202497",
+    ),
+    (
+        "entry 1's pointer has birth 10",
+        lambda: edited(entry=lambda indirect: indirect._replace(birth=10)),
+        "damaged 4 4202496",
+    ),
+    ("byte 4 of record 0 is 1", lambda: edited(data=b"abcd\1"), "damaged 5 4198400"),
+    ("the root pointer has address 0 and birth 9", without_root, "damaged 2 0"),
+    ("a log block creates object 2 in group 10", lambda: Tank().log(), "clean group 9 records 1"),
+    ("the same in group 9", lambda: Tank().log(group=9), "clean group 9 records 0"),
+    ("the same with used 4,009", lambda: Tank().log(used=4_009), "clean group 9 records 0"),
+    ("the same with record length 28", lambda: Tank().log(length=28), "clean group 9 records 0"),
+    ("the same with record length and used 28", lambda: Tank().log(length=28, used=28), "clean group 9 records 0"),
+    ("a log block writes to object 2", lambda: Tank().log(op=("w", 2, 0, b"x")), "damaged 6 4194304"),
+    ("all uberblocks are torn", torn, "no pool"),
+    ("labels 0 and 2 have another name of group 9", lambda: even_configs(9), "clean group 9 records 0", "pond"),
+    ("labels 0 and 2 have another name of group 10", lambda: even_configs(10), "clean group 9 records 0"),
+    (
+        "a log block names the pool in group 10",
+        lambda: Tank().log(op=naming(b"pond")),
+        "clean group 9 records 1",
+        "pond",
+    ),
+    ("the same in group 9", lambda: Tank().log(group=9, op=naming(b"pond")), "clean group 9 records 0"),
+    ("the same with a name of 64 bytes", lambda: Tank().log(op=naming(b"a" * 64)), "clean group 9 records 1", "a" * 64),
+    ("the same with a name of 65 bytes", lambda: Tank().log(op=naming(b"a" * 65)), "clean group 9 records 0"),
+    ("the same with an empty name", lambda: Tank().log(op=naming(b"")), "clean group 9 records 0"),
+    (
+        "the same with a name that begins with a digit",
+        lambda: Tank().log(op=naming(b"4pond")),
+        "clean group 9 records 0",
+    ),
+]

@@ -1,0 +1,1 @@
+"""Tests of the other folders, which need no built program."""

@@ -1,0 +1,38 @@
+import unittest
+
+from tools import runner
+from tools.repository import clauses, mentions, program_crates
+
+
+class Faults(unittest.TestCase):
+    """What each part of `check` has to find, and what it may not."""
+
+    def test_labels_that_no_function_has(self):
+        labels = clauses.Labels()
+        self.assertEqual(list(labels.wrong_names("`fsync`: `durable`")), [])
+        self.assertEqual(list(labels.wrong_names("`fsync`: `durable`, `no_such_label`")), ["no_such_label"])
+
+    def test_brackets(self):
+        text = "One (`a`: `b`)\nand `code (c)` (two\nlines).\n\nAn open one ( ends with its\n\nparagraph)."
+        self.assertEqual(list(clauses.brackets(text)), [(1, "`a`: `b`"), (2, "two\nlines")])
+
+    def test_rows_of_labels(self):
+        text = "| function | labels |\n|---|---|\n| `f` | `a`; `b` |\n\n| `g` | `c` |"
+        self.assertEqual(list(clauses.rows(text)), [(3, "`f`: `a`, `b`")])
+
+    def test_tools_that_are_not_there(self):
+        text = "`tools/README.md`, `tools/rows/*.rows`, `python3 tools test`."
+        self.assertEqual(list(mentions.faults_of(text, runner.tools())), [])
+        # In two parts, since this file is looked at too.
+        text = "python3 tools " + "nothing, tools/" + "nothing.py."
+        self.assertEqual(len(list(mentions.faults_of(text, runner.tools()))), 2)
+
+    def test_crates_that_are_not_there(self):
+        known = program_crates.known_crates()
+        self.assertEqual(list(program_crates.faults(known)), [])
+        wanted = [f"{name} names loads, which is not there" for name in ("durable_load", "load_receipts")]
+        self.assertEqual(list(program_crates.faults(known - {"loads"})), wanted)
+
+    def test_crates_that_programs_use(self):
+        self.assertEqual(program_crates.crates_of("one may_wait=9: two three # four"), ["two", "three"])
+        self.assertEqual(program_crates.used_crates("hash_blocks"), {"anyhow", "sha2", "topzerad"})

@@ -1,0 +1,63 @@
+import errno
+import os
+import pathlib
+import shutil
+import sys
+import tempfile
+import unittest
+
+from tools.harness import shims
+from tools.harness.program import run
+
+# Two writes, a read, two syncs and a size, on the file that the last word names; the number of what failed, or 0.
+CALLS = """
+import os, sys
+file = os.open(sys.argv[1], os.O_RDWR | os.O_CREAT)
+try:
+    os.pwrite(file, b"abc", 5)
+    os.pwrite(file, b"de", 0)
+    os.pread(file, 4, 0)
+    os.fsync(file)
+    os.fdatasync(file)
+    os.ftruncate(file, 100)
+    print(0)
+except OSError as error:
+    print(error.errno)
+"""
+KINDS = ["write", "flush", "read"]
+
+
+@unittest.skipUnless(shutil.which("cc"), "there is no cc")
+class Shims(unittest.TestCase):
+    """Each library before the calls of Python itself."""
+
+    def setUp(self):
+        folder = tempfile.TemporaryDirectory()
+        self.addCleanup(folder.cleanup)
+        self.folder, self.file = folder.name, os.path.join(folder.name, "file")
+
+    def calls(self, shim, **variables):
+        ran = run([sys.executable, "-c", CALLS, self.file], env=shim.environment(**variables))
+        return ran.lines()
+
+    def test_calls_are_noted(self):
+        noted = os.path.join(self.folder, "noted")
+        self.assertEqual(self.calls(shims.Shim("calls", self.folder), CALLS_FILE=noted), ["0"])
+        lines = ["write 5 3", "write 0 2", "fsync 0 0", "fdatasync 0 0", "size 0 100"]
+        self.assertEqual(pathlib.Path(noted).read_text().splitlines(), lines)
+
+    def test_a_call_is_refused(self):
+        shim = shims.Shim("refusals", self.folder)
+        with shims.shared_counts(*KINDS) as counts:
+            self.assertEqual(self.calls(shim, COUNT_FILE=counts.path), ["0"])
+            self.assertEqual(counts.read(), {"write": 2, "flush": 2, "read": 1})
+            for kind, at in [("write", 2), ("flush", 1), ("read", 1)]:
+                counts.clear()
+                failing = {"FAIL_KIND": kind, "FAIL_AT": str(at), "COUNT_FILE": counts.path}
+                self.assertEqual(self.calls(shim, **failing), [str(errno.EIO)])
+                self.assertEqual(counts.read()[kind], at)
+
+    def test_requests_for_memory_are_counted(self):
+        with shims.shared_counts("requests") as counts:
+            self.assertEqual(self.calls(shims.Shim("memory", self.folder), COUNT_FILE=counts.path), ["0"])
+            self.assertGreater(counts.read()["requests"], 100)
