@@ -2,6 +2,10 @@ pub mod EmptyPools
 pub mod LaidOut
 pub mod LaidOutMounts
 pub mod OneMount
+pub mod CutViews
+pub mod CutPlaces
+pub mod OpenViews
+pub mod LogOrders
 pub mod FoundViews
 pub mod KeptViews
 pub mod PoolViews

@@ -69,8 +69,8 @@ pub enum PoolError {
     /// The unsynced groups would be charged more bytes than the pool's limit.
     #[error("too many bytes are not synced yet: sync a group first")]
     Throttled,
-    /// The transaction's log record would have more than 4,008 bytes (`MAX_LOG_RECORD`).
-    #[error("the transaction's log record would have more than 4008 bytes")]
+    /// The transaction's log record would have more than 65,536 bytes (`MAX_LOG_RECORD`).
+    #[error("the transaction's log record would have more than 65536 bytes")]
     TooLarge,
     /// No such transaction is open.
     #[error("no such transaction is open")]

@@ -2,6 +2,7 @@
 #![tactic(auto)]
 
 mod bytes;
+pub mod chain_laws;
 mod clients;
 mod error;
 pub mod field_laws;

@@ -3,7 +3,7 @@
 use crate::version::Version;
 
 /// The version whose rules each write follows.
-pub const WRITTEN_VERSION: Version = Version::One;
+pub const WRITTEN_VERSION: Version = Version::Two;
 
 /// Objects have the numbers below this one. As the object of a lock it stands for the pool's name.
 pub const OBJECT_COUNT: u32 = 5292;
@@ -37,7 +37,7 @@ pub const FIRST_GROUP: u64 = 4;
 
 /// The most bytes of the log record of one transaction: 22, and for each operation 5 for a create or a remove, 13 for a
 /// new length, 17 and its bytes for a write, 5 and its bytes for a name.
-pub const MAX_LOG_RECORD: u64 = 4008;
+pub const MAX_LOG_RECORD: u64 = 65_536;
 
 /// The most locks that may be held.
 pub const MAX_LOCKS: usize = 256;

@@ -7,12 +7,15 @@ use Rattle.base.specs.formats.Geometry.{block_address}
 use Rattle.base.specs.formats.Blocks.{Frame}
 use Rattle.base.specs.tree.Tree.{IsTree}
 use Rattle.base.specs.formats.Chain.{IsChain}
+use Rattle.base.proofs.formats.Pieces.{piece_block}
 
-empty_tree : (image : List ℕ) (frame : Frame) → IsTree image frame no_pointer map.empty
+pub empty_tree : (image : List ℕ) (frame : Frame) → IsTree image frame no_pointer map.empty
 empty_tree image frame = record {
   no_others = λ n _. map.get-empty {X = List ℕ} nat_cmp n;
   directories = inl (refl, λ n. map.get-empty {X = List ℕ} nat_cmp n);
 }
 
-empty_chain : (image : List ℕ) (frame : Frame) (chain number : ℕ) → IsChain image frame chain (record { address = 0; number = number }) []
-empty_chain image frame chain number block is = let at : 0 ≡ block_address is.in_area.0 = is.in_area.2 in absurd (omega arith)
+pub empty_chain : (image : List ℕ) (frame : Frame) (chain number : ℕ) → IsChain image frame chain (record { address = 0; number = number }) []
+empty_chain image frame chain number piece is =
+    let b = piece_block image frame chain (record { address = 0; number = number }) piece is in
+    let at : 0 ≡ block_address b.1.in_area.0 = b.1.in_area.2 in absurd (omega arith)

@@ -10,6 +10,7 @@ use Rattle.base.specs.formats.Geometry.{is_geometry, block_count, block_address,
 use Rattle.base.specs.steps.Locks.{Grant, is_blocked}
 use Rattle.base.specs.steps.Refusals.{object_range, is_plan_blocked, is_plan_covered}
 use Rattle.base.specs.steps.Groups.{Admission}
+use Rattle.base.specs.formats.Limits.{log_block_room, max_log_record}
 use Rattle.base.specs.formats.Records.{Record, bytes_of_record}
 use Rattle.base.specs.steps.Logs.{total_size}
 use Rattle.base.specs.steps.Charges.{available_of}
@@ -27,12 +28,19 @@ estimate_5 = refl
 charge_20480 : charge_of (shape.Write (object 1) 4030 4 ∷ []) ≡ 20480
 charge_20480 = refl
 
--- a write of 3,969 bytes has a record of 4,008, and one byte more is too large
-record_4008 : log_record_size (shape.Write (object 1) 0 3969 ∷ []) ≡ 4008
+-- a write of 65,497 bytes has a record of 64 KiB, and one byte more is too large
+record_65536 : log_record_size (shape.Write (object 1) 0 65497 ∷ []) ≡ max_log_record
+record_65536 = refl
+
+too_large : nat_lt max_log_record (log_record_size (shape.Write (object 1) 0 65498 ∷ [])) ≡ true
+too_large = refl
+
+-- a write of 3,969 bytes has a record that fills a log block, and one byte more makes it a long one
+record_4008 : log_record_size (shape.Write (object 1) 0 3969 ∷ []) ≡ log_block_room
 record_4008 = refl
 
-too_large : nat_lt 4008 (log_record_size (shape.Write (object 1) 0 3970 ∷ [])) ≡ true
-too_large = refl
+long_record : nat_lt log_block_room (log_record_size (shape.Write (object 1) 0 3970 ∷ [])) ≡ true
+long_record = refl
 
 -- two writes of one record are charged 32,768; a third would pass 40,960, and a create reaches it
 third_write : nat_lt 40960 (32768 + charge_of (shape.Write (object 1) 0 4 ∷ [])) ≡ true
@@ -133,7 +141,7 @@ used_70 = refl
 fits_148 : total_size (creates 148) ≡ 3996
 fits_148 = refl
 
-not_149 : nat_lt 4008 (total_size (creates 149)) ≡ true
+not_149 : nat_lt log_block_room (total_size (creates 149)) ≡ true
 not_149 = refl
 
 -- 797 creates and removes

@@ -11,7 +11,7 @@ use Rattle.base.specs.history.History.{Entry}
 use Rattle.base.specs.steps.Locks.{is_in}
 use Rattle.base.specs.formats.Records.{Record}
 use Rattle.base.specs.history.Past.{Past}
-use Rattle.base.specs.steps.Logs.{Log, KeptBlock, Committed, committed_of, has_record, is_same, is_written_in, is_flushed_in, reaches_above, log_after_flush}
+use Rattle.base.specs.steps.Logs.{Log, KeptBlock, Committed, committed_of, has_record, is_same, is_begun_in, is_flushed_in, begins_record, reaches_above, ends_above, begun_committed, AreBalanced, log_after_flush}
 use Rattle.base.specs.steps.Shown.{Shown}
 use Rattle.base.specs.steps.Steps.{ordinals_awaiting}
 use Rattle.base.specs.steps.Exact.{IsLogExact, IsSyncExact}
@@ -93,12 +93,30 @@ awaited o (b ∷ bs) is = go b.flushed is (λ h. awaited o bs h)
           | inr later ↦ let found = rest later in (suc found.0, found.1, found.2, found.3, found.4, found.5)
         ]
 
+-- as much begins and ends
+pub flushed_balanced : (before : Option Committed) (bs : List KeptBlock) (after : Option Committed) → AreBalanced before bs after → AreBalanced before (map flushed_block bs) after
+flushed_balanced before [] after is = is
+flushed_balanced None (b ∷ bs) after (inl (some, same, rest)) = inl (some, same, flushed_balanced None bs after rest)
+flushed_balanced None (b ∷ bs) after (inr (c, begins, ends, rest)) = inr (c, begins, ends, flushed_balanced (Some c) bs after rest)
+flushed_balanced (Some c) (b ∷ bs) after (begins, inl (ends, rest)) = (begins, inl (ends, flushed_balanced (Some c) bs after rest))
+flushed_balanced (Some c) (b ∷ bs) after (begins, inr (ends, rest)) = (begins, inr (ends, flushed_balanced None bs after rest))
+
+filtered : (low : ℕ) (bs : List KeptBlock) → filter (λ (b : KeptBlock). nat_le low b.number) (map flushed_block bs) ≡ map flushed_block (filter (λ (b : KeptBlock). nat_le low b.number) bs)
+filtered low [] = refl
+filtered low (b ∷ bs) = go (nat_le low b.number) (filtered low bs)
+  where
+    go : (t : Bool) → filter (λ (c : KeptBlock). nat_le low c.number) (map flushed_block bs) ≡ map flushed_block (filter (λ (c : KeptBlock). nat_le low c.number) bs)
+        → cond t (flushed_block b ∷ filter (λ (c : KeptBlock). nat_le low c.number) (map flushed_block bs)) (filter (λ (c : KeptBlock). nat_le low c.number) (map flushed_block bs))
+        ≡ map flushed_block (cond t (b ∷ filter (λ (c : KeptBlock). nat_le low c.number) bs) (filter (λ (c : KeptBlock). nat_le low c.number) bs))
+    go true rest = ap (λ cs. flushed_block b ∷ cs) rest
+    go false rest = rest
+
 module _ (s t : Shown) (p q : Past) (x : IsLogExact s p) where
   abbrev flushed : Log
   flushed = log_after_flush s.log
 
-  same_written : (r : Committed) → is_written_in flushed r ≡ is_written_in s.log r
-  same_written r = any_map (λ b. has_record b r) flushed_block s.log.kept
+  same_begun : (r : Committed) → is_begun_in flushed r ≡ is_begun_in s.log r
+  same_begun r = any_map (λ b. begins_record b r) flushed_block s.log.kept
 
   -- a record of an entry's ordinal is of its group
   same_group : (o : ℕ) (e : Entry) → slice_get p.entries o ≡ Some e → (i : ℕ) (b : KeptBlock) → slice_get s.log.kept i ≡ Some b → (j : ℕ) (c : Committed) → slice_get b.ends j ≡ Some c
@@ -115,11 +133,13 @@ module _ (s t : Shown) (p q : Past) (x : IsLogExact s p) where
     next = x.next;
     allowed = x.allowed;
     unsynced = x.unsynced;
-    pending = x.pending ∙ filter_same (λ (r : Record). nat_lt s.line.synced r.group && not (is_written_in s.log (committed_of r))) (λ (r : Record). nat_lt s.line.synced r.group && not (is_written_in flushed (committed_of r)))
-        (map (λ (y : ℕ × Entry). record { group = y.1.group; ordinal = y.0; ops = y.1.ops }) (enumerate_from 0 p.entries)) (λ i r at. ap (λ b. nat_lt s.line.synced r.group && not b) (sym (same_written (committed_of r))));
+    pending = x.pending ∙ filter_same (λ (r : Record). nat_lt s.line.synced r.group && not (is_begun_in s.log (committed_of r))) (λ (r : Record). nat_lt s.line.synced r.group && not (is_begun_in flushed (committed_of r)))
+        (map (λ (y : ℕ × Entry). record { group = y.1.group; ordinal = y.0; ops = y.1.ops }) (enumerate_from 0 p.entries)) (λ i r at. ap (λ b. nat_lt s.line.synced r.group && not b) (sym (same_begun (committed_of r))));
     in_order = order-flush s.line.synced s.log p.entries x.in_order;
     known = λ i b r at has. let old = block_before s.log.kept i b at in x.known i old.0 r old.1 (ap (λ (c : KeptBlock). has_record c r) old.2 ∙ has);
-    whole = λ i b at. let old = block_before s.log.kept i b at in subst (λ (c : KeptBlock). c.begins ≡ c.ends) old.2 (x.whole i old.0 old.1);
+    known_begun = λ i b r at begins. let old = block_before s.log.kept i b at in x.known_begun i old.0 r old.1 (ap (λ (c : KeptBlock). begins_record c r) old.2 ∙ begins);
+    balanced = flushed_balanced None s.log.kept (begun_committed s.log.begun) x.balanced;
+    begun = x.begun;
     numbered = λ i b at.
         let old = block_before s.log.kept i b at in
         let number : old.0.number + (length s.log.kept - i) ≡ s.log.next.number = x.numbered i old.0 old.1 in
@@ -154,6 +174,8 @@ module _ (s t : Shown) (p q : Past) (x : IsLogExact s p) where
     not_past_next = y.not_past_next;
     header = λ i group b plan syncing is at below.
         let old = block_before s.log.kept i b at in
-        ap (λ (c : KeptBlock). reaches_above group c) (sym old.2)
-        ∙ y.header i group old.0 plan syncing is old.1 (subst (λ (c : KeptBlock). c.number < plan.header.number) (sym old.2) below);
+        subst (λ (c : KeptBlock). (reaches_above group c ≡ false) × (ends_above group c ≡ false)) old.2
+        (y.header i group old.0 plan syncing is old.1 (subst (λ (c : KeptBlock). c.number < plan.header.number) (sym old.2) below));
+    balanced = λ plan is. subst (λ (bs : List KeptBlock). AreBalanced None bs (begun_committed s.log.begun)) (sym (filtered plan.header.number s.log.kept))
+        (flushed_balanced None (filter (λ (b : KeptBlock). nat_le plan.header.number b.number) s.log.kept) (begun_committed s.log.begun) (y.balanced plan is));
   }

@@ -1,19 +1,20 @@
 -- Each write of a log block, answered or refused, keeps what is shown of the log exact.
 use Rattle.std.proofs.Common.{◌≡◌, ℕ, zero, suc, ◌+◌, ◌-◌, ◌<◌, ◌≤◌, Bool, true, false, not, ◌&&◌, ◌||◌, List, [], ◌∷◌, ◌++◌, length, map, refl, ap, sym, subst, ◌∙◌, arith, inl, inr}
 use Rattle.std.specs.Prelude.{Option, Some, None, IfSome, slice_get, filter, nat_lt, nat_le, ◌==◌, option_map, All}
-use Rattle.std.specs.List.{enumerate_from}
-use Rattle.std.proofs.lemmas.Bool.{and_parts, and_left, eqb-true, eq-eqb, ne_eqb}
+use Rattle.std.specs.List.{enumerate_from, list_any}
+use Rattle.std.proofs.lemmas.Bool.{and_parts, and_left, eqb-true, eq-eqb, ne_eqb, false≢true}
 use Rattle.std.proofs.lemmas.List.{length_push}
 use Rattle.std.proofs.lemmas.List.Elements.{filter-append}
 use Rattle.std.proofs.lemmas.Option.{slice_get-map, slice_get_within}
 use Rattle.base.specs.history.History.{Entry}
 use Rattle.base.specs.formats.Records.{Record}
 use Rattle.base.specs.history.Past.{Past}
-use Rattle.base.specs.steps.Logs.{whole_block, Log, KeptBlock, Committed, committed_of, record_of_entry, has_record, is_same, is_written_in, is_flushed_in, reaches_above, pending_records, log_after_write}
+use Rattle.base.specs.steps.Logs.{Log, KeptBlock, Begun, AreBalanced, Committed, Taken, IsTaken, block_taken, begun_committed, committed_of, record_of_entry, has_record, begins_record, is_same, is_begun_in, is_flushed_in, reaches_above, ends_above, pending_records, log_after_write}
 use Rattle.base.specs.steps.Shown.{Shown, SyncPlan}
-use Rattle.base.specs.steps.Exact.{IsLogExact, IsSyncExact}
+use Rattle.base.specs.steps.Exact.{IsBegunRecord, IsLogExact, IsSyncExact}
 use Rattle.base.proofs.common.Sieves.{filter-filter, filter_all, filter_nothing}
 use Rattle.base.proofs.history.LogOrder.{order-write}
+use Rattle.base.proofs.steps.BegunLogs.{writes_keep_balance, writes_keep_balance_from}
 use Rattle.base.proofs.common.KeptLists.{none_at, at_front, at_filter, pair_filter, any_at, any_found, any_none, any_push, filter_same, Some-injective, push-cases, All-each}
 
 enumerated_at : {A : Type 0} (n : ℕ) (xs : List A) (k : ℕ) (p : ℕ × A) → slice_get (enumerate_from n xs) k ≡ Some p → (p.0 ≡ n + k) × (slice_get xs k ≡ Some p.1)
@@ -23,31 +24,46 @@ enumerated_at n (x ∷ xs) (suc k) p at = let later = enumerated_at (n + 1) xs k
 
 -- a record of the entries at a place is the one of the entry there
 recorded_at : (entries : List Entry) (k : ℕ) (r : Record) → slice_get (map record_of_entry (enumerate_from 0 entries)) k ≡ Some r
-    → (e : Entry) × (slice_get entries k ≡ Some e) × (r.ordinal ≡ k) × (e.group ≡ r.group)
+    → (e : Entry) × (slice_get entries k ≡ Some e) × (r.ordinal ≡ k) × (e.group ≡ r.group) × (e.ops ≡ r.ops)
 recorded_at entries k r at = go (slice_get (enumerate_from 0 entries) k) refl (sym (slice_get-map record_of_entry (enumerate_from 0 entries) k) ∙ at)
   where
-    go : (o : Option (ℕ × Entry)) → slice_get (enumerate_from 0 entries) k ≡ o → option_map record_of_entry o ≡ Some r → (e : Entry) × (slice_get entries k ≡ Some e) × (r.ordinal ≡ k) × (e.group ≡ r.group)
+    go : (o : Option (ℕ × Entry)) → slice_get (enumerate_from 0 entries) k ≡ o → option_map record_of_entry o ≡ Some r → (e : Entry) × (slice_get entries k ≡ Some e) × (r.ordinal ≡ k) × (e.group ≡ r.group) × (e.ops ≡ r.ops)
     go None is h = absurd (let no_way : None ≡ Some r = h in cc)
     go (Some p) is h =
         let place = enumerated_at 0 entries k p is in
         let same : record_of_entry p ≡ r = Some-injective h in
-        (p.1, place.1, (let first : p.0 ≡ 0 + k = place.0 in ap (λ (x : Record). x.ordinal) (sym same) ∙ omega arith), ap (λ (x : Record). x.group) same)
+        (p.1, place.1, (let first : p.0 ≡ 0 + k = place.0 in ap (λ (x : Record). x.ordinal) (sym same) ∙ omega arith), ap (λ (x : Record). x.group) same, ap (λ (x : Record). x.ops) same)
 
-module _ (s t : Shown) (p q : Past) (x : IsLogExact s p) (taken rest : List Record) (address : ℕ) (split : s.log.pending ≡ taken ++ rest) where
+module _ (s t : Shown) (p q : Past) (x : IsLogExact s p) (got : Taken) (address : ℕ) (takes : IsTaken s.log.begun s.log.pending got) where
   abbrev block : KeptBlock
-  block = whole_block s.log.next (map committed_of taken) false
+  block = block_taken s.log.next got
 
   abbrev written : Log
-  written = log_after_write taken rest address s.log
+  written = log_after_write got address s.log
+
+  abbrev taken : List Record
+  taken = got.begins
+
+  abbrev rest : List Record
+  rest = got.pending
+
+  -- whatever it is, it is the front of what is pending that begins
+  split : s.log.pending ≡ taken ++ rest
+  split = go s.log.begun takes
+    where
+      go : (o : Option Begun) → IsTaken o s.log.pending got → s.log.pending ≡ taken ++ rest
+      go (Some g) (begins, pending, bytes, ends) = sym pending ∙ ap (λ rs. rs ++ rest) (sym begins)
+      go None (inl (whole, ends, bytes, done)) = whole.front
+      go None (inr (r, front, begins, long, ends, bytes, left)) = front ∙ ap (λ rs. rs ++ rest) (sym begins)
 
   abbrev is_pending : Record → Bool
-  is_pending r = nat_lt s.line.synced r.group && not (is_written_in s.log (committed_of r))
+  is_pending r = nat_lt s.line.synced r.group && not (is_begun_in s.log (committed_of r))
 
   abbrev records : List Record
   records = map record_of_entry (enumerate_from 0 p.entries)
 
   abbrev is_left : Record → Bool
-  is_left r = not (has_record block (committed_of r))
+  is_left r = not (begins_record block (committed_of r))
 
   all_pending : taken ++ rest ≡ filter is_pending records
   all_pending = sym split ∙ x.pending
@@ -58,7 +74,7 @@ module _ (s t : Shown) (p q : Past) (x : IsLogExact s p) (taken rest : List Reco
 
   taken_above : All (λ (r : Record). nat_lt s.line.synced r.group ≡ true) taken
   taken_above = All-each (λ (r : Record). nat_lt s.line.synced r.group ≡ true) taken
-      (λ i r at. let found = taken_of_entries i r at in (and_parts (nat_lt s.line.synced r.group) (not (is_written_in s.log (committed_of r))) found.2).0)
+      (λ i r at. let found = taken_of_entries i r at in (and_parts (nat_lt s.line.synced r.group) (not (is_begun_in s.log (committed_of r))) found.2).0)
 
   at_rest : (j : ℕ) (r : Record) → slice_get rest j ≡ Some r → slice_get (taken ++ rest) (length taken + j) ≡ Some r
   at_rest j r at = behind taken
@@ -97,7 +113,7 @@ module _ (s t : Shown) (p q : Past) (x : IsLogExact s p) (taken rest : List Reco
   pending_after =
       sym (filter-append is_left taken rest ∙ (λ k. none_left k ++ all_left k))
       ∙ ap (λ rs. filter is_left rs) all_pending
-      ∙ filter-filter is_left is_pending (λ (r : Record). nat_lt s.line.synced r.group && not (is_written_in written (committed_of r))) same records
+      ∙ filter-filter is_left is_pending (λ (r : Record). nat_lt s.line.synced r.group && not (is_begun_in written (committed_of r))) same records
     where
       turn : (a b c : Bool) → (a && not (b || c)) ≡ (not c && (a && not b))
       turn true true true = refl
@@ -107,13 +123,13 @@ module _ (s t : Shown) (p q : Past) (x : IsLogExact s p) (taken rest : List Reco
       turn false b true = refl
       turn false b false = refl
 
-      same : (r : Record) → (nat_lt s.line.synced r.group && not (is_written_in written (committed_of r))) ≡ (is_left r && is_pending r)
-      same r = ap (λ b. nat_lt s.line.synced r.group && not b) (any_push (λ b. has_record b (committed_of r)) s.log.kept block)
-          ∙ turn (nat_lt s.line.synced r.group) (is_written_in s.log (committed_of r)) (has_record block (committed_of r))
+      same : (r : Record) → (nat_lt s.line.synced r.group && not (is_begun_in written (committed_of r))) ≡ (is_left r && is_pending r)
+      same r = ap (λ b. nat_lt s.line.synced r.group && not b) (any_push (λ b. begins_record b (committed_of r)) s.log.kept block)
+          ∙ turn (nat_lt s.line.synced r.group) (is_begun_in s.log (committed_of r)) (begins_record block (committed_of r))
 
-  -- a record of the new block is of an entry
-  known_after : (r : Committed) → has_record block r ≡ true → (e : Entry) × (slice_get p.entries r.ordinal ≡ Some e) × (e.group ≡ r.group)
-  known_after r has = go (any_found (is_same r) (map committed_of taken) has)
+  -- a record that begins in the new block is of an entry
+  begun_after : (r : Committed) → begins_record block r ≡ true → (e : Entry) × (slice_get p.entries r.ordinal ≡ Some e) × (e.group ≡ r.group)
+  begun_after r has = go (any_found (is_same r) (map committed_of taken) has)
     where
       of_entry : (i : ℕ) (c : Committed) → is_same r c ≡ true → (o : Option Record) → slice_get taken i ≡ o → option_map committed_of o ≡ Some c → (e : Entry) × (slice_get p.entries r.ordinal ≡ Some e) × (e.group ≡ r.group)
       of_entry i c same None is h = absurd (let no_way : None ≡ Some c = h in cc)
@@ -129,6 +145,45 @@ module _ (s t : Shown) (p q : Past) (x : IsLogExact s p) (taken rest : List Reco
       go : (i : ℕ) × (c : Committed) × (slice_get (map committed_of taken) i ≡ Some c) × (is_same r c ≡ true) → (e : Entry) × (slice_get p.entries r.ordinal ≡ Some e) × (e.group ≡ r.group)
       go (i, c, at, same) = of_entry i c same (slice_get taken i) refl (sym (slice_get-map committed_of taken i) ∙ at)
 
+  -- and so is one that ends in it
+  known_after : (r : Committed) → has_record block r ≡ true → (e : Entry) × (slice_get p.entries r.ordinal ≡ Some e) × (e.group ≡ r.group)
+  known_after r has = go s.log.begun takes x.begun
+    where
+      Known : Type 0
+      Known = (e : Entry) × (slice_get p.entries r.ordinal ≡ Some e) × (e.group ≡ r.group)
+
+      none : got.ends ≡ [] → Known
+      none ends = absurd (false≢true (sym (ap (λ (rs : List Record). list_any (is_same r) (map committed_of rs)) ends) ∙ has))
+
+      go : (o : Option Begun) → IsTaken o s.log.pending got → IfSome o (IsBegunRecord p.entries) → Known
+      go (Some g) (begins, pending, bytes, inl (fits, ends, done)) h =
+          let one : (is_same r (committed_of g.logged) || false) ≡ true = sym (ap (λ (rs : List Record). list_any (is_same r) (map committed_of rs)) ends) ∙ has in
+          let same : is_same r (committed_of g.logged) ≡ true = sym (or_none (is_same r (committed_of g.logged))) ∙ one in
+          let both = and_parts (r.ordinal == g.logged.ordinal) (r.group == g.logged.group) same in
+          (h.entry, ap (λ k. slice_get p.entries k) (eqb-true r.ordinal g.logged.ordinal both.0) ∙ h.at, h.group_is ∙ sym (eqb-true r.group g.logged.group both.1))
+        where
+          or_none : (b : Bool) → (b || false) ≡ b
+          or_none true = refl
+          or_none false = refl
+      go (Some g) (begins, pending, bytes, inr (more, ends, left)) h = none ends
+      go None (inl (whole, ends, bytes, done)) h = begun_after r (ap (λ (rs : List Record). list_any (is_same r) (map committed_of rs)) (sym ends) ∙ has)
+      go None (inr (u, front, begins, long, ends, bytes, left)) h = none ends
+
+  -- what is begun then is of an entry, too
+  still_begun : IfSome got.begun (IsBegunRecord p.entries)
+  still_begun = go s.log.begun takes x.begun
+    where
+      go : (o : Option Begun) → IsTaken o s.log.pending got → IfSome o (IsBegunRecord p.entries) → IfSome got.begun (IsBegunRecord p.entries)
+      go (Some g) (begins, pending, bytes, inl (fits, ends, done)) h = subst (λ (b : Option Begun). IfSome b (IsBegunRecord p.entries)) (sym done) tt
+      go (Some g) (begins, pending, bytes, inr (more, ends, left)) h = subst (λ (b : Option Begun). IfSome b (IsBegunRecord p.entries)) (sym left)
+          (record { entry = h.entry; at = h.at; group_is = h.group_is; ops_are = h.ops_are; long = h.long; left = more })
+      go None (inl (whole, ends, bytes, done)) h = subst (λ (b : Option Begun). IfSome b (IsBegunRecord p.entries)) (sym done) tt
+      go None (inr (u, front, begins, long, ends, bytes, left)) h =
+          let place = taken_of_entries 0 u (ap (λ (rs : List Record). slice_get rs 0) begins) in
+          let entry = recorded_at p.entries place.0 u place.1 in
+          subst (λ (b : Option Begun). IfSome b (IsBegunRecord p.entries)) (sym left)
+          (record { entry = entry.0; at = ap (λ k. slice_get p.entries k) entry.2 ∙ entry.1; group_is = entry.3; ops_are = entry.4; long = long; left = long })
+
   flushed_after : (r : Committed) → is_flushed_in written r ≡ is_flushed_in s.log r
   flushed_after r = any_push (λ (b : KeptBlock). b.flushed && has_record b r) s.log.kept block ∙ or_none (is_flushed_in s.log r)
     where
@@ -143,15 +198,17 @@ module _ (s t : Shown) (p q : Past) (x : IsLogExact s p) (taken rest : List Reco
     allowed = x.allowed;
     unsynced = x.unsynced;
     pending = pending_after;
-    in_order = order-write s.line.synced s.log p.entries taken rest address split taken_above x.in_order;
+    in_order = order-write s.line.synced s.log p.entries got address split taken_above x.in_order;
     known = λ i b r at has. elim (push-cases s.log.kept block b i at) as (λ _. (e : Entry) × (slice_get p.entries r.ordinal ≡ Some e) × (e.group ≡ r.group)) [
       | inl old ↦ x.known i b r old has
       | inr new ↦ known_after r (ap (λ (c : KeptBlock). has_record c r) new.1 ∙ has)
     ];
-    whole = λ i b at. elim (push-cases s.log.kept block b i at) as (λ _. b.begins ≡ b.ends) [
-      | inl old ↦ x.whole i b old
-      | inr new ↦ subst (λ (c : KeptBlock). c.begins ≡ c.ends) new.1 refl
+    known_begun = λ i b r at begins. elim (push-cases s.log.kept block b i at) as (λ _. (e : Entry) × (slice_get p.entries r.ordinal ≡ Some e) × (e.group ≡ r.group)) [
+      | inl old ↦ x.known_begun i b r old begins
+      | inr new ↦ begun_after r (ap (λ (c : KeptBlock). begins_record c r) new.1 ∙ begins)
     ];
+    balanced = writes_keep_balance s.log got address takes x.balanced;
+    begun = still_begun;
     numbered = λ i b at. elim (push-cases s.log.kept block b i at) as (λ _. b.number + (length (s.log.kept ++ block ∷ []) - i) ≡ s.log.next.number + 1) [
       | inl old ↦
           let number : b.number + (length s.log.kept - i) ≡ s.log.next.number = x.numbered i b old in
@@ -173,13 +230,16 @@ module _ (s t : Shown) (p q : Past) (x : IsLogExact s p) (taken rest : List Reco
     running = y.running;
     steps = y.steps;
     not_past_next = further s.sync y.not_past_next;
-    header = λ i group b plan syncing is at below. elim (push-cases s.log.kept block b i at) as (λ _. reaches_above group b ≡ false) [
+    header = λ i group b plan syncing is at below. elim (push-cases s.log.kept block b i at) as (λ _. (reaches_above group b ≡ false) × (ends_above group b ≡ false)) [
       | inl old ↦ y.header i group b plan syncing is old below
       | inr new ↦
           let low : plan.header.number ≤ s.log.next.number = subst (λ o. IfSome o (λ (z : SyncPlan). z.header.number ≤ s.log.next.number)) is y.not_past_next in
           let number : s.log.next.number ≡ b.number = ap (λ (c : KeptBlock). c.number) new.1 in
           absurd (omega arith)
     ];
+    balanced = λ plan is.
+        let low : plan.header.number ≤ s.log.next.number = subst (λ o. IfSome o (λ (z : SyncPlan). z.header.number ≤ s.log.next.number)) is y.not_past_next in
+        writes_keep_balance_from plan.header.number s.log got address takes low (y.balanced plan is);
   }
     where
       further : (o : Option SyncPlan) → IfSome o (λ (z : SyncPlan). z.header.number ≤ s.log.next.number) → IfSome o (λ (z : SyncPlan). z.header.number ≤ s.log.next.number + 1)

@@ -44,6 +44,7 @@ pub record IsImported (u : Uberblock) (blocks : ℕ) (contents : Contents) (dirt
   pub dirty : (g : ℕ) → finite.get s.dirty g ≡ None
   pub reserved : (g : ℕ) → finite.get s.reserved g ≡ None
   pub unsynced : s.log.unsynced ≡ []
+  pub begun : s.log.begun ≡ None
   pub pending : s.log.pending ≡ []
   pub kept : s.log.kept ≡ []
   pub log_number : s.log.next.number ≡ 0
