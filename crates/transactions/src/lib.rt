@@ -17,6 +17,6 @@ pub use lock_plan::lock_ranges;
 pub use open::{OpenTransaction, OpenTransactions};
 pub use plan::{
     charge, estimate, is_in_plan, is_plan_allowed, is_shrinking, is_too_large, plans_overlap,
-    range_of,
+    range_of, record_size,
 };
 pub use record::{Record, decode_record, encode_into, encode_record};

@@ -53,22 +53,29 @@ fn is_end_allowed(offset: u64, count: u64) -> bool
     count <= MAX_LENGTH && offset <= MAX_LENGTH - count
 }
 
-/// Whether the log record of a plan would be longer than 4,008 bytes.
-pub fn is_too_large(plan: &[Shape]) -> bool
-    ensures { result ≡ nat_lt max_log_record (plans.log_record_size plan.now) }
+/// How many bytes the log record of a plan has: 22, and for each operation 5 (a create, a remove), 13 (a new length), 17
+/// and its bytes (a write), or 5 and its bytes (a name). `None` if these are above 65,536.
+pub fn record_size(plan: &[Shape]) -> Option<u64>
+    ensures size { IfSome result (λ size. size ≡ plans.log_record_size plan.now) }
+    ensures small { IfSome result (λ size. size ≤ max_log_record) }
+    ensures large { IfNone result (max_log_record < plans.log_record_size plan.now) }
 {
     let mut size = RECORD_HEAD;
     for shape in plan {
-        match with_shape(size, shape) {
-            Some(larger) => size = larger,
-            None => return true,
-        }
+        size = with_shape(size, shape)?;
     }
-    false
+    Some(size)
+}
+
+/// Whether the log record of a plan would be longer than 65,536 bytes.
+pub fn is_too_large(plan: &[Shape]) -> bool
+    ensures { result ≡ nat_lt max_log_record (plans.log_record_size plan.now) }
+{
+    record_size(plan).is_none()
 }
 
 /// How many bytes a log record of so many bytes has with an operation of this shape more. `None` if these
-/// are above 4,008.
+/// are above 65,536.
 pub(crate) fn with_shape(size: u64, shape: &Shape) -> Option<u64>
     ensures size { IfSome result (λ larger. larger ≡ size + plans.size_of_shape shape.now) }
     ensures small { IfSome result (λ larger. larger ≤ max_log_record) }

@@ -35,7 +35,7 @@ pub struct Record {
 /// In this order:
 ///
 /// - `BadRange` if there is no operation, or one of them, the group or the ordinal is outside its limits.
-/// - `TooLarge` if it would be longer than 4,008 bytes.
+/// - `TooLarge` if it would be longer than 65,536 bytes.
 /// - `NoMemory` if there is no memory for the bytes.
 pub fn encode_record(alloc: Global, committed: &Record) -> Result<Vec<u8>, PoolError>
     ensures bytes { IfOk result
@@ -96,7 +96,7 @@ fn is_each_allowed(ops: &[Op]) -> bool
     ops.iter().all(|op| is_op_allowed(op))
 }
 
-/// How many bytes the record of these operations has. `None` if these are above 4,008.
+/// How many bytes the record of these operations has. `None` if these are above 65,536.
 fn size_of(ops: &[Op]) -> Option<u32>
     ensures size { IfSome result (λ size. size ≡ log_record_size (map shape_of ops.now)) }
     ensures small { IfSome result (λ size. size ≤ max_log_record) }
@@ -110,7 +110,7 @@ fn size_of(ops: &[Op]) -> Option<u32>
 }
 
 /// The record that stands at the front of these bytes, and the bytes after it. `None` if no front of them is a record:
-/// of 22 bytes and those of its operations, 4,008 at most, with a group and an ordinal of at most 2^60 and operations
+/// of 22 bytes and those of its operations, 65,536 at most, with a group and an ordinal of at most 2^60 and operations
 /// within their limits.
 ///
 /// # Errors

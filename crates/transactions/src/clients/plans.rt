@@ -1,13 +1,13 @@
 //! What callers rest on of plans: their limits, what they touch and what they are charged.
 
-ghost use Rattle.std.specs.Prelude.{◌≡◌, ◌∷◌, [], IfOk, Some, false, true};
+ghost use Rattle.std.specs.Prelude.{◌≡◌, ◌∷◌, [], IfOk, None, Some, false, true};
 ghost use Rattle.base.specs.history.Contents.{Contents, length_of};
 ghost use Rattle.transactions.specs.Lengths.{TellsLengths};
 
 use crate::lock_plan::lock_ranges;
 use crate::plan::{
     charge, estimate, is_in_plan, is_plan_allowed, is_shrinking, is_too_large, plans_overlap,
-    range_of,
+    range_of, record_size,
 };
 use base::{ObjectId, ObjectRange, Op, Shape};
 use std::alloc::{AllocError, Global};
@@ -19,10 +19,23 @@ fn a_write_ends_at_the_greatest_length() {
     prove!(!is_plan_allowed(&[Shape::Write(ObjectId(0), 338_681, 8)]));
 }
 
-// A record of 4,008 bytes is not too large, and one of 4,009 is.
-fn a_record_of_4009_bytes_is_too_large() {
-    prove!(!is_too_large(&[Shape::Write(ObjectId(0), 0, 3_969)]));
-    prove!(is_too_large(&[Shape::Write(ObjectId(0), 0, 3_970)]));
+// A record of 64 KiB is not too large, and one byte more is.
+fn a_record_of_65537_bytes_is_too_large() {
+    prove!(!is_too_large(&[Shape::Write(ObjectId(0), 0, 65_497)]));
+    prove!(is_too_large(&[Shape::Write(ObjectId(0), 0, 65_498)]));
+}
+
+// The record of a create has 27 bytes, and a plan whose record is too large has no size.
+fn a_record_of_a_create_has_27_bytes() -> Option<u64>
+    ensures { result ≡ Some 27 }
+{
+    record_size(&[Shape::Create(ObjectId(1))])
+}
+
+fn a_record_of_65537_bytes_has_no_size() -> Option<u64>
+    ensures { result ≡ None }
+{
+    record_size(&[Shape::Write(ObjectId(0), 0, 65_498)])
 }
 
 // A write touches its bytes and none after them.
