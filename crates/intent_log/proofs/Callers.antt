@@ -1,35 +1,42 @@
 -- What callers of this crate conclude from the contracts of its calls.
 use Rattle.std.proofs.Common.{◌≡◌, ℕ, zero, suc, Bool, true, false, ◌+◌, ◌<◌, ◌≤◌, List, [], ◌∷◌, length, take, drop, sym, ap, refl, subst, ◌∙◌, arith}
-use Rattle.std.specs.Prelude.{IfNone, IfSome, Option, None, Some, filter, is_some, nat_le, nat_lt}
+use Rattle.std.specs.Prelude.{IfNone, IfSome, Option, None, Some, filter, slice_get, is_some, nat_le, nat_lt}
 use Rattle.std.proofs.lemmas.Bool.{le-leb, lt-leb, ltb-false}
 use Rattle.std.specs.Int.{from_le_bytes, w64}
 use Rattle.std.proofs.lemmas.List.{drop-drop}
+use Rattle.std.proofs.lemmas.List.Sums.{sum_by-cons}
 use Rattle.base.specs.formats.Blocks.{Frame, IsBlock}
 use Rattle.base.specs.formats.Chain.{Header, LogPiece}
 use Rattle.base.specs.formats.Fields.{number_at, part}
 use Rattle.base.specs.formats.Geometry.{IsBlockAddress}
-use Rattle.base.specs.formats.Records.{Record}
+use Rattle.base.specs.formats.Limits.{log_block_room}
+use Rattle.base.specs.formats.Records.{Record, size_of}
+use Rattle.base.proofs.formats.Pieces.{piece_block}
 use Rattle.base.specs.steps.Logs.{KeptBlock, blocks_before, total_size}
-use Rattle.intent_log.specs.Chains.{IsChainBlock, IsChainFrom}
+use Rattle.intent_log.specs.Chains.{IsBlockAt, IsChainFrom, IsPieceAt, frame_of_chain, header_of_chain}
 use Rattle.intent_log.specs.Kept.{IsFrontGiven, KeptLog}
-use Rattle.intent_log.specs.Packing.{HoldsRecords, IsPackedFront, logged}
+use Rattle.intent_log.specs.Packing.{HoldsUsed, IsBegunFirst, IsCount, IsPackedAs, IsPackedFront, block_of, logged, used_of}
+use Rattle.intent_log.specs.declared.packing.Packed.{Packed}
+use Rattle.intent_log.specs.declared.packing.Packed.TheVariants.{Whole, First}
 use Rattle.intent_log.specs.declared.chains.ChainHeader.{ChainHeader}
 use Rattle.intent_log.specs.declared.packing.NewBlock.{NewBlock}
 
 -- no block lies at address 0
-pub none_at_0 : (image : List ℕ) (frame : Frame) (h : ChainHeader) (bs : List LogPiece) → h.address ≡ 0 → IsChainFrom image frame h bs → bs ≡ []
+pub none_at_0 : (image : List ℕ) (frame : Frame) (h : ChainHeader) (ps : List LogPiece) → h.address ≡ 0 → IsChainFrom image frame h ps → ps ≡ []
 none_at_0 image frame h [] at chain = refl
-none_at_0 image frame h (b ∷ bs) at (block, rest) = absurd (omega (arith, at, block.in_area.2))
+none_at_0 image frame h (p ∷ ps) at (piece, rest) =
+    let place = (piece_block image (frame_of_chain frame h) h.import_number (header_of_chain h) p piece).1.in_area.2 in
+    absurd (omega (arith, at, place))
 
--- a block that stands where the chain begins is of the chain
-pub some_block : (image : List ℕ) (frame : Frame) (h : ChainHeader) (b : LogPiece) (bs : List LogPiece) → IsChainBlock image frame h b → IsChainFrom image frame h bs → 0 < length bs
-some_block image frame h b [] block chain = absurd (chain b block)
-some_block image frame h b (c ∷ bs) block chain = omega arith
+-- a piece that stands where the chain begins is of the chain
+pub some_piece : (image : List ℕ) (frame : Frame) (h : ChainHeader) (p : LogPiece) (ps : List LogPiece) → IsPieceAt image frame h p → IsChainFrom image frame h ps → 0 < length ps
+some_piece image frame h p [] piece chain = absurd (chain p piece)
+some_piece image frame h p (q ∷ ps) piece chain = omega arith
 
 -- a packed block that stands at its place is the log block there
-pub stands_packed : (place : NewBlock) (block : List ℕ) (records : List Record) → HoldsRecords place block records → (image : List ℕ) (frame : Frame) → frame.guid ≡ place.guid
-    → IsBlockAddress frame.blocks place.header.address → part image place.header.address 4096 ≡ block → IsChainBlock image frame place.header (logged place records)
-stands_packed place block records holds image frame same in_area at = record {
+pub stands_packed : (place : NewBlock) (block : List ℕ) (used : List ℕ) → HoldsUsed place block used → (image : List ℕ) (frame : Frame) → frame.guid ≡ place.guid
+    → IsBlockAddress frame.blocks place.header.address → part image place.header.address 4096 ≡ block → IsBlockAt image frame place.header (logged place used)
+stands_packed place block used holds image frame same in_area at = record {
   address_is = refl;
   in_area = in_area;
   group = place.group.0;
@@ -39,10 +46,49 @@ stands_packed place block records holds image frame same in_area at = record {
   fields = holds.fields;
 }
 
+-- what was packed is held by its block
+pub packed_holds : (place : NewBlock) (records : List Record) (p : Packed) → IsPackedAs place records p → HoldsUsed place (block_of p) (used_of records p)
+packed_holds place records (Whole p) (front, holds) = holds
+packed_holds place records (First f) (r, is, part) = subst (λ (l : List ℕ). HoldsUsed place f.block (take log_block_room l)) (sym part.begun.bytes_are) part.holds
+
 -- the number at a place of a block's payload
 pub number_behind : (bytes payload : List ℕ) (at : ℕ) → drop 64 bytes ≡ payload → number_at bytes (64 + at) ≡ number_at payload at
 unfolding number_at
 number_behind bytes payload at is = ap (λ (l : List ℕ). from_le_bytes w64 (take 8 l)) (sym (drop-drop at 64 bytes) ∙ ap (λ (l : List ℕ). drop at l) is)
+
+-- records that have no more bytes than there is room have no long one
+first_size : (rs more : List Record) (r : Record) → rs ≡ r ∷ more → size_of r ≤ total_size rs
+first_size rs more r is = omega (arith, ap (λ (l : List Record). total_size l) is, sum_by-cons size_of r more)
+
+pub count_is : (place : NewBlock) (rs : List Record) (n : ℕ) (p : Packed) → ((r : Record) (more : List Record) → rs ≡ r ∷ more → size_of r ≤ 4008) → ((count : ℕ) → IsPackedFront rs count → count ≡ n)
+    → IsPackedAs place rs p → IsCount n p
+count_is place rs n (Whole p) short front (is, holds) = front p.count is
+count_is place rs n (First f) short front (r, is, part) = let small = short r (drop 1 rs) is in let long = part.long in omega (arith, small, long)
+
+pub short_of_total : (rs : List Record) → total_size rs ≤ 4008 → (r : Record) (more : List Record) → rs ≡ r ∷ more → size_of r ≤ 4008
+short_of_total rs fits r more is = let first = first_size rs more r is in omega (arith, first, fits)
+
+pub short_of_first : (rs : List Record) → IfSome (slice_get rs 0) (λ r. size_of r ≤ 4008) → (r : Record) (more : List Record) → rs ≡ r ∷ more → size_of r ≤ 4008
+short_of_first rs short r more is = subst (λ (l : List Record). IfSome (slice_get l 0) (λ r. size_of r ≤ 4008)) is short
+
+pub begun_is : (place : NewBlock) (rs : List Record) (p : Packed) → IfSome (slice_get rs 0) (λ r. 4008 < size_of r) → IsPackedAs place rs p → IsBegunFirst p
+begun_is place rs (First f) long (r, is, first) = first.begun.written_is
+begun_is place [] (Whole p) long (is, holds) = none p.count is.packed.some
+  where
+    none : (n : ℕ) → 0 < length {A = Record} (take {A = Record} n []) → ⊥
+    none zero some = omega (arith, some)
+    none (suc n) some = omega (arith, some)
+begun_is place (r ∷ rs) (Whole p) long (is, holds) = by_count p.count is
+  where
+    by_count : (n : ℕ) → IsPackedFront (r ∷ rs) n → ⊥
+    by_count zero front = let some = front.packed.some in omega (arith, some)
+    by_count (suc n) front = let fits = front.packed.fits in omega (arith, fits, long, sum_by-cons size_of r (take n rs))
+
+-- one record that fits is packed
+pub one_packed : (rs : List Record) (count : ℕ) → length rs ≡ 1 → IsPackedFront rs count → count ≡ 1
+one_packed rs zero one is = let some = is.packed.some in absurd (omega (arith, some))
+one_packed rs (suc zero) one is = refl
+one_packed rs (suc (suc n)) one is = let within = is.within in absurd (omega (arith, within, one))
 
 -- all of two records fit if they have no more bytes than there is room
 pub both_packed : (rs : List Record) (count : ℕ) → length rs ≡ 2 → total_size rs ≡ 4008 → IsPackedFront rs count → count ≡ 2
@@ -53,6 +99,16 @@ both_packed (r ∷ s ∷ []) zero two full is = absurd (omega (arith, is.packed.
 both_packed (r ∷ s ∷ []) (suc zero) two full is = absurd (omega (arith, full, is.packed.no_more))
 both_packed (r ∷ s ∷ []) (suc (suc zero)) two full is = refl
 both_packed (r ∷ s ∷ []) (suc (suc (suc n))) two full is = absurd (omega (arith, is.within))
+
+-- and the second one does not if they have more
+pub first_packed : (rs : List Record) (count : ℕ) → length rs ≡ 2 → total_size rs ≡ 4009 → IsPackedFront rs count → count ≡ 1
+first_packed [] count two over is = absurd (omega (arith, two))
+first_packed (r ∷ []) count two over is = absurd (omega (arith, two))
+first_packed (r ∷ s ∷ t ∷ rs) count two over is = absurd (omega (arith, two))
+first_packed (r ∷ s ∷ []) zero two over is = absurd (omega (arith, is.packed.some))
+first_packed (r ∷ s ∷ []) (suc zero) two over is = refl
+first_packed (r ∷ s ∷ []) (suc (suc zero)) two over is = absurd (omega (arith, over, is.packed.fits))
+first_packed (r ∷ s ∷ []) (suc (suc (suc n))) two over is = absurd (omega (arith, is.within))
 
 -- the kept blocks that the end of a sync leaves
 abbrev pub blocks_from : Header → List KeptBlock → List KeptBlock

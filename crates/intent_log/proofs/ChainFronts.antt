@@ -1,4 +1,4 @@
--- A front of a chain, up to the place where its next block has to be, has no more blocks than the area.
+-- A front of a chain, up to the place where its next piece has to be, has no more pieces than the area has blocks.
 use Rattle.std.proofs.Common.{◌≡◌, ℕ, suc, ◌+◌, ◌<◌, ◌≤◌, ◌||◌, Bool, true, false, List, [], ◌∷◌, ◌++◌, length, length-append, refl, sym, ap, subst, ◌∙◌, arith, eqb}
 use Rattle.std.specs.List.{list_any, IsDistinct, AllByRecursion}
 use Rattle.std.proofs.lemmas.Bool.{eqb-true, ne_eqb}
@@ -6,7 +6,8 @@ use Rattle.std.proofs.lemmas.Map.Steps.{length-le_from_distinct_below}
 use Rattle.base.specs.formats.Fields.{number_at, part}
 use Rattle.base.specs.formats.Geometry.{block_address, block_size}
 use Rattle.base.specs.formats.Blocks.{Frame}
-use Rattle.base.specs.formats.Chain.{Header, LogPiece, IsPiece, IsChain, next_header}
+use Rattle.base.specs.formats.Chain.{Header, LogPiece, IsPiece, IsLogBlock, IsChain, addresses_of, next_header}
+use Rattle.base.proofs.formats.Pieces.{piece_block}
 
 module _ (image : List ℕ) (frame : Frame) (chain : ℕ) where
   -- these blocks follow one another from a header up to another
@@ -29,18 +30,29 @@ module _ (image : List ℕ) (frame : Frame) (chain : ℕ) where
   abbrev stamp : ℕ → ℕ
   stamp k = number_at (part image (block_address k) block_size) 24
 
-  -- the indices of the blocks of a front
+  -- the index of the first block of a piece
+  index_of : (header : Header) (b : LogPiece) → IsPiece image frame chain header b → ℕ
+  index_of header b block = (piece_block image frame chain header b block).1.in_area.0
+
+  index_within : (header : Header) (b : LogPiece) (block : IsPiece image frame chain header b) → index_of header b block < frame.blocks
+  unfolding index_of
+  index_within header b block = (piece_block image frame chain header b block).1.in_area.1
+
+  -- the indices of the first blocks of a front's pieces
   indices : (header : Header) (bs : List LogPiece) (end : Header) → IsFront header bs end → List ℕ
   indices header [] end e = []
-  indices header (b ∷ bs) end (first, rest) = first.in_area.0 ∷ indices (next_header header b) bs end rest
+  indices header (b ∷ bs) end (first, rest) = index_of header b first ∷ indices (next_header header b) bs end rest
 
   length-indices : (header : Header) (bs : List LogPiece) (end : Header) (f : IsFront header bs end) → length (indices header bs end f) ≡ length bs
   unfolding indices
   length-indices header [] end e = refl
   length-indices header (b ∷ bs) end (first, rest) = ap suc (length-indices (next_header header b) bs end rest)
 
-  stamp-is : (header : Header) (b : LogPiece) (block : IsPiece image frame chain header b) → stamp block.in_area.0 ≡ header.number
-  stamp-is header b block = subst (λ (a : ℕ). number_at (part image a block_size) 24 ≡ header.number) block.in_area.2 block.sealed.number_is
+  stamp-is : (header : Header) (b : LogPiece) (block : IsPiece image frame chain header b) → stamp (index_of header b block) ≡ header.number
+  unfolding index_of
+  stamp-is header b block =
+      let first : IsLogBlock image frame chain header (piece_block image frame chain header b block).0 = (piece_block image frame chain header b block).1 in
+      subst (λ (a : ℕ). number_at (part image a block_size) 24 ≡ header.number) first.in_area.2 first.sealed.number_is
 
   -- each is in the area, and has a number from the header's on
   record IsOf (header : Header) (k : ℕ) : Type 0 where
@@ -55,9 +67,9 @@ module _ (image : List ℕ) (frame : Frame) (chain : ℕ) where
   unfolding indices
   each_is_of header [] end e k h = absurd (let no : false ≡ true = h in cc)
   each_is_of header (b ∷ bs) end (first, rest) k h =
-      either (eqb k first.in_area.0) (list_any (eqb k) (indices (next_header header b) bs end rest)) h
-      (λ same. let e : k ≡ first.in_area.0 = eqb-true k first.in_area.0 same in
-      subst (λ (n : ℕ). IsOf header n) (sym e) (record { within = first.in_area.1; from = omega (arith, stamp-is header b first) }))
+      either (eqb k (index_of header b first)) (list_any (eqb k) (indices (next_header header b) bs end rest)) h
+      (λ same. let e : k ≡ index_of header b first = eqb-true k (index_of header b first) same in
+      subst (λ (n : ℕ). IsOf header n) (sym e) (record { within = index_within header b first; from = omega (arith, stamp-is header b first) }))
       (λ behind. let r = each_is_of (next_header header b) bs end rest k behind in record { within = r.within; from = omega (arith, r.from) })
 
   -- the block of a lower number is none of them
@@ -65,7 +77,7 @@ module _ (image : List ℕ) (frame : Frame) (chain : ℕ) where
   unfolding indices
   apart k header [] end e lower = tt
   apart k header (b ∷ bs) end (first, rest) lower = (
-    ne_eqb k first.in_area.0 (λ same. let at : stamp k ≡ header.number = ap stamp same ∙ stamp-is header b first in omega (arith, at, lower)),
+    ne_eqb k (index_of header b first) (λ same. let at : stamp k ≡ header.number = ap stamp same ∙ stamp-is header b first in omega (arith, at, lower)),
     apart k (next_header header b) bs end rest (omega (arith, lower)),
   )
 
@@ -73,16 +85,16 @@ module _ (image : List ℕ) (frame : Frame) (chain : ℕ) where
   unfolding IsDistinct indices
   are_distinct header [] end e = tt
   are_distinct header (b ∷ bs) end (first, rest) =
-      (apart first.in_area.0 (next_header header b) bs end rest (omega (arith, stamp-is header b first)), are_distinct (next_header header b) bs end rest)
+      (apart (index_of header b first) (next_header header b) bs end rest (omega (arith, stamp-is header b first)), are_distinct (next_header header b) bs end rest)
 
   -- so a front has no more blocks than the area
   pub front-short : (header : Header) (bs : List LogPiece) (end : Header) → IsFront header bs end → length bs ≤ frame.blocks
   front-short header bs end f = rw (← length-indices header bs end f)
       (length-le_from_distinct_below (indices header bs end f) frame.blocks (are_distinct header bs end f) (λ k h. (each_is_of header bs end f k h).within))
 
-  -- one block more
+  -- one piece more
   pub front_push : (header : Header) (bs new : List LogPiece) (end after : Header) (b : LogPiece) → IsFront header bs end → IsPiece image frame chain end b → new ≡ bs ++ b ∷ []
-      → after.address ≡ b.next → after.number ≡ end.number + 1 → IsFront header new after
+      → after.address ≡ b.next → after.number ≡ end.number + length (addresses_of b) → IsFront header new after
   front_push header bs new end after b f block whole at number =
       let next : next_header end b ≡ after = λ i. record { address = sym at i; number = sym number i } in
       subst (λ (h : Header). IsFront header new h) next (subst (λ (l : List LogPiece). IsFront header l (next_header end b)) (sym whole) (front_more header bs end b f block))

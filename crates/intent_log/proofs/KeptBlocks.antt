@@ -1,6 +1,6 @@
 -- Kept blocks, as contracts see them, after a write, after a flush, and after the first one was given back.
-use Rattle.std.proofs.Common.{◌≡◌, ℕ, zero, suc, ◌+◌, ◌-◌, ◌^◌, ◌<◌, ◌≤◌, ◌||◌, ◌&&◌, Bool, true, false, cond, List, [], ◌∷◌, ◌++◌, length, length-append, length-drop, take, drop, map, refl, sym, ap, subst, ◌∙◌, arith}
-use Rattle.std.specs.Prelude.{not, nat_lt, Option, Some, option_map, unwrap_or, find, slice_get, slice_index_or}
+use Rattle.std.proofs.Common.{◌≡◌, ℕ, zero, suc, ◌+◌, ◌-◌, ◌<◌, ◌≤◌, ◌||◌, ◌&&◌, Bool, true, false, cond, List, [], ◌∷◌, ◌++◌, length, length-append, length-drop, take, drop, map, refl, sym, ap, subst, ◌∙◌, arith}
+use Rattle.std.specs.Prelude.{not, nat_lt, Option, Some, None, option_map, unwrap_or, find, slice_get, slice_index_or}
 use Rattle.std.specs.List.{list_any}
 use Rattle.std.proofs.lemmas.Bool.{le-ltb}
 use Rattle.std.proofs.lemmas.Bool.Decides.{nat_tests}
@@ -8,16 +8,16 @@ use Rattle.std.proofs.lemmas.List.{append-nil, take_all, drop_all, take-append-d
 use Rattle.std.proofs.lemmas.List.Folds.{list_any-append}
 use Rattle.base.specs.declared.names.Receipt.{Receipt}
 use Rattle.base.specs.formats.Chain.{Header}
-use Rattle.base.specs.steps.Logs.{Committed, KeptBlock, Log, awaits_flush, blocks_before, has_record, header_at, header_for, is_flushed_in, is_same, log_after_flush, reaches_above}
-use Rattle.base.proofs.steps.KeptSyncs.{header_first}
-use Rattle.intent_log.specs.Kept.{IsFrontGiven, LeadUpTo, header_fields, shown_block, shown_blocks}
-use Rattle.intent_log.specs.Receipts.{committed, is_in_later_group, is_same_receipt}
+use Rattle.base.specs.steps.Logs.{Begun, Committed, KeptBlock, Log, awaits_flush, begins_unfinished, begun_committed, blocks_before, has_record, header_at, header_for, is_flushed_in, is_needed, is_same, log_after_flush, committed_of}
+use Rattle.intent_log.specs.Kept.{IsFrontGiven, LeadUpTo, begins_begun, begun_shown, header_fields, is_block_needed, receipt_begun, shown_block, shown_blocks}
+use Rattle.intent_log.specs.Receipts.{begins_of, committed, ends_of, is_in_later_group, is_same_receipt}
+use Rattle.intent_log.specs.declared.begun.BegunRecord.{BegunRecord}
 use Rattle.intent_log.specs.declared.kept_block.LogHeader.{LogHeader}
 use Rattle.intent_log.specs.declared.kept_block.KeptBlock as code
 
 -- a log of so many flushed blocks from the front, and of which nothing is pending
-abbrev pub log_with : ℕ → List code.KeptBlock → Header → Log
-log_with f bs next = record { unsynced = []; pending = []; kept = shown_blocks f bs; next = next }
+abbrev pub log_with : ℕ → List code.KeptBlock → Option Begun → Header → Log
+log_with f bs begun next = record { unsynced = []; begun = begun; pending = []; kept = shown_blocks f bs; next = next }
 
 abbrev flush : KeptBlock → KeptBlock
 flush b = record b { flushed = true }
@@ -40,9 +40,9 @@ all_flushed f bs =
     sym (map-append (shown_block true) (take f bs) (drop f bs)) ∙ ap (λ (l : List code.KeptBlock). map (shown_block true) l) (take-append-drop f bs) in
     all ∙ sym (split ∙ whole)
 
-pub flushed_log : (f n : ℕ) (bs : List code.KeptBlock) (next : Header) → n ≡ length bs
-    → log_with n bs next ≡ log_after_flush (log_with f bs next)
-flushed_log f n bs next all = λ i. record { unsynced = []; pending = []; kept = (ap (λ (k : ℕ). shown_blocks k bs) all ∙ all_flushed f bs) i; next = next }
+pub flushed_log : (f n : ℕ) (bs : List code.KeptBlock) (begun : Option Begun) (next : Header) → n ≡ length bs
+    → log_with n bs begun next ≡ log_after_flush (log_with f bs begun next)
+flushed_log f n bs begun next all = λ i. record { unsynced = []; begun = begun; pending = []; kept = (ap (λ (k : ℕ). shown_blocks k bs) all ∙ all_flushed f bs) i; next = next }
 
 positive : (n : ℕ) → nat_lt 0 (suc n) ≡ true
 positive n = grind (arith, nat_tests)
@@ -59,8 +59,8 @@ before : (f n : ℕ) → nat_lt 0 (n - f) ≡ nat_lt f n
 before f n = grind (arith, nat_tests)
 
 -- some await a flush if not all are certain
-pub some_await : (f n : ℕ) (bs : List code.KeptBlock) (next : Header) → n ≡ length bs → nat_lt f n ≡ awaits_flush (log_with f bs next)
-some_await f n bs next all =
+pub some_await : (f n : ℕ) (bs : List code.KeptBlock) (begun : Option Begun) (next : Header) → n ≡ length bs → nat_lt f n ≡ awaits_flush (log_with f bs begun next)
+some_await f n bs begun next all =
     ap (nat_lt f) all
     ∙ sym (list_any-append (λ (b : KeptBlock). not b.flushed) (map (shown_block true) (take f bs)) (map (shown_block false) (drop f bs))
     ∙ (λ i. none_awaits (take f bs) i || all_await (drop f bs) i)
@@ -107,11 +107,22 @@ any_above : (group : ℕ) (rs : List Receipt) → list_any (λ (r : Committed). 
 any_above group [] = refl
 any_above group (r ∷ rs) = ap (λ (x : Bool). nat_lt group r.group.0 || x) (any_above group rs)
 
-abbrev pub is_top_above : ℕ → code.KeptBlock → Bool
-is_top_above group b = nat_lt group b.highest.0
+any_same : (r : Receipt) (rs : List Receipt) → list_any (is_same (committed r)) (map committed rs) ≡ list_any (is_same_receipt r) rs
+any_same r [] = refl
+any_same r (s ∷ rs) = ap (λ (x : Bool). is_same_receipt r s || x) (any_same r rs)
 
-top_is : (group : ℕ) (flag : Bool) (b : code.KeptBlock) → reaches_above group (shown_block flag b) ≡ is_top_above group b
-top_is group flag b = any_above group b.receipts.items ∙ b.highest_is group
+-- the record that is begun is the one that its receipt names
+pub begun_named : (g : BegunRecord) → committed_of (begun_shown g).logged ≡ committed g.receipt
+begun_named g = λ i. record { ordinal = sym g.ordinal_is i; group = sym g.group_is i }
+
+-- and it begins in a block if the block's receipts say so
+begins_is : (begun : Option BegunRecord) (flag : Bool) (b : code.KeptBlock) → begins_unfinished (begun_committed (option_map begun_shown begun)) (shown_block flag b) ≡ begins_begun (receipt_begun begun) b
+begins_is None flag b = refl
+begins_is (Some g) flag b = ap (λ (c : Committed). list_any (is_same c) (map committed (begins_of b.holds))) (begun_named g) ∙ any_same g.receipt (begins_of b.holds)
+
+needed_is : (group : ℕ) (begun : Option BegunRecord) (flag : Bool) (b : code.KeptBlock)
+    → is_needed group (begun_committed (option_map begun_shown begun)) (shown_block flag b) ≡ is_block_needed group (receipt_begun begun) b
+needed_is group begun flag b = λ i. (any_above group (begins_of b.holds) ∙ b.highest_is group) i || begins_is begun flag b i
 
 both : (x y : Bool) (a : KeptBlock) (b : code.KeptBlock) (o : Option KeptBlock) (p : Option code.KeptBlock) → x ≡ y → header_at a ≡ header_fields b.header
     → option_map header_at o ≡ option_map (λ (k : code.KeptBlock). header_fields k.header) p
@@ -121,37 +132,52 @@ both true false a b o p same here rest = absurd cc
 both false true a b o p same here rest = absurd cc
 both false false a b o p same here rest = rest
 
--- so the first block that reaches above a group is found by the highest groups
-found_in : (group f : ℕ) (bs : List code.KeptBlock)
-    → option_map header_at (find (reaches_above group) (shown_blocks f bs)) ≡ option_map (λ (b : code.KeptBlock). header_fields b.header) (find (is_top_above group) bs)
-found_in group zero [] = refl
-found_in group (suc f) [] = refl
-found_in group zero (b ∷ bs) =
-    both (reaches_above group (shown_block false b)) (is_top_above group b) (shown_block false b) b (find (reaches_above group) (shown_blocks zero bs)) (find (is_top_above group) bs)
-    (top_is group false b) refl (found_in group zero bs)
-found_in group (suc f) (b ∷ bs) =
-    both (reaches_above group (shown_block true b)) (is_top_above group b) (shown_block true b) b (find (reaches_above group) (shown_blocks f bs)) (find (is_top_above group) bs)
-    (top_is group true b) refl (found_in group f bs)
+-- so the first block that a sync has to keep is found by these
+module _ (group : ℕ) (begun : Option BegunRecord) where
+  abbrev needs : KeptBlock → Bool
+  needs b = is_needed group (begun_committed (option_map begun_shown begun)) b
 
-pub header_found : (group f : ℕ) (bs : List code.KeptBlock) (next : Header) (found : Option code.KeptBlock) → found ≡ find (is_top_above group) bs
-    → unwrap_or (option_map (λ (b : code.KeptBlock). header_fields b.header) found) next ≡ header_for group (log_with f bs next)
-header_found group f bs next found is =
-    ap (λ (o : Option Header). unwrap_or o next) (ap (λ (o : Option code.KeptBlock). option_map (λ (b : code.KeptBlock). header_fields b.header) o) is ∙ sym (found_in group f bs))
+  abbrev pub needs_block : code.KeptBlock → Bool
+  needs_block b = is_block_needed group (receipt_begun begun) b
 
--- a record lies in a flushed block if one of the front has its receipt
-any_same : (r : Receipt) (rs : List Receipt) → list_any (is_same (committed r)) (map committed rs) ≡ list_any (is_same_receipt r) rs
-any_same r [] = refl
-any_same r (s ∷ rs) = ap (λ (x : Bool). is_same_receipt r s || x) (any_same r rs)
+  found_in : (f : ℕ) (bs : List code.KeptBlock)
+      → option_map header_at (find needs (shown_blocks f bs)) ≡ option_map (λ (b : code.KeptBlock). header_fields b.header) (find needs_block bs)
+  found_in zero [] = refl
+  found_in (suc f) [] = refl
+  found_in zero (b ∷ bs) =
+      both (needs (shown_block false b)) (needs_block b) (shown_block false b) b (find needs (shown_blocks zero bs)) (find needs_block bs)
+      (needed_is group begun false b) refl (found_in zero bs)
+  found_in (suc f) (b ∷ bs) =
+      both (needs (shown_block true b)) (needs_block b) (shown_block true b) b (find needs (shown_blocks f bs)) (find needs_block bs)
+      (needed_is group begun true b) refl (found_in f bs)
 
+  pub header_found : (f : ℕ) (bs : List code.KeptBlock) (next : Header) (found : Option code.KeptBlock) → found ≡ find needs_block bs
+      → unwrap_or (option_map (λ (b : code.KeptBlock). header_fields b.header) found) next ≡ header_for group (log_with f bs (option_map begun_shown begun) next)
+  header_found f bs next found is =
+      ap (λ (o : Option Header). unwrap_or o next) (ap (λ (o : Option code.KeptBlock). option_map (λ (b : code.KeptBlock). header_fields b.header) o) is ∙ sym (found_in f bs))
+
+-- a block that is found has no number past the next one
+pub found_low : (test : code.KeptBlock → Bool) (n : ℕ) (bs : List code.KeptBlock) (b : code.KeptBlock) → LeadUpTo n bs → Some b ≡ find test bs → b.header.number ≤ n
+found_low test n [] b lead is = absurd cc
+found_low test n (c ∷ cs) b (here, rest) is = by_test (λ later. found_low test n cs b rest later) (test c) refl
+  where
+    by_test : (Some b ≡ find test cs → b.header.number ≤ n) → (x : Bool) → test c ≡ x → b.header.number ≤ n
+    by_test behind true passes =
+        let same : Some b ≡ Some c = is ∙ ap (λ (y : Bool). cond y (Some c) (find test cs)) passes in
+        let one : b.header.number ≡ c.header.number = ap (λ (o : Option code.KeptBlock). (unwrap_or o b).header.number) same in
+        omega (arith, one, here)
+    by_test behind false fails = behind (is ∙ ap (λ (y : Bool). cond y (Some c) (find test cs)) fails)
+
+-- a record ends in a flushed block if one of the front has its receipt
 abbrev pub has_receipt : Receipt → code.KeptBlock → Bool
-has_receipt r b = list_any (is_same_receipt r) b.receipts.items
+has_receipt r b = list_any (is_same_receipt r) (ends_of b.holds)
 
 abbrev is_in_flushed : Receipt → KeptBlock → Bool
 is_in_flushed r b = b.flushed && has_record b (committed r)
 
 any_flushed : (r : Receipt) (bs : List code.KeptBlock) → list_any (is_in_flushed r) (map (shown_block true) bs) ≡ list_any (has_receipt r) bs
 any_flushed r [] = refl
-any_flushed r (b ∷ bs) = λ i. any_same r b.receipts.items i || any_flushed r bs i
+any_flushed r (b ∷ bs) = λ i. any_same r (ends_of b.holds) i || any_flushed r bs i
 
 none_flushed : (r : Receipt) (bs : List code.KeptBlock) → list_any (is_in_flushed r) (map (shown_block false) bs) ≡ false
 none_flushed r [] = refl
@@ -161,9 +187,9 @@ or_false : (x : Bool) → (x || false) ≡ x
 or_false true = refl
 or_false false = refl
 
-pub flushed_has : (r : Receipt) (f : ℕ) (bs : List code.KeptBlock) (next : Header)
-    → list_any (has_receipt r) (take f bs) ≡ is_flushed_in (log_with f bs next) (committed r)
-flushed_has r f bs next =
+pub flushed_has : (r : Receipt) (f : ℕ) (bs : List code.KeptBlock) (begun : Option Begun) (next : Header)
+    → list_any (has_receipt r) (take f bs) ≡ is_flushed_in (log_with f bs begun next) (committed r)
+flushed_has r f bs begun next =
     sym (list_any-append (is_in_flushed r) (map (shown_block true) (take f bs)) (map (shown_block false) (drop f bs))
     ∙ (λ i. any_flushed r (take f bs) i || none_flushed r (drop f bs) i) ∙ or_false (list_any (has_receipt r) (take f bs)))
 
@@ -192,10 +218,3 @@ numbered_at n (suc f) (c ∷ cs) (here, rest) (suc i) b is = omega (arith, numbe
 pub lead_on : (n : ℕ) (bs : List code.KeptBlock) (b : code.KeptBlock) → LeadUpTo n bs → b.header.number ≡ n → LeadUpTo (n + 1) (bs ++ b ∷ [])
 lead_on n [] b lead is = (omega (arith, is), tt)
 lead_on n (c ∷ cs) b (here, rest) is = (omega (arith, here, length-append cs (b ∷ [])), lead_on n cs b rest is)
-
--- a header of the log has no number past the last one
-pub header_fits : (group f : ℕ) (bs : List code.KeptBlock) (next header : Header) → LeadUpTo next.number bs → next.number ≤ 2 ^ 60 → header ≡ header_for group (log_with f bs next) → header.number ≤ 2 ^ 60
-header_fits group f bs next header lead fits is =
-    let first = (header_first group (log_with f bs next) (numbered_at next.number f bs lead)).0 in
-    let same = ap (λ (h : Header). h.number) is in
-    omega (arith, first, same, fits)

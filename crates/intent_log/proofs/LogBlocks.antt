@@ -2,17 +2,17 @@
 use Rattle.std.proofs.Common.{◌≡◌, ℕ, List, sym, subst, ◌∙◌}
 use Rattle.std.specs.Prelude.{Result, Ok, Err, Option, Some, None, IfOk, IfSome}
 use Rattle.base.specs.formats.Blocks.{Frame, IsBlock}
-use Rattle.base.specs.formats.Chain.{LogPiece, IsLogPayload}
+use Rattle.base.specs.formats.Chain.{LogBlock, IsLogPayload}
 use Rattle.base.specs.formats.Fields.{part}
 use Rattle.base.specs.formats.Geometry.{IsBlockAddress}
 use Rattle.checked_blocks.specs.declared.expected.Expected.{Expected}
 use Rattle.checked_blocks.specs.Opening.{IsExpected}
-use Rattle.intent_log.specs.Chains.{HasNoBlock, IsChainBlock, IsLogExpected}
+use Rattle.intent_log.specs.Chains.{HasNoBlock, IsBlockAt, IsLogExpected}
 use Rattle.intent_log.specs.declared.chains.ChainHeader.{ChainHeader}
 
-pub is_block_of : (image : List ℕ) (frame : Frame) (h : ChainHeader) (e : Expected) (bytes payload : List ℕ) (group : ℕ) (block : LogPiece) → IsLogExpected frame h e
+pub is_block_of : (image : List ℕ) (frame : Frame) (h : ChainHeader) (e : Expected) (bytes payload : List ℕ) (group : ℕ) (block : LogBlock) → IsLogExpected frame h e
     → IsBlockAddress frame.blocks h.address → bytes ≡ part image h.address 4096 → IsBlock bytes e.kind e.guid group e.number payload
-    → IsLogPayload payload h.import_number block → block.address ≡ h.address → IsChainBlock image frame h block
+    → IsLogPayload payload h.import_number block → block.address ≡ h.address → IsBlockAt image frame h block
 is_block_of image frame h e bytes payload group block named place at is fields address = record {
   address_is = address;
   in_area = place;

@@ -1,11 +1,12 @@
 -- How high the ordinals of kept blocks go, and which blocks a search for a receipt may pass over.
-use Rattle.std.proofs.Common.{◌≡◌, ℕ, zero, suc, ◌+◌, ◌-◌, ◌<◌, ◌≤◌, ◌||◌, inl, inr, Bool, false, List, [], ◌∷◌, ◌++◌, true, length, length-append, length-take, take, take-add, take-take, drop, get_or, get_or-take, ltb, ltb-true, refl, sym, ap, subst, ◌∙◌, arith}
+use Rattle.std.proofs.Common.{◌≡◌, ℕ, zero, suc, ◌+◌, ◌-◌, ◌<◌, ◌≤◌, ◌||◌, inl, inr, Bool, false, List, [], ◌∷◌, ◌++◌, true, length, length-append, length-take, take, take-add, drop, get_or, get_or-take, ltb, ltb-true, refl, sym, ap, subst, ◌∙◌, arith}
 use Rattle.std.specs.List.{list_any, slice_range}
 use Rattle.std.proofs.lemmas.Bool.{cases_lt}
 use Rattle.std.proofs.lemmas.List.{get_or_append_left, get_or_default, get_or_push}
 use Rattle.std.proofs.lemmas.List.Folds.{list_any-append, list_any_more, list_any_none}
 use Rattle.base.specs.declared.names.Receipt.{Receipt}
 use Rattle.intent_log.specs.Kept.{AreRising, ReachBelow, ReachUpTo}
+use Rattle.intent_log.specs.Receipts.{ends_of}
 use Rattle.intent_log.specs.declared.kept_block.KeptBlock as code
 use Rattle.intent_log.proofs.KeptBlocks.{has_receipt}
 use Rattle.intent_log.proofs.Receipts.{none_outside}
@@ -22,7 +23,7 @@ none_below : (r : Receipt) (bs : List code.KeptBlock) → ReachBelow r.ordinal.0
 none_below r bs below = list_any_none (has_receipt r) bs (λ k d within. other (get_or bs k d) (below k d within))
   where
     other : (b : code.KeptBlock) → b.last.0 < r.ordinal.0 → has_receipt r b ≡ false
-    other b less = none_outside r b.first.0 b.last.0 b.receipts.items b.between (λ low high. omega (arith, high, less))
+    other b less = none_outside r b.first.0 b.last.0 (ends_of b.holds) b.between (λ low high. omega (arith, high, less))
 
 -- so a search for it may begin after them
 pub found_from : (r : Receipt) (first flushed : ℕ) (bs : List code.KeptBlock) → first ≤ flushed → ReachBelow r.ordinal.0 (take first bs)

@@ -1,7 +1,9 @@
 -- Receipts, as the kept blocks of a log note them.
-use Rattle.std.specs.Prelude.{ℕ, ◌≤◌, ◌==◌, ◌&&◌, Bool, nat_lt}
+use Rattle.std.specs.Prelude.{ℕ, ◌≤◌, ◌==◌, ◌&&◌, Bool, List, [], ◌∷◌, nat_lt}
 use Rattle.base.specs.declared.names.Receipt.{Receipt}
 use Rattle.base.specs.steps.Logs.{Committed}
+use Rattle.intent_log.specs.declared.kept_block.Holds.{Holds}
+use Rattle.intent_log.specs.declared.kept_block.Holds.TheVariants.{Whole, First, Part, Last}
 
 -- the transaction that a receipt names
 abbrev pub committed : Receipt → Committed
@@ -18,3 +20,16 @@ is_same_receipt a b = (a.ordinal.0 == b.ordinal.0) && (a.group.0 == b.group.0)
 -- the ordinal of a receipt is one from the first of these to the last
 abbrev pub LiesWithin : ℕ → ℕ → Receipt → Type 0
 LiesWithin first last r = (first ≤ r.ordinal.0) × (r.ordinal.0 ≤ last)
+
+-- the receipts of the records that begin in a block that has these, and of those that end in it
+abbrev pub begins_of : Holds → List Receipt
+begins_of (Whole receipts) = receipts.items
+begins_of (First receipt) = receipt ∷ []
+begins_of Part = []
+begins_of (Last receipt) = []
+
+abbrev pub ends_of : Holds → List Receipt
+ends_of (Whole receipts) = receipts.items
+ends_of (First receipt) = []
+ends_of Part = []
+ends_of (Last receipt) = receipt ∷ []

@@ -1,32 +1,35 @@
 //! The chain of log blocks from a header on: what an import replays.
 //!
-//! A block is of the chain if all of this is true of it:
+//! It is made of pieces. A piece is one block of whole records, or the blocks of one record that is longer than a block;
+//! version 1 has no such record. A block is of the chain if all of this is true of it:
 //! 1. It lies in the block area, and opens as a log block of this pool.
 //! 2. Its number follows that of the block before it.
 //! 3. It names the chain of its run, which is the run's import number.
-//! 4. It holds whole records, one at least, and then zeros.
+//! 4. Its used bytes are whole records, one at least, or the next part of a long record. After them it has zeros.
 //!
-//! The first block that isn't so ends the chain. Whatever the device holds, a chain has no more blocks than the area:
-//! each has a number of its own, and so an address of its own.
+//! The first block that isn't so ends the chain. A long record that isn't whole ends it before its first block. Whatever
+//! the device holds, a chain has no more pieces than the area has blocks: each block has a number of its own, and so an
+//! address of its own.
 
-ghost use Rattle.std.specs.Prelude.{◌≡◌, ◌≤◌, ◌<◌, ◌^◌, All, IfErr, IfOk, IfSome, IfNone, IsTrue, length, map};
+ghost use Rattle.std.specs.Prelude.{◌≡◌, ◌≤◌, ◌<◌, ◌^◌, All, IfErr, IfOk, IfSome, IfNone, IsTrue, length, map, take};
 ghost use Rattle.base.specs.disk.Disk.{bytes_of};
 ghost use Rattle.base.specs.formats.Geometry.{block_address};
-ghost use Rattle.base.specs.formats.Chain.{IsLogPayload};
 ghost use Rattle.device_model.specs.Reading.{OnlyReads};
 ghost use Rattle.transactions.specs.Records.{record_fields};
-ghost use Rattle.intent_log.specs.Chains.{HasNoBlock, HasNoPayload, IsChainBlock, IsChainFrom, IsChainRefusal, IsLogExpected, IsSoundBlock};
+ghost use Rattle.intent_log.specs.Chains.{HasNoLong, HasNoPieceAt, HasNoRecords, IsBlockAt, IsChainFrom, IsChainRefusal, IsLongAt, IsPieceAt, IsShortOf, IsSoundBlock, IsSoundPiece, MayBegin};
 
-use crate::packing::{LOG_BLOCK_ROOM, RECORDS_AT};
-use crate::records::read_records;
-use base::{PoolError, are_zeros, read_u64};
-use checked_blocks::{Expected, Frame, Kind, open};
+use crate::log_blocks::{LogBlock, read_block};
+use crate::parts::{Parts, gather, long_size};
+use crate::records::{read_record, read_records};
+use base::{PoolError, Version};
+use checked_blocks::Frame;
 use device_model::SectorDevice;
 use std::alloc::Global;
 use std::marker::Model;
 use transactions::Record;
 
-/// The first block of a chain: where it lies, its log number, and the import number of the chain's run.
+/// The first block of a chain: where it lies, its log number, the import number of the chain's run, and the version by
+/// whose rules it is read.
 #[derive(Clone, Copy, Debug, PartialEq, Eq)]
 pub struct ChainHeader {
     /// The block's address in bytes. That of no block begins the empty chain.
@@ -35,40 +38,51 @@ pub struct ChainHeader {
     pub number: u64,
     /// The import number of the run that wrote the chain.
     pub import_number: u64,
+    /// The version of the uberblock that names the chain.
+    pub version: Version,
 }
 
-/// A block of a chain: where it lies, where the next one does, and its records. Contracts see it as these three: a
-/// piece of the chain, which in this version is one block.
+/// A piece of a chain: where it begins, where its other blocks lie, where the next piece begins, and its records.
+/// Contracts see it as these four.
 #[derive(Debug, Drop)]
-pub struct LoggedBlock {
+pub struct LoggedPiece {
     address: u64,
+    behind: Vec<u64>,
     next: u64,
     records: Vec<Record>,
 }
 
-impl Model for LoggedBlock {
+impl Model for LoggedPiece {
     ghost use Rattle.std.specs.Prelude.{map};
     ghost use Rattle.base.specs.formats.Chain.{LogPiece};
     ghost use Rattle.transactions.specs.Records.{record_fields};
 
     ghost Value = { LogPiece };
 
-    ghost view = { λ b. record {
-      address = b.address;
-      next = b.next;
-      records = map record_fields b.records.items;
+    ghost view = { λ p. record {
+      address = p.address;
+      behind = p.behind.items;
+      next = p.next;
+      records = map record_fields p.records.items;
     } };
 }
 
-impl LoggedBlock {
+impl LoggedPiece {
     ghost use Rattle.std.specs.Prelude.{◌≡◌, map};
     ghost use Rattle.transactions.specs.Records.{record_fields};
 
-    /// The address of the block in bytes.
+    /// The address of its first block in bytes.
     pub fn address(&self) -> u64
         ensures { result ≡ self.now.address }
     {
         self.address
+    }
+
+    /// The addresses of its other blocks in bytes, in order.
+    pub fn behind(&self) -> &[u64]
+        ensures { result.now ≡ self.now.behind }
+    {
+        self.behind.as_slice()
     }
 
     /// Its records, in order.
@@ -86,110 +100,128 @@ impl LoggedBlock {
     }
 }
 
-/// Reads the longest chain from a header on. It reads each block once, and the one at which the chain ends.
+/// Reads the longest chain from a header on. It reads each block once, and the one at which the chain ends. If that
+/// one begins a long record, it reads the record's parts, too, up to the one that is missing.
 ///
 /// # Errors
-/// `Read` if the device refuses a read, `NoMemory` if there is no memory for a block's records.
+/// `Read` if the device refuses a read, `NoMemory` if there is no memory for a block's bytes or records.
 pub fn chain<D: SectorDevice>(
     alloc: Global,
     device: &mut D,
     frame: &Frame,
     header: &ChainHeader,
-) -> Result<Vec<LoggedBlock>, PoolError>
+) -> Result<Vec<LoggedPiece>, PoolError>
     requires fits { block_address frame.now.blocks ≤ D.size device.old }
+    requires area { frame.now.blocks ≤ 2 ^ 52 }
     requires number { header.now.number ≤ 2 ^ 60 }
     ensures reads { OnlyReads D.SectorDevice result device.old device.new }
     ensures cause { IfErr result IsChainRefusal }
     ensures chain { IsTrue D.keeps_model → IfOk result
-        (λ blocks. IsChainFrom (bytes_of (D.disk device.old).now) frame.now header.now
-        blocks.items) }
-    ensures sound { IfOk result (λ blocks. All (IsSoundBlock frame.now.blocks) blocks.items) }
+        (λ pieces. IsChainFrom (bytes_of (D.disk device.old).now) frame.now header.now
+        pieces.items) }
+    ensures sound { IfOk result (λ pieces. All (IsSoundPiece frame.now.blocks) pieces.items) }
 {
-    let mut blocks = Vec::new(alloc);
+    let mut pieces = Vec::new(alloc);
     let mut next = *header;
     for _ in 0..frame.blocks() {
-        let Some(block) = read_block(alloc, device, frame, &next)? else {
-            return Ok(blocks);
+        let Some(piece) = read_piece(alloc, device, frame, &next)? else {
+            return Ok(pieces);
         };
-        next.address = block.next;
-        next.number += 1;
-        blocks.push(block)?;
+        next.address = piece.next;
+        next.number += 1 + piece.behind.len() as u64;
+        pieces.push(piece)?;
     }
-    Ok(blocks)
+    Ok(pieces)
 }
 
-// The log block that a header names. `None` if there is none.
-fn read_block<D: SectorDevice>(
+// The piece that a header names. `None` if there is none.
+fn read_piece<D: SectorDevice>(
     alloc: Global,
     device: &mut D,
     frame: &Frame,
     header: &ChainHeader,
-) -> Result<Option<LoggedBlock>, PoolError>
+) -> Result<Option<LoggedPiece>, PoolError>
     requires fits { block_address frame.now.blocks ≤ D.size device.old }
+    requires number { header.now.number ≤ 2 ^ 62 }
     ensures reads { OnlyReads D.SectorDevice result device.old device.new }
     ensures cause { IfErr result IsChainRefusal }
     ensures read { IsTrue D.keeps_model → IfOk result (λ found. IfSome found
-        (IsChainBlock (bytes_of (D.disk device.old).now) frame.now header.now)) }
+        (IsPieceAt (bytes_of (D.disk device.old).now) frame.now header.now)) }
     ensures none { IsTrue D.keeps_model → IfOk result (λ found. IfNone found
-        (HasNoBlock (bytes_of (D.disk device.old).now) frame.now header.now)) }
-    ensures address { IfOk result (λ found. IfSome found
-        (λ block. block.address ≡ header.now.address)) }
-    ensures sound { IfOk result (λ found. IfSome found (IsSoundBlock frame.now.blocks)) }
+        (HasNoPieceAt (bytes_of (D.disk device.old).now) frame.now header.now)) }
+    ensures sound { IfOk result (λ found. IfSome found (IsSoundPiece frame.now.blocks)) }
 {
-    if !frame.is_block_address(header.address) {
-        return Ok(None);
-    }
-    let mut buffer = [0; 4096];
-    device.read(header.address, &mut buffer[..])?;
-    let Ok(payload) = open(&buffer, &expected(frame, header)) else {
+    let Some(block) = read_block(alloc, device, frame, header)? else {
         return Ok(None);
     };
-    read_payload(alloc, header, payload.as_slice())
+    let Some(size) = long_size(header.version, block.used.as_slice()) else {
+        return read_short(alloc, block);
+    };
+    read_parts(alloc, device, frame, header, block, size)
 }
 
-// What the block that a header names has to be. The group in which it was packed is any.
-fn expected(frame: &Frame, header: &ChainHeader) -> Expected
-    ensures { IsLogExpected frame.now header.now result }
-{
-    Expected {
-        address: header.address,
-        kind: Kind::Log as u64,
-        guid: frame.guid(),
-        number: header.number,
-        group: None,
-        check: None,
-    }
-}
-
-// The log block with this payload. `None` if it is none of the header's chain.
-fn read_payload(
-    alloc: Global,
-    header: &ChainHeader,
-    payload: &[u8],
-) -> Result<Option<LoggedBlock>, PoolError>
-    requires { length payload.now ≡ 4032 }
-    ensures read { IfOk result (λ found. IfSome found
-        (IsLogPayload payload.now header.now.import_number)) }
-    ensures none { IfOk result (λ found. IfNone found
-        (HasNoPayload payload.now header.now.import_number)) }
-    ensures address { IfOk result (λ found. IfSome found
-        (λ block. block.address ≡ header.now.address)) }
+// The piece of one block of whole records. `None` if its bytes aren't that.
+fn read_short(alloc: Global, block: LogBlock) -> Result<Option<LoggedPiece>, PoolError>
+    ensures read { IfOk result (λ found. IfSome found (IsShortOf block)) }
+    ensures none { IfOk result (λ found. IfNone found (HasNoRecords block.used)) }
     ensures refused { IfErr result (λ e. e ≡ PoolError.NoMemory) }
 {
-    let used = read_u64(payload, 16);
-    if read_u64(payload, 0) != header.import_number || used > LOG_BLOCK_ROOM as u64 {
-        return Ok(None);
-    }
-    let end = RECORDS_AT + used as usize;
-    if !are_zeros(&payload[end..]) {
-        return Ok(None);
-    }
-    let Some(records) = read_records(alloc, &payload[RECORDS_AT..end])? else {
+    let Some(records) = read_records(alloc, block.used.as_slice())? else {
         return Ok(None);
     };
-    Ok(Some(LoggedBlock {
+    Ok(Some(LoggedPiece {
+        address: block.address,
+        behind: Vec::new(alloc),
+        next: block.next,
+        records,
+    }))
+}
+
+// The piece of one long record, whose first block was read and says that it has so many bytes. `None` if a part of it
+// is missing or has another length, or if its bytes are no record.
+fn read_parts<D: SectorDevice>(
+    alloc: Global,
+    device: &mut D,
+    frame: &Frame,
+    header: &ChainHeader,
+    first: LogBlock,
+    size: usize,
+) -> Result<Option<LoggedPiece>, PoolError>
+    requires fits { block_address frame.now.blocks ≤ D.size device.old }
+    requires number { header.now.number ≤ 2 ^ 62 }
+    requires begins { MayBegin first.used size }
+    requires sound { IsSoundBlock frame.now.blocks header.now first }
+    ensures reads { OnlyReads D.SectorDevice result device.old device.new }
+    ensures cause { IfErr result IsChainRefusal }
+    ensures read { IsTrue D.keeps_model
+        → IsBlockAt (bytes_of (D.disk device.old).now) frame.now header.now first
+        → IfOk result (λ found. IfSome found
+        (IsLongAt (bytes_of (D.disk device.old).now) frame.now header.now)) }
+    ensures none { IsTrue D.keeps_model
+        → IsBlockAt (bytes_of (D.disk device.old).now) frame.now header.now first
+        → IfOk result (λ found. IfNone found
+        (HasNoLong (bytes_of (D.disk device.old).now) frame.now header.now size)) }
+    ensures sound { IfOk result (λ found. IfSome found (IsSoundPiece frame.now.blocks)) }
+{
+    let Some(
+        Parts {
+            bytes,
+            behind,
+            next,
+        },
+    ) = gather(alloc, device, frame, header, first, size)?
+    else {
+        return Ok(None);
+    };
+    let Some(record) = read_record(alloc, bytes.as_slice())? else {
+        return Ok(None);
+    };
+    let mut records = Vec::new(alloc);
+    records.push(record)?;
+    Ok(Some(LoggedPiece {
         address: header.address,
-        next: read_u64(payload, 8),
+        behind,
+        next,
         records,
     }))
 }

@@ -6,27 +6,32 @@
 //! 3. A flush makes all of them certain at once. So it is enough to know how many are, counted from the front.
 //! 4. Each block knows how high the ordinals go in it and in the blocks before it. So a search by halves finds the
 //!    first block that may have a receipt. As commits are written in order, that is the only one.
+//! 5. While a record is begun, each block that is written has its next part. A sync keeps the block in which it begins.
 
-ghost use Rattle.std.specs.Prelude.{◌≡◌, ◌≤◌, ◌<◌, ◌+◌, ◌++◌, ◌∷◌, [], IfErr, IfNone, IfSome, IsOk, OnOk, nat_le, take};
+ghost use Rattle.std.specs.Prelude.{◌≡◌, ◌≤◌, ◌<◌, ◌+◌, ◌++◌, ◌∷◌, [], IfErr, IfNone, IfSome, IsOk, IsSome, None, OnOk, Some, false, option_map, nat_le, take};
 ghost use Rattle.base.specs.formats.Limits.{last_number};
 ghost use Rattle.base.specs.steps.Logs as logs;
 ghost use Rattle.base.specs.steps.Logs.{blocks_before, is_flushed_in, log_after_flush};
-ghost use Rattle.intent_log.specs.Receipts.{committed};
-ghost use Rattle.intent_log.specs.Kept.{AreNumberedTo, AreRising, HasRoom, IsFrontGiven, ReachBelow, ReachUpTo, block_noted, header_fields, log_shown};
+ghost use Rattle.intent_log.specs.Receipts.{begins_of, committed, ends_of};
+ghost use Rattle.intent_log.specs.Kept.{AreNumberedTo, AreRising, HasRoom, IsFrontGiven, ReachBelow, ReachUpTo, begins_begun, begun_after_part, block_noted, block_with, first_noted, header_fields, is_block_needed, log_shown, part_noted, receipt_begun};
 
-use crate::kept_block::{KeptBlock, LogHeader};
+use crate::begun::BegunRecord;
+use crate::kept_block::{Holds, KeptBlock, LogHeader};
+use crate::packing::LOG_BLOCK_ROOM;
 use base::{Group, LAST_NUMBER, Ordinal, PoolError, Receipt};
 use std::alloc::Global;
 use std::collections::VecDeque;
 use std::marker::Model;
 
-/// The log of a run: its kept blocks, and where the next one goes. Contracts see the kept blocks with their receipts,
-/// each flushed or not, the next header, and for how many blocks more there is room.
+/// The log of a run: its kept blocks, the record that is begun, and where the next block goes. Contracts see the kept
+/// blocks with the receipts of what begins and ends in each, flushed or not, the begun record, the next header, and for
+/// how many blocks more there is room.
 #[derive(Debug, Drop)]
 pub struct Log {
     blocks: VecDeque<KeptBlock>,
     // so many from the front are certain
     flushed: usize,
+    begun: Option<BegunRecord>,
     next: LogHeader,
 }
 
@@ -44,11 +49,13 @@ impl Log {
     /// No block is kept, and the first one goes to this address with number 0. It takes no memory.
     pub fn new(alloc: Global, address: u64) -> Self
         ensures none { result.kept ≡ [] }
+        ensures begun { result.begun ≡ None }
         ensures next { result.next ≡ record { address = address; number = 0 } }
     {
         Log {
             blocks: VecDeque::new(alloc),
             flushed: 0,
+            begun: None,
             next: LogHeader { address, number: 0 },
         }
     }
@@ -84,6 +91,7 @@ impl Log {
         ensures room { OnOk result (HasRoom self.new) }
         ensures succeeds { HasRoom self.old → IsOk result }
         ensures kept { self.new.kept ≡ self.old.kept }
+        ensures begun { self.new.begun ≡ self.old.begun }
         ensures next { self.new.next ≡ self.old.next }
         ensures refused { IfErr result (λ e. e ≡ PoolError.NoMemory) }
     {
@@ -91,18 +99,76 @@ impl Log {
         Ok(())
     }
 
-    /// A block with the records of these receipts goes to the device at the next header, and the one after it to this
-    /// address. It is noted before the write, so that its address stays taken if the device refuses it. It takes no
-    /// memory: the room is there.
+    /// The record that is begun and not yet whole.
+    pub fn begun(&self) -> Option<&BegunRecord>
+        ensures { option_map (λ b. b.now) result ≡ self.now.begun }
+    {
+        self.begun.as_ref()
+    }
+
+    /// A block with the whole records of these receipts goes to the device at the next header, and the one after it to
+    /// this address. It is noted before the write, so that its address stays taken if the device refuses it. It takes
+    /// no memory: the room is there.
     pub fn written(&mut self, receipts: Vec<Receipt>, address: u64)
         requires room { HasRoom self.old }
         requires number { self.old.next.number < last_number }
         ensures kept { self.new.kept
             ≡ self.old.kept ++ block_noted self.old.next receipts.items ∷ [] }
+        ensures begun { self.new.begun ≡ self.old.begun }
         ensures next { self.new.next
             ≡ record { address = address; number = self.old.next.number + 1 } }
     {
-        let block = KeptBlock::new(self.next, receipts, reach(&self.blocks));
+        self.note(Holds::Whole(receipts), address);
+    }
+
+    /// The same for the first part of a record, which is begun then.
+    pub fn begin(&mut self, begun: BegunRecord, address: u64)
+        requires room { HasRoom self.old }
+        requires number { self.old.next.number < last_number }
+        ensures kept { self.new.kept
+            ≡ self.old.kept ++ first_noted self.old.next begun.receipt ∷ [] }
+        ensures begun { self.new.begun ≡ Some begun }
+        ensures next { self.new.next
+            ≡ record { address = address; number = self.old.next.number + 1 } }
+    {
+        self.note(Holds::First(begun.receipt), address);
+        self.begun = Some(begun);
+    }
+
+    /// The same for the next part of the record that is begun. The record ends in it if it is the last part.
+    pub fn part_written(&mut self, address: u64)
+        requires room { HasRoom self.old }
+        requires number { self.old.next.number < last_number }
+        requires begun { IsSome self.old.begun }
+        ensures kept { IfSome self.old.begun (λ b. self.new.kept
+            ≡ self.old.kept ++ part_noted self.old.next b ∷ []) }
+        ensures begun { IfSome self.old.begun (λ b. self.new.begun ≡ begun_after_part b) }
+        ensures next { self.new.next
+            ≡ record { address = address; number = self.old.next.number + 1 } }
+    {
+        let Some(mut begun) = self.begun.take() else {
+            unreachable!();
+        };
+        if begun.is_at_last_part() {
+            self.note(Holds::Last(begun.receipt), address);
+        } else {
+            self.note(Holds::Part, address);
+            begun.written += LOG_BLOCK_ROOM;
+            self.begun = Some(begun);
+        }
+    }
+
+    // A block that has this goes to the device at the next header.
+    fn note(&mut self, holds: Holds, address: u64)
+        requires room { HasRoom self.old }
+        requires number { self.old.next.number < last_number }
+        ensures kept { self.new.kept
+            ≡ self.old.kept ++ block_with self.old.next (begins_of holds) (ends_of holds) false ∷ [] }
+        ensures begun { self.new.begun ≡ self.old.begun }
+        ensures next { self.new.next
+            ≡ record { address = address; number = self.old.next.number + 1 } }
+    {
+        let block = KeptBlock::new(self.next, holds, reach(&self.blocks));
         let Ok(()) = self.blocks.push_back(block) else {
             unreachable!();
         };
@@ -119,16 +185,32 @@ impl Log {
         self.flushed = self.blocks.len();
     }
 
-    /// The header for the sync of a group: the first kept block with a record of a group above it, or else the next
-    /// one. It looks only at that block and at those before it, which the sync gives back.
+    /// The header for the sync of a group: the first kept block in which a record begins that is of a group above it, or
+    /// that is begun and not yet whole, or else the next one. It looks only at that block and at those before it, which
+    /// the sync gives back.
     pub fn header_for(&self, group: Group) -> LogHeader
         ensures header { header_fields result ≡ logs.header_for group.0 (log_shown self.now) }
         ensures fits { result.number ≤ last_number }
         ensures numbered { AreNumberedTo self.now }
     {
-        match self.blocks.iter().find(|block| block.highest.0 > group.0) {
+        let begun = self.receipt_begun();
+        match self
+            .blocks
+            .iter()
+            .find(|block| is_needed(block, group, begun))
+        {
             Some(block) => block.header,
             None => self.next,
+        }
+    }
+
+    // The receipt of the record that is begun.
+    fn receipt_begun(&self) -> Option<Receipt>
+        ensures { result ≡ receipt_begun self.now.begun }
+    {
+        match &self.begun {
+            Some(begun) => Some(begun.receipt),
+            None => None,
         }
     }
 
@@ -138,6 +220,7 @@ impl Log {
             (IsFrontGiven (header_fields header) self.old.kept self.new.kept) }
         ensures none { IfNone result
             (blocks_before (header_fields header) self.old.kept ≡ []) }
+        ensures begun { self.new.begun ≡ self.old.begun }
         ensures next { self.new.next ≡ self.old.next }
         ensures unchanged { IfNone result (self.new ≡ self.old) }
     {
@@ -168,6 +251,23 @@ impl Log {
         self.blocks
             .range(first..last)
             .any(|block| block.has(receipt))
+    }
+}
+
+// Whether a sync of this group has to keep a block: a record begins in it that is of a group above, or is this one,
+// which isn't whole.
+fn is_needed(block: &KeptBlock, group: Group, begun: Option<Receipt>) -> bool
+    ensures { result ≡ is_block_needed group.0 begun block.now }
+{
+    block.highest.0 > group.0 || begins(block, begun)
+}
+
+fn begins(block: &KeptBlock, begun: Option<Receipt>) -> bool
+    ensures { result ≡ begins_begun begun block.now }
+{
+    match begun {
+        Some(receipt) => block.begins(receipt),
+        None => false,
     }
 }
 

@@ -2,14 +2,18 @@
 //! that an import reads.
 #![tactic(auto)]
 
+mod begun;
 mod chains;
 mod clients;
 mod kept;
 mod kept_block;
+mod log_blocks;
 mod packing;
+mod parts;
 mod records;
 
-pub use chains::{ChainHeader, LoggedBlock, chain};
+pub use begun::BegunRecord;
+pub use chains::{ChainHeader, LoggedPiece, chain};
 pub use kept::Log;
 pub use kept_block::LogHeader;
-pub use packing::{LOG_BLOCK_ROOM, NewBlock, PackedBlock, pack};
+pub use packing::{FirstPart, LOG_BLOCK_ROOM, NewBlock, Packed, PackedBlock, pack, pack_part};

@@ -1,14 +1,18 @@
-//! Packing: as many whole records from the front of the pending ones as fit a log block, and the block that holds them.
+//! Packing: as many whole records from the front of the pending ones as fit a log block, or a part of one that a block
+//! can't hold, and the block that holds them.
 //!
-//! A record is encoded once, when its block is written. A record whose group is synced before that is never encoded.
+//! A record is encoded when its block or its first part is written, and one time more if it did not fit behind others.
+//! A record whose group is synced before that is never encoded.
 
 ghost use Rattle.std.specs.Prelude.{◌≡◌, ◌<◌, ◌≤◌, ◌+◌, ◌^◌, All, IfErr, IfOk, length, map, take};
-ghost use Rattle.base.specs.formats.Records.{IsAllowed};
+ghost use Rattle.base.specs.formats.Limits.{log_block_room};
+ghost use Rattle.base.specs.formats.Records.{IsAllowed, bytes_of_record, size_of};
 ghost use Rattle.transactions.specs.Records.{record_fields};
-ghost use Rattle.intent_log.specs.Packing.{HoldsBytes, HoldsRecords, IsEncodedFront, IsPackedFront, log_bytes};
+ghost use Rattle.intent_log.specs.Packing.{HoldsBytes, HoldsUsed, IsBegunOf, IsEncoded, IsFirstPart, IsPackedAs, log_bytes, next_part_of};
 
+use crate::begun::{BegunRecord, tell_record};
 use crate::chains::ChainHeader;
-use base::{Group, PoolError, write_bytes, write_u64};
+use base::{Group, PoolError, Receipt, write_bytes, write_u64};
 use checked_blocks::{Block, Kind, PAYLOAD_SIZE, seal};
 use std::alloc::Global;
 use transactions::{Record, encode_into};
@@ -42,30 +46,75 @@ pub struct PackedBlock {
     pub count: usize,
 }
 
-/// Packs as many whole records from the front as fit. The first one always fits.
+/// A log block that is to be written with the first part of a record, and the record that is begun then.
+#[derive(Debug, Drop)]
+pub struct FirstPart {
+    /// The block, with its check.
+    pub block: Block,
+    /// The record, of which 4,008 bytes are written.
+    pub begun: BegunRecord,
+}
+
+/// What a log block takes from the front of the pending records.
+#[derive(Debug, Drop)]
+pub enum Packed {
+    /// Whole records, one at least.
+    Whole(PackedBlock),
+    /// The first part of the first one, if that has more than 4,008 bytes.
+    First(FirstPart),
+}
+
+/// Packs as many whole records from the front as fit, or else the first part of the first one.
 ///
 /// # Errors
 /// `NoMemory` if there is no memory for the bytes of the records.
-pub fn pack(alloc: Global, place: &NewBlock, pending: &[Record]) -> Result<PackedBlock, PoolError>
+pub fn pack(alloc: Global, place: &NewBlock, pending: &[Record]) -> Result<Packed, PoolError>
     requires some { 0 < length pending.now }
     requires allowed { All IsAllowed (map record_fields pending.now) }
-    ensures packed { IfOk result
-        (λ p. IsPackedFront (map record_fields pending.now) p.count) }
-    ensures content { IfOk result (λ p. HoldsRecords place.now p.block
-        (take p.count (map record_fields pending.now))) }
+    ensures packed { IfOk result (IsPackedAs place.now (map record_fields pending.now)) }
     ensures refused { IfErr result (λ e. e ≡ PoolError.NoMemory) }
 {
-    let (records, count) = encode_front(alloc, pending)?;
-    let block = seal_records(place, &records);
-    Ok(PackedBlock { block, count })
+    let (bytes, count) = encode_front(alloc, pending)?;
+    if count == 0 {
+        return Ok(Packed::First(begin(place, &pending[0], bytes)));
+    }
+    let block = seal_records(place, bytes.as_slice());
+    Ok(Packed::Whole(PackedBlock { block, count }))
 }
 
-// The bytes of as many records from the front as fit, and how many these are.
+/// The block with the next part of a record that is begun. It takes no memory.
+pub fn pack_part(place: &NewBlock, begun: &BegunRecord) -> Block
+    ensures { HoldsUsed place.now result (next_part_of begun.now) }
+{
+    seal_records(place, begun.next_part())
+}
+
+// The block with the first part of a record, of which these are all the bytes.
+fn begin(place: &NewBlock, first: &Record, bytes: Vec<u8>) -> FirstPart
+    requires long { log_block_room < size_of (record_fields first.now) }
+    requires spelled { bytes.items ≡ bytes_of_record (record_fields first.now) }
+    ensures { IsFirstPart place.now (record_fields first.now) result }
+{
+    let begun = BegunRecord {
+        receipt: Receipt {
+            ordinal: first.ordinal,
+            group: first.group,
+        },
+        logged: tell_record(first),
+        bytes,
+        written: LOG_BLOCK_ROOM,
+    };
+    let block = seal_records(place, &begun.bytes[..LOG_BLOCK_ROOM]);
+    FirstPart { block, begun }
+}
+
+// The bytes of as many records from the front as fit, and how many these are. If the first one doesn't fit, its bytes
+// and 0.
 fn encode_front(alloc: Global, pending: &[Record]) -> Result<(Vec<u8>, usize), PoolError>
     requires some { 0 < length pending.now }
     requires allowed { All IsAllowed (map record_fields pending.now) }
     ensures front { IfOk result
-        (λ f. IsEncodedFront (map record_fields pending.now) f.1 f.0.items) }
+        (λ f. IsEncoded (map record_fields pending.now) f.1 f.0.items) }
     ensures refused { IfErr result (λ e. e ≡ PoolError.NoMemory) }
 {
     let mut bytes = Vec::with_capacity(alloc, 2 * LOG_BLOCK_ROOM)?;
@@ -74,6 +123,9 @@ fn encode_front(alloc: Global, pending: &[Record]) -> Result<(Vec<u8>, usize), P
         encode_into(&mut bytes, &pending[index])?;
         let total = bytes.len();
         if total > LOG_BLOCK_ROOM {
+            if index == 0 {
+                return Ok((bytes, 0));
+            }
             bytes.truncate(before);
             return Ok((bytes, index));
         }
@@ -82,7 +134,7 @@ fn encode_front(alloc: Global, pending: &[Record]) -> Result<(Vec<u8>, usize), P
     Ok((bytes, count))
 }
 
-// The block that holds the bytes of some records.
+// The block that holds these bytes of records.
 fn seal_records(place: &NewBlock, records: &[u8]) -> Block
     requires { length records.now ≤ 4008 }
     ensures { HoldsBytes place.now result records.now }

@@ -2,7 +2,7 @@
 
 ghost use Rattle.std.specs.Prelude.{◌≡◌, IfErr, IfOk, IfSome, IfNone, map};
 ghost use Rattle.transactions.specs.Records.{record_fields};
-ghost use Rattle.intent_log.specs.Chains.{AreRecordsOf, HasNoRecords};
+ghost use Rattle.intent_log.specs.Chains.{AreRecordsOf, HasNoRecords, IsRecordOf, IsNoRecord};
 
 use base::PoolError;
 use std::alloc::Global;
@@ -30,6 +30,25 @@ pub(crate) fn read_records(alloc: Global, bytes: &[u8]) -> Result<Option<Vec<Rec
             return Ok(Some(records));
         }
         rest = after;
+    }
+    Ok(None)
+}
+
+/// The record of which these are all the bytes. `None` if they are none within its limits.
+///
+/// # Errors
+/// `NoMemory`.
+pub(crate) fn read_record(alloc: Global, bytes: &[u8]) -> Result<Option<Record>, PoolError>
+    ensures read { IfOk result (λ found. IfSome found
+        (λ r. IsRecordOf bytes.now (record_fields r))) }
+    ensures none { IfOk result (λ found. IfNone found (IsNoRecord bytes.now)) }
+    ensures refused { IfErr result (λ e. e ≡ PoolError.NoMemory) }
+{
+    let Some((record, rest)) = decode_record(alloc, bytes)? else {
+        return Ok(None);
+    };
+    if rest.is_empty() {
+        return Ok(Some(record));
     }
     Ok(None)
 }

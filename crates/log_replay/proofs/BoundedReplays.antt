@@ -16,7 +16,7 @@ use Rattle.base.specs.steps.Exact.{IsBounded}
 use Rattle.base.proofs.common.Sequences.{parted}
 use Rattle.base.proofs.history.KeptContents.{operations_keep}
 use Rattle.log_replay.specs.Laws.{ReplaysStayBounded}
-use Rattle.log_replay.specs.Replays.{IsBlockAllowed, IsChainAllowed}
+use Rattle.log_replay.specs.Replays.{IsPieceAllowed, IsChainAllowed}
 
 abbrev IsPlacedAllowed : Placed → Type 0
 IsPlacedAllowed p = IsAllowed p.logged
@@ -25,8 +25,8 @@ placed_allowed : (chain : List LogPiece) → IsChainAllowed chain → All IsPlac
 placed_allowed [] allowed = All-nil IsPlacedAllowed
 placed_allowed (b ∷ chain) allowed =
     All-append IsPlacedAllowed (map (λ (r : formats.Record). record { address = b.address; logged = r }) b.records) (placed_records chain)
-    (All-map IsPlacedAllowed (λ (r : formats.Record). record { address = b.address; logged = r }) b.records (All-head IsBlockAllowed b chain allowed))
-    (placed_allowed chain (All-tail IsBlockAllowed b chain allowed))
+    (All-map IsPlacedAllowed (λ (r : formats.Record). record { address = b.address; logged = r }) b.records (All-head IsPieceAllowed b chain allowed))
+    (placed_allowed chain (All-tail IsPieceAllowed b chain allowed))
 
 records_keep : (records : List Placed) (c d : Contents) → All IsPlacedAllowed records → IsBounded c → apply_records records c ≡ Ok d → IsBounded d
 records_keep [] c d allowed bounded reaches = let same : c ≡ d = cc in subst IsBounded same bounded

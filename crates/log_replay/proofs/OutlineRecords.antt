@@ -23,7 +23,7 @@ use Rattle.transactions.specs.declared.record.Record.{Record}
 use Rattle.log_replay.specs.Outlines.{IsOutlineOf, LeadsOutline, ReplaysOutline, counted_up_to_last}
 use Rattle.log_replay.specs.Replays.{IsRecordRefused}
 use Rattle.log_replay.specs.Walked.{above_at, placed_at}
-use Rattle.log_replay.proofs.WalkedRecords.{above-block, above-cons, above-next, above-passed}
+use Rattle.log_replay.proofs.WalkedRecords.{above-piece, above-cons, above-next, above-passed}
 use Rattle.log_replay.specs.declared.outline.Outline.{Outline}
 
 -- operations one after another
@@ -100,17 +100,17 @@ module _ {X : Type 0} (f : X → List Placed) (xs : List X) (i : ℕ) (x : X) (l
   replays_stop n e old mid new last first second =
       subst (λ (ps : List Placed). ReplaysOutline ps old (Err e) last) (sym whole) (replays_refused (flat_map f (take i xs)) (f x) n old mid new first (flat_map f (drop (i + 1) xs)) e last second)
 
--- the records of a block, one by one
+-- the records of a piece, one by one
 pub each_record : (group address : ℕ) (rs : List Record) → flat_map (λ (r : Record). above_at group address (r ∷ [])) rs ≡ above_at group address rs
 each_record group address [] = refl
 each_record group address (r ∷ rs) =
     ap (λ (ps : List Placed). above_at group address (r ∷ []) ++ ps) (each_record group address rs)
     ∙ sym (filter-append (λ (p : Placed). nat_lt group p.logged.group) (placed_at address r ∷ []) (map (placed_at address) rs))
 
--- and those of a chain, block by block
-pub each_block : (group : ℕ) (bs : List LogPiece) → flat_map (λ (b : LogPiece). records_above group (b ∷ [])) bs ≡ records_above group bs
-each_block group [] = refl
-each_block group (b ∷ bs) = ap (λ (ps : List Placed). records_above group (b ∷ []) ++ ps) (each_block group bs) ∙ sym (above-cons group b bs)
+-- and those of a chain, piece by piece
+pub each_piece : (group : ℕ) (bs : List LogPiece) → flat_map (λ (b : LogPiece). records_above group (b ∷ [])) bs ≡ records_above group bs
+each_piece group [] = refl
+each_piece group (b ∷ bs) = ap (λ (ps : List Placed). records_above group (b ∷ []) ++ ps) (each_piece group bs) ∙ sym (above-cons group b bs)
 
 -- one record of a group above, or none
 module _ (group address : ℕ) (r : Record) (old new : Outline) where
@@ -155,23 +155,23 @@ each_op_allowed (op ∷ ops) shapes contents =
 pub record_ops_allowed : (r : formats.Record) → IsAllowed r → All (λ (op : Op). is_op_allowed op ≡ true) r.ops
 record_ops_allowed r allowed = each_op_allowed r.ops (and_parts (nat_lt 0 _) (list_all is_shape_allowed (map shape_of r.ops)) allowed.shapes).1 allowed.contents
 
--- the records of a block as they are read out of it
-module _ (group : ℕ) (block : LogPiece) (records : List Record) (fields : map record_fields records ≡ block.records) where
-  above_each : flat_map (λ (r : Record). above_at group block.address (r ∷ [])) records ≡ records_above group (block ∷ [])
-  above_each = each_record group block.address records ∙ sym (above-block group block records fields)
+-- the records of a piece as they are read out of it
+module _ (group : ℕ) (piece : LogPiece) (records : List Record) (fields : map record_fields records ≡ piece.records) where
+  above_each : flat_map (λ (r : Record). above_at group piece.address (r ∷ [])) records ≡ records_above group (piece ∷ [])
+  above_each = each_record group piece.address records ∙ sym (above-piece group piece records fields)
 
-  pub slice_allowed : All IsAllowed block.records → (i : ℕ) (r : Record) → i < length records → r ≡ get_or records i r → IsAllowed (record_fields r)
+  pub slice_allowed : All IsAllowed piece.records → (i : ℕ) (r : Record) → i < length records → r ≡ get_or records i r → IsAllowed (record_fields r)
   slice_allowed allowed i r low is =
-      let there : record_fields r ≡ get_or block.records i (record_fields r) =
+      let there : record_fields r ≡ get_or piece.records i (record_fields r) =
       ap record_fields is ∙ sym (get_or-map record_fields records i r (record_fields r) low) ∙ ap (λ (rs : List formats.Record). get_or rs i (record_fields r)) fields in
       rw there (allowed i (record_fields r) (rw (← fields, length-map) low))
 
-  pub replays_block : (i n : ℕ) (old new : Outline) → length records ≤ i → ReplaysOutline (flat_map (λ (r : Record). above_at group block.address (r ∷ [])) (take i records)) old (Ok n) new
-      → ReplaysOutline (records_above group (block ∷ [])) old (Ok n) new
-  replays_block i n old new all is = rw (← above_each, ← take_all i records all) is
+  pub replays_piece : (i n : ℕ) (old new : Outline) → length records ≤ i → ReplaysOutline (flat_map (λ (r : Record). above_at group piece.address (r ∷ [])) (take i records)) old (Ok n) new
+      → ReplaysOutline (records_above group (piece ∷ [])) old (Ok n) new
+  replays_piece i n old new all is = rw (← above_each, ← take_all i records all) is
 
-  pub replays_block_stop : (i : ℕ) (r : Record) → i < length records → r ≡ get_or records i r → (n : ℕ) (e : PoolError) (old mid new last : Outline)
-      → ReplaysOutline (flat_map (λ (r : Record). above_at group block.address (r ∷ [])) (take i records)) old (Ok n) mid → ReplaysOutline (above_at group block.address (r ∷ [])) mid (Err e) new
-      → ReplaysOutline (records_above group (block ∷ [])) old (Err e) last
-  replays_block_stop i r low is n e old mid new last first second =
-      rw (← above_each) (replays_stop (λ (r : Record). above_at group block.address (r ∷ [])) records i r low is n e old mid new last first second)
+  pub replays_piece_stop : (i : ℕ) (r : Record) → i < length records → r ≡ get_or records i r → (n : ℕ) (e : PoolError) (old mid new last : Outline)
+      → ReplaysOutline (flat_map (λ (r : Record). above_at group piece.address (r ∷ [])) (take i records)) old (Ok n) mid → ReplaysOutline (above_at group piece.address (r ∷ [])) mid (Err e) new
+      → ReplaysOutline (records_above group (piece ∷ [])) old (Err e) last
+  replays_piece_stop i r low is n e old mid new last first second =
+      rw (← above_each) (replays_stop (λ (r : Record). above_at group piece.address (r ∷ [])) records i r low is n e old mid new last first second)

@@ -1,4 +1,4 @@
--- A replay that comes from record to record and from block to block of a chain is that of the chain.
+-- A replay that comes from record to record and from piece to piece of a chain is that of the chain.
 use Rattle.std.proofs.Common.{◌≡◌, ℕ, ◌+◌, true, false, List, [], ◌∷◌, ◌++◌, map, filter, Err, refl, ap, sym, ◌∙◌, append-nil, append_assoc}
 use Rattle.std.specs.Prelude.{nat_lt}
 use Rattle.std.proofs.lemmas.Grind.{flat_map-append}
@@ -21,7 +21,7 @@ use Rattle.log_replay.specs.Replays.{IsRecordRefused, IsReplayOf, record_in}
 use Rattle.log_replay.specs.Walked.{HasReplayedTo, above_at, placed_at}
 use Rattle.log_replay.proofs.ReplayedRecords.{one_more_replayed, one_refused}
 
--- the records above a group of a block and of the blocks after it
+-- the records above a group of a piece and of the pieces after it
 pub above-cons : (group : ℕ) (b : LogPiece) (bs : List LogPiece) → records_above group (b ∷ bs) ≡ records_above group (b ∷ []) ++ records_above group bs
 above-cons group b bs =
     let placed : LogPiece → List Placed = λ (x : LogPiece). map (λ r. record { address = x.address; logged = r }) x.records in
@@ -32,9 +32,9 @@ map-map : {A B C : Type 0} (g : B → C) (f : A → B) (xs : List A) → map g (
 map-map g f [] = refl
 map-map g f (x ∷ xs) = ap (λ ys. g (f x) ∷ ys) (map-map g f xs)
 
--- those of one block, as its records are taken out of it
-pub above-block : (group : ℕ) (b : LogPiece) (records : List Record) → map record_fields records ≡ b.records → records_above group (b ∷ []) ≡ above_at group b.address records
-above-block group b records fields =
+-- those of one piece, as its records are taken out of it
+pub above-piece : (group : ℕ) (b : LogPiece) (records : List Record) → map record_fields records ≡ b.records → records_above group (b ∷ []) ≡ above_at group b.address records
+above-piece group b records fields =
     let place : formats.Record → Placed = λ r. record { address = b.address; logged = r } in
     let placed : placed_records (b ∷ []) ≡ map (placed_at b.address) records =
     append-nil (map place b.records) ∙ ap (map place) (sym fields) ∙ map-map place record_fields records in

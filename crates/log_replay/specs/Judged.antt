@@ -12,7 +12,7 @@ use Rattle.object_maps.specs.Judging.{with_name}
 abbrev pub IsRefusedOver : List Op → FinMap nat_cmp (List ℕ) → Type 0
 IsRefusedOver ops objects = (error : PoolError) × ((name : List ℕ) → apply_all ops (with_name objects name) ≡ Err error)
 
--- a record in the log block at this address is refused: there is no memory, or it can't take place on these objects
+-- a record of the piece at this address is refused: there is no memory, or it can't take place on these objects
 abbrev pub IsRecordRefusal : List Op → ℕ → FinMap nat_cmp (List ℕ) → PoolError → Type 0
 IsRecordRefusal ops address objects e =
     (e ≡ NoMemory) ⊎ ((e ≡ Damaged 6 address) × IsRefusedOver ops objects)

@@ -6,7 +6,7 @@ use Rattle.base.specs.history.Contents.{Contents}
 use Rattle.base.specs.steps.Exact.{IsBounded}
 use Rattle.log_replay.specs.Replays.{IsChainAllowed, IsRecordRefused}
 
--- records can't be refused and all take place, and only one block is that of the first that is refused
+-- records can't be refused and all take place, and only one piece is that of the first that is refused
 abbrev pub RefusalsAgree : Type 0
 RefusalsAgree = (records : List Placed) (synced : Contents) (address : ℕ) → IsRecordRefused records synced address
     → ((after : Contents) → apply_records records synced ≡ Ok after → ⊥) × ((other : ℕ) → IsRecordRefused records synced other → other ≡ address)

@@ -26,7 +26,7 @@ abbrev pub counted_up_to_last : ℕ → ℕ
 counted_up_to_last n = min n 18446744073709551615
 
 -- If so many records take place in order, they lead contents of the one outline to contents of the other. Else the
--- block of the first that can't is damaged.
+-- piece of the first that can't is damaged.
 abbrev pub ReplaysOutline : List Placed → Outline → Result ℕ PoolError → Outline → Type 0
 ReplaysOutline records old (Ok n) new =
     (n ≡ counted_up_to_last (length records)) × ((c : Contents) → IsOutlineOf old c → (d : Contents) × (apply_records records c ≡ Ok d) × IsOutlineOf new d)

@@ -1,5 +1,5 @@
 -- What an import does with the records of a chain: it applies those of groups above the active one, in order, or
--- reports the block of the first one that can't take place.
+-- reports the piece of the first one that can't take place.
 use Rattle.std.specs.Prelude.{ℕ, ◌≡◌, ◌+◌, ◌++◌, ◌⊎◌, List, ◌∷◌, All, map, Ok, Err}
 use Rattle.std.specs.List.{flat_map}
 use Rattle.base.specs.declared.error.PoolError.{PoolError}
@@ -19,12 +19,12 @@ use Rattle.transactions.specs.declared.record.Record.{Record}
 use Rattle.transactions.specs.Records.{record_fields}
 use Rattle.log_replay.specs.declared.replaying.Replayed.{Replayed}
 
--- each record of a block, and of each block of a chain, is within the limits
-abbrev pub IsBlockAllowed : LogPiece → Type 0
-IsBlockAllowed block = All IsAllowed block.records
+-- each record of a piece, and of each piece of a chain, is within the limits
+abbrev pub IsPieceAllowed : LogPiece → Type 0
+IsPieceAllowed piece = All IsAllowed piece.records
 
 abbrev pub IsChainAllowed : List LogPiece → Type 0
-IsChainAllowed chain = All IsBlockAllowed chain
+IsChainAllowed chain = All IsPieceAllowed chain
 
 -- a record as one of this group
 abbrev pub record_in : ℕ → Placed → formats.Record
@@ -46,7 +46,7 @@ pub record IsReplayOf (group : ℕ) (synced : Contents) (records : List Placed) 
 abbrev pub IsReplay : ℕ → Contents → List LogPiece → Replayed → Type 0
 IsReplay group synced chain r = IsReplayOf group synced (records_above group chain) r
 
--- One of these records can't take place after those before it: the first such one, in the block at this address.
+-- One of these records can't take place after those before it: the first such one, in the piece at this address.
 pub record IsRecordRefused (records : List Placed) (synced : Contents) (address : ℕ) : Type 0 where
   pub before : List Placed
   pub refused : Placed
@@ -58,11 +58,11 @@ pub record IsRecordRefused (records : List Placed) (synced : Contents) (address 
   pub refuses : apply_all refused.logged.ops reached ≡ Err error
   pub address_is : refused.address ≡ address
 
--- whatever the records are, there is no memory, or a log block is damaged
+-- whatever the records are, there is no memory, or a piece of the log is damaged
 abbrev pub IsReplayCause : PoolError → Type 0
 IsReplayCause e = (e ≡ NoMemory) ⊎ ((address : ℕ) × (e ≡ Damaged 6 address))
 
--- there is no memory, or a record can't take place and this is its block
+-- there is no memory, or a record can't take place and this is its piece
 abbrev pub IsReplayRefusal : List Placed → Contents → PoolError → Type 0
 IsReplayRefusal records synced e =
     (e ≡ NoMemory) ⊎ ((address : ℕ) × (e ≡ Damaged 6 address) × IsRecordRefused records synced address)

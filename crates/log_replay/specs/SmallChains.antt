@@ -15,15 +15,15 @@ growth group = record { group = group; ordinal = 1; ops = Write (record { 0 = 7 
 abbrev pub naming : ℕ → Record
 naming group = record { group = group; ordinal = 0; ops = SetName (112 ∷ 111 ∷ 110 ∷ 100 ∷ []) ∷ [] }
 
--- a block with the first, and one with each; and a block with the last
+-- a piece with the first, and one with each; and a piece with the last
 abbrev pub creation_chain : ℕ → List LogPiece
-creation_chain group = record { address = 4194304; next = 4198400; records = creation group ∷ [] } ∷ []
+creation_chain group = record { address = 4194304; behind = []; next = 4198400; records = creation group ∷ [] } ∷ []
 
 abbrev pub growing_chain : ℕ → List LogPiece
 growing_chain group =
-    record { address = 4194304; next = 4198400; records = creation group ∷ [] }
-    ∷ record { address = 4198400; next = 4202496; records = growth group ∷ [] }
+    record { address = 4194304; behind = []; next = 4198400; records = creation group ∷ [] }
+    ∷ record { address = 4198400; behind = []; next = 4202496; records = growth group ∷ [] }
     ∷ []
 
 abbrev pub naming_chain : ℕ → List LogPiece
-naming_chain group = record { address = 4194304; next = 4198400; records = naming group ∷ [] } ∷ []
+naming_chain group = record { address = 4194304; behind = []; next = 4198400; records = naming group ∷ [] } ∷ []

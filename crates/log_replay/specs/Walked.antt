@@ -15,7 +15,7 @@ pub record HasReplayedTo (group : ℕ) (synced : Contents) (records rest : List 
   pub split : records ≡ done ++ rest
   pub replayed : IsReplayOf group synced done r
 
--- records of the log block at this address
+-- records of the piece at this address
 abbrev pub placed_at : ℕ → Record → Placed
 placed_at address r = record { address = address; logged = record_fields r }
 
@@ -23,13 +23,13 @@ placed_at address r = record { address = address; logged = record_fields r }
 abbrev pub above_at : ℕ → ℕ → List Record → List Placed
 above_at group address records = filter (λ (p : Placed). nat_lt group p.logged.group) (map (placed_at address) records)
 
--- a replay that began before a block has come to these of its records
-pub record IsAtRecords (group : ℕ) (synced : Contents) (block : LogPiece) (left : List Record) (old now : Replayed) : Type 0 where
+-- a replay that began before a piece has come to these of its records
+pub record IsAtRecords (group : ℕ) (synced : Contents) (piece : LogPiece) (left : List Record) (old now : Replayed) : Type 0 where
   pub allowed : All (λ (r : Record). IsAllowed (record_fields r)) left
-  pub walked : (records rest : List Placed) → HasReplayedTo group synced records (records_above group (block ∷ []) ++ rest) old
-      → HasReplayedTo group synced records (above_at group block.address left ++ rest) now
+  pub walked : (records rest : List Placed) → HasReplayedTo group synced records (records_above group (piece ∷ []) ++ rest) old
+      → HasReplayedTo group synced records (above_at group piece.address left ++ rest) now
 
--- and to these blocks of a chain
-pub record IsAtBlocks (group : ℕ) (synced : Contents) (chain left : List LogPiece) (now : Replayed) : Type 0 where
+-- and to these pieces of a chain
+pub record IsAtPieces (group : ℕ) (synced : Contents) (chain left : List LogPiece) (now : Replayed) : Type 0 where
   pub allowed : IsChainAllowed left
   pub walked : HasReplayedTo group synced (records_above group chain) (records_above group left) now

@@ -16,109 +16,109 @@ ghost use Rattle.log_replay.specs.Replays.{IsChainAllowed};
 use crate::outline::Outline;
 use crate::replaying::{Replayed, replay};
 use base::{Group, PoolError};
-use intent_log::LoggedBlock;
+use intent_log::LoggedPiece;
 use object_maps::Contents;
 use std::alloc::Global;
 
 fn an_empty_chain_has_no_record(
     alloc: Global,
     contents: &Contents,
-    blocks: Vec<LoggedBlock>,
+    pieces: Vec<LoggedPiece>,
 ) -> Result<Replayed, PoolError>
-    requires { blocks.items ≡ [] }
+    requires { pieces.items ≡ [] }
     ensures records { IfOk result (λ r. r.records.items ≡ []) }
     ensures objects { IfOk result (λ r.
         laid_over (patches_of r.extents) (contents_of contents.now).objects
         ≡ (contents_of contents.now).objects) }
 {
-    replay(alloc, Group(9), contents, blocks)
+    replay(alloc, Group(9), contents, pieces)
 }
 
 // The tree of the active group has it.
 fn a_record_of_the_active_group_is_passed_over(
     alloc: Global,
     contents: &Contents,
-    blocks: Vec<LoggedBlock>,
+    pieces: Vec<LoggedPiece>,
 ) -> Result<Replayed, PoolError>
-    requires chain { blocks.items ≡ creation_chain 9 }
-    requires allowed { IsChainAllowed blocks.items }
+    requires chain { pieces.items ≡ creation_chain 9 }
+    requires allowed { IsChainAllowed pieces.items }
     ensures records { IfOk result (λ r. r.records.items ≡ []) }
     ensures objects { IfOk result (λ r.
         laid_over (patches_of r.extents) (contents_of contents.now).objects
         ≡ (contents_of contents.now).objects) }
 {
-    replay(alloc, Group(9), contents, blocks)
+    replay(alloc, Group(9), contents, pieces)
 }
 
 fn a_record_of_a_group_above_takes_place_four_groups_later(
     alloc: Global,
     contents: &Contents,
-    blocks: Vec<LoggedBlock>,
+    pieces: Vec<LoggedPiece>,
 ) -> Result<Replayed, PoolError>
-    requires chain { blocks.items ≡ creation_chain 10 }
-    requires allowed { IsChainAllowed blocks.items }
+    requires chain { pieces.items ≡ creation_chain 10 }
+    requires allowed { IsChainAllowed pieces.items }
     requires absent { finite.get (contents_of contents.now).objects 7 ≡ None }
     ensures record { IfOk result (λ r. map record_fields r.records.items ≡ creation 13 ∷ []) }
     ensures object { IfOk result (λ r. finite.get
         (laid_over (patches_of r.extents) (contents_of contents.now).objects) 7 ≡ Some []) }
 {
-    replay(alloc, Group(9), contents, blocks)
+    replay(alloc, Group(9), contents, pieces)
 }
 
 // A record may name the pool: what it leaves has that name.
 fn a_record_names_the_pool(
     alloc: Global,
     contents: &Contents,
-    blocks: Vec<LoggedBlock>,
+    pieces: Vec<LoggedPiece>,
 ) -> Result<Replayed, PoolError>
-    requires chain { blocks.items ≡ naming_chain 10 }
-    requires allowed { IsChainAllowed blocks.items }
+    requires chain { pieces.items ≡ naming_chain 10 }
+    requires allowed { IsChainAllowed pieces.items }
     ensures { IfOk result (λ r. unwrap_or (name_of r.extents) (contents_of contents.now).name
         ≡ 112 ∷ 111 ∷ 110 ∷ 100 ∷ []) }
 {
-    replay(alloc, Group(9), contents, blocks)
+    replay(alloc, Group(9), contents, pieces)
 }
 
 // The only other refusal is for memory.
-fn a_record_that_is_refused_is_a_damage_of_its_block(
+fn a_record_that_is_refused_is_a_damage_of_its_piece(
     alloc: Global,
     contents: &Contents,
-    blocks: Vec<LoggedBlock>,
+    pieces: Vec<LoggedPiece>,
 ) -> Result<Replayed, PoolError>
-    requires chain { blocks.items ≡ creation_chain 10 }
-    requires allowed { IsChainAllowed blocks.items }
+    requires chain { pieces.items ≡ creation_chain 10 }
+    requires allowed { IsChainAllowed pieces.items }
     requires there { finite.get (contents_of contents.now).objects 7 ≡ Some [] }
     ensures refused { IsErr result }
     ensures address { IfErr result
         (λ e. (e ≡ PoolError.NoMemory) ⊎ (e ≡ PoolError.Damaged 6 4194304)) }
 {
-    replay(alloc, Group(9), contents, blocks)
+    replay(alloc, Group(9), contents, pieces)
 }
 
 // It is refused so whatever the bytes of the object are.
 fn a_record_is_refused_by_lengths_alone(
     outline: &mut Outline,
-    blocks: &[LoggedBlock],
+    pieces: &[LoggedPiece],
 ) -> Result<u64, PoolError>
-    requires chain { blocks.now ≡ creation_chain 10 }
-    requires allowed { IsChainAllowed blocks.now }
+    requires chain { pieces.now ≡ creation_chain 10 }
+    requires allowed { IsChainAllowed pieces.now }
     ensures { (contents : history.Contents) → IsOutlineOf outline.old contents
         → finite.get contents.objects 7 ≡ Some []
         → result ≡ Err (PoolError.Damaged 6 4194304) }
 {
-    outline.replay(Group(9), blocks)
+    outline.replay(Group(9), pieces)
 }
 
 // Object 7 is created by one record, and the next one writes 5 bytes at 3.
 fn lengths_follow_the_records(
     outline: &mut Outline,
-    blocks: &[LoggedBlock],
+    pieces: &[LoggedPiece],
 ) -> Result<u64, PoolError>
-    requires chain { blocks.now ≡ growing_chain 10 }
-    requires allowed { IsChainAllowed blocks.now }
+    requires chain { pieces.now ≡ growing_chain 10 }
+    requires allowed { IsChainAllowed pieces.now }
     ensures { (contents : history.Contents) → IsOutlineOf outline.old contents
         → finite.get contents.objects 7 ≡ None
         → (result ≡ Ok 2) × (lengths_of outline.new.tree 7 ≡ Some 8) }
 {
-    outline.replay(Group(9), blocks)
+    outline.replay(Group(9), pieces)
 }

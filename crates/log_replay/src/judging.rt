@@ -8,7 +8,7 @@ ghost use Rattle.log_replay.specs.Judged.{IsRefusedOver};
 use base::{Op, PoolError};
 use object_maps::{ObjectSource, judge};
 
-/// Judges the operations of a record in the log block at an address, over these objects. It takes no memory.
+/// Judges the operations of a record of the piece at an address, over these objects. It takes no memory.
 ///
 /// # Errors
 /// `Damaged` with kind 6 and the address if one of them can't take place.

@@ -2,7 +2,7 @@
 
 ghost use Rattle.log_replay.specs.Laws.{RefusalsAgree, ReplaysStayBounded};
 
-/// If a record is refused, not all take place, and its block is the only one that a refusal names.
+/// If a record is refused, not all take place, and its piece is the only one that a refusal names.
 pub fn refusals_agree()
     ensures { RefusalsAgree }
 {}

@@ -3,7 +3,7 @@
 //!
 //! 1. Records of groups above the active one are applied in the order of the chain. Those of groups up to it are in the
 //!    tree already, and are passed over.
-//! 2. A record takes place whole. The first one that can't is a damage of its log block, and nothing after it counts.
+//! 2. A record takes place whole. The first one that can't is a damage of its piece, and nothing after it counts.
 //! 3. What was applied is then synced as the operations of one group, four after the active one.
 #![tactic(auto)]
 

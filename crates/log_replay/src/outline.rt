@@ -5,7 +5,7 @@
 //! find the first record that can't, and to report the lengths that the others leave.
 
 use base::{Group, ObjectId, Op, PoolError, PoolName};
-use intent_log::LoggedBlock;
+use intent_log::LoggedPiece;
 use object_maps::Tree;
 use transactions::Record;
 
@@ -28,32 +28,32 @@ impl Outline {
     ghost use Rattle.object_maps.specs.Lengths.{lengths_of};
     ghost use Rattle.transactions.specs.Records.{is_op_allowed, record_fields};
     ghost use Rattle.log_replay.specs.Outlines.{LeadsOutline, ReplaysOutline};
-    ghost use Rattle.log_replay.specs.Replays.{IsBlockAllowed, IsChainAllowed};
+    ghost use Rattle.log_replay.specs.Replays.{IsPieceAllowed, IsChainAllowed};
     ghost use Rattle.log_replay.specs.Walked.{above_at};
 
     /// Replays the records of a chain: those of groups above the active one, in order. It makes of the name and the
     /// lengths what `replay` makes of the contents, and takes no memory. It returns how many records it replayed.
     ///
     /// # Errors
-    /// `Damaged` with kind 6 and the address of its block for the first record that can't take place. The name and the
-    /// lengths mean nothing then.
-    pub fn replay(&mut self, group: Group, blocks: &[LoggedBlock]) -> Result<u64, PoolError>
-        requires { IsChainAllowed blocks.now }
-        ensures { ReplaysOutline (records_above group.0 blocks.now) self.old result self.new }
+    /// `Damaged` with kind 6 and the address of its first block for the first record that can't take place. The name and
+    /// the lengths mean nothing then.
+    pub fn replay(&mut self, group: Group, pieces: &[LoggedPiece]) -> Result<u64, PoolError>
+        requires { IsChainAllowed pieces.now }
+        ensures { ReplaysOutline (records_above group.0 pieces.now) self.old result self.new }
     {
         let mut count = 0u64;
-        for block in blocks {
-            count = count.saturating_add(self.replay_block(group, block)?);
+        for piece in pieces {
+            count = count.saturating_add(self.replay_piece(group, piece)?);
         }
         Ok(count)
     }
 
-    fn replay_block(&mut self, group: Group, block: &LoggedBlock) -> Result<u64, PoolError>
-        requires { IsBlockAllowed block.now }
-        ensures { ReplaysOutline (records_above group.0 (block.now ∷ [])) self.old result self.new }
+    fn replay_piece(&mut self, group: Group, piece: &LoggedPiece) -> Result<u64, PoolError>
+        requires { IsPieceAllowed piece.now }
+        ensures { ReplaysOutline (records_above group.0 (piece.now ∷ [])) self.old result self.new }
     {
-        let address = block.address();
-        let records = block.records();
+        let address = piece.address();
+        let records = piece.records();
         let mut count = 0u64;
         for logged in records {
             count = count.saturating_add(self.replay_record(group, address, logged)?);
@@ -61,7 +61,7 @@ impl Outline {
         Ok(count)
     }
 
-    // Replays a record of the block at this address, if it is of a group above this one.
+    // Replays a record of the piece at this address, if it is of a group above this one.
     fn replay_record(
         &mut self,
         group: Group,

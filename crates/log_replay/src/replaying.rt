@@ -10,12 +10,12 @@ ghost use Rattle.object_maps.specs.Judging.{ApplyTo};
 ghost use Rattle.object_maps.specs.Ops.{AreOpsAllowed};
 ghost use Rattle.log_replay.specs.Judged.{IsRecordRefusal};
 ghost use Rattle.log_replay.specs.Walked.{HasReplayedTo};
-ghost use Rattle.log_replay.specs.Replays.{IsBlockAllowed, IsChainAllowed, IsReplay, IsReplayCause, IsReplayOf, IsReplayRefusal, IsRecordRefused};
+ghost use Rattle.log_replay.specs.Replays.{IsPieceAllowed, IsChainAllowed, IsReplay, IsReplayCause, IsReplayOf, IsReplayRefusal, IsRecordRefused};
 
 use crate::judging::judge_record;
 use base::{Group, PoolError};
 use extents::{Extents, Laid};
-use intent_log::LoggedBlock;
+use intent_log::LoggedPiece;
 use object_maps::Contents;
 use std::alloc::Global;
 use transactions::Record;
@@ -30,28 +30,28 @@ pub struct Replayed {
 }
 
 /// Applies the records of a chain to the contents of the tree: those of groups above the active one, in order. Those of
-/// groups up to it are passed over. The operations are moved out of the blocks, and their bytes are copied once.
+/// groups up to it are passed over. The operations are moved out of the pieces, and their bytes are copied once.
 ///
 /// # Errors
-/// `Damaged` with kind 6 and the address of its block for the first record that can't take place; `NoMemory`.
+/// `Damaged` with kind 6 and the address of its first block for the first record that can't take place; `NoMemory`.
 pub fn replay(
     alloc: Global,
     group: Group,
     contents: &Contents,
-    blocks: Vec<LoggedBlock>,
+    pieces: Vec<LoggedPiece>,
 ) -> Result<Replayed, PoolError>
     requires group { group.0 ≤ last_number }
-    requires allowed { IsChainAllowed blocks.items }
-    ensures replayed { IfOk result (IsReplay group.0 (contents_of contents.now) blocks.items) }
+    requires allowed { IsChainAllowed pieces.items }
+    ensures replayed { IfOk result (IsReplay group.0 (contents_of contents.now) pieces.items) }
     ensures refused { IfErr result
-        (IsReplayRefusal (records_above group.0 blocks.items) (contents_of contents.now)) }
-    ensures found { (address : ℕ) → IsRecordRefused (records_above group.0 blocks.items)
+        (IsReplayRefusal (records_above group.0 pieces.items) (contents_of contents.now)) }
+    ensures found { (address : ℕ) → IsRecordRefused (records_above group.0 pieces.items)
         (contents_of contents.now) address → IsErr result }
     ensures cause { IfErr result IsReplayCause }
 {
     let mut replayed = Replayed::new(alloc);
-    for block in blocks {
-        replayed.apply_block(contents, group, block)?;
+    for piece in pieces {
+        replayed.apply_piece(contents, group, piece)?;
     }
     Ok(replayed)
 }
@@ -68,28 +68,28 @@ impl Replayed {
         }
     }
 
-    // Applies the records of a block, after those of the blocks before it.
-    fn apply_block(
+    // Applies the records of a piece, after those of the pieces before it.
+    fn apply_piece(
         &mut self,
         contents: &Contents,
         group: Group,
-        block: LoggedBlock,
+        piece: LoggedPiece,
     ) -> Result<(), PoolError>
         requires group { group.0 ≤ last_number }
-        requires allowed { IsBlockAllowed block }
+        requires allowed { IsPieceAllowed piece }
         ensures applied { (records rest : List Placed)
             → HasReplayedTo group.0 (contents_of contents.now)
-            records (records_above group.0 (block ∷ []) ++ rest) self.old
+            records (records_above group.0 (piece ∷ []) ++ rest) self.old
             → OnOk result (HasReplayedTo group.0 (contents_of contents.now) records rest self.new) }
         ensures refused { (records rest : List Placed)
             → HasReplayedTo group.0 (contents_of contents.now)
-            records (records_above group.0 (block ∷ []) ++ rest) self.old
+            records (records_above group.0 (piece ∷ []) ++ rest) self.old
             → IfErr result (IsReplayRefusal records (contents_of contents.now)) }
         ensures cause { IfErr result IsReplayCause }
     {
-        let address = block.address();
+        let address = piece.address();
         let next = Group(group.0 + 4);
-        for record in block.into_records() {
+        for record in piece.into_records() {
             if record.group.0 > group.0 {
                 self.apply(
                     contents,
@@ -105,7 +105,7 @@ impl Replayed {
         Ok(())
     }
 
-    // Applies a record of the log block at an address.
+    // Applies a record of the piece at an address.
     fn apply(&mut self, contents: &Contents, address: u64, logged: Record) -> Result<(), PoolError>
         requires { AreOpsAllowed logged.ops }
         ensures applies { OnOk result (ApplyTo logged.ops

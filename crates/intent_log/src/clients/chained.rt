@@ -8,10 +8,10 @@ ghost use Rattle.base.specs.formats.Records as base_record;
 ghost use Rattle.base.specs.formats.Records.{IsAllowed};
 ghost use Rattle.transactions.specs.Records.{record_fields};
 ghost use Rattle.transactions.specs.declared.record.Record.{Record};
-ghost use Rattle.intent_log.specs.Chains.{IsChainBlock, header_of_chain};
+ghost use Rattle.intent_log.specs.Chains.{IsPieceAt, frame_of_chain, header_of_chain};
 
-use crate::chains::{ChainHeader, LoggedBlock, chain};
-use base::PoolError;
+use crate::chains::{ChainHeader, LoggedPiece, chain};
+use base::{PoolError, Version};
 use checked_blocks::Frame;
 use device_model::SectorDevice;
 use std::alloc::Global;
@@ -22,9 +22,10 @@ fn no_chain_begins_at_address_0<D: SectorDevice>(
     alloc: Global,
     device: &mut D,
     frame: &Frame,
-) -> Result<Vec<LoggedBlock>, PoolError>
+) -> Result<Vec<LoggedPiece>, PoolError>
     requires fits { block_address frame.now.blocks ≤ D.size device.old }
-    ensures { IsTrue D.keeps_model → IfOk result (λ blocks. blocks.items ≡ []) }
+    requires area { frame.now.blocks ≤ 2 ^ 52 }
+    ensures { IsTrue D.keeps_model → IfOk result (λ pieces. pieces.items ≡ []) }
 {
     chain(
         alloc,
@@ -34,38 +35,41 @@ fn no_chain_begins_at_address_0<D: SectorDevice>(
             address: 0,
             number: 0,
             import_number: 1,
+            version: Version::Two,
         },
     )
 }
 
-fn a_log_block_that_stands_is_read<D: SectorDevice>(
+fn a_piece_that_stands_is_read<D: SectorDevice>(
     alloc: Global,
     device: &mut D,
     frame: &Frame,
     header: &ChainHeader,
-) -> Result<Vec<LoggedBlock>, PoolError>
+) -> Result<Vec<LoggedPiece>, PoolError>
     requires fits { block_address frame.now.blocks ≤ D.size device.old }
+    requires area { frame.now.blocks ≤ 2 ^ 52 }
     requires number { header.now.number ≤ 2 ^ 60 }
-    ensures { IsTrue D.keeps_model → (block : LogPiece)
-        → IsChainBlock (bytes_of (D.disk device.old).now) frame.now header.now block
-        → IfOk result (λ blocks. 0 < length blocks.items) }
+    ensures { IsTrue D.keeps_model → (piece : LogPiece)
+        → IsPieceAt (bytes_of (D.disk device.old).now) frame.now header.now piece
+        → IfOk result (λ pieces. 0 < length pieces.items) }
 {
     chain(alloc, device, frame, header)
 }
 
-// A chain goes on as long as a block follows.
-fn a_chain_of_one_block_has_no_second<D: SectorDevice>(
+// A chain goes on as long as a piece follows.
+fn a_chain_of_one_piece_has_no_second<D: SectorDevice>(
     alloc: Global,
     device: &mut D,
     frame: &Frame,
     header: &ChainHeader,
-) -> Result<Vec<LoggedBlock>, PoolError>
+) -> Result<Vec<LoggedPiece>, PoolError>
     requires fits { block_address frame.now.blocks ≤ D.size device.old }
+    requires area { frame.now.blocks ≤ 2 ^ 52 }
     requires number { header.now.number ≤ 2 ^ 60 }
-    ensures { IsTrue D.keeps_model → IfOk result (λ blocks. (block second : LogPiece)
-        → blocks.items ≡ block ∷ []
-        → IsPiece (bytes_of (D.disk device.old).now) frame.now header.now.import_number
-        (next_header (header_of_chain header.now) block) second → ⊥) }
+    ensures { IsTrue D.keeps_model → IfOk result (λ pieces. (piece second : LogPiece)
+        → pieces.items ≡ piece ∷ []
+        → IsPiece (bytes_of (D.disk device.old).now) (frame_of_chain frame.now header.now)
+        header.now.import_number (next_header (header_of_chain header.now) piece) second → ⊥) }
 {
     chain(alloc, device, frame, header)
 }
@@ -77,6 +81,7 @@ fn a_chain_is_read_without_a_write<D: SectorDevice>(
     header: &ChainHeader,
 ) -> Result<usize, PoolError>
     requires fits { block_address frame.now.blocks ≤ D.size device.old }
+    requires area { frame.now.blocks ≤ 2 ^ 52 }
     requires number { header.now.number ≤ 2 ^ 60 }
     ensures same { IsTrue D.keeps_model → D.disk device.new ≡ D.disk device.old }
     ensures refused { IfErr result (λ e. (e ≡ PoolError.NoMemory) ⊎ (e ≡ PoolError.Read)) }
@@ -92,27 +97,28 @@ fn a_chain_begins_in_the_area<D: SectorDevice>(
     header: &ChainHeader,
 ) -> Result<Option<u64>, PoolError>
     requires fits { block_address frame.now.blocks ≤ D.size device.old }
+    requires area { frame.now.blocks ≤ 2 ^ 52 }
     requires number { header.now.number ≤ 2 ^ 60 }
     ensures { IfOk result (λ found. IfSome found (IsBlockAddress frame.now.blocks)) }
 {
-    let blocks = chain(alloc, device, frame, header)?;
-    let Some(first) = blocks.first() else {
+    let pieces = chain(alloc, device, frame, header)?;
+    let Some(first) = pieces.first() else {
         return Ok(None);
     };
     Ok(Some(first.address()))
 }
 
-fn records_of_a_sound_block_are_allowed(block: &LoggedBlock) -> &[Record]
-    requires { All IsAllowed block.now.records }
+fn records_of_a_sound_piece_are_allowed(piece: &LoggedPiece) -> &[Record]
+    requires { All IsAllowed piece.now.records }
     ensures { All IsAllowed (map record_fields result.now) }
 {
-    block.records()
+    piece.records()
 }
 
-// A block that is used up leaves the record of its one commit.
-fn a_block_leaves_its_record(block: LoggedBlock) -> Vec<Record>
-    requires { map (λ (r : base_record.Record). r.ordinal) block.records ≡ 7 ∷ [] }
+// A piece that is used up leaves the record of its one commit.
+fn a_piece_leaves_its_record(piece: LoggedPiece) -> Vec<Record>
+    requires { map (λ (r : base_record.Record). r.ordinal) piece.records ≡ 7 ∷ [] }
     ensures { map (λ (r : Record). r.ordinal.0) result.items ≡ 7 ∷ [] }
 {
-    block.into_records()
+    piece.into_records()
 }

@@ -1,9 +1,10 @@
 //! What callers rest on of the kept blocks of a log.
 
-ghost use Rattle.std.specs.Prelude.{ℕ, ◌≡◌, ◌∷◌, [], IsOk, false, true};
-ghost use Rattle.base.specs.steps.Logs.{log_after_sync, whole_block};
+ghost use Rattle.std.specs.Prelude.{ℕ, ◌≡◌, ◌∷◌, [], IsOk, None, false, true};
+ghost use Rattle.base.specs.steps.Logs.{log_after_sync};
 ghost use Rattle.intent_log.specs.Kept.{HasRoom, header_fields, log_shown};
 
+use crate::begun::BegunRecord;
 use crate::kept::Log;
 use crate::kept_block::LogHeader;
 use base::{Group, Ordinal, PoolError, Receipt};
@@ -68,8 +69,8 @@ fn a_record_is_durable_once_its_block_is_flushed(log: &mut Log, receipts: Vec<Re
 // Not only the last one.
 fn a_flush_makes_each_block_certain(log: &mut Log)
     requires { log.old.kept
-        ≡ whole_block (record { address = 4194304; number = 0 }) (record { ordinal = 0; group = 5 } ∷ []) false
-        ∷ whole_block (record { address = 4198400; number = 1 }) (record { ordinal = 1; group = 6 } ∷ []) false
+        ≡ record { address = 4194304; number = 0; begins = record { ordinal = 0; group = 5 } ∷ []; ends = record { ordinal = 0; group = 5 } ∷ []; flushed = false }
+        ∷ record { address = 4198400; number = 1; begins = record { ordinal = 1; group = 6 } ∷ []; ends = record { ordinal = 1; group = 6 } ∷ []; flushed = false }
         ∷ [] }
 {
     let first = Receipt {
@@ -89,9 +90,10 @@ fn a_flush_makes_each_block_certain(log: &mut Log)
 // The header of a sync is the first block with a record above its group, and the blocks before it come back.
 fn a_sync_keeps_the_blocks_above_its_group(log: &mut Log)
     requires kept { log.old.kept
-        ≡ whole_block (record { address = 4194304; number = 0 }) (record { ordinal = 0; group = 5 } ∷ []) true
-        ∷ whole_block (record { address = 4198400; number = 1 }) (record { ordinal = 1; group = 6 } ∷ []) false
+        ≡ record { address = 4194304; number = 0; begins = record { ordinal = 0; group = 5 } ∷ []; ends = record { ordinal = 0; group = 5 } ∷ []; flushed = true }
+        ∷ record { address = 4198400; number = 1; begins = record { ordinal = 1; group = 6 } ∷ []; ends = record { ordinal = 1; group = 6 } ∷ []; flushed = false }
         ∷ [] }
+    requires begun { log.old.begun ≡ None }
     requires next { log.old.next ≡ record { address = 4202496; number = 2 } }
 {
     let header = log.header_for(Group(5));
@@ -111,4 +113,25 @@ fn a_sync_keeps_its_log_from_the_header_on(log: &mut Log, header: LogHeader)
         ≡ log_after_sync group (header_fields header) (log_shown log.old) }
 {
     while log.give_back(header).is_some() {}
+}
+
+// Only the flush after its last part makes a record durable that a block can't hold.
+fn a_long_record_is_durable_once_its_last_part_is_flushed(log: &mut Log, begun: BegunRecord)
+    requires room { HasRoom log.old }
+    requires kept { log.old.kept ≡ [] }
+    requires next { log.old.next ≡ record { address = 4194304; number = 3 } }
+    requires receipt { begun.receipt ≡ record {
+      ordinal = record { 0 = 7 };
+      group = record { 0 = 5 };
+    } }
+{
+    let receipt = Receipt {
+        ordinal: Ordinal(7),
+        group: Group(5),
+    };
+    log.begin(begun, 4_198_400);
+    log.flushed();
+    prove!(!log.has_flushed(receipt));
+    let header = log.header_for(Group(5));
+    prove!(header.address == 4_194_304 && header.number == 3);
 }

@@ -1,16 +1,17 @@
 //! What callers rest on of a block that is packed.
 
-ghost use Rattle.std.specs.Prelude.{◌≡◌, ◌<◌, ℕ, List, All, IfErr, IfOk, length, map, take};
+ghost use Rattle.std.specs.Prelude.{◌≡◌, ◌<◌, ◌≤◌, ℕ, List, All, IfErr, IfOk, IfSome, length, map, slice_get};
 ghost use Rattle.base.specs.formats.Blocks.{Frame};
 ghost use Rattle.base.specs.formats.Fields.{number_at, part};
 ghost use Rattle.base.specs.formats.Geometry.{IsBlockAddress};
-ghost use Rattle.base.specs.formats.Records.{IsAllowed};
+ghost use Rattle.base.specs.formats.Records.{IsAllowed, size_of};
 ghost use Rattle.base.specs.steps.Logs.{total_size};
 ghost use Rattle.transactions.specs.Records.{record_fields};
-ghost use Rattle.intent_log.specs.Chains.{IsChainBlock};
-ghost use Rattle.intent_log.specs.Packing.{logged};
+ghost use Rattle.intent_log.specs.Chains.{IsBlockAt};
+ghost use Rattle.intent_log.specs.Packing.{IsBegunFirst, IsCount, block_of, logged, used_of};
 
-use crate::packing::{NewBlock, PackedBlock, pack};
+use crate::begun::BegunRecord;
+use crate::packing::{NewBlock, Packed, pack};
 use base::PoolError;
 use std::alloc::Global;
 use transactions::Record;
@@ -19,10 +20,11 @@ fn a_record_is_packed(
     alloc: Global,
     place: &NewBlock,
     pending: &[Record],
-) -> Result<PackedBlock, PoolError>
+) -> Result<Packed, PoolError>
     requires one { length pending.now ≡ 1 }
+    requires short { total_size (map record_fields pending.now) ≤ 4008 }
     requires allowed { All IsAllowed (map record_fields pending.now) }
-    ensures { IfOk result (λ p. p.count ≡ 1) }
+    ensures { IfOk result (IsCount 1) }
 {
     pack(alloc, place, pending)
 }
@@ -31,11 +33,11 @@ fn two_records_of_4008_bytes_fill_a_block(
     alloc: Global,
     place: &NewBlock,
     pending: &[Record],
-) -> Result<PackedBlock, PoolError>
+) -> Result<Packed, PoolError>
     requires two { length pending.now ≡ 2 }
     requires full { total_size (map record_fields pending.now) ≡ 4008 }
     requires allowed { All IsAllowed (map record_fields pending.now) }
-    ensures { IfOk result (λ p. p.count ≡ 2) }
+    ensures { IfOk result (IsCount 2) }
 {
     pack(alloc, place, pending)
 }
@@ -44,11 +46,12 @@ fn a_record_that_does_not_fit_stays_pending(
     alloc: Global,
     place: &NewBlock,
     pending: &[Record],
-) -> Result<PackedBlock, PoolError>
+) -> Result<Packed, PoolError>
     requires two { length pending.now ≡ 2 }
     requires over { total_size (map record_fields pending.now) ≡ 4009 }
+    requires short { IfSome (slice_get (map record_fields pending.now) 0) (λ r. size_of r ≤ 4008) }
     requires allowed { All IsAllowed (map record_fields pending.now) }
-    ensures { IfOk result (λ p. p.count ≡ 1) }
+    ensures { IfOk result (IsCount 1) }
 {
     pack(alloc, place, pending)
 }
@@ -57,7 +60,7 @@ fn packing_is_refused_for_memory_alone(
     alloc: Global,
     place: &NewBlock,
     pending: &[Record],
-) -> Result<PackedBlock, PoolError>
+) -> Result<Packed, PoolError>
     requires some { 0 < length pending.now }
     requires allowed { All IsAllowed (map record_fields pending.now) }
     ensures { IfErr result (λ e. e ≡ PoolError.NoMemory) }
@@ -70,30 +73,50 @@ fn a_packed_block_names_its_group_its_chain_and_the_next(
     alloc: Global,
     place: &NewBlock,
     pending: &[Record],
-) -> Result<PackedBlock, PoolError>
+) -> Result<Packed, PoolError>
     requires some { 0 < length pending.now }
     requires allowed { All IsAllowed (map record_fields pending.now) }
-    ensures group { IfOk result (λ p. number_at p.block 16 ≡ place.now.group.0) }
+    ensures group { IfOk result (λ p. number_at (block_of p) 16 ≡ place.now.group.0) }
     ensures chain { IfOk result
-        (λ p. number_at p.block 64 ≡ place.now.header.import_number) }
-    ensures next { IfOk result (λ p. number_at p.block 72 ≡ place.now.next) }
+        (λ p. number_at (block_of p) 64 ≡ place.now.header.import_number) }
+    ensures next { IfOk result (λ p. number_at (block_of p) 72 ≡ place.now.next) }
 {
     pack(alloc, place, pending)
 }
 
-// A block that stands at its place is the one that its header names, with the records that were packed.
+// A block that stands at its place is the one that its header names, with the bytes that were packed.
 fn a_packed_block_is_read_back(
     alloc: Global,
     place: &NewBlock,
     pending: &[Record],
-) -> Result<PackedBlock, PoolError>
+) -> Result<Packed, PoolError>
     requires some { 0 < length pending.now }
     requires allowed { All IsAllowed (map record_fields pending.now) }
     ensures { IfOk result (λ p. (image : List ℕ) (frame : Frame) → frame.guid ≡ place.now.guid
         → IsBlockAddress frame.blocks place.now.header.address
-        → part image place.now.header.address 4096 ≡ p.block
-        → IsChainBlock image frame place.now.header
-        (logged place.now (take p.count (map record_fields pending.now)))) }
+        → part image place.now.header.address 4096 ≡ block_of p
+        → IsBlockAt image frame place.now.header
+        (logged place.now (used_of (map record_fields pending.now) p))) }
 {
     pack(alloc, place, pending)
+}
+
+// A record of more than 4,008 bytes is begun, and no other record is in its block.
+fn a_long_record_is_begun(
+    alloc: Global,
+    place: &NewBlock,
+    pending: &[Record],
+) -> Result<Packed, PoolError>
+    requires some { 0 < length pending.now }
+    requires allowed { All IsAllowed (map record_fields pending.now) }
+    requires long { IfSome (slice_get (map record_fields pending.now) 0) (λ r. 4008 < size_of r) }
+    ensures { IfOk result IsBegunFirst }
+{
+    pack(alloc, place, pending)
+}
+
+fn a_part_fits_a_block(begun: &BegunRecord) -> &[u8]
+    ensures { length result.now ≤ 4008 }
+{
+    begun.next_part()
 }

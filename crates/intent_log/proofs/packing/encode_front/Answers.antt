@@ -5,7 +5,7 @@ use Rattle.base.specs.formats.Records.{Record, IsAllowed, bytes_of_record, bytes
 use Rattle.std.proofs.lemmas.List.Elements.{All-get_or}
 use Rattle.transactions.specs.Records.{record_fields}
 use Rattle.intent_log.specs.Packing.{IsEncodedFront}
-use Rattle.intent_log.proofs.Packed.{bytes_next, cut_back, front_all, front_at, passes, record_at}
+use Rattle.intent_log.proofs.PackedRecords.{bytes_next, cut_back, front_all, front_at, front_long, passes, record_at}
 use Rattle.intent_log.proofs.packing.encode_front.Goals as goal
 
 pub loop-index-preserved : goal.loop-index-preserved
@@ -31,6 +31,21 @@ returns-in_err-encode_into-clause-refused c =
     let allowed : IsAllowed one = subst IsAllowed at (All-get_or IsAllowed all c.loop-index.index one within c.requires.allowed) in
     rw (p.1, p.2) (rw (passes one allowed) at c.in_err-encode_into.ensures.refused)
 
+pub returns-then-index-eq0-clause-front : goal.returns-then-index-eq0-clause-front
+returns-then-index-eq0-clause-front c =
+    let i = c.loop-index.invariant in
+    let all : List Record = map record_fields c.args.pending.now in
+    let one : Record = record_fields c.index-pending-index.result in
+    let at = record_at c.args.pending.now c.loop-index.index c.index-pending-index.result c.index-pending-index.is in
+    let within : c.loop-index.index < length all = subst (λ (n : ℕ). c.loop-index.index < n) (sym (length-map c.args.pending.now record_fields)) c.loop-index-test.true in
+    let old : List ℕ = c.loop-index.bytes.items in
+    let added = c.in_ok-encode_into.ensures.bytes in
+    let long : 4008 < length c.encode_into.new.out.items = omega (arith, c.len-total.ensures, c.if-total-gt-LOG_BLOCK_ROOM.true) in
+    record {
+      whole = λ some. absurd (omega (arith, some));
+      long = λ none. front_long all c.loop-index.index one old c.encode_into.new.out.items c.if-index-eq0.true within at i.spelled added long;
+    }
+
 pub returns-then-total-gt-LOG_BLOCK_ROOM-clause-front : goal.returns-then-total-gt-LOG_BLOCK_ROOM-clause-front
 returns-then-total-gt-LOG_BLOCK_ROOM-clause-front c =
     let i = c.loop-index.invariant in
@@ -40,12 +55,15 @@ returns-then-total-gt-LOG_BLOCK_ROOM-clause-front c =
     let within : c.loop-index.index < length all = subst (λ (n : ℕ). c.loop-index.index < n) (sym (length-map c.args.pending.now record_fields)) c.loop-index-test.true in
     let old : List ℕ = c.loop-index.bytes.items in
     let added = c.in_ok-encode_into.ensures.bytes in
+    let long : 4008 < length c.encode_into.new.out.items = omega (arith, c.len-total.ensures, c.if-total-gt-LOG_BLOCK_ROOM.true) in
     let before : c.len-before.result ≡ length c.loop-index.bytes.items = omega (arith, c.len-before.ensures) in
     let same = cut_back old c.encode_into.new.out.items c.truncate.new.self.items (bytes_of_record one) c.len-before.result before added c.truncate.ensures.items in
-    let long : 4008 < length c.encode_into.new.out.items = omega (arith, c.len-total.ensures, c.if-total-gt-LOG_BLOCK_ROOM.true) in
     let over : 4008 < length (old ++ bytes_of_record one) = subst (λ (l : List ℕ). 4008 < length l) added long in
-    subst (λ (l : List ℕ). IsEncodedFront all c.loop-index.index l) (sym same)
-    (front_at all c.loop-index.index one old c.requires.allowed within at i.spelled i.fits over)
+    record {
+      whole = λ some. subst (λ (l : List ℕ). IsEncodedFront all c.loop-index.index l) (sym same)
+          (front_at all c.loop-index.index one old some within at i.spelled i.fits over);
+      long = λ none. absurd (omega (arith, none, c.if-index-eq0.false));
+    }
 
 pub returns-clause-front : goal.returns-clause-front
 returns-clause-front c =
@@ -54,4 +72,8 @@ returns-clause-front c =
     let as_many : length all ≡ length c.args.pending.now = length-map c.args.pending.now record_fields in
     let e : c.loop-index.index ≡ length c.args.pending.now = omega (arith, c.loop-index.auto.index-end, c.loop-index-test.false) in
     let spelled : c.loop-index.bytes.items ≡ bytes_of_records (take (length c.args.pending.now) all) = i.spelled ∙ ap (λ (n : ℕ). bytes_of_records (take n all)) e in
-    front_all all c.loop-index.bytes.items (length c.args.pending.now) (sym as_many) (subst (λ (n : ℕ). 0 < n) (sym as_many) c.requires.some) spelled i.fits
+    let some = c.requires.some in
+    record {
+      whole = λ more. front_all all c.loop-index.bytes.items (length c.args.pending.now) (sym as_many) (subst (λ (n : ℕ). 0 < n) (sym as_many) some) spelled i.fits;
+      long = λ none. absurd (omega (arith, none, some));
+    }

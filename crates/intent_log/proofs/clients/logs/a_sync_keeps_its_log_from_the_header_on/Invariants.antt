@@ -7,6 +7,7 @@ use Rattle.intent_log.proofs.clients.logs.a_sync_keeps_its_log_from_the_header_o
 abbrev pub invariant-loop-header : goal.invariant-loop-header
 invariant-loop-header l = record {
   same : blocks_from (header_fields l.header) l.log.kept ≡ blocks_from (header_fields l.header) l.fn.log.kept;
+  begun : l.log.begun ≡ l.fn.log.begun;
   next : l.log.next ≡ l.fn.log.next;
 }
 

@@ -1,7 +1,7 @@
 use Rattle.std.proofs.Common.{◌≡◌, length, subst, arith}
-use Rattle.std.specs.Prelude.{nat_lt}
+use Rattle.std.specs.Prelude.{nat_lt, option_map}
 use Rattle.base.specs.steps.Logs as logs
-use Rattle.intent_log.specs.Kept.{KeptLog, header_fields, log_shown}
+use Rattle.intent_log.specs.Kept.{KeptLog, begun_shown, header_fields, log_shown}
 use Rattle.intent_log.proofs.KeptBlocks.{some_await}
 use Rattle.intent_log.proofs.kept.Log.awaits_flush.Goals as goal
 
@@ -9,4 +9,4 @@ pub returns : goal.returns
 returns c =
     let all : c.len.result ≡ length c.self.inside.blocks.items = omega (arith, c.len.ensures) in
     subst (λ (k : KeptLog). nat_lt c.self.inside.flushed c.len.result ≡ logs.awaits_flush (log_shown k)) c.self.view_is
-    (some_await c.self.inside.flushed c.len.result c.self.inside.blocks.items (header_fields c.self.inside.next) all)
+    (some_await c.self.inside.flushed c.len.result c.self.inside.blocks.items (option_map begun_shown c.self.inside.begun) (header_fields c.self.inside.next) all)

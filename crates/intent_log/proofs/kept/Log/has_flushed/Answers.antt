@@ -1,10 +1,11 @@
-use Rattle.std.proofs.Common.{◌≡◌, ◌+◌, ◌<◌, Bool, inl, inr, true, false, sym, subst, ◌∙◌, arith, rules, tests}
+use Rattle.std.proofs.Common.{◌≡◌, ◌<◌, inl, inr, true, false, sym, subst, ◌∙◌, arith, rules, tests}
+use Rattle.std.specs.Prelude.{option_map}
 use Rattle.std.specs.List.{list_any, slice_range}
 use Rattle.std.proofs.lemmas.Bool.{cases_lt}
 use Rattle.std.proofs.lemmas.Iterator.Consumers.{YieldsList-from_deque}
 use Rattle.std.proofs.lemmas.Iterator.Search.{any_from_yields_List}
 use Rattle.base.specs.steps.Logs.{is_flushed_in}
-use Rattle.intent_log.specs.Kept.{KeptLog, header_fields, log_shown}
+use Rattle.intent_log.specs.Kept.{KeptLog, begun_shown, header_fields, log_shown}
 use Rattle.intent_log.specs.Receipts.{committed}
 use Rattle.intent_log.proofs.KeptBlocks.{flushed_has, has_receipt}
 use Rattle.intent_log.proofs.Rising.{begins_before, found_from, newest_below, newest_has, newest_has_not, none_flushed_yet}
@@ -20,7 +21,7 @@ returns-in_default c =
       | inr some ↦ absurd (c.in_default.ensures some)
     ] in
     subst (λ (k : KeptLog). false ≡ is_flushed_in (log_shown k) (committed receipt)) c.self.view_is
-    (sym (none_flushed_yet receipt flushed blocks less) ∙ flushed_has receipt flushed blocks (header_fields c.self.inside.next))
+    (sym (none_flushed_yet receipt flushed blocks less) ∙ flushed_has receipt flushed blocks (option_map begun_shown c.self.inside.begun) (header_fields c.self.inside.next))
 
 pub returns-then-newest-receipt : goal.returns-then-newest-receipt
 returns-then-newest-receipt c =
@@ -32,7 +33,7 @@ returns-then-newest-receipt c =
     newest_below receipt c.in-Some.last flushed c.index-newest.result.now blocks (omega (arith, some, last)) (omega (arith, c.self.invariant.within)) c.index-newest.ensures c.self.invariant.rising
     c.if-newest-receipt.true in
     subst (λ (k : KeptLog). false ≡ is_flushed_in (log_shown k) (committed receipt)) c.self.view_is
-    (sym none ∙ flushed_has receipt flushed blocks (header_fields c.self.inside.next))
+    (sym none ∙ flushed_has receipt flushed blocks (option_map begun_shown c.self.inside.begun) (header_fields c.self.inside.next))
 
 pub returns-then-has : goal.returns-then-has
 returns-then-has c =
@@ -43,7 +44,7 @@ returns-then-has c =
     let has =
     newest_has receipt c.in-Some.last flushed c.index-newest.result.now blocks (omega (arith, some, last)) (omega (arith, c.self.invariant.within)) c.index-newest.ensures (sym c.has.ensures ∙ c.if-has.true) in
     subst (λ (k : KeptLog). true ≡ is_flushed_in (log_shown k) (committed receipt)) c.self.view_is
-    (sym has ∙ flushed_has receipt flushed blocks (header_fields c.self.inside.next))
+    (sym has ∙ flushed_has receipt flushed blocks (option_map begun_shown c.self.inside.begun) (header_fields c.self.inside.next))
 
 pub range-requires-clause-start_le_end : goal.range-requires-clause-start_le_end
 range-requires-clause-start_le_end c =
@@ -68,4 +69,4 @@ returns c =
     let others =
     newest_has_not receipt c.in-Some.last flushed c.index-newest.result.now blocks (omega (arith, some, last)) (omega (arith, within)) c.index-newest.ensures (sym c.has.ensures ∙ c.if-has.false) in
     subst (λ (k : KeptLog). c.any.result ≡ is_flushed_in (log_shown k) (committed receipt)) c.self.view_is
-    (any ∙ found_from receipt first c.in-Some.last blocks le c.first_to_reach-first.ensures ∙ sym others ∙ flushed_has receipt flushed blocks (header_fields c.self.inside.next))
+    (any ∙ found_from receipt first c.in-Some.last blocks le c.first_to_reach-first.ensures ∙ sym others ∙ flushed_has receipt flushed blocks (option_map begun_shown c.self.inside.begun) (header_fields c.self.inside.next))
