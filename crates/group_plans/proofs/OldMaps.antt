@@ -21,7 +21,7 @@ use Rattle.base.proofs.tree.PlacedTrees.{absent-indirect}
 use Rattle.object_maps.specs.declared.tree.ObjectEntry.{ObjectEntry}
 use Rattle.object_maps.specs.declared.tree.ObjectMap.{ObjectMap}
 use Rattle.object_maps.specs.declared.tree.Tree.{Tree}
-use Rattle.object_maps.specs.Cached.{HoldsObject}
+use Rattle.object_maps.specs.Cached.{BeginsInside, HoldsObject}
 use Rattle.object_maps.specs.Pointers.{indirect_of, kept_records, pointer_of_list, pointers_of}
 use Rattle.object_maps.proofs.FreeBlocks.{kept_none}
 use Rattle.tree_plans.specs.declared.changes.ObjectChanges.{ObjectChanges}
@@ -29,25 +29,21 @@ use Rattle.tree_plans.specs.Pointers.{IsPut, entry_of}
 use Rattle.group_plans.specs.OldMaps.{ArePointersOf}
 use Rattle.group_plans.specs.Prepared.{IsPlainRefusal}
 
--- the first pointers of a payload, to blocks of the area
-pub record AreFirst (payload : List ℕ) (blocks : ℕ) (pointers : List Pointer) (count : ℕ) : Type 0 where
+-- the first pointers of a payload, to blocks of the area and to records that begin before the end of the object
+pub record AreFirst (payload : List ℕ) (blocks size : ℕ) (pointers : List Pointer) (count : ℕ) : Type 0 where
   pub are : (r : ℕ) → r < count → pointer_of_list pointers r ≡ pointer_in payload r
   pub placed : (r : ℕ) → r < count → IsPlaced blocks (pointer_of_list pointers r)
+  pub inside : (r : ℕ) → r < count → BeginsInside size r (pointer_of_list pointers r)
 
-pub none_first : (payload : List ℕ) (blocks : ℕ) (pointers : List Pointer) → AreFirst payload blocks pointers 0
-none_first payload blocks pointers = record { are = λ r low. absurd (omega (arith, low)); placed = λ r low. absurd (omega (arith, low)) }
+pub none_first : (payload : List ℕ) (blocks size : ℕ) (pointers : List Pointer) → AreFirst payload blocks size pointers 0
+none_first payload blocks size pointers = record { are = λ r low. absurd (omega (arith, low)); placed = λ r low. absurd (omega (arith, low)); inside = λ r low. absurd (omega (arith, low)) }
 
-pub one_more : (payload : List ℕ) (blocks : ℕ) (pointers : List Pointer) (count : ℕ) (p : Pointer) → length pointers ≡ count → p ≡ pointer_in payload count → IsPlaced blocks p
-    → AreFirst payload blocks pointers count → AreFirst payload blocks (pointers ++ p ∷ []) (count + 1)
-one_more payload blocks pointers count p long is placed first = record {
-  are = λ r low. elim (cases_lt r count) [
-    | inl below ↦ before r below ∙ first.are r below
-    | inr last ↦ (let same : r ≡ count = omega (arith, low, last) in last_is r same ∙ is ∙ ap (pointer_in payload) (sym same))
-  ];
-  placed = λ r low. elim (cases_lt r count) [
-    | inl below ↦ subst (IsPlaced blocks) (sym (before r below)) (first.placed r below)
-    | inr last ↦ (let same : r ≡ count = omega (arith, low, last) in subst (IsPlaced blocks) (sym (last_is r same)) placed)
-  ];
+pub one_more : (payload : List ℕ) (blocks size : ℕ) (pointers : List Pointer) (count : ℕ) (p : Pointer) → length pointers ≡ count → p ≡ pointer_in payload count → IsPlaced blocks p → BeginsInside size count p
+    → AreFirst payload blocks size pointers count → AreFirst payload blocks size (pointers ++ p ∷ []) (count + 1)
+one_more payload blocks size pointers count p long is placed inside first = record {
+  are = each (λ r q. q ≡ pointer_in payload r) is first.are;
+  placed = each (λ r q. IsPlaced blocks q) placed first.placed;
+  inside = each (BeginsInside size) inside first.inside;
 }
   where
     before : (r : ℕ) → r < count → get_or (pointers ++ p ∷ []) r no_pointer ≡ get_or pointers r no_pointer
@@ -56,8 +52,14 @@ one_more payload blocks pointers count p long is placed first = record {
     minus-self : (k : ℕ) → k - k ≡ 0
     minus-self k = omega arith
 
-    last_is : (r : ℕ) → r ≡ count → get_or (pointers ++ p ∷ []) r no_pointer ≡ p
-    last_is r same = ap (λ (k : ℕ). get_or (pointers ++ p ∷ []) k no_pointer) (same ∙ sym long) ∙ get_or-append_right pointers (p ∷ []) (length pointers) (length pointers) no_pointer refl (omega arith) ∙ ap (λ (k : ℕ). get_or (p ∷ []) k no_pointer) (minus-self (length pointers))
+    last_is : get_or (pointers ++ p ∷ []) count no_pointer ≡ p
+    last_is = ap (λ (k : ℕ). get_or (pointers ++ p ∷ []) k no_pointer) (sym long) ∙ get_or-append_right pointers (p ∷ []) (length pointers) (length pointers) no_pointer refl (omega arith) ∙ ap (λ (k : ℕ). get_or (p ∷ []) k no_pointer) (minus-self (length pointers))
+
+    each : (P : ℕ → Pointer → Type 0) → P count p → ((r : ℕ) → r < count → P r (get_or pointers r no_pointer)) → (r : ℕ) → r < count + 1 → P r (get_or (pointers ++ p ∷ []) r no_pointer)
+    each P last others r low = elim (cases_lt r count) [
+      | inl below ↦ subst (P r) (sym (before r below)) (others r below)
+      | inr past ↦ (let same : count ≡ r = omega (arith, low, past) in subst (λ (k : ℕ). P k (get_or (pointers ++ p ∷ []) k no_pointer)) same (subst (P count) (sym last_is) last))
+    ]
 
 -- a refusal for memory
 pub of_memory : {A : Type 0} (r : Result A PoolError) → IfErr r (λ e. e ≡ error.NoMemory) → IfErr r IsPlainRefusal

@@ -1,5 +1,5 @@
 -- The maps of objects before a group, as they are read from the indirect blocks.
-use Rattle.std.specs.Prelude.{ℕ, ◌≡◌, ◌<◌, ◌≤◌, List, Some, length}
+use Rattle.std.specs.Prelude.{ℕ, ◌≡◌, ◌<◌, ◌≤◌, List, Some, length, unwrap_or}
 use Rattle.base.specs.declared.names.ObjectId.{ObjectId}
 use Rattle.base.specs.declared.pointer.Pointer.{Pointer}
 use Rattle.base.specs.formats.Limits.{object_count, record_count}
@@ -8,16 +8,18 @@ use Rattle.base.specs.tree.Places.{Place}
 use Rattle.base.specs.tree.Places.Place.{Data}
 use Rattle.object_maps.specs.declared.tree.ObjectMap.{ObjectMap}
 use Rattle.object_maps.specs.declared.tree.Tree.{Tree}
+use Rattle.object_maps.specs.Cached.{BeginsInside}
 use Rattle.object_maps.specs.Pointers.{indirect_of, pointer_of_list}
 use Rattle.tree_plans.specs.Pointers.{entry_of, record_in}
 
 -- the map of object n of a tree: it has the indirect block that the tree has, at most so many records, and pointers to
--- blocks of the area
+-- blocks of the area and to records that begin before the end of the object
 pub record IsMapBefore (blocks : ℕ) (tree : Tree) (n : ℕ) (m : ObjectMap) : Type 0 where
   pub low : n < object_count
   pub indirect : m.indirect ≡ indirect_of tree.entries.items n
   pub count : length m.records.items ≤ record_count
   pub placed : (r : ℕ) → IsPlaced blocks (record_in m r)
+  pub inside : (r : ℕ) → BeginsInside (unwrap_or m.length 0) r (record_in m r)
 
 -- each of these maps is one of the tree
 abbrev pub AreMapsOf : ℕ → Tree → List (ObjectId × ObjectMap) → Type 0

@@ -1,23 +1,29 @@
 //! What callers rest on: one function for each promise of this crate's calls, proved from the contract of the call
 //! alone. So it is refused as soon as that contract says less.
 
-ghost use Rattle.std.specs.Prelude.{ℕ, ◌≡◌, ◌≢◌, ◌≤◌, ◌∷◌, [], IfErr, IfOk, IsTrue, length, map};
+ghost use Rattle.std.specs.Prelude.{ℕ, ◌≡◌, ◌≢◌, ◌≤◌, ◌∷◌, [], IfErr, IfOk, IsTrue, Some, length, map};
 ghost use Rattle.base.specs.declared.error.PoolError.TheVariants as error;
 ghost use Rattle.base.specs.common.Rising.{rising};
 ghost use Rattle.base.specs.formats.Geometry.{block_address, block_count};
 ghost use Rattle.base.specs.disk.Disk.{bytes_of};
 ghost use Rattle.base.specs.tree.PlacedTrees.{ArePlaced, HoldsTree};
+ghost use Rattle.base.specs.formats.Fields.{no_pointer};
+ghost use Rattle.object_maps.specs.declared.tree.ObjectMap.{ObjectMap};
 ghost use Rattle.object_maps.specs.ContentsShown.{contents_of};
-ghost use Rattle.object_maps.specs.Pointers.{pointers_of};
+ghost use Rattle.object_maps.specs.Pointers.{pointer_of_list, pointers_of};
 ghost use Rattle.tree_plans.specs.Plans.{address_of};
+ghost use Rattle.tree_plans.specs.Pointers.{entry_of};
 
+use crate::old_maps::read_maps;
 use crate::planning::{GroupSource, plan_group};
-use base::PoolError;
+use base::{ObjectId, PoolError};
 use checked_blocks::Frame;
 use extents::Extents;
-use object_maps::{BlockReader, Contents};
+use object_maps::{BlockReader, Contents, ObjectMap, Tree};
+use std::alloc::Global;
+use std::collections::BTreeMap;
 use transactions::Record;
-use tree_plans::TreePlan;
+use tree_plans::{ObjectChanges, TreePlan};
 
 // Blocks 0, 1 and 4 are free: a plan of two blocks takes blocks 0 and 1.
 fn a_group_takes_the_lowest_free_blocks<B: BlockReader>(
@@ -80,4 +86,20 @@ fn a_plan_leaves_the_disk<B: BlockReader>(
     ensures { B.disk reader.new ≡ B.disk reader.old }
 {
     plan_group(reader, before, source, records, extents, contents)
+}
+
+// An object of 8,064 bytes has the records 0 and 1: the map that is read of it has no pointer to record 2.
+fn a_map_has_no_pointer_past_the_end<B: BlockReader>(
+    alloc: Global,
+    reader: &mut B,
+    frame: &Frame,
+    tree: &Tree,
+    contents: &Contents,
+    objects: &BTreeMap<ObjectId, ObjectChanges>,
+) -> Result<BTreeMap<ObjectId, ObjectMap>, PoolError>
+    requires fits { block_address frame.now.blocks ≤ B.size reader.old }
+    ensures { IfOk result (λ maps. (m : ObjectMap) → entry_of maps.entries 7 ≡ Some m
+        → m.length ≡ Some 8064 → pointer_of_list m.records.items 2 ≡ no_pointer) }
+{
+    read_maps(alloc, reader, frame, tree, contents, objects)
 }

@@ -12,7 +12,7 @@ ghost use Rattle.base.specs.tree.PlacedTrees.{HoldsTree, IsPlaced};
 ghost use Rattle.base.specs.tree.Places.{Place};
 ghost use Rattle.base.specs.tree.Places.Place.{Data};
 ghost use Rattle.device_model.specs.Reading.{OnlyReads};
-ghost use Rattle.object_maps.specs.Cached.{HoldsObject, IsDamage, IsRecordPointer};
+ghost use Rattle.object_maps.specs.Cached.{BeginsInside, HoldsObject, IsDamage, IsRecordPointer};
 ghost use Rattle.object_maps.specs.ContentsShown.{contents_of};
 ghost use Rattle.object_maps.specs.Pointers.{pointer_of_list, pointers_of};
 ghost use Rattle.tree_plans.specs.Pointers.{entry_of};
@@ -41,6 +41,8 @@ fn pointers_in(
         → pointer_of_list l.items r ≡ pointer_in payload.now r) }
     ensures placed { IfOk result (λ l. (r : ℕ) → r < record_count
         → IsPlaced frame.now.blocks (pointer_of_list l.items r)) }
+    ensures inside { IfOk result (λ l. (r : ℕ) → r < record_count
+        → BeginsInside size r (pointer_of_list l.items r)) }
     ensures refused { IfErr result (λ e. (e ≡ error.NoMemory) ⊎ IsDamage e) }
     ensures sound { ((r : ℕ) → r < record_count
         → IsRecordPointer frame.now.blocks size r (pointer_in payload.now r))
@@ -69,6 +71,8 @@ fn read_pointers<B: BlockReader>(
     ensures count { IfOk result (λ l. vec_len l ≡ record_count) }
     ensures placed { IfOk result (λ l. (r : ℕ) → r < record_count
         → IsPlaced frame.now.blocks (pointer_of_list l.items r)) }
+    ensures inside { IfOk result (λ l. (r : ℕ) → r < record_count
+        → BeginsInside size r (pointer_of_list l.items r)) }
     ensures refused { IfErr result IsPrepareRefusal }
     ensures exact { IsTrue B.keeps_model → (pointers : Place → Pointer) (bytes : List ℕ)
         → HoldsObject (bytes_of (B.disk reader.old).now) frame.now id.0 indirect.now pointers bytes
@@ -159,7 +163,8 @@ fn read_changed<B: BlockReader>(
 // The maps before the group of the objects that it changes, rising, of those that the tree has a place for.
 //
 // - `all`: there is one for each of them, and none for another object.
-// - `maps`: each has the indirect block that the tree has, and pointers to blocks of the area.
+// - `maps`: each has the indirect block that the tree has, and pointers to blocks of the area. No pointer is to a
+//   record that begins at the object's end or after it.
 // - `exact`: where the model is kept and the tree is held, its pointers are the tree's.
 //
 // It is refused `NoMemory`, `Read` or `Damaged`. Where the model is kept it is not `Damaged` (`sound`).

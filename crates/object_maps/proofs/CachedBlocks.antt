@@ -25,13 +25,17 @@ promoted-left at old new same = λ address payload there. Contains-promoted (nat
 pub removed-left : (at : ℕ) (old new : List (ℕ × List ℕ)) → new ≡ remove_entry (nat_eq at) old → OnlyLeft old new
 removed-left at old new same = λ address payload there. Contains-remove_entry (nat_eq at) old (address, payload) (rw same at there)
 
--- what is found is the payload of the block there
+-- what is found was there
+pub found-there : (at : ℕ) (old : List (ℕ × List ℕ)) (payload : List ℕ) → lookup (nat_eq at) (promoted (nat_eq at) old) ≡ Some payload → Contains old (at, payload)
+found-there at old payload found =
+    let (key, there, same) = Contains-lookup (nat_eq at) (promoted (nat_eq at) old) payload found in
+    let key_is : key ≡ at = sym (eqb-true at key same) in
+    subst (λ (k : ℕ). Contains old (k, payload)) key_is (Contains-promoted (nat_eq at) old (key, payload) there)
+
+-- and is the payload of the block there
 pub found-agrees : (image : List ℕ) (at : ℕ) (old : List (ℕ × List ℕ)) (payload : List ℕ) → AgreesWith image old
     → lookup (nat_eq at) (promoted (nat_eq at) old) ≡ Some payload → payload ≡ payload_at image at
-found-agrees image at old payload agrees found =
-    let (key, there, same) = Contains-lookup (nat_eq at) (promoted (nat_eq at) old) payload found in
-    let key_is : at ≡ key = eqb-true at key same in
-    (agrees key payload (Contains-promoted (nat_eq at) old (key, payload) there)).1 ∙ ap (λ (a : ℕ). payload_at image a) (sym key_is)
+found-agrees image at old payload agrees found = (agrees at payload (found-there at old payload found)).1
 
 -- a block of the area has the address of a whole block
 pub aligned : (blocks address : ℕ) → IsBlockAddress blocks address → address % 4096 ≡ 0
@@ -111,10 +115,7 @@ dropped-in at start count old distinct is within = λ address payload there.
 pub none-found : (at : ℕ) (old : List (ℕ × List ℕ)) (found : Bool) (payload : List ℕ) → ((p : List ℕ) → Contains old (at, p) → ⊥)
     → (IsTrue found → lookup (nat_eq at) (promoted (nat_eq at) old) ≡ Some payload) → found ≡ false
 none-found at old false payload none hit = refl
-none-found at old true payload none hit =
-    let (key, there, same) = Contains-lookup (nat_eq at) (promoted (nat_eq at) old) payload (hit refl) in
-    let key_is : key ≡ at = sym (eqb-true at key same) in
-    absurd (none payload (subst (λ (k : ℕ). Contains old (k, payload)) key_is (Contains-promoted (nat_eq at) old (key, payload) there)))
+none-found at old true payload none hit = absurd (none payload (found-there at old payload (hit refl)))
 
 pub none-in-empty : (at : ℕ) (old : List (ℕ × List ℕ)) → old ≡ [] → (p : List ℕ) → Contains old (at, p) → ⊥
 none-in-empty at old none p there = Contains-nil (at, p) (subst (λ (es : List (ℕ × List ℕ)). Contains es (at, p)) none there)

@@ -1,5 +1,5 @@
 -- What a cache of blocks has of an image, and what a read of a block says.
-use Rattle.std.specs.Prelude.{ℕ, ◌≡◌, ◌<◌, ◌*◌, ◌%◌, ◌⊎◌, List, Contains, Some}
+use Rattle.std.specs.Prelude.{ℕ, ◌≡◌, ◌<◌, ◌*◌, ◌%◌, ◌⊎◌, List, Contains, Some, length}
 use Rattle.std.specs.Ordering.{nat_cmp}
 use Rattle.std.specs.FinMap as finite
 use Rattle.std.specs.FinMap.{FinMap}
@@ -7,8 +7,8 @@ use Rattle.base.specs.declared.error.PoolError.{PoolError}
 use Rattle.base.specs.declared.error.PoolError.TheVariants.{Read, Damaged}
 use Rattle.base.specs.declared.pointer.Pointer.{Pointer}
 use Rattle.base.specs.disk.Disk.{Apart}
-use Rattle.base.specs.formats.Blocks.{Frame, payload_at}
-use Rattle.base.specs.formats.Fields.{no_pointer}
+use Rattle.base.specs.formats.Blocks.{Frame, Opens, payload_at}
+use Rattle.base.specs.formats.Fields.{no_pointer, part}
 use Rattle.base.specs.formats.Geometry.{IsBlockAddress, block_size}
 use Rattle.base.specs.formats.Limits.{record_size}
 use Rattle.base.specs.tree.Places.{Place}
@@ -58,3 +58,13 @@ BeginsInside size r pointer = (pointer ≡ no_pointer) ⊎ (record_size * r < si
 -- before the end
 abbrev pub IsRecordPointer : ℕ → ℕ → ℕ → Pointer → Type 0
 IsRecordPointer blocks size r pointer = (pointer ≡ no_pointer) ⊎ ((record_size * r < size) × IsBlockAddress blocks pointer.address)
+
+-- a payload that a read of a block may give: one in memory under the block's address, or that of the block of this kind
+-- and number that the pointer names
+abbrev pub IsReadPayload : List (ℕ × List ℕ) → List ℕ → Frame → ℕ → ℕ → Pointer → List ℕ → Type 0
+IsReadPayload cached image frame kind number pointer payload = Contains cached (pointer.address, payload) ⊎ Opens image frame kind number pointer payload
+
+-- and bytes that it may give of such a payload from an offset on
+abbrev pub IsReadPart : List (ℕ × List ℕ) → List ℕ → Frame → ℕ → ℕ → Pointer → ℕ → List ℕ → Type 0
+IsReadPart cached image frame kind number pointer start bytes =
+    (payload : List ℕ) × IsReadPayload cached image frame kind number pointer payload × (bytes ≡ part payload start (length bytes))

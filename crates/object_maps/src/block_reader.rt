@@ -1,8 +1,9 @@
 //! Reads of one object of a tree, block by block: its indirect block, and parts of its records.
 //!
-//! A block is taken only if it is the one that its pointer names, as a load takes it.
+//! On a device that keeps the model, a payload is that of the block which its pointer names, as a load takes it, or one
+//! that is in memory under the block's address (`taken`).
 
-ghost use Rattle.std.specs.Prelude.{◌≡◌, ℕ, ◌+◌, ◌*◌, ◌<◌, ◌≤◌, List, IfErr, IfOk, IsTrue, OnOk, length};
+ghost use Rattle.std.specs.Prelude.{◌≡◌, ◌≢◌, ℕ, ◌+◌, ◌*◌, ◌<◌, ◌≤◌, List, IfErr, IfOk, IsTrue, OnOk, get_or, length};
 ghost use Rattle.base.specs.declared.error.PoolError.TheVariants as error;
 ghost use Rattle.base.specs.declared.pointer.Pointer.{Pointer};
 ghost use Rattle.base.specs.disk.Disk.{bytes_of};
@@ -15,7 +16,7 @@ ghost use Rattle.base.specs.tree.Places.{Place};
 ghost use Rattle.base.specs.tree.Places.Place.{Data};
 ghost use Rattle.base.specs.tree.Tree.{IsRecord};
 ghost use Rattle.device_model.specs.Reading.{OnlyReads};
-ghost use Rattle.object_maps.specs.Cached.{BeginsInside, HasNoneAt, HoldsObject, IsBlockRefusal, IsReadRefusal, IsRecordPointer, OnlyLeft};
+ghost use Rattle.object_maps.specs.Cached.{BeginsInside, HasNoneAt, HoldsObject, IsBlockRefusal, IsReadPart, IsReadPayload, IsRecordPointer, OnlyLeft};
 ghost use Rattle.object_maps.specs.Kinds.{kind_number};
 ghost use Rattle.object_maps.specs.Sources.{AreBytesFrom};
 
@@ -47,6 +48,9 @@ pub trait BlockReader: SectorDevice {
         ensures size { length into.new ≡ payload_size }
         ensures refused { IfErr result
             (IsBlockRefusal (kind_number place.kind) pointer.now.address) }
+        ensures taken { IsTrue Self.keeps_model → OnOk result (IsReadPayload
+            (Self.cached self.old) (bytes_of (Self.disk self.old).now) frame.now
+            (kind_number place.kind) place.number pointer.now into.new) }
         ensures exact { IsTrue Self.keeps_model → (payload : List ℕ)
             → Opens (bytes_of (Self.disk self.old).now) frame.now (kind_number place.kind)
             place.number pointer.now payload → OnOk result (into.new ≡ payload) }
@@ -85,7 +89,13 @@ pub fn read_indirect<B: BlockReader>(
     requires size { length payload.old ≡ payload_size }
     ensures reads { OnlyReads B.SectorDevice result reader.old reader.new }
     ensures size { length payload.new ≡ payload_size }
-    ensures refused { IfErr result IsReadRefusal }
+    ensures refused { IfErr result
+        (IsBlockRefusal (kind_number Kind.Indirect) indirect.now.address) }
+    ensures hole { indirect.now ≡ no_pointer
+        → OnOk result ((k : ℕ) → k < payload_size → get_or payload.new k 0 ≡ 0) }
+    ensures taken { IsTrue B.keeps_model → indirect.now ≢ no_pointer → OnOk result (IsReadPayload
+        (B.cached reader.old) (bytes_of (B.disk reader.old).now) frame.now
+        (kind_number Kind.Indirect) number indirect.now payload.new) }
     ensures exact { IsTrue B.keeps_model → (pointers : Place → Pointer) (bytes : List ℕ)
         → HoldsObject (bytes_of (B.disk reader.old).now) frame.now number indirect.now pointers bytes
         → OnOk result ((r : ℕ) → r < record_count
@@ -153,7 +163,14 @@ pub fn read_part<B: BlockReader>(
     requires within { start + length into.old ≤ record_size }
     ensures reads { OnlyReads B.SectorDevice result reader.old reader.new }
     ensures size { length into.new ≡ length into.old }
-    ensures refused { IfErr result IsReadRefusal }
+    ensures refused { IfErr result (IsBlockRefusal (kind_number Kind.Data) pointer.now.address) }
+    ensures hole { pointer.now ≡ no_pointer
+        → OnOk result ((k : ℕ) → k < length into.new → get_or into.new k 0 ≡ 0) }
+    ensures taken { IsTrue B.keeps_model → pointer.now ≢ no_pointer → OnOk result (IsReadPart
+        (B.cached reader.old) (bytes_of (B.disk reader.old).now) frame.now
+        (kind_number Kind.Data) (pointer_count * number + index) pointer.now start into.new) }
+    ensures zeros { OnOk result ((k : ℕ) → k < length into.new
+        → size ≤ record_size * index + (start + k) → get_or into.new k 0 ≡ 0) }
     ensures exact { IsTrue B.keeps_model → (bytes : List ℕ)
         → IsRecord (bytes_of (B.disk reader.old).now) frame.now number index pointer.now bytes
         → OnOk result (AreBytesFrom (record_size * index + start) bytes into.new) }

@@ -44,7 +44,8 @@ pub fn judge<O: ObjectSource>(objects: &O, ops: &[Op]) -> Result<(), PoolError>
 fn judge_after<O: ObjectSource>(objects: &O, noted: &[Presence], op: &Op) -> Result<(), PoolError>
     requires allowed { IsOpAllowed op.now }
     requires length { length noted.now ≡ object_count }
-    ensures { (before : List Op) → AreNoted before noted.now → ApplyTo before (O.objects objects.now)
+    ensures { (before : List Op) → AreNoted before noted.now
+        → ApplyTo before (O.objects objects.now)
         → JudgesOver (before ++ (op.now ∷ [])) (O.objects objects.now) result }
 {
     match op {

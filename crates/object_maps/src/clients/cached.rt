@@ -1,11 +1,11 @@
 //! What callers rest on of blocks that stay in memory, and of reads of one object.
 
-ghost use Rattle.std.specs.Prelude.{◌≡◌, ◌≢◌, ◌≤◌, ◌*◌, ◌∷◌, ℕ, Contains, List, [], IfErr, IfOk, IsTrue, OnOk, false, get_or, length};
+ghost use Rattle.std.specs.Prelude.{◌≡◌, ◌≢◌, ◌≤◌, ◌*◌, ◌∷◌, ℕ, Contains, List, [], IfErr, IfOk, IsTrue, OnOk, drop, false, get_or, length};
 ghost use Rattle.base.specs.declared.error.PoolError.TheVariants as error;
 ghost use Rattle.base.specs.declared.pointer.Pointer.{Pointer};
 ghost use Rattle.base.specs.disk.Disk.{bytes_of};
 ghost use Rattle.base.specs.formats.Blocks.{Opens};
-ghost use Rattle.base.specs.formats.Fields.{no_pointer, pointer_in};
+ghost use Rattle.base.specs.formats.Fields.{no_pointer, number_at, part, pointer_in};
 ghost use Rattle.base.specs.formats.Geometry.{block_address};
 ghost use Rattle.base.specs.formats.Limits.{payload_size};
 ghost use Rattle.base.specs.tree.Places.{Place};
@@ -125,6 +125,45 @@ fn a_kept_block_is_read_from_the_device<D: SectorDevice>(
     device.read_payload(frame, place, pointer, into)
 }
 
+// A read of a block gives what the device has there after the head of 64 bytes, also if it is in memory.
+fn a_block_is_read_as_the_device_has_it<D: SectorDevice>(
+    device: &mut CachedDevice<D>,
+    frame: &Frame,
+    place: BlockPlace,
+    pointer: &Pointer,
+    into: &mut [u8],
+) -> Result<(), PoolError>
+    requires fits { block_address frame.now.blocks ≤ D.size (device_in device.old) }
+    requires size { length into.old ≡ payload_size }
+    requires keeps { IsTrue D.keeps_model }
+    ensures { OnOk result (into.new ≡ drop 64
+        (part (bytes_of (D.disk (device_in device.old)).now) pointer.now.address 4096)) }
+{
+    device.read_payload(frame, place, pointer, into)
+}
+
+// If none is in memory, a block whose head has another kind is not taken.
+fn a_block_of_another_kind_is_not_taken<D: SectorDevice>(
+    device: &mut CachedDevice<D>,
+    frame: &Frame,
+    pointer: &Pointer,
+    into: &mut [u8],
+) -> Result<(), PoolError>
+    requires fits { block_address frame.now.blocks ≤ D.size (device_in device.old) }
+    requires size { length into.old ≡ payload_size }
+    requires keeps { IsTrue D.keeps_model }
+    requires empty { (cache_of device.old).entries ≡ [] }
+    requires indirect { number_at (part (bytes_of (D.disk (device_in device.old)).now)
+        pointer.now.address 4096) 0 ≡ 4 }
+    ensures { OnOk result ⊥ }
+{
+    let place = BlockPlace {
+        kind: Kind::Data,
+        number: 9,
+    };
+    device.read_payload(frame, place, pointer, into)
+}
+
 // The payload of an object's indirect block has the pointer of each of its records.
 fn an_indirect_block_has_the_pointer_of_a_record<B: BlockReader>(
     reader: &mut B,
@@ -139,6 +178,74 @@ fn an_indirect_block_has_the_pointer_of_a_record<B: BlockReader>(
         → OnOk result (pointer_in payload.new 3 ≡ pointers (Data 7 3)) }
 {
     read_indirect(reader, frame, 7, indirect, payload)
+}
+
+// If no block is in memory, one of a record is not taken for an indirect block.
+fn a_data_block_is_no_indirect_block<B: BlockReader>(
+    reader: &mut B,
+    frame: &Frame,
+    indirect: &Pointer,
+    payload: &mut [u8],
+) -> Result<(), PoolError>
+    requires fits { block_address frame.now.blocks ≤ B.size reader.old }
+    requires size { length payload.old ≡ payload_size }
+    requires keeps { IsTrue B.keeps_model }
+    requires empty { B.cached reader.old ≡ [] }
+    requires there { indirect.now ≢ no_pointer }
+    requires data { number_at (part (bytes_of (B.disk reader.old).now)
+        indirect.now.address 4096) 0 ≡ 5 }
+    ensures { OnOk result ⊥ }
+{
+    read_indirect(reader, frame, 7, indirect, payload)
+}
+
+// Nor is the block of record 591 taken for that of record 2 of object 7, whose number is 590.
+fn a_block_of_another_record_is_not_taken<B: BlockReader>(
+    reader: &mut B,
+    frame: &Frame,
+    pointer: &Pointer,
+    into: &mut [u8],
+) -> Result<(), PoolError>
+    requires fits { block_address frame.now.blocks ≤ B.size reader.old }
+    requires size { length into.old ≡ 4 }
+    requires keeps { IsTrue B.keeps_model }
+    requires empty { B.cached reader.old ≡ [] }
+    requires there { pointer.now ≢ no_pointer }
+    requires other { number_at (part (bytes_of (B.disk reader.old).now)
+        pointer.now.address 4096) 24 ≡ 591 }
+    ensures { OnOk result ⊥ }
+{
+    read_part(reader, frame, 7, 2, pointer, 20_000, 1, into)
+}
+
+// An object without an indirect block has zeros in the place of its payload.
+fn no_indirect_block_is_zeros<B: BlockReader>(
+    reader: &mut B,
+    frame: &Frame,
+    indirect: &Pointer,
+    payload: &mut [u8],
+) -> Result<(), PoolError>
+    requires fits { block_address frame.now.blocks ≤ B.size reader.old }
+    requires size { length payload.old ≡ payload_size }
+    requires hole { indirect.now ≡ no_pointer }
+    ensures { OnOk result (get_or payload.new 4031 0 ≡ 0) }
+{
+    read_indirect(reader, frame, 7, indirect, payload)
+}
+
+// And a record without a block is zeros.
+fn no_record_is_zeros<B: BlockReader>(
+    reader: &mut B,
+    frame: &Frame,
+    pointer: &Pointer,
+    into: &mut [u8],
+) -> Result<(), PoolError>
+    requires fits { block_address frame.now.blocks ≤ B.size reader.old }
+    requires size { length into.old ≡ 4 }
+    requires hole { pointer.now ≡ no_pointer }
+    ensures { OnOk result (get_or into.new 3 0 ≡ 0) }
+{
+    read_part(reader, frame, 7, 2, pointer, 20_000, 1, into)
 }
 
 // Zeros are no pointer to a record, and no damage.
@@ -179,6 +286,52 @@ fn a_damaged_block_is_named<B: BlockReader>(
         number: 9,
     };
     reader.read_payload(frame, place, pointer, payload)
+}
+
+// An indirect block that is damaged is told with its own kind and address.
+fn a_damaged_indirect_block_is_named<B: BlockReader>(
+    reader: &mut B,
+    frame: &Frame,
+    indirect: &Pointer,
+    payload: &mut [u8],
+) -> Result<(), PoolError>
+    requires fits { block_address frame.now.blocks ≤ B.size reader.old }
+    requires size { length payload.old ≡ payload_size }
+    ensures { IfErr result
+        (λ e. e ≢ error.Read → e ≡ error.Damaged 4 indirect.now.address) }
+{
+    read_indirect(reader, frame, 7, indirect, payload)
+}
+
+// So is a record's block.
+fn a_damaged_record_is_named<B: BlockReader>(
+    reader: &mut B,
+    frame: &Frame,
+    pointer: &Pointer,
+    into: &mut [u8],
+) -> Result<(), PoolError>
+    requires fits { block_address frame.now.blocks ≤ B.size reader.old }
+    requires size { length into.old ≡ 4 }
+    ensures { IfErr result
+        (λ e. e ≢ error.Read → e ≡ error.Damaged 5 pointer.now.address) }
+{
+    read_part(reader, frame, 7, 2, pointer, 8067, 1, into)
+}
+
+// Record 2 begins at byte 8,064. Of an object of 8,067 bytes it has 3, and what is read after them is zeros, whatever
+// the device has there.
+fn bytes_past_the_end_are_zeros<B: BlockReader>(
+    reader: &mut B,
+    frame: &Frame,
+    pointer: &Pointer,
+    into: &mut [u8],
+) -> Result<(), PoolError>
+    requires fits { block_address frame.now.blocks ≤ B.size reader.old }
+    requires size { length into.old ≡ 4 }
+    ensures third { OnOk result (get_or into.new 2 0 ≡ 0) }
+    ensures fourth { OnOk result (get_or into.new 3 0 ≡ 0) }
+{
+    read_part(reader, frame, 7, 2, pointer, 8067, 1, into)
 }
 
 // A read of a record begins at its offset, and has zeros after the object's end.

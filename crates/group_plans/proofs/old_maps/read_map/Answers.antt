@@ -1,10 +1,11 @@
-use Rattle.std.proofs.Common.{◌≡◌, ◌<◌, ◌∙◌, ℕ, inl, inr, length, ap, sym, arith}
+use Rattle.std.proofs.Common.{◌≡◌, ◌<◌, ◌∙◌, ℕ, inl, inr, length, ap, subst, sym, arith}
 use Rattle.std.specs.Prelude.{Option, option_map, unwrap_or}
 use Rattle.std.proofs.lemmas.Bool.{cases_lt}
 use Rattle.std.proofs.lemmas.Result.{err_from_is_err_and}
 use Rattle.base.specs.disk.Disk.{bytes_of}
+use Rattle.object_maps.specs.Cached.{BeginsInside}
 use Rattle.object_maps.specs.ContentsShown.{contents_of}
-use Rattle.object_maps.specs.Pointers.{pointers_of}
+use Rattle.object_maps.specs.Pointers.{pointer_of_list, pointers_of}
 use Rattle.group_plans.proofs.OldMaps.{entry_indirect, there_with}
 use Rattle.group_plans.proofs.PlannedPointers.{none_past}
 use Rattle.group_plans.proofs.old_maps.read_map.Goals as goal
@@ -21,6 +22,10 @@ returns-clause-map g c =
       count = omega (arith, long);
       placed = λ r. elim (cases_lt r 84) [
         | inl inside ↦ c.in_ok-records.ensures.placed r inside
+        | inr past ↦ inl (none_past records.items 84 r (omega (arith, long)) past)
+      ];
+      inside = λ r. elim (cases_lt r 84) [
+        | inl low_record ↦ subst (λ (size : ℕ). BeginsInside size r (pointer_of_list records.items r)) c.unwrap_or-size.ensures (c.in_ok-records.ensures.inside r low_record)
         | inr past ↦ inl (none_past records.items 84 r (omega (arith, long)) past)
       ];
     }

@@ -1,9 +1,9 @@
-use Rattle.std.proofs.Common.{rules, ◌≡◌, ◌+◌, ◌-◌, ◌*◌, ◌<◌, ◌≤◌, ◌∙◌, ℕ, List, length, take, drop, refl, sym, ap, get_or, get_or-take, get_or-drop, arith}
+use Rattle.std.proofs.Common.{rules, ◌≡◌, ◌+◌, ◌-◌, ◌*◌, ◌<◌, ◌≤◌, ◌∙◌, ℕ, List, length, take, drop, refl, sym, ap, get_or, arith}
 use Rattle.std.specs.Prelude.{min}
 use Rattle.std.proofs.lemmas.Result.{err_from_is_err_and}
 use Rattle.base.specs.disk.Disk.{bytes_of}
 use Rattle.base.specs.tree.PlacedTrees.{padded_record}
-use Rattle.object_maps.proofs.ObjectReads.{hole_bytes, part_bytes, past_bytes, record_hole, record_opens}
+use Rattle.object_maps.proofs.ObjectReads.{hole_bytes, part_bytes, past_bytes, past_zeros, record_hole, record_opens}
 use Rattle.object_maps.proofs.block_reader.read_part.Goals as goal
 
 pub returns-then-is_none-clause-exact : goal.returns-then-is_none-clause-exact
@@ -36,7 +36,19 @@ returns-clause-exact g c = λ keeps bytes is.
     let payload : c.read_payload.new.into ≡ padded_record c.args.index bytes = c.in_ok-read_payload.ensures.exact keeps (padded_record c.args.index bytes) o.1 in
     let within : c.args.start + length c.copy_from_slice.new.self ≤ 4032 = search (rules, arith) in
     let into : List ℕ = c.copy_from_slice.new.self in
-    let whole : into ≡ take (length into) (drop c.args.start c.read_payload.new.into) = search (rules, arith) in
-    let copied : (k : ℕ) → k < length into → get_or into k 0 ≡ get_or c.read_payload.new.into (c.args.start + k) 0 = λ k inside.
-    ap (λ (l : List ℕ). get_or l k 0) whole ∙ get_or-take (length into) (drop c.args.start c.read_payload.new.into) k 0 inside ∙ get_or-drop c.args.start c.read_payload.new.into k 0 in
-    part_bytes c.args.index c.args.start bytes c.read_payload.new.into c.copy_from_slice.new.self within payload copied
+    let copied : into ≡ take (length into) (drop c.args.start c.read_payload.new.into) = search (rules, arith) in
+    part_bytes c.args.index c.args.start bytes c.read_payload.new.into into within payload copied
+
+pub returns-clause-zeros : goal.returns-clause-zeros
+returns-clause-zeros g c =
+    let within : c.args.start + length c.copy_from_slice.new.self ≤ 4032 = search (rules, arith) in
+    let into : List ℕ = c.copy_from_slice.new.self in
+    let copied : into ≡ take (length into) (drop c.args.start c.read_payload.new.into) = search (rules, arith) in
+    let end : c.min-end.result ≡ min 4032 (c.args.size - 4032 * c.args.index) = c.min-end.ensures ∙ ap (min 4032) c.saturating_sub.ensures in
+    past_zeros c.args.index c.args.start c.args.size c.min-end.result c.read_payload.new.into into within end (c.if-not-are_zeros.ensures.0 refl) copied
+
+pub returns-clause-taken : goal.returns-clause-taken
+returns-clause-taken g c = λ keeps some.
+    let into : List ℕ = c.copy_from_slice.new.self in
+    let copied : into ≡ take (length into) (drop c.args.start c.read_payload.new.into) = search (rules, arith) in
+    (c.read_payload.new.into, c.in_ok-read_payload.ensures.taken keeps, copied)

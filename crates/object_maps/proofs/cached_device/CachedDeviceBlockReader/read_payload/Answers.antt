@@ -1,11 +1,12 @@
-use Rattle.std.proofs.Common.{◌∙◌, ℕ, List, refl, sym, ap, inl, inr}
+use Rattle.std.proofs.Common.{◌∙◌, ℕ, List, refl, sym, subst, ap, inl, inr}
 use Rattle.std.proofs.lemmas.Result.{err_from_is_err_and}
 use Rattle.std.specs.Coded.{Coded-set, coded_list, coded_ℕ}
 use Rattle.std.proofs.Math.Logic.{∥∥₁_elim, ∥∥₁_map}
 use Rattle.lru.specs.LruCache.{LruCache}
 use Rattle.base.specs.disk.Disk.{bytes_of}
+use Rattle.base.specs.formats.Blocks.{Opens}
 use Rattle.object_maps.specs.Kinds.{kind_number}
-use Rattle.object_maps.proofs.CachedBlocks.{aligned, found-agrees, left-agrees, promoted-left, put-agrees}
+use Rattle.object_maps.proofs.CachedBlocks.{aligned, found-agrees, found-there, left-agrees, promoted-left, put-agrees}
 use Rattle.object_maps.proofs.CachedDisks.{same-agrees}
 use Rattle.object_maps.proofs.cached_device.CachedDeviceBlockReader.read_payload.Goals as goal
 
@@ -51,3 +52,14 @@ invariant_of-self-2 g c = record {
       (left-agrees image c.args.self.now.cache.entries c.copy.new.self.entries
       (promoted-left c.args.pointer.now.address _ _ (ap (λ (l : LruCache ℕ (List ℕ)). l.entries) c.copy.ensures.entries)) (agrees keeps))));
 }
+
+pub returns-then-copy-clause-taken : goal.returns-then-copy-clause-taken
+returns-then-copy-clause-taken g c = λ keeps.
+    inl (found-there c.args.pointer.now.address c.args.self.now.cache.entries c.copy.new.into (c.if-copy.ensures.hit refl))
+
+pub returns-clause-taken : goal.returns-clause-taken
+returns-clause-taken g c = λ keeps.
+    let image : List ℕ = bytes_of (g.D.SectorDevice.disk c.args.self.now.device).now in
+    let opens = c.in_ok-read_block.ensures.opens image (λ k. refl) keeps in
+    inr (subst (λ (l : List ℕ). Opens image c.args.frame.now (kind_number c.args.place.kind) c.args.place.number c.args.pointer.now l)
+    (sym (c.copy_from_slice.ensures.after ∙ c.payload_of-payload.ensures.payload)) opens)
