@@ -1,5 +1,5 @@
 -- The free blocks of a tree and a chain. And those that a plan leaves.
-use Rattle.std.proofs.Common.{◌≡◌, ℕ, zero, suc, ◌<◌, ◌≤◌, Bool, true, false, not, ◌&&◌, ◌||◌, List, [], ◌∷◌, length, take, get_or, Option, Some, None, ◌⊎◌, inl, inr, refl, sym, subst, ap, ◌∙◌, arith}
+use Rattle.std.proofs.Common.{◌≡◌, ℕ, zero, suc, ◌+◌, ◌<◌, ◌≤◌, Bool, true, false, not, ◌&&◌, ◌||◌, List, [], ◌∷◌, length, take, get_or, Option, Some, None, ◌⊎◌, inl, inr, refl, sym, subst, ap, ◌∙◌, arith}
 use Rattle.std.specs.Prelude.{◌==◌, if◌then◌else◌, Contains, Err, IfErr, IsErr, Ok, Result, slice_get}
 use Rattle.std.specs.List.{list_any}
 use Rattle.std.specs.Option.{option_map_or}
@@ -8,10 +8,11 @@ use Rattle.std.specs.FinSet as set
 use Rattle.std.specs.FinSet.{FinSet, contains-empty, empty_of_len}
 use Rattle.std.proofs.lemmas.Bool.{eq-eqb, eqb-true, false≢true}
 use Rattle.std.proofs.lemmas.List.{length-take}
+use Rattle.std.proofs.lemmas.List.Folds.{list_any-append}
 use Rattle.std.proofs.lemmas.Option.{get_or_from_slice_get, slice_get-get_or}
 use Rattle.base.specs.declared.error.PoolError.{PoolError}
 use Rattle.base.specs.declared.pointer.Pointer.{Pointer}
-use Rattle.base.specs.formats.Chain.{LogPiece}
+use Rattle.base.specs.formats.Chain.{LogPiece, addresses_of, chain_addresses}
 use Rattle.base.specs.formats.Fields.{no_pointer}
 use Rattle.base.specs.formats.Geometry.{block_address, IsBlockAddress}
 use Rattle.base.specs.tree.Places.{Place, IsPlace}
@@ -22,8 +23,8 @@ use Rattle.object_maps.specs.Pointers.{kept_records, pointers_of}
 use Rattle.space.specs.FreeSets.{FreeSpace, IsLowestFree, after_take, is_free}
 use Rattle.tree_plans.specs.declared.planner.PlannedBlock.{PlannedBlock}
 use Rattle.object_maps.specs.FreeBlocks.{AreUnnamed, BlocksTaken, entry_names, is_block_at, names_block, tree_names}
-use Rattle.object_maps.proofs.FreeBlocks.{address_taken, blocks_kept}
-use Rattle.import_replay.specs.FreeBlocks.{AreAllPlanned, AreUnused, IsLowestLeft, IsNamed, IsUsedBy, chain_addresses, is_planned, logs_block, plans_block, uses_block}
+use Rattle.object_maps.proofs.FreeBlocks.{address_taken, blocks_kept, taken_more, taken_twice}
+use Rattle.import_replay.specs.FreeBlocks.{AreAllPlanned, AreUnused, IsLowestLeft, IsNamed, IsUsedBy, is_planned, logs_block, plans_block, uses_block}
 
 or_left : (a b : Bool) → a ≡ true → (a || b) ≡ true
 or_left true b h = refl
@@ -164,7 +165,7 @@ found-at k addresses h =
 
 any-logged : (k : ℕ) (chain : List LogPiece) → list_any (is_block_at k) (chain_addresses chain) ≡ list_any (logs_block k) chain
 any-logged k [] = refl
-any-logged k (b ∷ bs) = ap (λ (there : Bool). logs_block k b || there) (any-logged k bs)
+any-logged k (b ∷ bs) = list_any-append (is_block_at k) (addresses_of b) (chain_addresses bs) ∙ ap (λ (there : Bool). logs_block k b || there) (any-logged k bs)
 
 module _ (t : Tree) (directories : length t.directories.items ≡ 84) (entries : length t.entries.items ≡ 5292) (chain : List LogPiece) (k : ℕ) where
   logs : list_any (is_block_at k) (chain_addresses chain) ≡ list_any (logs_block k) chain
@@ -211,6 +212,17 @@ module _ (t : Tree) (chain : List LogPiece) (blocks : ℕ) (all left : FreeSpace
         (let free : is_free is.0 left ≡ false = ap (λ (a : ℕ). set.contains left.free a) (sym is.2) ∙ h in
         subst (λ (a : ℕ). IsUsedBy (pointers_of t) (chain_addresses chain) a) (sym is.2) (found-used t directories entries chain is.0 (not-false (uses_block is.0 t chain) (sym (each is.0 is.1) ∙ free))));
   }
+
+-- the first block of a piece is taken, and then those behind it
+pub piece_taken : (p : LogPiece) (old mid new : FreeSpace) → BlocksTaken (λ k. is_block_at k p.address) old mid → BlocksTaken (λ k. list_any (is_block_at k) p.behind) mid new → BlocksTaken (λ k. logs_block k p) old new
+piece_taken p old mid new first others = taken_twice (λ k. is_block_at k p.address) (λ k. list_any (is_block_at k) p.behind) old mid new first others
+
+-- one more of some addresses
+pub address_more : (addresses : List ℕ) (i : ℕ) (old mid new : FreeSpace) → i < length addresses → BlocksTaken (λ k. list_any (is_block_at k) (take i addresses)) old mid
+    → BlocksTaken (λ k. is_block_at k (get_or addresses i 0)) mid new → BlocksTaken (λ k. list_any (is_block_at k) (take (i + 1) addresses)) old new
+address_more addresses i old mid new low first second =
+    let a : ℕ = get_or addresses i 0 in
+    taken_more is_block_at addresses i a old mid new low (sym (get_or_from_slice_get addresses i a a (slice_get-get_or addresses i 0 low))) first second
 
 -- the block of a number is taken
 pub number_taken : (i : ℕ) (s : FreeSpace) → BlocksTaken (λ k. is_block_at k (block_address i)) s (after_take i s)

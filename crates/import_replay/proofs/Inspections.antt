@@ -8,7 +8,7 @@ use Rattle.std.specs.FinSet.{FinSet}
 use Rattle.base.specs.crash.Mount.{IsChainDamaged, IsFound, Mounts, apply_records, records_above}
 use Rattle.base.specs.declared.names.ObjectId.{ObjectId}
 use Rattle.base.specs.declared.pointer.Pointer.{Pointer}
-use Rattle.base.specs.formats.Chain.{LogPiece}
+use Rattle.base.specs.formats.Chain.{LogPiece, chain_addresses}
 use Rattle.base.specs.formats.Geometry.{block_count}
 use Rattle.base.specs.formats.Limits.{max_length, object_count}
 use Rattle.base.specs.formats.Names.{IsName}
@@ -25,7 +25,7 @@ use Rattle.object_maps.specs.Sources.{AreWithin}
 use Rattle.object_maps.specs.Surveys.{ListsObjectsOf}
 use Rattle.import_replay.specs.declared.inspection.Inspected.{Inspected}
 use Rattle.log_replay.specs.declared.outline.Outline.{Outline}
-use Rattle.import_replay.specs.FreeBlocks.{AreUnused, chain_addresses}
+use Rattle.import_replay.specs.FreeBlocks.{AreUnused}
 use Rattle.import_replay.specs.Inspections.{AgreesWithImports, IsInspectedFrom, IsInspectionOf, IsToldOf, IsToldOfBounded}
 use Rattle.log_replay.specs.Outlines.{IsOutlineOf, ReplaysOutline}
 use Rattle.log_replay.specs.Replays.{IsRecordRefused}

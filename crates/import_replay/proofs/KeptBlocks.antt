@@ -19,7 +19,7 @@ use Rattle.base.proofs.crash.OneMount.{one-active, one-chain}
 use Rattle.base.proofs.disk.Put.{part_same}
 use Rattle.base.proofs.disk.WrittenBlocks.{blocks-apart}
 use Rattle.base.proofs.tree.PlacedTrees.{holds-placed, in-tree}
-use Rattle.intent_log.specs.Chains.{IsSoundBlock}
+use Rattle.intent_log.specs.Chains.{IsSoundPiece}
 use Rattle.object_maps.specs.Pointers.{pointers_of}
 use Rattle.object_maps.specs.declared.tree.Tree.{Tree}
 use Rattle.sync.specs.Made.{BlocksWritten}
@@ -34,7 +34,7 @@ use Rattle.import_replay.proofs.UsedBlocks.{sound_in_area}
 
 -- what was read of an image, and blocks that are none of it
 module _ (size : ℕ) (u : Uberblock) (name : List ℕ) (tree : Tree) (objects : FinMap nat_cmp (List ℕ)) (chain : List LogPiece) (image now : List ℕ) (blocks : List PlannedBlock)
-    (sound : All (IsSoundBlock (block_count size)) chain) (read : HoldsPool image size u name tree objects chain) (unused : All (IsUnusedBlock image u chain) blocks)
+    (sound : All (IsSoundPiece (block_count size)) chain) (read : HoldsPool image size u name tree objects chain) (unused : All (IsUnusedBlock image u chain) blocks)
     (apart : AreApartIn size blocks) (long : length now ≡ length image) (written : BlocksWritten image size blocks (length blocks) now) where
   -- what is used lies in the area
   in_area : (address : ℕ) → IsUsed image u.root chain address → IsBlockAddress (block_count size) address

@@ -9,7 +9,7 @@ use Rattle.base.specs.crash.Views.{IsLogContent}
 use Rattle.base.specs.declared.error.PoolError.{PoolError}
 use Rattle.base.specs.disk.Calls.{Writes}
 use Rattle.base.specs.disk.Disk.{Disk, written}
-use Rattle.base.specs.formats.Chain.{LogPiece}
+use Rattle.base.specs.formats.Chain.{LogBlock}
 use Rattle.base.specs.formats.Fields.{number_at}
 use Rattle.base.specs.formats.Geometry.{config_place, slot_of, slot_place}
 use Rattle.base.specs.formats.Uberblocks.{slot_size}
@@ -134,7 +134,7 @@ module _ (w : ImportWrites) (first : Stage) (run : SyncRun) (is : IsGroupSync w 
   distinct_blocks = subst (λ (bs : List PlannedBlock). IsDistinct nat_eq (map (λ (b : PlannedBlock). b.index) bs)) (sym is.blocks) is.distinct
 
   -- and if none of its blocks is a log block, none of the calls writes one
-  pub writes_no_log : All (λ (b : PlannedBlock). number_at b.block 0 ≢ 6) w.blocks → (guid chain number place : ℕ) (content : List ℕ) (block : LogPiece) → IsWrittenNext run place content
+  pub writes_no_log : All (λ (b : PlannedBlock). number_at b.block 0 ≢ 6) w.blocks → (guid chain number place : ℕ) (content : List ℕ) (block : LogBlock) → IsWrittenNext run place content
       → IsLogContent content guid chain number block → ⊥
   writes_no_log none guid chain number place content block written log =
       let (call, stands, made) = call_of_target run run.done written.target written.at in

@@ -16,6 +16,8 @@ use Rattle.base.specs.formats.Geometry.{IsGeometry, block_address, config_place}
 use Rattle.base.specs.formats.Labels.{Config}
 use Rattle.base.specs.tree.PlacedTrees.{HoldsTree}
 use Rattle.base.proofs.common.KeptLists.{All-at, All-each, none_at}
+use Rattle.base.proofs.crash.CutViews.{cut_none}
+use Rattle.base.proofs.crash.LogFronts.{take-at}
 use Rattle.base.proofs.crash.LogImports.{chains_of_view}
 use Rattle.base.proofs.crash.NewViews.{configs_of_stage, logs_of_import}
 use Rattle.base.proofs.disk.Moments.{both, joins, latest, moments_grow, starts, weaker}
@@ -35,17 +37,17 @@ use Rattle.import_replay.specs.LabelSyncs.{ImportWrites, IsGroupSync}
 use Rattle.import_replay.proofs.LabelCalls.{block_count_is, distinct_blocks, writes_no_log}
 use Rattle.import_replay.proofs.LabelSyncs.{sync_goes_on}
 
--- the views of the sync: all log blocks of the old one are flushed, and the new one has none
-abbrev pub views_of : (w : ImportWrites) (created : ℕ) (at : FixedLabels) (v : View) (tree : ViewTree) → SyncViews
-views_of w created at v tree = record { created = created; fixed = at; old = v; flushed = length v.logged; new = view_of w tree; new_flushed = 0 }
+-- the views of the sync: so many log blocks of the old one are fixed, and the new one has none
+abbrev pub views_of : (w : ImportWrites) (created flushed : ℕ) (at : FixedLabels) (v : View) (tree : ViewTree) → SyncViews
+views_of w created flushed at v tree = record { created = created; fixed = at; old = v; flushed = flushed; new = view_of w tree; new_flushed = 0 }
 
 -- what may be written spares the view
-module _ (w : ImportWrites) (first : Stage) (created : ℕ) (at : FixedLabels) (v : View) (tree : ViewTree) (start : Disk) (may : MayBeWritten w first created at v tree start) where
+module _ (w : ImportWrites) (first : Stage) (created flushed : ℕ) (at : FixedLabels) (v : View) (tree : ViewTree) (start : Disk) (may : MayBeWritten w first created flushed at v tree start) where
   abbrev new : View
   new = view_of w tree
 
   abbrev views : SyncViews
-  views = views_of w created at v tree
+  views = views_of w created flushed at v tree
 
   config_guid : w.config.guid ≡ w.u.guid
   config_guid = ap (λ (c : Config). c.guid) may.behind.config_is ∙ sym may.behind.guid
@@ -60,16 +62,16 @@ module _ (w : ImportWrites) (first : Stage) (created : ℕ) (at : FixedLabels) (
   config_same : config_block w.config ≡ config_content w.size v.u.guid (v.u.group + 4) tree.contents.name
   config_same = ap (λ (c : Config). config_block c) may.behind.config_is
 
-  spare_block : (b : PlannedBlock) → IsSpareFor v b → IsSpareBlock views b
+  spare_block : (b : PlannedBlock) → IsSpareFor flushed v b → IsSpareBlock views b
   spare_block b is = record {
     not_config = is.not_config;
     not_log = is.not_log;
     not_in_tree = λ place in_range some same. is.spare.not_in_tree place in_range some (sym same);
-    not_logged = λ i l there same. is.spare.not_logged i l there (sym same);
+    not_logged = λ i l below there same. is.spare.not_logged i l (take-at flushed v.logged i l below there) (sym same);
   }
 
   no_log_block : All (λ (b : PlannedBlock). number_at b.block 0 ≢ 6) w.blocks
-  no_log_block = All-each (λ (b : PlannedBlock). number_at b.block 0 ≢ 6) w.blocks (λ i b there. (All-at (IsSpareFor v) w.blocks i b may.apart there).not_log)
+  no_log_block = All-each (λ (b : PlannedBlock). number_at b.block 0 ≢ 6) w.blocks (λ i b there. (All-at (IsSpareFor flushed v) w.blocks i b may.apart there).not_log)
 
   -- what an import may write is of the one config that the new view has
   own_config : (group : ℕ) (content : List ℕ) → (group ≡ v.u.group + 4) × (content ≡ config_content w.size v.u.guid group tree.contents.name) → content ≡ config_block w.config
@@ -101,6 +103,7 @@ module _ (w : ImportWrites) (first : Stage) (created : ℕ) (at : FixedLabels) (
       name = sym config_name;
       root = may.behind.root;
       linked = tt;
+      cut = cut_none w.u.version;
     }
 
     makes_tree : MakesTree (bytes_of start.now) run new
@@ -120,20 +123,20 @@ module _ (w : ImportWrites) (first : Stage) (created : ℕ) (at : FixedLabels) (
       uberblock = is.uberblock;
       config = subst (λ (s : Option LabelStages). HasConfigOf s views) (sym is.stages) (refl, omega (arith, config_group), may.spares);
       blocks = subst (λ (bs : List PlannedBlock). All (IsSpareBlock views) bs) (sym is.blocks)
-          (All-each (IsSpareBlock views) w.blocks (λ i b there. spare_block b (All-at (IsSpareFor v) w.blocks i b may.apart there)));
+          (All-each (IsSpareBlock views) w.blocks (λ i b there. spare_block b (All-at (IsSpareFor flushed v) w.blocks i b may.apart there)));
       tree = makes_tree;
       log = (omega arith, λ i l there. absurd (none_at i l there));
     }
 
 -- The sync has begun on a disk that is ready after the view: each moment since then is one of the import.
-pub record HasImportSince (w : ImportWrites) (created : ℕ) (at : FixedLabels) (v : View) (tree : ViewTree) (run : SyncRun) (start now : Disk) : Type 0 where
-  pub way : IsUnderWay (bytes_of start.now) (views_of w created at v tree) run now.now
-  pub each : EachMoment (λ m. IsPhase w.size created (length v.logged) 0 m v (view_of w tree)) start now
+pub record HasImportSince (w : ImportWrites) (created flushed : ℕ) (at : FixedLabels) (v : View) (tree : ViewTree) (run : SyncRun) (start now : Disk) : Type 0 where
+  pub way : IsUnderWay (bytes_of start.now) (views_of w created flushed at v tree) run now.now
+  pub each : EachMoment (λ m. IsPhase w.size created flushed 0 m v (view_of w tree)) start now
   pub fair : EachMoment (HasFairBytes w.size created) start now
   pub configs : EachMoment (λ m. AreConfigsBelowImport w.size created (handed m) v tree.contents.name) start now
   pub chains : EachMoment (λ m. AreChainsUpTo w.size created (handed m) v.u.guid v.u.import_number) start now
 
-module _ (w : ImportWrites) (first : Stage) (created : ℕ) (at : FixedLabels) (v : View) (tree : ViewTree) (start : Disk) (may : MayBeWritten w first created at v tree start)
+module _ (w : ImportWrites) (first : Stage) (created flushed : ℕ) (at : FixedLabels) (v : View) (tree : ViewTree) (start : Disk) (may : MayBeWritten w first created flushed at v tree start)
     (run : SyncRun) (is : IsGroupSync w first run) where
   abbrev new_of : View
   new_of = view_of w tree
@@ -145,12 +148,12 @@ module _ (w : ImportWrites) (first : Stage) (created : ℕ) (at : FixedLabels) (
   UpTo ws = AreChainsUpTo w.size created ws v.u.guid v.u.import_number
 
   abbrev InPhase : Moment → Type 0
-  InPhase m = IsPhase w.size created (length v.logged) 0 m v new_of
+  InPhase m = IsPhase w.size created flushed 0 m v new_of
 
-  pub import_begins : run.done ≡ 0 → HasImportSince w created at v tree run start start
+  pub import_begins : run.done ≡ 0 → HasImportSince w created flushed at v tree run start start
   import_begins none = record {
-    way = begins_at_rest start.now (views_of w created at v tree) run none (distinct_blocks w first run is) (leads w first created at v tree start may run is)
-        (subst (λ (n : ℕ). IsBefore (views_of w created at v tree) n start.now) (sym is.geometry) (before w first created at v tree start may))
+    way = begins_at_rest start.now (views_of w created flushed at v tree) run none (distinct_blocks w first run is) (leads w first created flushed at v tree start may run is)
+        (subst (λ (n : ℕ). IsBefore (views_of w created flushed at v tree) n start.now) (sym is.geometry) (before w first created flushed at v tree start may))
         (subst (λ (n : ℕ). HasFairBytes n created start.now) (sym is.geometry) may.ready.bytes);
     each = starts InPhase start (inl may.ready.rest.rest);
     fair = starts (HasFairBytes w.size created) start may.ready.bytes;
@@ -171,11 +174,11 @@ module _ (w : ImportWrites) (first : Stage) (created : ℕ) (at : FixedLabels) (
       (group_is, bytes ∙ ap (λ (c : Config). config_block c) config_is ∙ ap (λ (g : ℕ). config_content w.size v.u.guid g tree.contents.name) (sym group_is))
 
   import_goes_on : IsGeometry run.geometry → (old new : Disk) (later : SyncRun) → SameSync run later → KeepsWritten run later old.now new.now → KeepsPhases run later old new
-      → HasImportSince w created at v tree run start old → HasImportSince w created at v tree later start new
+      → HasImportSince w created flushed at v tree run start old → HasImportSince w created flushed at v tree later start new
   import_goes_on g old new later same written kept since = record {
     way = call.1;
     each = joins InPhase start old new since.each
-        (subst (λ (n : ℕ). EachMoment (λ m. IsPhase n created (length v.logged) 0 m v new_of) old new) is.geometry call.0);
+        (subst (λ (n : ℕ). EachMoment (λ m. IsPhase n created flushed 0 m v new_of) old new) is.geometry call.0);
     fair = joins (HasFairBytes w.size created) start old new since.fair
         (subst (λ (n : ℕ). EachMoment (HasFairBytes n created) old new) is.geometry
         (kept.fair created reached (subst (λ (n : ℕ). HasFairBytes n created old.now) (sym is.geometry) (latest (HasFairBytes w.size created) start old since.fair))));
@@ -185,8 +188,8 @@ module _ (w : ImportWrites) (first : Stage) (created : ℕ) (at : FixedLabels) (
         (weaker (HandsOnly created (IsWrittenNext run) (handed old.now)) (λ m. UpTo (handed m)) old new (λ m hands. no_later m hands) (kept.hands created));
   }
     where
-      call : EachMoment (IsSyncPhase run (views_of w created at v tree)) old new × IsUnderWay (bytes_of start.now) (views_of w created at v tree) later new.now
-      call = keeps_phases (bytes_of start.now) old new (views_of w created at v tree) run later same written kept since.way
+      call : EachMoment (IsSyncPhase run (views_of w created flushed at v tree)) old new × IsUnderWay (bytes_of start.now) (views_of w created flushed at v tree) later new.now
+      call = keeps_phases (bytes_of start.now) old new (views_of w created flushed at v tree) run later same written kept since.way
 
       reached : created ≤ moments old
       reached = let grown = moments_grow (HasFairBytes w.size created) start old since.fair in omega (arith, may.began, grown)
@@ -198,35 +201,35 @@ module _ (w : ImportWrites) (first : Stage) (created : ℕ) (at : FixedLabels) (
 
       no_later : (m : Moment) → HandsOnly created (IsWrittenNext run) (handed old.now) m → UpTo (handed m)
       no_later m hands k chain number content block below some log =
-          ⊎_elim (λ now. absurd (writes_no_log w first run is (no_log_block w first created at v tree start may) v.u.guid chain number (block_address k) content block now log))
+          ⊎_elim (λ now. absurd (writes_no_log w first run is (no_log_block w first created flushed at v tree start may) v.u.guid chain number (block_address k) content block now log))
           (λ earlier. latest (λ m. UpTo (handed m)) start old since.chains k chain number content block below earlier log) (hands (block_address k) content some)
 
-  import_moments : (now : Disk) → HasImportSince w created at v tree run start now → EachMoment (IsImportMoment w.size created v new_of tree.contents.name) start now
+  import_moments : (now : Disk) → HasImportSince w created flushed at v tree run start now → EachMoment (IsImportMoment w.size created flushed v new_of tree.contents.name) start now
   import_moments now since =
-      weaker (λ m. (HasFairBytes w.size created m × Below (handed m)) × (UpTo (handed m) × InPhase m)) (IsImportMoment w.size created v new_of tree.contents.name) start now
+      weaker (λ m. (HasFairBytes w.size created m × Below (handed m)) × (UpTo (handed m) × InPhase m)) (IsImportMoment w.size created flushed v new_of tree.contents.name) start now
       (λ m here. record { bytes = here.0.0; configs = here.0.1; chains = here.1.0; phase = here.1.1 })
       (both (λ m. HasFairBytes w.size created m × Below (handed m)) (λ m. UpTo (handed m) × InPhase m) start now
       (both (HasFairBytes w.size created) (λ m. Below (handed m)) start now since.fair since.configs)
       (both (λ m. UpTo (handed m)) InPhase start now since.chains since.each))
 
-  import_ends : (now : Disk) → run.done ≡ call_count run → HasImportSince w created at v tree run start now → IsAtRest w.size created 0 now.now new_of
+  import_ends : (now : Disk) → run.done ≡ call_count run → HasImportSince w created flushed at v tree run start now → IsAtRest w.size created 0 now.now new_of
   import_ends now all since =
-      subst (λ (n : ℕ). IsAtRest n created 0 now.now new_of) is.geometry (ends_at_rest (bytes_of start.now) now.now (views_of w created at v tree) run all since.way).rest.rest
+      subst (λ (n : ℕ). IsAtRest n created 0 now.now new_of) is.geometry (ends_at_rest (bytes_of start.now) now.now (views_of w created flushed at v tree) run all since.way).rest.rest
 
 -- one call more, whatever it answers
-module _ (w : ImportWrites) (first : Stage) (run : SyncRun) (is : IsGroupSync w first run) (created : ℕ) (at : FixedLabels) (v : View) (tree : ViewTree) (start : Disk)
-    (may : MayBeWritten w first created at v tree start) (g : IsGeometry w.size) (old new : Disk) (later : SyncRun) (same : SameSync run later) (written : KeepsWritten run later old.now new.now)
-    (kept : KeepsPhases run later old new) (since : HasImportSince w created at v tree run start old) where
-  pub since_next : HasImportSince w created at v tree later start new
-  since_next = import_goes_on w first created at v tree start may run is (subst IsGeometry (sym is.geometry) g) old new later same written kept since
+module _ (w : ImportWrites) (first : Stage) (run : SyncRun) (is : IsGroupSync w first run) (created flushed : ℕ) (at : FixedLabels) (v : View) (tree : ViewTree) (start : Disk)
+    (may : MayBeWritten w first created flushed at v tree start) (g : IsGeometry w.size) (old new : Disk) (later : SyncRun) (same : SameSync run later) (written : KeepsWritten run later old.now new.now)
+    (kept : KeepsPhases run later old new) (since : HasImportSince w created flushed at v tree run start old) where
+  pub since_next : HasImportSince w created flushed at v tree later start new
+  since_next = import_goes_on w first created flushed at v tree start may run is (subst IsGeometry (sym is.geometry) g) old new later same written kept since
 
   is_later : IsGroupSync w first later
   is_later = sync_goes_on w first run later same is
 
   -- each moment so far is one of the import
-  pub moments_next : EachMoment (IsImportMoment w.size created v (view_of w tree) tree.contents.name) start new
-  moments_next = import_moments w first created at v tree start may later is_later new since_next
+  pub moments_next : EachMoment (IsImportMoment w.size created flushed v (view_of w tree) tree.contents.name) start new
+  moments_next = import_moments w first created flushed at v tree start may later is_later new since_next
 
   -- after the last call the disk is at rest on the view that was written
   pub rest_next : later.done ≡ call_count later → IsAtRest w.size created 0 new.now (view_of w tree)
-  rest_next all = import_ends w first created at v tree start may later is_later new all since_next
+  rest_next all = import_ends w first created flushed at v tree start may later is_later new all since_next

@@ -24,6 +24,7 @@ pub mod KeptBlocks
 pub mod ReplayedPools
 pub mod WrittenPlaces
 pub mod NextPools
+pub mod PlacedRecords
 pub mod PlannedPools
 pub mod ReadPools
 pub mod StoppedImports

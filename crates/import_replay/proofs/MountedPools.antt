@@ -7,7 +7,7 @@ use Rattle.std.specs.FinSet as set
 use Rattle.std.proofs.lemmas.Bool.{or_parts, ltb-false}
 use Rattle.base.specs.declared.pointer.Pointer.{Pointer}
 use Rattle.base.specs.formats.Blocks.{Frame}
-use Rattle.base.specs.formats.Chain.{LogPiece}
+use Rattle.base.specs.formats.Chain.{LogPiece, chain_addresses}
 use Rattle.base.specs.steps.Exact.{AreFree, IsBounded, IsInLog}
 use Rattle.base.specs.formats.Geometry.{IsBlockAddress, block_count}
 use Rattle.base.specs.crash.Imports.{IsFirstLogBlock, IsImported, IsImportOf, is_dirty_max_allowed, is_past_last}
@@ -30,7 +30,7 @@ use Rattle.object_maps.specs.ContentsShown.{contents_of}
 use Rattle.object_maps.specs.Pointers.{objects_of, pointers_of}
 use Rattle.sync.specs.Made.{BlocksWritten}
 use Rattle.tree_plans.specs.declared.planner.PlannedBlock.{PlannedBlock}
-use Rattle.import_replay.specs.FreeBlocks.{IsNamed, IsUsedBy, chain_addresses}
+use Rattle.import_replay.specs.FreeBlocks.{IsNamed, IsUsedBy}
 use Rattle.import_replay.specs.ImportRefusals.{CanImport, HasSoundPool}
 use Rattle.import_replay.specs.Mounts.{IsMountedAnew, IsMountedFrom, StandsOn, frame_of_import, parts_mounted, shown_of_import}
 use Rattle.import_replay.specs.NextPools.{AreMadeOver, ArePartsFor, AreWithinLimits, PoolParts, next_frame}
@@ -115,6 +115,7 @@ module _ (size : ℕ) (u : Uberblock) (p : PoolParts) (dirty_max : ℕ) (m : Mou
     dirty = λ g. get-empty {X = ℕ} nat_cmp g;
     reserved = λ g. get-empty {X = ℕ} nat_cmp g;
     unsynced = refl;
+    begun = refl;
     pending = refl;
     kept = refl;
     log_number = refl;

@@ -22,20 +22,12 @@ use Rattle.base.specs.crash.Mount.{IsMounted, IsUseCount}
 use Rattle.base.proofs.disk.Put.{length-part}
 use Rattle.base.proofs.disk.Moments.{only_bytes}
 use Rattle.labels.proofs.LabelsOfImage.{IsConfigBlock-IsConfig}
+use Rattle.base.proofs.crash.EmptyPools.{empty_chain, empty_tree}
 use Rattle.base.proofs.formats.Geometry.{slot-on_device}
 use Rattle.uberblocks.proofs.Places.{part-part, slot_below}
 use Rattle.uberblocks.proofs.SlotReads.{readings_agree}
 use Rattle.import_replay.specs.Creations.{IsCreatedOn, IsNewPool, first_uberblock, first_config}
 use Rattle.import_replay.specs.Labelled.{IsLabelled}
-
-empty_tree : (image : List ℕ) (frame : Frame) → IsTree image frame no_pointer map.empty
-empty_tree image frame = record {
-  no_others = λ n _. map.get-empty {X = List ℕ} nat_cmp n;
-  directories = inl (refl, λ n. map.get-empty {X = List ℕ} nat_cmp n);
-}
-
-empty_chain : (image : List ℕ) (frame : Frame) (chain number : ℕ) → IsChain image frame chain (record { address = 0; number = number }) []
-empty_chain image frame chain number block is = let at : 0 ≡ block_address is.in_area.0 = is.in_area.2 in absurd (omega arith)
 
 -- the tree under no root has no block
 no_block : (image : List ℕ) (address : ℕ) → IsInTree image no_pointer address → ⊥

@@ -14,7 +14,6 @@ use Rattle.std.proofs.lemmas.List.Elements.{All-weaker}
 use Rattle.std.proofs.Math.Logic.{∥∥₁_map}
 use Rattle.base.specs.common.Rising.{rising}
 use Rattle.base.specs.crash.Imports.{is_dirty_max_allowed, is_past_last}
-use Rattle.base.specs.crash.LogRoom.{ops_of_records, records_estimate}
 use Rattle.base.specs.crash.Mount.{IsChainDamaged, IsUsed, Mounts, records_above}
 use Rattle.base.specs.declared.error.PoolError.{PoolError}
 use Rattle.base.specs.declared.error.PoolError.TheVariants.{Damaged, NoMemory}
@@ -47,8 +46,8 @@ use Rattle.group_plans.proofs.GroupChanges.{lengths_told, makes_holes}
 use Rattle.group_plans.proofs.GroupCounts.{plans_fit_estimates, short_plans_lack_blocks, takes_at_places}
 use Rattle.group_plans.proofs.GroupTrees.{plans_make_trees}
 use Rattle.group_plans.proofs.PlannedBlocks.{addresses_are}
-use Rattle.intent_log.specs.Chains.{IsSoundBlock}
-use Rattle.log_replay.specs.Replays.{IsBlockAllowed, IsChainAllowed, IsReplayCause, IsReplayRefusal}
+use Rattle.intent_log.specs.Chains.{IsSoundPiece}
+use Rattle.log_replay.specs.Replays.{IsPieceAllowed, IsChainAllowed, IsReplayCause, IsReplayRefusal}
 use Rattle.object_maps.specs.ContentsShown.{contents_of}
 use Rattle.object_maps.specs.Loading.{IsLimitedObject}
 use Rattle.object_maps.specs.Pointers.{objects_of, pointers_of}
@@ -61,6 +60,7 @@ use Rattle.tree_plans.specs.Marks.{pending_ops}
 use Rattle.tree_plans.specs.Plans.{address_of, new_block}
 use Rattle.tree_plans.specs.declared.planner.PlannedBlock.{PlannedBlock}
 use Rattle.tree_plans.specs.declared.planner.TreePlan.{TreePlan}
+use Rattle.import_replay.specs.PlacedRecords.{ops_of_placed, placed_estimate}
 use Rattle.import_replay.specs.FreeBlocks.{AreAllOthers, AreAllPlanned}
 use Rattle.import_replay.specs.ImportRefusals.{HasLastNumbers, IsReason, LacksImportRoom}
 use Rattle.import_replay.specs.ImportStops.{writes_of_next}
@@ -123,8 +123,8 @@ with_all-short (x ∷ xs) = by_flag (set.contains (with_all xs set.empty) x) (le
     by_flag false step rest = omega (arith, step, rest)
 
 -- the records of a chain that was loaded are within their limits
-pub chain_allowed : (size : ℕ) (chain : List LogPiece) → All (IsSoundBlock (block_count size)) chain → IsChainAllowed chain
-chain_allowed size chain sound = All-weaker (IsSoundBlock (block_count size)) IsBlockAllowed (λ b is. is.allowed) chain sound
+pub chain_allowed : (size : ℕ) (chain : List LogPiece) → All (IsSoundPiece (block_count size)) chain → IsChainAllowed chain
+chain_allowed size chain sound = All-weaker (IsSoundPiece (block_count size)) IsPieceAllowed (λ b is. is.allowed) chain sound
 
 -- and the pointers of the tree that was loaded are placed
 pub loaded_placed : (size : ℕ) (u : Uberblock) (name : List ℕ) (tree : Tree) (slots : List Slot) (chain : List LogPiece) (pool : ReplayedPool) → IsLoadedFor u (block_count size) tree slots chain
@@ -370,7 +370,7 @@ module _ (holds : Type 0) (size : ℕ) (u : Uberblock) (name : List ℕ) (tree :
       found = found_read image size u name pool.tree pool.synced.slots.items chain mine pool.synced is.replayed.name_is refl;
       each =
           map_same (λ (place : Place). (pointers_of next.tree place).address) (λ (place : Place). (plan_pointers pool.tree plan place).address) places
-          (λ i place at. ap (λ (q : Pointer). q.address) (is.planned.pointers place (each_place (group_changes (ops_of_records (records_above u.group chain)) (contents_of pool.synced) (has_block image u.root)) i place at)))
+          (λ i place at. ap (λ (q : Pointer). q.address) (is.planned.pointers place (each_place (group_changes (ops_of_placed (records_above u.group chain)) (contents_of pool.synced) (has_block image u.root)) i place at)))
           ∙ ap (λ (ops : List Op). map (λ (place : Place). (plan_pointers pool.tree plan place).address) (written_places ops (contents_of pool.synced) (has_block image u.root)))
           (replays.ops_replayed size u name tree slots chain pool is.named is.loaded is.replayed)
           ∙ takes_at_places (u.group + 4) pool.replayed.records.items pool.tree.entries.items (contents_of pool.synced) left (replays.takes_place size u name tree slots chain pool is.named is.loaded is.replayed) (pointers_of pool.tree)
@@ -428,7 +428,7 @@ module _ (holds : Type 0) (size : ℕ) (u : Uberblock) (name : List ℕ) (tree :
         blocks_used room few prepared_lowest prepared_each records_counted (not_zero (block_count size) next.log_address log_placed)
         (spare-unused size u name tree slots chain pool is.named is.loaded is.replayed image read next.log_address log_spare) log_left lowest)
       where
-        few : length blocks ≤ records_estimate (records_above u.group chain)
+        few : length blocks ≤ placed_estimate (records_above u.group chain)
         few =
             let fits = plans_fit_estimates (next_frame u size) pool.tree pool.replayed.records.items (contents_of pool.synced) left plan is.planned.made (replays.takes_place size u name tree slots chain pool is.named is.loaded is.replayed) in
             let same = replays.estimate size u name tree slots chain pool is.named is.loaded is.replayed in

@@ -25,6 +25,7 @@ use Rattle.base.specs.tree.Places.{Place}
 use Rattle.base.specs.tree.Places.Place.{Root, Directory, Indirect, Data}
 use Rattle.base.specs.tree.PlacedTrees.{HoldsTree, StandsAt}
 use Rattle.base.specs.tree.Tree.{IsRecord}
+use Rattle.base.proofs.crash.CutViews.{cut_none}
 use Rattle.base.proofs.crash.LeftDisks.{own_left}
 use Rattle.base.proofs.crash.NewDisks.{created_own}
 use Rattle.base.proofs.formats.Geometry.{IsGeometry-IsSize, blocks-end, slot-on_device}
@@ -78,6 +79,7 @@ module _ (size t guid moment : ℕ) (name : List ℕ) (disk : Disk) (g : IsGeome
     name = refl;
     root = refl;
     linked = tt;
+    cut = cut_none u.version;
   }
 
   -- the first block of the area is room enough

@@ -1,7 +1,7 @@
 -- An import, whatever it answers, keeps a disk that its pool alone wrote the pool's own; one that answers Ok gives its
 -- run a disk with the views of the pool that it shows.
 use Rattle.std.proofs.Common.{◌≡◌, inl, inr, ⊎_elim, ℕ, zero, suc, ◌+◌, ◌<◌, true, false, List, [], ◌∷◌, length, map, None, Some, Ok, refl, sym, ◌∙◌, ap, subst, arith}
-use Rattle.std.specs.Prelude.{slice_get}
+use Rattle.std.specs.Prelude.{filter, nat_lt, slice_get}
 use Rattle.std.specs.Ordering.{nat_cmp}
 use Rattle.std.specs.FinSet as set
 use Rattle.std.specs.FinSet.{FinSet, contains-empty, len-empty}
@@ -11,16 +11,17 @@ use Rattle.base.specs.crash.CrashRule.{AreImportViews, HasSteadyPhases, IsImport
 use Rattle.base.specs.crash.LogRoom.{HasImportRoom, records_estimate}
 use Rattle.base.specs.crash.LogRule.{AreChainsUpTo, IsLogHeld}
 use Rattle.base.specs.crash.LogSteps.{IsSpareOf}
-use Rattle.base.specs.crash.Mount.{HasPool, Mounts, apply_records, records_above}
+use Rattle.base.specs.crash.Mount.{HasPool, Mounts, apply_above}
 use Rattle.base.specs.crash.Own.{AreConfigsBelowImport, IsAtRest, IsOwnWith}
 use Rattle.base.specs.crash.PoolViews.{IsPoolDisk, IsSyncConfig, IsViewOf}
 use Rattle.base.specs.crash.Layout.{header_now}
-use Rattle.base.specs.crash.Views.{AreConfigsUpTo, View, Logged, config_content}
+use Rattle.base.specs.crash.Views.{AreConfigsUpTo, View, Logged, config_content, ended_in}
 use Rattle.base.specs.disk.Calls.{Flushes}
 use Rattle.base.specs.disk.Disk.{Disk, EachMoment, Moment, bytes_of, certain, disk_size, handed}
 use Rattle.base.specs.disk.Fairness.{HasFairBytes}
 use Rattle.base.specs.formats.Chain.{LogPiece}
 use Rattle.base.specs.formats.Geometry.{IsBlockAddress, block_address, block_count}
+use Rattle.base.specs.formats.Records.{Record}
 use Rattle.base.specs.formats.Uberblocks.{Uberblock}
 use Rattle.base.specs.history.Contents.{Contents}
 use Rattle.base.specs.history.Past.{Past, new_past}
@@ -44,7 +45,7 @@ use Rattle.import_replay.specs.RunStarts.{IsRunStart, StartsRun}
 use Rattle.import_replay.specs.declared.mounted.Mounted.{Mounted}
 use Rattle.import_replay.specs.declared.next_pool.NextPool.{NextPool}
 use Rattle.import_replay.proofs.WrittenImports.{written_same}
-use Rattle.import_replay.proofs.ReadViews.{IsRestedOwn, found_mounts, found_name, found_uberblock, rested_own, spared_at, unused_spare}
+use Rattle.import_replay.proofs.ReadViews.{IsRestedOwn, found_mounts, found_name, found_uberblock, kept_count, kept_rested, rested_own, spared_at, unused_spare}
 
 -- the view that an import writes after another: of the same pool, four groups later, with no log block, the contents
 -- that the other mounts, and room for an import
@@ -72,9 +73,9 @@ after_unwritten blocks contents v room = record {
   };
 }
 
-unwritten_moment : (size created : ℕ) (contents : Contents) (v : View) (m : Moment) → HasFairBytes size created m → AreConfigsBelowImport size created (handed m) v contents.name → IsAtRest size created (length v.logged) m v
-    → IsImportMoment size created v (unwritten contents v) contents.name m
-unwritten_moment size created contents v m fair configs rest = record { bytes = fair; configs = configs; chains = chains_of_view size created (handed m) v rest.laid.logs; phase = inl rest }
+unwritten_moment : (size created flushed : ℕ) (contents : Contents) (v : View) (m : Moment) → HasFairBytes size created m → AreConfigsBelowImport size created (handed m) v contents.name → IsAtRest size created flushed m v
+    → IsImportMoment size created flushed v (unwritten contents v) contents.name m
+unwritten_moment size created flushed contents v m fair configs rest = record { bytes = fair; configs = configs; chains = chains_of_view size created (handed m) v rest.laid.logs; phase = inl rest }
 
 one_at : (address i other : ℕ) → slice_get (address ∷ []) i ≡ Some other → (i ≡ 0) × (address ≡ other)
 one_at address zero other at = (refl, let same : address ≡ other = cc in same)
@@ -85,7 +86,7 @@ room_of_one : (blocks address : ℕ) (v : View) → v.logged ≡ [] → IsBlockA
 room_of_one blocks address v none block is = record {
   spare = one;
   each = λ other there. ⊎_elim (λ at. same other (one_at address at.0 other at.1).1) (λ no. absurd (nothing other no)) (in-with_all (address ∷ []) set.empty other there);
-  enough = subst (λ (ls : List Logged). records_estimate (records_above v.u.group (map (λ (l : Logged). l.block) ls)) < set.len one) (sym none) (omega (arith, long, len-empty nat_cmp));
+  enough = subst (λ (ls : List Logged). records_estimate (filter (λ (r : Record). nat_lt v.u.group r.group) (ended_in ls)) < set.len one) (sym none) (omega (arith, long, len-empty nat_cmp));
 }
   where
     one : FinSet nat_cmp
@@ -101,14 +102,16 @@ room_of_one blocks address v none block is = record {
     long = len-with_all (address ∷ []) set.empty (λ i j x at_i at_j. (one_at address i x at_i).0 ∙ sym (one_at address j x at_j).0) (λ i x at there. nothing x there)
 
 -- the two views of an import
-import_views : (size created guid : ℕ) (contents : Contents) (v later : View) (m : Moment) → IsRestedOwn size created guid contents v m → IsViewAfter (block_count size) contents v later
+abbrev import_views : (size created guid flushed : ℕ) (contents : Contents) (v later : View) (m : Moment) → IsRestedOwn size created guid flushed contents v m → IsViewAfter (block_count size) contents v later
     → AreImportViews (block_count size) v later guid contents
-import_views size created guid contents v later m own after = record {
+import_views size created guid flushed contents v later m own after = record {
   old_guid = own.guid_is;
   new_guid = after.guid ∙ own.guid_is;
   next_group = after.group;
+  flushed = flushed;
+  all = own.all;
   old_mounts = own.mounts;
-  new_mounts = ap (λ (ls : List Logged). apply_records (records_above later.u.group (map (λ (l : Logged). l.block) ls)) later.synced) after.no_log ∙ ap (λ (c : Contents). Ok c) after.synced;
+  new_mounts = ap (λ (ls : List Logged). apply_above later.u.group (ended_in ls) later.synced) after.no_log ∙ ap (λ (c : Contents). Ok c) after.synced;
   new_log = after.no_log;
   old_room = own.room;
   new_room = after.room;
@@ -122,29 +125,28 @@ module _ (old mid : Disk) (flushes : Flushes old (Ok tt) mid) where
   long : disk_size mid ≡ disk_size old
   long = ap (λ (l : List ℕ). length l) (flushed_clean old mid flushes).1
 
-  steady : (new : Disk) (created guid : ℕ) (contents : Contents) (v later : View) → IsRestedOwn (disk_size mid) created guid contents v mid.now → IsViewAfter (block_count (disk_size mid)) contents v later
-      → EachMoment (IsImportMoment (disk_size mid) created v later contents.name) mid new → HasSteadyPhases (disk_size old) created (certain (bytes_of old.now) old) new guid contents
-  steady new created guid contents v later own after each =
+  steady : (new : Disk) (created guid flushed : ℕ) (contents : Contents) (v later : View) → IsRestedOwn (disk_size mid) created guid flushed contents v mid.now → IsViewAfter (block_count (disk_size mid)) contents v later
+      → EachMoment (IsImportMoment (disk_size mid) created flushed v later contents.name) mid new → HasSteadyPhases (disk_size old) created (certain (bytes_of old.now) old) new guid contents
+  steady new created guid flushed contents v later own after each =
       subst (λ (d : Disk). HasSteadyPhases (disk_size old) created d new guid contents) flushes
       (subst (λ (n : ℕ). HasSteadyPhases n created mid new guid contents) long
-      (record { old = v; new = later; views = import_views (disk_size mid) created guid contents v later mid.now own after; each = each }))
+      (record { old = v; new = later; views = import_views (disk_size mid) created guid flushed contents v later mid.now own after; each = each }))
 
   own_flushed : (created guid : ℕ) (contents : Contents) → IsOwnOnceFlushed old created guid contents → IsOwnWith mid created guid contents
   own_flushed created guid contents own = subst (λ (d : Disk). IsOwnWith d created guid contents) (sym flushes) own
 
-  rested : (created guid : ℕ) (contents : Contents) → IsOwnOnceFlushed old created guid contents → (v : View) × IsRestedOwn (disk_size mid) created guid contents v mid.now
+  rested : (created guid : ℕ) (contents : Contents) → IsOwnOnceFlushed old created guid contents → (v : View) × (flushed : ℕ) × IsRestedOwn (disk_size mid) created guid flushed contents v mid.now
   rested created guid contents own = rested_own mid created guid contents (flushed_clean old mid flushes).0 (own_flushed created guid contents own)
 
   -- what is flushed and not written is the pool's own still
   pub kept_unwritten : (new : Disk) → new ≡ mid → KeepsOwn old new
   kept_unwritten new same created guid contents own =
-      let r = rested created guid contents own in
-      let v : View = r.0 in
+      let (v, flushed, r) = rested created guid contents own in
       let later : View = unwritten contents v in
-      let here = unwritten_moment (disk_size mid) created contents v mid.now r.1.bytes r.1.configs r.1.rest in
+      let here = unwritten_moment (disk_size mid) created flushed contents v mid.now r.bytes r.configs r.rest in
       inr (import_kept old new created guid contents own
       (subst (λ (d : Disk). HasSteadyPhases (disk_size old) created (certain (bytes_of old.now) old) d guid contents) (sym same)
-      (steady mid created guid contents v later r.1 (after_unwritten (block_count (disk_size mid)) contents v r.1.room) (starts (IsImportMoment (disk_size mid) created v later contents.name) mid here))))
+      (steady mid created guid flushed contents v later r (after_unwritten (block_count (disk_size mid)) contents v r.room) (starts (IsImportMoment (disk_size mid) created flushed v later contents.name) mid here))))
 
   module _ (size : ℕ) (u : Uberblock) (name : List ℕ) (first : Stage) (sized : length (bytes_of mid.now) ≡ size) (pool : HasPool (bytes_of mid.now) u name)
       (stage : HasFirstStage (bytes_of mid.now) u.guid u.group name (is_even first)) where
@@ -157,33 +159,34 @@ module _ (old mid : Disk) (flushes : Flushes old (Ok tt) mid) where
       abbrev tree : ViewTree
       tree = tree_of (parts_of next)
 
-      -- what was found for a view
-      record IsFoundFor (created guid : ℕ) (contents : Contents) (v : View) : Type 0 where
-        own : IsRestedOwn size created guid contents v mid.now
+      -- what was found for a view, with so many of its log blocks to keep
+      record IsFoundFor (created guid flushed : ℕ) (contents : Contents) (v : View) : Type 0 where
+        own : IsRestedOwn size created guid flushed contents v mid.now
         uberblock : v.u ≡ u
         contents_are : contents_of next.contents ≡ contents
         at : FixedLabels
-        may : MayBeWritten w first created at v tree mid
+        may : MayBeWritten w first created flushed at v tree mid
 
-      found_for : (created guid : ℕ) (contents : Contents) → IsOwnOnceFlushed old created guid contents → (v : View) × IsFoundFor created guid contents v
+      found_for : (created guid : ℕ) (contents : Contents) → IsOwnOnceFlushed old created guid contents → (v : View) × (flushed : ℕ) × IsFoundFor created guid flushed contents v
       found_for created guid contents own =
-          let r = rested created guid contents own in
-          let v : View = r.0 in
-          let same : u ≡ v.u = found_uberblock mid.now created guid contents v r.1 u name pool in
-          let named : v.name ≡ name = found_name mid.now created guid contents v r.1 u name pool in
-          let whole = found_mounts mid.now created guid contents v r.1 u chain (contents_of next.contents) mounts in
-          let spared = spared_at mid.now created guid contents v r.1 u name first same named stage in
+          let (v, flushed, r) = rested created guid contents own in
+          let same : u ≡ v.u = found_uberblock mid.now created guid flushed contents v r u name pool in
+          let named : v.name ≡ name = found_name mid.now created guid flushed contents v r u name pool in
+          let whole = found_mounts mid.now created guid flushed contents v r u chain (contents_of next.contents) mounts in
+          let count : ℕ = kept_count mid.now created guid flushed contents v r in
+          let spared = spared_at mid.now created guid flushed contents v r u name first same named stage in
           let of_u : v.u ≡ u = sym same in (
             v,
+            count,
             record {
-              own = subst (λ (n : ℕ). IsRestedOwn n created guid contents v mid.now) sized r.1;
+              own = subst (λ (n : ℕ). IsRestedOwn n created guid count contents v mid.now) sized (kept_rested mid.now created guid flushed contents v r);
               uberblock = of_u;
               contents_are = whole.1;
               at = spared.0;
               may = record {
                 began = (own_flushed created guid contents own).began;
-                ready = subst (λ (c : Contents). IsReadyBehind size created spared.0 v c.name mid.now) (sym whole.1)
-                    (subst (λ (n : ℕ). IsReadyBehind n created spared.0 v contents.name mid.now) sized spared.2);
+                ready = subst (λ (c : Contents). IsReadyBehind size created count spared.0 v c.name mid.now) (sym whole.1)
+                    (subst (λ (n : ℕ). IsReadyBehind n created count spared.0 v contents.name mid.now) sized spared.2);
                 behind = record {
                   guid = ap (λ (x : Uberblock). x.guid) same;
                   group = ap (λ (x : Uberblock). x.group + 4) same;
@@ -192,9 +195,9 @@ module _ (old mid : Disk) (flushes : Flushes old (Ok tt) mid) where
                   config_is = λ i. next_config (same i) next.contents.name size;
                 };
                 spares = spared.1;
-                apart = All-each (IsSpareFor v) next.blocks.items (λ i b there.
+                apart = All-each (IsSpareFor count v) next.blocks.items (λ i b there.
                     let is = All-at (IsUnusedBlock (bytes_of mid.now) u chain) next.blocks.items i b over.unused there in
-                    record { not_config = is.not_config; not_log = is.not_log; spare = unused_spare mid.now created guid contents v r.1 u chain (block_address b.index) same whole.0 is.unused });
+                    record { not_config = is.not_config; not_log = is.not_log; spare = unused_spare mid.now created guid flushed contents v r u chain (block_address b.index) same whole.0 is.unused });
                 made = over.tree;
               };
             },
@@ -202,8 +205,8 @@ module _ (old mid : Disk) (flushes : Flushes old (Ok tt) mid) where
 
       module _ (new : Disk) (kept : KeepsViews w first mid new) where
         -- the view that is written comes after the one that was found
-        later_after : (created guid : ℕ) (contents : Contents) (v : View) → IsFoundFor created guid contents v → IsViewAfter (block_count size) contents v (view_of w tree)
-        later_after created guid contents v f = record {
+        later_after : (created guid flushed : ℕ) (contents : Contents) (v : View) → IsFoundFor created guid flushed contents v → IsViewAfter (block_count size) contents v (view_of w tree)
+        later_after created guid flushed contents v f = record {
           guid = f.may.behind.guid;
           group = f.may.behind.group;
           synced = f.contents_are;
@@ -216,12 +219,12 @@ module _ (old mid : Disk) (flushes : Flushes old (Ok tt) mid) where
 
         pub kept_own : KeepsOwn old new
         kept_own created guid contents own =
-            let (v, f) = found_for created guid contents own in
+            let (v, flushed, f) = found_for created guid contents own in
             inr (import_kept old new created guid contents own
-            (steady new created guid contents v (view_of w tree) (subst (λ (n : ℕ). IsRestedOwn n created guid contents v mid.now) (sym sized) f.own)
-            (subst (λ (n : ℕ). IsViewAfter (block_count n) contents v (view_of w tree)) (sym sized) (later_after created guid contents v f))
-            (subst (λ (n : ℕ). EachMoment (IsImportMoment n created v (view_of w tree) contents.name) mid new) (sym sized)
-            (subst (λ (c : Contents). EachMoment (IsImportMoment size created v (view_of w tree) c.name) mid new) f.contents_are (kept created f.at v tree f.may)))))
+            (steady new created guid flushed contents v (view_of w tree) (subst (λ (n : ℕ). IsRestedOwn n created guid flushed contents v mid.now) (sym sized) f.own)
+            (subst (λ (n : ℕ). IsViewAfter (block_count n) contents v (view_of w tree)) (sym sized) (later_after created guid flushed contents v f))
+            (subst (λ (n : ℕ). EachMoment (IsImportMoment n created flushed v (view_of w tree) contents.name) mid new) (sym sized)
+            (subst (λ (c : Contents). EachMoment (IsImportMoment size created flushed v (view_of w tree) c.name) mid new) f.contents_are (kept created flushed f.at v tree f.may)))))
 
         module _ (dirty_max : ℕ) (m : Mounted) (from : IsMountedFrom size u (parts_of next) dirty_max m) (ends : EndsBehind w first mid new) (settled : new.now.unflushed ≡ []) where
           abbrev shown : Shown
@@ -251,10 +254,12 @@ module _ (old mid : Disk) (flushes : Flushes old (Ok tt) mid) where
             blocks = λ i k l at. absurd (let none : None ≡ Some k = at in cc);
             flushed_are = λ i k at. absurd (let none : None ≡ Some k = at in cc);
             goes_on = refl;
+            version_is = refl;
+            pieces = record { chain = []; tail = []; cut = refl; ends = refl; left = refl };
           }
 
-          at_rest : (created guid : ℕ) (contents : Contents) (v : View) → IsFoundFor created guid contents v → IsAtRest size created 0 new.now mine
-          at_rest created guid contents v f = subst (λ (x : View). IsAtRest size created 0 new.now x) view_same (ends created f.at v tree f.may)
+          at_rest : (created guid flushed : ℕ) (contents : Contents) (v : View) → IsFoundFor created guid flushed contents v → IsAtRest size created 0 new.now mine
+          at_rest created guid flushed contents v f = subst (λ (x : View). IsAtRest size created 0 new.now x) view_same (ends created flushed f.at v tree f.may)
 
           -- no log block of the chain that the import begins was written
           log_held : (created : ℕ) (v : View) → m.guid ≡ v.u.guid → v.u ≡ u → AreChainsUpTo size created (handed new.now) v.u.guid v.u.import_number → IsLogHeld size created 0 false new.now mine
@@ -263,9 +268,9 @@ module _ (old mid : Disk) (flushes : Flushes old (Ok tt) mid) where
               begun_held size created v.u.import_number false new.now mine
               (subst (λ (g : ℕ). AreChainsUpTo size created (handed new.now) g v.u.import_number) (sym guid_same) chains) (omega (arith, one_more)) refl
 
-          run_start : (created guid : ℕ) (contents : Contents) (v : View) → IsFoundFor created guid contents v → IsRunStart created guid contents dirty_max m new.now
-          run_start created guid contents v f =
-              let here = latest (IsImportMoment size created v (view_of w tree) tree.contents.name) mid new (kept created f.at v tree f.may) in
+          run_start : (created guid flushed : ℕ) (contents : Contents) (v : View) → IsFoundFor created guid flushed contents v → IsRunStart created guid contents dirty_max m new.now
+          run_start created guid flushed contents v f =
+              let here = latest (IsImportMoment size created flushed v (view_of w tree) tree.contents.name) mid new (kept created flushed f.at v tree f.may) in
               let guid_same : m.guid ≡ v.u.guid = from.guid ∙ ap (λ (x : Uberblock). x.guid) (sym f.uberblock) in
               let group_same : m.group.0 ≡ v.u.group + 4 = from.group ∙ ap (λ (x : Uberblock). x.group + 4) (sym f.uberblock) in
               record {
@@ -277,7 +282,7 @@ module _ (old mid : Disk) (flushes : Flushes old (Ok tt) mid) where
                   laid = inl (record {
                     v = mine;
                     flushed = 0;
-                    rest = at_rest created guid contents v f;
+                    rest = at_rest created guid flushed contents v f;
                     is = view_is created;
                     held = log_held created v guid_same f.uberblock here.chains;
                   });
@@ -288,4 +293,4 @@ module _ (old mid : Disk) (flushes : Flushes old (Ok tt) mid) where
               }
 
           pub starts_run : StartsRun old dirty_max new m
-          starts_run created guid contents own = let (v, f) = found_for created guid contents own in run_start created guid contents v f
+          starts_run created guid contents own = let (v, flushed, f) = found_for created guid contents own in run_start created guid flushed contents v f

@@ -1,13 +1,13 @@
 -- Of a disk that its pool alone wrote the pool is found, its tree and its chain have no damage, and there is room for
 -- its import.
-use Rattle.std.proofs.Common.{◌≡◌, ◌≢◌, inl, inr, ⊎_elim, ℕ, zero, suc, List, [], ◌∷◌, Some, length, map, take, refl, sym, ◌∙◌, ap, subst, arith}
+use Rattle.std.proofs.Common.{◌≡◌, ◌≢◌, inl, inr, ⊎_elim, ℕ, List, Some, take, refl, sym, ◌∙◌, ap, subst, arith}
 use Rattle.std.specs.Prelude.{Contains, slice_get}
 use Rattle.std.specs.List.{flat_map}
 use Rattle.base.specs.declared.error.PoolError.{PoolError}
 use Rattle.base.specs.crash.LogRoom.{records_estimate, records_to_apply}
 use Rattle.base.specs.crash.Mount.{HasNoPool, IsChainOf, IsTreeDamaged, Mounts, MountsTo, frame_of, header_of, records_above}
 use Rattle.base.specs.crash.Own.{IsOwnImage, IsOwnWith}
-use Rattle.base.specs.crash.Views.{IsFoundAs, Logged, view_frame}
+use Rattle.base.specs.crash.Views.{IsFoundAs, Logged, ended_in, view_frame}
 use Rattle.base.specs.declared.pointer.Pointer.{Pointer}
 use Rattle.base.specs.disk.Fairness.{passes_check}
 use Rattle.base.specs.disk.Disk.{Disk, Moment, bytes_of, certain, disk_size, settled}
@@ -18,9 +18,12 @@ use Rattle.base.specs.history.Contents.{Contents}
 use Rattle.base.specs.tree.Damages.{IsFirstDamage}
 use Rattle.base.specs.tree.Places.{IsInTree}
 use Rattle.base.specs.tree.Places.Place.{Root}
-use Rattle.base.proofs.crash.CrashRule.{own_mounts, take_whole}
+use Rattle.base.proofs.crash.CrashRule.{own_mounts}
+use Rattle.base.proofs.crash.CutPlaces.{chain_logged}
+use Rattle.base.proofs.crash.CutViews.{cut_records}
 use Rattle.base.proofs.crash.FoundViews.{rest_found}
 use Rattle.base.proofs.crash.LogChains.{mounted_not_damaged}
+use Rattle.base.proofs.crash.LogFronts.{at-take}
 use Rattle.base.proofs.crash.LogRoom.{subset_len}
 use Rattle.base.proofs.crash.OneMount.{one-active, one-chain}
 use Rattle.base.proofs.disk.Fairness.{fair_settled}
@@ -29,6 +32,8 @@ use Rattle.base.proofs.disk.Regions.{flushed_clean}
 use Rattle.base.proofs.tree.PlacedTrees.{in-tree}
 use Rattle.base.proofs.tree.SoundTrees.{no_damage}
 use Rattle.import_replay.specs.ImportRefusals.{FindsOwn, LacksImportRoom, IsReason}
+use Rattle.import_replay.specs.PlacedRecords.{placed_estimate}
+use Rattle.import_replay.proofs.PlacedRecords.{placed-estimate}
 
 module _ (image : List ℕ) (u : Uberblock) (chain : List LogPiece) (contents : Contents) (mounts : Mounts image u chain contents) where
   has_pool : HasNoPool image → ⊥
@@ -55,28 +60,32 @@ module _ (disk : Disk) (created guid : ℕ) (contents : Contents) (own : IsOwnWi
   here : IsOwnImage (disk_size disk) created image disk.now guid contents
   here = own.left.each image (bytes_may_be_left disk.now) own.left.bytes.fair
 
-  found : IsFoundAs image (length here.v.logged) here.v
-  found = rest_found created still image (bytes_may_be_left still) (fair_settled (passes_check (disk_size disk)) created image disk.now own.left.bytes.fair) (length here.v.logged) here.v here.rest
+  found : IsFoundAs image here.flushed here.v
+  found = rest_found created still image (bytes_may_be_left still) (fair_settled (passes_check (disk_size disk)) created image disk.now own.left.bytes.fair) here.flushed here.v here.rest
+
+  abbrev front : List Logged
+  front = take found.count here.v.logged
 
   abbrev logged : List LogPiece
-  logged = map (λ (l : Logged). l.block) here.v.logged
+  logged = found.cut.chain
 
-  -- an active uberblock is the view's, and its chain is the whole log
+  -- an active uberblock is the view's, and its chain has all records of the log
   uberblock_is : (u : Uberblock) → IsActive image u → u ≡ here.v.u
   uberblock_is u active = one-active image u here.v.u active found.found.pool.active
 
   chain_is : (u : Uberblock) (chain : List LogPiece) → IsActive image u → IsChainOf image u chain → chain ≡ logged
   chain_is u chain active is =
       let of_view : IsChainOf image here.v.u chain = subst (λ (w : Uberblock). IsChainOf image w chain) (uberblock_is u active) is in
-      one-chain image (frame_of image here.v.u) here.v.u.import_number (header_of here.v.u) chain (map (λ (l : Logged). l.block) (take found.count here.v.logged)) of_view found.found.chain_is
-      ∙ ap (λ (ls : List Logged). map (λ (l : Logged). l.block) ls) (take_whole found.count here.v.logged found.least)
+      one-chain image (frame_of image here.v.u) here.v.u.import_number (header_of here.v.u) chain logged of_view found.found.chain_is
 
   -- no block of it is spare
-  not_logged : (ls : List Logged) (address : ℕ) → ((i : ℕ) (l : Logged) → slice_get ls i ≡ Some l → l.block.address ≢ address)
-      → Contains (flat_map addresses_of (map (λ (l : Logged). l.block) ls)) address → ⊥
-  not_logged [] address none (k, low, is) = absurd (omega (arith, low))
-  not_logged (l ∷ ls) address none (zero, low, is) = none 0 l refl is
-  not_logged (l ∷ ls) address none (suc k, low, is) = not_logged ls address (λ i x at. none (suc i) x at) (k, omega (arith, low), is)
+  not_logged : (address : ℕ) → ((i : ℕ) (l : Logged) → slice_get here.v.logged i ≡ Some l → l.block.address ≢ address) → Contains (flat_map addresses_of logged) address → ⊥
+  not_logged address none there =
+      let (i, l, at, same) = chain_logged here.v.u.version front found.cut address there in none i l (at-take found.count here.v.logged i l at).1 same
+
+  -- the records that it has applied are those of the log
+  estimated : placed_estimate (records_above here.v.u.group logged) ≡ records_estimate (records_to_apply here.v)
+  estimated = placed-estimate here.v.u.group logged (ended_in here.v.logged) (cut_records here.v.u.version front found.cut ∙ here.all found.count found.least)
 
   has_room : LacksImportRoom image → ⊥
   has_room full =
@@ -84,8 +93,8 @@ module _ (disk : Disk) (created guid : ℕ) (contents : Contents) (own : IsOwnWi
       let same : full.u ≡ here.v.u = uberblock_is full.u full.mounts.found.pool.active in
       let root : full.u.root ≡ here.v.pointers Root = ap (λ (w : Uberblock). w.root) same ∙ sym laid.view.root in
       let chains : full.chain ≡ logged = chain_is full.u full.chain full.mounts.found.pool.active full.mounts.found.chain_is in
-      let few : records_estimate (records_above full.u.group full.chain) ≡ records_estimate (records_to_apply here.v) =
-      (λ i. records_estimate (records_above (same i).group (chains i))) in
+      let few : placed_estimate (records_above full.u.group full.chain) ≡ records_estimate (records_to_apply here.v) =
+      (λ i. placed_estimate (records_above (same i).group (chains i))) ∙ estimated in
       let within = subset_len here.room.spare full.spare (λ address is.
       let spare = here.room.each address is in
       full.all address spare.0 (λ used. ⊎_elim
@@ -93,7 +102,7 @@ module _ (disk : Disk) (created guid : ℕ) (contents : Contents) (own : IsOwnWi
       let there : IsInTree image (here.v.pointers Root) address = subst (λ (r : Pointer). IsInTree image r address) root in_tree in
       let (place, in_range, names, some) = in-tree image (view_frame (disk_size disk) here.v) here.v.pointers here.v.synced.objects laid.firm.tree.holds address there in
       spare.1.not_in_tree place in_range some names)
-      (λ is_logged. not_logged here.v.logged address spare.1.not_logged (subst (λ (bs : List LogPiece). Contains (flat_map addresses_of bs) address) chains is_logged)) used)) in
+      (λ is_logged. not_logged address spare.1.not_logged (subst (λ (bs : List LogPiece). Contains (flat_map addresses_of bs) address) chains is_logged)) used)) in
       omega (arith, within, few, full.few, here.room.enough)
 
 pub finds_own : (disk : Disk) (e : PoolError) → IsReason (bytes_of disk.now) e → FindsOwn disk e

@@ -7,7 +7,6 @@ use Rattle.std.specs.Ordering.{nat_cmp}
 use Rattle.std.specs.FinMap as finite
 use Rattle.std.specs.FinMap.{FinMap}
 use Rattle.std.proofs.lemmas.Option.{slice_get_within}
-use Rattle.base.specs.crash.LogRoom.{records_estimate}
 use Rattle.base.specs.crash.Mount.{IsUsed, records_above}
 use Rattle.base.specs.declared.pointer.Pointer.{Pointer}
 use Rattle.base.specs.disk.Disk.{IsInRange}
@@ -34,6 +33,7 @@ use Rattle.object_maps.specs.Pointers.{pointers_of}
 use Rattle.sync.specs.Made.{BlocksWritten}
 use Rattle.tree_plans.specs.Plans.{address_of, new_block}
 use Rattle.tree_plans.specs.declared.planner.PlannedBlock.{PlannedBlock}
+use Rattle.import_replay.specs.PlacedRecords.{placed_estimate}
 use Rattle.import_replay.specs.FreeBlocks.{IsNamed}
 use Rattle.import_replay.specs.ImportViews.{IsTreeMade}
 use Rattle.import_replay.specs.NextPools.{AreMadeOver, IsUnusedBlock, PoolParts, next_frame, tree_of}
@@ -167,7 +167,7 @@ module _ (image : List ℕ) (size : ℕ) (u : Uberblock) (chain : List LogPiece)
         (place, ap (λ (l : List ℕ). number_at l 0) (sym stands_there) ∙ ap (λ (a : ℕ). number_at (part other a block_size) 0) (sym named) ∙ o.1.block.kind_is)
 
     -- So the pool is made over the image, with the first log block that is neither used nor one of the plan.
-    pub planned_over : (length blocks ≤ records_estimate (records_above u.group chain)) → AreLowestSpare image u chain (map address_of blocks) → AreForEachPlace image u chain (pointers_of p.tree) (map address_of blocks)
+    pub planned_over : (length blocks ≤ placed_estimate (records_above u.group chain)) → AreLowestSpare image u chain (map address_of blocks) → AreForEachPlace image u chain (pointers_of p.tree) (map address_of blocks)
         → p.records ≡ length (records_above u.group chain) → p.log_address ≢ 0 → (IsUsed image u.root chain p.log_address → ⊥) → (IsNewAddress bs p.log_address → ⊥)
         → ((address : ℕ) → address < p.log_address → IsBlockAddress (block_count size) address → IsUsed image u.root chain address ⊎ ((i : ℕ) × (b : PlannedBlock) × (slice_get blocks i ≡ Some b) × (block_address b.index ≡ address)))
         → AreMadeOver image u chain size blocks p

@@ -1,7 +1,7 @@
 -- What is read of a device without a write or a flush is of its image: an active pool, the tree under its root and its
 -- chain, or the first damage of that tree. A flush before it leaves that image.
-use Rattle.std.proofs.Common.{◌≡◌, ℕ, List, length, Ok, sym, subst}
-use Rattle.std.specs.Prelude.{All, Bool, IsTrue}
+use Rattle.std.proofs.Common.{◌≡◌, ℕ, ◌≤◌, List, length, Ok, sym, subst, arith}
+use Rattle.std.specs.Prelude.{◌^◌, All, Bool, IsTrue}
 use Rattle.std.specs.Ordering.{nat_cmp}
 use Rattle.std.specs.FinMap.{FinMap}
 use Rattle.base.specs.crash.Mount.{HasPool, IsChainOf, IsTreeDamaged, header_of}
@@ -9,11 +9,13 @@ use Rattle.base.specs.disk.Calls.{Flushes}
 use Rattle.base.specs.disk.Disk.{Disk, bytes_of}
 use Rattle.base.specs.formats.Blocks.{Frame}
 use Rattle.base.specs.formats.Chain.{IsChain, LogPiece}
+use Rattle.base.specs.formats.Geometry.{IsGeometry, block_count}
 use Rattle.base.specs.formats.Uberblocks.{Uberblock}
 use Rattle.base.specs.tree.Damages.{IsFirstDamage}
 use Rattle.base.specs.tree.PlacedTrees.{ArePlaced, HoldsTree}
 use Rattle.base.proofs.disk.Regions.{flushed_clean}
-use Rattle.intent_log.specs.Chains.{IsSoundBlock}
+use Rattle.base.proofs.formats.Geometry.{IsGeometry-IsSize, blocks-end}
+use Rattle.intent_log.specs.Chains.{IsSoundPiece}
 use Rattle.object_maps.specs.declared.contents.Slot.{Slot}
 use Rattle.object_maps.specs.declared.tree.Tree.{Tree}
 use Rattle.object_maps.specs.Pointers.{pointers_of}
@@ -43,16 +45,20 @@ module _ (image : List ℕ) (found : Disk) (size : ℕ) (frame : Frame) (u : Ube
         (subst (λ (f : Frame). IsFirstDamage (bytes_of found.now) f u.root kind address) framed damage));
   }
 
--- the chain that was read in this frame is the uberblock's
+-- an area has fewer blocks than a chain's numbers can count
+pub few_blocks : (size : ℕ) → IsGeometry size → block_count size ≤ 2 ^ 52
+few_blocks size g = let s = IsGeometry-IsSize size g in let end = blocks-end size g in omega (arith, s.greatest, end)
+
+-- the chain that was read in this frame, by the rules of the uberblock's version, is the uberblock's
 pub is_read_chain : (image : List ℕ) (size : ℕ) (frame : Frame) (u : Uberblock) (chain : List LogPiece) → length image ≡ size → frame ≡ frame_of_size u size
-    → IsChain image frame u.import_number (header_of u) chain → IsChainOf image u chain
+    → IsChain image (record frame { version = u.version }) u.import_number (header_of u) chain → IsChainOf image u chain
 is_read_chain image size frame u chain long framed is =
     subst (λ (n : ℕ). IsChain image (frame_of_size u n) u.import_number (header_of u) chain) (sym long)
-    (subst (λ (f : Frame). IsChain image f u.import_number (header_of u) chain) framed is)
+    (subst (λ (f : Frame). IsChain image (record f { version = u.version }) u.import_number (header_of u) chain) framed is)
 
 -- what was surveyed in a frame of this uberblock
 pub is_surveyed : (keeps : Bool) (image now : List ℕ) (size : ℕ) (frame : Frame) (u : Uberblock) (name : List ℕ) (tree : Tree) (chain : List LogPiece) → frame ≡ frame_of_size u size
-    → ArePlaced frame.blocks (pointers_of tree) → All (IsSoundBlock (frame_of_size u size).blocks) chain → (has : HasObjects keeps now frame tree)
+    → ArePlaced frame.blocks (pointers_of tree) → All (IsSoundPiece (frame_of_size u size).blocks) chain → (has : HasObjects keeps now frame tree)
     → (IsTrue keeps → HoldsPool image size u name tree has.objects chain) → IsSurveyedFor keeps image size u name tree chain
 is_surveyed keeps image now size frame u name tree chain framed placed sound has read = record {
   placed = subst (λ (f : Frame). ArePlaced f.blocks (pointers_of tree)) framed placed;

@@ -1,15 +1,16 @@
 -- After the first flush of an import, a disk that its pool alone wrote is at rest on one view; what the import reads is
 -- of that view, and the stage that comes first spares a config of it.
-use Rattle.std.proofs.Common.{◌≡◌, ◌⊎◌, inl, inr, ⊎_elim, ℕ, zero, suc, ◌<◌, ◌↔◌, IsTrue, List, [], ◌∷◌, ◌++◌, length, map, filter, Some, None, refl, sym, ◌∙◌, ap, subst, arith}
+use Rattle.std.proofs.Common.{◌≡◌, ◌⊎◌, inl, inr, ⊎_elim, ℕ, zero, suc, ◌<◌, ◌≤◌, ◌↔◌, IsTrue, List, [], ◌∷◌, ◌++◌, length, take, filter, Some, None, refl, sym, ◌∙◌, ap, subst, arith}
 use Rattle.std.specs.Prelude.{Contains, slice_get}
 use Rattle.std.specs.List.{flat_map}
 use Rattle.base.specs.crash.CallStages.{FixedLabels, IsAtRestAt}
 use Rattle.base.specs.crash.CrashRule.{MountsAs}
 use Rattle.base.specs.crash.LogRoom.{HasImportRoom}
+use Rattle.base.specs.crash.LogRule.{with_front}
 use Rattle.base.specs.crash.LogSteps.{IsSpareOf}
-use Rattle.base.specs.crash.Mount.{HasPool, IsChainOf, IsUsed, Mounts}
+use Rattle.base.specs.crash.Mount.{HasPool, IsUsed, Mounts}
 use Rattle.base.specs.crash.Own.{AreConfigsBelowImport, IsAtRest, IsOwnWith}
-use Rattle.base.specs.crash.Views.{View, Logged, IsFoundAs, IsFixed, IsView, view_frame}
+use Rattle.base.specs.crash.Views.{View, IsFoundAs, IsFixed, IsView, ended_in, view_frame}
 use Rattle.base.specs.declared.pointer.Pointer.{Pointer}
 use Rattle.base.specs.disk.Disk.{Disk, IsTouched, Moment, Write, bytes_after, bytes_of, disk_size, handed, holds, settled}
 use Rattle.base.specs.disk.Fairness.{HasFairBytes, passes_check}
@@ -22,8 +23,11 @@ use Rattle.base.specs.formats.Uberblocks.{Uberblock}
 use Rattle.base.specs.history.Contents.{Contents}
 use Rattle.base.specs.tree.Places.{IsInTree}
 use Rattle.base.specs.tree.Places.Place.{Root}
-use Rattle.base.proofs.crash.CrashRule.{take_whole}
+use Rattle.base.proofs.crash.CrashRule.{EndsWithin}
+use Rattle.base.proofs.crash.CutPlaces.{HasRecordsIn, fewer_fixed, records_in}
+use Rattle.base.proofs.crash.CutViews.{chain_applied, cut_records}
 use Rattle.base.proofs.crash.FoundViews.{chosen_at, rest_found}
+use Rattle.base.proofs.crash.LogFronts.{at-take}
 use Rattle.base.proofs.crash.OneMount.{mounts_agree, one-active, one-name}
 use Rattle.base.proofs.disk.CheckedPlaces.{fair_config, marked}
 use Rattle.base.proofs.disk.Fairness.{fair_settled}
@@ -43,28 +47,31 @@ settled_now m none =
     λ i. record { flushed = bytes i; unflushed = none i; kept = kept i }
 
 -- Nothing is unflushed of a disk that a pool alone wrote, and it is at rest on this view, which mounts these contents
--- and has room for an import.
-pub record IsRestedOwn (size created guid : ℕ) (contents : Contents) (v : View) (m : Moment) : Type 0 where
+-- and has room for an import. So many log blocks of it have all its records and are fixed.
+pub record IsRestedOwn (size created guid flushed : ℕ) (contents : Contents) (v : View) (m : Moment) : Type 0 where
   pub guid_is : v.u.guid ≡ guid
   pub mounts : MountsAs v contents
   pub room : HasImportRoom (block_count size) v
   pub none : m.unflushed ≡ []
-  pub rest : IsAtRest size created (length v.logged) m v
+  pub all : EndsWithin flushed v
+  pub rest : IsAtRest size created flushed m v
   pub bytes : HasFairBytes size created m
   pub configs : AreConfigsBelowImport size created (handed m) v contents.name
 
 pub rested_own : (disk : Disk) (created guid : ℕ) (contents : Contents) → disk.now.unflushed ≡ [] → IsOwnWith disk created guid contents
-    → (v : View) × IsRestedOwn (disk_size disk) created guid contents v disk.now
+    → (v : View) × (flushed : ℕ) × IsRestedOwn (disk_size disk) created guid flushed contents v disk.now
 rested_own disk created guid contents none own =
     let is = own.left.each (bytes_of disk.now) (bytes_may_be_left disk.now) own.left.bytes.fair in
     let sure : disk.now ≡ settled (bytes_of disk.now) disk.now = settled_now disk.now none in (
       is.v,
-      subst (λ (m : Moment). IsRestedOwn (disk_size disk) created guid contents is.v m) (sym sure)
+      is.flushed,
+      subst (λ (m : Moment). IsRestedOwn (disk_size disk) created guid is.flushed contents is.v m) (sym sure)
           (record {
             guid_is = is.guid_is;
             mounts = is.applied;
             room = is.room;
             none = refl;
+            all = is.all;
             rest = is.rest;
             bytes = record { size_is = refl; fair = fair_settled (passes_check (disk_size disk)) created (bytes_of disk.now) disk.now own.left.bytes.fair };
             configs = is.configs;
@@ -89,14 +96,8 @@ odd_spared at even zero label there same = let is : 1 ≡ label = cc in ⊎_elim
 odd_spared at even (suc zero) label there same = let is : 3 ≡ label = cc in ⊎_elim (λ first. omega (arith, is, same, first)) (λ third. omega (arith, is, same, third)) even
 odd_spared at even (suc (suc k)) label there same = let none : None ≡ Some label = there in cc
 
--- the address of a log block is one of its chain's
-address_logged : (ls : List Logged) (i : ℕ) (l : Logged) (address : ℕ) → slice_get ls i ≡ Some l → l.block.address ≡ address → Contains (flat_map addresses_of (map (λ (x : Logged). x.block) ls)) address
-address_logged [] i l address at there = absurd (let none : None ≡ Some l = at in cc)
-address_logged (x ∷ ls) zero l address at there = let same : x ≡ l = cc in (0, omega arith, ap (λ (y : Logged). y.block.address) same ∙ there)
-address_logged (x ∷ ls) (suc i) l address at there = let (k, low, is) = address_logged ls i l address at there in (suc k, omega (arith, low), is)
-
 -- What is read of the bytes is of the view.
-module _ (m : Moment) (created guid : ℕ) (contents : Contents) (v : View) (own : IsRestedOwn (length (bytes_of m)) created guid contents v m) where
+module _ (m : Moment) (created guid flushed : ℕ) (contents : Contents) (v : View) (own : IsRestedOwn (length (bytes_of m)) created guid flushed contents v m) where
   abbrev image : List ℕ
   image = bytes_of m
 
@@ -106,22 +107,38 @@ module _ (m : Moment) (created guid : ℕ) (contents : Contents) (v : View) (own
   view : IsView size v
   view = own.rest.laid.view
 
-  found : IsFoundAs image (length v.logged) v
-  found = rest_found created m image (bytes_may_be_left m) own.bytes.fair (length v.logged) v own.rest
+  pub found : IsFoundAs image flushed v
+  found = rest_found created m image (bytes_may_be_left m) own.bytes.fair flushed v own.rest
 
-  -- its whole log is found
+  -- the chain that is found has all records of its log
   abbrev logged : List LogPiece
-  logged = map (λ (l : Logged). l.block) v.logged
+  logged = found.cut.chain
 
   view_mounts : Mounts image v.u logged contents
   view_mounts = record {
     synced = v.synced;
-    found = record {
-      pool = found.found.pool;
-      tree = found.found.tree;
-      chain_is = subst (λ (ls : List Logged). IsChainOf image v.u (map (λ (l : Logged). l.block) ls)) (take_whole found.count v.logged found.least) found.found.chain_is;
-    };
-    applied = own.mounts;
+    found = found.found;
+    applied =
+        chain_applied v.u.group logged (ended_in v.logged) v.synced (cut_records v.u.version (take found.count v.logged) found.cut ∙ own.all found.count found.least) ∙ own.mounts;
+  }
+
+  -- the front of its log that an import has to keep
+  abbrev kept : (count : ℕ) × (count ≤ flushed) × HasRecordsIn v logged count
+  kept = records_in image flushed v found own.all
+
+  abbrev pub kept_count : ℕ
+  kept_count = kept.0
+
+  pub kept_rested : IsRestedOwn size created guid kept_count contents v m
+  kept_rested = record {
+    guid_is = own.guid_is;
+    mounts = own.mounts;
+    room = own.room;
+    none = own.none;
+    all = kept.2.all;
+    rest = fewer_fixed size created flushed kept_count m v kept.1 own.rest;
+    bytes = own.bytes;
+    configs = own.configs;
   }
 
   module _ (u : Uberblock) (name : List ℕ) (pool : HasPool image u name) where
@@ -138,13 +155,15 @@ module _ (m : Moment) (created guid : ℕ) (contents : Contents) (v : View) (own
   pub found_mounts : (u : Uberblock) (chain : List LogPiece) (read : Contents) → Mounts image u chain read → (chain ≡ logged) × (read ≡ contents)
   found_mounts u chain read mounts = let agree = mounts_agree image u v.u chain logged read contents mounts view_mounts in (agree.1, agree.2)
 
-  -- a block at an address that is not used of it is spare for the view
-  pub unused_spare : (u : Uberblock) (chain : List LogPiece) (address : ℕ) → u ≡ v.u → chain ≡ logged → (IsUsed image u.root chain address → ⊥) → IsSpareOf v address
+  -- a block at an address that is not used of it is spare for the view with that front
+  pub unused_spare : (u : Uberblock) (chain : List LogPiece) (address : ℕ) → u ≡ v.u → chain ≡ logged → (IsUsed image u.root chain address → ⊥) → IsSpareOf (with_front kept_count v) address
   unused_spare u chain address same whole unused = record {
     not_in_tree = λ place in_range some there.
         unused (inl (subst (λ (r : Pointer). IsInTree image r address) (view.root ∙ ap (λ (w : Uberblock). w.root) (sym same))
         (subst (λ (a : ℕ). IsInTree image (v.pointers Root) a) there (told-in_tree image (view_frame size v) v.pointers v.synced.objects own.rest.laid.firm.tree.holds place in_range some))));
-    not_logged = λ i l at there. unused (inr (subst (λ (bs : List LogPiece). Contains (flat_map addresses_of bs) address) (sym whole) (address_logged v.logged i l address at there)));
+    not_logged = λ i l at there.
+        let (below, here) = at-take kept_count v.logged i l at in
+        unused (inr (subst (λ (bs : List LogPiece). Contains (flat_map addresses_of bs) address) (sym whole) (subst (λ (a : ℕ). Contains (flat_map addresses_of logged) a) there (kept.2.in_chain i l below here))));
   }
 
   -- a label with the view's config has it fixed
@@ -179,11 +198,11 @@ module _ (m : Moment) (created guid : ℕ) (contents : Contents) (v : View) (own
   abbrev labels_at : (label : ℕ) → label < 4 → FixedLabels
   labels_at label below = record { config = label; config_below = below; slot = own.rest.slot.label; slot_below = own.rest.slot.in_range }
 
-  rest_at : (label : ℕ) (below : label < 4) → HasConfig label → IsAtRestAt size created (length v.logged) (labels_at label below) v m
-  rest_at label below there = record { rest = own.rest; config = fixed_config label there; slot = own.rest.slot.fixed }
+  rest_at : (label : ℕ) (below : label < 4) → HasConfig label → IsAtRestAt size created kept_count (labels_at label below) v m
+  rest_at label below there = record { rest = kept_rested.rest; config = fixed_config label there; slot = own.rest.slot.fixed }
 
   abbrev pub SparedAt : Stage → Type 0
-  SparedAt first = (at : FixedLabels) × SparesConfig first at × IsReadyBehind size created at v contents.name m
+  SparedAt first = (at : FixedLabels) × SparesConfig first at × IsReadyBehind size created kept_count at v contents.name m
 
   ready_at : (first : Stage) (label : ℕ) (below : label < 4) → SparesConfig first (labels_at label below) → HasConfig label → SparedAt first
   ready_at first label below spares there =

@@ -7,8 +7,6 @@ use Rattle.std.specs.List.{flat_map, list_all}
 use Rattle.std.proofs.lemmas.List.{length-map}
 use Rattle.std.proofs.lemmas.List.Elements.{All-append, All-cons, All-head, All-nil, All-tail, All-weaker}
 use Rattle.std.proofs.lemmas.List.Sums.{sum_by-cons}
-use Rattle.base.specs.crash.LogRoom as room
-use Rattle.base.specs.crash.LogRoom.{records_estimate}
 use Rattle.base.specs.crash.Mount.{Placed, entry_of_record, records_above}
 use Rattle.base.specs.declared.operation.Op.{Op}
 use Rattle.base.specs.formats.Chain.{LogPiece}
@@ -27,8 +25,8 @@ use Rattle.extents.specs.Tables.{name_of, patches_of}
 use Rattle.group_plans.specs.Operations.{AreSized, TakesPlace}
 use Rattle.group_plans.proofs.GroupChanges.{allowed_ops_take_place}
 use Rattle.group_plans.proofs.GroupCounts.{all_pending, estimates_add}
-use Rattle.intent_log.specs.Chains.{IsSoundBlock}
-use Rattle.log_replay.specs.Replays.{IsBlockAllowed, IsChainAllowed, ops_of_records, record_in}
+use Rattle.intent_log.specs.Chains.{IsSoundPiece}
+use Rattle.log_replay.specs.Replays.{IsPieceAllowed, IsChainAllowed, ops_of_records, record_in}
 use Rattle.log_replay.proofs.BoundedReplays.{replays_stay_bounded}
 use Rattle.object_maps.specs.ContentsShown.{contents_of}
 use Rattle.object_maps.specs.Ops.{AreOpsAllowed, IsOpAllowed}
@@ -37,6 +35,7 @@ use Rattle.object_maps.specs.declared.tree.Tree.{Tree}
 use Rattle.transactions.specs.declared.record.Record.{Record}
 use Rattle.transactions.specs.Records.{record_fields}
 use Rattle.tree_plans.specs.Marks.{pending_ops}
+use Rattle.import_replay.specs.PlacedRecords.{ops_of_placed, placed_estimate}
 use Rattle.import_replay.specs.NextPools.{IsReplayedPool}
 use Rattle.import_replay.specs.ReadPools.{IsLoadedFor}
 use Rattle.import_replay.specs.declared.next_pool.ReplayedPool.{ReplayedPool}
@@ -85,7 +84,7 @@ same_ops group (x ∷ xs) (p ∷ ps) are =
     λ i. here i ++ rest i
 
 -- and the operations of a history's entries are those of the records
-entries-ops : (ps : List Placed) → flat_map (λ (e : Entry). e.ops) (map (λ (p : Placed). entry_of_record p.logged) ps) ≡ room.ops_of_records ps
+entries-ops : (ps : List Placed) → flat_map (λ (e : Entry). e.ops) (map (λ (p : Placed). entry_of_record p.logged) ps) ≡ ops_of_placed ps
 entries-ops [] = refl
 entries-ops (p ∷ ps) = ap (λ (l : List Op). p.logged.ops ++ l) (entries-ops ps)
 
@@ -95,7 +94,7 @@ estimate_in r = estimate_of (map shape_of r.ops)
 abbrev estimate_placed : Placed → ℕ
 estimate_placed p = estimate_of (map shape_of p.logged.ops)
 
-same_estimate : (group : ℕ) (xs : List Record) (ps : List Placed) → AreTaken group xs ps → sum_by estimate_in xs ≡ records_estimate ps
+same_estimate : (group : ℕ) (xs : List Record) (ps : List Placed) → AreTaken group xs ps → sum_by estimate_in xs ≡ placed_estimate ps
 same_estimate group [] [] are = refl
 same_estimate group [] (p ∷ ps) are = absurd (taken_none group p ps are)
 same_estimate group (x ∷ xs) [] are = absurd (none_taken group x xs are)
@@ -141,7 +140,7 @@ module _ (size : ℕ) (u : Uberblock) (name : List ℕ) (tree : Tree) (slots : L
   ops_are : pending_ops group records ≡ ops_of_records records
   ops_are = all_pending group records all_in_group
 
-  pub ops_replayed : room.ops_of_records placed ≡ pending_ops group records
+  pub ops_replayed : ops_of_placed placed ≡ pending_ops group records
   ops_replayed = sym (entries-ops placed) ∙ same_ops group records placed r.replayed.records_are ∙ sym ops_are
 
   leads : apply_all (pending_ops group records) synced ≡ Ok after
@@ -149,7 +148,7 @@ module _ (size : ℕ) (u : Uberblock) (name : List ℕ) (tree : Tree) (slots : L
       (flat_replay (map (λ (p : Placed). entry_of_record p.logged) placed) synced after r.replayed.applied)
 
   chain_allowed : IsChainAllowed chain
-  chain_allowed = All-weaker (IsSoundBlock (block_count size)) IsBlockAllowed (λ b is. is.allowed) chain loaded.sound
+  chain_allowed = All-weaker (IsSoundPiece (block_count size)) IsPieceAllowed (λ b is. is.allowed) chain loaded.sound
 
   pub bounded : IsBounded after
   bounded = replays_stay_bounded u.group chain synced after chain_allowed (record { name = subst IsName (sym r.name_is) named; objects = mine.bounded }) r.replayed.applied
@@ -160,7 +159,7 @@ module _ (size : ℕ) (u : Uberblock) (name : List ℕ) (tree : Tree) (slots : L
   pub takes_place : TakesPlace (pending_ops group records) pool.tree.entries.items synced after
   takes_place = allowed_ops_take_place (pending_ops group records) pool.tree.entries.items synced after (subst AreOpsAllowed (sym ops_are) (all_allowed records r.replayed.allowed)) leads mine.lengths
 
-  pub estimate : estimate_of (map shape_of (pending_ops group records)) ≡ records_estimate placed
+  pub estimate : estimate_of (map shape_of (pending_ops group records)) ≡ placed_estimate placed
   estimate = estimates_add group records all_in_group ∙ same_estimate group records placed r.replayed.records_are
 
   pub count : length records ≡ length placed

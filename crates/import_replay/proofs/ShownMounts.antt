@@ -23,6 +23,6 @@ module _ (now : List ℕ) (moment : ℕ) (m : Mounted) (long : length now ≡ m.
   pub labels_show : IsGeometry (length now) → IsActive now (uberblock_of_import moment m) → LabelsShow now m
   labels_show geometry active = record {
     geometry = geometry;
-    labels = λ created. new-shows now (shown_of_import m) (contents_of m.contents) created m.dirty_max (uberblock_of_import moment m) active config_at refl refl refl refl refl refl;
+    labels = λ created. new-shows now (shown_of_import m) (contents_of m.contents) created m.dirty_max (uberblock_of_import moment m) active config_at refl refl refl refl refl refl refl;
     configs = λ created. new-configs now (shown_of_import m) (contents_of m.contents) created m.dirty_max config_at;
   }

@@ -15,7 +15,6 @@ use Rattle.std.proofs.lemmas.Cmp.{nat_cmp_total}
 use Rattle.std.proofs.lemmas.List.{length-map}
 use Rattle.std.proofs.lemmas.Option.{slice_get_within}
 use Rattle.base.specs.common.Rising.{as_keys, rising}
-use Rattle.base.specs.crash.LogRoom.{ops_of_records, records_estimate}
 use Rattle.base.specs.crash.Mount.{IsChainOf, IsUsed, Mounts, Placed, frame_of, header_of, records_above}
 use Rattle.base.specs.declared.operation.Op.{Op}
 use Rattle.base.specs.declared.operation.Op.TheVariants.{Create, Remove, SetLength, SetName, Write}
@@ -42,6 +41,7 @@ use Rattle.object_maps.specs.ContentsShown.{contents_of}
 use Rattle.object_maps.specs.Pointers.{pointers_of}
 use Rattle.tree_plans.specs.Plans.{address_of}
 use Rattle.tree_plans.specs.declared.planner.PlannedBlock.{PlannedBlock}
+use Rattle.import_replay.specs.PlacedRecords.{ops_of_placed, placed_estimate}
 use Rattle.import_replay.specs.FreeBlocks.{is_planned}
 use Rattle.import_replay.specs.ImportSyncs.{IsImportWritten}
 use Rattle.import_replay.specs.Mounts.{IsImport, frame_of_import}
@@ -111,7 +111,7 @@ module _ (old new : Disk) (moment dirty_max : ℕ) (m : Mounted) (import : IsImp
   places = replayed_places image written.synced.u written.synced.chain each.synced
 
   abbrev ops : List Op
-  ops = ops_of_records (records_above written.synced.u.group written.synced.chain)
+  ops = ops_of_placed (records_above written.synced.u.group written.synced.chain)
 
   -- it is that of a place which the records write
   place_at : (i address : ℕ) → slice_get (map address_of blocks) i ≡ Some address → (place : Place) × (slice_get places i ≡ Some place) × IsPlace place × ((pointers_of m.tree place).address ≡ address)
@@ -194,7 +194,7 @@ module _ (old new : Disk) (moment dirty_max : ℕ) (m : Mounted) (import : IsImp
     nothing_written none k low = unwritten k low (no_block blocks few)
       where
         few : length blocks ≤ 0
-        few = subst (λ (ps : List Placed). length blocks ≤ records_estimate ps) (same_records ∙ none) written.synced.few
+        few = subst (λ (ps : List Placed). length blocks ≤ placed_estimate ps) (same_records ∙ none) written.synced.few
 
         no_block : (bs : List PlannedBlock) → length bs ≤ 0 → is_planned k bs ≡ false
         no_block [] h = refl
@@ -234,9 +234,9 @@ module _ (old new : Disk) (moment dirty_max : ℕ) (m : Mounted) (import : IsImp
                     omega (arith, equal, less)
 
     -- an object stays as it is if no record of the chain is on it
-    module _ (n : ℕ) (low : n < object_count) (none : list_any (is_on n) (ops_of_records (records_above u.group chain)) ≡ false) where
+    module _ (n : ℕ) (low : n < object_count) (none : list_any (is_on n) (ops_of_placed (records_above u.group chain)) ≡ false) where
       none_on : list_any (is_on n) ops ≡ false
-      none_on = ap (λ (ps : List Placed). list_any (is_on n) (ops_of_records ps)) same_records ∙ none
+      none_on = ap (λ (ps : List Placed). list_any (is_on n) (ops_of_placed ps)) same_records ∙ none
 
       pub other_record : (r k : ℕ) → r < record_count → k < block_count m.geometry → (pointer_of now m.tree.root (Data n r)).address ≡ block_address k
           → KeepsBlock old new k

@@ -1,6 +1,6 @@
 -- The blocks of an area that a set does not have: a list of them, each once, as long as the area has more blocks than
 -- the set.
-use Rattle.std.proofs.Common.{◌≡◌, ◌≢◌, ◌⊎◌, inl, inr, ℕ, zero, suc, ◌+◌, ◌-◌, ◌<◌, ◌≤◌, Bool, true, false, not, ◌&&◌, cond, List, [], ◌∷◌, length, nat_eq, refl, sym, subst, ap, ◌∙◌, arith}
+use Rattle.std.proofs.Common.{◌≡◌, ◌≢◌, ◌⊎◌, inl, inr, ⊎_elim, ℕ, zero, suc, ◌+◌, ◌-◌, ◌<◌, ◌≤◌, Bool, true, false, not, ◌&&◌, cond, List, [], ◌∷◌, length, nat_eq, refl, sym, subst, ap, ◌∙◌, arith}
 use Rattle.std.specs.Prelude.{All, Contains}
 use Rattle.std.specs.List.{AllByRecursion, IsDistinct}
 use Rattle.std.specs.Ordering.{nat_cmp}
@@ -9,18 +9,19 @@ use Rattle.std.specs.FinSet as set
 use Rattle.std.specs.FinSet.{FinSet, contains-empty, len-empty, len-remove, same_set, nat_cmp-IsAntisymmetric}
 use Rattle.std.proofs.lemmas.Bool.{cases_eq, eq-eqb, ne_eqb}
 use Rattle.std.proofs.lemmas.Cmp.{nat_cmp_total}
+use Rattle.std.proofs.lemmas.List.Elements.{All-contains, Contains-append_cases}
 use Rattle.base.specs.crash.Mount.{IsUseCount, IsUsed}
 use Rattle.base.specs.declared.pointer.Pointer.{Pointer}
-use Rattle.base.specs.formats.Chain.{LogPiece}
+use Rattle.base.specs.formats.Chain.{LogPiece, addresses_of, chain_addresses}
 use Rattle.base.specs.formats.Geometry.{IsBlockAddress, block_address, block_count}
 use Rattle.base.specs.formats.Uberblocks.{Uberblock}
 use Rattle.base.specs.tree.PlacedTrees.{ArePlaced, IsPlaced}
 use Rattle.base.specs.tree.Places.{IsInTree, Place}
-use Rattle.intent_log.specs.Chains.{IsSoundBlock}
+use Rattle.intent_log.specs.Chains.{IsSoundPiece}
 use Rattle.object_maps.specs.declared.tree.Tree.{Tree}
 use Rattle.object_maps.specs.Pointers.{pointers_of}
 use Rattle.space.proofs.Counts.{one_there}
-use Rattle.import_replay.specs.FreeBlocks.{AreUnused, IsNamed, IsUsedBy, chain_addresses}
+use Rattle.import_replay.specs.FreeBlocks.{AreUnused, IsNamed, IsUsedBy}
 use Rattle.import_replay.specs.ReadPools.{HoldsPool, frame_of_size}
 use Rattle.object_maps.proofs.FreeBlocks.{contains-without}
 use Rattle.import_replay.proofs.MountedPools.{named-of_tree, used_on_image}
@@ -143,14 +144,15 @@ length-used (suc n) free within = by_flag (set.contains free (block_address n)) 
     by_flag false is all = let rest = all free (without is) in omega (arith, rest)
 
 -- the blocks of a chain that was read lie in the area
-pub sound_in_area : (blocks : ℕ) (chain : List LogPiece) → All (IsSoundBlock blocks) chain → (address : ℕ) → Contains (chain_addresses chain) address → IsBlockAddress blocks address
+pub sound_in_area : (blocks : ℕ) (chain : List LogPiece) → All (IsSoundPiece blocks) chain → (address : ℕ) → Contains (chain_addresses chain) address → IsBlockAddress blocks address
 sound_in_area blocks [] sound address (i, low, is) = absurd (omega (arith, low))
-sound_in_area blocks (b ∷ bs) sound address (zero, low, is) = subst (λ (a : ℕ). IsBlockAddress blocks a) is ((sound 0 b (omega arith)).in_area 0 b.address (omega arith))
-sound_in_area blocks (b ∷ bs) sound address (suc i, low, is) = sound_in_area blocks bs (λ k d h. sound (suc k) d (omega (arith, h))) address (i, omega (arith, low), is)
+sound_in_area blocks (b ∷ bs) sound address there =
+    ⊎_elim (λ here. All-contains (IsBlockAddress blocks) (addresses_of b) address (sound 0 b (omega arith)).in_area here)
+    (λ behind. sound_in_area blocks bs (λ k d h. sound (suc k) d (omega (arith, h))) address behind) (Contains-append_cases (addresses_of b) (chain_addresses bs) address there)
 
 -- the blocks of a tree and a chain that were read are those that are not free
 module _ (image : List ℕ) (size : ℕ) (u : Uberblock) (name : List ℕ) (tree : Tree) (objects : FinMap nat_cmp (List ℕ)) (chain : List LogPiece) (read : HoldsPool image size u name tree objects chain)
-    (placed : ArePlaced (block_count size) (pointers_of tree)) (sound : All (IsSoundBlock (block_count size)) chain) (free : FinSet nat_cmp)
+    (placed : ArePlaced (block_count size) (pointers_of tree)) (sound : All (IsSoundPiece (block_count size)) chain) (free : FinSet nat_cmp)
     (were : AreUnused (pointers_of tree) (chain_addresses chain) (block_count size) free) where
   abbrev pointers : Place → Pointer
   pointers = pointers_of tree

@@ -1,6 +1,6 @@
 -- The free blocks of a tree and a chain, and the one that a plan leaves for the log.
 use Rattle.std.specs.Prelude.{ℕ, ◌≡◌, ◌≢◌, ◌<◌, ◌⊎◌, ◌||◌, Bool, Contains, List, true, false}
-use Rattle.std.specs.List.{flat_map, list_any}
+use Rattle.std.specs.List.{list_any}
 use Rattle.std.specs.Ordering.{nat_cmp}
 use Rattle.std.specs.FinSet as set
 use Rattle.std.specs.FinSet.{FinSet}
@@ -17,10 +17,6 @@ use Rattle.tree_plans.specs.declared.planner.TreePlan.{TreePlan}
 -- the pointer at some place has this address
 abbrev pub IsNamed : (Place → Pointer) → ℕ → Type 0
 IsNamed pointers address = (place : Place) × IsPlace place × ((pointers place).address ≡ address)
-
--- the addresses of the blocks of a chain
-abbrev pub chain_addresses : List LogPiece → List ℕ
-chain_addresses chain = flat_map addresses_of chain
 
 -- the pointer at some place has this address, or it is one of these of a chain
 abbrev pub IsUsedBy : (Place → Pointer) → List ℕ → ℕ → Type 0
@@ -39,9 +35,9 @@ pub record AreAllOthers (pointers : Place → Pointer) (blocks address : ℕ) (f
   pub not_taken : (other : ℕ) → set.contains free other ≡ true → other ≢ address
   pub others : (other : ℕ) → set.contains free other ≡ false → IsBlockAddress blocks other → IsNamed pointers other ⊎ (other ≡ address)
 
--- whether a log block is the k-th block
+-- whether one of the blocks of a piece is the k-th block
 abbrev pub logs_block : ℕ → LogPiece → Bool
-logs_block k logged = is_block_at k logged.address
+logs_block k piece = list_any (is_block_at k) (addresses_of piece)
 
 -- whether one of a tree's pointers or of a chain's blocks is
 abbrev pub uses_block : ℕ → Tree → List LogPiece → Bool

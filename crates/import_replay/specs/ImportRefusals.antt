@@ -13,9 +13,9 @@ use Rattle.base.specs.tree.Tree.{IsTree}
 use Rattle.base.specs.crash.Mount.{HasNoPool, HasPool, IsChainDamaged, IsTreeDamaged, IsUsed, Mounts, frame_of, records_above}
 use Rattle.base.specs.crash.Imports.{is_dirty_max_allowed, is_past_last}
 use Rattle.base.specs.crash.CrashRule.{IsOwnOnceFlushed}
-use Rattle.base.specs.crash.LogRoom.{records_estimate}
 use Rattle.base.specs.disk.Disk.{Disk}
 use Rattle.base.specs.history.Contents.{Contents}
+use Rattle.import_replay.specs.PlacedRecords.{placed_estimate}
 
 -- an import of a device of so many bytes with this limit may begin
 abbrev pub CanImport : ℕ → ℕ → Type 0
@@ -104,7 +104,7 @@ pub record LacksImportRoom (image : List ℕ) : Type 0 where
   pub within : is_past_last u.group u.import_number ≡ false
   pub spare : FinSet nat_cmp
   pub all : (address : ℕ) → IsBlockAddress (block_count (length image)) address → (IsUsed image u.root chain address → ⊥) → set.contains spare address ≡ true
-  pub few : set.len spare ≤ records_estimate (records_above u.group chain)
+  pub few : set.len spare ≤ placed_estimate (records_above u.group chain)
 
 -- the tree of the image's pool has this first damage, or a log block of its chain, at this address, is refused
 abbrev pub IsDamagedWith : (ℕ → Type 0) → List ℕ → ℕ → ℕ → Type 0

@@ -1,6 +1,5 @@
 -- What an import writes to the device, in which order, and what it leaves in the labels.
 use Rattle.std.specs.Prelude.{ℕ, ◌≡◌, ◌≤◌, ◌+◌, All, Bool, List, [], length, map}
-use Rattle.base.specs.crash.LogRoom.{records_estimate}
 use Rattle.base.specs.crash.Mount.{IsChainOf, records_above}
 use Rattle.base.specs.disk.Disk.{Disk, bytes_of, certain}
 use Rattle.base.specs.formats.Chain.{LogPiece}
@@ -12,6 +11,7 @@ use Rattle.object_maps.specs.Pointers.{pointers_of}
 use Rattle.sync.specs.Made.{BlocksWritten}
 use Rattle.tree_plans.specs.Plans.{address_of}
 use Rattle.tree_plans.specs.declared.planner.PlannedBlock.{PlannedBlock}
+use Rattle.import_replay.specs.PlacedRecords.{placed_estimate}
 use Rattle.import_replay.specs.Found.{HasFirstStage}
 use Rattle.import_replay.specs.Labelled.{HoldLabels}
 use Rattle.import_replay.specs.LabelSyncs.{ImportWrites, after_calls}
@@ -59,7 +59,7 @@ pub record IsImportSynced (old new : Disk) (moment : ℕ) (m : Mounted) : Type 0
   pub chain_is : IsChainOf (bytes_of old.now) u chain
   pub blocks : List PlannedBlock
   pub unused : All (IsUnusedBlock (bytes_of old.now) u chain) blocks
-  pub few : length blocks ≤ records_estimate (records_above u.group chain)
+  pub few : length blocks ≤ placed_estimate (records_above u.group chain)
   pub lowest : AreLowestSpare (bytes_of old.now) u chain (map address_of blocks)
   pub each : AreForEachPlace (bytes_of old.now) u chain (pointers_of m.tree) (map address_of blocks)
   pub synced : new ≡ after_calls (writes_of_import moment blocks m) (import_calls (length blocks) even_first) (certain (bytes_of old.now) old)

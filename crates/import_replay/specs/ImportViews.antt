@@ -2,6 +2,7 @@
 use Rattle.std.specs.Prelude.{ℕ, ◌≡◌, ◌≢◌, ◌≤◌, ◌+◌, All, List, [], Some, length, slice_get}
 use Rattle.base.specs.crash.CallStages.{FixedLabels, IsAtRestAt}
 use Rattle.base.specs.crash.CrashRule.{IsImportMoment}
+use Rattle.base.specs.crash.LogRule.{with_front}
 use Rattle.base.specs.crash.LogSteps.{IsSpareOf}
 use Rattle.base.specs.crash.Own.{AreConfigsBelowImport, IsAtRest}
 use Rattle.base.specs.crash.Views.{View, view_frame}
@@ -60,42 +61,43 @@ pub record ComesBehind (w : ImportWrites) (tree : ViewTree) (v : View) : Type 0 
   pub root : tree.pointers Root ≡ w.u.root
   pub config_is : w.config ≡ record { guid = v.u.guid; group = v.u.group + 4; size = w.size; name = tree.contents.name }
 
--- a block of a tree, at an address that the view has neither in its tree nor in its log
-pub record IsSpareFor (v : View) (b : PlannedBlock) : Type 0 where
+-- a block of a tree, at an address that the view has neither in its tree nor in the front of its log with its records
+pub record IsSpareFor (flushed : ℕ) (v : View) (b : PlannedBlock) : Type 0 where
   pub not_config : number_at b.block 0 ≢ 1
   pub not_log : number_at b.block 0 ≢ 6
-  pub spare : IsSpareOf v (block_address b.index)
+  pub spare : IsSpareOf (with_front flushed v) (block_address b.index)
 
 -- if just these blocks of the area are written over these bytes, the tree stands
 abbrev pub IsTreeMade : (base : List ℕ) (size : ℕ) → List PlannedBlock → Frame → ViewTree → Type 0
 IsTreeMade base size blocks frame tree =
     (image : List ℕ) → length image ≡ length base → BlocksWritten base size blocks (length blocks) image → HoldsTree image frame tree.pointers tree.contents.objects
 
--- An import that mounts this name may write after the view: the disk is at rest on it, with what these labels have, and
--- all else is as an import leaves it.
-pub record IsReadyBehind (size created : ℕ) (at : FixedLabels) (v : View) (name : List ℕ) (m : Moment) : Type 0 where
-  pub rest : IsAtRestAt size created (length v.logged) at v m
+-- An import that mounts this name may write after the view: the disk is at rest on it, with so many of its log blocks
+-- and what these labels have, and all else is as an import leaves it.
+pub record IsReadyBehind (size created flushed : ℕ) (at : FixedLabels) (v : View) (name : List ℕ) (m : Moment) : Type 0 where
+  pub rest : IsAtRestAt size created flushed at v m
   pub bytes : HasFairBytes size created m
   pub configs : AreConfigsBelowImport size created (handed m) v name
 
 -- This may be written after the view, this stage first: it comes after the view and spares it, and it makes the tree.
-pub record MayBeWritten (w : ImportWrites) (first : Stage) (created : ℕ) (at : FixedLabels) (v : View) (tree : ViewTree) (start : Disk) : Type 0 where
+pub record MayBeWritten (w : ImportWrites) (first : Stage) (created flushed : ℕ) (at : FixedLabels) (v : View) (tree : ViewTree) (start : Disk) : Type 0 where
   pub began : created ≤ moments start
-  pub ready : IsReadyBehind w.size created at v tree.contents.name start.now
+  pub ready : IsReadyBehind w.size created flushed at v tree.contents.name start.now
   pub behind : ComesBehind w tree v
   pub spares : SparesConfig first at
-  pub apart : All (IsSpareFor v) w.blocks
+  pub apart : All (IsSpareFor flushed v) w.blocks
   pub made : IsTreeMade (bytes_of start.now) w.size w.blocks (view_frame w.size (view_of w tree)) tree
 
--- whenever the pool was created, and for each view after which this may be written, with each tree that it makes
-abbrev pub ForEachView : ImportWrites → Stage → Disk → (ℕ → FixedLabels → View → ViewTree → Type 0) → Type 0
-ForEachView w first start P = (created : ℕ) (at : FixedLabels) (v : View) (tree : ViewTree) → MayBeWritten w first created at v tree start → P created at v tree
+-- whenever the pool was created, and for each view after which this may be written, with so many of its log blocks fixed
+-- and each tree that it makes
+abbrev pub ForEachView : ImportWrites → Stage → Disk → (ℕ → ℕ → FixedLabels → View → ViewTree → Type 0) → Type 0
+ForEachView w first start P = (created flushed : ℕ) (at : FixedLabels) (v : View) (tree : ViewTree) → MayBeWritten w first created flushed at v tree start → P created flushed at v tree
 
 -- each moment from the one disk to the other is one of an import, from the view that it began on to the one that it
 -- writes
 abbrev pub KeepsViews : ImportWrites → Stage → Disk → Disk → Type 0
-KeepsViews w first start now = ForEachView w first start (λ created at v tree. EachMoment (IsImportMoment w.size created v (view_of w tree) tree.contents.name) start now)
+KeepsViews w first start now = ForEachView w first start (λ created flushed at v tree. EachMoment (IsImportMoment w.size created flushed v (view_of w tree) tree.contents.name) start now)
 
 -- and at last the disk is at rest on that one
 abbrev pub EndsBehind : ImportWrites → Stage → Disk → Disk → Type 0
-EndsBehind w first start now = ForEachView w first start (λ created at v tree. IsAtRest w.size created 0 now.now (view_of w tree))
+EndsBehind w first start now = ForEachView w first start (λ created flushed at v tree. IsAtRest w.size created 0 now.now (view_of w tree))

@@ -14,6 +14,7 @@ pub mod LabelSyncs
 pub mod ImportViews
 pub mod TakenBlocks
 pub mod NextPools
+pub mod PlacedRecords
 pub mod ImportSyncs
 pub mod ImportStops
 pub mod Refused

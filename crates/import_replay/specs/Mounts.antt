@@ -41,7 +41,7 @@ shown_of_import m = record {
   dirty = finite.empty;
   reserved = finite.empty;
   free = m.free.free;
-  log = record { unsynced = []; pending = []; kept = []; next = record { address = m.log_address; number = 0 } };
+  log = record { unsynced = []; begun = None; pending = []; kept = []; next = record { address = m.log_address; number = 0 } };
   root = m.tree.root;
   synced_contents = contents_of m.contents;
   lengths = lengths_of m.tree;

@@ -5,14 +5,13 @@ use Rattle.std.specs.FinMap as finite
 use Rattle.std.specs.FinMap.{FinMap}
 use Rattle.std.specs.FinSet.{FinSet}
 use Rattle.base.specs.common.Rising.{rising}
-use Rattle.base.specs.crash.LogRoom.{records_estimate}
 use Rattle.base.specs.crash.Mount.{IsUsed, records_above}
 use Rattle.base.specs.declared.error.PoolError.{PoolError}
 use Rattle.base.specs.declared.error.PoolError.TheVariants.{NoSpace}
 use Rattle.base.specs.declared.pointer.Pointer.{Pointer}
 use Rattle.base.specs.disk.Disk.{bytes_of}
 use Rattle.base.specs.formats.Blocks.{Frame}
-use Rattle.base.specs.formats.Chain.{LogPiece}
+use Rattle.base.specs.formats.Chain.{LogPiece, chain_addresses}
 use Rattle.base.specs.formats.Fields.{number_at}
 use Rattle.base.specs.formats.Geometry.{IsBlockAddress, block_address, block_count}
 use Rattle.base.specs.formats.Limits.{object_count}
@@ -40,7 +39,8 @@ use Rattle.space.specs.FreeSets.{IsIdle}
 use Rattle.tree_plans.specs.Plans.{address_of}
 use Rattle.tree_plans.specs.declared.planner.PlannedBlock.{PlannedBlock}
 use Rattle.tree_plans.specs.declared.planner.TreePlan.{TreePlan}
-use Rattle.import_replay.specs.FreeBlocks.{AreAllOthers, AreAllPlanned, AreUnused, IsLeftBy, IsLowestLeft, IsNamed, chain_addresses}
+use Rattle.import_replay.specs.PlacedRecords.{placed_estimate}
+use Rattle.import_replay.specs.FreeBlocks.{AreAllOthers, AreAllPlanned, AreUnused, IsLeftBy, IsLowestLeft, IsNamed}
 use Rattle.import_replay.specs.ImportViews.{IsTreeMade, ViewTree}
 use Rattle.import_replay.specs.LabelSyncs.{AreApartIn}
 use Rattle.import_replay.specs.ReadPools.{frame_of_size}
@@ -93,7 +93,7 @@ pub record IsUnusedBlock (image : List ℕ) (u : Uberblock) (chain : List LogPie
 pub record AreMadeOver (image : List ℕ) (u : Uberblock) (chain : List LogPiece) (size : ℕ) (blocks : List PlannedBlock) (p : PoolParts) : Type 0 where
   pub tree : IsTreeMade image size blocks (next_frame u size) (tree_of p)
   pub unused : All (IsUnusedBlock image u chain) blocks
-  pub few : length blocks ≤ records_estimate (records_above u.group chain)
+  pub few : length blocks ≤ placed_estimate (records_above u.group chain)
   pub lowest : AreLowestSpare image u chain (map address_of blocks)
   pub each : AreForEachPlace image u chain (pointers_of p.tree) (map address_of blocks)
   pub records : p.records ≡ length (records_above u.group chain)

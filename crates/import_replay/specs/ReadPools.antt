@@ -10,7 +10,7 @@ use Rattle.base.specs.formats.Chain.{LogPiece}
 use Rattle.base.specs.formats.Geometry.{block_count}
 use Rattle.base.specs.formats.Uberblocks.{Uberblock}
 use Rattle.base.specs.tree.PlacedTrees.{ArePlaced, HoldsTree}
-use Rattle.intent_log.specs.Chains.{IsSoundBlock}
+use Rattle.intent_log.specs.Chains.{IsSoundPiece}
 use Rattle.object_maps.specs.declared.contents.Slot.{Slot}
 use Rattle.object_maps.specs.declared.tree.Tree.{Tree}
 use Rattle.object_maps.specs.Lengths.{HasLengthsOf}
@@ -32,7 +32,7 @@ pub record IsLoadedFor (u : Uberblock) (blocks : ℕ) (tree : Tree) (slots : Lis
   pub placed : ArePlaced blocks (pointers_of tree)
   pub bounded : (n : ℕ) → IfSome (finite.get (objects_of slots) n) (IsLimitedObject n)
   pub lengths : HasLengthsOf tree (objects_of slots)
-  pub sound : All (IsSoundBlock blocks) chain
+  pub sound : All (IsSoundPiece blocks) chain
 
 -- an image of so many bytes has an active pool, holds this tree of these objects under its root, and has the chain that
 -- its uberblock begins
@@ -55,5 +55,5 @@ pub record IsSurveyedFor (keeps : Bool) (image : List ℕ) (size : ℕ) (u : Ube
   pub objects : FinMap nat_cmp (List ℕ)
   pub bounded : (n : ℕ) → IfSome (finite.get objects n) (IsLimitedObject n)
   pub lengths : HasLengthsOf tree objects
-  pub sound : All (IsSoundBlock (block_count size)) chain
+  pub sound : All (IsSoundPiece (block_count size)) chain
   pub read : IsTrue keeps → HoldsPool image size u name tree objects chain

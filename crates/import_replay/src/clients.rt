@@ -7,7 +7,6 @@ ghost use Rattle.std.specs.List.{list_any};
 ghost use Rattle.base.specs.disk.Disk.{bytes_of};
 ghost use Rattle.base.specs.formats.Uberblocks as image;
 ghost use Rattle.base.specs.formats.Uberblocks.{IsActive};
-ghost use Rattle.base.specs.crash.LogRoom.{ops_of_records};
 ghost use Rattle.base.specs.crash.Mount.{IsChainDamaged, IsUsed, Mounts, records_above};
 ghost use Rattle.base.specs.formats.Chain.{LogPiece};
 ghost use Rattle.base.specs.formats.Geometry.{block_address, block_count};
@@ -18,6 +17,7 @@ ghost use Rattle.group_plans.specs.Areas.{AreBlocksOf};
 ghost use Rattle.object_maps.specs.ContentsShown.{contents_of};
 ghost use Rattle.object_maps.specs.Surveys.{listed};
 ghost use Rattle.space.specs.FreeSets.{is_free};
+ghost use Rattle.import_replay.specs.PlacedRecords.{ops_of_placed};
 ghost use Rattle.import_replay.specs.TakenBlocks.{ChangesBlock, KeepsBlock};
 
 use crate::creation::create;
@@ -220,7 +220,7 @@ fn an_object_without_records_is_not_written<D: SectorDevice>(
     ensures data { IsTrue D.keeps_model → IfOk result (λ i. (u : image.Uberblock)
         → (chain : List LogPiece) → (contents : Contents)
         → Mounts (bytes_of (D.disk device).now) u chain contents
-        → list_any (is_on 7) (ops_of_records (records_above u.group chain)) ≡ false
+        → list_any (is_on 7) (ops_of_placed (records_above u.group chain)) ≡ false
         → (k : ℕ) → k < block_count i.mounted.geometry
         → (data_pointer (bytes_of (D.disk i.device).now) i.mounted.tree.root 7 2).address
         ≡ block_address k
@@ -228,7 +228,7 @@ fn an_object_without_records_is_not_written<D: SectorDevice>(
     ensures pointers { IsTrue D.keeps_model → IfOk result (λ i. (u : image.Uberblock)
         → (chain : List LogPiece) → (contents : Contents)
         → Mounts (bytes_of (D.disk device).now) u chain contents
-        → list_any (is_on 7) (ops_of_records (records_above u.group chain)) ≡ false
+        → list_any (is_on 7) (ops_of_placed (records_above u.group chain)) ≡ false
         → (k : ℕ) → k < block_count i.mounted.geometry
         → (indirect_pointer (bytes_of (D.disk i.device).now) i.mounted.tree.root 7).address
         ≡ block_address k

@@ -9,19 +9,31 @@ ghost use Rattle.group_plans.specs.Areas.{AreBlocksOf};
 ghost use Rattle.import_replay.specs.FreeBlocks.{AreAllPlanned, IsLowestLeft, after_gives, is_planned, logs_block};
 
 use base::PoolError;
-use intent_log::LoggedBlock;
+use intent_log::LoggedPiece;
 use labels::Geometry;
 use space::FreeSet;
 use tree_plans::PlannedBlock;
 
 // The blocks of a chain are taken.
-pub(crate) fn take_logged(free: &mut FreeSet, geometry: Geometry, logged: &[LoggedBlock])
+pub(crate) fn take_logged(free: &mut FreeSet, geometry: Geometry, logged: &[LoggedPiece])
     requires { free.old.blocks ≡ block_count geometry }
     ensures count { free.new.blocks ≡ block_count geometry }
     ensures taken { BlocksTaken (λ k. list_any (logs_block k) logged.now) free.old free.new }
 {
-    for block in logged {
-        take_block(free, geometry, block.address());
+    for piece in logged {
+        take_block(free, geometry, piece.address());
+        take_blocks(free, geometry, piece.behind());
+    }
+}
+
+// Takes the blocks at these addresses.
+fn take_blocks(free: &mut FreeSet, geometry: Geometry, addresses: &[u64])
+    requires { free.old.blocks ≡ block_count geometry }
+    ensures count { free.new.blocks ≡ block_count geometry }
+    ensures taken { BlocksTaken (λ k. list_any (is_block_at k) addresses.now) free.old free.new }
+{
+    for address in addresses {
+        take_block(free, geometry, *address);
     }
 }
 

@@ -30,7 +30,7 @@ use crate::free_blocks::{give_all, lowest_left, take_logged, take_planned};
 use crate::reading::frame_of;
 use base::{Group, PoolError};
 use group_plans::{GroupSource, plan_group};
-use intent_log::LoggedBlock;
+use intent_log::LoggedPiece;
 use labels::Geometry;
 use log_replay::{Replayed, replay};
 use object_maps::{BlockReader, Contents, Loaded, Tree};
@@ -77,7 +77,7 @@ pub(crate) fn replay_pool(
     geometry: Geometry,
     found: &Found,
     loaded: Loaded,
-    logged: Vec<LoggedBlock>,
+    logged: Vec<LoggedPiece>,
 ) -> Result<ReplayedPool, PoolError>
     requires allowed { IsChainAllowed logged.items }
     requires free { AreUnnamed (block_count geometry) loaded.tree loaded.free }

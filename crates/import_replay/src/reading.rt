@@ -10,7 +10,7 @@ ghost use Rattle.base.specs.crash.Mount.{IsChainOf};
 ghost use Rattle.device_model.specs.Reading.{OnlyReads};
 ghost use Rattle.object_maps.specs.FreeBlocks.{AreUnnamed};
 ghost use Rattle.uberblocks.specs.Slots.{fields_of};
-ghost use Rattle.intent_log.specs.Chains.{IsChainRefusal, IsSoundBlock};
+ghost use Rattle.intent_log.specs.Chains.{IsChainRefusal, IsSoundPiece};
 ghost use Rattle.import_replay.specs.Devices.{IsSizedFor};
 ghost use Rattle.import_replay.specs.Found.{HasFirstStage};
 ghost use Rattle.import_replay.specs.ImportRefusals.{IsReason, IsWalkRefusal};
@@ -21,7 +21,7 @@ use crate::finding::{Found, find_pool};
 use base::PoolError;
 use checked_blocks::Frame;
 use device_model::SectorDevice;
-use intent_log::{ChainHeader, LoggedBlock, chain};
+use intent_log::{ChainHeader, LoggedPiece, chain};
 use labels::Geometry;
 use object_maps::{Loaded, Tree, load, survey};
 use space::FreeSet;
@@ -35,7 +35,7 @@ pub(crate) fn read_pool<D: SectorDevice>(
     alloc: Global,
     device: &mut D,
     geometry: Geometry,
-) -> Result<(Found, Loaded, Vec<LoggedBlock>), PoolError>
+) -> Result<(Found, Loaded, Vec<LoggedPiece>), PoolError>
     requires sized { IsSizedFor D.SectorDevice geometry device.old }
     ensures reads { OnlyReads D.SectorDevice result device.old device.new }
     ensures refused { IfErr result IsWalkRefusal }
@@ -64,7 +64,7 @@ pub(crate) fn survey_pool<D: SectorDevice>(
     alloc: Global,
     device: &mut D,
     geometry: Geometry,
-) -> Result<(Found, Tree, FreeSet, Vec<LoggedBlock>), PoolError>
+) -> Result<(Found, Tree, FreeSet, Vec<LoggedPiece>), PoolError>
     requires sized { IsSizedFor D.SectorDevice geometry device.old }
     ensures reads { OnlyReads D.SectorDevice result device.old device.new }
     ensures refused { IfErr result IsWalkRefusal }
@@ -82,24 +82,25 @@ pub(crate) fn survey_pool<D: SectorDevice>(
     Ok((found, tree, free, logged))
 }
 
-// The chain of log blocks that the active uberblock of a pool begins.
+// The chain of log blocks that the active uberblock of a pool begins, by the rules of its version.
 fn read_chain<D: SectorDevice>(
     alloc: Global,
     device: &mut D,
     geometry: Geometry,
     found: &Found,
-) -> Result<Vec<LoggedBlock>, PoolError>
+) -> Result<Vec<LoggedPiece>, PoolError>
     requires sized { IsSizedFor D.SectorDevice geometry device.old }
     ensures reads { OnlyReads D.SectorDevice result device.old device.new }
     ensures refused { IfErr result IsChainRefusal }
-    ensures chain { IsTrue D.keeps_model → IfOk result (λ blocks. IsChainOf
-        (bytes_of (D.disk device.old).now) (fields_of found.now.uberblock) blocks.items) }
-    ensures sound { IfOk result (λ blocks. All (IsSoundBlock (block_count geometry)) blocks.items) }
+    ensures chain { IsTrue D.keeps_model → IfOk result (λ pieces. IsChainOf
+        (bytes_of (D.disk device.old).now) (fields_of found.now.uberblock) pieces.items) }
+    ensures sound { IfOk result (λ pieces. All (IsSoundPiece (block_count geometry)) pieces.items) }
 {
     let header = ChainHeader {
         address: found.uberblock.log_address,
         number: found.uberblock.log_number,
         import_number: found.uberblock.import_number,
+        version: found.uberblock.version,
     };
     chain(
         alloc,

@@ -1,7 +1,7 @@
 -- No call of a sync writes a log block, or over one. So the logs of both views are held as before, and once a flush is
 -- answered Ok all their blocks are fixed.
 use Rattle.std.proofs.Common.{◌≡◌, inl, inr, ℕ, ◌+◌, ◌≤◌, false, List, length, Option, Some, None, Result, sym, ◌∙◌, ap, subst, arith}
-use Rattle.std.specs.Prelude.{◌≢◌, slice_get}
+use Rattle.std.specs.Prelude.{◌≢◌, All, slice_get}
 use Rattle.base.specs.declared.error.PoolError.{PoolError}
 use Rattle.base.specs.crash.Mount.{header_of}
 use Rattle.base.specs.crash.Views.{Logged}
@@ -18,14 +18,14 @@ use Rattle.base.proofs.disk.Moments.{each_write, starts}
 use Rattle.sync.specs.declared.run.LabelStages.{LabelStages}
 use Rattle.sync.specs.declared.run.SyncRun.{SyncRun}
 use Rattle.sync.specs.Calls.{Target, block_target, config_target, target_of}
-use Rattle.sync.specs.Phases.{HasConfigOf, HoldsLogs, IsSpareBlock, LeadsViews, SyncViews, all_flushed}
+use Rattle.sync.specs.Phases.{HasConfigOf, HoldsLogs, IsApartFromLog, IsSpareBlock, LeadsViews, SyncViews, all_flushed}
 use Rattle.sync.proofs.SparedPlaces.{linked_placed}
 use Rattle.sync.proofs.SpareBlocks.{call_apart}
 use Rattle.sync.proofs.Targets.{InLabels, IsSound, mapped}
 
 -- a flush fixes both logs
 pub logs_settled : (run : SyncRun) (v : SyncViews) (m : Moment) → HoldsLogs run v false m → HoldsLogs run (all_flushed v) false (settled (bytes_of m) m)
-logs_settled run v m h = record { old = held_settled run.geometry v.created v.flushed m v.old h.old; new = held_settled run.geometry v.created v.new_flushed m v.new h.new }
+logs_settled run v m h = record { apart = h.apart; old = held_settled run.geometry v.created v.flushed m v.old h.old; new = held_settled run.geometry v.created v.new_flushed m v.new h.new }
 
 turned : (a m b n : ℕ) → Apart a m b n → Apart b n a m
 turned a m b n (inl before) = inr before
@@ -50,21 +50,22 @@ module _ (base : List ℕ) (run : SyncRun) (sound : IsSound run) (v : SyncViews)
   not_six Flush t is long six = absurd (let no_way : None ≡ Some t = is in cc)
 
   module _ (call : DeviceCall) (t : Target) (within : InLabels call) (is : target_of run call ≡ Some t) (long : length t.content ≡ t.size) where
-    old_apart : (i : ℕ) (l : Logged) → slice_get v.old.logged i ≡ Some l → Apart t.place (length t.content) l.block.address (length l.content)
-    old_apart i l at =
+    old_apart : All (IsApartFromLog v.old) run.blocks.items → (i : ℕ) (l : Logged) → slice_get v.old.logged i ≡ Some l → Apart t.place (length t.content) l.block.address (length l.content)
+    old_apart free i l at =
         let here = linked_placed v.old.u.guid (block_count run.geometry) v.old.u.import_number (header_of v.old.u) v.old.logged leads.old_view.linked i l at in
         let apart : Apart l.block.address block_size t.place t.size =
-        call_apart run sound l.block.address here.1 (λ k b at_b. (All-at (IsSpareBlock v) run.blocks.items k b leads.blocks at_b).not_logged i l at) call t within is in
+        call_apart run sound l.block.address here.1 (λ k b at_b. All-at (IsApartFromLog v.old) run.blocks.items k b free at_b i l at) call t within is in
         subst (λ (n : ℕ). Apart t.place n l.block.address (length l.content)) (sym long)
         (subst (λ (n : ℕ). Apart t.place t.size l.block.address n) (sym here.0) (turned l.block.address block_size t.place t.size apart))
 
-    new_apart : (i : ℕ) (l : Logged) → slice_get v.new.logged i ≡ Some l → Apart t.place (length t.content) l.block.address (length l.content)
-    new_apart i l at = let old = leads.log.1 i l at in old_apart old.0 l old.1
+    new_apart : All (IsApartFromLog v.old) run.blocks.items → (i : ℕ) (l : Logged) → slice_get v.new.logged i ≡ Some l → Apart t.place (length t.content) l.block.address (length l.content)
+    new_apart free i l at = let old = leads.log.1 i l at in old_apart free old.0 l old.1
 
     -- the logs are held at each moment of a write of the sync
     pub write_holds : (before after : Disk) (r : Result (Unit {0}) PoolError) → t.place + length t.content ≤ length (bytes_of before.now) → HoldsLogs run v false before.now → Writes before t.place t.content r after
         → EachMoment (HoldsLogs run v false) before after
     write_holds before after r fits holds writes = each_write (HoldsLogs run v false) before before after t.place t.content r (starts (HoldsLogs run v false) before holds) writes (λ done h. record {
-      old = held_wrote (moments before) t.place t.content done before.now fits run.geometry v.created v.flushed false v.old (λ chain number block log. not_six call t is log.sealed.size log.sealed.kind_is) old_apart h.old;
-      new = held_wrote (moments before) t.place t.content done before.now fits run.geometry v.created v.new_flushed false v.new (λ chain number block log. not_six call t is log.sealed.size log.sealed.kind_is) new_apart h.new;
+      apart = h.apart;
+      old = held_wrote (moments before) t.place t.content done before.now fits run.geometry v.created v.flushed false v.old (λ chain number block log. not_six call t is log.sealed.size log.sealed.kind_is) (old_apart h.apart) h.old;
+      new = held_wrote (moments before) t.place t.content done before.now fits run.geometry v.created v.new_flushed false v.new (λ chain number block log. not_six call t is log.sealed.size log.sealed.kind_is) (new_apart h.apart) h.new;
     })

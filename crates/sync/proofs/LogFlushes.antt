@@ -1,6 +1,7 @@
 -- A flush of the log between two calls of a sync, and each flush of the sync itself: all log blocks of both views are
 -- fixed, and the sync is under way with them.
 use Rattle.std.proofs.Common.{◌≡◌, ℕ, List, [], Option, Some, None, Ok, false, refl, sym, subst, arith}
+use Rattle.std.specs.Prelude.{All}
 use Rattle.std.proofs.lemmas.Option.{slice_get_within}
 use Rattle.base.specs.crash.LogRule.{AreLogBlocksStanding}
 use Rattle.base.specs.disk.Calls.{Flushes}
@@ -8,7 +9,7 @@ use Rattle.base.specs.disk.Disk.{Disk, Moment, bytes_of, settled}
 use Rattle.base.proofs.common.KeptLists.{All-at, All-each}
 use Rattle.sync.specs.declared.run.LabelStages.{LabelStages}
 use Rattle.sync.specs.declared.run.SyncRun.{SyncRun}
-use Rattle.sync.specs.Phases.{HasConfigOf, HasPhase, HasPhaseOf, HoldsLogs, IsSpareBlock, IsUnderWay, LeadsViews, SyncViews, all_flushed, calls_before_slots, new_config_label}
+use Rattle.sync.specs.Phases.{HasConfigOf, HasPhase, HasPhaseOf, HoldsLogs, IsApartFromLog, IsSpareBlock, IsUnderWay, LeadsViews, SyncViews, all_flushed, calls_before_slots, new_config_label}
 use Rattle.sync.proofs.HeldLogs.{logs_settled}
 use Rattle.sync.proofs.MadeSlots.{first_slot, slots_stay}
 use Rattle.sync.proofs.RaisedPhases.{phase_raised, phase_settled}
@@ -24,8 +25,8 @@ module _ (v : SyncViews) where
   label_raised None = refl
   label_raised (Some stages) = refl
 
-  pub leads_raised : (base : List ℕ) (run : SyncRun) → LeadsViews base run v → LeadsViews base run (all_flushed v)
-  leads_raised base run leads = record {
+  pub leads_raised : (base : List ℕ) (run : SyncRun) → All (IsApartFromLog v.old) run.blocks.items → LeadsViews base run v → LeadsViews base run (all_flushed v)
+  leads_raised base run apart leads = record {
     old_view = leads.old_view;
     view = leads.view;
     above = leads.above;
@@ -35,7 +36,8 @@ module _ (v : SyncViews) where
     config = config_raised run.stages leads.config;
     blocks = All-each (IsSpareBlock (all_flushed v)) run.blocks.items (λ k b at.
         let spare : IsSpareBlock v b = All-at (IsSpareBlock v) run.blocks.items k b leads.blocks at in
-        record { not_config = spare.not_config; not_log = spare.not_log; not_in_tree = spare.not_in_tree; not_logged = spare.not_logged });
+        let free : IsApartFromLog v.old b = All-at (IsApartFromLog v.old) run.blocks.items k b apart at in
+        record { not_config = spare.not_config; not_log = spare.not_log; not_in_tree = spare.not_in_tree; not_logged = λ i l below there. free i l there });
     tree = leads.tree;
     log = (omega arith, λ i l at. let old = leads.log.1 i l at in (old.0, old.1, λ below. slice_get_within v.old.logged old.0 l old.1));
   }
@@ -47,9 +49,9 @@ module _ (v : SyncViews) where
         subst (λ (config : ℕ). HasPhase (all_flushed v) run.geometry (calls_before_slots run) config run.done m) (label_raised run.stages)
         (phase_raised v run.geometry (calls_before_slots run) (new_config_label v run.stages) m clean old_stand new_stand run.done has)
 
-    pub way_raised : (base : List ℕ) → m.unflushed ≡ [] → AreLogBlocksStanding m v.old → AreLogBlocksStanding m v.new → IsUnderWay base v run m → IsUnderWay base (all_flushed v) run m
-    way_raised base clean old_stand new_stand way = record {
-      leads = leads_raised base run way.leads;
+    pub way_raised : (base : List ℕ) → All (IsApartFromLog v.old) run.blocks.items → m.unflushed ≡ [] → AreLogBlocksStanding m v.old → AreLogBlocksStanding m v.new → IsUnderWay base v run m → IsUnderWay base (all_flushed v) run m
+    way_raised base apart clean old_stand new_stand way = record {
+      leads = leads_raised base run apart way.leads;
       distinct = way.distinct;
       unwritten = way.unwritten;
       made = way.made;
@@ -75,6 +77,6 @@ pub log_flushed : (base : List ℕ) (before after : Disk) (v : SyncViews) (run :
 log_flushed base before after v run holds flushes way =
     let m : Moment = before.now in
     subst (λ (n : Moment). IsUnderWay base (all_flushed v) run n × HoldsLogs run (all_flushed v) false n) (sym (flushed_now before after flushes)) (
-      way_raised v run (settled (bytes_of m) m) base refl (holds.old.stand refl) (holds.new.stand refl) (way_settled v run m base way),
+      way_raised v run (settled (bytes_of m) m) base holds.apart refl (holds.old.stand refl) (holds.new.stand refl) (way_settled v run m base way),
       logs_settled run v m holds,
     )

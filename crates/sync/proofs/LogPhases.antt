@@ -57,19 +57,19 @@ module _ (v : SyncViews) (size before config : ℕ) (g : IsGeometry size) (l : L
     after = wrote moment place l.content done m
 
     rest_logged : (flushed : ℕ) (at : FixedLabels) (w : View) → IsNextBlock size w l → AreLogBlocksBelow size v.created (handed m) w (length w.logged) → IsAtRestAt size v.created flushed at w m → IsAtRestAt size v.created flushed at (with_block l w) after
-    rest_logged flushed at w next below rest = rest_at_logged moment place done m l fits size v.created refl flushed at w (next.linked, below) (spares flushed at w next.spare rest.rest.laid) rest
+    rest_logged flushed at w next below rest = rest_at_logged moment place done m l fits size v.created refl flushed at w (next.linked, next.cut, below) (spares flushed at w next.spare rest.rest.laid) rest
 
     laid_logged : IsLaidAt size v.created v.new_flushed config v.new m → IsLaidAt size v.created v.new_flushed config with.new after
     laid_logged laid =
         let s = spares v.new_flushed (record { config = config; config_below = laid.below; slot = 0; slot_below = omega arith }) v.new new_next.spare laid.laid in
-        laid_at_logged moment place done m l fits size v.created refl v.new_flushed config v.new (new_next.linked, new_below) (record { not_config = s.not_config; not_tree = s.not_tree; not_log = s.not_log }) laid
+        laid_at_logged moment place done m l fits size v.created refl v.new_flushed config v.new (new_next.linked, new_next.cut, new_below) (record { not_config = s.not_config; not_tree = s.not_tree; not_log = s.not_log }) laid
 
     between_logged : IsBetweenAt size v.created v.flushed v.new_flushed config v.fixed v.old v.new m → IsBetweenAt size v.created v.flushed v.new_flushed config v.fixed with.old with.new after
     between_logged b =
         let o = spares v.flushed v.fixed v.old old_next.spare b.between.old_laid in
         let n = spares v.new_flushed (record { config = config; config_below = b.below; slot = 0; slot_below = omega arith }) v.new new_next.spare b.between.new_laid in
         record {
-          between = logged_between moment place done m l fits size v.created v.flushed v.new_flushed v.old v.new refl old_next.linked old_below new_next.linked new_below
+          between = logged_between moment place done m l fits size v.created v.flushed v.new_flushed v.old v.new refl old_next.linked old_next.cut old_below new_next.linked new_next.cut new_below
               (spares_of size v.created v.flushed v.fixed v.old m place (length l.content) b.config o) (slot_of_label size v.created v.flushed v.fixed v.old m place (length l.content) b.slot o)
               (record { config = record { label = config; in_range = b.below; fixed = b.new_fixed }; not_config = n.not_config; not_tree = n.not_tree; not_log = n.not_log }) b.between;
           config = fixed_wrote moment place l.content done m fits (config_place size v.fixed.config) v.old.config o.not_config b.config;
@@ -114,13 +114,13 @@ module _ (v : SyncViews) (size before config : ℕ) (g : IsGeometry size) (l : L
 
   -- the write was refused, and counts for nothing
   rest_with : (flushed : ℕ) (at : FixedLabels) (w : View) → IsNextBlock size w l → AreLogBlocksBelow size v.created (handed m) w (length w.logged) → IsAtRestAt size v.created flushed at w m → IsAtRestAt size v.created flushed at (with_block l w) m
-  rest_with flushed at w next below rest = record { rest = rest_more size v.created m w l below next.linked flushed rest.rest; config = rest.config; slot = rest.slot }
+  rest_with flushed at w next below rest = record { rest = rest_more size v.created m w l below next.linked next.cut flushed rest.rest; config = rest.config; slot = rest.slot }
 
   between_with : IsBetweenAt size v.created v.flushed v.new_flushed config v.fixed v.old v.new m → IsBetweenAt size v.created v.flushed v.new_flushed config v.fixed with.old with.new m
   between_with b = record {
     between = record {
-      old_laid = laid_more size v.created m v.old l old_below old_next.linked v.flushed b.between.old_laid;
-      new_laid = laid_more size v.created m v.new l new_below new_next.linked v.new_flushed b.between.new_laid;
+      old_laid = laid_more size v.created m v.old l old_below old_next.linked old_next.cut v.flushed b.between.old_laid;
+      new_laid = laid_more size v.created m v.new l new_below new_next.linked new_next.cut v.new_flushed b.between.new_laid;
       slot = record { label = b.between.slot.label; in_range = b.between.slot.in_range; fixed = b.between.slot.fixed };
       above = b.between.above;
       other_slot = b.between.other_slot;
@@ -136,7 +136,7 @@ module _ (v : SyncViews) (size before config : ℕ) (g : IsGeometry size) (l : L
   switching_more : IsSwitching size v.created v.flushed v.new_flushed config v.fixed v.old v.new m → IsSwitching size v.created v.flushed v.new_flushed config v.fixed with.old with.new m
   switching_more (inl (rest, laid)) = inl (
     rest_with v.flushed v.fixed v.old old_next old_below rest,
-    record { laid = laid_more size v.created m v.new l new_below new_next.linked v.new_flushed laid.laid; below = laid.below; fixed = laid.fixed },
+    record { laid = laid_more size v.created m v.new l new_below new_next.linked new_next.cut v.new_flushed laid.laid; below = laid.below; fixed = laid.fixed },
   )
   switching_more (inr b) = inr (between_with b)
 

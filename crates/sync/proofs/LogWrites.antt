@@ -25,7 +25,7 @@ use Rattle.sync.specs.declared.run.LabelStages.{LabelStages}
 use Rattle.sync.specs.declared.run.SyncRun.{SyncRun}
 use Rattle.sync.specs.LogCalls.{IsNextBlock, IsNextInBoth, base_with, with_log_block}
 use Rattle.sync.specs.Made.{HasMade}
-use Rattle.sync.specs.Phases.{HasConfigOf, HasPhase, HasPhaseOf, HoldsLogs, IsLoggedBefore, IsSpareBlock, IsUnderWay, LeadsViews, MakesTree, SyncViews, calls_before_slots, new_config_label}
+use Rattle.sync.specs.Phases.{HasConfigOf, HasPhase, HasPhaseOf, HoldsLogs, IsApartFromLog, IsLoggedBefore, IsSpareBlock, IsUnderWay, LeadsViews, MakesTree, SyncViews, calls_before_slots, new_config_label}
 use Rattle.sync.proofs.LogPhases.{phase_logged, phase_more}
 use Rattle.sync.proofs.PhaseSteps.{sized_now}
 use Rattle.sync.proofs.SpareBlocks.{made_with, tree_with}
@@ -42,6 +42,7 @@ view_with size v l next view = record {
   name = view.name;
   root = view.root;
   linked = linked_push v.u.guid (block_count size) v.u.import_number (header_of v.u) v.logged l view.linked next.linked;
+  cut = next.cut;
 }
 
 module _ (base : List ℕ) (v : SyncViews) (run : SyncRun) (l : Logged) (m : Moment) (next : IsNextInBoth run v l) (holds : HoldsLogs run v false m) (way : IsUnderWay base v run m) where
@@ -90,11 +91,18 @@ module _ (base : List ℕ) (v : SyncViews) (run : SyncRun) (l : Logged) (m : Mom
         not_config = spare.not_config;
         not_log = spare.not_log;
         not_in_tree = spare.not_in_tree;
-        not_logged = λ i x there. elim (push-cases v.old.logged l x i there) as (λ _. block_address b.index ≢ x.block.address) [
-          | inl was ↦ spare.not_logged i x was
+        not_logged = λ i x below there. elim (push-cases v.old.logged l x i there) as (λ _. block_address b.index ≢ x.block.address) [
+          | inl was ↦ spare.not_logged i x below was
           | inr last ↦ subst (λ (y : Logged). block_address b.index ≢ y.block.address) last.1 (no_block k b at)
         ];
       })
+
+  apart_with : All (IsApartFromLog with.old) run.blocks.items
+  apart_with = All-each (IsApartFromLog with.old) run.blocks.items (λ k b at i x there.
+      elim (push-cases v.old.logged l x i there) as (λ _. block_address b.index ≢ x.block.address) [
+        | inl was ↦ All-at (IsApartFromLog v.old) run.blocks.items k b holds.apart at i x was
+        | inr last ↦ subst (λ (y : Logged). block_address b.index ≢ y.block.address) last.1 (no_block k b at)
+      ])
 
   log_with : IsLoggedBefore with
   log_with = (
@@ -169,12 +177,14 @@ module _ (base : List ℕ) (v : SyncViews) (run : SyncRun) (l : Logged) (m : Mom
 
   pub holds_written : (done : Bool) (moment : ℕ) → HoldsLogs run with (not done) (wrote moment place l.content done m)
   holds_written done moment = record {
+    apart = apart_with;
     old = held_logged moment place done m l fits run.geometry v.created v.flushed false v.old refl next.old.linked (log_apart v.old way.leads.old_view next.old) holds.old;
     new = held_logged moment place done m l fits run.geometry v.created v.new_flushed false v.new refl next.new.linked (log_apart v.new way.leads.view next.new) holds.new;
   }
 
   pub holds_refused : HoldsLogs run with true m
   holds_refused = record {
+    apart = apart_with;
     old = held_more run.geometry v.created v.flushed m v.old l false holds.old;
     new = held_more run.geometry v.created v.new_flushed m v.new l false holds.new;
   }

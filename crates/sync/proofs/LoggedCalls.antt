@@ -25,6 +25,7 @@ use Rattle.sync.proofs.Targets.{InLabels, IsSound}
 -- the same sync holds the same logs
 holds_on : (run new : SyncRun) (v : SyncViews) (m : Moment) → SameSync run new → HoldsLogs run v false m → HoldsLogs new v false m
 holds_on run new v m same h = record {
+  apart = rw same.blocks h.apart;
   old = subst (λ (n : ℕ). IsLogHeld n v.created v.flushed false m v.old) (sym same.geometry) h.old;
   new = subst (λ (n : ℕ). IsLogHeld n v.created v.new_flushed false m v.new) (sym same.geometry) h.new;
 }

@@ -51,7 +51,7 @@ module _ (base : List ℕ) (run : SyncRun) (sound : IsSound run) (v : SyncViews)
         not_log = λ six. spare.not_log (ap (λ (l : List ℕ). number_at l 0) (sym content) ∙ six);
       } in
       let there : SparesAt run.geometry v.flushed v.fixed v.old (block_address b.index) block_size =
-      block_spares run.geometry sound.geometry v.flushed v.fixed v.old old_view old_placed b.index below (omega (arith, fits, place, size)) spare.not_in_tree (λ i l flushed logged. spare.not_logged i l logged) in
+      block_spares run.geometry sound.geometry v.flushed v.fixed v.old old_view old_placed b.index below (omega (arith, fits, place, size)) spare.not_in_tree spare.not_logged in
       ((inl tree, spares t (sym place) (long ∙ size) there), inl tree)
     where
       spares : (u : Target) {p : ℕ} → p ≡ u.place → length u.content ≡ block_size → SparesAt run.geometry v.flushed v.fixed v.old p block_size → SparesAt run.geometry v.flushed v.fixed v.old u.place (length u.content)

@@ -5,7 +5,7 @@ use Rattle.std.specs.Prelude.{◌≢◌, slice_get, Some, None}
 use Rattle.std.proofs.lemmas.Bool.{cases_order}
 use Rattle.base.specs.formats.Fields.{no_pointer}
 use Rattle.base.specs.formats.Geometry.{IsGeometry, IsBlockAddress, block_address, block_count, block_size, config_place, slot_place, slot_of}
-use Rattle.base.specs.formats.Chain.{Header, next_header}
+use Rattle.base.specs.formats.Chain.{Header, next_block}
 use Rattle.base.specs.formats.Uberblocks.{slot_size}
 use Rattle.base.specs.tree.Places.{Place, IsPlace}
 use Rattle.base.specs.tree.PlacedTrees.{ArePlaced}
@@ -26,7 +26,7 @@ linked_placed guid blocks chain header (x ∷ xs) linked zero l at =
     let same : x ≡ l = cc in
     subst (λ (y : Logged). (length y.content ≡ block_size) × IsBlockAddress blocks y.block.address) same
     (linked.0.3.sealed.size, subst (λ (a : ℕ). IsBlockAddress blocks a) (sym linked.0.0) linked.0.2)
-linked_placed guid blocks chain header (x ∷ xs) linked (suc i) l at = linked_placed guid blocks chain (next_header header x.block) xs linked.1 i l at
+linked_placed guid blocks chain header (x ∷ xs) linked (suc i) l at = linked_placed guid blocks chain (next_block header x.block) xs linked.1 i l at
 
 module _ (size : ℕ) (g : IsGeometry size) where
   -- two checked places that begin at different ones

@@ -113,7 +113,7 @@ holds_logs base before after v old new same written kept way holds =
     )
   where
     leads_after : (b : Bool) → LeadsViews base new (if b then all_flushed v else v)
-    leads_after true = leads_raised v base new (leads_on base old new v same way.leads)
+    leads_after true = leads_raised v base new (rw same.blocks holds.apart) (leads_on base old new v same way.leads)
     leads_after false = leads_on base old new v same way.leads
 
     unwritten_after : (b : Bool) → HasNoNewSlot base new.geometry (if b then all_flushed v else v)

@@ -4,16 +4,18 @@ use Rattle.std.specs.Prelude.{ℕ, ◌≢◌, All, List, [], ◌∷◌, ◌++◌
 use Rattle.base.specs.declared.error.PoolError.{PoolError}
 use Rattle.base.specs.crash.LogSteps.{IsSpareOf}
 use Rattle.base.specs.crash.Mount.{header_of}
-use Rattle.base.specs.crash.Views.{AreLinked, Logged, View, header_behind}
+use Rattle.base.specs.crash.Views.{AreLinked, HasCut, Logged, View, header_behind}
 use Rattle.base.specs.disk.Disk.{put}
 use Rattle.base.specs.formats.Geometry.{block_address, block_count}
 use Rattle.tree_plans.specs.declared.planner.PlannedBlock.{PlannedBlock}
 use Rattle.sync.specs.declared.run.SyncRun.{SyncRun}
 use Rattle.sync.specs.Phases.{SyncViews}
 
--- the log of a view goes on with this block, at an address that neither its tree nor its log has
+-- The log of a view goes on with this block, at an address that neither its tree nor its log has. With it the log is
+-- cut into pieces still.
 pub record IsNextBlock (size : ℕ) (v : View) (l : Logged) : Type 0 where
   pub linked : AreLinked v.u.guid (block_count size) v.u.import_number (header_behind (header_of v.u) v.logged) (l ∷ [])
+  pub cut : HasCut v.u.version (v.logged ++ l ∷ [])
   pub spare : IsSpareOf v l.block.address
 
 -- the logs of both views go on with this block, and no block of the sync has its address

@@ -60,12 +60,12 @@ HasConfigOf (Some stages) v =
     (stages.config ≡ v.new.config) × (v.old.u.group < v.new.config_group)
     × ((k label : ℕ) → slice_get (labels_of stages.first) k ≡ Some label → label ≢ v.fixed.config)
 
--- a block of a tree, at an address that neither the tree nor the log of the old view has
+-- a block of a tree, at an address that neither the tree nor the flushed log of the old view has
 pub record IsSpareBlock (v : SyncViews) (b : PlannedBlock) : Type 0 where
   pub not_config : number_at b.block 0 ≢ 1
   pub not_log : number_at b.block 0 ≢ 6
   pub not_in_tree : (p : Place) → IsPlace p → v.old.pointers p ≢ no_pointer → block_address b.index ≢ (v.old.pointers p).address
-  pub not_logged : (i : ℕ) (l : Logged) → slice_get v.old.logged i ≡ Some l → block_address b.index ≢ l.block.address
+  pub not_logged : (i : ℕ) (l : Logged) → i < v.flushed → slice_get v.old.logged i ≡ Some l → block_address b.index ≢ l.block.address
 
 -- each log block of the new view is one of the old view, and each flushed one a flushed one
 abbrev pub IsLoggedBefore : SyncViews → Type 0
@@ -140,8 +140,13 @@ pub record IsWrittenNext (run : SyncRun) (place : ℕ) (content : List ℕ) : Ty
   pub place_is : target.place ≡ place
   pub content_is : target.content ≡ content
 
--- the logs of both views are held, after a refused write or after none
+-- a block is at the address of no log block of a view, flushed or not
+abbrev pub IsApartFromLog : View → PlannedBlock → Type 0
+IsApartFromLog v b = (i : ℕ) (l : Logged) → slice_get v.logged i ≡ Some l → block_address b.index ≢ l.block.address
+
+-- The logs of both views are held, after a refused write or after none. No block of the sync is one of theirs.
 pub record HoldsLogs (run : SyncRun) (v : SyncViews) (refused : Bool) (m : Moment) : Type 0 where
+  pub apart : All (IsApartFromLog v.old) run.blocks.items
   pub old : IsLogHeld run.geometry v.created v.flushed refused m v.old
   pub new : IsLogHeld run.geometry v.created v.new_flushed refused m v.new
 

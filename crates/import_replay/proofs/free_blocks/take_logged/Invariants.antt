@@ -5,7 +5,7 @@ use Rattle.object_maps.specs.FreeBlocks.{BlocksTaken}
 use Rattle.import_replay.specs.FreeBlocks.{logs_block}
 use Rattle.import_replay.proofs.free_blocks.take_logged.Given as goal
 
--- the blocks of the chain so far are taken
-abbrev pub invariant-loop-block : goal.invariant-loop-block
-invariant-loop-block l = (l.free.blocks ≡ block_count l.geometry)
-    × BlocksTaken (λ k. list_any (logs_block k) (take l.block-index l.logged)) l.fn.free l.free
+-- the blocks of the pieces so far are taken
+abbrev pub invariant-loop-piece : goal.invariant-loop-piece
+invariant-loop-piece l = (l.free.blocks ≡ block_count l.geometry)
+    × BlocksTaken (λ k. list_any (logs_block k) (take l.piece-index l.logged)) l.fn.free l.free

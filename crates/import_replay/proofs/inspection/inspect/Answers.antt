@@ -6,13 +6,13 @@ use Rattle.base.specs.disk.Disk.{bytes_of}
 use Rattle.base.specs.formats.Chain.{LogPiece}
 use Rattle.base.specs.formats.Geometry.{IsGeometry, block_count}
 use Rattle.uberblocks.specs.Slots.{fields_of}
-use Rattle.intent_log.specs.Chains.{IsSoundBlock}
+use Rattle.intent_log.specs.Chains.{IsSoundPiece}
 use Rattle.object_maps.specs.FreeBlocks.{BlocksTaken}
 use Rattle.std.specs.List.{list_any}
 use Rattle.import_replay.proofs.FreeBlocks.{unused-from_taken}
 use Rattle.import_replay.specs.FreeBlocks.{logs_block}
 use Rattle.log_replay.specs.Outlines.{ReplaysOutline}
-use Rattle.log_replay.specs.Replays.{IsBlockAllowed, IsChainAllowed}
+use Rattle.log_replay.specs.Replays.{IsPieceAllowed, IsChainAllowed}
 use Rattle.log_replay.specs.declared.outline.Outline.{Outline}
 use Rattle.import_replay.proofs.Inspections.{agrees_with_imports, is_chain_damaged, is_inspection, is_told_bounded}
 use Rattle.import_replay.proofs.Reasons.{passed_on, reason-replay}
@@ -23,7 +23,7 @@ pub replay-requires : goal.replay-requires
 replay-requires g c =
     let sound = c.in_ok-found.ensures.surveyed.sound in
     subst (λ (bs : List LogPiece). IsChainAllowed bs) (sym c.deref-2.ensures.value)
-    (All-weaker (IsSoundBlock (block_count c.in_ok-geometry.geometry)) IsBlockAllowed (λ b is. is.allowed) c.in_ok-found.logged.items sound)
+    (All-weaker (IsSoundPiece (block_count c.in_ok-geometry.geometry)) IsPieceAllowed (λ b is. is.allowed) c.in_ok-found.logged.items sound)
 
 pub returns-clause-mounted : goal.returns-clause-mounted
 returns-clause-mounted g c = λ keeps.

@@ -47,16 +47,16 @@ loop-run-init g c =
       left = told.left;
       count = refl;
       called = λ keeps. ap (λ k. after_calls w (take k (calls_of_import w (is_even c.args.first))) start) (sym told.none);
-      views = λ keeps created at v tree may. import_begins w c.args.first created at v tree start may run told.sync told.none;
+      views = λ keeps created flushed at v tree may. import_begins w c.args.first created flushed at v tree start may run told.sync told.none;
       made = λ keeps. nothing_made (bytes_of start.now) run told.none;
     }
 
 pub returns-in_err-next-clause-views : goal.returns-in_err-next-clause-views
-returns-in_err-next-clause-views g c = λ keeps created at v tree may.
+returns-in_err-next-clause-views g c = λ keeps created flushed at v tree may.
     let i = c.loop-run.invariant in
     let w : ImportWrites = import_writes c.args.geometry c.args.config.now c.args.uberblock.now c.args.blocks in
-    moments_next w c.args.first c.loop-run.run i.run created at v tree (g.D.SectorDevice.disk c.args.device.now) may c.requires.sized.geometry (g.D.SectorDevice.disk c.loop-run.device)
-    (g.D.SectorDevice.disk c.next.new.device) c.next.new.self c.next.ensures.counts.same (c.next.ensures.written keeps) (c.next.ensures.phases keeps) (i.views keeps created at v tree may)
+    moments_next w c.args.first c.loop-run.run i.run created flushed at v tree (g.D.SectorDevice.disk c.args.device.now) may c.requires.sized.geometry (g.D.SectorDevice.disk c.loop-run.device)
+    (g.D.SectorDevice.disk c.next.new.device) c.next.new.self c.next.ensures.counts.same (c.next.ensures.written keeps) (c.next.ensures.phases keeps) (i.views keeps created flushed at v tree may)
 
 pub loop-run-preserved : goal.loop-run-preserved
 loop-run-preserved g c =
@@ -73,9 +73,9 @@ loop-run-preserved g c =
       left = sync_left c.loop-run.run c.next.new.self c.next.ensures.counts.same i.left c.in_ok-next.ensures.counts.done (λ at_end. let other = sym c.in-More.is ∙ c.in_ok-next.ensures.counts.last.1 at_end in cc);
       count = c.in_ok-next.ensures.count ∙ i.count;
       called = λ keeps. after_next w first c.loop-run.run i.run start old new call.call call.next (i.called keeps) (call.made keeps) c.next.new.self.done c.in_ok-next.ensures.counts.done;
-      views = λ keeps created at v tree may.
-          since_next w first c.loop-run.run i.run created at v tree start may c.requires.sized.geometry old new c.next.new.self c.next.ensures.counts.same
-          (c.next.ensures.written keeps) (c.next.ensures.phases keeps) (i.views keeps created at v tree may);
+      views = λ keeps created flushed at v tree may.
+          since_next w first c.loop-run.run i.run created flushed at v tree start may c.requires.sized.geometry old new c.next.new.self c.next.ensures.counts.same
+          (c.next.ensures.written keeps) (c.next.ensures.phases keeps) (i.views keeps created flushed at v tree may);
       made = λ keeps. (c.next.ensures.written keeps).made (distinct_blocks w first c.loop-run.run i.run) (bytes_of start.now) (i.made keeps);
     }
 
@@ -103,16 +103,16 @@ returns-clause-written g c = λ keeps.
     }
 
 pub returns-clause-views : goal.returns-clause-views
-returns-clause-views g c = λ keeps created at v tree may.
+returns-clause-views g c = λ keeps created flushed at v tree may.
     let i = c.loop-run.invariant in
     let w : ImportWrites = import_writes c.args.geometry c.args.config.now c.args.uberblock.now c.args.blocks in
-    moments_next w c.args.first c.loop-run.run i.run created at v tree (g.D.SectorDevice.disk c.args.device.now) may c.requires.sized.geometry (g.D.SectorDevice.disk c.loop-run.device)
-    (g.D.SectorDevice.disk c.next.new.device) c.next.new.self c.next.ensures.counts.same (c.next.ensures.written keeps) (c.next.ensures.phases keeps) (i.views keeps created at v tree may)
+    moments_next w c.args.first c.loop-run.run i.run created flushed at v tree (g.D.SectorDevice.disk c.args.device.now) may c.requires.sized.geometry (g.D.SectorDevice.disk c.loop-run.device)
+    (g.D.SectorDevice.disk c.next.new.device) c.next.new.self c.next.ensures.counts.same (c.next.ensures.written keeps) (c.next.ensures.phases keeps) (i.views keeps created flushed at v tree may)
 
 pub returns-clause-behind : goal.returns-clause-behind
-returns-clause-behind g c = λ keeps created at v tree may.
+returns-clause-behind g c = λ keeps created flushed at v tree may.
     let i = c.loop-run.invariant in
     let w : ImportWrites = import_writes c.args.geometry c.args.config.now c.args.uberblock.now c.args.blocks in
-    rest_next w c.args.first c.loop-run.run i.run created at v tree (g.D.SectorDevice.disk c.args.device.now) may c.requires.sized.geometry (g.D.SectorDevice.disk c.loop-run.device)
-    (g.D.SectorDevice.disk c.next.new.device) c.next.new.self c.next.ensures.counts.same (c.next.ensures.written keeps) (c.next.ensures.phases keeps) (i.views keeps created at v tree may)
+    rest_next w c.args.first c.loop-run.run i.run created flushed at v tree (g.D.SectorDevice.disk c.args.device.now) may c.requires.sized.geometry (g.D.SectorDevice.disk c.loop-run.device)
+    (g.D.SectorDevice.disk c.next.new.device) c.next.new.self c.next.ensures.counts.same (c.next.ensures.written keeps) (c.next.ensures.phases keeps) (i.views keeps created flushed at v tree may)
     (c.in_ok-next.ensures.counts.last.0 c.in_default.is)

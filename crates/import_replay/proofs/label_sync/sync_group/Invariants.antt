@@ -21,7 +21,7 @@ invariant-loop-run g l =
           → g.D.SectorDevice.disk l.device ≡ after_calls w (take l.run.done (calls_of_import w (is_even l.fn.first))) (g.D.SectorDevice.disk l.fn.device);
       views : IsTrue g.D.SectorDevice.keeps_model
           → ForEachView w l.fn.first (g.D.SectorDevice.disk l.fn.device)
-          (λ created at v tree. HasImportSince w created at v tree l.run (g.D.SectorDevice.disk l.fn.device) (g.D.SectorDevice.disk l.device));
+          (λ created flushed at v tree. HasImportSince w created flushed at v tree l.run (g.D.SectorDevice.disk l.fn.device) (g.D.SectorDevice.disk l.device));
       made : IsTrue g.D.SectorDevice.keeps_model → HasMade (bytes_of (g.D.SectorDevice.disk l.fn.device).now) l.run (bytes_of (g.D.SectorDevice.disk l.device).now);
     }
 
