@@ -28,7 +28,7 @@ use Rattle.labels.specs.declared.stage.Stage.TheVariants.{Even}
 use Rattle.sync.specs.declared.run.LabelStages.{LabelStages}
 use Rattle.sync.specs.declared.run.SyncRun.{SyncRun}
 use Rattle.tree_plans.specs.declared.planner.PlannedBlock.{PlannedBlock}
-use Rattle.sync.specs.Phases.{IsUnderWay, SyncViews}
+use Rattle.sync.specs.Phases.{IsApartFromLog, IsUnderWay, SyncViews}
 use Rattle.sync.specs.Runs.{call_count}
 use Rattle.pool_core.specs.declared.state.PoolState.{PoolState}
 use Rattle.pool_tables.specs.Told.{held_with, state_with}
@@ -61,7 +61,7 @@ WritesConfig (Some stages) size s past group =
     (stages.first ≡ Even) × (c : IsSyncConfig size s past group stages.config) × IsConfigContent stages.config size s.guid group c.contents.name
 
 -- While a sync runs: it is under way from the view of the synced group, whose config label 1 has, to that of its own.
--- The log of both is held, and both leave room for an import. What a read gives is fair, and no config of the pool
+-- The log of both is held, at no block that the sync writes, and both leave room for an import. What a read gives is fair, and no config of the pool
 -- above the synced group counts, except for the one that it writes.
 pub record IsSyncOnDisk (run : SyncRun) (disk : Disk) (s : Shown) (past : Past) : Type 0 where
   pub left : run.done < call_count run
@@ -77,6 +77,7 @@ pub record IsSyncOnDisk (run : SyncRun) (disk : Disk) (s : Shown) (past : Past) 
   pub way : IsUnderWay base views run disk.now
   pub old_is : IsViewOf views.flushed views.old s past s.line.synced s.root (header_now s.log)
   pub new_is : IsViewOf views.new_flushed views.new s past group plan.root plan.header
+  pub apart : All (IsApartFromLog views.old) run.blocks.items
   pub old_held : IsLogHeld run.geometry past.created views.flushed s.suspended disk.now views.old
   pub new_held : IsLogHeld run.geometry past.created views.new_flushed s.suspended disk.now views.new
   pub old_room : HasImportRoom (block_count run.geometry) views.old

@@ -184,7 +184,7 @@ impl<D: SectorDevice> PoolState<D> {
     /// In this order:
     /// - `Suspended`.
     /// - `BadRange` if the plan has no shape, or one that is outside its limits.
-    /// - `TooLarge` if its log record would have more than 4,008 bytes.
+    /// - `TooLarge` if its log record would have more than 65,536 bytes.
     /// - `NotLocked` if a range of it does not lie in one writer lock of the owner.
     /// - `Busy` if one overlaps a range of an open transaction.
     /// - `TooMany` if 64 transactions are open, or the next name would pass 2^60.
@@ -425,14 +425,16 @@ impl<D: SectorDevice> PoolState<D> {
         self.pool.sync_step(&mut self.device)
     }
 
-    /// Writes the next log block, with as many whole pending records from the front as fit, and returns how many these
-    /// are (`zil_lwb_write_issue` of `zil.c`). Pending are the commits of unsynced groups that no log block has. They
-    /// are durable after a flush (`log_flush`). The cost is that of the block, whatever is pending.
+    /// Writes the next log block, with as many whole pending records from the front as fit (`zil_lwb_write_issue` of
+    /// `zil.c`). Pending are the commits of unsynced groups that no log block has. A record of more than 4,008 bytes
+    /// begins a block of its own and has 4,008 bytes in each block but its last one, which holds nothing else. While
+    /// such a record is begun, its next part is written. Returns how many records end in the block: 0 if a record goes
+    /// on. They are durable after a flush (`log_flush`). The cost is that of the block, whatever is pending.
     ///
     /// # Errors
     /// In this order:
     /// - `Suspended`.
-    /// - `NotReady` if none is pending.
+    /// - `NotReady` if none is pending and none begun.
     /// - `NoLogSpace` if fewer than 17 blocks are available, or the next log number would pass 2^60.
     /// - `NoMemory`.
     /// - `Write` if the device refused. Then the pool is suspended.

@@ -1,9 +1,10 @@
 -- What a caller reads off an answer: refused by the first test that applies, all stands; else it is what the step says.
-use Rattle.std.proofs.Common.{◌≡◌, ◌∙◌, ◌⊎◌, inl, inr, ℕ, Bool, true, false, ◌&&◌, not, List, [], ◌∷◌, length, nat_eq, nat_le, refl, ap, sym, subst, arith}
+use Rattle.std.proofs.Common.{◌≡◌, ◌∙◌, ◌⊎◌, inl, inr, ℕ, Bool, true, false, ◌&&◌, not, List, [], ◌∷◌, ◌++◌, ◌+◌, ◌<◌, ◌≤◌, length, slice_get, nat_eq, nat_le, refl, ap, sym, subst, arith}
 use Rattle.std.proofs.lemmas.Bool.{eq-eqb, or_right}
 use Rattle.std.proofs.lemmas.Cmp.{nat_cmp_total}
 use Rattle.std.specs.Prelude.{Option, Some, None, Result, Ok, Err, IfOk, IfSome, OnOk, find, is_some, option_map, ◌==◌}
 use Rattle.std.proofs.lemmas.List.{length-append}
+use Rattle.std.proofs.lemmas.List.Sums.{sum_by-cons}
 use Rattle.std.specs.List.{list_any}
 use Rattle.std.specs.Ordering.{nat_cmp}
 use Rattle.std.specs.FinMap as finite
@@ -26,8 +27,9 @@ use Rattle.base.specs.history.Past.{Past}
 use Rattle.base.specs.history.Plans.{NumberRange}
 use Rattle.base.specs.steps.ExactNow.{IsExplainedNow}
 use Rattle.base.specs.steps.Groups.{Admission}
-use Rattle.base.specs.formats.Records.{Record}
-use Rattle.base.specs.steps.Logs.{Committed, KeptBlock, Log, has_record, log_after_write}
+use Rattle.base.specs.formats.Limits.{log_block_room}
+use Rattle.base.specs.formats.Records.{Record, size_of}
+use Rattle.base.specs.steps.Logs.{Begun, Committed, IsTaken, KeptBlock, Log, Taken, has_record, log_after_write, total_size}
 use Rattle.base.specs.steps.Refusals.{abort_refusal, append_range, append_refusal, digest_refusal, length_refusal, log_flush_refusal, log_write_refusal, object_range, quiesced_group, read_refusal, start_refusal, transaction_of}
 use Rattle.base.specs.steps.Shown.{Shown, SyncPlan, is_durable}
 use Rattle.base.specs.steps.Steps as steps
@@ -128,32 +130,79 @@ module _ (s new : Shown) where
 
   -- What a write of the log makes: nothing, or a block more.
   abbrev Puts : Past → Result ℕ PoolError → Type 0
-  Puts later answer = (taken rest : List Record) × (address : ℕ) × TakesForLog before taken rest address × (new.log ≡ log_after_write taken rest address s.log) × (new.line ≡ s.line) × IfOk answer (λ count. count ≡ length taken)
+  Puts later answer = (t : Taken) × (address : ℕ) × TakesForLog before t address × (new.log ≡ log_after_write t address s.log) × (new.line ≡ s.line) × IfOk answer (λ count. count ≡ length t.ends)
 
   put_or_not : (r : Option PoolError) (later : Past) (answer : Result ℕ PoolError)
-      → Answers r answer before (after later)
-      (λ count. (taken rest : List Record) × (address : ℕ) × TakesForLog before taken rest address × (count ≡ length taken) × (after later ≡ state_after_log_write taken rest address before))
-      (λ e. WantsMemory before (after later) e ⊎ ((e ≡ error.Write) × ((taken rest : List Record) × (address : ℕ) × TakesForLog before taken rest address × (after later ≡ suspended_state (state_after_log_write taken rest address before)))))
+      → Answers r answer before (after later) (λ count. (t : Taken) × (address : ℕ) × TakesForLog before t address × (count ≡ length t.ends) × (after later ≡ state_after_log_write t address before))
+      (λ e. WantsMemory before (after later) e ⊎ ((e ≡ error.Write) × ((t : Taken) × (address : ℕ) × TakesForLog before t address × (after later ≡ suspended_state (state_after_log_write t address before)))))
       → ((e : PoolError) × (answer ≡ Err e) × (new ≡ s)) ⊎ Puts later answer
   put_or_not (Some e) later answer h = inl (e, h.0, ap (λ (x : State). x.shown) h.1)
-  put_or_not None later (Ok count) (taken, rest, address, takes, is, same) = inr (taken, rest, address, takes, ap (λ (x : State). x.shown.log) same, ap (λ (x : State). x.shown.line) same, is)
+  put_or_not None later (Ok count) (t, address, takes, is, same) = inr (t, address, takes, ap (λ (x : State). x.shown.log) same, ap (λ (x : State). x.shown.line) same, is)
   put_or_not None later (Err e) (inl (memory, same)) = inl (e, refl, ap (λ (x : State). x.shown) same)
-  put_or_not None later (Err e) (inr (write, (taken, rest, address, takes, same))) = inr (taken, rest, address, takes, ap (λ (x : State). x.shown.log) same, ap (λ (x : State). x.shown.line) same, tt)
+  put_or_not None later (Err e) (inr (write, (t, address, takes, same))) = inr (t, address, takes, ap (λ (x : State). x.shown.log) same, ap (λ (x : State). x.shown.line) same, tt)
 
-  -- of one pending record it writes one, and leaves none
-  pub written_one : (answer : Result ℕ PoolError) → length s.log.pending ≡ 1 → Meets steps.LogWrite answer s new → IfOk answer (λ count. count ≡ 1) × OnOk answer (new.log.pending ≡ [])
-  written_one (Err e) one meets = (tt, tt)
-  written_one (Ok count) one meets = elim (put_or_not (log_write_refusal s) (meets (some_past s)).0 (Ok count) (meets (some_past s)).1) as (λ _. (count ≡ 1) × (new.log.pending ≡ [])) [
+  -- of a log write that is answered it holds what it holds of each way to take something
+  put_by : (Told : ℕ → Log → Type 0) (count : ℕ) → ((t : Taken) (address : ℕ) → IsTaken s.log.begun s.log.pending t → count ≡ length t.ends → Told count (log_after_write t address s.log)) → Meets steps.LogWrite (Ok count) s new → Told count new.log
+  put_by Told count each meets = elim (put_or_not (log_write_refusal s) (meets (some_past s)).0 (Ok count) (meets (some_past s)).1) as (λ _. Told count new.log) [
     | inl (e, is, same) ↦ absurd (let no_way : Ok count ≡ Err e = is in cc)
-    | inr (taken, rest, address, takes, log, line, is) ↦
-        let all = ap (λ (rs : List Record). length rs) takes.packed.front ∙ length-append taken rest in
-        let some = takes.packed.some in
-        (omega (arith, one, all, some, is), ap (λ (l : Log). l.pending) log ∙ none_of rest (omega (arith, one, all, some)))
+    | inr (t, address, takes, log, line, is) ↦ subst (Told count) (sym log) (each t address takes.packed is)
   ]
+
+  -- of one pending record that a block can hold it writes one, and leaves none
+  pub written_one : (answer : Result ℕ PoolError) → s.log.begun ≡ None → length s.log.pending ≡ 1 → IfSome (slice_get s.log.pending 0) (λ r. size_of r ≤ 4008) → Meets steps.LogWrite answer s new
+      → IfOk answer (λ count. count ≡ 1) × OnOk answer (new.log.pending ≡ [])
+  written_one (Err e) none one short meets = (tt, tt)
+  written_one (Ok count) none one short meets = put_by (λ n log. (n ≡ 1) × (log.pending ≡ [])) count
+      (λ t address taken is. by t is (subst (λ (o : Option Begun). IsTaken o s.log.pending t) none taken)) meets
     where
       none_of : (rs : List Record) → length rs ≡ 0 → rs ≡ []
       none_of [] none = refl
       none_of (r ∷ rs) none = absurd (omega (arith, none))
+
+      by : (t : Taken) → count ≡ length t.ends → IsTaken None s.log.pending t → (count ≡ 1) × (t.pending ≡ [])
+      by t is (inl (packed, ends, used, begun)) =
+          let all = ap (λ (rs : List Record). length rs) packed.front ∙ length-append t.begins t.pending in
+          let some = packed.some in
+          let same = ap (λ (rs : List Record). length rs) ends in
+          (omega (arith, one, all, some, is, same), none_of t.pending (omega (arith, one, all, some)))
+      by t is (inr (r, front, begins, long, ends, used, begun)) =
+          let small : size_of r ≤ 4008 = subst (λ (rs : List Record). IfSome (slice_get rs 0) (λ x. size_of x ≤ 4008)) front short in
+          absurd (omega (arith, small, long))
+
+  -- of one that a block can't hold it writes the first part
+  pub begun_one : (answer : Result ℕ PoolError) (r : Record) → s.log.begun ≡ None → s.log.pending ≡ r ∷ [] → 4008 < size_of r → Meets steps.LogWrite answer s new
+      → IfOk answer (λ count. count ≡ 0) × OnOk answer ((new.log.pending ≡ []) × (new.log.begun ≡ Some (record { logged = r; written = 4008 })))
+  begun_one (Err e) r none one long meets = (tt, tt)
+  begun_one (Ok count) r none one long meets = put_by (λ n log. (n ≡ 0) × ((log.pending ≡ []) × (log.begun ≡ Some (record { logged = r; written = 4008 })))) count
+      (λ t address taken is. by t is (subst (λ (rs : List Record). IsTaken None rs t) one (subst (λ (o : Option Begun). IsTaken o s.log.pending t) none taken))) meets
+    where
+      by : (t : Taken) → count ≡ length t.ends → IsTaken None (r ∷ []) t → (count ≡ 0) × ((t.pending ≡ []) × (t.begun ≡ Some (record { logged = r; written = 4008 })))
+      by t is (inl (packed, ends, used, begun)) = absurd (too_much t.begins packed.front packed.some packed.fits)
+        where
+          too_much : (taken : List Record) → r ∷ [] ≡ taken ++ t.pending → 0 < length taken → total_size taken ≤ log_block_room → ⊥
+          too_much [] front some fits = omega (arith, some)
+          too_much (x ∷ xs) front some fits =
+              let same : r ≡ x = cc in
+              let large = ap size_of same in
+              omega (arith, long, large, fits, sum_by-cons size_of x xs)
+      by t is (inr (x, front, begins, large, ends, used, begun)) =
+          let same : r ≡ x = cc in
+          let rest : [] ≡ t.pending = cc in
+          (is ∙ ap (λ (rs : List Record). length rs) ends, (sym rest, begun ∙ ap (λ (y : Record). Some (record { logged = y; written = 4008 })) (sym same)))
+
+  -- of one that is begun it writes the next part, and nothing else, and so the record is whole if no more is left of it
+  pub ended_one : (answer : Result ℕ PoolError) (g : Begun) → s.log.begun ≡ Some g → Meets steps.LogWrite answer s new
+      → (size_of g.logged ≤ g.written + 4008 → IfOk answer (λ count. count ≡ 1) × OnOk answer (new.log.begun ≡ None))
+      × (g.written + 4008 < size_of g.logged → IfOk answer (λ count. count ≡ 0) × OnOk answer (new.log.begun ≡ Some (record g { written = g.written + 4008 })))
+      × OnOk answer (new.log.pending ≡ s.log.pending)
+  ended_one (Err e) g some meets = (λ last. (tt, tt), λ more. (tt, tt), tt)
+  ended_one (Ok count) g some meets = put_by (λ n log. (size_of g.logged ≤ g.written + 4008 → (n ≡ 1) × (log.begun ≡ None)) × (g.written + 4008 < size_of g.logged → (n ≡ 0) × (log.begun ≡ Some (record g { written = g.written + 4008 }))) × (log.pending ≡ s.log.pending))
+      count (λ t address taken is. by t is (subst (λ (o : Option Begun). IsTaken o s.log.pending t) some taken)) meets
+    where
+      by : (t : Taken) → count ≡ length t.ends → IsTaken (Some g) s.log.pending t
+          → (size_of g.logged ≤ g.written + 4008 → (count ≡ 1) × (t.begun ≡ None)) × (g.written + 4008 < size_of g.logged → (count ≡ 0) × (t.begun ≡ Some (record g { written = g.written + 4008 }))) × (t.pending ≡ s.log.pending)
+      by t is (begins, pending, used, inl (last, ends, begun)) = (λ h. (is ∙ ap (λ (rs : List Record). length rs) ends, begun), λ more. absurd (omega (arith, last, more)), pending)
+      by t is (begins, pending, used, inr (more, ends, begun)) = (λ last. absurd (omega (arith, last, more)), λ h. (is ∙ ap (λ (rs : List Record). length rs) ends, begun), pending)
 
   -- a device that refuses it suspends the pool
   pub write_suspends : (answer : Result ℕ PoolError) → log_write_refusal s ≡ None → Meets steps.LogWrite answer s new → answer ≡ Err error.Write → new.suspended ≡ true
@@ -161,14 +210,14 @@ module _ (s new : Shown) where
   write_suspends (Err e) none meets is =
       elim (rw none at (meets (some_past s)).1) as (λ _. new.suspended ≡ true) [
         | inl (memory, same) ↦ absurd (let no_way : Err e ≡ Err error.Write = is in cc)
-        | inr (write, (taken, rest, address, takes, same)) ↦ ap (λ (x : State). x.shown.suspended) same
+        | inr (write, (t, address, takes, same)) ↦ ap (λ (x : State). x.shown.suspended) same
       ]
 
   -- and none of what it writes is durable before a flush
   pub written_not_durable : (answer : Result ℕ PoolError) (ordinal group : ℕ) → s.log.kept ≡ [] → nat_le group s.line.synced ≡ false → Meets steps.LogWrite answer s new → is_durable new ordinal group ≡ false
   written_not_durable answer ordinal group none above meets = elim (put_or_not (log_write_refusal s) (meets (some_past s)).0 answer (meets (some_past s)).1) as (λ _. is_durable new ordinal group ≡ false) [
     | inl (e, is, same) ↦ rw (same, none, above) refl
-    | inr (taken, rest, address, takes, log, line, is) ↦ rw (log, line, none, above) refl
+    | inr (t, address, takes, log, line, is) ↦ rw (log, line, none, above) refl
   ]
 
   -- A flush of the log that is answered makes each kept block certain.

@@ -1,6 +1,6 @@
 -- How a step that is due may be refused by its tests: as suspended, a log write for space, and a close at the last
 -- group as not ready.
-use Rattle.std.proofs.Common.{◌≡◌, ◌≤◌, ◌⊎◌, ℕ, Bool, true, false, not, ◌||◌, inl, inr, refl, ap, sym, subst, ◌∙◌}
+use Rattle.std.proofs.Common.{◌≡◌, ◌≤◌, ◌⊎◌, ℕ, Bool, true, false, not, ◌&&◌, ◌||◌, inl, inr, refl, ap, sym, subst, ◌∙◌}
 use Rattle.std.specs.Prelude.{[], ◌∷◌, ◌==◌, Option, Some, None, if◌then◌else◌, is_none, is_some, length, nat_le}
 use Rattle.std.proofs.lemmas.Bool.{false≢true, leb-true}
 use Rattle.base.specs.declared.error.PoolError.{PoolError}
@@ -12,7 +12,7 @@ use Rattle.base.specs.steps.Logs.{awaits_flush}
 use Rattle.base.specs.steps.Refusals.{first_refusal, fsync_refusal, quiesced_group, refused_if}
 use Rattle.base.specs.steps.Runs.{refusal_of_step}
 use Rattle.base.specs.steps.Shown.{Shown}
-use Rattle.pool_tables.specs.Duties.{closing_step, is_quiescent, log_step, step_to_sync, step_up_to, syncing_step}
+use Rattle.pool_tables.specs.Duties.{closing_step, is_log_pending, is_quiescent, log_step, step_to_sync, step_up_to, syncing_step}
 
 none-not-some : {A : Type 0} (o : Option A) → is_none o ≡ not (is_some o)
 none-not-some None = refl
@@ -53,7 +53,7 @@ module _ (s : Shown) (st : declared_step.Step) (e : PoolError) where
   as_step t is refused = let same : st ≡ t = cc in subst (λ (x : declared_step.Step). refusal_of_step x s ≡ Some e) same refused
 
   pub log_refusals : log_step s ≡ Some st → refusal_of_step st s ≡ Some e → (e ≡ error.Suspended) ⊎ (e ≡ error.NoLogSpace)
-  log_refusals due refused = go (s.suspended || not (length s.log.pending == 0)) refl due
+  log_refusals due refused = go (s.suspended || is_log_pending s) refl due
     where
       flush : (a : Bool) → awaits_flush s.log ≡ a → s.suspended ≡ false → (if a then Some step.LogFlush else None) ≡ Some st → (e ≡ error.Suspended) ⊎ (e ≡ error.NoLogSpace)
       flush true is runs due = absurd (no_test e s.suspended (not (awaits_flush s.log)) runs (ap not is) (as_step step.LogFlush due refused))
@@ -63,8 +63,8 @@ module _ (s : Shown) (st : declared_step.Step) (e : PoolError) where
       runs_if true b h = h
       runs_if false b h = refl
 
-      go : (b : Bool) → (s.suspended || not (length s.log.pending == 0)) ≡ b → (if b then Some step.LogWrite else if awaits_flush s.log then Some step.LogFlush else None) ≡ Some st → (e ≡ error.Suspended) ⊎ (e ≡ error.NoLogSpace)
-      go true is due = write_tests e s.suspended (length s.log.pending == 0) _ is (as_step step.LogWrite due refused)
+      go : (b : Bool) → (s.suspended || is_log_pending s) ≡ b → (if b then Some step.LogWrite else if awaits_flush s.log then Some step.LogFlush else None) ≡ Some st → (e ≡ error.Suspended) ⊎ (e ≡ error.NoLogSpace)
+      go true is due = write_tests e s.suspended ((length s.log.pending == 0) && is_none s.log.begun) _ is (as_step step.LogWrite due refused)
       go false is due = flush (awaits_flush s.log) refl (runs_if s.suspended _ is) due
 
   syncing_refusals : (moment : ℕ) → syncing_step moment s ≡ Some st → refusal_of_step st s ≡ Some e → e ≡ error.Suspended

@@ -18,7 +18,6 @@ pub mod HeldGroups
 pub mod StillSteps
 pub mod PendingOps
 pub mod WrittenRecords
-pub mod WholeBlocks
 pub mod LogHeaders
 pub mod LoggedRecords
 pub mod LogSteps

@@ -1,10 +1,10 @@
 -- A write and a flush of the log, step by step.
-use Rattle.std.proofs.Common.{◌≡◌, ◌∙◌, inl, inr, ℕ, ◌+◌, ◌<◌, ◌≤◌, ◌==◌, ◌||◌, Bool, true, false, [], ◌∷◌, ◌++◌, map, length, take, drop, nat_le, nat_lt, refl, ap, sym, subst, arith}
-use Rattle.std.specs.Prelude.{Some, None, Result, Ok, Err, not}
+use Rattle.std.proofs.Common.{◌≡◌, ◌∙◌, inl, inr, ℕ, ◌+◌, ◌<◌, ◌≤◌, ◌==◌, ◌&&◌, ◌||◌, Bool, true, false, [], ◌∷◌, ◌++◌, map, length, drop, nat_le, nat_lt, refl, ap, sym, subst, arith}
+use Rattle.std.specs.Prelude.{Some, None, Result, Ok, Err, is_none, not}
 use Rattle.std.proofs.Math.Bool.{or-false}
 use Rattle.std.proofs.lemmas.Bool.{or_parts}
 use Rattle.std.proofs.lemmas.Bool.Decides.{nat_tests}
-use Rattle.std.proofs.lemmas.List.{length-take-le}
+use Rattle.std.proofs.lemmas.List.Elements.{All-drop, All-map, All-take}
 use Rattle.base.specs.declared.error.PoolError.{PoolError}
 use Rattle.base.specs.declared.error.PoolError.TheVariants as error
 use Rattle.base.specs.crash.LogSteps.{IsPackedBlock}
@@ -15,7 +15,8 @@ use Rattle.base.specs.formats.Geometry.{IsBlockAddress, block_address, block_cou
 use Rattle.base.specs.formats.Limits.{kept_back, last_number}
 use Rattle.base.specs.history.Past.{Past}
 use Rattle.base.specs.steps.Exact.{log_addresses}
-use Rattle.base.specs.steps.Logs.{KeptBlock, awaits_flush, log_after_flush}
+use Rattle.base.specs.formats.Records.{IsAllowed}
+use Rattle.base.specs.steps.Logs.{IsTaken, KeptBlock, Taken, awaits_flush, log_after_flush}
 use Rattle.base.specs.steps.Refusals.{log_flush_refusal, log_write_refusal, log_write_tests}
 use Rattle.base.specs.steps.Shown.{Shown, available}
 use Rattle.base.specs.steps.Steps.{LogFlush, LogWrite, State, TakesForLog, lowest_free, ordinals_awaiting}
@@ -23,22 +24,21 @@ use Rattle.base.proofs.common.KeptLists.{All-at, at_last}
 use Rattle.group_plans.specs.Areas.{is_block_of}
 use Rattle.group_plans.proofs.PlannedBlocks.{block_of}
 use Rattle.intent_log.specs.Kept.{log_shown}
-use Rattle.intent_log.specs.Packing.{IsPackedFront, logged}
+use Rattle.intent_log.specs.Packing.{logged}
+use Rattle.transactions.specs.declared.record.Record as code
+use Rattle.transactions.specs.Records.{record_fields}
 use Rattle.pool_tables.specs.declared.pool.PoolTables.{PoolTables}
 use Rattle.pool_tables.specs.declared.pool.logs.NextLogBlock.{NextLogBlock}
-use Rattle.pool_tables.specs.LogBlocks.{PacksNext, PutsLogBlock, front_of, next_place, pending_of, shown_after_block}
+use Rattle.pool_tables.specs.LogBlocks.{PacksNext, PutsLogBlock, begins_noted, next_place, pending_of, shown_after_block, taken_of}
 use Rattle.pool_tables.specs.Meets.{Meets}
 use Rattle.pool_tables.specs.Shows.{pool_shown}
 use Rattle.pool_tables.proofs.BeginTests.{all_pass}
 
 -- a log write has passed its tests
 pub record MayWrite (s : Shown) : Type 0 where
-  pub some : 0 < length s.log.pending
+  pub some : ((length s.log.pending == 0) && is_none s.log.begun) ≡ false
   pub blocks : kept_back < available s
   pub number : s.log.next.number < last_number
-
-not_zero : (n : ℕ) → (n == 0) ≡ false → 0 < n
-not_zero n h = grind (arith, nat_tests)
 
 not_below : (n m : ℕ) → nat_lt n m ≡ false → m ≤ n
 not_below n m h = grind (arith, nat_tests)
@@ -52,7 +52,7 @@ module _ (s : Shown) where
       let passed = (all_pass (log_write_tests s) none).1 in
       let room = or_parts (nat_lt (available s) (kept_back + 1)) (nat_le last_number s.log.next.number) passed.1.0 in
       record {
-        some = not_zero (length s.log.pending) passed.0;
+        some = passed.0;
         blocks = let low = not_below (available s) (kept_back + 1) room.0 in omega (arith, low);
         number = not_up_to last_number s.log.next.number room.1;
       }
@@ -63,19 +63,19 @@ module _ (s : Shown) where
   pub write_wants : (n : Shown) → log_write_refusal s ≡ None → n ≡ s → Meets LogWrite (Err error.NoMemory) s n
   write_wants n none same = λ past. (past, rw none (inl (refl, ap (λ (x : Shown). let state : State = record { shown = x; past = past } in state) same)))
 
-  module _ (none : log_write_refusal s ≡ None) (count address : ℕ) (front : IsPackedFront s.log.pending count) (next : lowest_free 1 s ≡ address ∷ []) (n : Shown) where
-    takes : (past : Past) → TakesForLog (record { shown = s; past = past }) (take count s.log.pending) (drop count s.log.pending) address
-    takes past = record { packed = front.packed; next = next }
+  module _ (none : log_write_refusal s ≡ None) (t : Taken) (address : ℕ) (taken : IsTaken s.log.begun s.log.pending t) (next : lowest_free 1 s ≡ address ∷ []) (n : Shown) where
+    takes : (past : Past) → TakesForLog (record { shown = s; past = past }) t address
+    takes past = record { packed = taken; next = next }
 
-    pub write_done : n ≡ shown_after_block count address s → Meets LogWrite (Ok count) s n
-    write_done same = λ past.
-        let is : State = record { shown = n; past = past } in
-        (past, rw none (take count s.log.pending, drop count s.log.pending, address, takes past, sym (length-take-le count s.log.pending front.within), λ k. record is { shown = same k }))
+    pub write_done : (count : ℕ) → count ≡ length t.ends → n ≡ shown_after_block t address s → Meets LogWrite (Ok count) s n
+    write_done count is same = λ past.
+        let after : State = record { shown = n; past = past } in
+        (past, rw none (t, address, takes past, is, λ k. record after { shown = same k }))
 
-    pub write_failed : n ≡ record (shown_after_block count address s) { suspended = true } → Meets LogWrite (Err error.Write) s n
+    pub write_failed : n ≡ record (shown_after_block t address s) { suspended = true } → Meets LogWrite (Err error.Write) s n
     write_failed same = λ past.
-        let is : State = record { shown = n; past = past } in
-        (past, rw none (inr (refl, (take count s.log.pending, drop count s.log.pending, address, takes past, λ k. record is { shown = same k }))))
+        let after : State = record { shown = n; past = past } in
+        (past, rw none (inr (refl, (t, address, takes past, λ k. record after { shown = same k }))))
 
   pub flush_suspended : s.suspended ≡ true → Meets LogFlush (Err error.Suspended) s s
   flush_suspended h = λ past. (past, rw h (refl, refl))
@@ -109,14 +109,20 @@ module _ (pool : PoolTables) (b : NextLogBlock) (packs : PacksNext pool b) where
   abbrev s : Shown
   s = pool_shown pool
 
-  abbrev block : Logged
-  block = record { block = logged (next_place (block_address b.next) pool) (front_of b.packed.count pool); number = pool.log.next.number; content = b.packed.block }
+  abbrev t : Taken
+  t = taken_of pool b.filling
 
-  packed_block : IsPackedBlock s (front_of b.packed.count pool) (block_address b.next) block
+  abbrev block : Logged
+  block = record { block = logged (next_place (block_address b.next) pool) t.used; number = pool.log.next.number; content = b.block; ends = t.ends }
+
+  packed_block : IsPackedBlock s t (block_address b.next) block
   packed_block = record {
     address_is = refl;
     next_is = refl;
-    records_are = refl;
+    used_is = refl;
+    ends_are = refl;
+    allowed = All-take IsAllowed (length (begins_noted b.filling)) (pending_of pool)
+        (All-map IsAllowed record_fields (drop pool.written pool.unsynced.items) (All-drop (λ (r : code.Record). IsAllowed (record_fields r)) pool.written pool.unsynced.items pool.unsynced_kept.allowed));
     number_is = refl;
     payload = packs.holds.payload;
     sealed = packs.holds.sealed;
@@ -124,35 +130,30 @@ module _ (pool : PoolTables) (b : NextLogBlock) (packs : PacksNext pool b) where
     in_area = next_in_area pool;
   }
 
-  front_packed : IsPackedFront (pending_of pool) b.packed.count
-  front_packed = subst (IsPackedFront (pending_of pool)) (sym packs.count) packs.receipts.front
-
   -- A log write hands it to the device.
   module _ (old : Shown) (same : s ≡ old) (n : Shown) where
-    abbrev then : ℕ → Shown → Shown
-    then count t = shown_after_block count (block_address b.next) t
-
-    abbrev count : ℕ
-    count = b.packed.count
+    abbrev then : Shown → Shown
+    then x = shown_after_block t (block_address b.next) x
 
     module _ (none : log_write_refusal old ≡ None) where
-      pub block_written : n ≡ then (length b.receipts.items) s → Meets LogWrite (Ok count) old n
-      block_written is =
-          write_done old none count (block_address b.next) (subst (λ (x : Shown). IsPackedFront x.log.pending count) same front_packed)
-          (subst (λ (x : Shown). lowest_free 1 x ≡ block_address b.next ∷ []) same packs.lowest.first) n (is ∙ (λ k. then (sym packs.count k) (same k)))
+      abbrev lowest : lowest_free 1 old ≡ block_address b.next ∷ []
+      lowest = subst (λ (x : Shown). lowest_free 1 x ≡ block_address b.next ∷ []) same packs.lowest.first
 
-      pub block_refused : n ≡ record (then (length b.receipts.items) s) { suspended = true } → Meets LogWrite (Err error.Write) old n
-      block_refused is =
-          write_failed old none count (block_address b.next) (subst (λ (x : Shown). IsPackedFront x.log.pending count) same front_packed)
-          (subst (λ (x : Shown). lowest_free 1 x ≡ block_address b.next ∷ []) same packs.lowest.first) n (is ∙ (λ k. record (then (sym packs.count k) (same k)) { suspended = true }))
+      abbrev taken : IsTaken old.log.begun old.log.pending t
+      taken = subst (λ (x : Shown). IsTaken x.log.begun x.log.pending t) same packs.takes.taken
+
+      pub block_written : (ended : ℕ) → ended ≡ length t.ends → n ≡ then s → Meets LogWrite (Ok ended) old n
+      block_written ended count is = write_done old none t (block_address b.next) taken lowest n ended count (is ∙ (λ k. then (same k)))
+
+      pub block_refused : n ≡ record (then s) { suspended = true } → Meets LogWrite (Err error.Write) old n
+      block_refused is = write_failed old none t (block_address b.next) taken lowest n (is ∙ (λ k. record (then (same k)) { suspended = true }))
 
     -- what it puts on the disk
-    puts_block : (answer : Result (Unit {0}) PoolError) (done : Bool) (before after : Disk) → Writes before pool.log.next.address b.packed.block answer after
-        → n ≡ record (then count s) { suspended = pool.suspended || not done } → PutsLogBlock answer done s n before after
+    puts_block : (answer : Result (Unit {0}) PoolError) (done : Bool) (before after : Disk) → Writes before pool.log.next.address b.block answer after
+        → n ≡ record (then s) { suspended = pool.suspended || not done } → PutsLogBlock answer done s n before after
     puts_block answer done before after writes is = record {
-      taken = front_of count pool;
-      rest = drop count (pending_of pool);
-      fits = front_packed.packed;
+      taken = t;
+      fits = packs.takes.taken;
       address = block_address b.next;
       next = packs.lowest.first;
       block = block;
@@ -161,16 +162,16 @@ module _ (pool : PoolTables) (b : NextLogBlock) (packs : PacksNext pool b) where
       shown = is;
     }
 
-    pub puts_written : (before after : Disk) → Writes before pool.log.next.address b.packed.block (Ok tt) after → n ≡ then (length b.receipts.items) s → PutsLogBlock (Ok tt) true old n before after
+    pub puts_written : (before after : Disk) → Writes before pool.log.next.address b.block (Ok tt) after → n ≡ then s → PutsLogBlock (Ok tt) true old n before after
     puts_written before after writes is =
         subst (λ (x : Shown). PutsLogBlock (Ok tt) true x n before after) same
-        (puts_block (Ok tt) true before after writes (is ∙ (λ k. record (then (sym packs.count k) s) { suspended = sym (or-false pool.suspended) k })))
+        (puts_block (Ok tt) true before after writes (is ∙ (λ k. record (then s) { suspended = sym (or-false pool.suspended) k })))
 
-    pub puts_refused : (before after : Disk) (e : PoolError) → Writes before pool.log.next.address b.packed.block (Err e) after → n ≡ record (then (length b.receipts.items) s) { suspended = true }
+    pub puts_refused : (before after : Disk) (e : PoolError) → Writes before pool.log.next.address b.block (Err e) after → n ≡ record (then s) { suspended = true }
         → PutsLogBlock (Err e) false old n before after
     puts_refused before after e writes is =
         subst (λ (x : Shown). PutsLogBlock (Err e) false x n before after) same
-        (puts_block (Err e) false before after writes (is ∙ (λ k. record (then (sym packs.count k) s) { suspended = sym (or-true pool.suspended) k })))
+        (puts_block (Err e) false before after writes (is ∙ (λ k. record (then s) { suspended = sym (or-true pool.suspended) k })))
 
 -- a block lies on its device
 pub on_device : (size address : ℕ) → IsBlockAddress (block_count size) address → IsOnDevice size address block_size

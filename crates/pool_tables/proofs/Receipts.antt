@@ -8,7 +8,7 @@ use Rattle.std.proofs.lemmas.List.Folds.{list_any-append}
 use Rattle.base.specs.declared.error.PoolError.TheVariants as error
 use Rattle.base.specs.declared.names.Receipt.{Receipt}
 use Rattle.base.specs.formats.Records.{Record}
-use Rattle.base.specs.steps.Logs.{Committed, KeptBlock, Log, committed_above, committed_in, committed_of, has_record, is_same, is_written_in}
+use Rattle.base.specs.steps.Logs.{Committed, KeptBlock, Log, committed_above, committed_in, committed_of, begins_record, is_begun_in, is_same}
 use Rattle.base.specs.steps.Refusals.{is_receipt}
 use Rattle.base.specs.steps.Shown.{Shown, is_durable}
 use Rattle.transactions.specs.declared.record.Record as code
@@ -32,12 +32,12 @@ or-swap true false = refl
 or-swap false true = refl
 or-swap false false = refl
 
--- the record of a committed transaction ends in some block exactly if it is in the list of all that end in them
-in-blocks : (c : Committed) (ks : List KeptBlock) → list_any (λ b. has_record b c) ks ≡ list_any (is_same c) (flat_map (λ (b : KeptBlock). b.ends) ks)
+-- the record of a committed transaction begins in some block exactly if it is in the list of all that begin in them
+in-blocks : (c : Committed) (ks : List KeptBlock) → list_any (λ b. begins_record b c) ks ≡ list_any (is_same c) (flat_map (λ (b : KeptBlock). b.begins) ks)
 in-blocks c [] = refl
 in-blocks c (k ∷ ks) =
-    ap (λ b. list_any (is_same c) k.ends || b) (in-blocks c ks)
-    ∙ sym (list_any-append (is_same c) k.ends (flat_map (λ (b : KeptBlock). b.ends) ks))
+    ap (λ b. list_any (is_same c) k.begins || b) (in-blocks c ks)
+    ∙ sym (list_any-append (is_same c) k.begins (flat_map (λ (b : KeptBlock). b.begins) ks))
 
 -- of a group above another it is among those above
 among_above : (group : ℕ) (c : Committed) (xs : List Committed) → nat_lt group c.group ≡ true → list_any (is_same c) xs ≡ list_any (is_same c) (committed_above group xs)
@@ -72,10 +72,10 @@ module _ (receipt : Receipt) (synced written : ℕ) (unsynced : List code.Record
   same-named (r ∷ rs) = λ i. (both_ways receipt.ordinal.0 r.ordinal.0 i && both_ways receipt.group.0 r.group.0 i) || same-named rs i
 
   module _ (above : nat_lt synced receipt.group.0 ≡ true) (noted : committed_above synced (committed_in log) ≡ map committed_of (map record_fields (take written unsynced))) where
-    written_named : is_written_in log named ≡ list_any (is_of receipt) (take written unsynced)
+    written_named : is_begun_in log named ≡ list_any (is_of receipt) (take written unsynced)
     written_named = in-blocks named log.kept ∙ among_above synced named (committed_in log) above ∙ ap (list_any (is_same named)) noted ∙ same-named (take written unsynced)
 
-    pub all_named : (list_any is_named (map record_fields (drop written unsynced)) || is_written_in log named) ≡ list_any (is_of receipt) unsynced
+    pub all_named : (list_any is_named (map record_fields (drop written unsynced)) || is_begun_in log named) ≡ list_any (is_of receipt) unsynced
     all_named =
         (λ i. pending_named i || written_named i)
         ∙ or-swap (list_any (is_of receipt) (drop written unsynced)) (list_any (is_of receipt) (take written unsynced))
@@ -110,7 +110,7 @@ is_receipt-unsynced receipt s written unsynced loose pending noted =
     ∙ all_named receipt s.line.synced written unsynced s.log above noted
   where
     rest : List Record → Bool
-    rest records = list_any (λ (r : Record). (r.ordinal == receipt.ordinal.0) && (r.group == receipt.group.0)) records || is_written_in s.log (record { ordinal = receipt.ordinal.0; group = receipt.group.0 })
+    rest records = list_any (λ (r : Record). (r.ordinal == receipt.ordinal.0) && (r.group == receipt.group.0)) records || is_begun_in s.log (record { ordinal = receipt.ordinal.0; group = receipt.group.0 })
 
     above_if : (m n : ℕ) (b : Bool) → (nat_le n m || b) ≡ false → nat_lt m n ≡ true
     above_if m n b is = search arith

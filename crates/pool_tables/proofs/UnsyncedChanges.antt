@@ -46,7 +46,7 @@ moved_on old new unsynced written log synced changes (same, later) x = record {
   allowed = x.allowed;
   front = x.front;
   noted = ap (λ (g : ℕ). committed_above g (committed_in log)) same ∙ x.noted;
-  whole = x.whole;
+  balanced = x.balanced;
 }
 
 -- a group after those of all pending transactions has no operations pending

@@ -7,7 +7,7 @@ use Rattle.std.proofs.lemmas.List.{drop-append-le, length-append, map-append, ta
 use Rattle.std.proofs.lemmas.List.Elements.{filter-append}
 use Rattle.base.specs.formats.Chain.{Header}
 use Rattle.base.specs.formats.Records.{Record}
-use Rattle.base.specs.steps.Logs.{AreWhole, Committed, KeptBlock, Log, committed_above, committed_in, committed_of, log_after_sync, reaches_above}
+use Rattle.base.specs.steps.Logs.{Committed, KeptBlock, Log, committed_above, committed_in, committed_of, log_after_sync, reaches_above}
 use Rattle.base.proofs.common.KeptLists.{All-each, at_filter}
 use Rattle.base.proofs.history.LogOrder.{above_again, dropped, filter-noted}
 use Rattle.transactions.specs.declared.record.Record as code
@@ -38,13 +38,13 @@ pending-synced group written records =
     ap (map record_fields) (drop-filter (is_after group) written records) ∙ sym (filter-map (λ (r : Record). nat_lt group r.group) record_fields (drop written records))
 
 -- and the kept blocks have, of later groups, what is written of them
-pub noted-synced : (synced group written : ℕ) (header : Header) (log : Log) (records : List code.Record) → synced ≤ group → AreWhole log.kept
+pub noted-synced : (synced group written : ℕ) (header : Header) (log : Log) (records : List code.Record) → synced ≤ group
     → All (λ (b : KeptBlock). nat_le header.number b.number ≡ false → reaches_above group b ≡ false) log.kept
     → committed_above synced (committed_in log) ≡ map committed_of (map record_fields (take written records))
     → committed_above group (committed_in (log_after_sync group header log)) ≡ map committed_of (map record_fields (take (length (unsynced_after group (take written records))) (unsynced_after group records)))
-noted-synced synced group written header log records no_lower whole none noted =
+noted-synced synced group written header log records no_lower none noted =
     let front = map record_fields (take written records) in
-    dropped group (λ (b : KeptBlock). nat_le header.number b.number) log.kept whole none
+    dropped group (λ (b : KeptBlock). nat_le header.number b.number) log.kept none
     ∙ sym (above_again synced group no_lower (committed_in log))
     ∙ ap (λ (cs : List Committed). committed_above group cs) noted
     ∙ sym (filter-noted group front)

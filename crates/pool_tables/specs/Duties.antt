@@ -18,11 +18,15 @@ is_quiescent s = option_map_or (λ g. hold_count g s.transactions == 0) (quiesci
 abbrev pub wants_close : Shown → Bool
 wants_close s = is_none s.line.middle && nat_lt 0 (dirty_of s s.line.open_group)
 
--- Pending records are written to the log, and once none is pending, what was written is flushed. A suspended pool
--- refuses the write.
+-- a record is pending for the log, or begun and not yet whole
+abbrev pub is_log_pending : Shown → Bool
+is_log_pending s = not ((length s.log.pending == 0) && is_none s.log.begun)
+
+-- Pending records are written to the log, and once none is pending or begun, what was written is flushed. A suspended
+-- pool refuses the write.
 abbrev pub log_step : Shown → Option declared_step.Step
 log_step s =
-    if s.suspended || not (length s.log.pending == 0) then Some step.LogWrite
+    if s.suspended || is_log_pending s then Some step.LogWrite
     else if awaits_flush s.log then Some step.LogFlush else None
 
 -- The open group is closed if that is wanted, and a closed one is marked once it is quiescent. A suspended pool refuses

@@ -1,11 +1,11 @@
 -- What is known of a sync while it runs.
-use Rattle.std.specs.Prelude.{ℕ, ◌≡◌, ◌<◌, false, All, List, Option, None, Some, nat_le}
+use Rattle.std.specs.Prelude.{ℕ, ◌≡◌, ◌<◌, false, All, List, Option, None, Some, filter, nat_le}
 use Rattle.base.specs.declared.pointer.Pointer.{Pointer}
 use Rattle.base.specs.crash.LogSteps.{IsHeaderIn}
 use Rattle.base.specs.formats.Chain.{Header}
 use Rattle.base.specs.formats.Geometry.{block_count}
 use Rattle.base.specs.formats.Uberblocks.{Uberblock}
-use Rattle.base.specs.steps.Logs.{KeptBlock, Log, reaches_above}
+use Rattle.base.specs.steps.Logs.{AreBalanced, KeptBlock, Log, begun_committed, reaches_above}
 use Rattle.base.specs.tree.PlacedTrees.{ArePlaced}
 use Rattle.base.specs.tree.Places.{Place}
 use Rattle.labels.specs.Configs.{config_block}
@@ -30,7 +30,9 @@ pub record IsRunning (size : ℕ) (u : Uberblock) (pointers : Place → Pointer)
   pub uberblock : WritesUberblock u run
   pub placed : ∥ ArePlaced (block_count size) pointers ∥₁
 
--- Its log header is the next one, or that of a kept block. No kept block before it has a record above its group.
+-- Its log header is the next one, or that of a kept block. In no kept block before it a record above its group begins.
+-- From it on as much begins as ends, up to the record that is begun.
 pub record KeepsHeader (group : ℕ) (header : Header) (log : Log) : Type 0 where
   pub in_log : ∥ IsHeaderIn header log ∥₁
   pub none_before : All (λ (b : KeptBlock). nat_le header.number b.number ≡ false → reaches_above group b ≡ false) log.kept
+  pub balanced : ∥ AreBalanced None (filter (λ (b : KeptBlock). nat_le header.number b.number) log.kept) (begun_committed log.begun) ∥₁

@@ -9,7 +9,7 @@ use Rattle.base.specs.history.Contents.{Contents}
 use Rattle.base.specs.formats.Chain.{Header}
 use Rattle.base.specs.steps.Logs.{Log}
 use Rattle.base.specs.steps.Shown.{Shown, SyncPlan}
-use Rattle.intent_log.specs.Kept.{KeptLog, header_fields}
+use Rattle.intent_log.specs.Kept.{KeptLog, begun_shown, header_fields}
 use Rattle.extents.specs.Synced.{patched_contents}
 use Rattle.extents.specs.Unsynced.{changes_at, laid_all, name_at, name_over}
 use Rattle.object_maps.specs.declared.tree.Tree.{Tree}
@@ -34,9 +34,9 @@ tree_of p = p.tree
 abbrev pub sync_of : PoolTables → Option RunningSync
 sync_of p = p.sync
 
--- the records of the unsynced transactions of which so many are written, and the kept blocks
+-- the records of the unsynced transactions of which so many are written, in whole or in part, and the kept blocks
 abbrev pub log_of : List Record → ℕ → KeptLog → Log
-log_of unsynced written log = record { unsynced = map record_fields unsynced; pending = map record_fields (drop written unsynced); kept = log.kept; next = log.next }
+log_of unsynced written log = record { unsynced = map record_fields unsynced; begun = option_map begun_shown log.begun; pending = map record_fields (drop written unsynced); kept = log.kept; next = log.next }
 
 -- what is shown of a running sync, which makes this tree into that of these contents
 abbrev pub plan_of : Tree → Contents → RunningSync → SyncPlan

@@ -3,7 +3,7 @@ use Rattle.std.specs.Prelude.{ℕ, ◌≡◌, ◌+◌, ◌<◌, ◌≤◌, Bool,
 use Rattle.base.specs.formats.Records.{IsAllowed}
 use Rattle.base.specs.history.Contents.{name_given_by_all}
 use Rattle.base.specs.steps.Groups.{Line}
-use Rattle.base.specs.steps.Logs.{AreWhole, Log, committed_above, committed_in, committed_of}
+use Rattle.base.specs.steps.Logs.{AreBalanced, Log, begun_committed, committed_above, committed_in, committed_of}
 use Rattle.extents.specs.declared.unsynced.UnsyncedExtents.{UnsyncedExtents}
 use Rattle.extents.specs.Patches.{ArePatchesOf}
 use Rattle.extents.specs.Unsynced.{changes_at, name_at}
@@ -32,8 +32,8 @@ AreNamesOfUnsynced synced unsynced changes = (place : ℕ) → place < 3 → nam
 
 -- The unsynced transactions are of groups after the synced one and up to the open one. The synced objects are within
 -- the limits, and the changes and the name of each unsynced group are those of its operations. Each transaction
--- has a record of the log. So many of them from the front are written: of the groups after the synced one, the kept
--- blocks have just these, and each of them has whole records.
+-- has a record of the log. So many of them from the front are written, in whole or in part: of the groups after the
+-- synced one, just these begin in the kept blocks. In these as much begins as ends, up to the record that is begun.
 pub record KeepsUnsynced (line : Line) (unsynced : List Record) (written : ℕ) (log : Log) (synced : Contents) (changes : UnsyncedExtents) : Type 0 where
   pub above : All (λ (r : Record). line.synced < r.group.0) unsynced
   pub open_or_before : All (λ (r : Record). r.group.0 ≤ line.open_group) unsynced
@@ -43,4 +43,4 @@ pub record KeepsUnsynced (line : Line) (unsynced : List Record) (written : ℕ) 
   pub allowed : All (λ (r : Record). IsAllowed (record_fields r)) unsynced
   pub front : written ≤ length unsynced
   pub noted : committed_above line.synced (committed_in log) ≡ map committed_of (map record_fields (take written unsynced))
-  pub whole : AreWhole log.kept
+  pub balanced : ∥ AreBalanced None log.kept (begun_committed log.begun) ∥₁

@@ -1,7 +1,7 @@
 //! What callers rest on: one function for each promise of this crate's calls, proved from the contract of the call
 //! alone. So it is refused as soon as that contract says less.
 
-ghost use Rattle.std.specs.Prelude.{◌≡◌, ◌<◌, ◌+◌, ◌∷◌, ◌⊎◌, [], ℕ, List, Err, IfErr, IfOk, IsTrue, None, Ok, OnOk, Some, false, length, map, true};
+ghost use Rattle.std.specs.Prelude.{◌≡◌, ◌<◌, ◌≤◌, ◌+◌, ◌∷◌, ◌⊎◌, [], ℕ, List, Err, IfErr, IfOk, IfSome, IsTrue, None, Ok, OnOk, Some, false, length, map, slice_get, true};
 ghost use Rattle.std.specs.FinMap as finite;
 ghost use Rattle.std.specs.FinSet as set;
 ghost use Rattle.base.specs.declared.range.Mode.TheVariants as mode;
@@ -10,6 +10,7 @@ ghost use Rattle.base.specs.disk.Disk.{bytes_of, written};
 ghost use Rattle.base.specs.formats.Digest.{digest_of};
 ghost use Rattle.base.specs.formats.Fields.{number_at};
 ghost use Rattle.base.specs.formats.Geometry.{block_count};
+ghost use Rattle.base.specs.formats.Records.{size_of};
 ghost use Rattle.base.specs.history.Contents.{length_of};
 ghost use Rattle.base.specs.history.Past.{Past};
 ghost use Rattle.base.specs.history.Plans.{charge_of};
@@ -17,7 +18,6 @@ ghost use Rattle.base.specs.steps.Exact.{log_addresses};
 ghost use Rattle.base.specs.steps.ExactNow.{IsExplainedNow};
 ghost use Rattle.base.specs.steps.Groups.{hold_count};
 ghost use Rattle.base.specs.steps.Refusals.{first_refusal, log_write_refusal};
-ghost use Rattle.base.specs.steps.Logs.{whole_block};
 ghost use Rattle.base.specs.steps.Shown.{SyncPlan, available, free_count, reserved_total};
 ghost use Rattle.base.specs.steps.Steps.{IsReplayUpTo};
 ghost use Rattle.base.specs.stored.Stored.{IsHeld};
@@ -297,20 +297,79 @@ fn a_block_that_a_sync_takes_is_not_free(free: &mut FreeSet, blocks: &[PlannedBl
     take_all(free, blocks);
 }
 
-// One record that is pending is written, and pending no more.
+// One record of at most 4,008 bytes that is pending is written, and pending no more.
 fn a_pending_record_is_written<D: SectorDevice>(
     pool: &mut PoolTables,
     device: &mut D,
 ) -> Result<u64, PoolError>
     requires sized { D.size device.old ≡ geometry_of pool.old }
+    requires begun { (pool_shown pool.old).log.begun ≡ None }
     requires one { length (pool_shown pool.old).log.pending ≡ 1 }
+    requires short { IfSome (slice_get (pool_shown pool.old).log.pending 0)
+        (λ r. size_of r ≤ 4008) }
     ensures count { IfOk result (λ count. count ≡ 1) }
     ensures left { OnOk result ((pool_shown pool.new).log.pending ≡ []) }
 {
     pool.log_write(device)
 }
 
-// Nothing is written if nothing is pending.
+// Of a longer one 4,008 bytes are written, which finishes none.
+fn a_long_record_is_begun<D: SectorDevice>(
+    pool: &mut PoolTables,
+    device: &mut D,
+    pending: &Record,
+) -> Result<u64, PoolError>
+    requires sized { D.size device.old ≡ geometry_of pool.old }
+    requires begun { (pool_shown pool.old).log.begun ≡ None }
+    requires one { (pool_shown pool.old).log.pending ≡ record_fields pending.now ∷ [] }
+    requires long { 4008 < size_of (record_fields pending.now) }
+    ensures count { IfOk result (λ count. count ≡ 0) }
+    ensures left { OnOk result (((pool_shown pool.new).log.pending ≡ [])
+        × ((pool_shown pool.new).log.begun
+        ≡ Some (record { logged = record_fields pending.now; written = 4008 }))) }
+{
+    let _ = pending;
+    pool.log_write(device)
+}
+
+// What is left of it goes into a block of its own, and then the record is finished. What is pending stays.
+fn a_last_part_takes_nothing_else<D: SectorDevice>(
+    pool: &mut PoolTables,
+    device: &mut D,
+    begun: &Record,
+) -> Result<u64, PoolError>
+    requires sized { D.size device.old ≡ geometry_of pool.old }
+    requires begun { (pool_shown pool.old).log.begun
+        ≡ Some (record { logged = record_fields begun.now; written = 4008 }) }
+    requires size { size_of (record_fields begun.now) ≡ 4009 }
+    ensures count { IfOk result (λ count. count ≡ 1) }
+    ensures whole { OnOk result ((pool_shown pool.new).log.begun ≡ None) }
+    ensures pending { OnOk result
+        ((pool_shown pool.new).log.pending ≡ (pool_shown pool.old).log.pending) }
+{
+    let _ = begun;
+    pool.log_write(device)
+}
+
+// A record of 8,017 bytes has three parts: the second one finishes none.
+fn a_middle_part_finishes_none<D: SectorDevice>(
+    pool: &mut PoolTables,
+    device: &mut D,
+    begun: &Record,
+) -> Result<u64, PoolError>
+    requires sized { D.size device.old ≡ geometry_of pool.old }
+    requires begun { (pool_shown pool.old).log.begun
+        ≡ Some (record { logged = record_fields begun.now; written = 4008 }) }
+    requires size { size_of (record_fields begun.now) ≡ 8017 }
+    ensures count { IfOk result (λ count. count ≡ 0) }
+    ensures more { OnOk result ((pool_shown pool.new).log.begun
+        ≡ Some (record { logged = record_fields begun.now; written = 8016 })) }
+{
+    let _ = begun;
+    pool.log_write(device)
+}
+
+// Nothing is written if nothing is pending and nothing begun.
 fn nothing_pending_is_not_written<D: SectorDevice>(
     pool: &mut PoolTables,
     device: &mut D,
@@ -318,6 +377,7 @@ fn nothing_pending_is_not_written<D: SectorDevice>(
     requires sized { D.size device.old ≡ geometry_of pool.old }
     requires running { (pool_shown pool.old).suspended ≡ false }
     requires none { (pool_shown pool.old).log.pending ≡ [] }
+    requires begun { (pool_shown pool.old).log.begun ≡ None }
     ensures refused { result ≡ Err PoolError.NotReady }
     ensures unchanged { pool_shown pool.new ≡ pool_shown pool.old }
 {
@@ -388,7 +448,7 @@ fn a_flushed_record_is_durable<D: SectorDevice>(
     device: &mut D,
 ) -> Result<bool, PoolError>
     requires { (pool_shown pool.old).log.kept
-        ≡ whole_block (record { address = 4202496; number = 3 }) (record { ordinal = 7; group = 9 } ∷ []) false
+        ≡ record { address = 4202496; number = 3; begins = []; ends = record { ordinal = 7; group = 9 } ∷ []; flushed = false }
         ∷ [] }
     ensures { IfOk result (λ is. is ≡ true) }
 {
@@ -416,6 +476,17 @@ fn a_pending_record_is_due_for_the_log(pool: &PoolTables, pending: &Record) -> O
     ensures { result ≡ Some step.LogWrite }
 {
     let _ = pending;
+    pool.due_step(Duty::CommitLog)
+}
+
+// So is the next part of a record that is begun.
+fn a_begun_record_is_due_for_the_log(pool: &PoolTables, begun: &Record) -> Option<Step>
+    requires pending { (pool_shown pool.now).log.pending ≡ [] }
+    requires begun { (pool_shown pool.now).log.begun
+        ≡ Some (record { logged = record_fields begun.now; written = 4008 }) }
+    ensures { result ≡ Some step.LogWrite }
+{
+    let _ = begun;
     pool.due_step(Duty::CommitLog)
 }
 

@@ -24,9 +24,11 @@
 //! 9. The transactions of the unsynced groups are kept in order of commit, and those that the log has are a front of
 //!    them. A sync fixes its log header at its start, and the log blocks before it come back with its last step
 //!    (`zil.c`).
-//! 10. A log write takes as many whole records from the front of the others as fit a block. It also takes the lowest
-//!     free block, for the log block after it (`zil_lwb_write_issue`). Both are noted before the block is written, so a
-//!     refused write has taken them. It leaves the 16 blocks that are kept for plans that free blocks.
+//! 10. A log write takes as many whole records from the front of the others as fit a block, or the first part of one
+//!     that a block can't hold. While such a record is begun, it takes the next part of that, also after the record's
+//!     group is synced. It also takes the lowest free block, for the log block after it (`zil_lwb_write_issue`). All is
+//!     noted before the block is written, so a refused write has taken it. It leaves the 16 blocks that are kept for
+//!     plans that free blocks.
 //! 11. After a log flush each log block that was written is certain, and its transactions are durable.
 //!
 //! The full contract of each call stands at `PoolState` of `pool_core`, which adds the device.
@@ -130,7 +132,7 @@ pub struct PoolTables {
     next_ordinal: u64,
     // the committed transactions of unsynced groups, in order
     unsynced: Vec<Record>,
-    // so many of them from the front are written to the log
+    // so many of them from the front are written to the log, or begun
     written: usize,
     free: FreeSet,
     log: Log,

@@ -150,7 +150,7 @@ blank_note = record {
   dirty = finite.empty;
   reserved = finite.empty;
   free = set.empty;
-  log = record { unsynced = []; pending = []; kept = []; next = record { address = 0; number = 0 } };
+  log = record { unsynced = []; begun = None; pending = []; kept = []; next = record { address = 0; number = 0 } };
   root = no_pointer;
   synced_contents = no_contents;
   lengths = [];

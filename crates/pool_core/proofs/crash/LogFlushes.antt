@@ -110,6 +110,7 @@ module _ (x : OnDisk) (safe : IsKeptSafe x) (after : Disk) (flushed : Flushes x.
       way = way.0;
       old_is = old_is;
       new_is = new_is;
+      apart = way.1.apart;
       old_held = held_as run.geometry y.views.created p.created all.flushed false s.suspended after.now all.old (sym y.created) (λ off. refl) way.1.old;
       new_held = held_as run.geometry y.views.created p.created all.new_flushed false s.suspended after.now all.new (sym y.created) (λ off. refl) way.1.new;
       old_room = y.old_room;

@@ -18,7 +18,7 @@ use Rattle.base.specs.disk.Disk.{Apart, Disk, Moment, bytes_of, disk_size, hande
 use Rattle.base.specs.disk.Fairness.{HasFairBytes}
 use Rattle.base.specs.formats.Chain.{Header}
 use Rattle.base.specs.formats.Geometry.{IsBlockAddress, IsGeometry, block_address, block_count, block_size, config_place}
-use Rattle.base.specs.formats.Records.{Record}
+use Rattle.base.specs.steps.Logs.{Taken}
 use Rattle.base.specs.history.Past.{Past}
 use Rattle.base.specs.steps.Exact.{AreDistinctPlaces}
 use Rattle.base.specs.steps.ExactNow.{IsExplainedNow}
@@ -33,7 +33,7 @@ use Rattle.base.proofs.common.KeptLists.{All-at, All-each}
 use Rattle.base.proofs.crash.KeptViews.{settled_wrote}
 use Rattle.base.proofs.crash.LogHeaders.{header_now-write}
 use Rattle.base.proofs.crash.PoolLogSteps.{log_write_kept}
-use Rattle.base.proofs.crash.PoolLogs.{block_no_config, block_on_device, links, view_written}
+use Rattle.base.proofs.crash.PoolLogs.{block_no_config, block_on_device, cut, links, view_written}
 use Rattle.base.proofs.crash.PoolSpares.{next_is_spare}
 use Rattle.base.proofs.crash.PoolViews.{OfEachView}
 use Rattle.base.proofs.disk.FairBytes.{fair_bytes_wrote}
@@ -68,19 +68,19 @@ write_size before after place content (Err e) fits (inr same) = ap disk_size sam
 -- its tests were passed.
 module _ (answer : Result ℕ PoolError) (old new : State) (h : LogWrite answer old new) where
   abbrev Made : ℕ → Type 0
-  Made count = (taken rest : List Record) × (address : ℕ) × TakesForLog old taken rest address × (count ≡ length taken) × (new ≡ steps.state_after_log_write taken rest address old)
+  Made count = (taken : Taken) × (address : ℕ) × TakesForLog old taken address × (count ≡ length taken.ends) × (new ≡ steps.state_after_log_write taken address old)
 
   abbrev Refused : PoolError → Type 0
-  Refused e = WantsMemory old new e ⊎ ((e ≡ error.Write) × ((taken rest : List Record) × (address : ℕ) × TakesForLog old taken rest address × (new ≡ steps.suspended_state (steps.state_after_log_write taken rest address old))))
+  Refused e = WantsMemory old new e ⊎ ((e ≡ error.Write) × ((taken : Taken) × (address : ℕ) × TakesForLog old taken address × (new ≡ steps.suspended_state (steps.state_after_log_write taken address old))))
 
   pub same_past : new.past ≡ old.past
   same_past = go answer (refusal.log_write_refusal old.shown) h
     where
       go : (a : Result ℕ PoolError) (o : Option PoolError) → Answers o a old new Made Refused → new.past ≡ old.past
       go a (Some e) d = ap (λ (x : State). x.past) d.1
-      go (Ok count) None (taken, rest, address, takes, is, same) = ap (λ (x : State). x.past) same
+      go (Ok count) None (taken, address, takes, is, same) = ap (λ (x : State). x.past) same
       go (Err e) None (inl memory) = ap (λ (x : State). x.past) memory.1
-      go (Err e) None (inr (write, (taken, rest, address, takes, same))) = ap (λ (x : State). x.past) same
+      go (Err e) None (inr (write, (taken, address, takes, same))) = ap (λ (x : State). x.past) same
 
   pub passed : length new.shown.log.kept ≡ length old.shown.log.kept + 1 → refusal.log_write_refusal old.shown ≡ None
   passed longer = go answer (refusal.log_write_refusal old.shown) h
@@ -115,7 +115,7 @@ module _ (x : OnDisk) (safe : IsKeptSafe x) (answer : Result (Unit {0}) PoolErro
 
   -- what is shown then
   abbrev pub t : Shown
-  t = shown_after_write puts.taken puts.rest puts.address left done s
+  t = shown_after_write puts.taken puts.address left done s
 
   explained : IsExplainedNow s p
   explained = safe.held.explained
@@ -146,10 +146,10 @@ module _ (x : OnDisk) (safe : IsKeptSafe x) (answer : Result (Unit {0}) PoolErro
 
   pub kept_then : IsKept (bytes_of after.now) t x.held.pointers x.held.running p
   kept_then =
-      let takes : TakesForLog x.held.state puts.taken puts.rest puts.address = record { packed = puts.fits; next = puts.next } in
-      let u : State = steps.state_after_log_write puts.taken puts.rest puts.address x.held.state in
+      let takes : TakesForLog x.held.state puts.taken puts.address = record { packed = puts.fits; next = puts.next } in
+      let u : State = steps.state_after_log_write puts.taken puts.address x.held.state in
       kept-state (bytes_of after.now) u.shown t x.held.pointers p p x.held.running (λ group is. refl)
-      (log_write_keeps (bytes_of after.now) x.held.state x.held.pointers puts.taken puts.rest puts.address takes x.held.running (kept_put answer puts.writes))
+      (log_write_keeps (bytes_of after.now) x.held.state x.held.pointers puts.taken puts.address takes x.held.running (kept_put answer puts.writes))
 
   -- at rest
   idle_spare : s.line.syncing ≡ None → (laid : IsPoolLaid size x.disk.now s p) → OfEachView size x.disk.now s p (λ v. IsSpareOf v place) laid
@@ -159,7 +159,7 @@ module _ (x : OnDisk) (safe : IsKeptSafe x) (answer : Result (Unit {0}) PoolErro
 
   idle_written : s.line.syncing ≡ None → IsPoolDisk size x.disk.now s p → IsPoolDisk (disk_size after) after.now t p
   idle_written idle pool =
-      let then : IsPoolDisk size after.now t p = (log_write_kept size g s p explained.exact.log counted puts.taken puts.rest puts.address puts.fits.front l puts.packed left x.disk after answer done refl safe.began pool
+      let then : IsPoolDisk size after.now t p = (log_write_kept size g s p explained.exact.log counted puts.taken puts.address puts.fits l puts.packed left x.disk after answer done refl safe.began pool
       (idle_spare idle pool.laid) puts.writes told).1 in
       subst (λ (n : ℕ). IsPoolDisk n after.now t p) (sym then.bytes.size_is) then
 
@@ -190,7 +190,8 @@ module _ (x : OnDisk) (safe : IsKeptSafe x) (answer : Result (Unit {0}) PoolErro
     -- the log of a view goes on with the block
     next_block : (flushed : ℕ) (v : View) (group : ℕ) (root : Pointer) (header : Header) → IsViewOf flushed v s p group root header → HasKeptBlocks now s v → IsNextBlock run.geometry v l
     next_block flushed v group root header is blocks = record {
-      linked = links run.geometry run.sized s p explained.exact.log count puts.taken puts.rest puts.address puts.fits.front l puts.packed left 0 done x.disk.now long flushed v group root header is;
+      linked = links run.geometry run.sized s p explained.exact.log count puts.taken puts.address puts.fits l puts.packed left 0 done x.disk.now long flushed v group root header is;
+      cut = cut run.geometry run.sized s p explained.exact.log count puts.taken puts.address puts.fits l puts.packed left 0 done x.disk.now long flushed v group root header is;
       spare = subst (λ (a : ℕ). IsSpareOf v a) (sym puts.packed.address_is) (next_apart s p explained now kept.stored.free places flushed v group root header is blocks);
     }
 
@@ -219,11 +220,11 @@ module _ (x : OnDisk) (safe : IsKeptSafe x) (answer : Result (Unit {0}) PoolErro
     trees = trees_with y.base x.disk.now run y.views y.plan.taken y.way y.trees l next (omega (arith, fits, long, puts.packed.address_is, y.way.made.size)) answer
 
     old_is : IsViewOf y.views.flushed with.old t p s.line.synced s.root (header_now t.log)
-    old_is = view_written run.geometry run.sized s p explained.exact.log count puts.taken puts.rest puts.address puts.fits.front l puts.packed left 0 done x.disk.now long
-        y.views.flushed y.views.old s.line.synced s.root (header_now s.log) y.old_is (header_now t.log) (header_now-write puts.taken puts.rest puts.address s.log)
+    old_is = view_written run.geometry run.sized s p explained.exact.log count puts.taken puts.address puts.fits l puts.packed left 0 done x.disk.now long
+        y.views.flushed y.views.old s.line.synced s.root (header_now s.log) y.old_is (header_now t.log) (header_now-write puts.taken puts.address s.log)
 
     new_is : IsViewOf y.views.new_flushed with.new t p y.group y.plan.root y.plan.header
-    new_is = view_written run.geometry run.sized s p explained.exact.log count puts.taken puts.rest puts.address puts.fits.front l puts.packed left 0 done x.disk.now long
+    new_is = view_written run.geometry run.sized s p explained.exact.log count puts.taken puts.address puts.fits l puts.packed left 0 done x.disk.now long
         y.views.new_flushed y.views.new y.group y.plan.root y.plan.header y.new_is y.plan.header refl
 
     -- a refused write suspends the pool
@@ -251,14 +252,14 @@ module _ (x : OnDisk) (safe : IsKeptSafe x) (answer : Result (Unit {0}) PoolErro
 
     plain_wrote : (d : Bool) → Plain x.disk.now → Plain (wrote (moments x.disk) place l.content d x.disk.now)
     plain_wrote d was =
-        let on = block_on_device run.geometry run.sized s p explained.exact.log count puts.taken puts.rest puts.address puts.fits.front l puts.packed left (moments x.disk) d x.disk.now long in (
+        let on = block_on_device run.geometry run.sized s p explained.exact.log count puts.taken puts.address puts.fits l puts.packed left (moments x.disk) d x.disk.now long in (
           fair_bytes_wrote run.geometry run.sized p.created (moments x.disk) place l.content d x.disk.now safe.began on.0 on.1 was.0,
           configs,
         )
       where
         configs : AreConfigsUpTo run.geometry p.created (handed (wrote (moments x.disk) place l.content d x.disk.now)) s.guid s.line.synced (IsSyncConfig run.geometry s p)
         configs label group name c below (inl here) is =
-            absurd (block_no_config run.geometry run.sized s p explained.exact.log count puts.taken puts.rest puts.address puts.fits.front l puts.packed left (moments x.disk) d x.disk.now long s.guid group name
+            absurd (block_no_config run.geometry run.sized s p explained.exact.log count puts.taken puts.address puts.fits l puts.packed left (moments x.disk) d x.disk.now long s.guid group name
             (subst (λ (b : List ℕ). IsConfigContent b run.geometry s.guid group name) (sym here.2) is))
         configs label group name c below (inr some) is = was.1 label group name c below some is
 
@@ -280,6 +281,7 @@ module _ (x : OnDisk) (safe : IsKeptSafe x) (answer : Result (Unit {0}) PoolErro
       way = way.0;
       old_is = old_is;
       new_is = new_is;
+      apart = way.1.apart;
       old_held = held_as run.geometry y.views.created p.created y.views.flushed (not (is_ok answer)) t.suspended after.now with.old (sym y.created) refused_too way.1.old;
       new_held = held_as run.geometry y.views.created p.created y.views.new_flushed (not (is_ok answer)) t.suspended after.now with.new (sym y.created) refused_too way.1.new;
       old_room = old_room;

@@ -40,6 +40,7 @@ views_of x = record { created = x.created; old_is = x.old_is; new_is = x.new_is;
 -- and the logs that it holds while no write was refused
 pub held_of : {run : SyncRun} {disk : Disk} {s : Shown} {past : Past} (x : IsSyncOnDisk run disk s past) → s.suspended ≡ false → HoldsLogs run x.views false disk.now
 held_of {run} {disk} {s} {past} x off = record {
+  apart = x.apart;
   old = held_as run.geometry past.created x.views.created x.views.flushed s.suspended false disk.now x.views.old x.created (λ none. off) x.old_held;
   new = held_as run.geometry past.created x.views.created x.views.new_flushed s.suspended false disk.now x.views.new x.created (λ none. off) x.new_held;
 }
@@ -57,6 +58,8 @@ raised flushed v s past group root header is = record {
   blocks = is.blocks;
   flushed_are = λ i k at marked. let within : i < length (kept_from header s.log) = slice_get_within (kept_from header s.log) i k at in omega (arith, within, is.as_many);
   goes_on = is.goes_on;
+  version_is = is.version_is;
+  pieces = is.pieces;
 }
 
 -- and after a call of the sync

@@ -154,6 +154,7 @@ module _ (run next : SyncRun) (before after : Disk) (s : Shown) (p : Past) (bega
         way = call.1.0;
         old_is = synced_view s t p q then_views.flushed then_views.old same.synced then_are.old_is;
         new_is = syncing_view s t p q then_views.new_flushed then_views.new x.group x.plan later.0 same x.syncing later.2 then_are.new_is;
+        apart = call.1.1.apart;
         old_held = held_as next.geometry then_views.created q.created then_views.flushed false t.suspended after.now then_views.old (same.synced.created ∙ sym then_are.created) (λ off. refl) call.1.1.old;
         new_held = held_as next.geometry then_views.created q.created then_views.new_flushed false t.suspended after.now then_views.new (same.synced.created ∙ sym then_are.created) (λ off. refl) call.1.1.new;
         old_room = subst (λ (n : ℕ). HasImportRoom (block_count n) then_views.old) (sym tries.same.geometry) then_are.old_room;

@@ -106,6 +106,7 @@ module _ (s t : Shown) (p q : Past) (same : SameSyncing s t p q) where
         way = x.way;
         old_is = synced_view s t p q x.views.flushed x.views.old of_synced x.old_is;
         new_is = syncing_view s t p q x.views.new_flushed x.views.new x.group x.plan later.0 same x.syncing later.2 x.new_is;
+        apart = x.apart;
         old_held = held_stays run.geometry x.views.flushed disk.now x.views.old x.old_held;
         new_held = held_stays run.geometry x.views.new_flushed disk.now x.views.new x.new_held;
         old_room = x.old_room;
@@ -143,7 +144,7 @@ end_of group (Ok More) old new is h = absurd (let no_way : reply.Synced group �
 end_of group (Err e) old new is h = absurd (let no_way : reply.Synced group ≡ reply.Refused e = is in cc)
 
 started_same : (g : ℕ) (plan : SyncPlan) (s : State) → SameSynced s.shown (steps.state_after_start g plan s).shown s.past (steps.state_after_start g plan s).past
-started_same g plan s = record { guid = refl; import_is = refl; synced = refl; root = refl; log = refl; kept = refl; base = refl; created = refl; acknowledged = refl; entries = refl; grown = λ i e at. at; suspended = λ off. off }
+started_same g plan s = record { guid = refl; import_is = refl; synced = refl; root = refl; log = refl; kept = refl; begun = refl; base = refl; created = refl; acknowledged = refl; entries = refl; grown = λ i e at. at; suspended = λ off. off }
 
 -- label stages of a name, the even labels first
 abbrev pub IsStagedFor : Option LabelStages → (size guid group : ℕ) → List ℕ → Type 0

@@ -11,7 +11,7 @@ use Rattle.base.specs.crash.Layout.{header_now, kept_from}
 use Rattle.base.specs.crash.LogRoom.{HasImportRoom}
 use Rattle.base.specs.crash.LogRule.{IsLogHeld}
 use Rattle.base.specs.crash.Own.{IsAtRest}
-use Rattle.base.specs.crash.PoolViews.{IsSyncConfig, IsViewOf}
+use Rattle.base.specs.crash.PoolViews.{IsOpen, IsSyncConfig, IsViewOf}
 use Rattle.base.specs.crash.Views.{AreConfigsKnown, AreConfigsUpTo, AreLinked, IsConfigContent, IsFixed, IsView, Logged, View, view_frame}
 use Rattle.base.specs.disk.Disk.{Disk, Write, bytes_of, handed}
 use Rattle.base.specs.disk.Fairness.{HasFairBytes}
@@ -36,6 +36,7 @@ use Rattle.base.specs.tree.Places.Place.{Data, Directory, Indirect, Root}
 use Rattle.base.specs.tree.PlannedTrees.{NewBlock}
 use Rattle.base.proofs.common.KeptLists.{All-each, at_filter, at_within}
 use Rattle.base.proofs.crash.LogStarts.{IsCutAt, cut_at, drop-at}
+use Rattle.base.proofs.crash.OpenViews.{open_cut}
 use Rattle.base.proofs.crash.NewViews.{configs_of_old, logs_of_group}
 use Rattle.base.proofs.crash.OwnDisks.{configs_weaker}
 use Rattle.base.proofs.disk.Put.{part_same}
@@ -51,7 +52,7 @@ use Rattle.labels.specs.declared.stage.Stage.{Stage}
 use Rattle.sync.specs.declared.run.LabelStages.{LabelStages}
 use Rattle.sync.specs.declared.run.SyncRun.{SyncRun}
 use Rattle.sync.specs.Made.{BlocksWritten, HasDistinctBlocks}
-use Rattle.sync.specs.Phases.{HasConfigOf, IsBefore, IsSpareBlock, LeadsViews, SyncViews}
+use Rattle.sync.specs.Phases.{HasConfigOf, IsApartFromLog, IsBefore, IsSpareBlock, LeadsViews, SyncViews}
 use Rattle.sync.specs.Runs.{call_count}
 use Rattle.sync.proofs.RenamedViews.{even_first, known_anew}
 use Rattle.sync.proofs.UnderWay.{begins_at_rest}
@@ -231,7 +232,10 @@ module _ (disk : Disk) (s : Shown) (p : Past) (pointers tree : Place → Pointer
 
   -- how many blocks of the log lie before the header of the sync
   cut : IsCutAt run.geometry flushed old s p y.plan.header
-  cut = cut_at run.geometry flushed old s p s.line.synced s.root y.plan.header explained.exact.log.numbered rest.laid.view is y.header
+  cut = cut_at run.geometry flushed old s p s.line.synced s.root y.plan.header explained.exact.log.numbered rest.laid.view is y.header explained.exact.log.balanced (explained.exact.sync.balanced y.plan y.running)
+
+  pieces : IsOpen written_version s.log.begun (drop cut.before old.logged)
+  pieces = subst (λ (v : ℕ). IsOpen v s.log.begun (drop cut.before old.logged)) is.version_is cut.pieces
 
   abbrev new : View
   new = record {
@@ -280,6 +284,7 @@ module _ (disk : Disk) (s : Shown) (p : Past) (pointers tree : Place → Pointer
     root = y.planned.root;
     linked = subst (λ (guid : ℕ). AreLinked guid (block_count run.geometry) s.import_number y.plan.header (drop cut.before old.logged)) is.guid
         (subst (λ (chain : ℕ). AreLinked old.u.guid (block_count run.geometry) chain y.plan.header (drop cut.before old.logged)) is.import_is cut.linked);
+    cut = open_cut written_version s.log.begun (drop cut.before old.logged) pieces;
   }
 
   -- a log block of the old view is one of the kept log
@@ -288,7 +293,7 @@ module _ (disk : Disk) (s : Shown) (p : Past) (pointers tree : Place → Pointer
       let within : j < length old.logged = slice_get_within old.logged j l at in
       let k = at_within (kept_from (header_now s.log) s.log) j (omega (arith, within, is.as_many)) in
       let i = at_filter (λ (b : KeptBlock). nat_le (header_now s.log).number b.number) s.log.kept j k.0 k.1 in
-      inr (i.0, k.0, i.1, sym (is.blocks j k.0 l k.1 at).address)
+      inr (i.0, k.0, i.1, sym (is.blocks j k.0 l k.1 at).0)
 
   counted : s.blocks ≡ block_count run.geometry
   counted = x.blocks ∙ ap (λ (n : ℕ). block_count n) long
@@ -304,8 +309,11 @@ module _ (disk : Disk) (s : Shown) (p : Past) (pointers tree : Place → Pointer
         not_log = y.not_log i (new_block b) stands;
         not_in_tree = not_in_tree now s p pointers (made_by tree run) x y explained geometry (view_frame run.geometry old) old.pointers old.synced rest.laid.firm.tree.holds
             (rest.laid.view.root ∙ is.root_is) i (new_block b) stands;
-        not_logged = λ j l there. y.log_apart l.block.address (logged_in j l there) i (new_block b) stands;
+        not_logged = λ j l below there. y.log_apart l.block.address (logged_in j l there) i (new_block b) stands;
       })
+
+  apart : All (IsApartFromLog old) run.blocks.items
+  apart = All-each (IsApartFromLog old) run.blocks.items (λ i b at j l there. y.log_apart l.block.address (logged_in j l there) i (new_block b) (map-at new_block run.blocks.items i b at))
 
   makes_tree : (image : List ℕ) → length image ≡ length now → BlocksWritten now run.geometry run.blocks.items (vec_len run.blocks) image
       → HoldsTree image (view_frame run.geometry new) tree y.plan.contents.objects
@@ -357,6 +365,8 @@ module _ (disk : Disk) (s : Shown) (p : Past) (pointers tree : Place → Pointer
     blocks = cut.blocks;
     flushed_are = λ i k at marked. let low : cut.before + i < flushed = cut.flushed_are i k at marked in omega (arith, low);
     goes_on = cut.goes_on;
+    version_is = refl;
+    pieces = pieces;
   }
 
   new_held : IsLogHeld run.geometry p.created (flushed - cut.before) s.suspended disk.now new
@@ -403,6 +413,7 @@ module _ (disk : Disk) (s : Shown) (p : Past) (pointers tree : Place → Pointer
     way = begins_at_rest disk.now views run begun distinct leads before bytes;
     old_is = is;
     new_is = new_is;
+    apart = apart;
     old_held = held;
     new_held = new_held;
     old_room = old_room;

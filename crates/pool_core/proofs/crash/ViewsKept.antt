@@ -7,11 +7,12 @@ use Rattle.base.specs.declared.operation.Op.{Op}
 use Rattle.base.specs.declared.pointer.Pointer.{Pointer}
 use Rattle.base.specs.declared.step.Step as declared_step
 use Rattle.base.specs.declared.step.Reply as declared_reply
-use Rattle.base.specs.crash.Layout.{IsBlockOf, header_now, kept_from}
-use Rattle.base.specs.crash.PoolViews.{IsSyncConfig, IsViewOf}
+use Rattle.base.specs.crash.Layout.{AreNotedOf, header_now, kept_from}
+use Rattle.base.specs.crash.PoolViews.{IsOpen, IsSyncConfig, IsViewOf}
 use Rattle.base.specs.crash.Views.{AreConfigsUpTo, IsConfigContent, View, config_content}
 use Rattle.base.specs.disk.Disk.{HandedSince, Write}
-use Rattle.base.specs.formats.Chain.{Header, LogPiece}
+use Rattle.base.specs.formats.Chain.{Header}
+use Rattle.base.specs.formats.Records.{Record}
 use Rattle.base.specs.formats.Geometry.{config_place}
 use Rattle.base.specs.history.Contents.{Contents}
 use Rattle.base.specs.history.History.{Entry, replay, entries_in, entries_up_to}
@@ -20,7 +21,7 @@ use Rattle.base.specs.steps.Effects.{Effect, MayAddEntry, MayHave, is_logging, i
 use Rattle.base.specs.steps.Effects.Effect.{AddsEntry, PlansSync, CountsStep, EndsSync, Suspends, WritesLog, FlushesLog}
 use Rattle.base.specs.steps.ExactNow.{IsExplainedNow}
 use Rattle.base.specs.steps.Groups.{Admission, open_transactions}
-use Rattle.base.specs.steps.Logs.{KeptBlock, Log, header_at}
+use Rattle.base.specs.steps.Logs.{Begun, KeptBlock, Log, header_at}
 use Rattle.base.specs.steps.Runs.{Step, is_log_step}
 use Rattle.base.specs.steps.Shown.{Shown, SyncPlan}
 use Rattle.base.specs.steps.Steps as steps
@@ -47,6 +48,7 @@ pub record SameSynced (s t : Shown) (p q : Past) : Type 0 where
   pub root : t.root ≡ s.root
   pub log : t.log.next ≡ s.log.next
   pub kept : t.log.kept ≡ s.log.kept
+  pub begun : t.log.begun ≡ s.log.begun
   pub base : q.base ≡ p.base
   pub created : q.created ≡ p.created
   pub acknowledged : q.acknowledged ≡ p.acknowledged
@@ -74,18 +76,17 @@ pub header_same : (log other : Log) → other.kept ≡ log.kept → other.next �
 header_same log other kept next = λ k. unwrap_or (option_map header_at (slice_get (kept k) 0)) (next k)
 
 -- a kept block has what is noted of its records, also in a history that went on
-block_grown : (before after : List Entry) (k : KeptBlock) (b : LogPiece) → Grows before after → IsBlockOf before k b → IsBlockOf after k b
-block_grown before after k b grows is = record {
-  address = is.address;
+block_grown : (before after : List Entry) (k : KeptBlock) (ends : List Record) → Grows before after → AreNotedOf before k ends → AreNotedOf after k ends
+block_grown before after k ends grows is = record {
   noted = is.noted;
   records = λ i c r at_c at_r. let of = is.records i c r at_c at_r in (of.0, (of.1.0, grows c.ordinal of.1.0 of.1.1, of.1.2, of.1.3));
 }
 
 -- A view of a group is that of a group of another state, where what it says is as before, and so is the kept log.
-pub view_as : (flushed : ℕ) (v : View) (s t : Shown) (p q : Past) (group other : ℕ) (root under : Pointer) (header first : Header) → t.log.kept ≡ s.log.kept → t.log.next ≡ s.log.next → Grows p.entries q.entries → t.guid ≡ s.guid
+pub view_as : (flushed : ℕ) (v : View) (s t : Shown) (p q : Past) (group other : ℕ) (root under : Pointer) (header first : Header) → t.log.kept ≡ s.log.kept → t.log.begun ≡ s.log.begun → t.log.next ≡ s.log.next → Grows p.entries q.entries → t.guid ≡ s.guid
     → t.import_number ≡ s.import_number → other ≡ group → under ≡ root → first ≡ header → replay (entries_up_to other q.entries) q.base ≡ replay (entries_up_to group p.entries) p.base
     → IsViewOf flushed v s p group root header → IsViewOf flushed v t q other under first
-view_as flushed v s t p q group other root under header first kept next grown guid import_is same_group same_root same_header replays is = record {
+view_as flushed v s t p q group other root under header first kept begun next grown guid import_is same_group same_root same_header replays is = record {
   guid = is.guid ∙ sym guid;
   group_is = is.group_is ∙ sym same_group;
   root_is = is.root_is ∙ sym same_root;
@@ -93,9 +94,11 @@ view_as flushed v s t p q group other root under header first kept next grown gu
   header_is = is.header_is ∙ sym same_header;
   replayed = replays ∙ is.replayed;
   as_many = is.as_many ∙ ap (λ (ks : List KeptBlock). length ks) (sym blocks);
-  blocks = λ i k l at there. block_grown p.entries q.entries k l.block grown (is.blocks i k l (at_before i k at) there);
+  blocks = λ i k l at there. let was = is.blocks i k l (at_before i k at) there in (was.0, block_grown p.entries q.entries k l.ends grown was.1);
   flushed_are = λ i k at flushed. is.flushed_are i k (at_before i k at) flushed;
   goes_on = is.goes_on ∙ sym next;
+  version_is = is.version_is;
+  pieces = subst (λ (o : Option Begun). IsOpen v.u.version o v.logged) (sym begun) is.pieces;
 }
   where
     blocks : kept_from first t.log ≡ kept_from header s.log
@@ -107,14 +110,14 @@ view_as flushed v s t p q group other root under header first kept next grown gu
 module _ (s t : Shown) (p q : Past) (flushed : ℕ) (v : View) where
   -- the view of the synced group stays its view
   pub synced_view : SameSynced s t p q → IsViewOf flushed v s p s.line.synced s.root (header_now s.log) → IsViewOf flushed v t q t.line.synced t.root (header_now t.log)
-  synced_view same is = view_as flushed v s t p q s.line.synced t.line.synced s.root t.root (header_now s.log) (header_now t.log) same.kept same.log same.grown same.guid same.import_is same.synced same.root
+  synced_view same is = view_as flushed v s t p q s.line.synced t.line.synced s.root t.root (header_now s.log) (header_now t.log) same.kept same.begun same.log same.grown same.guid same.import_is same.synced same.root
       (header_same s.log t.log same.kept same.log)
       ((λ k. replay (entries_up_to (same.synced k) q.entries) (same.base k)) ∙ ap (λ (es : List Entry). replay es p.base) same.entries) is
 
   -- and that of the running sync's group its own
   pub syncing_view : (group : ℕ) (plan later : SyncPlan) → SameSyncing s t p q → s.line.syncing ≡ Some group → SamePlan plan later
       → IsViewOf flushed v s p group plan.root plan.header → IsViewOf flushed v t q group later.root later.header
-  syncing_view group plan later same syncing planned is = view_as flushed v s t p q group group plan.root later.root plan.header later.header same.synced.kept same.synced.log same.synced.grown same.synced.guid same.synced.import_is
+  syncing_view group plan later same syncing planned is = view_as flushed v s t p q group group plan.root later.root plan.header later.header same.synced.kept same.synced.begun same.synced.log same.synced.grown same.synced.guid same.synced.import_is
       refl planned.root planned.header
       ((λ k. replay (entries_up_to group q.entries) (same.synced.base k)) ∙ ap (λ (es : List Entry). replay es p.base) (same.entries group syncing)) is
 
@@ -184,7 +187,7 @@ same_plan plan = (plan, refl, record { root = refl; header = refl; taken = refl 
 -- only the steps of the running sync are counted
 counted : (plan : SyncPlan) (s : State) → s.shown.sync ≡ Some plan → Same s (steps.state_after_step plan s)
 counted plan s is = record {
-  synced = record { guid = refl; import_is = refl; synced = refl; root = refl; log = refl; kept = refl; base = refl; created = refl; acknowledged = refl; entries = refl; grown = λ i e at. at; suspended = λ off. off };
+  synced = record { guid = refl; import_is = refl; synced = refl; root = refl; log = refl; kept = refl; begun = refl; base = refl; created = refl; acknowledged = refl; entries = refl; grown = λ i e at. at; suspended = λ off. off };
   line = refl;
   plans = λ other was. let same : plan ≡ other = Some-injective (sym is ∙ was) in (
     record plan { steps_left = plan.steps_left - 1 },
@@ -210,6 +213,7 @@ entered tx a ops contents s explained may =
         root = refl;
         log = refl;
         kept = refl;
+        begun = refl;
         base = refl;
         created = refl;
         acknowledged = refl;
@@ -225,7 +229,7 @@ entered tx a ops contents s explained may =
 -- all stays
 still : (s : State) → Same s s
 still s = record {
-  synced = record { guid = refl; import_is = refl; synced = refl; root = refl; log = refl; kept = refl; base = refl; created = refl; acknowledged = refl; entries = refl; grown = λ i e at. at; suspended = λ off. off };
+  synced = record { guid = refl; import_is = refl; synced = refl; root = refl; log = refl; kept = refl; begun = refl; base = refl; created = refl; acknowledged = refl; entries = refl; grown = λ i e at. at; suspended = λ off. off };
   line = refl;
   plans = λ plan is. (plan, is, record { root = refl; header = refl; taken = refl });
   entries = λ group syncing. refl;
@@ -241,6 +245,7 @@ suspended s t same = record {
     root = same.synced.root;
     log = same.synced.log;
     kept = same.synced.kept;
+    begun = same.synced.begun;
     base = same.synced.base;
     created = same.synced.created;
     acknowledged = same.synced.acknowledged;
@@ -263,11 +268,11 @@ effect_leaves (AddsEntry tx a ops contents) s off no_log explained may = entered
 effect_leaves (CountsStep plan) s off no_log explained may = counted plan s may.0
 effect_leaves (PlansSync group plan) s turning no_log explained may = absurd (false≢true (sym turning))
 effect_leaves (EndsSync group plan) s turning no_log explained may = absurd (false≢true (sym turning))
-effect_leaves (WritesLog taken rest address) s off logging explained may = absurd (false≢true (sym logging))
+effect_leaves (WritesLog taken address) s off logging explained may = absurd (false≢true (sym logging))
 effect_leaves FlushesLog s off logging explained may = absurd (false≢true (sym logging))
 effect_leaves Suspends s off no_log explained may = suspended s s (still s)
 effect_leaves e s off no_log explained may = record {
-  synced = record { guid = refl; import_is = refl; synced = refl; root = refl; log = refl; kept = refl; base = refl; created = refl; acknowledged = refl; entries = refl; grown = λ i e at. at; suspended = λ off. off };
+  synced = record { guid = refl; import_is = refl; synced = refl; root = refl; log = refl; kept = refl; begun = refl; base = refl; created = refl; acknowledged = refl; entries = refl; grown = λ i e at. at; suspended = λ off. off };
   line = refl;
   plans = λ plan is. (plan, is, record { root = refl; header = refl; taken = refl });
   entries = λ group syncing. refl;

@@ -5,7 +5,6 @@ ghost use Rattle.std.specs.Prelude.{◌≡◌, ◌≢◌, ◌⊎◌, ◌∷◌, 
 ghost use Rattle.base.specs.history.Past.{Past};
 ghost use Rattle.base.specs.steps.ExactNow.{IsExplainedNow};
 ghost use Rattle.base.specs.steps.Groups.{hold_count};
-ghost use Rattle.base.specs.steps.Logs.{whole_block};
 ghost use Rattle.base.specs.steps.Shown.{available};
 ghost use Rattle.pool_tables.specs.Shows.{geometry_of, pool_shown};
 
@@ -168,7 +167,7 @@ fn a_written_log_block_is_flushed<D: SectorDevice>(
 ) -> Result<(), PoolError>
     requires running { (pool_shown pool.old).suspended ≡ false }
     requires written { (pool_shown pool.old).log.kept
-        ≡ whole_block (record { address = 4202496; number = 3 }) (record { ordinal = 7; group = 9 } ∷ []) false
+        ≡ record { address = 4202496; number = 3; begins = []; ends = record { ordinal = 7; group = 9 } ∷ []; flushed = false }
         ∷ [] }
     ensures { IfErr result (λ e. e ≡ PoolError.Flush) }
 {
@@ -182,7 +181,7 @@ fn a_certain_log_block_is_not_flushed_again<D: SectorDevice>(
 ) -> Result<(), PoolError>
     requires running { (pool_shown pool.old).suspended ≡ false }
     requires certain { (pool_shown pool.old).log.kept
-        ≡ whole_block (record { address = 4202496; number = 3 }) (record { ordinal = 7; group = 9 } ∷ []) true
+        ≡ record { address = 4202496; number = 3; begins = []; ends = record { ordinal = 7; group = 9 } ∷ []; flushed = true }
         ∷ [] }
     ensures refused { result ≡ Err PoolError.NotReady }
     ensures unchanged { pool_shown pool.new ≡ pool_shown pool.old }

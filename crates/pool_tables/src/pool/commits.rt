@@ -294,7 +294,7 @@ fn gives_bad_name(op: &Op) -> bool
 }
 
 // A transaction may have this plan. Refused `BadRange` where it has no shape, or one that is outside its limits;
-// `TooLarge` where its log record would have more than 4,008 bytes.
+// `TooLarge` where its log record would have more than 65,536 bytes.
 fn check_plan(plan: &[Shape]) -> Result<(), PoolError>
     ensures refusal { Passes (plan_tests plan.now) result }
     ensures allowed { OnOk result (plans.is_plan_allowed plan.now ≡ true) }

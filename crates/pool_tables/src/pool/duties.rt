@@ -30,7 +30,7 @@ impl PoolTables {
     fn log_step(&self) -> Option<Step>
         ensures { result ≡ log_step (pool_shown self.now) }
     {
-        if self.suspended || self.written != self.unsynced.len() {
+        if self.suspended || self.is_log_pending() {
             Some(Step::LogWrite)
         } else if self.log.awaits_flush() {
             Some(Step::LogFlush)

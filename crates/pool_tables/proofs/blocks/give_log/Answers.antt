@@ -39,6 +39,7 @@ loop-address-preserved c =
       given = ap (λ (s : FreeSpace). after_gives (addresses_before header new) s) now ∙ sym (gives_first free c.block_index.result address (addresses_before header new) c.block_index.ensures.address)
           ∙ ap (λ (l : List ℕ). after_gives l free) (sym (addresses-given header old new address given)) ∙ i.given;
       same = sym (from-given header old new address given) ∙ i.same;
+      begun = c.give_back.ensures.begun ∙ i.begun;
       next = c.give_back.ensures.next ∙ i.next;
     }
 

@@ -3,7 +3,9 @@ use Rattle.pool_tables.proofs.Callers.{written_one}
 use Rattle.pool_tables.proofs.clients.a_pending_record_is_written.Goals as goal
 
 pub returns-clause-count : goal.returns-clause-count
-returns-clause-count g c = (written_one (pool_shown c.args.pool.now) (pool_shown c.log_write.new.self) c.log_write.result c.requires.one c.log_write.ensures.step).0
+returns-clause-count g c =
+    (written_one (pool_shown c.args.pool.now) (pool_shown c.log_write.new.self) c.log_write.result c.requires.begun c.requires.one c.requires.short c.log_write.ensures.step).0
 
 pub returns-clause-left : goal.returns-clause-left
-returns-clause-left g c = (written_one (pool_shown c.args.pool.now) (pool_shown c.log_write.new.self) c.log_write.result c.requires.one c.log_write.ensures.step).1
+returns-clause-left g c =
+    (written_one (pool_shown c.args.pool.now) (pool_shown c.log_write.new.self) c.log_write.result c.requires.begun c.requires.one c.requires.short c.log_write.ensures.step).1

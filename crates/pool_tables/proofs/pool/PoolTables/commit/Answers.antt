@@ -77,7 +77,7 @@ invariant_of-self-2 c =
         allowed = rw c.in_ok-reserve.ensures.items pool.unsynced_kept.allowed;
         front = rw c.in_ok-reserve.ensures.items pool.unsynced_kept.front;
         noted = rw c.in_ok-reserve.ensures.items pool.unsynced_kept.noted;
-        whole = pool.unsynced_kept.whole;
+        balanced = pool.unsynced_kept.balanced;
       };
     }
 

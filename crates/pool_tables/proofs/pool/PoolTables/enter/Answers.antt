@@ -83,7 +83,7 @@ invariant_of-self c =
         }));
         front = let more = ap (λ (l : List Record). length l) c.push_reserved.ensures.items ∙ length_push pool.unsynced.items _ in let front = pool.unsynced_kept.front in omega (arith, more, front);
         noted = rw (line, c.push_reserved.ensures.items, written-entered pool.written pool.unsynced.items _ pool.unsynced_kept.front) pool.unsynced_kept.noted;
-        whole = pool.unsynced_kept.whole;
+        balanced = pool.unsynced_kept.balanced;
       };
     }
 

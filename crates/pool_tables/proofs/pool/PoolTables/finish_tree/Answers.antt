@@ -34,7 +34,7 @@ invariant_of-self-3 c =
         allowed = pool.unsynced_kept.allowed;
         front = pool.unsynced_kept.front;
         noted = pool.unsynced_kept.noted;
-        whole = pool.unsynced_kept.whole;
+        balanced = pool.unsynced_kept.balanced;
       };
     }
 

@@ -42,7 +42,7 @@ pub returns-in-Ok-clause-step : goal.returns-in-Ok-clause-step
 returns-in-Ok-clause-step g c =
     let s = pool_shown c.args.self.now in
     let may = may_flush s c.in_ok-check_running.ensures (sym c.awaits_flush.ensures ∙ c.if-not-awaits_flush.false) in
-    flush_done s _ may (λ k. record s { log = record s.log { kept = (c.flushed.ensures k).kept; next = (c.flushed.ensures k).next } })
+    flush_done s _ may (λ k. record s { log = record s.log { kept = (c.flushed.ensures k).kept; begun = (c.flushed.ensures k).begun; next = (c.flushed.ensures k).next } })
 
 pub returns-in-Err-clause-step : goal.returns-in-Err-clause-step
 returns-in-Err-clause-step g c =

@@ -21,13 +21,13 @@ returns-in_err-reserve_log-clause-step g c =
 pub pack_next-requires : goal.pack_next-requires
 pack_next-requires g c = ap (λ (s : Shown). log_write_refusal s) c.in_ok-reserve_log.ensures.unchanged ∙ c.in_ok-check_log_write.ensures
 
-pub returns-in_err-packed-clause-step : goal.returns-in_err-packed-clause-step
-returns-in_err-packed-clause-step g c =
-    let p = err_from_is_err_and c.from_residual-in_err-packed.result c.from_residual-in_err-packed.ensures.1 in
-    rw (p.1, p.2, c.in_err-packed.ensures.refused) (write_wants (pool_shown c.args.self.now) (pool_shown c.reserve_log.new.self) c.in_ok-check_log_write.ensures c.in_ok-reserve_log.ensures.unchanged)
+pub returns-in_err-block-clause-step : goal.returns-in_err-block-clause-step
+returns-in_err-block-clause-step g c =
+    let p = err_from_is_err_and c.from_residual-in_err-block.result c.from_residual-in_err-block.ensures.1 in
+    rw (p.1, p.2, c.in_err-block.ensures.refused) (write_wants (pool_shown c.args.self.now) (pool_shown c.reserve_log.new.self) c.in_ok-check_log_write.ensures c.in_ok-reserve_log.ensures.unchanged)
 
-pub note_written-requires-clause-number : goal.note_written-requires-clause-number
-note_written-requires-clause-number g c =
+pub note_written-ends-requires-clause-number : goal.note_written-ends-requires-clause-number
+note_written-ends-requires-clause-number g c =
     (may_write (pool_shown c.reserve_log.new.self) (ap (λ (s : Shown). log_write_refusal s) c.in_ok-reserve_log.ensures.unchanged ∙ c.in_ok-check_log_write.ensures)).number
 
 pub write-requires : goal.write-requires
@@ -40,24 +40,24 @@ write-requires g c =
 
 pub returns-in-Ok-clause-step : goal.returns-in-Ok-clause-step
 returns-in-Ok-clause-step g c =
-    block_written c.reserve_log.new.self c.in_ok-packed.field-0 c.in_ok-packed.ensures.packs (pool_shown c.args.self.now) c.in_ok-reserve_log.ensures.unchanged
-    (pool_shown c.note_written.new.self) c.in_ok-check_log_write.ensures c.note_written.ensures.shown
+    block_written c.reserve_log.new.self c.in_ok-block.field-0 c.in_ok-block.ensures.packs (pool_shown c.args.self.now) c.in_ok-reserve_log.ensures.unchanged
+    (pool_shown c.note_written-ends.new.self) c.in_ok-check_log_write.ensures c.note_written-ends.result c.note_written-ends.ensures.ends c.note_written-ends.ensures.shown
 
 pub returns-in-Ok-clause-wrote : goal.returns-in-Ok-clause-wrote
 returns-in-Ok-clause-wrote g c = λ keeps.
     let at = ap (λ (h : Header). h.address) c.next-address.ensures.header in
-    puts_written c.reserve_log.new.self c.in_ok-packed.field-0 c.in_ok-packed.ensures.packs (pool_shown c.args.self.now) c.in_ok-reserve_log.ensures.unchanged
-    (pool_shown c.note_written.new.self) (g.D.SectorDevice.disk c.args.device.now) (g.D.SectorDevice.disk c.write.new.self)
-    (rw (at, c.as_bytes.ensures.bytes) at (c.in-Ok.ensures.disk keeps)) c.note_written.ensures.shown
+    puts_written c.reserve_log.new.self c.in_ok-block.field-0 c.in_ok-block.ensures.packs (pool_shown c.args.self.now) c.in_ok-reserve_log.ensures.unchanged
+    (pool_shown c.note_written-ends.new.self) (g.D.SectorDevice.disk c.args.device.now) (g.D.SectorDevice.disk c.write.new.self)
+    (rw (at, c.as_bytes.ensures.bytes) at (c.in-Ok.ensures.disk keeps)) c.note_written-ends.ensures.shown
 
 pub returns-in-Err-clause-step : goal.returns-in-Err-clause-step
 returns-in-Err-clause-step g c =
-    rw c.in-Err.ensures.refusal (block_refused c.reserve_log.new.self c.in_ok-packed.field-0 c.in_ok-packed.ensures.packs (pool_shown c.args.self.now) c.in_ok-reserve_log.ensures.unchanged
-    (record (pool_shown c.note_written.new.self) { suspended = true }) c.in_ok-check_log_write.ensures (λ k. record (c.note_written.ensures.shown k) { suspended = true }))
+    rw c.in-Err.ensures.refusal (block_refused c.reserve_log.new.self c.in_ok-block.field-0 c.in_ok-block.ensures.packs (pool_shown c.args.self.now) c.in_ok-reserve_log.ensures.unchanged
+    (record (pool_shown c.note_written-ends.new.self) { suspended = true }) c.in_ok-check_log_write.ensures (λ k. record (c.note_written-ends.ensures.shown k) { suspended = true }))
 
 pub returns-in-Err-clause-wrote : goal.returns-in-Err-clause-wrote
 returns-in-Err-clause-wrote g c = λ keeps.
     let at = ap (λ (h : Header). h.address) c.next-address.ensures.header in
-    inr (puts_refused c.reserve_log.new.self c.in_ok-packed.field-0 c.in_ok-packed.ensures.packs (pool_shown c.args.self.now) c.in_ok-reserve_log.ensures.unchanged
-    (record (pool_shown c.note_written.new.self) { suspended = true }) (g.D.SectorDevice.disk c.args.device.now) (g.D.SectorDevice.disk c.write.new.self) c.in-Err.error
-    (rw (at, c.as_bytes.ensures.bytes) at (c.in-Err.ensures.disk keeps)) (λ k. record (c.note_written.ensures.shown k) { suspended = true }))
+    inr (puts_refused c.reserve_log.new.self c.in_ok-block.field-0 c.in_ok-block.ensures.packs (pool_shown c.args.self.now) c.in_ok-reserve_log.ensures.unchanged
+    (record (pool_shown c.note_written-ends.new.self) { suspended = true }) (g.D.SectorDevice.disk c.args.device.now) (g.D.SectorDevice.disk c.write.new.self) c.in-Err.error
+    (rw (at, c.as_bytes.ensures.bytes) at (c.in-Err.ensures.disk keeps)) (λ k. record (c.note_written-ends.ensures.shown k) { suspended = true }))

@@ -2,7 +2,6 @@ use Rattle.std.proofs.Common.{◌≡◌, ◌∙◌, ◌<◌, ◌≤◌, ℕ, [],
 use Rattle.std.proofs.Math.Logic.{∥∥₁_elim}
 use mathlib.Core.Bool.{Bool-set}
 use Rattle.std.proofs.lemmas.List.Elements.{All-cons, All-nil}
-use Rattle.base.proofs.common.KeptLists.{none_at}
 use Rattle.base.specs.formats.Chain.{Header}
 use Rattle.base.specs.formats.Geometry.{block_count}
 use Rattle.base.specs.formats.Records.{IsAllowed}
@@ -43,7 +42,7 @@ invariant_of-result-clause-free_counted c =
     }
 
 pub invariant_of-result-clause-unsynced_kept : goal.invariant_of-result-clause-unsynced_kept
-invariant_of-result-clause-unsynced_kept c = rw (c.new-2.ensures, c.new-6.ensures.items, c.new-7.ensures.none) (record {
+invariant_of-result-clause-unsynced_kept c = rw (c.new-2.ensures, c.new-6.ensures.items, c.new-7.ensures.none, c.new-7.ensures.begun) (record {
   above = All-nil (λ (x : Record). c.args.mounted.group.0 < x.group.0);
   open_or_before = All-nil (λ (x : Record). x.group.0 ≤ (counted_behind c.args.mounted.group.0).line.open_group);
   within = c.requires;
@@ -52,7 +51,7 @@ invariant_of-result-clause-unsynced_kept c = rw (c.new-2.ensures, c.new-6.ensure
   allowed = All-nil (λ (x : Record). IsAllowed (record_fields x));
   front = omega arith;
   noted = refl;
-  whole = λ i b at. absurd (none_at i b at);
+  balanced = ∣ refl ∣₁;
 })
 
 pub invariant_of-result-clause-log_placed : goal.invariant_of-result-clause-log_placed
@@ -67,4 +66,4 @@ pub returns-clause-shown : goal.returns-clause-shown
 returns-clause-shown c =
     let objects = first_objects c.new-5.result c.new-5.ensures.patches (contents_of c.args.mounted.contents).objects c.requires in
     let name = first_name c.new-5.result c.new-5.ensures.names c.args.mounted.contents.name in
-    rw (c.new.ensures.none, c.new.ensures.next, c.new-2.ensures, c.new-3.ensures.none, c.new-3.ensures.first, c.new-4.ensures, c.new-6.ensures.items, c.new-7.ensures.none, c.new-7.ensures.next, blocks_of-empty, objects, name) refl
+    rw (c.new.ensures.none, c.new.ensures.next, c.new-2.ensures, c.new-3.ensures.none, c.new-3.ensures.first, c.new-4.ensures, c.new-6.ensures.items, c.new-7.ensures.none, c.new-7.ensures.begun, c.new-7.ensures.next, blocks_of-empty, objects, name) refl

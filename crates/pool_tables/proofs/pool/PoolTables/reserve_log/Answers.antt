@@ -12,14 +12,14 @@ use Rattle.pool_tables.proofs.pool.PoolTables.reserve_log.Goals as goal
 pub invariant_of-self-clause-unsynced_kept : goal.invariant_of-self-clause-unsynced_kept
 invariant_of-self-clause-unsynced_kept c =
     let pool = c.args.self.now in
-    subst (λ (log : Log). KeepsUnsynced pool.groups.line pool.unsynced.items pool.written log pool.synced pool.changes) (same_log pool.log c.reserve.new.self c.reserve.ensures.kept c.reserve.ensures.next) pool.unsynced_kept
+    subst (λ (log : Log). KeepsUnsynced pool.groups.line pool.unsynced.items pool.written log pool.synced pool.changes) (same_log pool.log c.reserve.new.self c.reserve.ensures.kept c.reserve.ensures.begun c.reserve.ensures.next) pool.unsynced_kept
 
 pub invariant_of-self-clause-log_placed : goal.invariant_of-self-clause-log_placed
 invariant_of-self-clause-log_placed c =
     let pool = c.args.self.now in
-    subst (λ (log : Log). AreBlocksOf (block_count pool.geometry) (log_addresses log)) (same_log pool.log c.reserve.new.self c.reserve.ensures.kept c.reserve.ensures.next) pool.log_placed
+    subst (λ (log : Log). AreBlocksOf (block_count pool.geometry) (log_addresses log)) (same_log pool.log c.reserve.new.self c.reserve.ensures.kept c.reserve.ensures.begun c.reserve.ensures.next) pool.log_placed
 
 pub invariant_of-self-clause-sync_header : goal.invariant_of-self-clause-sync_header
 invariant_of-self-clause-sync_header c =
     let pool = c.args.self.now in
-    λ r is. subst (λ (log : Log). KeepsHeader r.group.0 (header_fields r.header) log) (same_log pool.log c.reserve.new.self c.reserve.ensures.kept c.reserve.ensures.next) (pool.sync_header r is)
+    λ r is. subst (λ (log : Log). KeepsHeader r.group.0 (header_fields r.header) log) (same_log pool.log c.reserve.new.self c.reserve.ensures.kept c.reserve.ensures.begun c.reserve.ensures.next) (pool.sync_header r is)

@@ -31,4 +31,4 @@ returns-clause-plan c =
     λ k. record plan { steps_left = steps k; taken = taken k; header = c.header_for-header.ensures.header k }
 
 pub returns-clause-header : goal.returns-clause-header
-returns-clause-header c = header_starts c.args.group.0 c.args.self.now.log _ c.header_for-header.ensures.numbered c.header_for-header.ensures.header
+returns-clause-header c = header_starts c.args.group.0 c.args.self.now.log _ c.header_for-header.ensures.numbered c.args.self.now.unsynced_kept.balanced c.header_for-header.ensures.header

@@ -11,15 +11,14 @@ use Rattle.pool_tables.specs.Areas.{addresses_before, blocks_from}
 use Rattle.pool_tables.specs.Running.{KeepsHeader}
 use Rattle.pool_tables.specs.Shows.{contents_after_oldest, plan_of, pool_shown, shown_after_tree}
 use Rattle.pool_tables.specs.Unsynced.{is_after}
-use Rattle.intent_log.specs.Kept.{header_fields, log_shown}
+use Rattle.intent_log.specs.Kept.{begun_shown, header_fields, log_shown}
 use Rattle.space.specs.FreeSets.{FreeSpace}
 use Rattle.pool_tables.proofs.FreeBlocks.{union_both}
 use Rattle.pool_tables.proofs.Mapped.{filter-map}
-use Rattle.pool_tables.proofs.WholeBlocks.{whole-filter}
 use Rattle.pool_tables.proofs.WrittenRecords.{all_after, front_within, noted-synced, pending-synced}
 use Rattle.pool_tables.proofs.UnsyncedChanges.{open_three, same_contents, synced_changes, synced_names, synced_within, syncing_follows}
 use Rattle.base.specs.formats.Records.{IsAllowed, Record}
-use Rattle.base.specs.steps.Logs.{AreWhole, KeptBlock, committed_above, committed_in}
+use Rattle.base.specs.steps.Logs.{KeptBlock, committed_above, committed_in}
 use Rattle.transactions.specs.declared.record.Record as code
 use Rattle.std.proofs.lemmas.List.Elements.{All-filter}
 use Rattle.pool_tables.proofs.syncs.SameSyncs.{RunsIn, as_many, counted_still, kept_sync, left_as_before, more_left, one_left, one_less, refused_as, runs_on}
@@ -112,8 +111,8 @@ invariant_of-self-in-Ok-Last-clause-unsynced_kept g c =
       allowed = All-filter later (λ (x : code.Record). IsAllowed (record_fields x)) pool.unsynced.items pool.unsynced_kept.allowed;
       front = front_within later pool.written pool.unsynced.items;
       noted = ap (λ (kept : List KeptBlock). committed_above group (committed_in (record (log_shown pool.log) { kept = kept }))) c.give_log.ensures.kept
-          ∙ noted-synced pool.groups.line.synced group pool.written (header_fields c.in-Some-take.synced.header) (log_shown pool.log) pool.unsynced.items (omega (arith, next)) pool.unsynced_kept.whole header.none_before pool.unsynced_kept.noted;
-      whole = subst AreWhole (sym c.give_log.ensures.kept) (whole-filter _ pool.log.kept pool.unsynced_kept.whole);
+          ∙ noted-synced pool.groups.line.synced group pool.written (header_fields c.in-Some-take.synced.header) (log_shown pool.log) pool.unsynced.items (omega (arith, next)) header.none_before pool.unsynced_kept.noted;
+      balanced = rw (c.give_log.ensures.kept, c.give_log.ensures.begun) header.balanced;
     })
 
 pub drop_synced-requires : goal.drop_synced-requires
@@ -197,7 +196,7 @@ returns-in-Ok-clause-step g c =
       reserved = finite.remove s.reserved (same k).group.0;
       free = set.union s.free (set.from_list (addresses_before (header_fields (same k).header) pool.log.kept));
       contents = contents k;
-      log = record { unsynced = unsynced k; pending = pending k; kept = kept k; next = c.give_log.ensures.next k };
+      log = record { unsynced = unsynced k; begun = option_map begun_shown (c.give_log.ensures.begun k); pending = pending k; kept = kept k; next = c.give_log.ensures.next k };
       synced_contents = c.lay_oldest.ensures.contents k;
       sync = None;
     }))
