@@ -36,9 +36,12 @@
 //! is any number that distinguishes pools. A moment is a time in seconds that the uberblocks carry; 0 serves if no
 //! clock is read.
 //!
-//! The sharpest limit is that of one transaction: its log record has at most 4,008 bytes ([`MAX_LOG_RECORD`]), or it is
-//! refused `TooLarge`. These are 22, and for each operation 5 (a create, a remove), 13 (a new length), 17 and its bytes
-//! (a write), or 5 and its bytes (a name). So one write has at most 3,969 bytes.
+//! The sharpest limit is that of one transaction: its log record has at most 65,536 bytes ([`MAX_LOG_RECORD`]), or it
+//! is refused `TooLarge`. These are 22, and for each operation 5 (a create, a remove), 13 (a new length), 17 and its
+//! bytes (a write), or 5 and its bytes (a name). So one write has at most 65,497 bytes. Whatever its size, a
+//! transaction takes place whole or not at all. [`record_size`] returns how many bytes the record of a plan has.
+//! [`charge`] returns what the plan is charged: if that alone is above the dirty limit, the transaction is refused
+//! `Throttled`. So at [`DEFAULT_DIRTY_MAX`] it has at most 128 creates.
 //!
 //! # Examples
 //!
@@ -92,6 +95,7 @@ pub use import_replay::{Imported, Inspected, Mounted, create, import, import_wit
 pub use pool_core::{Duty, PoolState, Progress, run};
 pub use pool_threads::{Handle, Pool};
 pub use range_locks::{HeldLock, HeldLocks, HeldPiece};
+pub use transactions::{charge, is_plan_allowed, record_size};
 
 // For proofs alone: pools and handles with what was seen of them, and the rule of the pool under its lock.
 pub use pool_threads::{LastSeen, OwnedPool, PoolRule, PoolView};

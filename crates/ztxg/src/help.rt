@@ -2,7 +2,7 @@
 
 /// The program's version, and the kit that it was tested with. `python3 tools version` compares it with README.md and
 /// with the kit that runs the gate.
-pub const VERSION: &str = "0.1.0 (rattle-kit-13f logic dac8208d650f15bf)";
+pub const VERSION: &str = "0.1.0 (rattle-kit-13b logic dac8208d650f15bf)";
 
 /// What stands after the help of the program.
 pub const PROGRAM: &str = "\
@@ -110,7 +110,7 @@ A line is a command, or empty, or begins with #. Each command prints one line:
   read OWNER OBJECT LOW HIGH   bytes LENGTH HEX
   length OBJECT                length N
   digest, name, status         the contents' SHA-256; the name; the groups
-  log-write, log-flush         logged R, the records in the block; flushed
+  log-write, log-flush         logged R, how many records end there; flushed
   durable ORDINAL GROUP        durable yes, or durable no
   close, quiesce, start        the open group, then quiesced, then syncing
   step, finish                 one step of a sync; all that are left
