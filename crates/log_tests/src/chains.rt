@@ -154,9 +154,14 @@ fn store_all(device: &mut MemDevice, blocks: &[Stored]) -> Result<(), PoolError>
     Ok(())
 }
 
-/// How many blocks the chain has whose first block lies at this address, with number 7 of chain 3, in a pool with the
-/// guid 77 and 384 blocks. Refused `BadRange` if the device is smaller.
-fn chain_length(alloc: Global, device: &mut MemDevice, address: u64) -> Result<usize, PoolError> {
+/// How many pieces the chain of this version has whose first block lies at this address, with number 7 of chain 3, in a
+/// pool with the guid 77 and 384 blocks. Refused `BadRange` if the device is smaller.
+pub(crate) fn chain_length(
+    alloc: Global,
+    device: &mut MemDevice,
+    address: u64,
+    version: Version,
+) -> Result<usize, PoolError> {
     if device.sectors() < 12_288 {
         return Err(PoolError::BadRange);
     }
@@ -164,16 +169,17 @@ fn chain_length(alloc: Global, device: &mut MemDevice, address: u64) -> Result<u
         address,
         number: 7,
         import_number: 3,
+        version,
     };
     let frame = Frame::new(Version::One, 77, 384, Group(9));
     Ok(chain(alloc, device, &frame, &header)?.len())
 }
 
-/// How many blocks it has on a device of 6 MiB on which these lie.
+/// How many pieces it has on a device of 6 MiB on which these lie.
 fn length_over(alloc: Global, address: u64, blocks: &[Stored]) -> Result<usize, PoolError> {
     let mut device = MemDevice::new(alloc, 12_288)?;
     store_all(&mut device, blocks)?;
-    chain_length(alloc, &mut device, address)
+    chain_length(alloc, &mut device, address, Version::One)
 }
 
 /// How many rows hold before the first that does not: the length of the chain from an address on, if so many of its

@@ -5,6 +5,7 @@
 //! of each kind. The pool has 384 blocks. By `python3 tools hostile_rows` the program judges such images.
 
 use crate::chains::{FIRST, Stored, overwrite, store};
+use crate::long_records::{Long, store_long};
 use base::{Group, Pointer, PoolError, Version, write_pointer, write_u64};
 use checked_blocks::{Kind, PAYLOAD_SIZE, seal};
 use device_model::{Fault, MemDevice};
@@ -69,12 +70,24 @@ const CREATES_AGAIN: Stored = Stored {
     ..CREATES
 };
 
+/// A record of two full parts and one byte that writes 7,978 bytes to object 1, in the blocks behind that of `CREATES`.
+const LONG: Long = Long {
+    address: 4_198_400,
+    number: 1,
+    chain: 1,
+    committed: 9,
+    object: 1,
+    size: 8_017,
+    writes: 7_978,
+};
+
 /// What is written to a pool.
 #[derive(Clone, Copy)]
 enum Image {
     Nothing,
     Log(Stored),
     LogTwice(Stored, Stored),
+    LogLong(Stored, Long),
     Tree(Fields),
     TornRoot,
     TornUberblocks,
@@ -195,6 +208,10 @@ fn write_image(device: &mut MemDevice, image: &Image) -> Result<(), PoolError> {
         Image::LogTwice(first, second) => {
             store(device, first)?;
             store(device, second)
+        }
+        Image::LogLong(first, long) => {
+            store(device, first)?;
+            store_long(device, long)
         }
         Image::Tree(fields) => write_tree(device, fields),
         Image::TornRoot => {
@@ -376,7 +393,14 @@ fn an_import_mounts_what_an_inspection_reports(rt: HostRuntime) {
             [8, 1, 1, 1, 1, 1, 0],
             [12, 1, 4_206_592, 381, 1],
         ),
-        // the same in a log block that names itself as the next one, which has another number
+        // a long record in three blocks writes two records of it, so the new tree has five blocks
+        mounted(
+            1,
+            Image::LogLong(CREATES, LONG),
+            [8, 1, 4, 2, 1, 1, 7_978],
+            [12, 2, 4_231_168, 378, 1],
+        ),
+        // one record in a log block that names itself as the next one, which has another number
         mounted(
             1,
             Image::Log(Stored {
@@ -425,7 +449,7 @@ fn an_import_mounts_what_an_inspection_reports(rt: HostRuntime) {
             again,
         ),
     ];
-    assert_eq!(rt; count_held(rt.alloc(), &rows), 8);
+    assert_eq!(rt; count_held(rt.alloc(), &rows), 9);
 }
 
 #[test]
@@ -486,7 +510,12 @@ fn an_import_refuses_what_an_inspection_refuses_and_writes_nothing(rt: HostRunti
             Image::LogTwice(CREATES, CREATES_AGAIN),
             damaged(6, 4_198_400),
         ),
+        // a long write to an object that isn't there: its first block
+        refused(
+            Image::LogLong(CREATES, Long { object: 2, ..LONG }),
+            damaged(6, 4_198_400),
+        ),
         refused(Image::TornUberblocks, PoolError::NoPool),
     ];
-    assert_eq!(rt; count_held(rt.alloc(), &rows), 11);
+    assert_eq!(rt; count_held(rt.alloc(), &rows), 12);
 }

@@ -9,6 +9,12 @@ mod chains;
 #[cfg(test)]
 mod images;
 #[cfg(test)]
+mod long_records;
+#[cfg(test)]
 mod packing;
 #[cfg(test)]
 mod replays;
+#[cfg(test)]
+mod version_1;
+#[cfg(test)]
+mod version_1_image;

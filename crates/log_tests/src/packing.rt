@@ -4,8 +4,8 @@ ghost use Rattle.std.specs.Prelude.{All, map};
 ghost use Rattle.base.specs.formats.Records.{IsAllowed};
 ghost use Rattle.transactions.specs.Records.{record_fields};
 
-use base::{BLOCK_SIZE, Bytes, Group, ObjectId, Op, Ops, Ordinal, PoolError, are_zeros};
-use intent_log::{ChainHeader, NewBlock, PackedBlock, pack};
+use base::{BLOCK_SIZE, Bytes, Group, ObjectId, Op, Ops, Ordinal, PoolError, Version, are_zeros};
+use intent_log::{ChainHeader, NewBlock, Packed, PackedBlock, pack};
 use std::alloc::Global;
 use transactions::{Record, encode_record};
 
@@ -17,6 +17,7 @@ pub const PLACE: NewBlock = NewBlock {
         address: 4_194_304,
         number: 0,
         import_number: 1,
+        version: Version::One,
     },
     next: 4_198_400,
 };
@@ -72,12 +73,15 @@ impl Pending {
         self.records.as_slice()
     }
 
-    /// Packs as many as fit. Refused `BadRange` if there is none.
+    /// Packs as many as fit. Refused `BadRange` if there is none, and `TooLarge` if the first one doesn't fit.
     fn pack(&self, alloc: Global) -> Result<PackedBlock, PoolError> {
         if self.records.is_empty() {
             return Err(PoolError::BadRange);
         }
-        pack(alloc, &PLACE, self.records.as_slice())
+        match pack(alloc, &PLACE, self.records.as_slice())? {
+            Packed::Whole(packed) => Ok(packed),
+            Packed::First(_begun) => Err(PoolError::TooLarge),
+        }
     }
 }
 

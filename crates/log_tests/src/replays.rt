@@ -7,15 +7,15 @@ use crate::packing::{PLACE, pack_two, packed_bytes, two_records};
 use base::{BLOCK_SIZE, Group, ObjectId, PoolError, PoolName, Version};
 use checked_blocks::Frame;
 use device_model::{MemDevice, SectorDevice};
-use intent_log::{LoggedBlock, chain};
+use intent_log::{LoggedPiece, chain};
 use log_replay::replay;
 use object_maps::Contents;
 use std::alloc::Global;
 
 /// The chain of the block with two records: the create of object 1 in group 9, and a write up to offset 104 in group
 /// 10.
-fn packed_chain(alloc: Global) -> Result<Vec<LoggedBlock>, PoolError>
-    ensures { IfOk result (λ blocks. IsChainAllowed blocks.items) }
+fn packed_chain(alloc: Global) -> Result<Vec<LoggedPiece>, PoolError>
+    ensures { IfOk result (λ pieces. IsChainAllowed pieces.items) }
 {
     let mut block = [0; BLOCK_SIZE];
     block[..158].copy_from_slice(&packed_bytes());
@@ -39,15 +39,15 @@ fn replayed(alloc: Global, group: u64) -> Result<(usize, Option<u64>), PoolError
     Ok((replayed.records.len(), length))
 }
 
-/// Where the only block of the chain lies, and whether it has the two records that are packed. `None` for another
+/// Where the only piece of the chain lies, and whether it has the two records that are packed. `None` for another
 /// chain.
 fn read_packed(alloc: Global) -> Result<Option<(u64, bool)>, PoolError> {
-    let blocks = packed_chain(alloc)?;
-    let [block] = blocks.as_slice() else {
+    let pieces = packed_chain(alloc)?;
+    let [piece] = pieces.as_slice() else {
         return Ok(None);
     };
     let pending = two_records(alloc)?;
-    Ok(Some((block.address(), block.records() == pending.records())))
+    Ok(Some((piece.address(), piece.records() == pending.records())))
 }
 
 // Records above the active group are replayed. The tree of group 9 would have object 1, so the write damages its block.

@@ -41,8 +41,8 @@ fn front(bytes: &[u8], count: usize) -> &[u8] {
 }
 
 /// More bytes than a record can write.
-fn sevens() -> [u8; 3970] {
-    [7; 3970]
+fn sevens() -> [u8; 65_498] {
+    [7; 65_498]
 }
 
 /// A record, as plain data.
@@ -266,8 +266,8 @@ fn what_is_outside_its_limits_is_not_encoded(rt: HostRuntime) {
         (Made::Write(338_685, b"wxyz"), bad),
         (Made::Write(338_684, b"wxyz"), None),
         (Made::Write(335_000, &sevens), bad),
-        // the record of 3,969 bytes has 4,008
-        (Made::Write(0, front(&sevens, 3969)), None),
+        // the record of 65,497 bytes has 65,536
+        (Made::Write(0, front(&sevens, 65_497)), None),
         (Made::Write(0, &sevens), Some(PoolError::TooLarge)),
         (Made::Nothing, bad),
         (Made::TooLate, bad),

@@ -106,7 +106,8 @@ fn decodes_no_damaged_slot(rt: HostRuntime) {
     // a byte of each field and of the check
     let rows = [
         (0, 0x0d, false),
-        (8, 2, false),
+        (8, 2, true),
+        (8, 3, false),
         (15, 1, false),
         (16, 3, false),
         (23, 0x11, false),
@@ -122,7 +123,7 @@ fn decodes_no_damaged_slot(rt: HostRuntime) {
         (991, 1, false),
         (1023, 0, true),
     ];
-    assert_eq!(rt; count_damaged(&rows), 16);
+    assert_eq!(rt; count_damaged(&rows), 17);
 }
 
 /// What a slot of a label is filled with.
