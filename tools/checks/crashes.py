@@ -5,9 +5,9 @@ that it worked out before. The answers come from a list of entries, a map of obj
 (`tools/model/serial_pool.py`) and the rules of what is written when; nothing is taken from the program.
 
 - A pool of 6 MiB gets rounds, one upon the other. A round is an import, transactions in up to three groups at once, of
-  which one may be committed after entries of a newer group, and a sync. Some transactions give the pool a name. Log
-  writes, log flushes and the question whether a commit is durable come between all of them, also between the device
-  calls of a sync.
+  which one may be committed after entries of a newer group, and a sync. Some transactions give the pool a name, and
+  some have a record that is longer than a log block. Log writes, log flushes and the question whether a commit is
+  durable come between all of them, also between the device calls of a sync and between the parts of a record.
 - The run is stopped after any of the device calls: by a crash, or by a call that fails and then a crash or an import.
   The failing call is one of the sync, a log write or a log flush.
 - A crash has a string of letters, which keep, lose or tear each unflushed write.
@@ -27,14 +27,16 @@ import time
 
 from tools import Failed
 from tools.harness.program import add_program, run
-from tools.model.charges import record_size
+from tools.model.charges import estimate, record_size
 from tools.model.contents import Entry, apply, digest
-from tools.model.layout import DIRTY_MAX, LOG_AVAILABLE, LOG_ROOM, NAMED, TOP
+from tools.model.layout import DIRTY_MAX, LOG_AVAILABLE, LOG_RECORD_MAX, LOG_ROOM, NAMED, TOP
 from tools.model.serial_pool import LEAST, REFUSALS, Image, LogBlock, Run, Tree
-from tools.rows.script_row import shape_of
+from tools.rows.script_row import shape_of, word_of
 
 OBJECTS = [0, 1, 2, 62, 63, 5_291]
 NAMES = [b"tank", b"pond", b"a", b"Z.9", b"lake-" * 12 + b"_end"]
+# Bytes of a write whose record fills one, two or three log blocks, or has a byte more, or is the longest one.
+LONG = [3_969, 3_970, 7_977, 7_978, 11_985, 11_986, 65_497]
 FEW = 6
 ROUNDS = 40
 
@@ -60,6 +62,7 @@ class Pool:
         records = len(self.image.entries)
         self.say(f"import {DIRTY_MAX}", f"synced {self.run.tree.group} open {self.run.open} records {records}")
         self.counts["records"] += records
+        self.counts["long records"] += sum(record_size(entry) > LOG_ROOM for entry in self.image.entries)
         self.show()
         for at, number in enumerate([*OBJECTS, NAMED]):
             self.say(f"lock 1 {number} w 0 {TOP}", f"lock {at}")
@@ -86,22 +89,31 @@ class Pool:
         if kind == "l":
             return ("l", number, self.chance.choice([0, 5, 4_031, 4_032, 4_033, 9_000]), b"")
         letter = self.chance.choice("abcdefghijklmnopqrstuvwxyz")
-        length = self.chance.choice([self.chance.randint(1, 40)] * 9 + [self.chance.randint(1_000, 3_969)])
-        return ("w", number, place, letter.encode() * length)
+        return ("w", number, place, letter.encode() * self.some_length())
+
+    def some_length(self):
+        """The length of a write, which mostly is short."""
+        limits = self.chance.choice([(1, 40)] * 17 + [(1_000, 3_969)] * 2 + [(3_970, 20_000)] + [None])
+        return self.chance.randint(*limits) if limits else self.chance.choice(LONG)
 
     def some_name(self):
         """An operation that gives the pool a name, which may be the one that it has."""
         return ("n", NAMED, 0, self.chance.choice([*NAMES, self.run.name()]))
 
     def some_ops(self):
-        """The operations of a transaction that isn't refused."""
+        """The operations of a transaction that isn't refused, or none if there is no room for one."""
         objects, ops = self.run.contents(), []
         for _ in range(self.chance.randint(1, 3)):
             op = self.some_op(objects)
-            if record_size(Entry(0, [*ops, op])) <= LOG_ROOM:
+            if self.has_room([*ops, op]):
                 ops.append(op)
                 objects = apply(objects, [op])
         return ops
+
+    def has_room(self, ops):
+        """Whether a transaction with these operations is neither too long nor lacks blocks."""
+        entry = Entry(0, ops)
+        return record_size(entry) <= LOG_RECORD_MAX and estimate(entry) + LOG_AVAILABLE - 1 <= self.run.available()
 
     def begin(self, ops):
         """Begins a transaction with these operations: its number and its entry."""
@@ -111,27 +123,37 @@ class Pool:
         return tx, entry
 
     def commit(self, tx, entry):
-        words = [content.decode() for kind, _, _, content in entry.ops if kind in "wn"]
+        words = [word_of(content) for kind, _, _, content in entry.ops if kind in "wn"]
         ordinal = self.run.commit(entry)
         self.say(" ".join(["commit", str(tx), *words]), f"entry {ordinal} group {entry.group}")
         self.counts["names"] += any(kind == "n" for kind, _, _, _ in entry.ops)
 
     def transact(self):
         """A transaction, and perhaps the log after it."""
-        self.commit(*self.begin(self.some_ops()))
+        self.commit_some()
         self.use_log(0.4)
 
+    def commit_some(self):
+        """A transaction, if there is room for one."""
+        ops = self.some_ops()
+        if ops:
+            self.commit(*self.begin(ops))
+
     def use_log(self, share):
-        """By chance a log write, a log flush, and whether a commit is durable."""
-        run = self.run
-        if self.chance.random() < share and run.available() >= LOG_AVAILABLE:
-            records = run.log_write()
-            self.say("log-write", f"logged {records}" if records else "refused 20 NotReady")
-            self.counts["log writes"] += records > 0
+        """By chance a log write, or some parts of a record, a log flush, and whether a commit is durable."""
+        if self.chance.random() < share:
+            self.log_write()
+            while self.run.unfinished and self.chance.random() < 0.8:
+                self.log_write()
         if self.chance.random() < share / 2:
-            self.say("log-flush", "flushed" if run.log_flush() else "refused 20 NotReady")
+            self.say("log-flush", "flushed" if self.run.log_flush() else "refused 20 NotReady")
         if self.chance.random() < share / 2:
             self.ask_durable()
+
+    def log_write(self):
+        refusal = self.run.log_write_refusal()
+        self.say("log-write", refusal or f"logged {self.run.log_write()}")
+        self.counts["log writes"] += refusal is None
 
     def ask_durable(self):
         """Whether a commit is durable, or a number that none has."""
@@ -145,7 +167,7 @@ class Pool:
         for _ in range(self.chance.randint(0, 3)):
             self.transact()
         old, objects = self.run.open, self.run.contents()
-        if self.chance.random() < 0.4 and len(objects) > 1:
+        if self.chance.random() < 0.4 and len(objects) > 1 and self.run.available() >= 2 * LOG_AVAILABLE:
             late, other = self.chance.sample([*sorted(objects), NAMED], 2)
             held = self.begin([self.some_name() if late == NAMED else ("w", late, 3, b"older")])
             self.run.open += 1
@@ -175,7 +197,7 @@ class Pool:
         for _ in range(calls):
             self.step()
             if self.chance.random() < share:
-                self.commit(*self.begin(self.some_ops()))
+                self.commit_some()
             self.use_log(share)
 
     def finish(self):
@@ -187,7 +209,9 @@ class Pool:
         self.say("status", self.run.status())
 
     def letters(self, count):
-        return "".join(self.chance.choice("klt") for _ in range(count))
+        """The letters of a crash. Of many writes mostly all but a few are kept, as whole long records need."""
+        letters = self.chance.choice(["klt", "k" * 20 + "lt"]) if count > FEW else "klt"
+        return "".join(self.chance.choice(letters) for _ in range(count))
 
     def crash(self, unflushed):
         """A crash with these unflushed writes: its letters."""
@@ -204,8 +228,9 @@ class Pool:
         kind = self.chance.choice(["step", "step", "log-write", "log-flush"])
         if kind == "step" and run.sync:
             is_flush = run.refuse_step()
-        elif kind == "log-write" and run.pending() and run.available() >= LOG_AVAILABLE:
-            is_flush = run.log_write(is_refused=True) == 0
+        elif kind == "log-write" and run.log_write_refusal() is None:
+            run.log_write(is_refused=True)
+            is_flush = False
         elif kind == "log-flush" and run.awaits_flush():
             is_flush = True
         else:
@@ -297,7 +322,7 @@ def main(ztxg, seconds, seed):
         counts += pool.counts
         seen |= pool.seen
     print(f"{scripts} scripts, {answers} answers, {counts['runs']} stopped runs, {counts['imports']} stopped imports")
-    print(f"{counts['log writes']} log writes, {counts['records']} replayed records")
+    print(f"{counts['log writes']} log writes, {counts['records']} replayed records, {counts['long records']} long")
     print(f"{counts['names']} transactions with a name, {counts['named runs']} runs stopped in the sync of a new name")
     print(f"{len(seen)} strings of letters over lists of up to {FEW} unflushed writes")
     return 0

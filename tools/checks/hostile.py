@@ -7,8 +7,8 @@ checks above them made right (`tools/rows/hostile_edits.py`). What the image mou
 - `check FILE` and `show FILE`, which leave the file as it is;
 - a script on the file, which imports the pool and prints its name, its digest and the lengths of objects. A refused
   import leaves the file as it is;
-- after an import `check` and `show` again: the same contents, four groups and one import later. Each label has a config
-  of that group with the name.
+- after an import `check` and `show` again: the same contents, four groups and one import later, by the version that is
+  written. Each label has a config of that group with the name.
 
 The first difference ends it with status 1, and prints the number of its image. The same SEED makes the same images. The
 end prints how many images were judged how, and which edits they had.
@@ -23,7 +23,7 @@ from tools import Failed
 from tools.harness.pool_files import IN_MEMORY, pool_file
 from tools.harness.program import Lines, add_program, run
 from tools.model.contents import digest
-from tools.model.layout import DIRTY_MAX, NAMED, RECORD, TOP
+from tools.model.layout import DIRTY_MAX, NAMED, RECORD, TOP, VERSION
 from tools.model.pool_bytes import Config
 from tools.model.pool_image import (
     BadGeometry,
@@ -72,6 +72,17 @@ def several():
     return [first, second]
 
 
+def long_ones():
+    """A log with two long records and a short one between them, and one of which the last part isn't written. The first
+    one is of the synced group, and was begun before that group's sync."""
+    lines = ["create lake 77", *start([0, 1, 2])]
+    lines += transact(0, "c:0 c:1 w:1:0:5000", "@5000:a") + ["sync"]
+    lines += transact(1, "w:0:0:9000", "@9000:b") + ["log-write"] * 2 + ["close"]
+    lines += transact(2, "w:1:3:5000 c:2 n:4", "@5000:c", "long") + ["quiesce", "start", "finish"] + ["log-write"] * 3
+    lines += transact(3, "l:0:8100") + transact(4, "w:2:0:16000", "@16000:d") + ["log-write"] * 5 + ["log-flush"]
+    return [lines]
+
+
 def small():
     """One object, and a log of one block with two records."""
     lines = ["create pond 12345678901234567", *start([1, 2])]
@@ -97,7 +108,7 @@ def full():
 
 
 # Each with its share of the images.
-POOLS = {several: 4, small: 2, empty: 1, full: 1}
+POOLS = {several: 4, long_ones: 3, small: 2, empty: 1, full: 1}
 
 
 def make_pool(ztxg, pool):
@@ -234,6 +245,8 @@ class Bench:
         """How the pool that an import left differs, or None."""
         if not after.is_whole or after.left() != before.after():
             return f"the import left another pool: {after.check()}"
+        if after.mount.uberblock.version != VERSION:
+            return f"the import left version {after.mount.uberblock.version}"
         wanted = Config(after.mount.uberblock.guid, after.mount.uberblock.group, after.mount.name)
         if configs != [wanted] * 4:
             return f"the import left the configs {configs}"

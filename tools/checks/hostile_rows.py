@@ -1,9 +1,10 @@
 """Judges worked images of a hostile writer by `check`, `show` and an import.
 
-The images are those of `tools/rows/hostile_images.py`, each with what `check` has to print, and the name. `show` and an
-import have to agree: they mount the same group, name and records, or are refused with the same kind and address. A
-refused import leaves the file as it was, and another one leaves the name in the configs of all four labels. The file
-before the edits is also made without the program, byte for byte.
+The images are those of `tools/rows/hostile_images.py` and `tools/rows/hostile_logs.py`, each with what `check` has to
+print, and the name. `show` and an import have to agree: they mount the same group, name and records, or are refused
+with the same kind and address. A refused import leaves the file as it was. Another one leaves the name in the configs
+of all four labels, and an uberblock of the version that is written. The file before the edits is also made without the
+program, byte for byte.
 
 The first difference ends it with status 1. The end prints how many images were judged.
 """
@@ -13,11 +14,14 @@ import pathlib
 from tools import Failed
 from tools.harness.pool_files import create, pool_file
 from tools.harness.program import add_program, run
+from tools.model.layout import VERSION
 from tools.model.pool_bytes import Config
 from tools.model.pool_image import Image
-from tools.rows.hostile_images import GUID, ROWS, SCRIPT, SIZE, Tank
+from tools.rows import hostile_images, hostile_logs
+from tools.rows.hostile_images import GUID, SCRIPT, SIZE, Tank
 
 SECONDS = 60
+ROWS = hostile_images.ROWS + hostile_logs.ROWS
 
 
 def fail(reason):
@@ -43,29 +47,45 @@ def make_tank(ztxg, file):
 
 def judge_row(ztxg, file, image, line, name="tank"):
     """Judges an image in a file by three commands, the import last."""
-    refused = refusal(line)
     pathlib.Path(file).write_bytes(image.content)
+    refused = refusal(line)
     wanted = (int(refused is not None), [line], [])
     if (found := run([ztxg, "check", file], seconds=SECONDS).in_lines()) != wanted:
         return f"check: {found}"
-    status, lines, errors = run([ztxg, "show", file], seconds=SECONDS).in_lines()
-    if refused and (status, lines, errors) != (1, [], [f"ztxg: {refused}"]):
-        return f"show: {status} {lines} {errors}"
-    records = line.split()[-1]
-    shown = [f"name {name}", "group 9", f"records {records}"]
-    if not refused and (status, [*lines[:1], *lines[2:6:3]], errors) != (0, shown, []):
-        return f"show: {status} {lines} {errors}"
-    script = ["import 1048576"] if refused else ["import 1048576", "name"]
-    status, lines, errors = run([ztxg, "script", "--file", file, "-"], script, SECONDS).in_lines()
-    answers = [refused] if refused else [f"synced 13 open 14 records {records}", f"name {name}"]
-    if (status, lines, errors) != (0, answers, []):
-        return f"import: {status} {lines} {errors}"
-    content = pathlib.Path(file).read_bytes()
-    if (content == bytes(image.content)) != bool(refused):
-        return "import: the file"
-    if not refused and Image(bytearray(content)).configs() != [Config(GUID, 13, name.encode())] * 4:
+    if refused:
+        return judge_refused(ztxg, file, image, refused)
+    _, _, group, _, records = line.split()
+    return judge_clean(ztxg, file, int(group), records, name)
+
+
+def judge_refused(ztxg, file, image, refused):
+    """How `show` and an import differ on an image that they refuse, or None."""
+    if (found := run([ztxg, "show", file], seconds=SECONDS).in_lines()) != (1, [], [f"ztxg: {refused}"]):
+        return f"show: {found}"
+    if (found := import_file(ztxg, file, [])) != (0, [refused], []):
+        return f"import: {found}"
+    return None if pathlib.Path(file).read_bytes() == bytes(image.content) else "import: the file"
+
+
+def judge_clean(ztxg, file, group, records, name):
+    """How `show` and an import differ on an image that they mount, or what the import leaves, or None."""
+    shown = [f"name {name}", f"group {group}", f"records {records}"]
+    found = run([ztxg, "show", file], seconds=SECONDS).in_lines()
+    if (found.status, [*found.out[:1], *found.out[2:6:3]], found.errors) != (0, shown, []):
+        return f"show: {found}"
+    answers = [f"synced {group + 4} open {group + 5} records {records}", f"name {name}"]
+    if (found := import_file(ztxg, file, ["name"])) != (0, answers, []):
+        return f"import: {found}"
+    left = Image(bytearray(pathlib.Path(file).read_bytes()))
+    if left.configs() != [Config(GUID, group + 4, name.encode())] * 4:
         return "import: the configs"
-    return None
+    active = left.active()
+    return None if (active.group, active.version) == (group + 4, VERSION) else f"import: {active}"
+
+
+def import_file(ztxg, file, lines):
+    """What a script prints that imports the pool in a file, and goes on with these lines."""
+    return run([ztxg, "script", "--file", file, "-"], ["import 1048576", *lines], SECONDS).in_lines()
 
 
 def add_arguments(parser):

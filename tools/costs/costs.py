@@ -14,6 +14,10 @@ refused there, but that pool keeps no log block.
 The rows of a pair differ in one number. Their sums have to be within 10 percent of one another. The status is 1 if
 those of a pair are not, and 2 if a script can't be counted. Other rows are printed alone. The pool of 1 GiB takes some
 minutes.
+
+The table of long plans has the longest of two kinds, each beside one of a sixteenth: creates and removes by turns, of
+200 objects, and one write. How many times as much the longer one takes is printed and not judged. What the session does
+for a commit grows with its plan, so the suspended pool has a transaction of that plan open.
 """
 
 import collections
@@ -23,17 +27,26 @@ import tempfile
 
 from tools import Failed
 from tools.harness.program import add_program, run
-from tools.model.layout import DIRTY_MAX, MIB
-from tools.rows.cost_rows import TABLES
+from tools.model.layout import DIRTY_MAX, MIB, TOP
+from tools.rows.cost_rows import ROUNDS, TABLES, Script
 
 # A line's command was read where the one function returns. One of the others prints its answer.
 READ = "script_lines::command::parse_command*"
 PRINTED = ["core::fmt::formatter::Formatter::pad::*", "core::fmt::tuples::*", "write"]
-# The lines that suspend a pool, and how many lines of a kind are then measured.
-SUSPENDED = ["create tank 77", f"import {DIRTY_MAX}", "fail flush 1", "sync"]
+# The lines that make a pool with an empty group unsynced, that suspend it, and how many lines of a kind are then
+# measured.
+MADE = ["create tank 77", f"import {DIRTY_MAX}", "close", "quiesce"]
+SUSPEND = ["fail flush 1", "start", "finish"]
 REFUSED = 20
 FREE = re.compile(r"free (\d+)")
 MOST_APART = 0.10
+# The longest plans, each with one of a sixteenth; the owner of their locks; and the bytes of a pool that has room for
+# 26,204 blocks.
+Plan = collections.namedtuple("Plan", "shapes bytes")
+PLANS = [(Plan(818, 0), Plan(13_102, 0)), (Plan(1, 4_093), Plan(1, 65_497))]
+PLANS_NAME = "Long plans"
+PLANNER = 3
+PLANS_SIZE = 128 * MIB
 
 
 def fail(reason):
@@ -63,8 +76,8 @@ def count_lines(ztxg, size, lines, folder):
     return answers, totals
 
 
-def count(ztxg, size, made, folder):
-    """The mean of the instructions of the counted lines, by their kinds."""
+def count_kinds(ztxg, size, made, folder):
+    """The mean of the instructions of the counted lines, and these lines, by their kinds."""
     answers, totals = count_lines(ztxg, size, made.lines, folder)
     for line, answer in zip(made.lines, answers):
         if answer.startswith(("refused", "line")):
@@ -77,17 +90,52 @@ def count(ztxg, size, made, folder):
     for at, kind in made.counted.items():
         costs[kind].append(totals[at])
         lines[kind].append(made.lines[at])
-    return {kind: mean(some) - own_cost(ztxg, lines[kind][-REFUSED:], folder) for kind, some in costs.items()}
+    return {kind: (mean(some), lines[kind]) for kind, some in costs.items()}
 
 
-def own_cost(ztxg, lines, folder):
-    """The mean of the instructions of lines that a suspended pool refuses."""
-    _, totals = count_lines(ztxg, 8 * MIB, SUSPENDED + lines, folder)
-    return mean(totals[len(SUSPENDED) :])
+def count(ztxg, size, made, folder):
+    """The mean of the instructions of the counted lines, by their kinds."""
+    kinds = count_kinds(ztxg, size, made, folder).items()
+    return {kind: cost - own_cost(ztxg, 8 * MIB, [], lines[-REFUSED:], folder) for kind, (cost, lines) in kinds}
+
+
+def own_cost(ztxg, size, begun, lines, folder):
+    """The mean of the instructions of lines that a suspended pool refuses. Before it is suspended it gets the lines
+    `begun`."""
+    before = [*MADE, *begun, *SUSPEND]
+    answers, totals = count_lines(ztxg, size, before + lines, folder)
+    if [answer.startswith("refused") for answer in answers[: len(before)]] != [False] * (len(before) - 1) + [True]:
+        fail(f"no pool is suspended: {answers[: len(before)]}"[:1000])
+    return mean(totals[len(before) :])
 
 
 def mean(numbers):
     return sum(numbers) / len(numbers)
+
+
+def count_plan(ztxg, plan, folder):
+    """The instructions of a begin and of a commit of a plan."""
+    objects = range(1 if plan.bytes else 200)
+    turns = (f"c:{at % len(objects)} d:{at % len(objects)}" for at in range(plan.shapes // 2))
+    shapes = f"w:0:0:{plan.bytes}" if plan.bytes else " ".join(turns)
+    contents = f"@{plan.bytes}:x" if plan.bytes else ""
+    made = Script()
+    if plan.bytes:
+        made.create(1)
+    for number in objects:
+        made.lock(PLANNER, number, TOP)
+    for _ in range(ROUNDS):
+        made.transact(PLANNER, shapes, contents)
+        made.count("begin", "commit")
+        made.finish()
+    begin = f"begin {PLANNER} {shapes}"
+    begun = [*(f"lock {PLANNER} {number} w 0 {TOP}" for number in objects), begin]
+    # There the open transaction is the first one.
+    refused = {"begin": begin, "commit": f"commit 0 {contents}".rstrip()}
+    kinds = count_kinds(ztxg, PLANS_SIZE, made, folder).items()
+    return {
+        kind: cost - own_cost(ztxg, PLANS_SIZE, begun, [refused[kind]] * ROUNDS, folder) for kind, (cost, _) in kinds
+    }
 
 
 def head(row, kinds):
@@ -117,6 +165,19 @@ def run_table(ztxg, table, folder):
     return any([judge(name, sums[one], sums[other]) for name, (one, other) in table.pairs.items()])
 
 
+def run_plans(ztxg, folder):
+    """Prints the table of long plans."""
+    kinds = ["begin", "commit"]
+    print(f"{PLANS_NAME}\n{head(PLANS[0][0], kinds + ['all'])}")
+    for pair in PLANS:
+        costs = [count_plan(ztxg, plan, folder) for plan in pair]
+        for plan, cost in zip(pair, costs):
+            numbers = [cost[kind] for kind in kinds]
+            print("".join(f"{number:10.0f}" for number in [*plan, *numbers, sum(numbers)]), flush=True)
+        times = ", ".join(f"{kind} {costs[1][kind] / costs[0][kind]:.1f} times" for kind in kinds)
+        print(f"16 times as much: {times}", flush=True)
+
+
 def add_arguments(parser):
     add_program(parser)
     parser.add_argument("word", metavar="WORD", nargs="?", default="", help="of the tables that are made (all)")
@@ -125,4 +186,8 @@ def add_arguments(parser):
 def main(ztxg, word):
     tables = [table for table in TABLES if word.lower() in table.name.lower()]
     with tempfile.TemporaryDirectory() as folder:
-        return int(any([run_table(ztxg, table, pathlib.Path(folder)) for table in tables]))
+        folder = pathlib.Path(folder)
+        is_apart = any([run_table(ztxg, table, folder) for table in tables])
+        if word.lower() in PLANS_NAME.lower():
+            run_plans(ztxg, folder)
+        return int(is_apart)

@@ -82,9 +82,11 @@ def count_reads(objects, records, entries):
                 shown = {at: bytes_ for at, bytes_ in shown.items() if at[0] != number}
                 dirty = {at for at in dirty if at[0] != number}
             elif kind == "w":
-                for byte in range(place, place + len(content)):
-                    dirty.add((number, byte // RECORD))
-                    shown.get((number, byte // RECORD), set()).discard(byte % RECORD)
+                end = place + len(content)
+                for record in range(place // RECORD, (end - 1) // RECORD + 1):
+                    dirty.add((number, record))
+                    low, high = max(place - RECORD * record, 0), min(end - RECORD * record, RECORD)
+                    shown.get((number, record), set()).difference_update(range(low, high))
             elif kind == "l":
                 dirty = {at for at in dirty if at[0] != number or at[1] * RECORD < place}
                 if place < old:

@@ -21,8 +21,11 @@ NAMED = OBJECTS
 
 # The greatest group, import number and log number.
 LAST = 2**60
-# A log block has so many bytes of records. A log write needs so many available blocks.
-LOG_ROOM, LOG_AVAILABLE = 4_008, 17
+# A log block has so many bytes of records, and one record has at most so many. A log write needs so many available
+# blocks.
+LOG_ROOM, LOG_RECORD_MAX, LOG_AVAILABLE = 4_008, 65_536, 17
+# The version of each uberblock that is written. Those of version 1 are known too.
+VERSION = 2
 # What a block is charged, and the greatest limit of what is charged.
 CHARGE, DIRTY_MAX = BLOCK, 2**40
 

@@ -6,7 +6,19 @@ import re
 import struct
 
 from tools.model.contents import Entry
-from tools.model.layout import CONFIG, LAST, LOG, LOG_ROOM, NAMED, OBJECTS, PAYLOAD, SLOT, TOP
+from tools.model.layout import (
+    CONFIG,
+    LAST,
+    LOG,
+    LOG_RECORD_MAX,
+    LOG_ROOM,
+    NAMED,
+    OBJECTS,
+    PAYLOAD,
+    SLOT,
+    TOP,
+    VERSION,
+)
 
 MAGIC = bytes.fromhex("0cb1ba0000000000")
 
@@ -119,10 +131,10 @@ class Uberblock(
             return None
         read = cls.at(slot)
         is_within = 4 <= read.group <= LAST and read.import_number <= LAST and read.log_number <= LAST
-        return read if read.version == 1 and is_within else None
+        return read if 1 <= read.version <= VERSION and is_within else None
 
 
-def uberblock(group, guid, root=NONE, import_number=0, log_address=0, log_number=0, moment=0, version=1):
+def uberblock(group, guid, root=NONE, import_number=0, log_address=0, log_number=0, moment=0, version=VERSION):
     return Uberblock(group, guid, moment, root, import_number, log_address, log_number, version)
 
 
@@ -145,11 +157,16 @@ def record(group, ordinal, ops, length=None):
     return struct.pack("<I", 4 + len(body) if length is None else length) + body
 
 
-def log_block(guid, group, number, chain, follower, records, used=None):
-    """A log block with the bytes of its records. Its used length may be another one than theirs."""
-    content = b"".join(records)
+def log_block(guid, group, number, chain, follower, content, used=None, kind=LOG):
+    """A log block with these bytes of records. Its used length may be another one than theirs, and its kind another
+    one."""
     used = len(content) if used is None else used
-    return seal(LOG, guid, group, number, numbers(chain, follower, used) + content)
+    return seal(kind, guid, group, number, numbers(chain, follower, used) + content)
+
+
+def parts_of(content):
+    """The parts of a record, one for each log block: each fills its block but the last."""
+    return [content[at : at + LOG_ROOM] for at in range(0, len(content), LOG_ROOM)]
 
 
 class Reader:
@@ -201,18 +218,38 @@ def read_record(content):
     return Entry(group, ops)
 
 
-def read_records(payload, import_number):
-    """The records of a log block's payload and the address of the next block, or None for a payload of another form."""
+# What the payload of a log block says: its chain number, the address of the next block, and its used bytes.
+LogPayload = collections.namedtuple("LogPayload", "chain follower used")
+
+
+def read_log_payload(payload):
+    """What the payload of a log block says, or None for a payload of another form."""
     chain, follower, used = struct.unpack_from("<3Q", payload)
-    if chain != import_number or not 1 <= used <= LOG_ROOM or any(payload[24 + used :]):
+    if not 1 <= used <= LOG_ROOM or any(payload[24 + used :]):
         return None
-    content, entries, at = payload[24 : 24 + used], [], 0
-    while at < used:
-        length = int.from_bytes(content[at : at + 4], "little")
-        if not 22 <= length <= used - at:
+    return LogPayload(chain, follower, bytes(payload[24 : 24 + used]))
+
+
+def length_field(content):
+    """The length that a record says of itself."""
+    return int.from_bytes(content[:4], "little")
+
+
+def read_records(content):
+    """The records that these bytes are, one after another, as entries, or None."""
+    entries, at = [], 0
+    while at < len(content):
+        length = length_field(content[at:])
+        if not 22 <= length <= len(content) - at:
             return None
         entries.append(read_record(content[at + 4 : at + length]))
         if entries[-1] is None:
             return None
         at += length
-    return entries, follower
+    return entries
+
+
+def long_length(used):
+    """The length of the long record whose first part the used bytes of a log block are, or None."""
+    length = length_field(used)
+    return length if len(used) == LOG_ROOM < length <= LOG_RECORD_MAX else None

@@ -19,6 +19,7 @@ from tools.model.layout import (
     INDIRECT,
     LAST,
     LOG,
+    LOG_ROOM,
     POINTERS,
     RECORD,
     ROOT,
@@ -31,7 +32,19 @@ from tools.model.layout import (
     label_places,
     slot_places,
 )
-from tools.model.pool_bytes import MAGIC, Pointer, Uberblock, check_of, number_at, opens, read_config, read_records
+from tools.model.pool_bytes import (
+    MAGIC,
+    Pointer,
+    Uberblock,
+    check_of,
+    long_length,
+    number_at,
+    opens,
+    read_config,
+    read_log_payload,
+    read_record,
+    read_records,
+)
 
 
 class Damaged(Exception):
@@ -176,20 +189,57 @@ class Walk:
         self.records[number] = {index for index, _ in found}
 
 
+# A piece of a log chain: the nodes of its blocks, its entries, and the address of the block after it. It is a block of
+# whole records, or the blocks of one long record.
+Piece = collections.namedtuple("Piece", "nodes entries follower")
+
+
+def log_node(number, address):
+    return Node(LOG, number, address, None, None, None)
+
+
+def read_log_block(image, active, number, address):
+    """What the log block with this number says, or None if there is none at this address."""
+    block = image.block(address) if is_block_address(image.size, address) else None
+    if block is None or not opens(block, LOG, active.guid, number):
+        return None
+    read = read_log_payload(block[64:])
+    return read if read and read.chain == active.import_number else None
+
+
+def read_piece(image, active, number, address):
+    """The piece of the log chain that begins with this block, or None."""
+    first = read_log_block(image, active, number, address)
+    if first is None:
+        return None
+    entries = read_records(first.used)
+    if entries is not None:
+        return Piece([log_node(number, address)], entries, first.follower)
+    length = long_length(first.used) if active.version > 1 else None
+    return read_parts(image, active, number, address, length) if length else None
+
+
+def read_parts(image, active, number, address, length):
+    """The piece of a long record of this length whose first part lies here, or None. Each part but the last fills its
+    block, and the last one is what is left."""
+    nodes, content = [], b""
+    while len(content) < length:
+        part = read_log_block(image, active, number + len(nodes), address)
+        if part is None or len(part.used) != min(length - len(content), LOG_ROOM):
+            return None
+        nodes.append(log_node(number + len(nodes), address))
+        content, address = content + part.used, part.follower
+    entry = read_record(content[4:])
+    return Piece(nodes, [entry], address) if entry else None
+
+
 def read_chain(image, active):
-    """The blocks of the log chain, each with its node and its entries."""
-    address, number, found = active.log_address, active.log_number, []
-    while is_block_address(image.size, address):
-        block = image.block(address)
-        if not opens(block, LOG, active.guid, number):
-            break
-        read = read_records(block[64:], active.import_number)
-        if read is None:
-            break
-        entries, follower = read
-        found.append((Node(LOG, number, address, None, None, None), entries))
-        address, number = follower, number + 1
-    return found
+    """The pieces of the log chain."""
+    number, address, pieces = active.log_number, active.log_address, []
+    while piece := read_piece(image, active, number, address):
+        pieces.append(piece)
+        number, address = number + len(piece.nodes), piece.follower
+    return pieces
 
 
 # What is read of an image: its active uberblock, the name of its pool, the walk of its tree, and its log chain.
@@ -208,15 +258,15 @@ def read_pool(image):
 def mount(found):
     """What a pool that was read mounts. It raises `Damaged` for the first record that can't take place."""
     active, walk, chain = found.uberblock, found.walk, found.chain
-    above = [(node, entry) for node, entries in chain for entry in entries if entry.group > active.group]
+    above = [(piece.nodes[0], entry) for piece in chain for entry in piece.entries if entry.group > active.group]
     objects, entries = walk.objects, [entry for _, entry in above]
-    for node, entry in above:
+    for first, entry in above:
         objects = apply(objects, entry.ops)
         if objects is None:
-            raise Damaged(LOG, node.address)
+            raise Damaged(LOG, first.address)
     name = rename(found.name, entries)
     needed, _ = count_blocks(walk.objects, walk.records, entries)
-    nodes = walk.nodes + [node for node, _ in chain]
+    nodes = walk.nodes + [node for piece in chain for node in piece.nodes]
     return Mount(name, active, block_count(found.image.size), nodes, len(above), objects, needed + 1)
 
 

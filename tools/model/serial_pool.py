@@ -7,6 +7,7 @@ order. What an engine has to answer is taken from here; nothing is taken from a 
 """
 
 import collections
+import copy
 
 from tools.model.charges import count_blocks, count_reads, estimate, record_size, tree_blocks
 from tools.model.contents import Entry, is_cut, rename, replay
@@ -22,8 +23,12 @@ REFUSALS = {"read": "refused 2 Read", "write": "refused 3 Write", "flush": "refu
 # What a synced group left: the pool's name, its objects, and of each the records that are no holes.
 Tree = collections.namedtuple("Tree", "group name objects records")
 
-# A log block: its number in the chain, and the ordinals of the entries whose records it has.
-LogBlock = collections.namedtuple("LogBlock", "number ordinals")
+# A log block: its number in the chain, and the ordinals of the entries whose records begin in it, and of those whose
+# records end in it. A record that is no longer than a block begins and ends in the same one.
+LogBlock = collections.namedtuple("LogBlock", "number begins ends")
+
+# A record that is begun and not whole: the ordinal of its entry, and how many of its bytes are in no block yet.
+Unfinished = collections.namedtuple("Unfinished", "ordinal left")
 
 # A write of a sync or an import: of a block of the tree or a label's config, which tells nothing until an uberblock
 # names it; or of an uberblock.
@@ -64,9 +69,9 @@ class Run:
         self.mounted_name, self.mounted, self.tree, self.open = tree.name, tree.objects, tree, tree.group + 1
         self.entries, self.begun = [], []
         self.sync = None
-        # The log blocks by their numbers; the one that the synced uberblock names, or the next one; and the entry from
-        # which on none is written.
-        self.log, self.header, self.written = [], 0, 0
+        # The log blocks by their numbers; the one that the synced uberblock names, or the next one; the entry from
+        # which on no record is begun; and the record that is begun and not whole, or None.
+        self.log, self.header, self.written, self.unfinished = [], 0, 0, None
         # The log blocks before these numbers are flushed by a log flush, and by any flush.
         self.flushed, self.certain = 0, 0
         self.unflushed = []
@@ -92,23 +97,44 @@ class Run:
         return [entry for entry in self.entries if entry.group == group]
 
     def pending(self):
-        """The ordinals of the entries of unsynced groups whose records are not written."""
+        """The ordinals of the entries of unsynced groups whose records are not begun."""
         return [at for at in range(self.written, len(self.entries)) if self.entries[at].group > self.tree.group]
 
-    def log_write(self, is_refused=False):
-        """The number of records that a log write packs: as many whole ones as fit. It is 0 if none is pending."""
-        room, ordinals = LOG_ROOM, []
+    def log_write_refusal(self):
+        """How a log write is refused, or None. A record that is begun stays pending until it is whole, also if its
+        group is synced."""
+        if not self.unfinished and not self.pending():
+            return "refused 20 NotReady"
+        return None if self.available() >= LOG_AVAILABLE else "refused 23 NoLogSpace"
+
+    def take_records(self):
+        """The next log block, with as many whole pending records as fit, or with the first part of a longer one."""
+        number, room, ordinals = len(self.log), LOG_ROOM, []
         for ordinal in self.pending():
             room -= record_size(self.entries[ordinal])
             if room < 0:
                 break
             ordinals.append(ordinal)
         if ordinals:
-            assert self.available() >= LOG_AVAILABLE
-            self.log.append(LogBlock(len(self.log), ordinals))
             self.written = ordinals[-1] + 1
-            self.unflushed.append(PART if is_refused else self.log[-1])
-        return len(ordinals)
+            return LogBlock(number, ordinals, ordinals)
+        first = self.pending()[0]
+        self.written, self.unfinished = first + 1, Unfinished(first, record_size(self.entries[first]) - LOG_ROOM)
+        return LogBlock(number, [first], [])
+
+    def take_part(self):
+        """The next log block, with the next part of the record that is begun, and nothing else."""
+        ordinal, left = self.unfinished
+        self.unfinished = Unfinished(ordinal, left - LOG_ROOM) if left > LOG_ROOM else None
+        return LogBlock(len(self.log), [], [] if self.unfinished else [ordinal])
+
+    def log_write(self, is_refused=False):
+        """The number of records that a log write finishes, which may be none."""
+        assert self.log_write_refusal() is None
+        block = self.take_part() if self.unfinished else self.take_records()
+        self.log.append(block)
+        self.unflushed.append(PART if is_refused else block)
+        return len(block.ends)
 
     def awaits_flush(self):
         """Whether a log block that is kept was not flushed by a log flush."""
@@ -123,27 +149,28 @@ class Run:
         return True
 
     def is_acknowledged(self, ordinal):
-        in_log = any(ordinal in block.ordinals for block in self.log[: self.flushed])
+        in_log = any(ordinal in block.ends for block in self.log[: self.flushed])
         return in_log or self.entries[ordinal].group <= self.tree.group
 
     def is_durable(self, ordinal, group):
         is_receipt = ordinal < len(self.entries) and self.entries[ordinal].group == group
         return group <= self.tree.group or (is_receipt and self.is_acknowledged(ordinal))
 
+    def is_needed(self, block, group):
+        """Whether a record begins in a log block that is of a group after this one, or isn't whole."""
+        unfinished = self.unfinished and self.unfinished.ordinal
+        return any(self.entries[ordinal].group > group or ordinal == unfinished for ordinal in block.begins)
+
     def start(self):
-        """The sync of the group after the synced one starts. Its header is the first kept log block with a record of a
-        group after its own, or else the next one."""
+        """The sync of the group after the synced one starts. Its header is the first kept log block that is needed
+        after it, or else the next one."""
         group, (_, name, objects, records) = self.tree.group + 1, self.tree
         entries = self.of_group(group)
         blocks, records = count_blocks(objects, records, entries)
         is_named = any(kind == "n" for entry in entries for kind, _, _, _ in entry.ops)
-        reaching = [
-            block.number
-            for block in self.log[self.header :]
-            if any(self.entries[ordinal].group > group for ordinal in block.ordinals)
-        ]
+        needed = [block.number for block in self.log[self.header :] if self.is_needed(block, group)]
         tree = Tree(group, rename(name, entries), replay(objects, entries), records)
-        self.sync = Sync(tree, blocks, [*reaching, len(self.log)][0], is_named)
+        self.sync = Sync(tree, blocks, [*needed, len(self.log)][0], is_named)
 
     def flush(self):
         """A flush of the device."""
@@ -195,15 +222,17 @@ class Run:
         """The image that a crash with these letters leaves; a missing one is `k`.
 
         The synced group's tree is mounted, or that of the running sync if an uberblock of it stands. The chain goes
-        from the tree's header on as long as log blocks stand, and its records of later groups are replayed.
+        from the tree's header on as long as log blocks stand, and up to the last one in which a record ends. Its
+        records of later groups are replayed.
         """
         writes, tree, header = standing(self.unflushed, letters), self.tree, self.header
         if self.sync and (self.sync.is_mounted or UBERBLOCK in writes):
             tree, header = self.sync.tree, self.sync.header
         lost = [block.number for block in self.log[max(header, self.certain) :] if block not in writes]
-        chain = self.log[header : min(lost, default=None)]
-        ordinals = [at for block in chain for at in block.ordinals if self.entries[at].group > tree.group]
-        image = Image(tree, len(chain) + 1, [self.entries[at] for at in ordinals])
+        front = self.log[header : min(lost, default=None)]
+        ordinals = [at for block in front for at in block.ends if self.entries[at].group > tree.group]
+        parts = next((at for at, block in enumerate(reversed(front)) if block.ends), len(front))
+        image = Image(tree, len(front) + 1, [self.entries[at] for at in ordinals], parts)
         is_left = [entry.group <= tree.group or at in ordinals for at, entry in enumerate(self.entries)]
         assert all(is_left[at] for at in range(len(is_left)) if self.is_acknowledged(at))
         assert is_cut(self.entries, is_left)
@@ -214,13 +243,13 @@ class Run:
 
 class Image:
     """What an import finds: the tree of the active group, the places of the log that it reads, and the entries whose
-    records it replays. An import of group u syncs u + 4."""
+    records it replays. So many of the places have parts of a record that isn't whole, which are free for an import. An
+    import of group u syncs u + 4."""
 
-    def __init__(self, tree, places=0, entries=()):
-        self.tree, self.places, self.entries = tree, places, entries
+    def __init__(self, tree, places=0, entries=(), parts=0):
+        self.tree, self.places, self.entries, self.parts = tree, places, entries, parts
         self.name, self.objects = rename(tree.name, entries), replay(tree.objects, entries)
         self.blocks, records = count_blocks(*tree[2:], entries)
-        self.reads = count_reads(*tree[2:], entries)
         self.synced = Tree(tree.group + 4, self.name, self.objects, records)
 
     def calls(self):
@@ -231,7 +260,7 @@ class Image:
         part. The blocks of these entries, a flush; two configs, a flush; four uberblocks, a flush; two configs, and a
         flush.
         """
-        reads = 8 + tree_blocks(*self.tree[2:]) + self.places + self.reads
+        reads = 8 + tree_blocks(*self.tree[2:]) + self.places + count_reads(*self.tree[2:], self.entries)
         labels = [PART] * 2 + ["flush"]
         blocks = [PART] * self.blocks + ["flush"]
         return ["flush"] + ["read"] * reads + blocks + labels + [UBERBLOCK] * 4 + ["flush"] + labels
@@ -244,8 +273,16 @@ class Image:
     def stop(self, stop, letters=""):
         """The image after an import that was stopped and a crash with these letters; a missing one is `k`. The import's
         group is mounted if one of its uberblocks stands. It names a log without a block."""
-        is_synced = stop.is_mounted or UBERBLOCK in standing(stop.unflushed, letters)
-        return Image(self.synced, 1) if is_synced else self
+        if stop.is_mounted or UBERBLOCK in standing(stop.unflushed, letters):
+            return Image(self.synced, 1)
+        return self.without_parts() if stop.has_written else self
+
+    def without_parts(self):
+        """The same image after an import that wrote: it may have written over the parts of a record that isn't whole.
+        So at least its other places of the log are read."""
+        other = copy.copy(self)
+        other.places, other.parts = self.places - self.parts, 0
+        return other
 
 
 def kind_of(call):
@@ -265,4 +302,5 @@ class ImportStop:
         flushes = [at for at, other in enumerate(made) if other == "flush"]
         before = flushes[-1] + 1 if flushes else 0
         self.unflushed = [other for other in made[before:] if other != "read"] + [PART] * (self.kind == "write")
+        self.has_written = "write" in map(kind_of, [*made, call])
         self.is_mounted = UBERBLOCK in made[:before]

@@ -14,7 +14,7 @@ from tools import TOP, Failed
 SOURCES = TOP / "tools/programs"
 # The line of each program in crates.txt.
 PROGRAMS = {
-    "durable_load": "durable_load: anyhow topzerad loads",
+    "durable_load": "durable_load: anyhow topzerad loads rand_pcg",
     "flush_counts": "flush_counts may_wait=9: anyhow topzerad",
     "hash_blocks": "hash_blocks: anyhow topzerad sha2",
     "idle_loops": "idle_loops: anyhow topzerad",

@@ -14,17 +14,29 @@ written when. Nothing is taken from a program.
 """
 
 from tools.rows.bad_rows import bad_lines, silent_lines
-from tools.rows.crash_rows import lost_log_blocks, stopped_imports, stopped_replays, stopped_syncs, syncs_beside_log
+from tools.rows.crash_rows import (
+    lost_log_blocks,
+    lost_parts,
+    stopped_imports,
+    stopped_replays,
+    stopped_replays_of_long_records,
+    stopped_syncs,
+    syncs_beside_log,
+    syncs_beside_long_records,
+)
 from tools.rows.limit_rows import (
     full_log,
+    long_record_without_space,
     longest_object,
     many_locks,
     many_log_blocks,
+    many_names,
     many_objects,
     many_records,
     many_shapes,
     many_words,
     most_objects,
+    most_shapes,
     most_transactions,
     printable_words,
 )
@@ -42,8 +54,11 @@ MADE = [
     many_objects,
     many_records,
     full_log,
+    long_record_without_space,
     many_locks,
     many_shapes,
+    most_shapes,
+    many_names,
     printable_words,
     many_words,
     most_transactions,
@@ -53,8 +68,11 @@ MADE = [
     stopped_syncs,
     stopped_imports,
     lost_log_blocks,
+    lost_parts,
     syncs_beside_log,
+    syncs_beside_long_records,
     stopped_replays,
+    stopped_replays_of_long_records,
     stopped_names,
     stopped_imports_of_names,
     ten_crashes,
@@ -68,4 +86,4 @@ def all_rows():
     yield from rows
     for make in MADE:
         yield from make()
-    yield from stopped_scripts(written["log.rows"], rows)
+    yield from stopped_scripts(written["log.rows"] + written["long_records.rows"], rows)

@@ -4,9 +4,10 @@ A row goes on in one pool. A round is a run that is stopped, the crash, imports 
 shows what it mounts. All answers are those of a plain serial pool (`tools/model/serial_pool.py`).
 """
 
+from tools.model.contents import digest
 from tools.model.layout import MIB, TOP
 from tools.model.serial_pool import LEAST, Image, Run, Tree
-from tools.rows.script_row import Row, all_strings, shape_of
+from tools.rows.script_row import Row, all_strings, shape_of, word_of
 
 OBJECTS = range(4)
 
@@ -59,7 +60,7 @@ class Book(Row):
 
     def commit(self, name, entry):
         ordinal, content = self.run.commit(entry), entry.ops[0][3]
-        self.say(f"commit {name} {content.decode()}".rstrip(), f"entry {ordinal} group {entry.group}")
+        self.say(f"commit {name} {word_of(content)}".rstrip(), f"entry {ordinal} group {entry.group}")
 
     def transact(self, *op):
         """A transaction of one operation, which begins and is committed in the open group."""
@@ -98,8 +99,7 @@ class Book(Row):
         self.say("status", self.run.status())
 
     def log_write(self):
-        records = self.run.log_write()
-        self.say("log-write", f"logged {records}" if records else "refused 20 NotReady")
+        self.say("log-write", self.run.log_write_refusal() or f"logged {self.run.log_write()}")
 
     def log_flush(self):
         self.say("log-flush", "flushed" if self.run.log_flush() else "refused 20 NotReady")
@@ -221,6 +221,14 @@ def stopped_imports():
             yield book
 
 
+def some_strings(count):
+    """Each string over up to three writes. Over more of them those that keep, lose or tear all, or all but one."""
+    if count <= 3:
+        return all_strings(count)
+    odd = ["k" * at + letter + "k" * (count - at - 1) for letter in "lt" for at in range(count)]
+    return [*(letter * count for letter in "klt"), *odd]
+
+
 class LogBook(Book):
     """A row in which the log is used. A round is a text of moves, one character each:
 
@@ -261,7 +269,7 @@ class LogBook(Book):
         }
         for move in moves:
             self.played += 1
-            if move in "123":
+            if move in "12345":
                 self.transact(*self.operation(move))
             elif move == "h":
                 self.held = self.begin(*self.operation(move))
@@ -273,14 +281,37 @@ class LogBook(Book):
             else:
                 calls[move]()
 
-    def crash_after(self, moves):
+    def crash_after(self, moves, strings_of=all_strings):
         """A round of these moves for each string: the crash, and an import."""
         self.play(moves)
-        for number, letters in enumerate(all_strings(len(self.run.unflushed))):
+        for number, letters in enumerate(strings_of(len(self.run.unflushed))):
             if number > 0:
                 self.play(moves)
             self.crash(letters)
             self.mount()
+
+
+class LongBook(LogBook):
+    """A row of the log with long records. Two more moves are
+
+        4, 5       a transaction that writes to object 1, with a record of two parts or three
+
+    What an import mounted is shown by its lengths and its digest."""
+
+    def operation(self, move):
+        lengths = {"4": 5_000, "5": 9_000}
+        if move not in lengths:
+            return super().operation(move)
+        letter = b"%c" % (ord("a") + self.played % 26)
+        return "w", 1, 1 + self.played % 6, letter * lengths[move]
+
+    def look(self):
+        super().look()
+        self.say("digest", f"digest {digest(self.run.mounted_name, self.run.mounted)}")
+
+    def read(self, number):
+        content = self.run.mounted.get(number)
+        self.say(f"length {number}", "refused 9 NoObject" if content is None else f"length {len(content)}")
 
 
 def lost_log_blocks():
@@ -289,6 +320,16 @@ def lost_log_blocks():
         book = LogBook(f"crashes with {count} log blocks that are not flushed")
         writes = ["1w", "3w", "2w", "1w", "2w", "3w"][:count]
         book.crash_after("".join(["13wf", *writes[: count // 2], "cq", *writes[count // 2 :], "d"]))
+        yield book
+
+
+def lost_parts():
+    """A crash with up to four log blocks that are not flushed: three parts of a record, and a short one behind it. Two
+    commits before them are durable."""
+    for count in range(1, 5):
+        book = LongBook(f"crashes with {count} log blocks that are not flushed, and that have a long record")
+        writes = ["5w", "w", "w", "3w"][:count]
+        book.crash_after("".join(["13wf", *writes[:2], "cq", *writes[2:], "d"]))
         yield book
 
 
@@ -307,43 +348,78 @@ BESIDE_SYNCS = [
 ]
 
 
+def crashed_beside(book, before, moves, strings_of):
+    """A row with crashes after each of these moves that is a device call."""
+    book.crash_after(before, strings_of)
+    for at, move in enumerate(moves, 1):
+        if move in ".wf":
+            book.crash_after(before + moves[:at], strings_of)
+    return book
+
+
 def syncs_beside_log():
     """A crash after each device call of a sync, and of the log beside it."""
     for title, before, moves in BESIDE_SYNCS:
-        book = LogBook(f"crashes: {title}")
-        book.crash_after(before)
-        for at, move in enumerate(moves, 1):
-            if move in ".wf":
-                book.crash_after(before + moves[:at])
-        yield book
+        yield crashed_beside(LogBook(f"crashes: {title}"), before, moves, all_strings)
 
 
-def stopped_replays():
-    """An import that replays two records, with the record of a synced group between them, is stopped at each of its
-    calls. One that ends comes after it, and shows the same."""
+# The same with long records. The sync of a group that writes 5,000 bytes to object 1 has five blocks.
+LONG_BESIDE_SYNCS = [
+    ("the parts of a long record are written between the calls of a sync", "3cqs5", ".w.w.w..f..."),
+    # The sync's header is the block of the part that is written. The other part comes between its uberblocks.
+    ("a begun record of the group that is synced", "4wcqs......", ".wf....13wf"),
+    # The other part, and a record behind it, come once the group is synced. The next sync's header is behind both.
+    ("a begun record of a synced group, and a record behind it", "4wcqs..........fd", ".1wwfcqs....."),
+    ("the blocks of a whole long record come back with the last step of a sync", "5wwwc1wqs.......", "..f...di3wf"),
+    ("a long record of the next group is kept from its first block on", "3wc5wwwfqs", "........di1wf"),
+]
 
-    def crashed(book):
-        """The image: a synced group, and two flushed log blocks."""
-        book.play("3cqs.1w.......3wf")
-        book.crash("")
-        return book.image
+
+def syncs_beside_long_records():
+    """A crash after each device call of a sync, and of a long record's parts beside it, with some of the strings."""
+    for title, before, moves in LONG_BESIDE_SYNCS:
+        yield crashed_beside(LongBook(f"crashes: {title}"), before, moves, some_strings)
+
+
+def crashed(book, moves):
+    """The image of a crash after these moves, with nothing unflushed."""
+    book.play(moves)
+    book.crash("")
+    return book.image
+
+
+def stopped_replays_of(make_book, what, moves, strings_of):
+    """Imports of the image that these moves leave, stopped at each of their calls with these strings. One that ends
+    comes after each, and shows the same."""
 
     def stop_each(book, stop):
         """A round for each string: the image, the import that is stopped, and the one after it."""
-        for letters in all_strings(len(stop.unflushed)):
-            assert crashed(book).calls() == calls
+        for letters in strings_of(len(stop.unflushed)):
+            assert crashed(book, moves).calls() == calls
             book.stop_import(stop, letters)
             book.mount()
 
-    image = crashed(LogBook(""))
+    image = crashed(make_book(""), moves)
     calls, stops = image.calls(), image.stops()
-    book = LogBook("imports that replay, stopped at each of their reads")
+    book = make_book(f"{what}, stopped at each of their reads")
     for stop in stops:
         if stop.kind == "read":
             stop_each(book, stop)
     yield book
     for stop in stops:
         if stop.kind != "read":
-            book = LogBook(f"imports that replay, stopped at {stop.kind} {stop.number}")
+            book = make_book(f"{what}, stopped at {stop.kind} {stop.number}")
             stop_each(book, stop)
             yield book
+
+
+def stopped_replays():
+    """Imports that replay two records, with the record of a synced group between them."""
+    return stopped_replays_of(LogBook, "imports that replay", "3cqs.1w.......3wf", all_strings)
+
+
+def stopped_replays_of_long_records():
+    """Imports that replay a long record. It is behind the record of a synced group that was begun before its sync, and
+    before one that is begun and not whole."""
+    moves = "4wcqs..........." + "4www" + "5wwf"
+    return stopped_replays_of(LongBook, "imports that replay a long record", moves, some_strings)

@@ -1,7 +1,8 @@
 """Edits by chance of a pool's image, as a hostile writer makes them.
 
-An edit changes a byte, a field, a pointer, an entry, a record, a whole block, an uberblock or a config. Then the checks
-from there up to the uberblock are made right, so that the change itself is judged and not a check that fails.
+An edit changes a byte, a field, a pointer, an entry, a record, a whole block, an uberblock or a config, or it writes a
+long record. Then the checks from there up to the uberblock are made right, so that the change itself is judged and not
+a check that fails.
 """
 
 from tools.model.layout import (
@@ -16,6 +17,7 @@ from tools.model.layout import (
     LABEL,
     LAST,
     LOG,
+    LOG_RECORD_MAX,
     LOG_ROOM,
     NAMED,
     OBJECTS,
@@ -29,12 +31,27 @@ from tools.model.layout import (
     label_places,
     slot_places,
 )
-from tools.model.pool_bytes import NONE, Uberblock, check_of, config, number_at, numbers, record, sealed_again, sha
+from tools.model.pool_bytes import (
+    MAGIC,
+    NONE,
+    Uberblock,
+    check_of,
+    config,
+    log_block,
+    number_at,
+    numbers,
+    parts_of,
+    record,
+    sealed_again,
+    sha,
+)
 from tools.model.pool_image import Image
 
 # Where the fields of a log block lie in it: the chain number, the next address, the used length, the records.
 CHAIN_AT, NEXT_AT, USED_AT, RECORDS_AT = 64, 72, 80, 88
 LIMITS = [0, 1, 2, 22, LOG_ROOM, LOG_ROOM + 1, RECORD - 1, RECORD, RECORD + 1, TOP - 1, TOP, TOP + 1, OBJECTS, 2**32]
+# Lengths of long records, of which the last one is no record's.
+LONG = [LOG_ROOM + 1, 2 * LOG_ROOM, 2 * LOG_ROOM + 1, LOG_RECORD_MAX, LOG_RECORD_MAX + 1]
 
 
 def replaced(content, at, new):
@@ -55,11 +72,11 @@ class Edits:
 
     def edit(self):
         """One edit, of a kind that the pool has blocks for."""
-        kinds = [self.uberblock, self.slot, self.config, self.configs, self.tear]
+        kinds = [self.uberblock, self.slot, self.age, self.config, self.configs, self.tear]
         if self.some(ROOT):
             kinds += [self.pointer, self.entry, self.byte, self.head, self.data, self.swap] * 2 + [self.move]
         if self.some(LOG):
-            kinds += [self.log, self.records, self.records, self.records]
+            kinds += [self.log, self.records, self.records, self.records, self.long_record, self.long_record]
         kind = self.chance.choice(kinds)
         self.names.append(kind.__name__)
         kind()
@@ -248,9 +265,18 @@ class Edits:
             new = group + SLOTS * self.chance.choice([1, 2, (LAST - group) // SLOTS])
         elif field in ("import_number", "log_number") and self.chance.random() < 0.3:
             new = LAST
+        elif field == "version" and self.chance.random() < 0.5:
+            new = 1
         else:
             new = self.number(getattr(self.active, field))
         self.put_uberblock(lambda read: read._replace(**{field: new}), self.chance.choice([1, 1, 0.5]))
+
+    def age(self):
+        """Each uberblock has version 1, as that of an older program."""
+        for label in label_places(self.size):
+            for place in range(label + ARRAY_AT, label + ARRAY_AT + SLOT * SLOTS, SLOT):
+                if self.image.content[place : place + 8] == MAGIC:
+                    self.image.put(place, Uberblock.at(self.image.slot(place))._replace(version=1).bytes())
 
     def slot(self):
         """A byte of an uberblock, with or without its check, or an uberblock in any slot."""
@@ -298,7 +324,7 @@ class Edits:
         elif at == NEXT_AT:
             block = replaced(block, at, numbers(self.address()))
         elif at == USED_AT:
-            new = self.chance.choice([0, used - 1, used + 1, used + 22, LOG_ROOM, LOG_ROOM + 1, RECORD])
+            new = self.chance.choice([0, used - 1, used + 1, used + 22, LOG_ROOM - 1, LOG_ROOM, LOG_ROOM + 1, RECORD])
             block = replaced(block, at, numbers(new % 2**64))
         else:
             block = self.set_byte(block, self.chance.randrange(CHAIN_AT, RECORDS_AT + 200))
@@ -310,18 +336,63 @@ class Edits:
         block = self.image.block(node.address)
         content = block[RECORDS_AT : RECORDS_AT + min(number_at(block, USED_AT), LOG_ROOM)]
         if content and self.chance.random() < 0.3:
-            content = self.set_byte(content, self.chance.randrange(len(content)))
+            # Often one of the first fields, as the length of a long record.
+            end = self.chance.choice([len(content), min(len(content), 24)])
+            content = self.set_byte(content, self.chance.randrange(end))
         else:
             kept = content if self.chance.random() < 0.5 else b""
             content = (kept + b"".join(self.some_record() for _ in range(self.chance.choice([1, 1, 2, 3]))))[:LOG_ROOM]
         block = block[:USED_AT] + numbers(len(content)) + content
         self.put_block(node.address, block.ljust(BLOCK, b"\0"))
 
-    def some_record(self):
+    def long_record(self):
+        """A long record that begins in a log block. Its other parts lie in the blocks of the chain behind that one, and
+        then in any blocks."""
+        chain = sorted(self.some(LOG), key=lambda node: node.number)
+        at = self.chance.randrange(len(chain))
+        contents = parts_of(self.some_record(self.long_ops()))
+        places = [node.address for node in chain[at : at + len(contents) + 1]]
+        places += [AREA + BLOCK * self.some_block() for _ in range(len(contents) + 1 - len(places))]
+        missing = self.chance.randrange(len(contents)) if self.chance.random() < 0.1 else None
+        for part, content in enumerate(contents):
+            if part != missing:
+                self.image.put(places[part], self.some_part(chain[at].number + part, places[part + 1], content))
+
+    def some_block(self):
+        """The index of a block, mostly one that the pool doesn't have."""
+        used = {(node.address - AREA) // BLOCK for node in self.mount.nodes}
+        found = self.chance.randrange(block_count(self.size))
+        return found if found not in used or self.chance.random() < 0.05 else self.some_block()
+
+    def some_part(self, number, follower, content):
+        """A log block with a part of a record. Sometimes one of its fields is odd."""
+        said = {"guid": self.active.guid, "group": self.active.group, "number": number}
+        said.update(chain=self.active.import_number, follower=follower, content=content)
+        if self.chance.random() < 0.05:
+            odd = self.chance.choice([*said, "used"])
+            said[odd] = self.odd_content(content) if odd == "content" else self.number(said.get(odd, len(content)))
+        return log_block(**said)
+
+    def odd_content(self, content):
+        """The bytes of a part with a byte less or another one, or with a zero or a record behind them."""
+        other = self.set_byte(content, self.chance.randrange(len(content)))
+        odd = [content[:-1], other, content + b"\0", content + record(self.active.group + 1, 0, [self.some_op()])]
+        return self.chance.choice(odd)[:LOG_ROOM]
+
+    def long_ops(self):
+        """The operations of a long record: one write, or many lengths of an object."""
+        number = self.chance.choice([*self.mount.objects, *self.mount.objects, 0, 7])
+        if self.chance.random() < 0.2:
+            lengths = [self.chance.choice([0, 3, RECORD, 9_000]) for _ in range(self.chance.choice([308, 700, 2_000]))]
+            return [("l", number, length, b"") for length in lengths]
+        length = self.chance.choice([*LONG, *[self.chance.randrange(LOG_ROOM + 1, 20_000)] * 7])
+        return [("w", number, self.chance.choice([0, 1, RECORD, 12_000]), b"y" * (length - 39))]
+
+    def some_record(self, ops=None):
         """A record, mostly of a group above the active one; sometimes one of its fields is odd."""
         group = self.active.group + self.chance.choice([0, 1, 1, 2, 3])
-        some = record(group, self.chance.randrange(9), self.some_ops())
-        odd = self.chance.choice([0, 4, 12, 20, len(some) - 1])
+        some = record(group, self.chance.randrange(9), ops or self.some_ops())
+        odd = self.chance.choice([0, 1, 4, 12, 20, len(some) - 1])
         return self.set_byte(some, odd) if self.chance.random() < 0.1 else some
 
     def some_ops(self):

@@ -1,7 +1,7 @@
 """Worked images of a hostile writer, with what `check` has to print of each.
 
 A pool gets two transactions in two groups at once; the older one is synced. Each row makes one edit of its image, with
-every other check made right.
+every other check made right. Those of a log with long records are in `hostile_logs.py`.
 """
 
 from tools.model.layout import (
@@ -15,14 +15,17 @@ from tools.model.layout import (
     NAMED,
     ROOT,
     SLOT,
+    VERSION,
     label_places,
     slot_places,
 )
-from tools.model.pool_bytes import Pointer, check_of, config, log_block, numbers, record, seal, uberblock
+from tools.model.pool_bytes import Pointer, Uberblock, check_of, config, log_block, numbers, record, seal, uberblock
 from tools.model.pool_image import Image
 
 SIZE, GUID, GROUP = 8 * MIB, 77, 9
 LOG_AT, DATA_AT, INDIRECT_AT, DIRECTORY_AT, ROOT_AT = range(AREA, AREA + 5 * BLOCK, BLOCK)
+# Where the blocks of a longer log lie: the first one before the tree, the others behind it.
+CHAIN_AT = [LOG_AT, *range(ROOT_AT + BLOCK, ROOT_AT + 20 * BLOCK, BLOCK)]
 
 # The lines by which a program makes it, after its create.
 SCRIPT = [
@@ -45,13 +48,15 @@ SCRIPT = [
 
 
 class Tank(Image):
-    """The pool after group 9 is synced. Object 1 has the bytes `abcd`, in one block of each kind."""
+    """The pool after group 9 is synced. Object 1 has the bytes `abcd`, in one block of each kind. Its uberblocks have
+    this version."""
 
-    def __init__(self):
+    def __init__(self, version=VERSION):
         super().__init__(bytearray(SIZE))
         self.put_configs(config(GUID, 8, SIZE, b"tank"))
-        self.put_uberblock(uberblock(4, GUID))
-        self.put_uberblock(uberblock(8, GUID, import_number=1, log_address=LOG_AT))
+        self.put_uberblock(uberblock(4, GUID, version=version))
+        self.put_uberblock(uberblock(8, GUID, import_number=1, log_address=LOG_AT, version=version))
+        self.version = version
         self.data = b"abcd"
         self.indirect = lambda data: data.bytes()
         self.length = 4
@@ -71,13 +76,27 @@ class Tank(Image):
         entry = numbers(1, self.length) + self.entry(indirect).bytes()
         directory = self.put_block(DIRECTORY, 0, DIRECTORY_AT, bytes(64) + entry)
         top = self.put_block(ROOT, 0, ROOT_AT, self.root(directory))
-        self.put_uberblock(uberblock(GROUP, GUID, root or top, 1, LOG_AT))
+        self.put_uberblock(uberblock(GROUP, GUID, root or top, 1, LOG_AT, version=self.version))
         return self
 
     def log(self, group=10, length=None, used=None, op=("c", 2, 0, b"")):
         """The first block of the log, which names itself as the next one."""
-        records = [record(group, 0, [op], length)]
-        self.put(LOG_AT, log_block(GUID, 10, 0, 1, LOG_AT, records, used))
+        self.put(LOG_AT, log_block(GUID, 10, 0, 1, LOG_AT, record(group, 0, [op], length), used))
+        return self
+
+    def log_blocks(self, *contents, odd=None, **fields):
+        """A log whose blocks have these bytes of records. The block `odd` has other fields."""
+        for number, content in enumerate(contents):
+            said = {"guid": GUID, "group": 10, "number": number, "chain": 1, "follower": CHAIN_AT[number + 1]}
+            odd_ones = fields if number == odd else {}
+            self.put(CHAIN_AT[number], log_block(**{**said, "content": content, **odd_ones}))
+        return self
+
+    def versions(self, *versions):
+        """The versions of the active uberblock in labels 0 to 3, the last one in all that follow."""
+        for label, place in enumerate(slot_places(SIZE, GROUP)):
+            read = Uberblock.at(self.slot(place))
+            self.put(place, read._replace(version=versions[min(label, len(versions) - 1)]).bytes())
         return self
 
 

@@ -1,7 +1,7 @@
 """Rows with many lines of one kind, and rows at a limit."""
 
 from tools.model.contents import digest
-from tools.model.layout import MIB, TOP
+from tools.model.layout import LABEL, MIB, NAMED, TOP
 from tools.rows.script_row import Row
 
 
@@ -106,21 +106,125 @@ lock 1 1 r 0 4 -> lock 256
     yield row
 
 
+def creates_and_removes(count):
+    """So many shapes, each of five bytes, which are charged two blocks."""
+    return " ".join(["c:1 d:1"] * (count // 2) + ["c:1"] * (count % 2))
+
+
 def many_shapes():
-    """A transaction has at most so many bytes: 797 creations and removals fit, and one more does not. They are charged
-    more blocks than a pool of 8 MiB has, and more than a limit of 1 MiB of dirty bytes allows."""
+    """A transaction has a record of at most 65,536 bytes. The record of 13,102 creations and removals has 65,532, and
+    they are charged 26,204 blocks. A pool of 8 MiB has fewer, and a limit of 1 MiB of dirty bytes allows fewer."""
+    charge = 4_096 * 26_204
     for shapes, limit, refusal in [
         (797, 16 * MIB, "refused 16 NoSpace"),
         (797, MIB, "refused 17 Throttled"),
-        (798, MIB, "refused 18 TooLarge"),
-        (5_000, MIB, "refused 18 TooLarge"),
+        (798, MIB, "refused 17 Throttled"),
+        (13_102, charge, "refused 16 NoSpace"),
+        (13_102, charge - 1, "refused 17 Throttled"),
+        (13_103, charge, "refused 18 TooLarge"),
+        (20_000, MIB, "refused 18 TooLarge"),
     ]:
         row = Row(f"a plan of {shapes} shapes and a limit of {limit} dirty bytes: {refusal}")
         row.say("create tank 77", "ok")
         row.say(f"import {limit}", "synced 8 open 9 records 0")
         row.say(f"lock 1 1 w 0 {TOP}", "lock 0")
-        row.say("begin 1 " + " ".join(["c:1 d:1"] * (shapes // 2) + ["c:1"] * (shapes % 2)), refusal)
+        row.say(f"begin 1 {creates_and_removes(shapes)}", refusal)
         yield row
+
+
+def many_parts(row, count):
+    """So many parts of a record, the last of them too."""
+    for _ in range(count - 1):
+        row.say("log-write", "logged 0")
+    row.say("log-write", "logged 1")
+
+
+def most_shapes():
+    """The most creations and removals are charged 26,204 blocks, of 26,239 that are free. Their record has 17 parts."""
+    row = Row("the most creations and removals of a transaction", 428 * LABEL)
+    row.say("create tank 77", "ok")
+    row.say(f"import {128 * MIB}", "synced 8 open 9 records 0")
+    row.say(f"lock 1 1 w 0 {TOP}", "lock 0")
+    row.say(f"begin 1 {creates_and_removes(13_102)}", "tx 0 group 9")
+    row.say("status", "synced 8 syncing - middle - open 9 dirty 107331584 free 26239 available 35")
+    row.say("commit 0", "entry 0 group 9")
+    many_parts(row, 17)
+    row.say_all("""
+status -> synced 8 syncing - middle - open 9 dirty 107331584 free 26222 available 18
+log-flush -> flushed
+durable 0 9 -> durable yes
+length 1 -> refused 9 NoObject
+crash -> crashed 0
+import 1048576 -> synced 12 open 13 records 1
+length 1 -> refused 9 NoObject
+status -> synced 12 syncing - middle - open 13 dirty 0 free 26239 available 26239
+""")
+    yield row
+
+
+def many_names():
+    """A name of 64 bytes has 69 bytes of a record, and is charged one block. The record of 949 names has 65,503 bytes,
+    which are 17 parts, and that of 950 would have 65,572."""
+    row = Row("949 names in one transaction, the most of 64 bytes", 16 * MIB)
+    words = [letter * 64 for letter in "ab" * 474 + "c"]
+    row.say("create tank 77", "ok")
+    row.say(f"import {16 * MIB}", "synced 8 open 9 records 0")
+    row.say(f"lock 1 {NAMED} w 0 {TOP}", "lock 0")
+    row.say("begin 1" + " n:64" * 950, "refused 18 TooLarge")
+    row.say("begin 1" + " n:64" * 949, "tx 0 group 9")
+    row.say("status", "synced 8 syncing - middle - open 9 dirty 3887104 free 2943 available 1994")
+    row.say(f"commit 0 {' '.join(words)}", "entry 0 group 9")
+    many_parts(row, 17)
+    row.say_all(f"""
+log-flush -> flushed
+crash -> crashed 0
+import 1048576 -> synced 12 open 13 records 1
+name -> name {"c" * 64}
+""")
+    yield row
+
+
+def long_record_without_space():
+    """On 6 MiB 383 blocks are free. A creation and a write of 40,000 bytes are charged 15 blocks, and 87 writes four
+    each. The record of 40,039 bytes has ten parts. Its fourth one is written with 17 blocks that are available, and the
+    fifth one is refused. After a sync it is written."""
+    row = Row("a log write of the next part needs blocks that are available, and goes on after a sync", 6 * MIB)
+    row.say_all("""
+create tank 77 -> ok
+import 4194304 -> synced 8 open 9 records 0
+lock 1 1 w 0 338688 -> lock 0
+begin 1 c:1 -> tx 0 group 9
+commit 0 -> entry 0 group 9
+begin 1 w:1:0:40000 -> tx 1 group 9
+commit 1 @40000:a -> entry 1 group 9
+log-write -> logged 1
+log-write -> logged 0
+""")
+    for number in range(2, 89):
+        row.say("begin 1 w:1:0:4", f"tx {number} group 9")
+        row.say(f"commit {number} bbbb", f"entry {number} group 9")
+    row.say_all("""
+status -> synced 8 syncing - middle - open 9 dirty 1486848 free 381 available 18
+log-write -> logged 0
+status -> synced 8 syncing - middle - open 9 dirty 1486848 free 380 available 17
+log-write -> logged 0
+log-write -> refused 23 NoLogSpace
+log-flush -> flushed
+durable 1 9 -> durable no
+close -> open 10
+quiesce -> quiesced 9
+start -> syncing 9
+finish -> synced 9
+status -> synced 9 syncing - middle - open 10 dirty 0 free 367 available 367
+durable 1 9 -> durable yes
+log-write -> logged 0
+status -> synced 9 syncing - middle - open 10 dirty 0 free 366 available 366
+log-write -> logged 0
+crash -> crashed 2
+import 4194304 -> synced 13 open 14 records 0
+length 1 -> length 40000
+""")
+    yield row
 
 
 def printable_words():
@@ -145,16 +249,19 @@ read 1 1 0 5 -> bytes 5 4040404025
 
 
 def many_words():
-    """A transaction of 221 writes of a byte each has 4,005 bytes of the 4,008 that it may have."""
-    content = "".join(chr(ord("a") + number % 26) for number in range(221))
-    row = Row("a commit of 221 words", 16 * MIB)
-    row.say("create tank 77", "ok")
-    row.say(f"import {16 * MIB}", "synced 8 open 9 records 0")
-    row.say(f"lock 1 1 w 0 {TOP}", "lock 0")
-    row.say("begin 1 c:1 " + " ".join(f"w:1:{number}:1" for number in range(221)), "tx 0 group 9")
-    row.say("commit 0 " + " ".join(content), "entry 0 group 9")
-    row.say(f"read 1 1 0 {TOP}", f"bytes 221 {content.encode().hex()}")
-    yield row
+    """A transaction of a creation and 221 writes of a byte each has a record of 4,005 bytes, which is a log block. With
+    222 writes it has 4,023 bytes, which are two."""
+    for count, parts in [(221, 1), (222, 2)]:
+        content = "".join(chr(ord("a") + number % 26) for number in range(count))
+        row = Row(f"a commit of {count} words", 16 * MIB)
+        row.say("create tank 77", "ok")
+        row.say(f"import {16 * MIB}", "synced 8 open 9 records 0")
+        row.say(f"lock 1 1 w 0 {TOP}", "lock 0")
+        row.say("begin 1 c:1 " + " ".join(f"w:1:{number}:1" for number in range(count)), "tx 0 group 9")
+        row.say("commit 0 " + " ".join(content), "entry 0 group 9")
+        row.say(f"read 1 1 0 {TOP}", f"bytes {count} {content.encode().hex()}")
+        many_parts(row, parts)
+        yield row
 
 
 def most_transactions():

@@ -47,6 +47,12 @@ def shape_of(op):
     return f"{kind}:{number}" + {"w": f":{place}:{len(content)}", "l": f":{place}"}.get(kind, "")
 
 
+def word_of(content):
+    """The word of a commit that gives these bytes: many copies of a character are counted."""
+    text = content.decode()
+    return f"@{len(text)}:{text[0]}" if len(text) > 64 and len(set(text)) == 1 else text
+
+
 def all_strings(count):
     """Each string of kept, lost and torn writes over so many unflushed writes."""
     return ["".join(letters) for letters in itertools.product("klt", repeat=count)]

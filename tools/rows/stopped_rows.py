@@ -160,7 +160,7 @@ class Script(Rounds):
             pool.stop_import(stop, letters)
             pool.said[pool.said.index((IMPORT, stop.refusal))] = (line, stop.refusal)
             self.counts["imports refused in a script"] += 1
-            if pool.image is before.image:
+            if pool.image.tree is before.image.tree:
                 yield [*pool.said, (line, answer), *rest]
             else:
                 pool.remount(self.numbers)

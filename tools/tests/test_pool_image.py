@@ -1,14 +1,19 @@
+import hashlib
+import random
 import unittest
 
 from tools.checks.hostile import Expected
 from tools.model.layout import DATA, DIRECTORY, INDIRECT, ROOT
 from tools.model.pool_image import mount, read_pool, show_lines
-from tools.rows.hostile_images import ROWS, Tank
+from tools.rows import hostile_images, hostile_logs
+from tools.rows.hostile_edits import Edits
+from tools.rows.hostile_images import Tank
+from tools.rows.hostile_logs import LONG, PARTS, SECOND, THIRD
 
 
 class Images(unittest.TestCase):
     def test_worked_images_are_judged_as_they_say(self):
-        for title, make, line, *names in ROWS:
+        for title, make, line, *names in hostile_images.ROWS + hostile_logs.ROWS:
             expected = Expected(make())
             self.assertEqual(expected.check().out, [line], title)
             if expected.is_whole:
@@ -23,3 +28,31 @@ class Images(unittest.TestCase):
     def test_what_show_prints(self):
         wanted = ["name tank", "guid 77", "group 9", "import 1", "blocks 896 used 4", "records 0", "objects 1", "1 4"]
         self.assertEqual(show_lines(mount(read_pool(Tank()))), wanted)
+
+    def test_the_pool_of_version_1(self):
+        """The sum is that of the file that a program of version 1 made by the same script."""
+        checksum = "b1eea58176b5353f05443cc3f49f05b5018642ae604881fbadde2040595bf53e"
+        self.assertEqual(hashlib.sha256(Tank(version=1).content).hexdigest(), checksum)
+
+    def test_the_blocks_of_a_long_record_are_used_if_it_is_whole(self):
+        """Beside the four blocks of the tree."""
+        logs = {(SECOND, *PARTS, THIRD): 5, (SECOND, *PARTS[:2]): 1, (SECOND, *PARTS[:1], THIRD): 1, tuple(PARTS): 3}
+        for contents, blocks in logs.items():
+            lines = show_lines(mount(read_pool(Tank().log_blocks(*contents))))
+            self.assertIn(f"blocks 896 used {4 + blocks}", lines)
+
+    def test_a_long_record_is_replayed(self):
+        objects = mount(read_pool(Tank().log_blocks(*PARTS))).objects
+        self.assertEqual(objects, {1: LONG[39:]})
+
+    def test_edits_by_chance_are_judged(self):
+        """Each edit of a log with long records, and what comes of it."""
+        tank = Tank().log_blocks(SECOND, *PARTS, THIRD)
+        before, kinds, names = mount(read_pool(tank)), set(), set()
+        for at in range(300):
+            edits = Edits(random.Random(at), tank.content, before)
+            edits.edit()
+            names.update(edits.names)
+            kinds.update(Expected(edits.image).kinds())
+        self.assertLessEqual({"age", "long_record", "log", "move", "records", "tear", "uberblock"}, names)
+        self.assertLessEqual({"clean", "clean, with records", "7 Damaged 6", "7 Damaged 3"}, kinds)

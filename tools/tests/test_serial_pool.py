@@ -4,9 +4,9 @@ from tools.model.charges import estimate
 from tools.model.contents import Entry, conflict, digest, is_cut
 from tools.model.formats import table
 from tools.model.layout import CHARGE, TOP
-from tools.model.serial_pool import REFUSALS
+from tools.model.serial_pool import REFUSALS, Run, Tree
 from tools.rows.followed_pool import Pool
-from tools.rows.script_row import Row, rows_with
+from tools.rows.script_row import Row, all_strings, rows_with
 from tools.rows.stopped_rows import Script, is_whole
 
 ASKED = {"status", "name", "digest", "length", "durable", "read"}
@@ -34,6 +34,11 @@ def answer_of(pool, line):
     return f"bytes {len(content)} {content.hex()}".rstrip()
 
 
+def refused_or_word(answer):
+    """A refusal, or the first word of another answer."""
+    return answer if answer.startswith("refused") else answer.split()[0]
+
+
 class Rows(unittest.TestCase):
     """Scripts whose answers were written by hand, followed by a serial pool. It refuses an answer of a commit, an
     import, a sync, the log or a crash that isn't its own."""
@@ -46,6 +51,8 @@ class Rows(unittest.TestCase):
             if line.split()[0] in ASKED and is_told:
                 asked += 1
                 self.assertEqual(answer_of(pool, line), answer, (row.head, line))
+            if line == "log-write":
+                self.assertEqual(pool.run.log_write_refusal() or "logged", refused_or_word(answer), (row.head, line))
             pool.follow(line, answer)
             if line == "step" and not answer.startswith("refused"):
                 asked += 1
@@ -71,6 +78,77 @@ class Rows(unittest.TestCase):
             for _, answer in row.lines:
                 if (answer or "").startswith("refused"):
                     self.assertIn(" ".join(answer.split()[:3]), named | {"refused 7 Damaged"}, row.head)
+
+
+class LongRecords(unittest.TestCase):
+    """A pool with object 1, whose record is in the first log block, and a commit with a record of four parts."""
+
+    def setUp(self):
+        self.run = Run(Tree(8, b"tank", {}, {}))
+        self.commit("c", 1, 0, b"")
+        self.run.log_write()
+        self.commit("w", 1, 0, b"a" * 12_000)
+
+    def commit(self, *op):
+        self.run.commit(self.run.begin([op]))
+
+    def sync(self):
+        self.run.open += 1
+        self.run.start()
+        while not self.run.step():
+            pass
+
+    def test_each_part_is_a_log_write(self):
+        self.commit("d", 1, 0, b"")
+        self.assertEqual([self.run.log_write() for _ in range(5)], [0, 0, 0, 1, 1])
+        self.assertEqual(self.run.log_write_refusal(), "refused 20 NotReady")
+        blocks = [(block.begins, block.ends) for block in self.run.log]
+        self.assertEqual(blocks, [([0], [0]), ([1], []), ([], []), ([], []), ([], [1]), ([2], [2])])
+
+    def test_durable_once_the_last_part_is_flushed(self):
+        for parts in range(5):
+            self.assertEqual(self.run.is_durable(1, 9), False)
+            self.assertEqual(self.run.log_flush(), True)
+            self.assertEqual(self.run.is_durable(1, 9), parts == 4)
+            if parts < 4:
+                self.run.log_write()
+
+    def test_all_parts_stand_or_the_record_is_gone(self):
+        for _ in range(4):
+            self.run.log_write()
+        for letters in all_strings(5):
+            image = self.run.crash(letters)
+            stand = (letters + "l").replace("t", "l").index("l")
+            self.assertEqual(len(image.entries), (0 if stand == 0 else 2 if stand == 5 else 1), letters)
+            self.assertEqual((image.places, image.parts), (stand + 1, stand - 1 if 0 < stand < 5 else 0), letters)
+
+    def test_a_part_that_is_refused(self):
+        self.run.log_write()
+        self.run.log_write(is_refused=True)
+        for letters, entries in {"kkk": 1, "kkt": 1, "kll": 1, "lkk": 0}.items():
+            self.assertEqual(len(self.run.crash(letters).entries), entries, letters)
+
+    def test_a_begun_record_is_kept_over_syncs(self):
+        self.run.log_write()
+        free = []
+        for _ in range(3):
+            self.sync()
+            free.append(self.run.free())
+            self.assertEqual((self.run.header, self.run.log_write_refusal()), (1, None))
+            self.assertEqual(self.run.log_write(), len(free) // 3)
+        # The tree has six blocks, and the next log block is taken.
+        self.assertEqual(free, [384 - 6 - 1 - parts for parts in (1, 2, 3)])
+        self.sync()
+        self.assertEqual((self.run.header, self.run.free()), (5, 384 - 6 - 1))
+
+    def test_an_import_may_write_over_parts(self):
+        self.run.log_write()
+        image = self.run.crash()
+        stops = {(stop.kind, stop.number): stop for stop in image.stops()}
+        self.assertEqual((image.places, image.parts), (3, 1))
+        self.assertIs(image.stop(stops["read", 9]), image)
+        after = image.stop(stops["write", 1])
+        self.assertEqual((after.places, after.parts, after.tree), (2, 0, image.tree))
 
 
 class Charges(unittest.TestCase):
