@@ -1,7 +1,7 @@
 /*
  * A plain log: one thread appends records and syncs the file. It keeps nothing else, so nothing that writes a log can
  * do less. A record has the form and so the size of one in the pool's intent log (docs/FORMATS.md): a head of 22
- * bytes, the 17 of a write, and its bytes.
+ * bytes, the 17 of a write, and its bytes. It lies in the file whole, whatever its size.
  *
  * Variant `grown`: the file grows with each append, so a sync also makes its new length durable. Variant `filled`: the
  * file was filled with zeros before, as a pool's file is, and is written from its start on.
@@ -11,9 +11,10 @@
 
 #include <errno.h>
 #include <fcntl.h>
-#include <stdio.h>
 #include <stdlib.h>
 #include <string.h>
+#include <sys/mman.h>
+#include <sys/stat.h>
 #include <unistd.h>
 
 enum { GROWN, FILLED };
@@ -61,11 +62,11 @@ static uint64_t number_at(const uint8_t *from, int bytes) {
     return number;
 }
 
-void store_prepare(unsigned variant, const char *path, uint64_t commits) {
+void store_prepare(unsigned variant, const char *path, uint64_t commits, uint32_t longest) {
     static const uint8_t zeros[4096];
     int file = open_file(path, O_WRONLY | O_CREAT | O_EXCL);
     if (variant == FILLED)
-        for (uint64_t done = 0; done < commits * LONGEST_RECORD; done += sizeof zeros)
+        for (uint64_t done = 0; done < commits * (HEAD + OP + longest); done += sizeof zeros)
             write_whole(file, zeros, sizeof zeros);
     sync_file(file);
     close(file);
@@ -113,28 +114,41 @@ void session_put(struct session *session, uint32_t object, uint64_t offset, cons
     store->is_synced = is_durable;
 }
 
+/* The bytes of a file. They stay until the program ends. */
+static const uint8_t *map_file(const char *path, size_t *size) {
+    int file = open_file(path, O_RDONLY);
+    struct stat found;
+    if (fstat(file, &found) != 0)
+        die("%s: %s", path, strerror(errno));
+    *size = (size_t)found.st_size;
+    void *bytes = *size == 0 ? NULL : mmap(NULL, *size, PROT_READ, MAP_PRIVATE, file, 0);
+    if (bytes == MAP_FAILED)
+        die("%s: %s", path, strerror(errno));
+    close(file);
+    return bytes;
+}
+
 /* A log has each write, so only the last one of an offset is handed out. */
 void store_read(unsigned variant, const char *path, write_reader reader, void *context) {
     (void)variant;
-    FILE *file = fdopen(open_file(path, O_RDONLY), "rb");
-    uint8_t(*last)[OFFSETS][OP + LONGEST] = need(OBJECTS * sizeof *last);
-    uint8_t record[LONGEST_RECORD];
-    if (file == NULL)
-        die("%s: %s", path, strerror(errno));
-    while (fread(record, 1, HEAD + OP, file) == HEAD + OP && number_at(record, 4) != 0) {
-        uint64_t object = number_at(record + HEAD + 1, 4);
-        uint64_t offset = number_at(record + HEAD + 5, 8);
-        uint64_t length = number_at(record + HEAD + 13, 4);
-        if (object >= OBJECTS || offset >= OFFSETS || length > LONGEST ||
-            fread(record + HEAD + OP, 1, length, file) != length)
+    size_t left;
+    const uint8_t *record = map_file(path, &left);
+    const uint8_t *(*last)[OBJECT_BYTES] = need(OBJECTS * sizeof *last);
+    while (left >= HEAD + OP && number_at(record, 4) != 0) {
+        const uint8_t *op = record + HEAD;
+        uint64_t object = number_at(op + 1, 4);
+        uint64_t offset = number_at(op + 5, 8);
+        uint64_t length = number_at(op + 13, 4);
+        if (object >= OBJECTS || offset >= OBJECT_BYTES || length > left - HEAD - OP)
             die("log: a record that no stream writes");
-        memcpy(last[object][offset], record + HEAD, OP + length);
+        last[object][offset] = op;
+        record += HEAD + OP + length;
+        left -= HEAD + OP + length;
     }
-    fclose(file);
     for (uint32_t object = 0; object < OBJECTS; object++)
-        for (uint32_t offset = 0; offset < OFFSETS; offset++) {
+        for (uint32_t offset = 0; offset < OBJECT_BYTES; offset++) {
             const uint8_t *op = last[object][offset];
-            if (op[0] == WRITE_TAG)
+            if (op != NULL)
                 reader(context, object, offset, op + OP, number_at(op + 13, 4));
         }
     free(last);

@@ -1,6 +1,6 @@
 /*
  * What a peer of the benchmark provides: a store in which each write is a transaction of its own. One program is
- * linked from peer.c and one file that defines these.
+ * linked from peer.c, stream.c and one file that defines these.
  */
 #ifndef BENCH_PEER_H
 #define BENCH_PEER_H
@@ -18,8 +18,8 @@ extern const char *const variants[];
 /* The highest number of threads that a run may have. */
 extern const uint32_t most_workers;
 
-/* Makes an empty store for `commits` writes at a path where there is nothing. */
-void store_prepare(unsigned variant, const char *path, uint64_t commits);
+/* Makes an empty store for `commits` writes of at most `longest` bytes, at a path where there is nothing. */
+void store_prepare(unsigned variant, const char *path, uint64_t commits, uint32_t longest);
 
 struct store *store_open(unsigned variant, const char *path);
 

@@ -45,8 +45,8 @@ static struct store *open_database(const char *path, bool is_new) {
     return store;
 }
 
-void store_prepare(unsigned variant, const char *path, uint64_t commits) {
-    (void)variant, (void)commits;
+void store_prepare(unsigned variant, const char *path, uint64_t commits, uint32_t longest) {
+    (void)variant, (void)commits, (void)longest;
     store_close(open_database(path, true));
 }
 

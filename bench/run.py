@@ -1,5 +1,5 @@
 #!/usr/bin/env python3
-"""Times `ztxg load` beside SQLite, RocksDB and a plain log that make the same writes, and prints ratios.
+"""Times `ztxg` beside SQLite, RocksDB and a plain log that make the same writes, and prints ratios.
 
     make -C bench
     python3 tools build_program durable_load bench/out/durable_load
@@ -22,20 +22,26 @@ import subprocess
 import sys
 import tempfile
 import time
-from dataclasses import dataclass, field
+from dataclasses import dataclass, field, replace
 
 HERE = pathlib.Path(__file__).resolve().parent
 PEERS = HERE / "out"
 
 STREAMS = 16
-# `load` makes so many transactions before its streams begin.
-FIRST_COMMITS = 17
+# `ztxg load` makes so many transactions before its streams begin, and `durable_load` with large writes makes one.
+FIRST_SMALL, FIRST_LARGE = 17, 1
 POOL = "tank"
 GUID = "77"
 
 MIB = 2**20
 DEFAULT_DIRTY = MIB
 EACH, EIGHTH = "each", "eighth"
+
+# The bytes of a write, if it is large. Small ones are those of `ztxg load`.
+SMALL = None
+LARGE = {4096: "4 KiB", 65_000: "64 KiB"}
+# The most bytes that one write of a pool can have.
+LONGEST = 65_497
 
 # Goals are of the better of the stores, if both sides flush alike. The first are by dirty limit and workers.
 LIKE_GOALS = {
@@ -60,15 +66,22 @@ class Failure(Exception):
 
 @dataclass(frozen=True)
 class Load:
-    """The writes: `ops` of each of the 16 streams, whose streams `workers` threads share."""
+    """The writes: `ops` of each of the 16 streams, whose streams `workers` threads share. Each has `length` bytes,
+    unless they are small."""
 
     workers: int
     ops: int
     seed: int
+    length: int | None = SMALL
 
     @property
     def commits(self):
         return STREAMS * self.ops
+
+    @property
+    def words(self):
+        """The words by which the peers name the writes."""
+        return ["small" if self.length is SMALL else self.length, self.ops, self.seed]
 
 
 @dataclass(frozen=True)
@@ -98,8 +111,9 @@ def numbers_of(output):
 
 @dataclass(frozen=True)
 class Ztxg:
-    """`ztxg load` at one dirty limit, on a new pool. With `durable`, that program makes the load in its place: each
-    commit is durable then, and not only each eighth one of a stream. With `is_before` it is an earlier build."""
+    """`ztxg load` at one dirty limit, on a new pool. With `durable`, that program makes the writes in its place: each
+    commit is durable then, and not only each eighth one of a stream. Only that program makes large writes. With
+    `is_before` it is an earlier build."""
 
     program: pathlib.Path
     dirty: int
@@ -122,13 +136,15 @@ class Ztxg:
 
     def command(self, path, load):
         if self.durable is not None:
-            return [self.durable, path, load.workers, load.ops, load.seed, self.dirty]
+            length = [] if load.length is SMALL else [load.length]
+            return [self.durable, path, load.workers, load.ops, load.seed, self.dirty, *length]
         numbers = ["--workers", load.workers, "--ops", load.ops, "--seed", load.seed, "--dirty", self.dirty]
         return [self.program, "load", path, *numbers]
 
     def flushes(self, output, load):
         """None: `load` prints no such count."""
-        right = f"committed {FIRST_COMMITS + load.commits}\ndigest {digest(load.ops, load.seed)}\n"
+        first = FIRST_SMALL if load.length is SMALL else FIRST_LARGE
+        right = f"committed {first + load.commits}\ndigest {digest(load)}\n"
         if output.decode() != right:
             raise Failure(f"{self.name} printed {output.decode()!r}, not {right!r}")
         return None
@@ -156,10 +172,10 @@ class Peer:
         return f"{self.program.name}{variant}"
 
     def prepare(self, path, load):
-        call([self.program, "prepare", self.variant, path, load.ops])
+        call([self.program, "prepare", self.variant, path, *load.words])
 
     def command(self, path, load):
-        return [self.program, "run", self.variant, path, load.ops, load.seed, load.workers, self.flush]
+        return [self.program, "run", self.variant, path, *load.words, load.workers, self.flush]
 
     def flushes(self, output, load):
         told = numbers_of(output)
@@ -168,22 +184,37 @@ class Peer:
         return told["flushes"]
 
     def check(self, path, load):
-        call([self.program, "check", self.variant, path, load.ops, load.seed])
+        call([self.program, "check", self.variant, path, *load.words])
 
 
 _digests = {}
 
 
-def digest(ops, seed):
+def digest(load):
     """The digest of a pool that was empty and then loaded."""
-    if (ops, seed) not in _digests:
-        contents = call([PEERS / "log", "contents", POOL, ops, seed])
-        _digests[ops, seed] = hashlib.sha256(contents).hexdigest()
-    return _digests[ops, seed]
+    words = tuple(load.words)
+    if words not in _digests:
+        contents = call([PEERS / "log", "contents", POOL, *words])
+        _digests[words] = hashlib.sha256(contents).hexdigest()
+    return _digests[words]
 
 
 def limit_name(dirty):
     return f"{dirty // MIB} MiB" if dirty % MIB == 0 else f"{dirty} B"
+
+
+def length_name(length):
+    if length is SMALL:
+        return "small"
+    return LARGE.get(length, f"{length:,} bytes")
+
+
+def writes_name(length):
+    """The name with the number of bytes."""
+    if length is SMALL:
+        return "small writes"
+    number = f" ({length:,} bytes)" if length in LARGE else ""
+    return f"writes of {length_name(length)}{number}"
 
 
 def measure(contestant, load, folder):
@@ -204,7 +235,7 @@ def measure(contestant, load, folder):
 
 @dataclass
 class Race:
-    """The runs at one number of workers: by contestant, one for each round, and one with no writes."""
+    """The runs of one load: by contestant, one for each round, and one with no writes."""
 
     load: Load
     contestants: list
@@ -246,7 +277,7 @@ def race(contestants, load, rounds, folder, note):
     result = Race(load, contestants)
     for contestant in contestants:
         result.runs[contestant] = []
-        result.empty[contestant] = measure(contestant, Load(load.workers, 0, load.seed), folder)
+        result.empty[contestant] = measure(contestant, replace(load, ops=0), folder)
         note(None, contestant, result.empty[contestant])
     for number in range(rounds):
         for contestant in in_turn(contestants, number):
@@ -295,19 +326,18 @@ def goal_cell(ratios, goal):
 
 def goal_of(table, result, ztxg):
     """The goal of a cell, or None."""
-    if table.ours != table.theirs:
+    if not table.has_goals:
         return None
     return DURABLE_GOAL if table.ours == EACH else LIKE_GOALS.get((ztxg.dirty, result.load.workers))
 
 
 def ratio_rows(races, table):
     """For each race and each dirty limit the ratios to each store and to the better of them."""
-    races = [result for result in races if result.ztxgs(table.ours)]
+    races = [result for result in races if table.shows(result)]
     stores = list(dict.fromkeys(peer.store for result in races for peer in result.peers(table.theirs, is_log=False)))
     if not stores:
         return
-    has_goal = table.ours == table.theirs
-    yield ["workers, limit", *stores, "better of them", *(["goal"] if has_goal else [])]
+    yield ["workers, limit", *stores, "better of them", *(["goal"] if table.has_goals else [])]
     for result in races:
         by_store = {peer.store: peer for peer in result.peers(table.theirs, is_log=False)}
         better = result.better(table.theirs)
@@ -316,7 +346,7 @@ def ratio_rows(races, table):
             ratios = result.ratios(better, ztxg)
             goal = goal_of(table, result, ztxg)
             row = [f"{result.load.workers}, {limit_name(ztxg.dirty)}", *cells, f"{ratio_cell(ratios)} {better.store}"]
-            if has_goal:
+            if table.has_goals:
                 row.append("-" if goal is None else goal_cell(ratios, goal))
             yield row
 
@@ -335,7 +365,7 @@ def before_rows(races):
 def log_rows(result, table):
     """At one worker, the ratios to the plain logs."""
     logs = result.peers(table.theirs, is_log=True)
-    if not logs or not result.ztxgs(table.ours):
+    if not logs or not table.shows(result):
         return
     yield ["workers, limit", *(log.store for log in logs)]
     for ztxg in result.ztxgs(table.ours):
@@ -347,13 +377,24 @@ def log_rows(result, table):
 
 @dataclass(frozen=True)
 class Table:
-    """Ratios of the runs of `ztxg` that flush so, beside peers that flush so."""
+    """Ratios of the runs of `ztxg` that flush so, beside peers that flush so, with writes of this length."""
 
     ours: str
     theirs: str
     title: str
+    length: int | None = SMALL
+
+    @property
+    def has_goals(self):
+        return self.ours == self.theirs and self.length is SMALL
+
+    def shows(self, result):
+        return result.load.length == self.length and bool(result.ztxgs(self.ours))
 
 
+FLUSHED = "ztxg and the peers flush before each commit returns."
+
+# Those of small writes.
 TABLES = [
     Table(
         EIGHTH,
@@ -363,7 +404,7 @@ TABLES = [
     Table(
         EACH,
         EACH,
-        "EACH COMMIT DURABLE: ztxg and the peers flush before each commit returns.",
+        f"EACH COMMIT DURABLE: {FLUSHED}",
     ),
     Table(
         EIGHTH,
@@ -373,12 +414,20 @@ TABLES = [
 ]
 
 
+def tables_of(races):
+    """Those of small writes, and one for each length of large ones that ran."""
+    lengths = dict.fromkeys(result.load.length for result in races)
+    large = [length for length in lengths if length is not SMALL]
+    return TABLES + [Table(EACH, EACH, f"EACH COMMIT DURABLE, {writes_name(it)}: {FLUSHED}", it) for it in large]
+
+
 RATIOS = "Ratios are the peer's time by ztxg's in the same round, middle (least-most); above 1 ztxg is faster."
 
 
 def report(races, rounds, write):
     for result in races:
-        write(f"\nTIMES of {result.load.commits} commits, W = {result.load.workers}, middle of {rounds} rounds")
+        load = result.load
+        write(f"\nTIMES of {load.commits} {writes_name(load.length)}, W = {load.workers}, middle of {rounds} rounds")
         for line in table(list(times(result))):
             write(line)
     if not any(result.ztxgs(flush) for result in races for flush in (EACH, EIGHTH)):
@@ -389,7 +438,7 @@ def report(races, rounds, write):
         write(f"\nBEFORE: the earlier build in place of a peer.\n{RATIOS}")
         for line in table(rows):
             write(line)
-    for kind in TABLES:
+    for kind in tables_of(races):
         tables = [list(ratio_rows(races, kind)), *(list(log_rows(result, kind)) for result in races)]
         if any(tables):
             write(f"\n{kind.title}")
@@ -402,29 +451,31 @@ def report(races, rounds, write):
 # --- Command line ---
 
 
-def contestants_of(options, workers):
-    """Those that can run with so many workers: a plain log has one thread."""
+def contestants_of(options, load):
+    """Those that can make this load. A plain log has one thread, and each large write is durable."""
     if options.ztxg is not None:
-        for dirty in options.dirty:
-            yield Ztxg(options.ztxg, dirty, options.size)
-            if options.before is not None:
-                yield Ztxg(options.before, dirty, options.size, is_before=True)
+        if load.length is SMALL:
+            for dirty in options.dirty:
+                yield Ztxg(options.ztxg, dirty, options.size)
+                if options.before is not None:
+                    yield Ztxg(options.before, dirty, options.size, is_before=True)
         if options.durable is not None and EACH in options.flush:
             yield Ztxg(options.ztxg, max(options.dirty), options.size, options.durable)
     for name in ("sqlite", "rocksdb", "log"):
         program = PEERS / name
         is_log = name == "log"
-        if not program.is_file() or (is_log and workers != 1):
+        if not program.is_file() or (is_log and load.workers != 1):
             continue
         for variant in call([program, "variants"]).decode().split():
             for flush in options.flush:
-                yield Peer(program, variant, flush, is_log)
+                if load.length is SMALL or flush == EACH:
+                    yield Peer(program, variant, flush, is_log)
 
 
-def chosen(options, workers):
+def chosen(options, load):
     """The contestants whose names have one of the words of --only."""
     words = options.only
-    return [it for it in contestants_of(options, workers) if not words or any(word in it.name for word in words)]
+    return [it for it in contestants_of(options, load) if not words or any(word in it.name for word in words)]
 
 
 def file_system(folder):
@@ -459,11 +510,16 @@ def numbers(text):
     return [int(it) for it in text.split(",")]
 
 
+def lengths(text):
+    return [SMALL if it == "small" else int(it) for it in text.split(",")]
+
+
 def parse(words):
     parser = argparse.ArgumentParser(description=__doc__.split("\n")[0])
     parser.add_argument("--ztxg", type=pathlib.Path, metavar="PROGRAM", help="a built ztxg; without it the peers alone")
     parser.add_argument("--before", type=pathlib.Path, metavar="PROGRAM", help="an earlier built ztxg, for a table of its own")
-    parser.add_argument("--durable", type=pathlib.Path, metavar="PROGRAM", help="a built durable_load, for the table of durable commits")
+    parser.add_argument("--durable", type=pathlib.Path, metavar="PROGRAM", help="a built durable_load")
+    parser.add_argument("--bytes", type=lengths, default=[SMALL, *LARGE], metavar="B,..", help="of a write, or small")
     parser.add_argument("--workers", type=numbers, default=[1, 4, 16], metavar="W,..", help="each 1 to 16")
     parser.add_argument("--ops", type=int, default=500, metavar="N", help="writes of each of the 16 streams")
     parser.add_argument("--seed", type=int, default=5, metavar="S")
@@ -481,6 +537,8 @@ def parse(words):
         parser.error("--flush is each, eighth or each,eighth")
     if not all(1 <= it <= STREAMS for it in options.workers) or options.ops < 1 or options.rounds < 1:
         parser.error("workers are 1 to 16, writes and rounds at least 1")
+    if not all(it is SMALL or 1 <= it <= LONGEST for it in options.bytes):
+        parser.error(f"--bytes has small, or numbers from 1 to {LONGEST}")
     if options.folder is not None and not options.folder.is_dir():
         parser.exit(2, f"run.py: --folder {options.folder} is no folder\n")
     if not (PEERS / "log").is_file():
@@ -502,7 +560,7 @@ class Notes:
 
     def __init__(self, file):
         self.file = file
-        self.put("round", "workers", "contestant", "seconds", "flushes")
+        self.put("round", "workers", "contestant", "seconds", "flushes", "writes")
 
     def put(self, *cells):
         if self.file is not None:
@@ -511,9 +569,11 @@ class Notes:
     def of(self, load):
         def note(number, contestant, measured):
             told = "no writes" if number is None else f"round {number + 1}"
-            print(f"W = {load.workers}, {told}: {contestant.name} {measured.seconds:.3f} s", file=sys.stderr)
+            writes = length_name(load.length)
+            print(f"{writes}, W = {load.workers}, {told}: {contestant.name} {measured.seconds:.3f} s", file=sys.stderr)
             flushes = "" if measured.flushes is None else measured.flushes
-            self.put("" if number is None else number + 1, load.workers, contestant.name, measured.seconds, flushes)
+            at = "" if number is None else number + 1
+            self.put(at, load.workers, contestant.name, measured.seconds, flushes, writes)
 
         return note
 
@@ -526,9 +586,9 @@ def main(words):
         notes = Notes(stack.enter_context(options.raw.open("w")) if options.raw else None)
         head(options, folder, print)
         races = []
-        for workers in options.workers:
-            load = Load(workers, options.ops, options.seed)
-            contestants = chosen(options, workers)
+        loads = [Load(it, options.ops, options.seed, length) for length in options.bytes for it in options.workers]
+        for load in loads:
+            contestants = chosen(options, load)
             if contestants:
                 races.append(race(contestants, load, options.rounds, folder, notes.of(load)))
         report(races, options.rounds, print)

@@ -1,6 +1,7 @@
 /*
- * SQLite in WAL mode. A write is a row, keyed by object and offset, put by one INSERT OR REPLACE that is a transaction
- * of its own. Each session is a connection.
+ * SQLite in WAL mode. A write is a row whose key is a number of object and offset. One INSERT puts it, or changes the
+ * row that is there, and is a transaction of its own. That writes fewer pages than INSERT OR REPLACE, if the bytes are
+ * many. Each session is a connection.
  *
  * A durable commit is made with synchronous=FULL, which syncs the log file after the commit. That makes all earlier
  * commits durable too, since they lie before it in the same file. Other commits are made with synchronous=NORMAL,
@@ -19,6 +20,9 @@
 
 enum { BUSY, QUEUE };
 enum { PATIENCE = 600000 /* milliseconds */ };
+
+/* An object has fewer offsets. */
+#define PLACES (UINT64_C(1) << 32)
 
 const char *const variants[] = {"busy", "queue", NULL};
 const uint32_t most_workers = 16;
@@ -65,12 +69,11 @@ static void disconnect(sqlite3 *database) {
         die("sqlite: %s", sqlite3_errmsg(database));
 }
 
-void store_prepare(unsigned variant, const char *path, uint64_t commits) {
-    (void)variant, (void)commits;
+void store_prepare(unsigned variant, const char *path, uint64_t commits, uint32_t longest) {
+    (void)variant, (void)commits, (void)longest;
     sqlite3 *database = connect(path);
     execute(database, "PRAGMA journal_mode=WAL");
-    execute(database, "CREATE TABLE writes (object INTEGER, offset INTEGER, bytes BLOB NOT NULL,"
-                      " PRIMARY KEY (object, offset)) WITHOUT ROWID");
+    execute(database, "CREATE TABLE writes (place INTEGER PRIMARY KEY, bytes BLOB NOT NULL)");
     disconnect(database);
 }
 
@@ -93,7 +96,8 @@ struct session *session_open(struct store *store) {
     session->store = store;
     session->database = connect(store->path);
     execute(session->database, "PRAGMA synchronous=NORMAL");
-    session->put = statement(session->database, "INSERT OR REPLACE INTO writes VALUES (?, ?, ?)");
+    session->put = statement(session->database, "INSERT INTO writes VALUES (?, ?)"
+                                                " ON CONFLICT DO UPDATE SET bytes = excluded.bytes");
     return session;
 }
 
@@ -109,9 +113,8 @@ void session_put(struct session *session, uint32_t object, uint64_t offset, cons
     set_full(session, is_durable);
     if (session->store->variant == QUEUE)
         pthread_mutex_lock(&session->store->turn);
-    sqlite3_bind_int64(session->put, 1, object);
-    sqlite3_bind_int64(session->put, 2, (sqlite3_int64)offset);
-    sqlite3_bind_blob(session->put, 3, bytes, (int)length, SQLITE_STATIC);
+    sqlite3_bind_int64(session->put, 1, (sqlite3_int64)(PLACES * object + offset));
+    sqlite3_bind_blob(session->put, 2, bytes, (int)length, SQLITE_STATIC);
     expect(session->database, sqlite3_step(session->put), SQLITE_DONE);
     expect(session->database, sqlite3_reset(session->put), SQLITE_OK);
     if (session->store->variant == QUEUE)
@@ -127,12 +130,12 @@ void session_close(struct session *session) {
 void store_read(unsigned variant, const char *path, write_reader reader, void *context) {
     (void)variant;
     sqlite3 *database = connect(path);
-    sqlite3_stmt *rows = statement(database, "SELECT object, offset, bytes FROM writes");
+    sqlite3_stmt *rows = statement(database, "SELECT place, bytes FROM writes");
     int answer;
     while ((answer = sqlite3_step(rows)) == SQLITE_ROW) {
-        const uint8_t *bytes = sqlite3_column_blob(rows, 2);
-        reader(context, (uint32_t)sqlite3_column_int64(rows, 0), (uint64_t)sqlite3_column_int64(rows, 1), bytes,
-               (size_t)sqlite3_column_bytes(rows, 2));
+        uint64_t place = (uint64_t)sqlite3_column_int64(rows, 0);
+        const uint8_t *bytes = sqlite3_column_blob(rows, 1);
+        reader(context, (uint32_t)(place / PLACES), place % PLACES, bytes, (size_t)sqlite3_column_bytes(rows, 1));
     }
     expect(database, answer, SQLITE_DONE);
     sqlite3_finalize(rows);

@@ -5,11 +5,11 @@
 set -eu
 here=$(dirname "$0")
 
-# load WRITES SEED DIRTY
+# load WRITES OPS SEED DIRTY FIRST: FIRST transactions are committed before the writes
 load() {
-    if [ "$3" = 1048576 ]; then sleep "$STAND_IN_SLOW"; else sleep "$STAND_IN_FAST"; fi
-    echo "committed $((17 + 16 * $1))"
-    echo "digest $("$here/out/log" contents "${STAND_IN_WRONG:-tank}" "$1" "$2" | sha256sum | cut -d ' ' -f 1)"
+    if [ "$4" = 1048576 ]; then sleep "$STAND_IN_SLOW"; else sleep "$STAND_IN_FAST"; fi
+    echo "committed $(($5 + 16 * $2))"
+    echo "digest $("$here/out/log" contents "${STAND_IN_WRONG:-tank}" "$1" "$2" "$3" | sha256sum | cut -d ' ' -f 1)"
 }
 
 case "$1" in
@@ -18,11 +18,14 @@ create)
     ;;
 load)
     [ "$3 $5 $7 $9" = "--workers --ops --seed --dirty" ] || exit 2
-    load "$6" "$8" "${10}"
+    load small "$6" "$8" "${10}" 17
     ;;
 *)
-    # the words of durable_load: FILE WORKERS WRITES SEED DIRTY
-    [ $# = 5 ] || exit 2
-    load "$3" "$4" "$5"
+    # the words of durable_load: FILE WORKERS WRITES SEED DIRTY [BYTES]
+    case $# in
+    5) load small "$3" "$4" "$5" 17 ;;
+    6) load "$6" "$3" "$4" "$5" 1 ;;
+    *) exit 2 ;;
+    esac
     ;;
 esac

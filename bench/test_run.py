@@ -1,22 +1,29 @@
 #!/usr/bin/env python3
-"""Tests of the benchmark itself: the peers that are built, and run.py over stand_in.sh in place of ztxg.
+"""Tests of the benchmark itself: the writes, the peers that are built, and run.py over stand_in.sh in place of ztxg.
 
     make -C bench check
 """
 
 import contextlib
 import io
+import itertools
 import os
 import pathlib
 import statistics
 import subprocess
+import sys
 import tempfile
 import unittest
+from dataclasses import replace
 
 import run
 
 HERE = pathlib.Path(__file__).resolve().parent
 MIB = run.MIB
+sys.path.insert(0, str(HERE.parent))
+
+from tools.model import load as small  # noqa: E402
+from tools.model.pcg import Pcg32  # noqa: E402
 
 
 def invented(seconds):
@@ -62,6 +69,22 @@ class Ratios(unittest.TestCase):
         self.assertEqual(row[1:], ["0.25 (0.25-0.50)"])
         self.assertEqual(run.goal_of(like, self.race, self.ztxg), 1.5)
 
+    def test_large_writes_have_a_table_of_their_own_without_goals(self):
+        self.assertEqual(run.tables_of([self.race]), run.TABLES)
+        large = run.Race(run.Load(1, 10, 5, 65_000), self.race.contestants, self.race.runs, self.race.empty)
+        each = run.Ztxg(pathlib.Path("ztxg"), 64 * MIB, 0, pathlib.Path("durable"))
+        large.contestants.append(each)
+        large.runs[each] = invented([3.0, 3.0, 3.0])
+        *_, table = run.tables_of([self.race, large])
+        self.assertIn("writes of 64 KiB (65,000 bytes)", table.title)
+        head, row = run.ratio_rows([large], table)
+        self.assertEqual(head, ["workers, limit", "sqlite busy", "rocksdb", "better of them"])
+        self.assertEqual(row[1:], ["1.33 (1.00-2.67)", "1.50 (0.33-1.67)", "1.33 (1.00-2.67) sqlite busy"])
+        _, row = run.log_rows(large, table)
+        self.assertEqual(row[1:], ["0.33 (0.17-0.33)"])
+        for other in run.TABLES:
+            self.assertEqual(list(run.ratio_rows([large], other)), [])
+
     def test_a_mode_that_did_not_run_has_no_rows(self):
         like, durable, _ = run.TABLES
         self.assertEqual(list(run.ratio_rows([self.race], like)), [])
@@ -70,6 +93,38 @@ class Ratios(unittest.TestCase):
     def test_each_round_begins_with_the_next_contestant(self):
         orders = [run.in_turn(list("abc"), number) for number in range(4)]
         self.assertEqual(orders, [list("abc"), list("bca"), list("cab"), list("abc")])
+
+
+class Writes(unittest.TestCase):
+    """What they leave, by readings of their rules that share no code with the peers'."""
+
+    def contents(self, *words):
+        return run.call([run.PEERS / "log", "contents", run.POOL, *words])
+
+    def encoded(self, objects):
+        """The form of docs/FORMATS.md, 9."""
+        parts = [len(run.POOL).to_bytes(4, "little"), run.POOL.encode(), len(objects).to_bytes(4, "little")]
+        for number, content in sorted(objects.items()):
+            parts += [number.to_bytes(4, "little"), len(content).to_bytes(8, "little"), content]
+        return b"".join(parts)
+
+    def test_small_writes_are_those_of_a_load(self):
+        self.assertEqual(self.contents("small", 40, 5), self.encoded(small.contents(5, 40)))
+
+    def test_large_writes_have_places_and_bytes_of_the_text(self):
+        drawn = Pcg32(0, 0)
+        text = bytes(drawn.next_u32() % 256 for _ in range(255 + run.LONGEST))
+        for length, places in ((1, 338_688), (4096, 82), (65_000, 5), (run.LONGEST, 5)):
+            objects = {}
+            for stream in range(run.STREAMS):
+                words, content = Pcg32(5, stream), bytearray()
+                for _ in range(7):
+                    word = words.next_u32()
+                    low, begin = length * (word % places), word // 65_536 % 256
+                    content.extend(bytes(max(0, low + length - len(content))))
+                    content[low : low + length] = text[begin : begin + length]
+                objects[stream] = bytes(content)
+            self.assertEqual(self.contents(length, 7, 5), self.encoded(objects), length)
 
 
 class StandIn(unittest.TestCase):
@@ -89,7 +144,7 @@ class StandIn(unittest.TestCase):
             return output.getvalue(), [line.split("\t") for line in raw.read_text().splitlines()[1:]]
 
     def test_times_and_ratios_are_those_of_the_runs(self):
-        words = ["--ops", "8", "--rounds", "3", "--workers", "1", "--only", "ztxg,log grown each"]
+        words = ["--ops", "8", "--rounds", "3", "--workers", "1", "--bytes", "small", "--only", "ztxg,log grown each"]
         printed, raw = self.run_with(*words, STAND_IN_SLOW="0.3", STAND_IN_FAST="0.1")
         runs = {name: [float(it[3]) for it in raw if it[2] == name and it[0]] for name in {it[2] for it in raw}}
         self.assertEqual(sorted(runs), ["log grown each", "ztxg 1 MiB", "ztxg 64 MiB", "ztxg 64 MiB each"])
@@ -99,51 +154,64 @@ class StandIn(unittest.TestCase):
         row = next(line for line in printed.splitlines() if line.startswith("1, 1 MiB"))
         self.assertEqual(row.split()[3], f"{ratio:.2f}")
 
+    def test_large_writes_are_made_with_each_commit_durable(self):
+        words = ["--ops", "8", "--rounds", "1", "--workers", "1,4", "--bytes", "4096,65000", "--only", "ztxg,log grown"]
+        printed, raw = self.run_with(*words, STAND_IN_SLOW="0.3", STAND_IN_FAST="0.1")
+        runs = {(it[5], it[1], it[2]): float(it[3]) for it in raw if it[0]}
+        ours, log = "ztxg 64 MiB each", "log grown each"
+        wanted = {(name, workers, ours) for name in ("4 KiB", "64 KiB") for workers in "14"}
+        self.assertEqual(set(runs), wanted | {(name, "1", log) for name in ("4 KiB", "64 KiB")})
+        for name, number in (("4 KiB", "4,096"), ("64 KiB", "65,000")):
+            _, _, shown = printed.partition(f"EACH COMMIT DURABLE, writes of {name} ({number} bytes)")
+            row = next(line for line in shown.splitlines() if line.startswith("1, 64 MiB"))
+            self.assertEqual(row.split()[3], f"{runs[name, '1', log] / runs[name, '1', ours]:.2f}")
+
     def test_an_earlier_build_has_a_table_of_its_own(self):
-        words = ["--ops", "8", "--rounds", "1", "--workers", "1", "--only", "ztxg", "--before", str(HERE / "stand_in.sh")]
+        words = ["--ops", "8", "--rounds", "1", "--workers", "1", "--bytes", "small", "--only", "ztxg"]
+        words += ["--before", str(HERE / "stand_in.sh")]
         printed, raw = self.run_with(*words, STAND_IN_SLOW="0.1", STAND_IN_FAST="0.1")
         seconds = {it[2]: float(it[3]) for it in raw if it[0]}
         row = next(line for line in printed.splitlines() if line.startswith("1, 64 MiB"))
         self.assertEqual(row.split()[3], f"{seconds['ztxg before 64 MiB'] / seconds['ztxg 64 MiB']:.2f}")
 
     def test_another_digest_ends_the_run(self):
-        words = ["--ops", "8", "--rounds", "1", "--workers", "1", "--only", "ztxg"]
-        with self.assertRaisesRegex(run.Failure, "digest"):
-            self.run_with(*words, STAND_IN_SLOW="0", STAND_IN_FAST="0", STAND_IN_WRONG="pond")
+        words = ["--ops", "8", "--rounds", "1", "--workers", "1", "--only", "ztxg", "--bytes"]
+        for length in ("small", "4096"):
+            with self.assertRaisesRegex(run.Failure, "digest"):
+                self.run_with(*words, length, STAND_IN_SLOW="0", STAND_IN_FAST="0", STAND_IN_WRONG="pond")
 
 
 class Peers(unittest.TestCase):
-    """Each peer that is built, at each number of threads."""
+    """Each peer that is built, at each number of threads and with each length of writes."""
 
     def each_run(self, ops):
         """Yields each peer with the path of its store after a run, the load, and the number of flushes."""
-        for program in sorted(run.PEERS.iterdir()):
-            if program.name not in ("sqlite", "rocksdb", "log"):
-                continue
-            for variant in run.call([program, "variants"]).decode().split():
-                for workers in [1] if program.name == "log" else [1, 3, 16]:
-                    for flush in (run.EACH, run.EIGHTH):
-                        peer = run.Peer(program, variant, flush, program.name == "log")
-                        with tempfile.TemporaryDirectory() as folder:
-                            path = pathlib.Path(folder) / "store"
-                            load = run.Load(workers, ops, 5)
-                            peer.prepare(path, load)
-                            yield peer, path, load, peer.flushes(run.call(peer.command(path, load)), load)
+        options = run.parse([])
+        for workers, length in itertools.product([1, 3, 16], options.bytes):
+            load = run.Load(workers, ops, 5, length)
+            for peer in run.contestants_of(options, load):
+                with tempfile.TemporaryDirectory() as folder:
+                    path = pathlib.Path(folder) / "store"
+                    peer.prepare(path, load)
+                    yield peer, path, load, peer.flushes(run.call(peer.command(path, load)), load)
 
     def test_a_store_holds_the_writes_and_no_others(self):
-        for peer, path, load, _ in self.each_run(20):
+        for peer, path, load, _ in self.each_run(10):
             peer.check(path, load)
-            for other in (run.Load(1, load.ops + 1, 5), run.Load(1, load.ops - 1, 5), run.Load(1, load.ops, 6)):
+            lengths = set(run.LARGE) - {load.length}
+            others = [replace(load, ops=load.ops + 1), replace(load, ops=load.ops - 1), replace(load, seed=6)]
+            for other in others + [replace(load, length=length) for length in lengths]:
                 with self.assertRaises(run.Failure, msg=f"{peer.name}, {other}"):
                     peer.check(path, other)
 
-    # A store opens, closes and makes checkpoints with some flushes of its own. RocksDB flushes once for the commits of
-    # several threads.
+    # A store opens, closes and makes checkpoints with some flushes of its own. With large writes SQLite may make one
+    # after each commit, with two flushes. RocksDB flushes once for the commits of several threads.
     def test_a_commit_is_flushed_as_the_mode_says(self):
-        for peer, _, load, flushes in self.each_run(16):
+        for peer, _, load, flushes in self.each_run(8):
             durable = load.commits if peer.flush == run.EACH else load.commits // 8
             least = durable if load.workers == 1 or peer.program.name != "rocksdb" else durable // load.workers
-            self.assertTrue(least <= flushes <= durable + 64, f"{peer.name}, {load}: {flushes} flushes")
+            most = durable + 64 + (0 if load.length is run.SMALL else 2 * load.commits)
+            self.assertTrue(least <= flushes <= most, f"{peer.name}, {load}: {flushes} flushes")
 
     def test_a_damaged_log_is_refused(self):
         with tempfile.TemporaryDirectory() as folder:
@@ -159,7 +227,8 @@ class Peers(unittest.TestCase):
                 peer.check(path, load)
 
     def test_wrong_words_are_refused(self):
-        for words in ("", "run grown x 1 5 2 each", "run grown x 1 5 1 often", "contents tank -1 5", "check x"):
+        faults = ["", "run grown x small 1 5 2 each", "run grown x small 1 5 1 often", "contents tank small -1 5"]
+        for words in faults + ["contents tank 0 1 5", "contents tank 65498 1 5", "contents tank large 1 5", "check x"]:
             done = subprocess.run([run.PEERS / "log", *words.split()], capture_output=True)
             self.assertEqual(done.returncode, 2, words)
 
