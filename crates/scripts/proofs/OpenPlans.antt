@@ -90,10 +90,10 @@ other_stays step.SyncStep r old new other (answer, is, h) = by_answer old new _ 
     progress More d = ap (λ (x : State). x.shown.transactions) d.4.1
     progress (Synced g) d = ap (λ (x : State). x.shown.transactions) d.4.2
 other_stays step.LogWrite r old new other (answer, is, h) =
-    by_answer old new _ answer _ _ (λ count d. ap (λ (x : State). x.shown.transactions) d.5)
+    by_answer old new _ answer _ _ (λ count d. ap (λ (x : State). x.shown.transactions) d.4)
     (λ e own. elim own as (λ _. HasSame old new) [
       | inl memory ↦ wants old new e memory
-      | inr wrote ↦ ap (λ (x : State). x.shown.transactions) wrote.1.4
+      | inr wrote ↦ ap (λ (x : State). x.shown.transactions) wrote.1.3
     ]) h
 other_stays step.LogFlush r old new other (answer, is, h) =
     by_answer old new _ answer _ _ (λ u d. ap (λ (x : State). x.shown.transactions) d) (λ e own. ap (λ (x : State). x.shown.transactions) own.1) h
