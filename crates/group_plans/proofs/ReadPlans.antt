@@ -100,7 +100,8 @@ module _ (source : PlanSource) (changes : BTreeMap ObjectId ObjectChanges)
     all_placed : ∥ ArePlaced blocks new ∥₁
     all_placed = ∥∥₁_map {A = ArePlaced blocks told} {B = ArePlaced blocks new} placed (after_placed source objects none blocks of p after maps.all maps.each rise)
 
-  -- what is told of the pointers of the plan is told of those that the tree keeps, if objects that are only made have holes
+  -- what is told of the pointers of the plan is told of those that the tree keeps, if objects that are only made have
+  -- holes
   module _ (after : FinMap nat_cmp (List ℕ)) (made : GivesTree source after changes p) (maps : HasMaps after changes p) (holes : MakesHoles objects) where
     kept_as : planned_pointers source p ≡ new
     kept_as = λ k place. sym (same_after source objects none blocks of p after maps.all maps.each (rise after made maps) holes placed place) k

@@ -40,9 +40,9 @@ use Rattle.tree_plans.specs.Pointers.{entry_of}
 use Rattle.group_plans.specs.Areas.{AreBlocksOf}
 use Rattle.group_plans.specs.Pointers.{lengths_after, pointers_after}
 
--- Some changes are those of the group's operations among records, on a tree with these entries. By them these blocks make
--- the tree after the group from the old one, whatever objects were there before of which the changes cover all that
--- differs.
+-- Some changes are those of the group's operations among records, on a tree with these entries. By them these blocks
+-- make the tree after the group from the old one, whatever objects were there before of which the changes cover all
+-- that differs.
 pub record IsPlannedGroup (group : ℕ) (records : List Record) (entries : List ObjectEntry) (frame : Frame) (old new : Place → Pointer) (bs : List NewBlock) (after : FinMap nat_cmp (List ℕ)) : Type 0 where
   pub objects : List (ObjectId × ObjectChanges)
   pub changes : AreChangesOf (pending_ops group records) entries objects
@@ -63,8 +63,8 @@ pub record TakesGroupPlaces (group : ℕ) (records : List Record) (entries : Lis
   pub used : MakesHoles objects → AreUsed bs new
   pub freed : MakesHoles objects → AreBornBefore group old → AreFreed old new returned
 
--- Some changes are those of the group's operations among records, on a tree with these entries. Where they are in range,
--- fewer of these blocks are free than there are places that are written.
+-- Some changes are those of the group's operations among records, on a tree with these entries. Where they are in
+-- range, fewer of these blocks are free than there are places that are written.
 pub record IsShortOfBlocks (group : ℕ) (records : List Record) (entries : List ObjectEntry) (old : Place → Pointer) (after : FinMap nat_cmp (List ℕ)) (free : List ℕ) : Type 0 where
   pub objects : List (ObjectId × ObjectChanges)
   pub changes : AreChangesOf (pending_ops group records) entries objects

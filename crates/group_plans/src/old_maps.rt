@@ -1,5 +1,5 @@
-//! The maps of objects before a group. A tree in memory has the pointers down to the indirect blocks, so these blocks are
-//! read of each object that the group changes.
+//! The maps of objects before a group. A tree in memory has the pointers down to the indirect blocks, so these blocks
+//! are read of each object that the group changes.
 
 ghost use Rattle.std.specs.Prelude.{◌≡◌, ◌<◌, ◌≤◌, ◌⊎◌, ℕ, List, IfErr, IfOk, IsTrue, OnOk, Some, false, is_some, length, true, vec_len};
 ghost use Rattle.base.specs.declared.error.PoolError.TheVariants as error;

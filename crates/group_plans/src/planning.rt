@@ -1,6 +1,6 @@
 //! The tree after a group, planned from its transactions: `changed_objects` of `tree_plans` says what they do to each
-//! object, `read_maps` reads the indirect blocks of these objects, `prepare` the records that change in part, and `plan`
-//! takes a free block for each place that changes.
+//! object, `read_maps` reads the indirect blocks of these objects, `prepare` the records that change in part, and
+//! `plan` takes a free block for each place that changes.
 
 ghost use Rattle.std.specs.Prelude.{◌≡◌, ◌≤◌, ℕ, IfErr, IfOk, IsTrue, false, is_some};
 ghost use Rattle.base.specs.disk.Disk.{bytes_of};
@@ -52,15 +52,15 @@ pub struct GroupSource<'a> {
 /// are passed over. `extents` are the changes that those of the group make, over the contents of the tree. `before` is
 /// the frame of that tree's blocks.
 ///
-/// It reads the indirect block of each object that the group changes, rising, and then each record that the group changes
-/// in part, for rising objects and in each for rising records.
+/// It reads the indirect block of each object that the group changes, rising, and then each record that the group
+/// changes in part, for rising objects and in each for rising records.
 ///
 /// - `fits`: each block that is written or comes back lies in the block area of the device.
 /// - `taken`: the blocks are the lowest free ones, in their order.
 /// - `tree`: the blocks make a tree after the group, with its pointers and its lengths, and what comes back is what
 ///   that tree replaces, by the pointers that were read.
-/// - `objects`: if the device keeps the model and holds the tree of the contents, these are the tree's pointers, and the
-///   new tree has the objects after the group.
+/// - `objects`: if the device keeps the model and holds the tree of the contents, these are the tree's pointers, and
+///   the new tree has the objects after the group.
 ///
 /// # Errors
 /// - `NoSpace`, only if fewer blocks are free than there are places to write (`no_space`).

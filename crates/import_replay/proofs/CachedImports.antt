@@ -1,5 +1,5 @@
--- An import goes by a device with a cache. What it says of the devices inside, it says of the one that was put in and of
--- the one that is taken out.
+-- An import goes by a device with a cache. What it says of the devices inside, it says of the one that was put in and
+-- of the one that is taken out.
 use Rattle.std.proofs.Common.{◌≡◌, subst, sym}
 
 pub holds_outside : {Dev : Type 0} {old inner_old inner_new new : Dev} → inner_old ≡ old → new ≡ inner_new → (P : Dev → Dev → Type 0) → P inner_old inner_new → P old new

@@ -1,5 +1,5 @@
--- What an import leaves free: of the blocks that no pointer of the old tree names those that its plan does not take, and
--- those that the plan replaces. So they are all blocks that neither the new tree nor the log has.
+-- What an import leaves free: of the blocks that no pointer of the old tree names those that its plan does not take,
+-- and those that the plan replaces. So they are all blocks that neither the new tree nor the log has.
 use Rattle.std.proofs.Common.{◌≡◌, ◌⊎◌, inl, inr, ℕ, ◌<◌, Bool, true, false, not, ◌&&◌, ◌||◌, List, length, nat_eq, Some, refl, sym, ◌∙◌, ap, subst, arith}
 use Rattle.std.specs.Prelude.{slice_get}
 use Rattle.std.specs.Ordering.{nat_cmp}

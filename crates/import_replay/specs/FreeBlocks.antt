@@ -65,7 +65,8 @@ pub record IsLowestLeft (spare : FreeSpace) (planned : List PlannedBlock) (block
 abbrev pub AreAllPlanned : FreeSpace → List PlannedBlock → Type 0
 AreAllPlanned spare planned = (k : ℕ) → k < spare.blocks → is_free k spare ≡ true → is_planned k planned ≡ true
 
--- Of a set's blocks those of a plan are taken. Then what the plan replaces comes back, and the first log block is taken.
+-- Of a set's blocks those of a plan are taken. Then what the plan replaces comes back, and the first log block is
+-- taken.
 pub record IsLeftBy (plan : TreePlan) (log_block : ℕ) (old new : FreeSpace) : Type 0 where
   pub left : FreeSpace
   pub taken : BlocksTaken (λ k. is_planned k plan.blocks.items) old left

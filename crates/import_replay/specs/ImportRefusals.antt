@@ -68,8 +68,8 @@ IsMountRefusal TooMany = ⊤
 IsMountRefusal NoSpace = ⊤
 IsMountRefusal _ = ⊥
 
--- An import is refused: the size comes first, then whether the limits are allowed, both before any device call, and then
--- what the image and the device refuse.
+-- An import is refused: the size comes first, then whether the limits are allowed, both before any device call, and
+-- then what the image and the device refuse.
 abbrev pub IsImportRefusal : ℕ → Bool → PoolError → Type 0
 IsImportRefusal size allowed BadGeometry = IsGeometry size → ⊥
 IsImportRefusal size allowed BadRange = IsGeometry size × (allowed ≡ false)

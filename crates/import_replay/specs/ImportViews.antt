@@ -88,8 +88,8 @@ pub record MayBeWritten (w : ImportWrites) (first : Stage) (created flushed : �
   pub apart : All (IsSpareFor flushed v) w.blocks
   pub made : IsTreeMade (bytes_of start.now) w.size w.blocks (view_frame w.size (view_of w tree)) tree
 
--- whenever the pool was created, and for each view after which this may be written, with so many of its log blocks fixed
--- and each tree that it makes
+-- whenever the pool was created, and for each view after which this may be written, with so many of its log blocks
+-- fixed and each tree that it makes
 abbrev pub ForEachView : ImportWrites → Stage → Disk → (ℕ → ℕ → FixedLabels → View → ViewTree → Type 0) → Type 0
 ForEachView w first start P = (created flushed : ℕ) (at : FixedLabels) (v : View) (tree : ViewTree) → MayBeWritten w first created flushed at v tree start → P created flushed at v tree
 

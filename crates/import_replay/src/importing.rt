@@ -98,8 +98,8 @@ pub fn import<D: SectorDevice>(
 /// It flushes the device, loads the tree of the active uberblock, of group u and import number i, and replays the log
 /// records of groups above u. It reads again the indirect block of each object that they change, and each data block
 /// that they change in part. No pointer to a record stays in memory. Then it syncs what they leave as group u + 4, with
-/// import number i + 1 and both label stages (On-Disk Specification, chapter 1). Group u + 5 is then open. All memory is
-/// taken before the first write.
+/// import number i + 1 and both label stages (On-Disk Specification, chapter 1). Group u + 5 is then open. All memory
+/// is taken before the first write.
 ///
 /// If the pool alone wrote the disk, a crash at any moment after the first good flush leaves the same contents,
 /// unless a torn block passes its check by chance (clause `own` with the law `steady_imports_mount` of `base`).

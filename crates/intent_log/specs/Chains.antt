@@ -17,7 +17,8 @@ use Rattle.intent_log.specs.declared.parts.Parts.{Parts}
 abbrev pub IsChainRefusal : PoolError → Type 0
 IsChainRefusal e = (e ≡ NoMemory) ⊎ (e ≡ Read)
 
--- the place and number of the first block, and the pool, by whose rules the chain is read: those of the header's version
+-- the place and number of the first block, and the pool, by whose rules the chain is read: those of the header's
+-- version
 abbrev pub header_of_chain : ChainHeader → Header
 header_of_chain h = record { address = h.address; number = h.number }
 

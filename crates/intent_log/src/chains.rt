@@ -1,15 +1,15 @@
 //! The chain of log blocks from a header on: what an import replays.
 //!
-//! It is made of pieces. A piece is one block of whole records, or the blocks of one record that is longer than a block;
-//! version 1 has no such record. A block is of the chain if all of this is true of it:
+//! It is made of pieces. A piece is one block of whole records, or the blocks of one record that is longer than a
+//! block; version 1 has no such record. A block is of the chain if all of this is true of it:
 //! 1. It lies in the block area, and opens as a log block of this pool.
 //! 2. Its number follows that of the block before it.
 //! 3. It names the chain of its run, which is the run's import number.
 //! 4. Its used bytes are whole records, one at least, or the next part of a long record. After them it has zeros.
 //!
-//! The first block that isn't so ends the chain. A long record that isn't whole ends it before its first block. Whatever
-//! the device holds, a chain has no more pieces than the area has blocks: each block has a number of its own, and so an
-//! address of its own.
+//! The first block that isn't so ends the chain. A long record that isn't whole ends it before its first block.
+//! Whatever the device holds, a chain has no more pieces than the area has blocks: each block has a number of its own,
+//! and so an address of its own.
 
 ghost use Rattle.std.specs.Prelude.{◌≡◌, ◌≤◌, ◌<◌, ◌^◌, All, IfErr, IfOk, IfSome, IfNone, IsTrue, length, map, take};
 ghost use Rattle.base.specs.disk.Disk.{bytes_of};

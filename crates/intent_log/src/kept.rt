@@ -185,9 +185,9 @@ impl Log {
         self.flushed = self.blocks.len();
     }
 
-    /// The header for the sync of a group: the first kept block in which a record begins that is of a group above it, or
-    /// that is begun and not yet whole, or else the next one. It looks only at that block and at those before it, which
-    /// the sync gives back.
+    /// The header for the sync of a group: the first kept block in which a record begins that is of a group above it,
+    /// or that is begun and not yet whole, or else the next one. It looks only at that block and at those before it,
+    /// which the sync gives back.
     pub fn header_for(&self, group: Group) -> LogHeader
         ensures header { header_fields result ≡ logs.header_for group.0 (log_shown self.now) }
         ensures fits { result.number ≤ last_number }

@@ -25,8 +25,8 @@ pub(crate) struct Parts {
     pub(crate) next: u64,
 }
 
-/// How many bytes the long record has that begins with the used bytes of a block. `None` if none begins with them, as in
-/// version 1.
+/// How many bytes the long record has that begins with the used bytes of a block. `None` if none begins with them, as
+/// in version 1.
 pub(crate) fn long_size(version: Version, used: &[u8]) -> Option<usize>
     ensures new { IfSome result (λ size. version ≡ Version.Two) }
     ensures some { IfSome result (MayBegin used.now) }

@@ -35,8 +35,8 @@ impl Outline {
     /// lengths what `replay` makes of the contents, and takes no memory. It returns how many records it replayed.
     ///
     /// # Errors
-    /// `Damaged` with kind 6 and the address of its first block for the first record that can't take place. The name and
-    /// the lengths mean nothing then.
+    /// `Damaged` with kind 6 and the address of its first block for the first record that can't take place. The name
+    /// and the lengths mean nothing then.
     pub fn replay(&mut self, group: Group, pieces: &[LoggedPiece]) -> Result<u64, PoolError>
         requires { IsChainAllowed pieces.now }
         ensures { ReplaysOutline (records_above group.0 pieces.now) self.old result self.new }

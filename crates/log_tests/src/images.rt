@@ -1,8 +1,8 @@
 //! Pools that another program wrote, with every check made right: what an inspection finds, that an import finds the
 //! same, and that a refused import makes no write.
 //!
-//! The tree is that of `tools/rows/hostile_images.py`: group 9 is synced, and object 1 has the bytes `abcd`, in one block
-//! of each kind. The pool has 384 blocks. By `python3 tools hostile_rows` the program judges such images.
+//! The tree is that of `tools/rows/hostile_images.py`: group 9 is synced, and object 1 has the bytes `abcd`, in one
+//! block of each kind. The pool has 384 blocks. By `python3 tools hostile_rows` the program judges such images.
 
 use crate::chains::{FIRST, Stored, overwrite, store};
 use crate::long_records::{Long, store_long};

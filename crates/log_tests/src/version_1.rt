@@ -4,8 +4,8 @@
 //! What is expected follows from the script above the image. The old tree has the blocks from 4,202,496 on: records 0
 //! and 1 of object 1, its indirect block, the directory and the root. The chain has 4,194,304 and 4,198,400, and names
 //! 4,222,976 as its next block. So the import's sync takes blocks from there on, in the order of writing: record 0 of
-//! object 1, its indirect block, the record and the indirect block of object 2, the directory, the root. The log has the
-//! block after these. Record 1 stays where it is.
+//! object 1, its indirect block, the record and the indirect block of object 2, the directory, the root. The log has
+//! the block after these. Record 1 stays where it is.
 
 use crate::long_records::{Long, store_long};
 use crate::version_1_image::{LABELS, read, version_1_image, write};
@@ -18,8 +18,8 @@ use uberblocks::{SLOT_SIZE, Uberblock};
 /// The slots of groups 9, 13 and 17 in label 0.
 const SLOTS: [u64; 3] = [140_288, 144_384, 148_480];
 
-/// Where the pointers to the next block lie, from a slot to records 0 and 1 of object 1, and to record 0 of object 2: in
-/// the slot, the root, the directory and the indirect block.
+/// Where the pointers to the next block lie, from a slot to records 0 and 1 of object 1, and to record 0 of object 2:
+/// in the slot, the root, the directory and the indirect block.
 const PATHS: [[usize; 4]; 3] = [[40, 64, 144, 64], [40, 64, 144, 112], [40, 64, 208, 64]];
 
 /// Where a record lies, and its first 8 bytes.
@@ -125,8 +125,8 @@ fn found_twice(alloc: Global) -> Result<(Found, Mount, Found, Mount, Found), Poo
     Ok((image, first, after_first, second, after_second))
 }
 
-/// What an inspection finds of the image, with the uberblock of group 9 in this version. The chain goes on with a record
-/// of 4,009 bytes, in blocks 4,222,976 and 4,227,072.
+/// What an inspection finds of the image, with the uberblock of group 9 in this version. The chain goes on with a
+/// record of 4,009 bytes, in blocks 4,222,976 and 4,227,072.
 fn found_with_long(alloc: Global, version: Version) -> Result<[u64; 4], PoolError> {
     let mut device = version_1_image(alloc)?;
     let long = Long {

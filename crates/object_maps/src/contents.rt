@@ -1,5 +1,5 @@
-//! The contents of a pool: its name, and the length of each object. The bytes of the objects are told, and don't stand in
-//! memory.
+//! The contents of a pool: its name, and the length of each object. The bytes of the objects are told, and don't stand
+//! in memory.
 
 ghost use Rattle.std.specs.Prelude.{◌≡◌, false, option_map, All, IfOk, vec_len, length as count};
 ghost use Rattle.std.specs.FinMap as finite;

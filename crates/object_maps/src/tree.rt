@@ -107,7 +107,8 @@ impl Tree {
     ghost use Rattle.object_maps.specs.Surveys.{ListsObjectsOf};
     ghost use Rattle.std.proofs.Math.ListN.{set};
 
-    /// Sets the lengths and the pointers of these objects. Those with no place in the tree are dropped. It takes no memory.
+    /// Sets the lengths and the pointers of these objects. Those with no place in the tree are dropped. It takes no
+    /// memory.
     pub fn set_all(&mut self, maps: BTreeMap<ObjectId, ObjectMap>)
         ensures pointers { (place : Place) → IsPlace place
             → pointers_of self.new place ≡ with_maps (map_among maps) (pointers_of self.old) place }

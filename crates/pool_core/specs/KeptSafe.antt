@@ -61,8 +61,8 @@ WritesConfig (Some stages) size s past group =
     (stages.first ≡ Even) × (c : IsSyncConfig size s past group stages.config) × IsConfigContent stages.config size s.guid group c.contents.name
 
 -- While a sync runs: it is under way from the view of the synced group, whose config label 1 has, to that of its own.
--- The log of both is held, at no block that the sync writes, and both leave room for an import. What a read gives is fair, and no config of the pool
--- above the synced group counts, except for the one that it writes.
+-- The log of both is held, at no block that the sync writes, and both leave room for an import. What a read gives is
+-- fair, and no config of the pool above the synced group counts, except for the one that it writes.
 pub record IsSyncOnDisk (run : SyncRun) (disk : Disk) (s : Shown) (past : Past) : Type 0 where
   pub left : run.done < call_count run
   pub group : ℕ

@@ -377,9 +377,9 @@ impl<D: SectorDevice> PoolState<D> {
     /// takes the memory for all its steps. The moment, in seconds, is stored in its uberblocks. If the group gives a
     /// name, six more steps write it into the configs of the labels.
     ///
-    /// Of the synced tree it reads the indirect block of each changed object, rising, and then each record that the group
-    /// changes in part, for rising objects and in each for rising records. A block that the cache has is not read. If the start is refused, the group is
-    /// still quiesced, and the same call goes on with what the cache has.
+    /// Of the synced tree it reads the indirect block of each changed object, rising, and then each record that the
+    /// group changes in part, for rising objects and in each for rising records. A block that the cache has is not
+    /// read. If the start is refused, the group is still quiesced, and the same call goes on with what the cache has.
     ///
     /// # Errors
     /// In this order:
@@ -388,8 +388,8 @@ impl<D: SectorDevice> PoolState<D> {
     /// - `NoMemory`, `Read` if the device refused a read, or `Damaged` if what it gave is not the block of the tree, as
     ///   they come.
     ///
-    /// It is never refused `NoSpace`: what its transactions reserved suffices. Over a device that this pool alone writes
-    /// it is never refused `Damaged` (`held`).
+    /// It is never refused `NoSpace`: what its transactions reserved suffices. Over a device that this pool alone
+    /// writes it is never refused `Damaged` (`held`).
     pub fn start_sync(&mut self, moment: u64) -> Result<Group, PoolError>
         ensures step { StartsSync moment result (shown self.old) (shown self.new) }
         ensures held { IsTrue D.keeps_model

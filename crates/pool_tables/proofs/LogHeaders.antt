@@ -1,4 +1,5 @@
--- The log header of a sync: one of the log from the start of the sync on, before which no record of a later group begins.
+-- The log header of a sync: one of the log from the start of the sync on, before which no record of a later group
+-- begins.
 use Rattle.std.proofs.Common.{◌≡◌, ℕ, List, subst, sym}
 use Rattle.std.specs.Prelude.{None, false, filter, nat_le}
 use Rattle.std.proofs.Math.Logic.{∥∥₁_elim, ∥∥₁_map}

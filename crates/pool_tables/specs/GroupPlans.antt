@@ -19,7 +19,8 @@ use Rattle.pool_tables.specs.declared.pool.RunningSync.{RunningSync}
 use Rattle.pool_tables.specs.RunningUberblocks.{uberblock_with}
 use Rattle.pool_tables.specs.Shows.{contents_after_oldest, new_plan, pool_shown, synced_of}
 
--- it makes of a pool's tree that of its oldest unsynced group, which is this one, whichever pointers to records were read
+-- it makes of a pool's tree that of its oldest unsynced group, which is this one, whichever pointers to records were
+-- read
 abbrev pub MakesOldestTree : PoolTables → ℕ → TreePlan → Type 0
 MakesOldestTree pool group p = MakesReadTree (frame_at (pool_shown pool) group) pool.tree pool.unsynced.items (contents_after_oldest pool).objects p
 

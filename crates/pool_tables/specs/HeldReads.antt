@@ -1,5 +1,5 @@
--- Reads of a pool whose device holds what it should: they are those of the definitions over a device that keeps the disk
--- model.
+-- Reads of a pool whose device holds what it should: they are those of the definitions over a device that keeps the
+-- disk model.
 use Rattle.std.specs.Prelude.{ℕ, List, Result}
 use Rattle.base.specs.declared.error.PoolError.{PoolError}
 use Rattle.base.specs.declared.names.ObjectId.{ObjectId}

@@ -32,9 +32,9 @@ StartsHeldOver moment answer old new = (past : Past) → IsHeld (held_with old p
     → (later : Past) × StartSync (Unit {0}) old.now moment (result_map (λ group. group.0) answer) (state_with old past) (state_with new later)
 
 -- The start of a sync, from what is told of a pool before it to what is told after it: on each device a step of the
--- definitions. If the device keeps the disk model and has these bytes, it moves no byte, and plans what the running sync
--- makes. If that device holds what it should, the step is one over such a device, and takes blocks in the order of the
--- places that it writes.
+-- definitions. If the device keeps the disk model and has these bytes, it moves no byte, and plans what the running
+-- sync makes. If that device holds what it should, the step is one over such a device, and takes blocks in the order of
+-- the places that it writes.
 pub record IsSyncStart (keeps : Type 0) (now : List ℕ) (moment : ℕ) (answer : Result Group PoolError) (old new : List ℕ → ShownPool) : Type 0 where
   pub step : StartsSync moment answer (old []).shown (new []).shown
   pub held : keeps → StartsHeldOver moment answer (old now) (new now)

@@ -4,10 +4,10 @@
 //! 1. Who waits reads how often the bell was rung, then looks at the pool, and sleeps only if it was not rung since.
 //! 2. Who rings has changed the pool before. So a change comes before the look, which then sees it, or its ring ends
 //!    the sleep: no ring is lost. A number that is read after the look would lose those between.
-//! 3. The lowest bit of the number says that one may sleep. A sleeper sets it, and sleeps while the number with that bit
-//!    stays. A ring counts first. If the bit is set it clears it and wakes all, so the next ring makes no system call,
-//!    also while those that were woken have not run yet. One that sets the bit between the count and the clearing sees
-//!    the number change, or is woken with the others.
+//! 3. The lowest bit of the number says that one may sleep. A sleeper sets it, and sleeps while the number with that
+//!    bit stays. A ring counts first. If the bit is set it clears it and wakes all, so the next ring makes no system
+//!    call, also while those that were woken have not run yet. One that sets the bit between the count and the clearing
+//!    sees the number change, or is woken with the others.
 
 use crossbeam_utils::Backoff;
 use std::sync::Wait;

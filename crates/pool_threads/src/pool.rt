@@ -64,9 +64,9 @@ impl<D: SectorDevice> Pool<D> {
     /// takes the device.
     ///
     /// The dirty limit is the most bytes that unsynced transactions may be charged, as `DEFAULT_DIRTY_MAX` of `base`;
-    /// `PoolState::begin` says what is charged. At most `cache_blocks` blocks of 4,096 bytes stay in memory, 1 to 4,096.
-    /// The moment is a time in seconds, or 0 if no clock is read. It is stored in the uberblocks of this import, and in
-    /// those of the syncs that handles start.
+    /// `PoolState::begin` says what is charged. At most `cache_blocks` blocks of 4,096 bytes stay in memory, 1 to
+    /// 4,096. The moment is a time in seconds, or 0 if no clock is read. It is stored in the uberblocks of this import,
+    /// and in those of the syncs that handles start.
     ///
     /// For proofs: if the device keeps the model, the contents are what the run left that its disk holds, whichever
     /// that was, and the crash rule is followed from there on.

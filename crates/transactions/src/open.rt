@@ -4,8 +4,8 @@
 //! which is the order of the names. Contracts see the admissions in that order, and the name of the next one.
 //!
 //! A transaction is admitted if no range of its plan overlaps one of an open transaction. So open transactions commute,
-//! and those of a group may be committed in any order. Each lies beside an index of its plan's ranges: so each shape of a
-//! new plan is compared with an open plan by halves.
+//! and those of a group may be committed in any order. Each lies beside an index of its plan's ranges: so each shape of
+//! a new plan is compared with an open plan by halves.
 
 ghost use Rattle.std.specs.Prelude.{◌≡◌, [], IfErr, IfOk, None, OnErr, OnOk, count_by, option_map, true};
 ghost use Rattle.std.specs.List.{find, list_any};

@@ -53,8 +53,8 @@ fn is_end_allowed(offset: u64, count: u64) -> bool
     count <= MAX_LENGTH && offset <= MAX_LENGTH - count
 }
 
-/// How many bytes the log record of a plan has: 22, and for each operation 5 (a create, a remove), 13 (a new length), 17
-/// and its bytes (a write), or 5 and its bytes (a name). `None` if these are above 65,536.
+/// How many bytes the log record of a plan has: 22, and for each operation 5 (a create, a remove), 13 (a new length),
+/// 17 and its bytes (a write), or 5 and its bytes (a name). `None` if these are above 65,536.
 pub fn record_size(plan: &[Shape]) -> Option<u64>
     ensures size { IfSome result (λ size. size ≡ plans.log_record_size plan.now) }
     ensures small { IfSome result (λ size. size ≤ max_log_record) }

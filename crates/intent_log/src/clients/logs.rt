@@ -115,8 +115,8 @@ fn a_sync_keeps_its_log_from_the_header_on(log: &mut Log, header: LogHeader)
     while log.give_back(header).is_some() {}
 }
 
-// Only the flush after its last part makes a record durable that a block can't hold.
-fn a_long_record_is_durable_once_its_last_part_is_flushed(log: &mut Log, begun: BegunRecord)
+// A flush after its first part makes no record durable that a block can't hold, and a sync keeps that block.
+fn a_first_part_makes_no_record_durable(log: &mut Log, begun: BegunRecord)
     requires room { HasRoom log.old }
     requires kept { log.old.kept ≡ [] }
     requires next { log.old.next ≡ record { address = 4194304; number = 3 } }

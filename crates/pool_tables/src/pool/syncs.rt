@@ -216,8 +216,8 @@ impl PoolTables {
     }
 
     /// Makes the next device call of the running sync; after the last one its group is synced. Then no read takes a
-    /// block that it freed from memory, and the device keeps those that it wrote. Refused, in this order, `Suspended`, `NotReady`, or `Write` or `Flush` as the device
-    /// refused, and then the pool is suspended.
+    /// block that it freed from memory, and the device keeps those that it wrote. Refused, in this order, `Suspended`,
+    /// `NotReady`, or `Write` or `Flush` as the device refused, and then the pool is suspended.
     pub fn sync_step<B: BlockReader>(&mut self, device: &mut B) -> Result<Progress, PoolError>
         requires { B.size device.old ≡ geometry_of self.old }
         ensures size { B.size device.new ≡ B.size device.old }
