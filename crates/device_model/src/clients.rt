@@ -1,9 +1,10 @@
 //! What callers rest on: one function for each promise of this crate's calls, proved from the contract of the call
 //! alone. So it is refused as soon as that contract says less.
 
-ghost use Rattle.std.specs.Prelude.{◌≡◌, ◌∷◌, [], IfOk, IsErrOf, IsOk, IsTrue, OnErr, OnOk, length, true};
+ghost use Rattle.std.specs.Prelude.{◌≡◌, ◌≢◌, ◌∷◌, [], false, IfOk, IsErrOf, IsOk, IsTrue, None, OnErr, OnOk, length, true};
 ghost use Rattle.base.specs.disk.Calls.{IsOnDevice};
 ghost use Rattle.base.specs.disk.Disk.{HasEarlierWrites, bytes_of, disk_size};
+ghost use Rattle.device_model.specs.FileState.{none_refused};
 ghost use Rattle.device_model.specs.MemState.{blank, zeros};
 
 use crate::device::SectorDevice;
@@ -11,6 +12,7 @@ use crate::fault::Fault;
 use crate::file::FileDevice;
 use crate::held_file::{Access, FileRefusal, HeldFile};
 use crate::memory::MemDevice;
+use crate::refused_call::RefusedCall;
 use crate::sector_file::SectorFile;
 use base::{Piece, PoolError, RefusedCalls};
 use std::alloc::Global;
@@ -132,6 +134,24 @@ fn a_device_on_a_file_has_refused_nothing_at_first<F: SectorFile + Drop>(
     let refused = device.refused();
     prove!(refused == RefusedCalls::NONE);
     Ok(())
+}
+
+fn a_device_on_a_file_has_no_last_error_at_first<F: SectorFile + Drop>(
+    file: F,
+) -> Result<bool, PoolError>
+    ensures { IfOk result (λ there. there ≡ false) }
+{
+    let device = FileDevice::new(file)?;
+    Ok(device.last_error().is_some())
+}
+
+fn a_call_that_a_device_on_a_file_refused_has_a_cause<F: SectorFile + Drop>(
+    device: &mut FileDevice<F>,
+) -> Option<RefusedCall>
+    ensures { device.new.refused ≢ none_refused → result ≢ None }
+{
+    let _ = device.flush();
+    device.last_error()
 }
 
 fn a_device_that_holds_its_file_has_its_lock<F: SectorFile + HeldFile + OpenFile + Drop>(

@@ -11,10 +11,13 @@
 //!
 //! `held_file.rt` opens files, and takes their locks.
 
-ghost use Rattle.std.specs.Prelude.{◌≡◌, ◌*◌, Bool, IfErr, IfOk, IsTrue};
-ghost use Rattle.device_model.specs.FileState.{none_refused};
+ghost use Rattle.std.specs.Prelude.{◌≡◌, ◌*◌, Bool, IfErr, IfOk, IsTrue, None, length};
+ghost use Rattle.base.specs.disk.Calls.{Flushes, IsOnDevice, Writes};
+ghost use Rattle.base.specs.disk.Disk.{disk_size};
+ghost use Rattle.device_model.specs.FileState.{none_refused, refused_as};
 
 use crate::device::SectorDevice;
+use crate::refused_call::{CallCause, FileCall, RefusedCall};
 use crate::sector_file::SectorFile;
 use base::{PoolError, RefusedCalls};
 use std::fs::File;
@@ -29,29 +32,32 @@ use std::marker::Model;
 /// is open for appending won't do: the system then writes at its end. If the file has become shorter than the device,
 /// each write is refused `Write`, each flush `Flush`, and each read past the file's end `Read`.
 ///
-/// Contracts see its size in bytes, the counts of the calls that it refused, and the disk that the file shows.
+/// Contracts see its size in bytes, the counts of the calls that it refused, the last of these, and the disk that the
+/// file shows.
 #[derive(Debug, Drop)]
 pub struct FileDevice<F: SectorFile + Drop = File> {
     file: F,
     sectors: u64,
     refused: RefusedCalls,
+    last: Option<RefusedCall>,
 }
 
 impl<F: SectorFile + Drop> Model for FileDevice<F> {
     ghost use Rattle.std.specs.Prelude.{◌*◌, IsTrue};
     ghost use Rattle.base.specs.formats.Geometry.{sector_size};
-    ghost use Rattle.device_model.specs.FileState.{FileState, ShowsDisk};
+    ghost use Rattle.device_model.specs.FileState.{FileState, IsSoundFile};
 
     ghost Value = { FileState };
 
     ghost view = { λ device. record {
       size = sector_size * device.sectors;
       refused = device.refused;
+      last = device.last;
       disk = F.disk device.file;
     } };
 
-    ghost invariant = { λ device. IsTrue F.keeps_model
-        → ShowsDisk device.sectors (F.disk device.file) };
+    ghost invariant = { λ device. IsSoundFile F.keeps_model device.sectors (F.disk device.file)
+        device.refused device.last };
 }
 
 impl<F: SectorFile + Drop> FileDevice<F> {
@@ -61,6 +67,7 @@ impl<F: SectorFile + Drop> FileDevice<F> {
     /// `Read` if the file doesn't return its length, or is not a regular file.
     pub fn new(file: F) -> Result<Self, PoolError>
         ensures none_refused { IfOk result (λ device. device.refused ≡ none_refused) }
+        ensures no_error { IfOk result (λ device. device.last ≡ None) }
         ensures disk { IfOk result (λ device. device.disk ≡ F.disk file) }
         ensures refused { IfErr result (λ e. e ≡ PoolError.Read) }
     {
@@ -71,6 +78,7 @@ impl<F: SectorFile + Drop> FileDevice<F> {
             file,
             sectors,
             refused: RefusedCalls::NONE,
+            last: None,
         })
     }
 
@@ -79,6 +87,14 @@ impl<F: SectorFile + Drop> FileDevice<F> {
         ensures { result ≡ self.now.refused }
     {
         self.refused
+    }
+
+    /// The last call that it refused, with its byte place and the cause. `None` if it has refused no call.
+    pub fn last_error(&self) -> Option<RefusedCall>
+        ensures last { result ≡ self.now.last }
+        ensures none { result ≡ None → self.now.refused ≡ none_refused }
+    {
+        self.last
     }
 }
 
@@ -102,27 +118,57 @@ impl<F: SectorFile + Drop> SectorDevice for FileDevice<F> {
     }
 
     fn read(&mut self, at: u64, into: &mut [u8]) -> Result<(), PoolError> {
-        if self.file.read_sectors(at, into).is_err() {
+        if let Err(cause) = self.file.read_sectors(at, into) {
             self.refused.count(PoolError::Read);
+            let call = FileCall::Read(at);
+            self.last = Some(RefusedCall { call, cause });
             return Err(PoolError::Read);
         }
         Ok(())
     }
 
     fn write(&mut self, at: u64, bytes: &[u8]) -> Result<(), PoolError> {
-        // a write to a file that has become shorter would make it longer
-        if !self.file.has_sectors(self.sectors) || self.file.write_sectors(at, bytes).is_err() {
+        if let Err(cause) = write_whole(&mut self.file, self.sectors, at, bytes) {
             self.refused.count(PoolError::Write);
+            let call = FileCall::Write(at);
+            self.last = Some(RefusedCall { call, cause });
             return Err(PoolError::Write);
         }
         Ok(())
     }
 
     fn flush(&mut self) -> Result<(), PoolError> {
-        if !self.file.has_sectors(self.sectors) || self.file.sync().is_err() {
+        if let Err(cause) = sync_whole(&mut self.file, self.sectors) {
             self.refused.count(PoolError::Flush);
+            let call = FileCall::Flush;
+            self.last = Some(RefusedCall { call, cause });
             return Err(PoolError::Flush);
         }
         Ok(())
     }
+}
+
+// Writes to a file that still has so many sectors: a write to one that has become shorter would make it longer.
+fn write_whole<F: SectorFile>(
+    file: &mut F,
+    sectors: u64,
+    at: u64,
+    bytes: &[u8],
+) -> Result<(), CallCause>
+    requires { IsTrue F.keeps_model
+        → IsOnDevice (disk_size (F.disk file.old)) at (length bytes.now) }
+    ensures { IsTrue F.keeps_model → Writes (F.disk file.old) at bytes.now
+        (refused_as PoolError.Write result) (F.disk file.new) }
+{
+    file.check_sectors(sectors)?;
+    file.write_sectors(at, bytes)
+}
+
+// Syncs a file that still has so many sectors.
+fn sync_whole<F: SectorFile>(file: &mut F, sectors: u64) -> Result<(), CallCause>
+    ensures { IsTrue F.keeps_model → Flushes (F.disk file.old)
+        (refused_as PoolError.Flush result) (F.disk file.new) }
+{
+    file.check_sectors(sectors)?;
+    file.sync()
 }

@@ -13,6 +13,7 @@ mod held_file;
 mod memory;
 mod noted_bytes;
 mod notes;
+mod refused_call;
 mod sector_file;
 
 pub use device::SectorDevice;
@@ -20,4 +21,5 @@ pub use fault::Fault;
 pub use file::FileDevice;
 pub use held_file::{Access, FileRefusal, HeldFile};
 pub use memory::MemDevice;
+pub use refused_call::{CallCause, FileCall, RefusedCall};
 pub use sector_file::SectorFile;

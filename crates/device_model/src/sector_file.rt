@@ -5,18 +5,22 @@
 //! it, and a system may lose what it said was synced. So of the five methods for such a file no proof says which call
 //! of the system they make, and each of them is one such call.
 //!
+//! A refused call has its cause, for the text of the refusal (`FileDevice::last_error`).
+//!
 //! A device asks before each write and each flush whether its file is still whole. It asks by a seek to the end, not by
 //! `fstat`: once a program has asked for a file's times, Linux dates the file anew at the next write, and the next sync
 //! writes the inode too. No read or write is made at the place that a seek leaves behind.
 
-ghost use Rattle.std.specs.Prelude.{◌≡◌, ◌+◌, ◌*◌, ◌<◌, ◌≤◌, Bool, IsTrue, IfErr, IfSome, OnOk, false, length, true};
+ghost use Rattle.std.specs.Prelude.{◌≡◌, ◌+◌, ◌*◌, ◌<◌, ◌≤◌, Bool, IsTrue, IfSome, OnOk, false, length};
 ghost use Rattle.base.specs.formats.Fields.{part};
 ghost use Rattle.base.specs.formats.Geometry.{sector_size};
 ghost use Rattle.base.specs.disk.Disk.{Disk, HasEarlierWrites, bytes_of, disk_size};
+ghost use Rattle.base.specs.declared.error.PoolError.TheVariants as PoolError;
 ghost use Rattle.base.specs.disk.Calls.{Flushes, IsOnDevice, Writes};
-ghost use Rattle.device_model.specs.FileState.{no_disk};
+ghost use Rattle.device_model.specs.FileState.{no_disk, refused_as};
 
-use base::{PoolError, SECTOR_SIZE};
+use crate::refused_call::CallCause;
+use base::SECTOR_SIZE;
 use std::fs::OpenFile;
 use std::io::{Seek, SeekFrom};
 use std::os::unix::fs::FileExt;
@@ -38,35 +42,34 @@ pub trait SectorFile {
             → IfSome result (λ count. disk_size (disk self.now) ≡ sector_size * count) }
         ensures earlier { IsTrue keeps_model → HasEarlierWrites (disk self.now) };
 
-    /// Whether the file has at least so many whole sectors now. False if it doesn't return its length.
-    fn has_sectors(&mut self, count: u64) -> bool
+    /// Tests that the file has at least so many whole sectors now. Refused if it has fewer, or doesn't return its
+    /// length.
+    fn check_sectors(&mut self, count: u64) -> Result<(), CallCause>
         ensures size { IsTrue keeps_model
-            → result ≡ true → sector_size * count ≤ disk_size (disk self.old) }
+            → OnOk result (sector_size * count ≤ disk_size (disk self.old)) }
         ensures disk { IsTrue keeps_model → disk self.new ≡ disk self.old };
 
-    /// Reads whole sectors from byte place `at`. Refused with `Read` if the file can't be read there, or ends before
-    /// the last of these bytes; `into` may then hold anything.
-    fn read_sectors(&mut self, at: u64, into: &mut [u8]) -> Result<(), PoolError>
+    /// Reads whole sectors from byte place `at`. Refused if the file can't be read there, or ends before the last of
+    /// these bytes; `into` may then hold anything.
+    fn read_sectors(&mut self, at: u64, into: &mut [u8]) -> Result<(), CallCause>
         requires { IsTrue keeps_model
             → IsOnDevice (disk_size (disk self.old)) at (length into.old) }
-        ensures refusal { IfErr result (λ e. e ≡ PoolError.Read) }
         ensures bytes { IsTrue keeps_model
             → OnOk result (into.new ≡ part (bytes_of (disk self.old).now) at (length into.old)) }
         ensures disk { IsTrue keeps_model → disk self.new ≡ disk self.old };
 
-    /// Writes whole sectors at byte place `at`. Refused with `Write` if not all of these bytes could be written; a
-    /// part of them may then stand there.
-    fn write_sectors(&mut self, at: u64, bytes: &[u8]) -> Result<(), PoolError>
+    /// Writes whole sectors at byte place `at`. Refused if not all of these bytes could be written; a part of them may
+    /// then stand there.
+    fn write_sectors(&mut self, at: u64, bytes: &[u8]) -> Result<(), CallCause>
         requires { IsTrue keeps_model
             → IsOnDevice (disk_size (disk self.old)) at (length bytes.now) }
-        ensures refusal { IfErr result (λ e. e ≡ PoolError.Write) }
-        ensures disk { IsTrue keeps_model
-            → Writes (disk self.old) at bytes.now result (disk self.new) };
+        ensures disk { IsTrue keeps_model → Writes (disk self.old) at bytes.now
+            (refused_as PoolError.Write result) (disk self.new) };
 
-    /// Syncs what was written. Refused with `Flush` if that fails.
-    fn sync(&mut self) -> Result<(), PoolError>
-        ensures refusal { IfErr result (λ e. e ≡ PoolError.Flush) }
-        ensures disk { IsTrue keeps_model → Flushes (disk self.old) result (disk self.new) };
+    /// Syncs what was written. Refused if that fails.
+    fn sync(&mut self) -> Result<(), CallCause>
+        ensures disk { IsTrue keeps_model → Flushes (disk self.old)
+            (refused_as PoolError.Flush result) (disk self.new) };
 }
 
 impl<F: FileExt + OpenFile + Seek> SectorFile for F {
@@ -82,23 +85,24 @@ impl<F: FileExt + OpenFile + Seek> SectorFile for F {
         Some(whole_sectors(metadata.len()))
     }
 
-    fn has_sectors(&mut self, count: u64) -> bool {
-        match self.seek(SeekFrom::End(0)) {
-            Ok(length) => count <= whole_sectors(length),
-            Err(_) => false,
+    fn check_sectors(&mut self, count: u64) -> Result<(), CallCause> {
+        let length = self.seek(SeekFrom::End(0))?;
+        if whole_sectors(length) < count {
+            return Err(CallCause::Shorter);
         }
+        Ok(())
     }
 
-    fn read_sectors(&mut self, at: u64, into: &mut [u8]) -> Result<(), PoolError> {
-        self.read_exact_at(into, at).map_err(|_| PoolError::Read)
+    fn read_sectors(&mut self, at: u64, into: &mut [u8]) -> Result<(), CallCause> {
+        self.read_exact_at(into, at).map_err(CallCause::System)
     }
 
-    fn write_sectors(&mut self, at: u64, bytes: &[u8]) -> Result<(), PoolError> {
-        self.write_all_at(bytes, at).map_err(|_| PoolError::Write)
+    fn write_sectors(&mut self, at: u64, bytes: &[u8]) -> Result<(), CallCause> {
+        self.write_all_at(bytes, at).map_err(CallCause::System)
     }
 
-    fn sync(&mut self) -> Result<(), PoolError> {
-        self.sync_all().map_err(|_| PoolError::Flush)
+    fn sync(&mut self) -> Result<(), CallCause> {
+        self.sync_all().map_err(CallCause::System)
     }
 }
 

@@ -1,7 +1,16 @@
-use Rattle.device_model.proofs.ShownDisks.{shown_flushes, shown_kept}
+use Rattle.base.specs.declared.error.PoolError.TheVariants.{Flush}
+use Rattle.device_model.specs.FileState.{refused_as}
+use Rattle.device_model.proofs.ShownDisks.{shown_flushes}
 use Rattle.device_model.proofs.file.FileDeviceSectorDevice.flush.Goals as goal
 
 pub invariant_of-self : goal.invariant_of-self
-invariant_of-self g c = λ keeps.
-    let whole = shown_kept c.self.inside.sectors _ _ (c.has_sectors.ensures.disk keeps) (c.self.invariant keeps) in
-    shown_flushes c.self.inside.sectors _ _ c.sync.result (c.sync.ensures.disk keeps) whole
+invariant_of-self g c = record {
+  shown = λ keeps. shown_flushes c.self.inside.sectors _ _ (refused_as Flush c.sync_whole.result) (c.sync_whole.ensures keeps) (c.self.invariant.shown keeps);
+  none = λ is. cc;
+}
+
+pub invariant_of-self-in_default : goal.invariant_of-self-in_default
+invariant_of-self-in_default g c = record {
+  shown = λ keeps. shown_flushes c.self.inside.sectors _ _ (refused_as Flush c.sync_whole.result) (c.sync_whole.ensures keeps) (c.self.invariant.shown keeps);
+  none = c.self.invariant.none;
+}
