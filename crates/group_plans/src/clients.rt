@@ -2,6 +2,7 @@
 //! alone. So it is refused as soon as that contract says less.
 
 ghost use Rattle.std.specs.Prelude.{ℕ, ◌≡◌, ◌≢◌, ◌≤◌, ◌∷◌, [], IfErr, IfOk, IsTrue, Some, length, map};
+ghost use Rattle.std.specs.FinMap as finite;
 ghost use Rattle.base.specs.declared.error.PoolError.TheVariants as error;
 ghost use Rattle.base.specs.common.Rising.{rising};
 ghost use Rattle.base.specs.formats.Geometry.{block_address, block_count};
@@ -100,6 +101,23 @@ fn a_map_has_no_pointer_past_the_end<B: BlockReader>(
     requires fits { block_address frame.now.blocks ≤ B.size reader.old }
     ensures { IfOk result (λ maps. (m : ObjectMap) → entry_of maps.entries 7 ≡ Some m
         → m.length ≡ Some 8064 → pointer_of_list m.records.items 2 ≡ no_pointer) }
+{
+    read_maps(alloc, reader, frame, tree, contents, objects)
+}
+
+// The map that is read of an object of three bytes has this length.
+fn a_map_has_the_length_of_its_object<B: BlockReader>(
+    alloc: Global,
+    reader: &mut B,
+    frame: &Frame,
+    tree: &Tree,
+    contents: &Contents,
+    objects: &BTreeMap<ObjectId, ObjectChanges>,
+) -> Result<BTreeMap<ObjectId, ObjectMap>, PoolError>
+    requires fits { block_address frame.now.blocks ≤ B.size reader.old }
+    requires object { finite.get (contents_of contents.now).objects 7 ≡ Some (1 ∷ 2 ∷ 3 ∷ []) }
+    ensures { IfOk result (λ maps. (m : ObjectMap) → entry_of maps.entries 7 ≡ Some m
+        → m.length ≡ Some 3) }
 {
     read_maps(alloc, reader, frame, tree, contents, objects)
 }

@@ -15,8 +15,9 @@ ghost use Rattle.device_model.specs.Reading.{OnlyReads};
 ghost use Rattle.object_maps.specs.Cached.{BeginsInside, HoldsObject, IsDamage, IsRecordPointer};
 ghost use Rattle.object_maps.specs.ContentsShown.{contents_of};
 ghost use Rattle.object_maps.specs.Pointers.{pointer_of_list, pointers_of};
+ghost use Rattle.object_maps.specs.Sources.{object_length};
 ghost use Rattle.tree_plans.specs.Pointers.{entry_of};
-ghost use Rattle.group_plans.specs.OldMaps.{AreMapsOf, AreMapsOfObjects, ArePointersOf, IsMapBefore};
+ghost use Rattle.group_plans.specs.OldMaps.{AreMapsOf, AreMapsOfObjects, ArePointersOf, HaveLengthsIn, IsMapBefore};
 ghost use Rattle.group_plans.specs.Prepared.{IsPlainRefusal, IsPrepareRefusal};
 
 use base::{OBJECT_COUNT, ObjectId, Pointer, PoolError, RECORD_SIZE};
@@ -99,6 +100,8 @@ fn read_map<B: BlockReader>(
     requires number { id.0 < object_count }
     ensures reads { OnlyReads B.SectorDevice result reader.old reader.new }
     ensures map { IfOk result (IsMapBefore frame.now.blocks tree.now id.0) }
+    ensures length { IfOk result (λ m.
+        m.length ≡ object_length (contents_of contents.now).objects id.0) }
     ensures refused { IfErr result IsPrepareRefusal }
     ensures exact { IsTrue B.keeps_model → HoldsTree (bytes_of (B.disk reader.old).now) frame.now
         (pointers_of tree.now) (contents_of contents.now).objects
@@ -143,6 +146,8 @@ fn read_changed<B: BlockReader>(
         → entry_of maps.new.entries n ≡ entry_of maps.old.entries n) }
     ensures maps { OnOk result (AreMapsOf frame.now.blocks tree.now maps.old.entries
         → AreMapsOf frame.now.blocks tree.now maps.new.entries) }
+    ensures lengths { OnOk result (HaveLengthsIn (contents_of contents.now).objects maps.old.entries
+        → HaveLengthsIn (contents_of contents.now).objects maps.new.entries) }
     ensures refused { IfErr result IsPrepareRefusal }
     ensures exact { IsTrue B.keeps_model → HoldsTree (bytes_of (B.disk reader.old).now) frame.now
         (pointers_of tree.now) (contents_of contents.now).objects
@@ -165,6 +170,7 @@ fn read_changed<B: BlockReader>(
 // - `all`: there is one for each of them, and none for another object.
 // - `maps`: each has the indirect block that the tree has, and pointers to blocks of the area. No pointer is to a
 //   record that begins at the object's end or after it.
+// - `lengths`: each has the length that the object has in the contents.
 // - `exact`: where the model is kept and the tree is held, its pointers are the tree's.
 //
 // It is refused `NoMemory`, `Read` or `Damaged`. Where the model is kept it is not `Damaged` (`sound`).
@@ -184,6 +190,8 @@ pub(crate) fn read_maps<B: BlockReader>(
     ensures none { IfOk result (λ maps. (n : ℕ) → is_some (entry_of objects.now.entries n) ≡ false
         → is_some (entry_of maps.entries n) ≡ false) }
     ensures maps { IfOk result (λ maps. AreMapsOf frame.now.blocks tree.now maps.entries) }
+    ensures lengths { IfOk result (λ maps.
+        HaveLengthsIn (contents_of contents.now).objects maps.entries) }
     ensures refused { IfErr result IsPrepareRefusal }
     ensures exact { IsTrue B.keeps_model → HoldsTree (bytes_of (B.disk reader.old).now) frame.now
         (pointers_of tree.now) (contents_of contents.now).objects

@@ -1,5 +1,5 @@
 -- What a cache of blocks has of an image, and what a read of a block says.
-use Rattle.std.specs.Prelude.{ℕ, ◌≡◌, ◌<◌, ◌*◌, ◌%◌, ◌⊎◌, List, Contains, Some, length}
+use Rattle.std.specs.Prelude.{ℕ, ◌≡◌, ◌<◌, ◌≤◌, ◌+◌, ◌*◌, ◌%◌, ◌⊎◌, List, Contains, Some, get_or, length}
 use Rattle.std.specs.Ordering.{nat_cmp}
 use Rattle.std.specs.FinMap as finite
 use Rattle.std.specs.FinMap.{FinMap}
@@ -10,7 +10,7 @@ use Rattle.base.specs.disk.Disk.{Apart}
 use Rattle.base.specs.formats.Blocks.{Frame, Opens, payload_at}
 use Rattle.base.specs.formats.Fields.{no_pointer, part}
 use Rattle.base.specs.formats.Geometry.{IsBlockAddress, block_size}
-use Rattle.base.specs.formats.Limits.{record_size}
+use Rattle.base.specs.formats.Limits.{pointer_count, record_size}
 use Rattle.base.specs.tree.Places.{Place}
 use Rattle.base.specs.tree.Places.Place.{Indirect}
 use Rattle.base.specs.tree.PlacedTrees.{HoldsTree}
@@ -64,7 +64,11 @@ IsRecordPointer blocks size r pointer = (pointer ≡ no_pointer) ⊎ ((record_si
 abbrev pub IsReadPayload : List (ℕ × List ℕ) → List ℕ → Frame → ℕ → ℕ → Pointer → List ℕ → Type 0
 IsReadPayload cached image frame kind number pointer payload = Contains cached (pointer.address, payload) ⊎ Opens image frame kind number pointer payload
 
--- and bytes that it may give of such a payload from an offset on
-abbrev pub IsReadPart : List (ℕ × List ℕ) → List ℕ → Frame → ℕ → ℕ → Pointer → ℕ → List ℕ → Type 0
-IsReadPart cached image frame kind number pointer start bytes =
-    (payload : List ℕ) × IsReadPayload cached image frame kind number pointer payload × (bytes ≡ part payload start (length bytes))
+-- record r of an object of this length has zeros past the object's end
+abbrev pub EndsWithObject : ℕ → ℕ → List ℕ → Type 0
+EndsWithObject size r record_payload = (k : ℕ) → size ≤ record_size * r + k → get_or record_payload k 0 ≡ 0
+
+-- and bytes that it may give from an offset on of the payload of record r of object n, whose length is this
+abbrev pub IsReadPart : List (ℕ × List ℕ) → List ℕ → Frame → ℕ → ℕ → ℕ → Pointer → ℕ → List ℕ → Type 0
+IsReadPart cached image frame n r size pointer start bytes =
+    (payload : List ℕ) × IsReadPayload cached image frame 5 (pointer_count * n + r) pointer payload × EndsWithObject size r payload × (bytes ≡ part payload start (length bytes))

@@ -1,6 +1,6 @@
 //! Payloads of tree blocks that were read from a device, by their addresses. The least recently used one goes first.
 
-ghost use Rattle.std.specs.Prelude.{◌≡◌, ◌⊎◌, [], IsTrue, Some, length, nat_eq};
+ghost use Rattle.std.specs.Prelude.{◌≡◌, ◌≢◌, ◌⊎◌, [], IfSome, IsTrue, Some, false, length, nat_eq};
 ghost use Rattle.std.specs.NonZero.{non_zero_usize_get};
 ghost use Rattle.std.specs.List.{IsDistinct};
 ghost use Rattle.std.specs.Map.{keys_of, lookup, remove_entry};
@@ -54,15 +54,23 @@ impl BlockCache {
     }
 
     /// How many blocks there may be.
-    pub fn count(&self) -> NonZeroUsize {
-        self.count
+    pub fn count(&self) -> NonZeroUsize
+        ensures { non_zero_usize_get result ≡ self.now.cap }
+    {
+        match &self.blocks {
+            Some(blocks) => blocks.cap(),
+            None => self.count,
+        }
     }
 
-    /// Copies the payload of the block at an address, if it is there; it is then the most recently used one. It takes
-    /// no memory.
+    /// Copies the payload of the block at an address, if it is there with the length of `into`. It is then the most
+    /// recently used one. It takes no memory.
     pub fn copy(&mut self, address: u64, into: &mut [u8]) -> bool
         ensures hit { IsTrue result → lookup (nat_eq address)
             (promoted (nat_eq address) self.old.entries) ≡ Some into.new }
+        ensures miss { result ≡ false → IfSome (lookup (nat_eq address)
+            (promoted (nat_eq address) self.old.entries))
+            (λ payload. length payload ≢ length into.old) }
         ensures entries { self.new
             ≡ lru_cache (promoted (nat_eq address) self.old.entries) self.old.cap }
         ensures size { length into.new ≡ length into.old }

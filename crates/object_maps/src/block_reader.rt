@@ -147,6 +147,10 @@ pub fn record_pointer(
 
 /// The bytes of a record from the offset `start` in it on, with zeros after the object's end. The record has this
 /// pointer, and the object this length.
+///
+/// # Errors
+/// `Read` if the device refused the read. `Damaged` if the block is none of this place, or if a byte of it past the
+/// object's end isn't zero, also one that is not read.
 pub fn read_part<B: BlockReader>(
     reader: &mut B,
     frame: &Frame,
@@ -168,7 +172,7 @@ pub fn read_part<B: BlockReader>(
         → OnOk result ((k : ℕ) → k < length into.new → get_or into.new k 0 ≡ 0) }
     ensures taken { IsTrue B.keeps_model → pointer.now ≢ no_pointer → OnOk result (IsReadPart
         (B.cached reader.old) (bytes_of (B.disk reader.old).now) frame.now
-        (kind_number Kind.Data) (pointer_count * number + index) pointer.now start into.new) }
+        number index size pointer.now start into.new) }
     ensures zeros { OnOk result ((k : ℕ) → k < length into.new
         → size ≤ record_size * index + (start + k) → get_or into.new k 0 ≡ 0) }
     ensures exact { IsTrue B.keeps_model → (bytes : List ℕ)

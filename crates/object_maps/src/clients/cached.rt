@@ -1,6 +1,7 @@
 //! What callers rest on of blocks that stay in memory, and of reads of one object.
 
-ghost use Rattle.std.specs.Prelude.{◌≡◌, ◌≢◌, ◌≤◌, ◌*◌, ◌∷◌, ℕ, Contains, List, [], IfErr, IfOk, IsTrue, OnOk, drop, false, get_or, length};
+ghost use Rattle.std.specs.Prelude.{◌≡◌, ◌≢◌, ◌≤◌, ◌*◌, ◌∷◌, ℕ, Contains, List, [], IfErr, IfOk, IsTrue, OnOk, drop, false, get_or, length, true};
+ghost use Rattle.std.specs.NonZero.{non_zero_usize_get};
 ghost use Rattle.base.specs.declared.error.PoolError.TheVariants as error;
 ghost use Rattle.base.specs.declared.pointer.Pointer.{Pointer};
 ghost use Rattle.base.specs.disk.Disk.{bytes_of};
@@ -40,6 +41,25 @@ fn a_block_has_the_payload_that_was_put(cache: &mut BlockCache, into: &mut [u8])
 {
     cache.put(4096, &[1, 2, 3]);
     cache.copy(4096, into)
+}
+
+// A payload that the cache has is found, if there is room for just its bytes.
+fn a_block_in_the_cache_is_found(cache: &mut BlockCache, into: &mut [u8]) -> bool
+    requires entries { cache.old.entries ≡ (4096, 1 ∷ 2 ∷ 3 ∷ []) ∷ [] }
+    requires room { length into.old ≡ 3 }
+    ensures found { result ≡ true }
+    ensures bytes { into.new ≡ 1 ∷ 2 ∷ 3 ∷ [] }
+{
+    cache.copy(4096, into)
+}
+
+// A cache for two blocks says so, also once one was put.
+fn a_cache_has_room_for_its_number_of_blocks(cache: &mut BlockCache) -> NonZeroUsize
+    requires { cache.old.cap ≡ 2 }
+    ensures { non_zero_usize_get result ≡ 2 }
+{
+    cache.put(4096, &[1, 2, 3]);
+    cache.count()
 }
 
 // A block that was dropped is not found.
@@ -216,6 +236,25 @@ fn a_block_of_another_record_is_not_taken<B: BlockReader>(
     ensures { OnOk result ⊥ }
 {
     read_part(reader, frame, 7, 2, pointer, 20_000, 1, into)
+}
+
+// Of an object of three bytes, a block whose record has a byte after them is not taken, also if that byte is not read.
+fn a_record_that_goes_on_past_the_end_is_not_taken<B: BlockReader>(
+    reader: &mut B,
+    frame: &Frame,
+    pointer: &Pointer,
+    into: &mut [u8],
+) -> Result<(), PoolError>
+    requires fits { block_address frame.now.blocks ≤ B.size reader.old }
+    requires size { length into.old ≡ 2 }
+    requires keeps { IsTrue B.keeps_model }
+    requires empty { B.cached reader.old ≡ [] }
+    requires there { pointer.now ≢ no_pointer }
+    requires more { get_or (drop 64 (part (bytes_of (B.disk reader.old).now)
+        pointer.now.address 4096)) 4000 0 ≡ 9 }
+    ensures { OnOk result ⊥ }
+{
+    read_part(reader, frame, 7, 0, pointer, 3, 0, into)
 }
 
 // An object without an indirect block has zeros in the place of its payload.

@@ -1,6 +1,6 @@
 //! What callers rest on of a tree in memory: each object has its own map.
 
-ghost use Rattle.std.specs.Prelude.{ℕ, ◌≡◌, ◌∷◌, [], IfOk, List, None, Some};
+ghost use Rattle.std.specs.Prelude.{ℕ, ◌≡◌, ◌∷◌, [], IfOk, List, None, Some, false};
 ghost use Rattle.std.specs.Ordering.{nat_cmp};
 ghost use Rattle.std.specs.FinMap as finite;
 ghost use Rattle.std.specs.FinMap.{FinMap};
@@ -10,7 +10,7 @@ ghost use Rattle.object_maps.specs.Lengths.{HasLengthsOf, lengths_of};
 ghost use Rattle.object_maps.specs.Pointers.{map_among, pointers_of};
 ghost use Rattle.object_maps.specs.Sources.{AreWithin};
 
-use crate::tree::{ObjectEntry, ObjectMap, Tree};
+use crate::tree::{ObjectEntry, ObjectMap, Tree, empty_entries};
 use base::{ObjectId, Pointer};
 use std::alloc::{AllocError, Global};
 use std::collections::BTreeMap;
@@ -36,6 +36,14 @@ fn a_map_that_is_set_stays(tree: &mut Tree, maps: BTreeMap<ObjectId, ObjectMap>)
     ensures others { map_among maps 8 ≡ None → lengths_of tree.new 8 ≡ lengths_of tree.old 8 }
 {
     tree.set_all(maps)
+}
+
+// Entries that are made for a tree have no object, the last one included.
+fn no_object_is_in_new_entries(alloc: Global) -> Result<bool, AllocError>
+    ensures { IfOk result (λ there. there ≡ false) }
+{
+    let entries = empty_entries(alloc)?;
+    Ok(entries[5_291].length.is_some())
 }
 
 // What is kept of a map has its length and its indirect block.

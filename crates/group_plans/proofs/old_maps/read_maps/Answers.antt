@@ -27,6 +27,7 @@ loop-id-preserved g c =
       all = all_more done e c.loop-id.maps.entries c.read_changed.new.maps.entries ens.others ens.there inv.all;
       none = none_more done e c.loop-id.maps.entries c.read_changed.new.maps.entries ens.others inv.none;
       maps = ens.maps inv.maps;
+      lengths = ens.lengths inv.lengths;
       exact = λ keeps held. ens.exact keeps (subst (λ (d : Disk). HoldsTree (bytes_of d.now) c.args.frame.now (pointers_of c.args.tree.now) (contents_of c.args.contents.now).objects) (sym (inv.disk keeps)) held) (inv.exact keeps held);
     }
 

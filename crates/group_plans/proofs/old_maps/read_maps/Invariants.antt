@@ -7,7 +7,7 @@ use Rattle.object_maps.specs.ContentsShown.{contents_of}
 use Rattle.object_maps.specs.Pointers.{pointers_of}
 use Rattle.tree_plans.specs.declared.changes.ObjectChanges.{ObjectChanges}
 use Rattle.tree_plans.specs.Pointers.{entry_of}
-use Rattle.group_plans.specs.OldMaps.{AreMapsOf, AreMapsOfObjects}
+use Rattle.group_plans.specs.OldMaps.{AreMapsOf, AreMapsOfObjects, HaveLengthsIn}
 use Rattle.group_plans.proofs.old_maps.read_maps.Given as goal
 
 -- the device is as it was, and the maps of so many objects were read
@@ -23,6 +23,7 @@ invariant-loop-id g l = record {
   all : (n : ℕ) → n < 5292 → is_some (entry_of done n) ≡ true → is_some (entry_of l.maps.entries n) ≡ true;
   none : (n : ℕ) → is_some (entry_of done n) ≡ false → is_some (entry_of l.maps.entries n) ≡ false;
   maps : AreMapsOf l.frame.blocks l.tree l.maps.entries;
+  lengths : HaveLengthsIn (contents_of l.contents).objects l.maps.entries;
   exact : IsTrue g.B.SectorDevice.keeps_model → HoldsTree (bytes_of (g.B.SectorDevice.disk l.fn.reader).now) l.frame (pointers_of l.tree) (contents_of l.contents).objects
       → AreMapsOfObjects (pointers_of l.tree) l.maps.entries;
 }

@@ -3,7 +3,7 @@ use Rattle.std.specs.Prelude.{min}
 use Rattle.std.proofs.lemmas.Result.{err_from_is_err_and}
 use Rattle.base.specs.disk.Disk.{bytes_of}
 use Rattle.base.specs.tree.PlacedTrees.{padded_record}
-use Rattle.object_maps.proofs.ObjectReads.{hole_bytes, part_bytes, past_bytes, past_zeros, record_hole, record_opens}
+use Rattle.object_maps.proofs.ObjectReads.{ends_with_object, hole_bytes, part_bytes, past_bytes, past_zeros, record_hole, record_opens}
 use Rattle.object_maps.proofs.block_reader.read_part.Goals as goal
 
 pub returns-then-is_none-clause-exact : goal.returns-then-is_none-clause-exact
@@ -51,4 +51,10 @@ pub returns-clause-taken : goal.returns-clause-taken
 returns-clause-taken g c = λ keeps some.
     let into : List ℕ = c.copy_from_slice.new.self in
     let copied : into ≡ take (length into) (drop c.args.start c.read_payload.new.into) = search (rules, arith) in
-    (c.read_payload.new.into, c.in_ok-read_payload.ensures.taken keeps, copied)
+    let payload : List ℕ = c.read_payload.new.into in
+    let end : c.min-end.result ≡ min 4032 (c.args.size - 4032 * c.args.index) = c.min-end.ensures ∙ ap (min 4032) c.saturating_sub.ensures in (
+      payload,
+      c.in_ok-read_payload.ensures.taken keeps,
+      ends_with_object c.args.index c.args.size c.min-end.result payload c.in_ok-read_payload.ensures.size end (c.if-not-are_zeros.ensures.0 refl),
+      copied,
+    )
