@@ -1,20 +1,26 @@
 -- What callers of this crate conclude from the contracts of its calls.
-use Rattle.std.proofs.Common.{◌≡◌, ℕ, zero, suc, Bool, true, false, ◌+◌, ◌<◌, ◌≤◌, List, [], ◌∷◌, length, take, drop, sym, ap, refl, subst, ◌∙◌, arith}
-use Rattle.std.specs.Prelude.{IfNone, IfSome, Option, None, Some, filter, slice_get, is_some, nat_le, nat_lt}
+use Rattle.std.proofs.Common.{◌≡◌, ℕ, zero, suc, Bool, true, false, ◌+◌, ◌<◌, ◌≤◌, List, [], ◌∷◌, ◌++◌, inl, inr, length, length-append, length-drop, take, drop, sym, ap, refl, subst, ◌∙◌, arith}
+use Rattle.std.specs.Prelude.{◌-◌, IfNone, IfSome, Option, None, Some, filter, replicate, slice_get, is_some, nat_le, nat_lt}
 use Rattle.std.proofs.lemmas.Bool.{le-leb, lt-leb, ltb-false}
 use Rattle.std.specs.Int.{from_le_bytes, w64}
-use Rattle.std.proofs.lemmas.List.{drop-drop}
+use Rattle.std.proofs.lemmas.List.{append-nil, drop-drop, take_all}
 use Rattle.std.proofs.lemmas.List.Sums.{sum_by-cons}
 use Rattle.base.specs.formats.Blocks.{Frame, IsBlock}
-use Rattle.base.specs.formats.Chain.{Header, LogPiece}
+use Rattle.base.specs.formats.Chain.{Header, LogBlock, LogPiece}
 use Rattle.base.specs.formats.Fields.{number_at, part}
 use Rattle.base.specs.formats.Geometry.{IsBlockAddress}
 use Rattle.base.specs.formats.Limits.{log_block_room}
-use Rattle.base.specs.formats.Records.{Record, size_of}
+use Rattle.base.specs.formats.Records.{IsAllowed, Record, bytes_of_record, size_of}
 use Rattle.base.proofs.formats.Pieces.{piece_block}
-use Rattle.base.specs.steps.Logs.{KeptBlock, blocks_before, total_size}
-use Rattle.intent_log.specs.Chains.{IsBlockAt, IsChainFrom, IsPieceAt, frame_of_chain, header_of_chain}
-use Rattle.intent_log.specs.Kept.{IsFrontGiven, KeptLog}
+use Rattle.base.specs.steps.Logs.{Begun, IsTaken, KeptBlock, Taken, blocks_before, total_size}
+use Rattle.base.proofs.formats.RecordSizes.{length-bytes_of_record}
+use Rattle.intent_log.specs.Fillings.{IsNextBlock, taken_of}
+use Rattle.intent_log.specs.declared.filling.NextLogBlock.{NextLogBlock}
+use Rattle.intent_log.proofs.LongRecords.{short_piece}
+use Rattle.intent_log.proofs.PackedRecords.{length-bytes_of_records}
+use Rattle.std.proofs.lemmas.List.Elements.{All-cons, All-nil}
+use Rattle.intent_log.specs.Chains.{HasOneRecord, IsBlockAt, IsChainFrom, IsPieceAt, frame_of_chain, header_of_chain}
+use Rattle.intent_log.specs.Kept.{IsFrontGiven, RunLog}
 use Rattle.intent_log.specs.Packing.{HoldsUsed, IsBegunFirst, IsCount, IsPackedAs, IsPackedFront, block_of, logged, used_of}
 use Rattle.intent_log.specs.declared.packing.Packed.{Packed}
 use Rattle.intent_log.specs.declared.packing.Packed.TheVariants.{Whole, First}
@@ -32,6 +38,36 @@ none_at_0 image frame h (p ∷ ps) at (piece, rest) =
 pub some_piece : (image : List ℕ) (frame : Frame) (h : ChainHeader) (p : LogPiece) (ps : List LogPiece) → IsPieceAt image frame h p → IsChainFrom image frame h ps → 0 < length ps
 some_piece image frame h p [] piece chain = absurd (chain p piece)
 some_piece image frame h p (q ∷ ps) piece chain = omega arith
+
+-- a block of one record is a piece
+pub one_record : (image : List ℕ) (frame : Frame) (h : ChainHeader) (r : Record) → HasOneRecord image frame h.import_number h.address h.number r → (p : LogPiece) × IsPieceAt image frame h p
+one_record image frame h r has =
+    let long = length-bytes_of_record r in
+    let b : LogBlock = record { address = h.address; next = number_at has.payload 8; used = bytes_of_record r } in
+    let p : LogPiece = record { address = h.address; behind = []; next = number_at has.payload 8; records = r ∷ [] } in
+    let short = has.short in
+    let at : IsBlockAt image frame h b = record {
+      address_is = refl;
+      in_area = has.in_area;
+      group = has.group;
+      payload = has.payload;
+      sealed = has.sealed;
+      fields = record {
+        chain_is = has.chain_is;
+        next_is = refl;
+        used_is = has.used_is ∙ sym long;
+        fits = omega (arith, long, short);
+        rest = has.rest ∙ ap (λ (n : ℕ). bytes_of_record r ++ replicate (4008 - n) 0) (sym long);
+      };
+    } in (
+      p,
+      short_piece image frame h b p at (record {
+        address_is = refl;
+        none_behind = refl;
+        next_is = refl;
+        are = record { some = omega arith; allowed = All-cons IsAllowed r [] has.allowed (All-nil IsAllowed); spelled = sym (append-nil (bytes_of_record r)) };
+      }),
+    )
 
 -- a packed block that stands at its place is the log block there
 pub stands_packed : (place : NewBlock) (block : List ℕ) (used : List ℕ) → HoldsUsed place block used → (image : List ℕ) (frame : Frame) → frame.guid ≡ place.guid
@@ -135,7 +171,38 @@ all_from header (b ∷ bs) none = by_test (nat_lt b.number header.number) refl (
         let rest : blocks_before header bs ≡ [] = rw (sym is) at none in
         rw (le-leb header.number b.number le) (ap (λ (l : List KeptBlock). b ∷ l) (all rest))
 
-pub none_is_before : (header : Header) (old new : KeptLog) (given : Option ℕ) → IfNone given (blocks_before header old.kept ≡ []) → IfNone given (new ≡ old) → is_some given ≡ false
+pub none_is_before : (header : Header) (old new : RunLog) (given : Option ℕ) → IfNone given (blocks_before header old.kept ≡ []) → IfNone given (new ≡ old) → is_some given ≡ false
     → new.kept ≡ blocks_from header old.kept
-none_is_before header old new None none same end = ap (λ (k : KeptLog). k.kept) same ∙ sym (all_from header old.kept none)
+none_is_before header old new None none same end = ap (λ (k : RunLog). k.kept) same ∙ sym (all_from header old.kept none)
 none_is_before header old new (Some address) none same end = absurd cc
+
+-- the number of used bytes of the block that is written next
+pub used_number : (place : NewBlock) (l : RunLog) (b : NextLogBlock) → IsNextBlock place l b → number_at b.block 80 ≡ length (taken_of l b.filling).used
+used_number place l b is = number_behind b.block is.holds.payload 16 is.holds.sealed.payload_is ∙ is.holds.fields.used_is
+
+-- all of one record that fits
+pub one_used : (place : NewBlock) (l : RunLog) (b : NextLogBlock) → l.begun ≡ None → length l.pending ≡ 1 → total_size l.pending ≡ 100 → IsNextBlock place l b → number_at b.block 80 ≡ 100
+one_used place l b none one size is =
+    let t : Taken = taken_of l b.filling in
+    used_number place l b is ∙ by t (subst (λ (o : Option Begun). IsTaken o l.pending t) none is.takes.taken)
+  where
+    only : (taken rest : List Record) → l.pending ≡ taken ++ rest → 0 < length taken → taken ≡ l.pending
+    only taken [] front some = sym (front ∙ append-nil taken)
+    only taken (r ∷ rest) front some = let all = ap (λ (rs : List Record). length rs) front ∙ length-append taken (r ∷ rest) in absurd (omega (arith, all, one, some))
+
+    by : (t : Taken) → IsTaken None l.pending t → length t.used ≡ 100
+    by t (inl (packed, ends, used, begun)) =
+        ap (λ (bytes : List ℕ). length bytes) used ∙ length-bytes_of_records t.begins ∙ ap total_size (only t.begins t.pending packed.front packed.some) ∙ size
+    by t (inr (r, front, begins, long, ends, used, begun)) = let first = first_size l.pending t.pending r front in absurd (omega (arith, first, long, size))
+
+-- and what is left of one that is begun
+pub rest_used : (place : NewBlock) (l : RunLog) (b : NextLogBlock) (r : Record) → l.begun ≡ Some (record { logged = r; written = 8016 }) → size_of r ≡ 8017 → IsNextBlock place l b → number_at b.block 80 ≡ 1
+rest_used place l b r some size is =
+    let t : Taken = taken_of l b.filling in
+    let left = length-drop 8016 (bytes_of_record r) in
+    let long = length-bytes_of_record r in
+    let one : length (drop 8016 (bytes_of_record r)) ≡ 1 = omega (arith, left, long, size) in
+    used_number place l b is ∙ ap (λ (bytes : List ℕ). length bytes) (by t (subst (λ (o : Option Begun). IsTaken o l.pending t) some is.takes.taken) ∙ take_all 4008 (drop 8016 (bytes_of_record r)) (omega (arith, one))) ∙ one
+  where
+    by : (t : Taken) → IsTaken (Some (record { logged = r; written = 8016 })) l.pending t → t.used ≡ take 4008 (drop 8016 (bytes_of_record r))
+    by t (begins, pending, used, rest) = used

@@ -15,10 +15,6 @@ use Rattle.intent_log.specs.declared.begun.BegunRecord.{BegunRecord}
 use Rattle.intent_log.specs.declared.kept_block.LogHeader.{LogHeader}
 use Rattle.intent_log.specs.declared.kept_block.KeptBlock as code
 
--- a log of so many flushed blocks from the front, and of which nothing is pending
-abbrev pub log_with : ℕ → List code.KeptBlock → Option Begun → Header → Log
-log_with f bs begun next = record { unsynced = []; begun = begun; pending = []; kept = shown_blocks f bs; next = next }
-
 abbrev flush : KeptBlock → KeptBlock
 flush b = record b { flushed = true }
 
@@ -40,9 +36,8 @@ all_flushed f bs =
     sym (map-append (shown_block true) (take f bs) (drop f bs)) ∙ ap (λ (l : List code.KeptBlock). map (shown_block true) l) (take-append-drop f bs) in
     all ∙ sym (split ∙ whole)
 
-pub flushed_log : (f n : ℕ) (bs : List code.KeptBlock) (begun : Option Begun) (next : Header) → n ≡ length bs
-    → log_with n bs begun next ≡ log_after_flush (log_with f bs begun next)
-flushed_log f n bs begun next all = λ i. record { unsynced = []; begun = begun; pending = []; kept = (ap (λ (k : ℕ). shown_blocks k bs) all ∙ all_flushed f bs) i; next = next }
+pub flushed_blocks : (f n : ℕ) (bs : List code.KeptBlock) → n ≡ length bs → shown_blocks n bs ≡ map (λ (b : KeptBlock). record b { flushed = true }) (shown_blocks f bs)
+flushed_blocks f n bs all = ap (λ (k : ℕ). shown_blocks k bs) all ∙ all_flushed f bs
 
 positive : (n : ℕ) → nat_lt 0 (suc n) ≡ true
 positive n = grind (arith, nat_tests)
@@ -59,8 +54,8 @@ before : (f n : ℕ) → nat_lt 0 (n - f) ≡ nat_lt f n
 before f n = grind (arith, nat_tests)
 
 -- some await a flush if not all are certain
-pub some_await : (f n : ℕ) (bs : List code.KeptBlock) (begun : Option Begun) (next : Header) → n ≡ length bs → nat_lt f n ≡ awaits_flush (log_with f bs begun next)
-some_await f n bs begun next all =
+pub some_await : (f n : ℕ) (bs : List code.KeptBlock) → n ≡ length bs → nat_lt f n ≡ list_any (λ (b : KeptBlock). not b.flushed) (shown_blocks f bs)
+some_await f n bs all =
     ap (nat_lt f) all
     ∙ sym (list_any-append (λ (b : KeptBlock). not b.flushed) (map (shown_block true) (take f bs)) (map (shown_block false) (drop f bs))
     ∙ (λ i. none_awaits (take f bs) i || all_await (drop f bs) i)
@@ -152,7 +147,7 @@ module _ (group : ℕ) (begun : Option BegunRecord) where
       (needed_is group begun true b) refl (found_in f bs)
 
   pub header_found : (f : ℕ) (bs : List code.KeptBlock) (next : Header) (found : Option code.KeptBlock) → found ≡ find needs_block bs
-      → unwrap_or (option_map (λ (b : code.KeptBlock). header_fields b.header) found) next ≡ header_for group (log_with f bs (option_map begun_shown begun) next)
+      → unwrap_or (option_map (λ (b : code.KeptBlock). header_fields b.header) found) next ≡ unwrap_or (option_map header_at (find needs (shown_blocks f bs))) next
   header_found f bs next found is =
       ap (λ (o : Option Header). unwrap_or o next) (ap (λ (o : Option code.KeptBlock). option_map (λ (b : code.KeptBlock). header_fields b.header) o) is ∙ sym (found_in f bs))
 
@@ -172,7 +167,7 @@ found_low test n (c ∷ cs) b (here, rest) is = by_test (λ later. found_low tes
 abbrev pub has_receipt : Receipt → code.KeptBlock → Bool
 has_receipt r b = list_any (is_same_receipt r) (ends_of b.holds)
 
-abbrev is_in_flushed : Receipt → KeptBlock → Bool
+abbrev pub is_in_flushed : Receipt → KeptBlock → Bool
 is_in_flushed r b = b.flushed && has_record b (committed r)
 
 any_flushed : (r : Receipt) (bs : List code.KeptBlock) → list_any (is_in_flushed r) (map (shown_block true) bs) ≡ list_any (has_receipt r) bs
@@ -187,9 +182,8 @@ or_false : (x : Bool) → (x || false) ≡ x
 or_false true = refl
 or_false false = refl
 
-pub flushed_has : (r : Receipt) (f : ℕ) (bs : List code.KeptBlock) (begun : Option Begun) (next : Header)
-    → list_any (has_receipt r) (take f bs) ≡ is_flushed_in (log_with f bs begun next) (committed r)
-flushed_has r f bs begun next =
+pub flushed_has : (r : Receipt) (f : ℕ) (bs : List code.KeptBlock) → list_any (has_receipt r) (take f bs) ≡ list_any (is_in_flushed r) (shown_blocks f bs)
+flushed_has r f bs =
     sym (list_any-append (is_in_flushed r) (map (shown_block true) (take f bs)) (map (shown_block false) (drop f bs))
     ∙ (λ i. any_flushed r (take f bs) i || none_flushed r (drop f bs) i) ∙ or_false (list_any (has_receipt r) (take f bs)))
 

@@ -29,15 +29,9 @@ module _ (room : ℕ) (least : 4 ≤ room) where
 four : 4 ≤ log_block_room
 four = omega arith
 
--- no long record begins with bytes that are too few, nor with those that say another length
+-- no long record begins with bytes that are too few
 pub none_of_length : (used : List ℕ) → (length used ≡ 4008 → ⊥) → BeginsNone used
 none_of_length used other r allowed long is = other (part_long log_block_room four used r long is)
-
-pub none_of_size : (used : List ℕ) (size : ℕ) → from_le_bytes w32 (take 4 used) ≡ size → (4008 < size → size ≤ 65536 → ⊥) → BeginsNone used
-none_of_size used size said other r allowed long is =
-    let same : size_of r ≡ size = sym (part_said log_block_room four used r allowed is) ∙ said in
-    let within = allowed.size in
-    other (omega (arith, same, long)) (omega (arith, same, within))
 
 -- a record is all of the bytes
 pub no_record : (bytes : List ℕ) (r : Record) (rest : List ℕ) → ((s : Record) (more : List ℕ) → bytes ≡ bytes_of_record s ++ more → IsAllowed s → more ≡ rest) → 0 < length rest → IsNoRecord bytes

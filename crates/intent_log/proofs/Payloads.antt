@@ -36,9 +36,3 @@ none_of_zeros payload chain used used_is other block p =
     let zeros : List ℕ = replicate (log_block_room - length block.used) 0 in
     let back : drop (24 + used) payload ≡ zeros = sym (behind payload used) ∙ rw (size, p.rest) (drop-append_seam {A = ℕ} block.used zeros) in
     other (back ∙ ap (λ (n : ℕ). replicate n 0) (sym (ap (λ (l : List ℕ). length l) back ∙ length-replicate (log_block_room - length block.used) 0)))
-
--- nor more of them than there is room
-pub none_too_long : (payload : List ℕ) (chain used : ℕ) → number_at payload 16 ≡ used → 4008 < used → HasNoPayload payload chain
-none_too_long payload chain used used_is long block p =
-    let fits = p.fits in
-    omega (arith, fits, long, sym used_is ∙ p.used_is)

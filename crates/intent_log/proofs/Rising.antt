@@ -91,6 +91,10 @@ pub newest_has_not : (r : Receipt) (last flushed : ℕ) (newest : code.KeptBlock
 newest_has_not r last flushed newest bs next within at other =
     newest_of r last flushed newest bs next within at ∙ ap (λ (x : Bool). list_any (has_receipt r) (take last bs) || x) other ∙ or_false (list_any (has_receipt r) (take last bs))
 
+-- the blocks behind the first one
+pub rises_behind : (b : code.KeptBlock) (bs : List code.KeptBlock) → AreRising (b ∷ bs) → AreRising bs
+rises_behind b bs rising i j d le within = rising (suc i) (suc j) d (omega (arith, le)) (omega (arith, within))
+
 -- a block that goes as high as all before it
 pub rises_on : (top : ℕ) (bs : List code.KeptBlock) (b : code.KeptBlock) → AreRising bs → ReachUpTo top bs → top ≤ b.last.0 → AreRising (bs ++ b ∷ [])
 rises_on top bs b rising upto above i j d le within = elim (cases_lt j (length bs)) [

@@ -1,9 +1,10 @@
 -- What is read of a chain of log blocks.
-use Rattle.std.specs.Prelude.{ℕ, ◌≡◌, ◌≤◌, ◌<◌, ◌⊎◌, List, [], ◌∷◌, All, length, None, take}
+use Rattle.std.specs.Prelude.{ℕ, ◌≡◌, ◌≤◌, ◌<◌, ◌-◌, ◌++◌, ◌⊎◌, List, [], ◌∷◌, All, drop, length, None, replicate, take}
 use Rattle.std.specs.Int.{from_le_bytes, w32}
 use Rattle.base.specs.declared.error.PoolError.{PoolError}
 use Rattle.base.specs.declared.error.PoolError.TheVariants.{NoMemory, Read}
-use Rattle.base.specs.formats.Blocks.{Frame}
+use Rattle.base.specs.formats.Blocks.{Frame, IsBlock}
+use Rattle.base.specs.formats.Fields.{number_at, part}
 use Rattle.base.specs.formats.Geometry.{IsBlockAddress}
 use Rattle.base.specs.formats.Chain.{Header, LogBlock, LogPiece, IsLogPayload, IsLogBlock, AreLogBlocks, AreParts, IsPiece, IsChain, IsLongPiece, addresses_of, after_blocks, block_addresses}
 use Rattle.base.specs.formats.Limits.{log_block_room}
@@ -42,6 +43,18 @@ HasNoPieceAt image frame h = (piece : LogPiece) → IsPieceAt image frame h piec
 -- the longest chain from a header on
 abbrev pub IsChainFrom : List ℕ → Frame → ChainHeader → List LogPiece → Type 0
 IsChainFrom image frame h pieces = IsChain image (frame_of_chain frame h) h.import_number (header_of_chain h) pieces
+
+-- The block at this address is sealed with this number, for this chain. It has the bytes of one record, and then zeros.
+pub record HasOneRecord (image : List ℕ) (frame : Frame) (chain address number : ℕ) (r : Record) : Type 0 where
+  pub in_area : IsBlockAddress frame.blocks address
+  pub group : ℕ
+  pub payload : List ℕ
+  pub sealed : IsBlock (part image address 4096) 6 frame.guid group number payload
+  pub chain_is : number_at payload 0 ≡ chain
+  pub used_is : number_at payload 16 ≡ size_of r
+  pub rest : drop 24 payload ≡ bytes_of_record r ++ replicate (4008 - size_of r) 0
+  pub allowed : IsAllowed r
+  pub short : size_of r ≤ 4008
 
 -- there is no payload of a log block of this chain
 abbrev pub HasNoPayload : List ℕ → ℕ → Type 0

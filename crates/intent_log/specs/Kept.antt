@@ -1,42 +1,45 @@
--- The kept blocks of the log of a run, as contracts see them.
-use Rattle.std.specs.Prelude.{ℕ, ◌≡◌, ◌≤◌, ◌<◌, ◌+◌, ◌-◌, ◌^◌, ◌++◌, ◌∷◌, [], All, Bool, true, false, List, length, map, take, drop, slice_get, Option, Some, None, option_map, cond, nat_le, nat_lt, ◌||◌}
+-- The log of a run, as contracts see it.
+use Rattle.std.specs.Prelude.{ℕ, ◌≡◌, ◌≤◌, ◌<◌, ◌+◌, ◌-◌, ◌^◌, ◌++◌, ◌∷◌, [], All, Bool, true, false, List, length, map, take, drop, slice_get, Option, Some, None, option_map, vec_capacity, vec_len, nat_lt, ◌||◌}
 use Rattle.std.specs.List.Sorted.{IsNonDecreasingBy}
 use Rattle.std.specs.List.{list_any}
 use Rattle.std.specs.VecDeque.{deque_len, deque_capacity}
 use Rattle.base.specs.declared.names.Receipt.{Receipt}
 use Rattle.base.specs.formats.Chain.{Header}
-use Rattle.base.specs.formats.Limits.{log_block_room}
+use Rattle.base.specs.formats.Records.{IsAllowed, Record}
 use Rattle.base.specs.steps.Logs.{Begun, KeptBlock, Log}
 use Rattle.intent_log.specs.Receipts.{begins_of, committed, ends_of, is_same_receipt}
 use Rattle.transactions.specs.Records.{record_fields}
+use Rattle.transactions.specs.declared.record.Record as code_record
 use Rattle.intent_log.specs.declared.begun.BegunRecord.{BegunRecord}
 use Rattle.intent_log.specs.declared.kept_block.LogHeader.{LogHeader}
 use Rattle.intent_log.specs.declared.kept_block.KeptBlock as code
-use Rattle.intent_log.specs.declared.kept.Log.TheInside.{Inside}
+use Rattle.intent_log.specs.declared.log.Log.TheInside.{Inside}
 
--- the kept blocks in order, the record that is begun and not yet whole, where the next block goes, and for how many
--- more there is room
-pub record KeptLog : Type 0 where
+-- the records of unsynced groups in commit order, those of which no part is written, the record that is begun and not
+-- yet whole, the kept blocks in order, where the next block goes, and for how many more records and blocks there is room
+pub record RunLog : Type 0 where
+  pub records : List code_record.Record
+  pub pending : List Record
+  pub begun : Option Begun
   pub kept : List KeptBlock
-  pub begun : Option BegunRecord
   pub next : Header
-  pub room : ℕ
+  pub record_room : ℕ
+  pub block_room : ℕ
 
--- the begun record as a pool's log has it
-abbrev pub begun_shown : BegunRecord → Begun
-begun_shown b = record { logged = record_fields b.logged.value; written = b.written }
+-- the same as a pool's log
+abbrev pub log_shown : RunLog → Log
+log_shown l = record { unsynced = map record_fields l.records; begun = l.begun; pending = l.pending; kept = l.kept; next = l.next }
 
--- the same as a pool's log, of which no record is unsynced
-abbrev pub log_shown : KeptLog → Log
-log_shown k = record { unsynced = []; begun = option_map begun_shown k.begun; pending = []; kept = k.kept; next = k.next }
+-- there is room for a record more, and for a block more
+abbrev pub HasRecordRoom : RunLog → Type 0
+HasRecordRoom l = 0 < l.record_room
 
--- there is room for a block more
-abbrev pub HasRoom : KeptLog → Type 0
-HasRoom k = 0 < k.room
+abbrev pub HasBlockRoom : RunLog → Type 0
+HasBlockRoom l = 0 < l.block_room
 
 -- the kept blocks have the numbers up to the next one, one after another
-abbrev pub AreNumberedTo : KeptLog → Type 0
-AreNumberedTo k = (i : ℕ) (b : KeptBlock) → slice_get k.kept i ≡ Some b → b.number + (length k.kept - i) ≡ k.next.number
+abbrev pub AreNumberedTo : RunLog → Type 0
+AreNumberedTo l = (i : ℕ) (b : KeptBlock) → slice_get l.kept i ≡ Some b → b.number + (length l.kept - i) ≡ l.next.number
 
 abbrev pub header_fields : LogHeader → Header
 header_fields h = record { address = h.address; number = h.number }
@@ -45,23 +48,9 @@ header_fields h = record { address = h.address; number = h.number }
 abbrev pub block_with : Header → List Receipt → List Receipt → Bool → KeptBlock
 block_with h begins ends flushed = record { address = h.address; number = h.number; begins = map committed begins; ends = map committed ends; flushed = flushed }
 
--- the block that is kept once it was written: with whole records, or with the first part of one
-abbrev pub block_noted : Header → List Receipt → KeptBlock
-block_noted h receipts = block_with h receipts receipts false
-
-abbrev pub first_noted : Header → Receipt → KeptBlock
-first_noted h receipt = block_with h (receipt ∷ []) [] false
-
--- or with a later part: whether that is its last one
-abbrev pub is_last_part : BegunRecord → Bool
-is_last_part b = nat_le (length b.bytes.items) (b.written + log_block_room)
-
-abbrev pub part_noted : Header → BegunRecord → KeptBlock
-part_noted h b = block_with h [] (cond (is_last_part b) (b.receipt ∷ []) []) false
-
--- and what is begun then
-abbrev pub begun_after_part : BegunRecord → Option BegunRecord
-begun_after_part b = cond (is_last_part b) None (Some (record b { written = b.written + log_block_room }))
+-- the begun record as a pool's log has it
+abbrev pub begun_shown : BegunRecord → Begun
+begun_shown b = record { logged = record_fields b.logged.value; written = b.written }
 
 -- the first kept block was given back, and its number is below the header's
 pub record IsFrontGiven (header : Header) (old new : List KeptBlock) (address : ℕ) : Type 0 where
@@ -78,8 +67,16 @@ shown_block flushed b = block_with (header_fields b.header) (begins_of b.holds) 
 abbrev pub shown_blocks : ℕ → List code.KeptBlock → List KeptBlock
 shown_blocks flushed blocks = map (shown_block true) (take flushed blocks) ++ map (shown_block false) (drop flushed blocks)
 
-abbrev pub kept_log : Inside → KeptLog
-kept_log a = record { kept = shown_blocks a.flushed a.blocks.items; begun = a.begun; next = header_fields a.next; room = deque_capacity a.blocks - deque_len a.blocks }
+abbrev pub run_log : Inside → RunLog
+run_log a = record {
+  records = a.unsynced.items;
+  pending = map record_fields (drop a.written a.unsynced.items);
+  begun = option_map begun_shown a.begun;
+  kept = shown_blocks a.flushed a.blocks.items;
+  next = header_fields a.next;
+  record_room = vec_capacity a.unsynced - vec_len a.unsynced;
+  block_room = deque_capacity a.blocks - deque_len a.blocks;
+}
 
 -- blocks whose numbers lead up to this one, one after another
 abbrev pub LeadUpTo : ℕ → List code.KeptBlock → Type 0
@@ -98,8 +95,11 @@ ReachUpTo top blocks = All (λ (b : code.KeptBlock). b.last.0 ≤ top) blocks
 abbrev pub ReachBelow : ℕ → List code.KeptBlock → Type 0
 ReachBelow ordinal blocks = All (λ (b : code.KeptBlock). b.last.0 < ordinal) blocks
 
--- no more are flushed than there are, and their numbers lead up to the next one
+-- No more records are written than there are, and each is within its limits. No more blocks are flushed than there are,
+-- and their numbers lead up to the next one.
 pub record IsLogSound (a : Inside) : Type 0 where
+  pub front : a.written ≤ length a.unsynced.items
+  pub allowed : All IsAllowed (map record_fields a.unsynced.items)
   pub within : a.flushed ≤ deque_len a.blocks
   pub fits : a.next.number ≤ 2 ^ 60
   pub numbered : LeadUpTo a.next.number a.blocks.items

@@ -11,7 +11,7 @@ use base::{Receipt, Told};
 use transactions::Record;
 
 /// A record of which a part is written. It stays so until it is whole, also when its group is synced. Its operations
-/// don't stand in memory; contracts see them.
+/// don't stand here; contracts see them.
 #[derive(Debug, Drop)]
 pub struct BegunRecord {
     /// The receipt of its transaction.
@@ -35,19 +35,20 @@ pub(crate) fn tell_record(logged: &Record) -> Told<Record>
 }
 
 impl BegunRecord {
-    ghost use Rattle.intent_log.specs.Kept.{is_last_part};
-    ghost use Rattle.intent_log.specs.Packing.{next_part_of};
+    ghost use Rattle.base.specs.steps.Logs.{next_part};
+    ghost use Rattle.intent_log.specs.Fillings.{is_last_part};
+    ghost use Rattle.intent_log.specs.Kept.{begun_shown};
 
     /// Whether its next part is its last one.
-    pub fn is_at_last_part(&self) -> bool
-        ensures { result ≡ is_last_part self.now }
+    pub(crate) fn is_at_last_part(&self) -> bool
+        ensures { result ≡ is_last_part (begun_shown self.now) }
     {
         self.bytes.len().saturating_sub(self.written) <= LOG_BLOCK_ROOM
     }
 
     /// The bytes that the next log block takes: 4,008 of them, or those that are left.
-    pub fn next_part(&self) -> &[u8]
-        ensures part { result.now ≡ next_part_of self.now }
+    pub(crate) fn next_part(&self) -> &[u8]
+        ensures part { result.now ≡ next_part (begun_shown self.now) }
         ensures fits { length result.now ≤ log_block_room }
     {
         let from = self.written.min(self.bytes.len());

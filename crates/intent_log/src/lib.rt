@@ -1,12 +1,13 @@
-//! The intent log (`zil.c`; On-Disk Specification, chapter 7): what a run packs into log blocks, and the chain of them
-//! that an import reads.
+//! The intent log (`zil.c`; On-Disk Specification, chapter 7): the log of a run, what it packs into log blocks, and the
+//! chain of them that an import reads.
 #![tactic(auto)]
 
 mod begun;
 mod chains;
 mod clients;
-mod kept;
+mod filling;
 mod kept_block;
+mod log;
 mod log_blocks;
 mod packing;
 mod parts;
@@ -14,6 +15,7 @@ mod records;
 
 pub use begun::BegunRecord;
 pub use chains::{ChainHeader, LoggedPiece, chain};
-pub use kept::Log;
+pub use filling::{Filling, NextLogBlock};
 pub use kept_block::LogHeader;
-pub use packing::{FirstPart, LOG_BLOCK_ROOM, NewBlock, Packed, PackedBlock, pack, pack_part};
+pub use log::Log;
+pub use packing::{FirstPart, LOG_BLOCK_ROOM, NewBlock, Packed, PackedBlock, pack};

@@ -8,7 +8,9 @@ ghost use Rattle.std.specs.Prelude.{◌≡◌, ◌<◌, ◌≤◌, ◌+◌, ◌^
 ghost use Rattle.base.specs.formats.Limits.{log_block_room};
 ghost use Rattle.base.specs.formats.Records.{IsAllowed, bytes_of_record, size_of};
 ghost use Rattle.transactions.specs.Records.{record_fields};
-ghost use Rattle.intent_log.specs.Packing.{HoldsBytes, HoldsUsed, IsBegunOf, IsEncoded, IsFirstPart, IsPackedAs, log_bytes, next_part_of};
+ghost use Rattle.intent_log.specs.Packing.{HoldsBytes, HoldsUsed, IsEncoded, IsFirstPart, IsPackedAs, log_bytes};
+ghost use Rattle.base.specs.steps.Logs.{next_part};
+ghost use Rattle.intent_log.specs.Kept.{begun_shown};
 
 use crate::begun::{BegunRecord, tell_record};
 use crate::chains::ChainHeader;
@@ -74,17 +76,18 @@ pub fn pack(alloc: Global, place: &NewBlock, pending: &[Record]) -> Result<Packe
     ensures packed { IfOk result (IsPackedAs place.now (map record_fields pending.now)) }
     ensures refused { IfErr result (λ e. e ≡ PoolError.NoMemory) }
 {
-    let (bytes, count) = encode_front(alloc, pending)?;
-    if count == 0 {
-        return Ok(Packed::First(begin(place, &pending[0], bytes)));
+    match encode_front(alloc, pending)? {
+        Encoded::Front(bytes, count) => Ok(Packed::Whole(PackedBlock {
+            block: seal_records(place, bytes.as_slice()),
+            count,
+        })),
+        Encoded::Long(bytes) => Ok(Packed::First(begin(place, &pending[0], bytes))),
     }
-    let block = seal_records(place, bytes.as_slice());
-    Ok(Packed::Whole(PackedBlock { block, count }))
 }
 
 /// The block with the next part of a record that is begun. It takes no memory.
-pub fn pack_part(place: &NewBlock, begun: &BegunRecord) -> Block
-    ensures { HoldsUsed place.now result (next_part_of begun.now) }
+pub(crate) fn pack_part(place: &NewBlock, begun: &BegunRecord) -> Block
+    ensures { HoldsUsed place.now result (next_part (begun_shown begun.now)) }
 {
     seal_records(place, begun.next_part())
 }
@@ -108,13 +111,19 @@ fn begin(place: &NewBlock, first: &Record, bytes: Vec<u8>) -> FirstPart
     FirstPart { block, begun }
 }
 
-// The bytes of as many records from the front as fit, and how many these are. If the first one doesn't fit, its bytes
-// and 0.
-fn encode_front(alloc: Global, pending: &[Record]) -> Result<(Vec<u8>, usize), PoolError>
+// What the front of the pending records is as bytes.
+#[derive(Debug, Drop)]
+enum Encoded {
+    // the bytes of as many records as fit, and how many these are
+    Front(Vec<u8>, usize),
+    // the bytes of the first one, which doesn't fit
+    Long(Vec<u8>),
+}
+
+fn encode_front(alloc: Global, pending: &[Record]) -> Result<Encoded, PoolError>
     requires some { 0 < length pending.now }
     requires allowed { All IsAllowed (map record_fields pending.now) }
-    ensures front { IfOk result
-        (λ f. IsEncoded (map record_fields pending.now) f.1 f.0.items) }
+    ensures front { IfOk result (IsEncoded (map record_fields pending.now)) }
     ensures refused { IfErr result (λ e. e ≡ PoolError.NoMemory) }
 {
     let mut bytes = Vec::with_capacity(alloc, 2 * LOG_BLOCK_ROOM)?;
@@ -124,14 +133,13 @@ fn encode_front(alloc: Global, pending: &[Record]) -> Result<(Vec<u8>, usize), P
         let total = bytes.len();
         if total > LOG_BLOCK_ROOM {
             if index == 0 {
-                return Ok((bytes, 0));
+                return Ok(Encoded::Long(bytes));
             }
             bytes.truncate(before);
-            return Ok((bytes, index));
+            return Ok(Encoded::Front(bytes, index));
         }
     }
-    let count = pending.len();
-    Ok((bytes, count))
+    Ok(Encoded::Front(bytes, pending.len()))
 }
 
 // The block that holds these bytes of records.

@@ -26,7 +26,8 @@ impl<D: SectorDevice> PoolState<D> {
     /// # Errors
     /// Those of the steps that it makes, of which the ones before the refused one stay made, so that the call can be
     /// made again: `Suspended`; `NotReady` if a transaction of a closed group is open, or the open group is 2^60;
-    /// `NoMemory`; `Write` or `Flush` if the device refused, and then the pool is suspended.
+    /// `NoMemory`; `Read` if the device refused a read, and `Damaged` if it gave another block than the tree's; `Write`
+    /// or `Flush` if the device refused, and then the pool is suspended.
     pub fn sync_open_group(&mut self, moment: u64) -> Result<Group, PoolError>
         ensures { SyncsOpen moment result self.old self.new }
     {

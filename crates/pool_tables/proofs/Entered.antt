@@ -42,14 +42,14 @@ pub entered : (tx : ℕ) (ops : List Op) (group : ℕ) (s : Shown) → MayCommit
 entered tx ops group s may bytes pool is past explained =
     let mid : State = after tx ops group s may bytes past in
     let x : IsExplainedNow mid.shown mid.past = after_explained tx ops group s may bytes past explained in
-    let log : mid.shown.log.unsynced ≡ map record_fields pool.unsynced.items = sym (ap (λ (u : Shown). u.log.unsynced) is) in
+    let log : mid.shown.log.unsynced ≡ map record_fields pool.log.records = sym (ap (λ (u : Shown). u.log.unsynced) is) in
     let synced = ap (λ (u : Shown). u.line.synced) is in
-    let changes : AreChangesOfUnsynced mid.shown.line.synced pool.unsynced.items pool.changes = subst (λ (g : ℕ). AreChangesOfUnsynced g pool.unsynced.items pool.changes) synced pool.unsynced_kept.changed in
-    let names : AreNamesOfUnsynced mid.shown.line.synced pool.unsynced.items pool.changes = subst (λ (g : ℕ). AreNamesOfUnsynced g pool.unsynced.items pool.changes) synced pool.unsynced_kept.named in
+    let changes : AreChangesOfUnsynced mid.shown.line.synced pool.log.records pool.changes = subst (λ (g : ℕ). AreChangesOfUnsynced g pool.log.records pool.changes) synced pool.unsynced_kept.changed in
+    let names : AreNamesOfUnsynced mid.shown.line.synced pool.log.records pool.changes = subst (λ (g : ℕ). AreNamesOfUnsynced g pool.log.records pool.changes) synced pool.unsynced_kept.named in
     let objects : shown_objects pool ≡ may.after.objects = ap (λ (u : Shown). laid_all pool.changes u.synced_contents.objects) is
-    ∙ read_as_explained mid.shown mid.past x pool.unsynced.items log pool.changes changes in
+    ∙ read_as_explained mid.shown mid.past x pool.log.records log pool.changes changes in
     let name : name_over pool.changes pool.synced.name ≡ may.after.name = ap (λ (u : Shown). name_over pool.changes u.synced_contents.name) is
-    ∙ named_as_explained mid.shown mid.past x pool.unsynced.items log pool.changes changes names in
+    ∙ named_as_explained mid.shown mid.past x pool.log.records log pool.changes changes names in
     let whole : pool_shown pool ≡ mid.shown = is ∙ (λ k. record s {
       transactions = transactions_without tx s.transactions;
       contents = record { name = name k; objects = objects k };

@@ -1,5 +1,4 @@
 pub mod SamePlans
-pub mod Mapped
 pub mod Closes
 pub mod LockSteps
 pub mod BeginTests
@@ -17,9 +16,6 @@ pub mod Opens
 pub mod HeldGroups
 pub mod StillSteps
 pub mod PendingOps
-pub mod WrittenRecords
-pub mod LogHeaders
-pub mod LoggedRecords
 pub mod LogSteps
 pub mod UnsyncedChanges
 pub mod FreeBlocks

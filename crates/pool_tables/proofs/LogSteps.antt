@@ -1,10 +1,12 @@
 -- A write and a flush of the log, step by step.
-use Rattle.std.proofs.Common.{◌≡◌, ◌∙◌, inl, inr, ℕ, ◌+◌, ◌<◌, ◌≤◌, ◌==◌, ◌&&◌, ◌||◌, Bool, true, false, [], ◌∷◌, ◌++◌, map, length, drop, nat_le, nat_lt, refl, ap, sym, subst, arith}
+use Rattle.std.proofs.Common.{◌≡◌, ◌∙◌, inl, inr, ℕ, ◌+◌, ◌<◌, ◌≤◌, ◌==◌, ◌&&◌, ◌||◌, Bool, true, false, List, [], ◌∷◌, ◌++◌, map, length, nat_le, nat_lt, refl, ap, sym, subst, arith}
 use Rattle.std.specs.Prelude.{Some, None, Result, Ok, Err, is_none, not}
 use Rattle.std.proofs.Math.Bool.{or-false}
 use Rattle.std.proofs.lemmas.Bool.{or_parts}
 use Rattle.std.proofs.lemmas.Bool.Decides.{nat_tests}
-use Rattle.std.proofs.lemmas.List.Elements.{All-drop, All-map, All-take}
+use Rattle.std.proofs.lemmas.List.{map-append}
+use Rattle.std.proofs.lemmas.List.Elements.{All-push}
+use Rattle.std.proofs.lemmas.Simd.{map-map}
 use Rattle.base.specs.declared.error.PoolError.{PoolError}
 use Rattle.base.specs.declared.error.PoolError.TheVariants as error
 use Rattle.base.specs.crash.LogSteps.{IsPackedBlock}
@@ -15,21 +17,20 @@ use Rattle.base.specs.formats.Geometry.{IsBlockAddress, block_address, block_cou
 use Rattle.base.specs.formats.Limits.{kept_back, last_number}
 use Rattle.base.specs.history.Past.{Past}
 use Rattle.base.specs.steps.Exact.{log_addresses}
-use Rattle.base.specs.formats.Records.{IsAllowed}
-use Rattle.base.specs.steps.Logs.{IsTaken, KeptBlock, Taken, awaits_flush, log_after_flush}
+use Rattle.base.specs.steps.Logs.{IsTaken, KeptBlock, Log, Taken, awaits_flush, block_taken, log_after_flush, log_after_write}
 use Rattle.base.specs.steps.Refusals.{log_flush_refusal, log_write_refusal, log_write_tests}
 use Rattle.base.specs.steps.Shown.{Shown, available}
 use Rattle.base.specs.steps.Steps.{LogFlush, LogWrite, State, TakesForLog, lowest_free, ordinals_awaiting}
 use Rattle.base.proofs.common.KeptLists.{All-at, at_last}
-use Rattle.group_plans.specs.Areas.{is_block_of}
+use Rattle.group_plans.specs.Areas.{AreBlocksOf, is_block_of}
 use Rattle.group_plans.proofs.PlannedBlocks.{block_of}
+use Rattle.intent_log.specs.Fillings.{IsNextBlock, taken_of}
 use Rattle.intent_log.specs.Kept.{log_shown}
 use Rattle.intent_log.specs.Packing.{logged}
-use Rattle.transactions.specs.declared.record.Record as code
-use Rattle.transactions.specs.Records.{record_fields}
+use Rattle.intent_log.specs.declared.filling.NextLogBlock.{NextLogBlock}
+use Rattle.space.specs.FreeSets.{IsLowestFree}
 use Rattle.pool_tables.specs.declared.pool.PoolTables.{PoolTables}
-use Rattle.pool_tables.specs.declared.pool.logs.NextLogBlock.{NextLogBlock}
-use Rattle.pool_tables.specs.LogBlocks.{PacksNext, PutsLogBlock, begins_noted, next_place, pending_of, shown_after_block, taken_of}
+use Rattle.pool_tables.specs.LogBlocks.{PutsLogBlock, next_place, shown_after_block}
 use Rattle.pool_tables.specs.Meets.{Meets}
 use Rattle.pool_tables.specs.Shows.{pool_shown}
 use Rattle.pool_tables.proofs.BeginTests.{all_pass}
@@ -104,25 +105,33 @@ or-true : (b : Bool) → (b || true) ≡ true
 or-true true = refl
 or-true false = refl
 
+-- Where the log's blocks lie, after a write and after a flush.
+pub placed_logged : (blocks address : ℕ) (t : Taken) (log : Log) → is_block_of blocks address ≡ true → AreBlocksOf blocks (log_addresses log) → AreBlocksOf blocks (log_addresses (log_after_write t address log))
+placed_logged blocks address t log is placed =
+    subst (AreBlocksOf blocks) (sym (ap (λ (l : List ℕ). l ++ address ∷ []) (map-append (λ (b : KeptBlock). b.address) log.kept (block_taken log.next t ∷ []))))
+    (All-push (λ (a : ℕ). is_block_of blocks a ≡ true) (log_addresses log) address placed is)
+
+pub placed_flushed : (blocks : ℕ) (log : Log) → AreBlocksOf blocks (log_addresses log) → AreBlocksOf blocks (log_addresses (log_after_flush log))
+placed_flushed blocks log placed = subst (AreBlocksOf blocks) (sym (ap (λ (l : List ℕ). l ++ log.next.address ∷ []) (map-map (λ (b : KeptBlock). b.address) (λ (b : KeptBlock). record b { flushed = true }) log.kept))) placed
+
 -- The block that a pool packs is a log block in its area, at the log's next address.
-module _ (pool : PoolTables) (b : NextLogBlock) (packs : PacksNext pool b) where
+module _ (pool : PoolTables) (next : ℕ) (low : IsLowestFree pool.free next) (b : NextLogBlock) (packs : IsNextBlock (next_place (block_address next) pool) pool.log b) where
   abbrev s : Shown
   s = pool_shown pool
 
   abbrev t : Taken
-  t = taken_of pool b.filling
+  t = taken_of pool.log b.filling
 
   abbrev block : Logged
-  block = record { block = logged (next_place (block_address b.next) pool) t.used; number = pool.log.next.number; content = b.block; ends = t.ends }
+  block = record { block = logged (next_place (block_address next) pool) t.used; number = pool.log.next.number; content = b.block; ends = t.ends }
 
-  packed_block : IsPackedBlock s t (block_address b.next) block
+  packed_block : IsPackedBlock s t (block_address next) block
   packed_block = record {
     address_is = refl;
     next_is = refl;
     used_is = refl;
     ends_are = refl;
-    allowed = All-take IsAllowed (length (begins_noted b.filling)) (pending_of pool)
-        (All-map IsAllowed record_fields (drop pool.written pool.unsynced.items) (All-drop (λ (r : code.Record). IsAllowed (record_fields r)) pool.written pool.unsynced.items pool.unsynced_kept.allowed));
+    allowed = packs.allowed;
     number_is = refl;
     payload = packs.holds.payload;
     sealed = packs.holds.sealed;
@@ -133,20 +142,20 @@ module _ (pool : PoolTables) (b : NextLogBlock) (packs : PacksNext pool b) where
   -- A log write hands it to the device.
   module _ (old : Shown) (same : s ≡ old) (n : Shown) where
     abbrev then : Shown → Shown
-    then x = shown_after_block t (block_address b.next) x
+    then x = shown_after_block t (block_address next) x
 
     module _ (none : log_write_refusal old ≡ None) where
-      abbrev lowest : lowest_free 1 old ≡ block_address b.next ∷ []
-      lowest = subst (λ (x : Shown). lowest_free 1 x ≡ block_address b.next ∷ []) same packs.lowest.first
+      abbrev lowest : lowest_free 1 old ≡ block_address next ∷ []
+      lowest = subst (λ (x : Shown). lowest_free 1 x ≡ block_address next ∷ []) same low.first
 
       abbrev taken : IsTaken old.log.begun old.log.pending t
       taken = subst (λ (x : Shown). IsTaken x.log.begun x.log.pending t) same packs.takes.taken
 
       pub block_written : (ended : ℕ) → ended ≡ length t.ends → n ≡ then s → Meets LogWrite (Ok ended) old n
-      block_written ended count is = write_done old none t (block_address b.next) taken lowest n ended count (is ∙ (λ k. then (same k)))
+      block_written ended count is = write_done old none t (block_address next) taken lowest n ended count (is ∙ (λ k. then (same k)))
 
       pub block_refused : n ≡ record (then s) { suspended = true } → Meets LogWrite (Err error.Write) old n
-      block_refused is = write_failed old none t (block_address b.next) taken lowest n (is ∙ (λ k. record (then (same k)) { suspended = true }))
+      block_refused is = write_failed old none t (block_address next) taken lowest n (is ∙ (λ k. record (then (same k)) { suspended = true }))
 
     -- what it puts on the disk
     puts_block : (answer : Result (Unit {0}) PoolError) (done : Bool) (before after : Disk) → Writes before pool.log.next.address b.block answer after
@@ -154,8 +163,8 @@ module _ (pool : PoolTables) (b : NextLogBlock) (packs : PacksNext pool b) where
     puts_block answer done before after writes is = record {
       taken = t;
       fits = packs.takes.taken;
-      address = block_address b.next;
-      next = packs.lowest.first;
+      address = block_address next;
+      next = low.first;
       block = block;
       packed = packed_block;
       writes = writes;

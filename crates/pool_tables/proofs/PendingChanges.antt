@@ -27,7 +27,8 @@ use Rattle.pool_tables.specs.declared.pool.RunningSync.{RunningSync}
 use Rattle.pool_tables.specs.Entries.{IsUnsynced}
 use Rattle.pool_tables.specs.Meets.{MayCommit}
 use Rattle.pool_tables.specs.Unsynced.{AreChangesOfUnsynced, AreNamesOfUnsynced}
-use Rattle.pool_tables.specs.Shows.{contents_after_oldest, log_of, plan_of, pool_shown, synced_of}
+use Rattle.intent_log.specs.Kept.{RunLog, log_shown}
+use Rattle.pool_tables.specs.Shows.{contents_after_oldest, plan_of, pool_shown, synced_of}
 use Rattle.pool_tables.proofs.HeldGroups.{may_hold}
 use Rattle.pool_tables.proofs.Opens.{found_index}
 
@@ -129,17 +130,17 @@ same_changes : (old new : UnsyncedExtents) → LeavesChanges old new → (place 
 same_changes old new same place = λ k n. record { basis = (same.patches place n).basis k; written = λ i. (same.patches place n).written i k }
 
 -- so a pool shows the same with them, and with the same pending transactions
-pub shown_left : (pool : PoolTables) (new : UnsyncedExtents) (pending : List Record) → LeavesChanges pool.changes new → pending ≡ pool.unsynced.items → record (pool_shown pool) {
+pub shown_left : (pool : PoolTables) (new : UnsyncedExtents) (log : RunLog) → LeavesChanges pool.changes new → log_shown log ≡ log_shown pool.log → record (pool_shown pool) {
   contents = record { name = name_over new pool.synced.name; objects = laid_all new (synced_of pool).objects };
-  log = log_of pending pool.written pool.log;
+  log = log_shown log;
   sync = option_map (plan_of pool.tree (patched_contents (changes_at new 0) (name_at new 0) (synced_of pool))) pool.sync;
 } ≡ pool_shown pool
-shown_left pool new pending same items =
+shown_left pool new log same is =
     let at : (place : ℕ) → changes_at new place ≡ changes_at pool.changes place = same_changes pool.changes new same in
     let plan = same_plan pool new (λ r is. (at 0, same.names 0)) in
     λ k. record (pool_shown pool) {
       contents = record { name = unwrap_or (same.names 2 k) (unwrap_or (same.names 1 k) (unwrap_or (same.names 0 k) pool.synced.name)); objects = laid_over (at 2 k) (laid_over (at 1 k) (laid_over (at 0 k) (synced_of pool).objects)) };
-      log = log_of (items k) pool.written pool.log;
+      log = is k;
       sync = plan k;
     }
 

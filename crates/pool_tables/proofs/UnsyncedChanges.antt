@@ -12,7 +12,8 @@ use Rattle.base.specs.declared.operation.Op.{Op}
 use Rattle.base.specs.formats.Limits.{max_length, object_count}
 use Rattle.base.specs.history.Contents.{Contents, name_given_by_all, object_after}
 use Rattle.base.specs.steps.Groups.{IsLine, Line}
-use Rattle.base.specs.steps.Logs.{Log, committed_above, committed_in}
+use Rattle.base.specs.steps.Logs.{Log}
+use Rattle.intent_log.specs.RunLogs.{IsLogOf, records_after}
 use Rattle.extents.specs.declared.unsynced.UnsyncedExtents.{UnsyncedExtents}
 use Rattle.extents.specs.Patches.{laid_over, no_patch, patched}
 use Rattle.extents.specs.Synced.{patched_contents}
@@ -28,26 +29,24 @@ use Rattle.object_maps.specs.Sources.{AreWithin}
 use Rattle.throttle.proofs.SumLaws.{open_within}
 use Rattle.transactions.specs.declared.record.Record.{Record}
 use Rattle.tree_plans.specs.Marks.{pending_ops}
-use Rattle.pool_tables.specs.Unsynced.{AreChangesOfUnsynced, AreNamesOfUnsynced, KeepsUnsynced, unsynced_after}
+use Rattle.pool_tables.specs.Unsynced.{AreChangesOfUnsynced, AreNamesOfUnsynced, KeepsUnsynced}
 
 -- where the open group is a later one, each pending transaction is still of a group up to it
 stay_open : (before after : ℕ) (pending : List Record) → before ≤ after → All (λ (c : Record). c.group.0 ≤ before) pending → All (λ (c : Record). c.group.0 ≤ after) pending
 stay_open before after pending later = All-weaker (λ (c : Record). c.group.0 ≤ before) (λ (c : Record). c.group.0 ≤ after) (λ c up_to. omega (arith, later, up_to)) pending
 
 -- so all stays where the line moves on with the same synced group
-pub moved_on : (old new : Line) (unsynced : List Record) (written : ℕ) (log : Log) (synced : declared.Contents) (changes : UnsyncedExtents) → (new.synced ≡ old.synced) × (old.open_group ≤ new.open_group)
-    → KeepsUnsynced old unsynced written log synced changes → KeepsUnsynced new unsynced written log synced changes
-moved_on old new unsynced written log synced changes (same, later) x = record {
-  above = subst (λ (g : ℕ). All (λ (c : Record). g < c.group.0) unsynced) (sym same) x.above;
+pub moved_on : (old new : Line) (unsynced : List Record) (synced : declared.Contents) (changes : UnsyncedExtents) → (new.synced ≡ old.synced) × (old.open_group ≤ new.open_group)
+    → KeepsUnsynced old unsynced synced changes → KeepsUnsynced new unsynced synced changes
+moved_on old new unsynced synced changes (same, later) x = record {
   open_or_before = stay_open old.open_group new.open_group unsynced later x.open_or_before;
   within = x.within;
   changed = subst (λ (g : ℕ). AreChangesOfUnsynced g unsynced changes) (sym same) x.changed;
   named = subst (λ (g : ℕ). AreNamesOfUnsynced g unsynced changes) (sym same) x.named;
-  allowed = x.allowed;
-  front = x.front;
-  noted = ap (λ (g : ℕ). committed_above g (committed_in log)) same ∙ x.noted;
-  balanced = x.balanced;
 }
+
+pub log_on : (old new : Line) (log : Log) → (new.synced ≡ old.synced) × (old.open_group ≤ new.open_group) → IsLogOf old.synced log → IsLogOf new.synced log
+log_on old new log (same, later) x = subst (λ (g : ℕ). IsLogOf g log) (sym same) x
 
 -- a group after those of all pending transactions has no operations pending
 none_pending : (group : ℕ) (pending : List Record) → All (λ (c : Record). c.group.0 < group) pending → pending_ops group pending ≡ []
@@ -73,14 +72,14 @@ filter_inside {X} p q (x ∷ xs) inside = by (q x) refl (p x) refl (filter_insid
     by false dropped false is rest = rest
 
 -- once a group is synced, those after it have the operations that they had
-later_ops : (group later : ℕ) (pending : List Record) → group < later → pending_ops later (unsynced_after group pending) ≡ pending_ops later pending
+later_ops : (group later : ℕ) (pending : List Record) → group < later → pending_ops later (records_after group pending) ≡ pending_ops later pending
 later_ops group later pending below =
     ap (flat_map (λ (c : Record). c.ops)) (filter_inside (λ (c : Record). c.group.0 == later) (λ (c : Record). nat_lt group c.group.0) pending
     (λ c is. subst (λ (g : ℕ). nat_lt group g ≡ true) (sym (eqb-true c.group.0 later is)) (lt-ltb group later below)))
 
 -- the groups at the places are those after the one that is synced then, and the last place has no changes
 pub synced_changes : (synced group : ℕ) (pending : List Record) (old new : UnsyncedExtents) → group ≡ synced + 1 → AreChangesOfUnsynced synced pending old
-    → All (λ (c : Record). c.group.0 ≤ synced + 3) pending → MovesUp old new → AreChangesOfUnsynced group (unsynced_after group pending) new
+    → All (λ (c : Record). c.group.0 ≤ synced + 3) pending → MovesUp old new → AreChangesOfUnsynced group (records_after group pending) new
 synced_changes synced group pending old new next changed within moves place low n below =
     ap (λ p. patched p below) (moves.patches place n) ∙ at (cases_lt place 2) ∙ ap after (sym (later_ops group (group + 1 + place) pending (omega arith)))
   where
@@ -97,7 +96,7 @@ synced_changes synced group pending old new next changed within moves place low 
         ∙ sym (ap after (none_pending (group + 1 + place) pending (All-weaker (λ (c : Record). c.group.0 ≤ synced + 3) (λ (c : Record). c.group.0 < group + 1 + place) (λ c up_to. omega (arith, up_to, next, is)) pending within)))
 
 pub synced_names : (synced group : ℕ) (pending : List Record) (old new : UnsyncedExtents) → group ≡ synced + 1 → AreNamesOfUnsynced synced pending old
-    → All (λ (c : Record). c.group.0 ≤ synced + 3) pending → MovesUp old new → AreNamesOfUnsynced group (unsynced_after group pending) new
+    → All (λ (c : Record). c.group.0 ≤ synced + 3) pending → MovesUp old new → AreNamesOfUnsynced group (records_after group pending) new
 synced_names synced group pending old new next named within moves place low =
     moves.names place ∙ at (cases_lt place 2) ∙ ap (λ (ops : List Op). name_given_by_all ops None) (sym (later_ops group (group + 1 + place) pending (omega arith)))
   where

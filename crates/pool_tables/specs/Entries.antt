@@ -9,6 +9,7 @@ use Rattle.base.specs.steps.Logs.{log_after_commit}
 use Rattle.base.specs.steps.Shown.{Shown}
 use Rattle.base.specs.steps.Steps.{transactions_without}
 use Rattle.extents.specs.Unsynced.{CanApplyAt}
+use Rattle.intent_log.specs.Kept.{HasRecordRoom}
 use Rattle.pool_tables.specs.declared.pool.PoolTables.{PoolTables}
 
 -- a group after the synced one, up to the open one
@@ -19,7 +20,7 @@ pub record IsUnsynced (l : Line) (group : ℕ) : Type 0 where
 -- the pool has room for a commit of these operations: among the changes of its group, and for one record more
 pub record HasRoomToEnter (place : ℕ) (ops : List Op) (pool : PoolTables) : Type 0 where
   pub changes : CanApplyAt place pool.changes ops
-  pub unsynced : vec_len pool.unsynced < vec_capacity pool.unsynced
+  pub record_room : HasRecordRoom pool.log
 
 -- these operations, one at least, have shapes within the limits, and their record fits the log
 pub record FitsRecord (ops : List Op) : Type 0 where

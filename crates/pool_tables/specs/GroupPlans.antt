@@ -22,11 +22,11 @@ use Rattle.pool_tables.specs.Shows.{contents_after_oldest, new_plan, pool_shown,
 -- it makes of a pool's tree that of its oldest unsynced group, which is this one, whichever pointers to records were
 -- read
 abbrev pub MakesOldestTree : PoolTables → ℕ → TreePlan → Type 0
-MakesOldestTree pool group p = MakesReadTree (frame_at (pool_shown pool) group) pool.tree pool.unsynced.items (contents_after_oldest pool).objects p
+MakesOldestTree pool group p = MakesReadTree (frame_at (pool_shown pool) group) pool.tree pool.log.records (contents_after_oldest pool).objects p
 
 -- its pointers before are those of the pool's tree, and its blocks hold the objects after that group
 abbrev pub HoldsOldestObjects : PoolTables → ℕ → TreePlan → Type 0
-HoldsOldestObjects pool group p = HoldsGroupObjects (frame_at (pool_shown pool) group) pool.tree pool.unsynced.items (contents_after_oldest pool).objects p
+HoldsOldestObjects pool group p = HoldsGroupObjects (frame_at (pool_shown pool) group) pool.tree pool.log.records (contents_after_oldest pool).objects p
 
 -- the bytes hold a pool's synced tree
 abbrev pub HoldsSyncedTree : PoolTables → List ℕ → Type 0
@@ -34,7 +34,7 @@ HoldsSyncedTree pool now = HoldsTree now (frame_at (pool_shown pool) (pool_shown
 
 -- refused NoSpace, the pool is short of blocks for it
 abbrev pub IsPoolShort : PoolTables → ℕ → PoolError → Type 0
-IsPoolShort pool group e = IsRefusedShort group pool.tree pool.unsynced.items (contents_after_oldest pool).objects pool.free.free e
+IsPoolShort pool group e = IsRefusedShort group pool.tree pool.log.records (contents_after_oldest pool).objects pool.free.free e
 
 -- a sync of a plan that has made no call yet
 pub record BeginsPlan (p : TreePlan) (r : RunningSync) : Type 0 where

@@ -6,10 +6,6 @@ use Rattle.base.specs.steps.Refusals.{fsync_refusal}
 use Rattle.base.specs.steps.Shown.{Shown, is_durable}
 use Rattle.transactions.specs.declared.record.Record.{Record}
 
--- whether a record is that of a receipt
-abbrev pub is_of : Receipt → Record → Bool
-is_of receipt r = (r.ordinal.0 == receipt.ordinal.0) && (r.group.0 == receipt.group.0)
-
 -- The transaction is durable or not. If it isn't, the first test of a wait for it that applies refuses.
 abbrev pub ChecksReceipt : Receipt → Result Bool PoolError → Shown → Type 0
 ChecksReceipt receipt (Ok durable) s = (durable ≡ is_durable s receipt.ordinal.0 receipt.group.0) × (durable ≡ false → fsync_refusal receipt.ordinal.0 receipt.group.0 s ≡ None)

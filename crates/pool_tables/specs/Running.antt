@@ -29,10 +29,3 @@ pub record IsRunning (size : ℕ) (u : Uberblock) (pointers : Place → Pointer)
   pub left : run.done < call_count run
   pub uberblock : WritesUberblock u run
   pub placed : ∥ ArePlaced (block_count size) pointers ∥₁
-
--- Its log header is the next one, or that of a kept block. In no kept block before it a record above its group begins.
--- From it on as much begins as ends, up to the record that is begun.
-pub record KeepsHeader (group : ℕ) (header : Header) (log : Log) : Type 0 where
-  pub in_log : ∥ IsHeaderIn header log ∥₁
-  pub none_before : All (λ (b : KeptBlock). nat_le header.number b.number ≡ false → reaches_above group b ≡ false) log.kept
-  pub balanced : ∥ AreBalanced None (filter (λ (b : KeptBlock). nat_le header.number b.number) log.kept) (begun_committed log.begun) ∥₁

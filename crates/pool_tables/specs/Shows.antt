@@ -7,9 +7,8 @@ use Rattle.base.specs.declared.pointer.Pointer.{Pointer}
 use Rattle.base.specs.formats.Geometry.{block_address, block_count}
 use Rattle.base.specs.history.Contents.{Contents}
 use Rattle.base.specs.formats.Chain.{Header}
-use Rattle.base.specs.steps.Logs.{Log}
 use Rattle.base.specs.steps.Shown.{Shown, SyncPlan}
-use Rattle.intent_log.specs.Kept.{KeptLog, begun_shown, header_fields}
+use Rattle.intent_log.specs.Kept.{header_fields, log_shown}
 use Rattle.extents.specs.Synced.{patched_contents}
 use Rattle.extents.specs.Unsynced.{changes_at, laid_all, name_at, name_over}
 use Rattle.object_maps.specs.declared.tree.Tree.{Tree}
@@ -33,10 +32,6 @@ tree_of p = p.tree
 
 abbrev pub sync_of : PoolTables → Option RunningSync
 sync_of p = p.sync
-
--- the records of the unsynced transactions of which so many are written, in whole or in part, and the kept blocks
-abbrev pub log_of : List Record → ℕ → KeptLog → Log
-log_of unsynced written log = record { unsynced = map record_fields unsynced; begun = option_map begun_shown log.begun; pending = map record_fields (drop written unsynced); kept = log.kept; next = log.next }
 
 -- what is shown of a running sync, which makes this tree into that of these contents
 abbrev pub plan_of : Tree → Contents → RunningSync → SyncPlan
@@ -90,7 +85,7 @@ shown_of objects p = record {
   dirty = p.dirty.sums;
   reserved = blocks_of p.dirty.sums;
   free = p.free.free;
-  log = log_of p.unsynced.items p.written p.log;
+  log = log_shown p.log;
   root = p.tree.root;
   synced_contents = synced_of p;
   lengths = lengths_of p.tree;

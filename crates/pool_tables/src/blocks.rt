@@ -83,9 +83,10 @@ pub fn give_log(free: &mut FreeSet, geometry: Geometry, log: &mut Log, header: L
     requires placed { AreBlocksOf (block_count geometry) (log_addresses (log_shown log.old)) }
     ensures free { free.new
         ≡ after_gives (addresses_before (header_fields header) log.old.kept) free.old }
-    ensures kept { log.new.kept ≡ blocks_from (header_fields header) log.old.kept }
-    ensures begun { log.new.begun ≡ log.old.begun }
-    ensures next { log.new.next ≡ log.old.next }
+    ensures kept { log_shown log.new ≡ record (log_shown log.old) {
+      kept = blocks_from (header_fields header) log.old.kept;
+    } }
+    ensures records { log.new.records ≡ log.old.records }
     ensures placed { AreBlocksOf (block_count geometry) (log_addresses (log_shown log.new)) }
 {
     while let Some(address) = log.give_back(header) {

@@ -21,9 +21,8 @@
 //!    certain.
 //! 8. A call makes its tests, takes its memory and reads what it needs before it changes a table. So a call that is
 //!    refused by a test, for memory or a read changes nothing.
-//! 9. The transactions of the unsynced groups are kept in order of commit, and those that the log has are a front of
-//!    them. A sync fixes its log header at its start, and the log blocks before it come back with its last step
-//!    (`zil.c`).
+//! 9. The log has the records of the transactions of the unsynced groups, in order of commit. A sync fixes its log
+//!    header at its start, and the log blocks before it come back with its last step (`zil.c`).
 //! 10. A log write takes as many whole records from the front of the others as fit a block, or the first part of one
 //!     that a block can't hold. While such a record is begun, it takes the next part of that, also after the record's
 //!     group is synced. It also takes the lowest free block, for the log block after it (`zil_lwb_write_issue`). All is
@@ -48,13 +47,14 @@ ghost use Rattle.object_maps.specs.ContentsShown.{contents_of};
 ghost use Rattle.object_maps.specs.Sources.{AreWithin};
 ghost use Rattle.object_maps.specs.Pointers.{pointers_of};
 ghost use Rattle.intent_log.specs.Kept.{header_fields, log_shown};
+ghost use Rattle.intent_log.specs.RunLogs.{IsLogOf, KeepsHeader};
 ghost use Rattle.throttle.specs.DirtyBytes.{total_of};
 ghost use Rattle.transactions.specs.declared.record.Record.{Record};
 ghost use Rattle.group_plans.specs.Areas.{AreBlocksOf, is_block_of};
 ghost use Rattle.group_plans.specs.Pointers.{pointers_after};
 ghost use Rattle.pool_tables.specs.Accounts.{AreAccounted, IsFreeSetOf};
 ghost use Rattle.pool_tables.specs.Unsynced.{KeepsUnsynced};
-ghost use Rattle.pool_tables.specs.Running.{IsRunning, KeepsHeader};
+ghost use Rattle.pool_tables.specs.Running.{IsRunning};
 ghost use Rattle.pool_tables.specs.RunningUberblocks.{uberblock_with};
 ghost use Rattle.pool_tables.specs.Targets.{is_readable};
 
@@ -81,7 +81,7 @@ use std::alloc::Global;
 use std::collections::BTreeMap;
 use sync::SyncRun;
 use throttle::Dirty;
-use transactions::{OpenTransactions, Record};
+use transactions::OpenTransactions;
 
 /// What a step of a sync answers.
 #[derive(Clone, Copy, Debug, PartialEq, Eq)]
@@ -130,11 +130,8 @@ pub struct PoolTables {
     // what the unsynced groups made of them and of the name
     changes: UnsyncedExtents,
     next_ordinal: u64,
-    // the committed transactions of unsynced groups, in order
-    unsynced: Vec<Record>,
-    // so many of them from the front are written to the log, or begun
-    written: usize,
     free: FreeSet,
+    // with the records of the transactions of unsynced groups
     log: Log,
     // the pointers of the synced tree down to its indirect blocks: those to records are read from these
     tree: Tree,
@@ -153,7 +150,8 @@ pub struct PoolTables {
         (name_at changes 0) r.run) } by { Prim.hlevel props },
     ghost sync_line: { option_map (λ r. r.group.0) sync ≡ groups.line.syncing } by { Prim.hlevel props },
     ghost tree_placed: { ∥ ArePlaced (block_count geometry) (pointers_of tree) ∥₁ },
-    ghost unsynced_kept: { KeepsUnsynced groups.line unsynced.items written (log_shown log) synced changes } by { Prim.hlevel props },
+    ghost unsynced_kept: { KeepsUnsynced groups.line log.records synced changes } by { Prim.hlevel props },
+    ghost logged: { IsLogOf groups.line.synced (log_shown log) } by { Prim.hlevel props },
     ghost log_placed: { AreBlocksOf (block_count geometry) (log_addresses (log_shown log)) },
     ghost sync_header: { ForSome sync (λ r. KeepsHeader r.group.0 (header_fields r.header)
         (log_shown log)) } by { Prim.hlevel props },
@@ -175,8 +173,6 @@ impl Drop for PoolTables {
             synced: _,
             changes: _,
             next_ordinal: _,
-            unsynced: _,
-            written: _,
             free: _,
             log: _,
             tree: _,
@@ -239,8 +235,6 @@ impl PoolTables {
             synced: contents,
             changes: UnsyncedExtents::new(alloc),
             next_ordinal: 0,
-            unsynced: Vec::new(alloc),
-            written: 0,
             free,
             log: Log::new(alloc, log_address),
             tree,

@@ -112,6 +112,28 @@ impl OpenTransactions {
         if self.is_full() {
             return Err(PoolError::TooMany);
         }
+        self.admit_tested(owner, group, plan)
+    }
+
+    /// Admits a transaction that `is_blocked` and `is_full` were asked about, and that neither keeps from being admitted.
+    /// It makes neither test again, so the ranges are searched once.
+    ///
+    /// # Errors
+    /// `NoMemory`. All is as before then.
+    pub fn admit_tested(
+        &mut self,
+        owner: Owner,
+        group: Group,
+        plan: Plan,
+    ) -> Result<TxId, PoolError>
+        requires allowed { is_plan_allowed plan ≡ true }
+        requires passed { admit_refusal plan self.old ≡ None }
+        ensures name { IfOk result (λ tx. tx.0 ≡ self.old.next) }
+        ensures admitted { IfOk result
+            (λ _. self.new ≡ with_admission (next_to_open owner.0 group.0 plan self.old) self.old) }
+        ensures refused { IfErr result (λ e. e ≡ PoolError.NoMemory) }
+        ensures unchanged { OnErr result (self.new ≡ self.old) }
+    {
         let tx = TxId(self.next);
         let opened = IndexedTransaction::new(
             *self.order.allocator(),

@@ -134,7 +134,8 @@ fn whole(object: ObjectId) -> ObjectRange
 }
 
 /// Whether a range of a plan overlaps one of the other. Both plans should be allowed: else the ranges are those of
-/// `range_of`.
+/// `range_of`. It takes no memory, and compares each shape of the one plan with each of the other. Where open
+/// transactions are asked, `OpenTransactions::is_blocked` searches by halves.
 pub fn plans_overlap(plan: &[Shape], other: &[Shape]) -> bool
     ensures overlap { plans.is_plan_allowed plan.now ≡ true
         → plans.is_plan_allowed other.now ≡ true

@@ -1,14 +1,14 @@
 //! What callers rest on of a chain that is read.
 
-ghost use Rattle.std.specs.Prelude.{◌≡◌, ◌≤◌, ◌<◌, ◌∷◌, ◌^◌, ◌⊎◌, [], All, IfErr, IfOk, IfSome, IsTrue, length, map};
+ghost use Rattle.std.specs.Prelude.{◌≡◌, ◌≤◌, ◌<◌, ◌+◌, ◌∷◌, ◌^◌, ◌⊎◌, [], All, IfErr, IfOk, IfSome, IsTrue, length, map};
 ghost use Rattle.base.specs.disk.Disk.{bytes_of};
-ghost use Rattle.base.specs.formats.Chain.{IsPiece, LogPiece, next_header};
+ghost use Rattle.base.specs.formats.Chain.{LogPiece};
 ghost use Rattle.base.specs.formats.Geometry.{IsBlockAddress, block_address};
 ghost use Rattle.base.specs.formats.Records as base_record;
 ghost use Rattle.base.specs.formats.Records.{IsAllowed};
 ghost use Rattle.transactions.specs.Records.{record_fields};
 ghost use Rattle.transactions.specs.declared.record.Record.{Record};
-ghost use Rattle.intent_log.specs.Chains.{IsPieceAt, frame_of_chain, header_of_chain};
+ghost use Rattle.intent_log.specs.Chains.{HasOneRecord};
 
 use crate::chains::{ChainHeader, LoggedPiece, chain};
 use base::{PoolError, Version};
@@ -40,7 +40,8 @@ fn no_chain_begins_at_address_0<D: SectorDevice>(
     )
 }
 
-fn a_piece_that_stands_is_read<D: SectorDevice>(
+// A block of the header's chain and number that has one record begins a chain.
+fn a_block_of_one_record_is_read<D: SectorDevice>(
     alloc: Global,
     device: &mut D,
     frame: &Frame,
@@ -49,15 +50,16 @@ fn a_piece_that_stands_is_read<D: SectorDevice>(
     requires fits { block_address frame.now.blocks ≤ D.size device.old }
     requires area { frame.now.blocks ≤ 2 ^ 52 }
     requires number { header.now.number ≤ 2 ^ 60 }
-    ensures { IsTrue D.keeps_model → (piece : LogPiece)
-        → IsPieceAt (bytes_of (D.disk device.old).now) frame.now header.now piece
+    ensures { IsTrue D.keeps_model → (r : base_record.Record)
+        → HasOneRecord (bytes_of (D.disk device.old).now) frame.now header.now.import_number
+        header.now.address header.now.number r
         → IfOk result (λ pieces. 0 < length pieces.items) }
 {
     chain(alloc, device, frame, header)
 }
 
-// A chain goes on as long as a piece follows.
-fn a_chain_of_one_piece_has_no_second<D: SectorDevice>(
+// A chain goes on as long as a piece follows: where a chain of one piece ends, no block of the next number has a record.
+fn a_chain_goes_on_with_the_next_number<D: SectorDevice>(
     alloc: Global,
     device: &mut D,
     frame: &Frame,
@@ -66,10 +68,10 @@ fn a_chain_of_one_piece_has_no_second<D: SectorDevice>(
     requires fits { block_address frame.now.blocks ≤ D.size device.old }
     requires area { frame.now.blocks ≤ 2 ^ 52 }
     requires number { header.now.number ≤ 2 ^ 60 }
-    ensures { IsTrue D.keeps_model → IfOk result (λ pieces. (piece second : LogPiece)
-        → pieces.items ≡ piece ∷ []
-        → IsPiece (bytes_of (D.disk device.old).now) (frame_of_chain frame.now header.now)
-        header.now.import_number (next_header (header_of_chain header.now) piece) second → ⊥) }
+    ensures { IsTrue D.keeps_model → IfOk result (λ pieces. (piece : LogPiece)
+        (r : base_record.Record) → pieces.items ≡ piece ∷ []
+        → HasOneRecord (bytes_of (D.disk device.old).now) frame.now header.now.import_number
+        piece.next (header.now.number + 1 + length piece.behind) r → ⊥) }
 {
     chain(alloc, device, frame, header)
 }
@@ -121,4 +123,11 @@ fn a_piece_leaves_its_record(piece: LoggedPiece) -> Vec<Record>
     ensures { map (λ (r : Record). r.ordinal.0) result.items ≡ 7 ∷ [] }
 {
     piece.into_records()
+}
+
+// The blocks behind the first one of a piece are the others that it has to spare.
+fn a_piece_of_three_blocks_has_two_behind_the_first(piece: &LoggedPiece)
+    requires { piece.now.behind ≡ 4202496 ∷ 4206592 ∷ [] }
+{
+    prove!(piece.behind().len() == 2);
 }

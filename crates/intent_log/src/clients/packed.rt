@@ -1,6 +1,6 @@
 //! What callers rest on of a block that is packed.
 
-ghost use Rattle.std.specs.Prelude.{◌≡◌, ◌<◌, ◌≤◌, ℕ, List, All, IfErr, IfOk, IfSome, length, map, slice_get};
+ghost use Rattle.std.specs.Prelude.{◌≡◌, ◌<◌, ◌≤◌, ℕ, List, All, IfErr, IfOk, IfSome, None, Some, length, map, slice_get};
 ghost use Rattle.base.specs.formats.Blocks.{Frame};
 ghost use Rattle.base.specs.formats.Fields.{number_at, part};
 ghost use Rattle.base.specs.formats.Geometry.{IsBlockAddress};
@@ -10,7 +10,8 @@ ghost use Rattle.transactions.specs.Records.{record_fields};
 ghost use Rattle.intent_log.specs.Chains.{IsBlockAt};
 ghost use Rattle.intent_log.specs.Packing.{IsBegunFirst, IsCount, block_of, logged, used_of};
 
-use crate::begun::BegunRecord;
+use crate::filling::NextLogBlock;
+use crate::log::Log;
 use crate::packing::{NewBlock, Packed, pack};
 use base::PoolError;
 use std::alloc::Global;
@@ -115,8 +116,32 @@ fn a_long_record_is_begun(
     pack(alloc, place, pending)
 }
 
-fn a_part_fits_a_block(begun: &BegunRecord) -> &[u8]
-    ensures { length result.now ≤ 4008 }
+// A block of a pending record of 100 bytes has 100 used bytes: their number lies at byte 80.
+fn a_pending_record_fills_its_block(
+    alloc: Global,
+    place: &NewBlock,
+    log: &Log,
+) -> Result<NextLogBlock, PoolError>
+    requires begun { log.now.begun ≡ None }
+    requires one { length log.now.pending ≡ 1 }
+    requires size { total_size log.now.pending ≡ 100 }
+    ensures { IfOk result (λ b. number_at b.block 80 ≡ 100) }
 {
-    begun.next_part()
+    log.pack_next(alloc, place)
+}
+
+// What is left of a begun record has a block of its own, also if others are pending.
+fn a_last_part_has_a_block_of_its_own(
+    alloc: Global,
+    place: &NewBlock,
+    log: &Log,
+    logged: &Record,
+) -> Result<NextLogBlock, PoolError>
+    requires begun { log.now.begun
+        ≡ Some (record { logged = record_fields logged.now; written = 8016 }) }
+    requires size { size_of (record_fields logged.now) ≡ 8017 }
+    ensures { IfOk result (λ b. number_at b.block 80 ≡ 1) }
+{
+    let _ = logged;
+    log.pack_next(alloc, place)
 }

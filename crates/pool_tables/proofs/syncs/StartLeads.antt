@@ -85,37 +85,37 @@ module _ (past : Past) (pool : PoolTables) (group : ℕ) (may : MayStart group p
   middle = quiesced_is pool.groups.line group may.0
 
   pub group_above : pool.groups.line.synced < group
-  group_above = next_above (pool_shown pool) past explained group idle middle pool.unsynced.items refl
+  group_above = next_above (pool_shown pool) past explained group idle middle pool.log.records refl
 
   -- the oldest changes are those of its operations
-  oldest_changes : ArePatchesOf (pending_ops group pool.unsynced.items) (changes_at pool.changes 0)
+  oldest_changes : ArePatchesOf (pending_ops group pool.log.records) (changes_at pool.changes 0)
   oldest_changes =
       let next : group ≡ pool.groups.line.synced + 1 = next-group (pool_shown pool) past explained group idle middle in
       let same : pool.groups.line.synced + 1 + 0 ≡ group = omega (arith, next) in
-      subst (λ (g : ℕ). ArePatchesOf (pending_ops g pool.unsynced.items) (changes_at pool.changes 0)) same (pool.unsynced_kept.changed 0 (omega arith))
+      subst (λ (g : ℕ). ArePatchesOf (pending_ops g pool.log.records) (changes_at pool.changes 0)) same (pool.unsynced_kept.changed 0 (omega arith))
 
   -- and the name is the one that they give last
-  pub oldest_name : name_at pool.changes 0 ≡ name_given_by_all (pending_ops group pool.unsynced.items) None
+  pub oldest_name : name_at pool.changes 0 ≡ name_given_by_all (pending_ops group pool.log.records) None
   oldest_name =
       let next : group ≡ pool.groups.line.synced + 1 = next-group (pool_shown pool) past explained group idle middle in
       let same : pool.groups.line.synced + 1 + 0 ≡ group = omega (arith, next) in
-      subst (λ (g : ℕ). name_at pool.changes 0 ≡ name_given_by_all (pending_ops g pool.unsynced.items) None) same (pool.unsynced_kept.named 0 (omega arith))
+      subst (λ (g : ℕ). name_at pool.changes 0 ≡ name_given_by_all (pending_ops g pool.log.records) None) same (pool.unsynced_kept.named 0 (omega arith))
 
   -- so its operations lead to what they make of the synced contents
-  pub oldest_leads : LeadsTo (pool_shown pool) past group pool.unsynced.items (contents_after_oldest pool)
-  oldest_leads = changes_lead (pool_shown pool) past explained group idle middle pool.unsynced.items refl (changes_at pool.changes 0) (name_at pool.changes 0) oldest_changes oldest_name
+  pub oldest_leads : LeadsTo (pool_shown pool) past group pool.log.records (contents_after_oldest pool)
+  oldest_leads = changes_lead (pool_shown pool) past explained group idle middle pool.log.records refl (changes_at pool.changes 0) (name_at pool.changes 0) oldest_changes oldest_name
 
   -- and take place; the history has the same ones
-  pub oldest_ops : ops_of_group group past.entries ≡ pending_ops group pool.unsynced.items
-  oldest_ops = ops_are (pool_shown pool) past explained group group_above pool.unsynced.items refl
+  pub oldest_ops : ops_of_group group past.entries ≡ pending_ops group pool.log.records
+  oldest_ops = ops_are (pool_shown pool) past explained group group_above pool.log.records refl
 
-  pub oldest_takes_place : TakesPlace (pending_ops group pool.unsynced.items) pool.tree.entries.items (synced_of pool) (contents_after_oldest pool)
-  oldest_takes_place = group_takes_place (pool_shown pool) past explained group group_above pool.unsynced.items refl (contents_after_oldest pool) oldest_leads.leads pool.tree.entries.items (λ n. refl)
+  pub oldest_takes_place : TakesPlace (pending_ops group pool.log.records) pool.tree.entries.items (synced_of pool) (contents_after_oldest pool)
+  oldest_takes_place = group_takes_place (pool_shown pool) past explained group group_above pool.log.records refl (contents_after_oldest pool) oldest_leads.leads pool.tree.entries.items (λ n. refl)
 
   -- Whatever the device holds: it takes no more blocks than its operations are estimated at.
   pub group_fits : (p : TreePlan) → MakesOldestTree pool group p → length (map address_of p.blocks.items) ≤ estimate_of (map shape_of (ops_of_group group past.entries))
   group_fits p makes =
-      let fits = taken_fit (pool_shown pool) past explained group pool.unsynced.items oldest_ops (contents_after_oldest pool) pool.tree.entries.items oldest_takes_place makes.0
+      let fits = taken_fit (pool_shown pool) past explained group pool.log.records oldest_ops (contents_after_oldest pool) pool.tree.entries.items oldest_takes_place makes.0
       (plan_pointers pool.tree p) (map new_block p.blocks.items) p.freed.items makes.1.places in
       subst (λ (n : ℕ). n ≤ estimate_of (map shape_of (ops_of_group group past.entries))) (length-map p.blocks.items new_block ∙ sym (length-map p.blocks.items address_of)) fits
 
@@ -123,16 +123,16 @@ module _ (past : Past) (pool : PoolTables) (group : ℕ) (may : MayStart group p
   pub group_steps : (moment : ℕ) (p : TreePlan) → (begun_plan pool group moment p).steps_left ≡ length (map address_of p.blocks.items) + other_step_count (ops_of_group group past.entries)
   group_steps moment p =
       ap (λ (given : Option (List ℕ)). length (map address_of p.blocks.items) + other_calls given) oldest_name
-      ∙ ap (λ (n : ℕ). length (map address_of p.blocks.items) + n) (steps-given (pending_ops group pool.unsynced.items) ∙ ap other_step_count (sym oldest_ops))
+      ∙ ap (λ (n : ℕ). length (map address_of p.blocks.items) + n) (steps-given (pending_ops group pool.log.records) ∙ ap other_step_count (sym oldest_ops))
 
   -- its lengths are those after the group
   pub group_lengths : (p : TreePlan) → MakesOldestTree pool group p → AreLengthsOf (contents_after_oldest pool) (lengths_after p.maps pool.tree)
-  group_lengths p makes = lengths_told group pool.unsynced.items pool.tree.entries.items (synced_of pool) (contents_after_oldest pool) oldest_takes_place (lengths_after p.maps pool.tree) makes.1.lengths
+  group_lengths p makes = lengths_told group pool.log.records pool.tree.entries.items (synced_of pool) (contents_after_oldest pool) oldest_takes_place (lengths_after p.maps pool.tree) makes.1.lengths
 
   -- and its plan is not short of blocks
-  pub never_short : (old : Place → Pointer) → IsShortOfBlocks group pool.unsynced.items pool.tree.entries.items old (contents_after_oldest pool).objects (rising pool.free.free) → ⊥
+  pub never_short : (old : Place → Pointer) → IsShortOfBlocks group pool.log.records pool.tree.entries.items old (contents_after_oldest pool).objects (rising pool.free.free) → ⊥
   never_short old short =
-      enough_blocks (pool_shown pool) past explained group pool.unsynced.items oldest_ops (contents_after_oldest pool) pool.tree.entries.items oldest_takes_place old
+      enough_blocks (pool_shown pool) past explained group pool.log.records oldest_ops (contents_after_oldest pool) pool.tree.entries.items oldest_takes_place old
       idle may.0 (rising pool.free.free) (length-rising pool.free.free) short
 
 -- What a device holds: a plan of the group is what a start of its sync asks, with each past.
@@ -140,10 +140,10 @@ module _ (now : List ℕ) (past : Past) (pool : PoolTables) (group moment : ℕ)
   abbrev pub plan : SyncPlan
   plan = begun_plan pool group moment p
 
-  to : LeadsTo (pool_shown pool) past group pool.unsynced.items (contents_after_oldest pool)
+  to : LeadsTo (pool_shown pool) past group pool.log.records (contents_after_oldest pool)
   to = oldest_leads past pool group may x.explained
 
-  takes_place : TakesPlace (pending_ops group pool.unsynced.items) pool.tree.entries.items (synced_of pool) (contents_after_oldest pool)
+  takes_place : TakesPlace (pending_ops group pool.log.records) pool.tree.entries.items (synced_of pool) (contents_after_oldest pool)
   takes_place = oldest_takes_place past pool group may x.explained
 
   -- its stages write the name of the contents that it leaves
@@ -160,17 +160,17 @@ module _ (now : List ℕ) (past : Past) (pool : PoolTables) (group moment : ℕ)
   pub group_planned : IsPlannedSync (frame_at (pool_shown pool) group) (pointers_of pool.tree) (plan_pointers pool.tree p) (map new_block p.blocks.items) x.kept.stored.synced.objects (contents_after_oldest pool).objects plan
   group_planned =
       let places = objects.made.places in
-      let holes = makes_holes (pending_ops group pool.unsynced.items) pool.tree.entries.items (synced_of pool) (contents_after_oldest pool) takes_place places.objects places.changes in
-      planned_sync now (pool_shown pool) past (pointers_of pool.tree) x.kept.stored x.explained group (group_above past pool group may x.explained) pool.unsynced.items (contents_after_oldest pool) to.bounded pool.tree.entries.items takes_place
+      let holes = makes_holes (pending_ops group pool.log.records) pool.tree.entries.items (synced_of pool) (contents_after_oldest pool) takes_place places.objects places.changes in
+      planned_sync now (pool_shown pool) past (pointers_of pool.tree) x.kept.stored x.explained group (group_above past pool group may x.explained) pool.log.records (contents_after_oldest pool) to.bounded pool.tree.entries.items takes_place
       (plan_pointers pool.tree p) (map new_block p.blocks.items) plan objects.held (addresses_are p.blocks.items) objects.made.whole (places.freed holes) (places.used holes) refl
 
   -- what it takes is what its tree has at the places that it writes, in order
   pub group_takes : map (λ (place : Place). (plan_pointers pool.tree p place).address) (written_places (ops_of_group group past.entries) (synced_of pool) (has_block now (pool_shown pool).root)) ≡ plan.taken
   group_takes =
-      takes_in_order now (pool_shown pool) past (pointers_of pool.tree) x.kept.stored x.explained group pool.unsynced.items (oldest_ops past pool group may x.explained) (contents_after_oldest pool) pool.tree.entries.items takes_place
+      takes_in_order now (pool_shown pool) past (pointers_of pool.tree) x.kept.stored x.explained group pool.log.records (oldest_ops past pool group may x.explained) (contents_after_oldest pool) pool.tree.entries.items takes_place
       (plan_pointers pool.tree p) (map new_block p.blocks.items) p.freed.items plan objects.made.places (addresses_are p.blocks.items)
 
   pub group_takes_each : TakesForEach now (record { shown = pool_shown pool; past = past }) group plan
   group_takes_each =
-      takes_for_each now (pool_shown pool) past (pointers_of pool.tree) x.kept.stored x.explained group pool.unsynced.items (oldest_ops past pool group may x.explained) (contents_after_oldest pool) pool.tree.entries.items takes_place
+      takes_for_each now (pool_shown pool) past (pointers_of pool.tree) x.kept.stored x.explained group pool.log.records (oldest_ops past pool group may x.explained) (contents_after_oldest pool) pool.tree.entries.items takes_place
       (plan_pointers pool.tree p) (map new_block p.blocks.items) p.freed.items plan objects.made.places (addresses_are p.blocks.items)

@@ -69,7 +69,7 @@ impl PoolTables {
         let cost = self.check_begin(owner, plan.as_slice())?;
         let plan = plan.try_clone(self.alloc)?;
         let group = self.groups.open_group();
-        let tx = self.transactions.admit(owner, group, plan)?;
+        let tx = self.transactions.admit_tested(owner, group, plan)?;
         let Ok(()) = self.dirty.admit(group, cost.charge) else {
             unreachable!();
         };
@@ -221,7 +221,7 @@ impl PoolTables {
         ensures own { IsOfNoDevice result }
     {
         let group = self.check_commit(tx, ops.as_slice())?;
-        self.unsynced.reserve(1)?;
+        self.log.reserve_record()?;
         let place = self.place_of(group);
         self.changes.reserve(place, ops.as_slice())?;
         let ordinal = self.enter(tx, group, place, ops);
@@ -249,7 +249,7 @@ impl PoolTables {
         };
         let ordinal = Ordinal(self.next_ordinal);
         self.next_ordinal += 1;
-        self.unsynced.push_reserved(Record {
+        self.log.enter(Record {
             group,
             ordinal,
             ops,

@@ -1,8 +1,6 @@
 //! Looks at a pool that change nothing: which step is due, and whether a receipt is durable.
 
 ghost use Rattle.std.specs.Prelude.{◌≡◌};
-ghost use Rattle.std.specs.List.{list_any};
-ghost use Rattle.pool_tables.specs.Receipts.{is_of};
 
 use crate::duty::Duty;
 use crate::pool::PoolTables;
@@ -30,7 +28,7 @@ impl PoolTables {
     fn log_step(&self) -> Option<Step>
         ensures { result ≡ log_step (pool_shown self.now) }
     {
-        if self.suspended || self.is_log_pending() {
+        if self.suspended || self.log.is_pending() {
             Some(Step::LogWrite)
         } else if self.log.awaits_flush() {
             Some(Step::LogFlush)
@@ -108,17 +106,9 @@ impl PoolTables {
             return Ok(true);
         }
         self.check_running()?;
-        if !self.is_unsynced(receipt) {
+        if !self.log.is_unsynced(receipt) {
             return Err(PoolError::BadRange);
         }
         Ok(false)
-    }
-
-    // Whether a receipt is of a transaction of an unsynced group. It looks at the latest ones first.
-    fn is_unsynced(&self, receipt: Receipt) -> bool
-        ensures { result ≡ list_any (is_of receipt) self.now.unsynced.items }
-    {
-        self.unsynced.iter().rev().any(|record| record.ordinal == receipt.ordinal
-            && record.group == receipt.group)
     }
 }

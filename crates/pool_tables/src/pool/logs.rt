@@ -1,57 +1,23 @@
 //! The intent log of a pool: what is pending is written in blocks, and is durable after a flush (`zil.c`). These two
 //! steps keep rules 9 to 11 of the pool.
 
-ghost use Rattle.std.specs.Prelude.{◌≡◌, ◌<◌, ◌+◌, ◌++◌, ◌∷◌, [], IfErr, IfOk, IsTrue, None, OnOk, length, map};
-ghost use Rattle.base.specs.declared.names.Receipt.{Receipt};
+ghost use Rattle.std.specs.Prelude.{◌≡◌, ◌<◌, IfErr, IfOk, IsTrue, None, OnOk, length};
 ghost use Rattle.base.specs.formats.Geometry.{block_address};
 ghost use Rattle.base.specs.formats.Limits.{last_number};
 ghost use Rattle.base.specs.steps.Refusals.{log_write_refusal, log_write_tests};
-ghost use Rattle.intent_log.specs.Kept.{AreNumberedTo, HasRoom};
+ghost use Rattle.intent_log.specs.Fillings.{IsNextBlock, TakesNext, taken_of};
+ghost use Rattle.intent_log.specs.Kept.{HasBlockRoom};
 ghost use Rattle.space.specs.FreeSets.{IsLowestFree};
-ghost use Rattle.pool_tables.specs.LogBlocks.{IsPartOf, begins_noted, begun_then, block_filled, ends_noted, receipt_of};
 
 use crate::pool::PoolTables;
-use base::{KEPT_BACK, PoolError, Receipt, WRITTEN_VERSION};
-use checked_blocks::Block;
+use base::{KEPT_BACK, PoolError, WRITTEN_VERSION};
 use device_model::SectorDevice;
-use intent_log::{
-    BegunRecord, ChainHeader, FirstPart, Log, NewBlock, Packed, PackedBlock, pack, pack_part,
-};
-use std::alloc::Global;
-use transactions::Record;
-
-// What the next log block has of records.
-#[derive(Debug, Drop)]
-enum Filling {
-    // whole records with these receipts, in order
-    Whole(Vec<Receipt>),
-    // the first part of this record
-    First(BegunRecord),
-    // the next part of the record that is begun
-    Part,
-}
-
-// The log block that is written next.
-#[derive(Debug, Drop)]
-struct NextLogBlock {
-    block: Block,
-    filling: Filling,
-    // the index of the block after it
-    next: usize,
-}
-
-// How many records begin in a log block, and how many end in it.
-#[derive(Clone, Copy, Debug, PartialEq, Eq)]
-struct Counted {
-    begins: usize,
-    ends: usize,
-}
+use intent_log::{ChainHeader, Filling, NewBlock, NextLogBlock};
 
 impl PoolTables {
     ghost use Rattle.base.specs.disk.Calls.{Flushes, counted};
-    ghost use Rattle.pool_tables.specs.Duties.{is_log_pending};
     ghost use Rattle.pool_tables.specs.KeptTrees.{KeepsTree};
-    ghost use Rattle.pool_tables.specs.LogBlocks.{PacksNext, TakesNext, WritesLogBlock, next_place, shown_after_block, taken_of};
+    ghost use Rattle.pool_tables.specs.LogBlocks.{WritesLogBlock, next_place, shown_after_block};
     ghost use Rattle.pool_tables.specs.Meets.{Passes};
     ghost use Rattle.pool_tables.specs.Shows.{geometry_of, pool_shown};
     ghost use Rattle.pool_tables.specs.StepAnswers.{FlushesLog, WritesLog};
@@ -73,11 +39,8 @@ impl PoolTables {
     {
         self.check_log_write()?;
         self.reserve_log()?;
-        let NextLogBlock {
-            block,
-            filling,
-            next,
-        } = self.pack_next()?;
+        let next = self.lowest_free();
+        let NextLogBlock { block, filling } = self.pack_next(next)?;
         let address = self.log.next().address;
         let ends = self.note_written(filling, next);
         match device.write(address, block.as_bytes()) {
@@ -94,7 +57,7 @@ impl PoolTables {
         ensures { Passes (log_write_tests (pool_shown self.now)) result }
     {
         self.check_running()?;
-        if !self.is_log_pending() {
+        if !self.log.is_pending() {
             return Err(PoolError::NotReady);
         }
         if self.available() <= KEPT_BACK || self.log.is_at_last() {
@@ -103,55 +66,24 @@ impl PoolTables {
         Ok(())
     }
 
-    // Whether a record is pending for the log, or begun and not yet whole.
-    pub(crate) fn is_log_pending(&self) -> bool
-        ensures { result ≡ is_log_pending (pool_shown self.now) }
-    {
-        !(self.written == self.unsynced.len() && self.log.begun().is_none())
-    }
-
     // Takes the room that the log needs for a block more (rule 8).
     fn reserve_log(&mut self) -> Result<(), PoolError>
         ensures tree { KeepsTree self.old self.new }
         ensures unchanged { pool_shown self.new ≡ pool_shown self.old }
-        ensures room { OnOk result (HasRoom self.new.log) }
+        ensures room { OnOk result (HasBlockRoom self.new.log) }
         ensures refused { IfErr result (λ e. e ≡ PoolError.NoMemory) }
     {
-        self.log.reserve()
+        self.log.reserve_block()
     }
 
-    // The block that a log write hands to the device.
-    fn pack_next(&self) -> Result<NextLogBlock, PoolError>
-        requires { log_write_refusal (pool_shown self.now) ≡ None }
-        ensures packs { IfOk result (PacksNext self.now) }
+    // The block that a log write hands to the device, if the one after it lies at this index.
+    fn pack_next(&self, next: usize) -> Result<NextLogBlock, PoolError>
+        requires passes { log_write_refusal (pool_shown self.now) ≡ None }
+        requires next { IsLowestFree self.now.free next }
+        ensures packs { IfOk result (IsNextBlock (next_place (block_address next) self.now) self.now.log) }
         ensures refused { IfErr result (λ e. e ≡ PoolError.NoMemory) }
     {
-        let next = self.lowest_free();
-        let place = self.next_place(next);
-        if let Some(begun) = self.log.begun() {
-            let block = pack_part(&place, begun);
-            return Ok(NextLogBlock {
-                block,
-                filling: Filling::Part,
-                next,
-            });
-        }
-        let pending = &self.unsynced[self.written..];
-        match pack(self.alloc, &place, pending)? {
-            Packed::Whole(PackedBlock { block, count }) => {
-                let receipts = receipts_of(self.alloc, &pending[..count])?;
-                Ok(NextLogBlock {
-                    block,
-                    filling: Filling::Whole(receipts),
-                    next,
-                })
-            }
-            Packed::First(FirstPart { block, begun }) => Ok(NextLogBlock {
-                block,
-                filling: Filling::First(begun),
-                next,
-            }),
-        }
+        self.log.pack_next(self.alloc, &self.next_place(next))
     }
 
     // Where the next log block goes, if the one after it lies at this index.
@@ -187,21 +119,18 @@ impl PoolTables {
     // The next log block has this of records, and the one after it lies at this index (rule 10). It returns how many
     // records end in it.
     fn note_written(&mut self, filling: Filling, next: usize) -> usize
-        requires taken { TakesNext self.old filling }
+        requires taken { TakesNext self.old.log filling }
         requires next { IsLowestFree self.old.free next }
-        requires room { HasRoom self.old.log }
+        requires room { HasBlockRoom self.old.log }
         requires number { self.old.log.next.number < last_number }
-        requires numbered { AreNumberedTo self.old.log }
         ensures tree { KeepsTree self.old self.new }
         ensures shown { pool_shown self.new ≡ shown_after_block
-            (taken_of self.old filling) (block_address next) (pool_shown self.old) }
-        ensures ends { result ≡ length (taken_of self.old filling).ends }
+            (taken_of self.old.log filling) (block_address next) (pool_shown self.old) }
+        ensures ends { result ≡ length (taken_of self.old.log filling).ends }
     {
         self.free.take(next);
-        let address = self.geometry.block_address(next as u64);
-        let counted = note_filling(&mut self.log, filling, address);
-        self.written += counted.begins;
-        counted.ends
+        self.log
+            .note(filling, self.geometry.block_address(next as u64))
     }
 
     /// Makes each log block that was written certain, so its records are durable. Refused, in this order, `Suspended`,
@@ -229,64 +158,5 @@ impl PoolTables {
                 Err(error)
             }
         }
-    }
-}
-
-// The receipts of records, in order.
-fn receipts_of(alloc: Global, records: &[Record]) -> Result<Vec<Receipt>, PoolError>
-    ensures receipts { IfOk result
-        (λ receipts. receipts.items ≡ map receipt_of records.now) }
-    ensures refused { IfErr result (λ e. e ≡ PoolError.NoMemory) }
-{
-    let receipts = records
-        .iter()
-        .map(|record| Receipt {
-            ordinal: record.ordinal,
-            group: record.group,
-        })
-        .collect(alloc)?;
-    Ok(receipts)
-}
-
-// The next log block has this of records, and the one after it lies at this address.
-fn note_filling(log: &mut Log, filling: Filling, address: u64) -> Counted
-    requires begun { IsPartOf log.old.begun filling }
-    requires room { HasRoom log.old }
-    requires number { log.old.next.number < last_number }
-    ensures kept { log.new.kept ≡ log.old.kept ++ block_filled log.old filling ∷ [] }
-    ensures begun { log.new.begun ≡ begun_then log.old.begun filling }
-    ensures next { log.new.next
-        ≡ record { address = address; number = log.old.next.number + 1 } }
-    ensures begins { result.begins ≡ length (begins_noted filling) }
-    ensures ends { result.ends ≡ length (ends_noted log.old.begun filling) }
-{
-    match filling {
-        Filling::Whole(receipts) => {
-            let count = receipts.len();
-            log.written(receipts, address);
-            Counted {
-                begins: count,
-                ends: count,
-            }
-        }
-        Filling::First(begun) => {
-            log.begin(begun, address);
-            Counted { begins: 1, ends: 0 }
-        }
-        Filling::Part => {
-            let ends = parts_ending(log);
-            log.part_written(address);
-            Counted { begins: 0, ends }
-        }
-    }
-}
-
-// How many records end in the next part of the one that is begun.
-fn parts_ending(log: &Log) -> usize
-    ensures { result ≡ length (ends_noted log.now.begun Filling.Part) }
-{
-    match log.begun() {
-        Some(begun) if begun.is_at_last_part() => 1,
-        _ => 0,
     }
 }

@@ -3,7 +3,7 @@
 //! part: the tables keep no pointer to a record of the synced tree. Then it is written out call by call. After the last
 //! call the pool lays its changes into the synced objects, and what the sync replaced is free.
 
-ghost use Rattle.std.specs.Prelude.{◌≡◌, ◌≤◌, ℕ, List, count_by, length, take, IfErr, IfOk, IsTrue, OnErr, false, is_some, unwrap_or};
+ghost use Rattle.std.specs.Prelude.{◌≡◌, ℕ, List, IfErr, IfOk, IsTrue, OnErr, false, is_some, unwrap_or};
 ghost use Rattle.base.specs.formats.Geometry.{block_count};
 ghost use Rattle.base.specs.stored.LabelConfigs.{WritesName};
 ghost use Rattle.base.specs.tree.PlacedTrees.{ArePlaced};
@@ -11,11 +11,10 @@ ghost use Rattle.extents.specs.Synced.{patched_contents};
 ghost use Rattle.extents.specs.Unsynced.{MovesUp, changes_at, name_at};
 ghost use Rattle.object_maps.specs.ContentsShown.{contents_of};
 ghost use Rattle.object_maps.specs.Pointers.{pointers_of};
-ghost use Rattle.transactions.specs.declared.record.Record.{Record};
 ghost use Rattle.pool_tables.specs.Numbers.{IsGroup};
-ghost use Rattle.pool_tables.specs.Unsynced.{is_after, unsynced_after};
 ghost use Rattle.intent_log.specs.Kept.{header_fields, log_shown};
-ghost use Rattle.pool_tables.specs.Running.{KeepsHeader, stages_for};
+ghost use Rattle.intent_log.specs.RunLogs.{KeepsHeader};
+ghost use Rattle.pool_tables.specs.Running.{stages_for};
 ghost use Rattle.pool_tables.specs.RunningUberblocks.{WritesUberblock};
 
 use crate::blocks::{end_charges, forget_all, give_log, keep_blocks, take_all};
@@ -27,7 +26,6 @@ use import_replay::give_all;
 use labels::{LabelConfig, Stage};
 use object_maps::{BlockReader, Contents};
 use sync::{LabelStages, SyncCall, SyncRun};
-use transactions::Record;
 use tree_plans::TreePlan;
 use uberblocks::{Uberblock, slot};
 
@@ -137,7 +135,7 @@ impl PoolTables {
             reader,
             &self.synced_frame(),
             &source,
-            &self.unsynced,
+            self.log.records(),
             self.changes.oldest(),
             &self.synced,
         )
@@ -247,7 +245,7 @@ impl PoolTables {
                     unreachable!();
                 };
                 end_charges(&mut self.dirty, &mut self.free, group);
-                drop_synced(&mut self.unsynced, &mut self.written, group);
+                self.log.drop_synced(group);
                 lay_oldest(&mut self.changes, &mut self.synced);
                 give_log(&mut self.free, self.geometry, &mut self.log, synced.header);
                 forget_all(device, &synced.freed);
@@ -293,28 +291,6 @@ impl PoolTables {
         give_all(&mut self.free, self.geometry, &freed);
         run
     }
-}
-
-// The transactions of a synced group are no longer unsynced, nor are those of older ones. `written` counts those from
-// the front that are in the log.
-fn drop_synced(unsynced: &mut Vec<Record>, written: &mut usize, group: Group)
-    requires front { written.old ≤ length unsynced.old.items }
-    ensures left { unsynced.new.items ≡ unsynced_after group.0 unsynced.old.items }
-    ensures written { written.new
-        ≡ length (unsynced_after group.0 (take written.old unsynced.old.items)) }
-{
-    *written = count_after(&unsynced[..*written], group);
-    unsynced.retain(|committed| committed.group > group);
-}
-
-// How many records are of groups after this one.
-fn count_after(records: &[Record], group: Group) -> usize
-    ensures { result ≡ count_by (is_after group.0) records.now }
-{
-    records
-        .iter()
-        .filter(|committed| committed.group > group)
-        .count()
 }
 
 // The oldest group is synced: the synced objects are those that it left, and the groups after it move up.

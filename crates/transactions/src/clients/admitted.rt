@@ -1,6 +1,6 @@
 //! What callers rest on of open transactions: which is admitted, under which name, and which stays open.
 
-ghost use Rattle.std.specs.Prelude.{◌≡◌, ◌+◌, ◌∷◌, [], IfOk, false, length, true};
+ghost use Rattle.std.specs.Prelude.{◌≡◌, ◌+◌, ◌∷◌, [], IfErr, IfOk, OnErr, false, length, true};
 ghost use Rattle.base.specs.declared.operation.Shape.TheVariants as shape;
 ghost use Rattle.base.specs.history.Plans.{is_plan_allowed};
 ghost use Rattle.base.specs.steps.Refusals.{is_plan_blocked};
@@ -30,6 +30,29 @@ fn the_next_name_is_one_more(
     let first = table.admit(Owner(1), Group(9), plan)?;
     let second = table.admit(Owner(1), Group(9), other)?;
     Ok((first, second))
+}
+
+// If a plan passed both tests, the next name is its transaction's, which is then the last one that is open.
+fn what_passed_the_tests_is_admitted(
+    table: &mut OpenTransactions,
+    plan: Plan,
+) -> Result<TxId, PoolError>
+    requires open { table.old.transactions ≡ [] }
+    requires next { table.old.next ≡ 4 }
+    requires plan { plan ≡ shape.Create (record { 0 = 7 }) ∷ [] }
+    ensures name { IfOk result (λ tx. tx.0 ≡ 4) }
+    ensures admitted { IfOk result (λ _. table.new.transactions ≡ record {
+      tx = 4;
+      group = 9;
+      owner = 1;
+      plan = shape.Create (record { 0 = 7 }) ∷ [];
+    } ∷ []) }
+    ensures refused { IfErr result (λ e. e ≡ PoolError.NoMemory) }
+    ensures unchanged { OnErr result (table.new ≡ table.old) }
+{
+    prove!(!table.is_blocked(plan.as_slice()));
+    prove!(!table.is_full());
+    table.admit_tested(Owner(1), Group(9), plan)
 }
 
 // While a write of ten bytes is open, none that touches the last of them is admitted.

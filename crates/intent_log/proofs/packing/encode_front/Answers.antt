@@ -41,10 +41,7 @@ returns-then-index-eq0-clause-front c =
     let old : List ℕ = c.loop-index.bytes.items in
     let added = c.in_ok-encode_into.ensures.bytes in
     let long : 4008 < length c.encode_into.new.out.items = omega (arith, c.len-total.ensures, c.if-total-gt-LOG_BLOCK_ROOM.true) in
-    record {
-      whole = λ some. absurd (omega (arith, some));
-      long = λ none. front_long all c.loop-index.index one old c.encode_into.new.out.items c.if-index-eq0.true within at i.spelled added long;
-    }
+    front_long all c.loop-index.index one old c.encode_into.new.out.items c.if-index-eq0.true within at i.spelled added long
 
 pub returns-then-total-gt-LOG_BLOCK_ROOM-clause-front : goal.returns-then-total-gt-LOG_BLOCK_ROOM-clause-front
 returns-then-total-gt-LOG_BLOCK_ROOM-clause-front c =
@@ -59,11 +56,8 @@ returns-then-total-gt-LOG_BLOCK_ROOM-clause-front c =
     let before : c.len-before.result ≡ length c.loop-index.bytes.items = omega (arith, c.len-before.ensures) in
     let same = cut_back old c.encode_into.new.out.items c.truncate.new.self.items (bytes_of_record one) c.len-before.result before added c.truncate.ensures.items in
     let over : 4008 < length (old ++ bytes_of_record one) = subst (λ (l : List ℕ). 4008 < length l) added long in
-    record {
-      whole = λ some. subst (λ (l : List ℕ). IsEncodedFront all c.loop-index.index l) (sym same)
-          (front_at all c.loop-index.index one old some within at i.spelled i.fits over);
-      long = λ none. absurd (omega (arith, none, c.if-index-eq0.false));
-    }
+    subst (λ (l : List ℕ). IsEncodedFront all c.loop-index.index l) (sym same)
+    (front_at all c.loop-index.index one old (omega (arith, c.if-index-eq0.false)) within at i.spelled i.fits over)
 
 pub returns-clause-front : goal.returns-clause-front
 returns-clause-front c =
@@ -73,7 +67,4 @@ returns-clause-front c =
     let e : c.loop-index.index ≡ length c.args.pending.now = omega (arith, c.loop-index.auto.index-end, c.loop-index-test.false) in
     let spelled : c.loop-index.bytes.items ≡ bytes_of_records (take (length c.args.pending.now) all) = i.spelled ∙ ap (λ (n : ℕ). bytes_of_records (take n all)) e in
     let some = c.requires.some in
-    record {
-      whole = λ more. front_all all c.loop-index.bytes.items (length c.args.pending.now) (sym as_many) (subst (λ (n : ℕ). 0 < n) (sym as_many) some) spelled i.fits;
-      long = λ none. absurd (omega (arith, none, some));
-    }
+    front_all all c.loop-index.bytes.items (length c.args.pending.now) (sym as_many) (subst (λ (n : ℕ). 0 < n) (sym as_many) some) spelled i.fits

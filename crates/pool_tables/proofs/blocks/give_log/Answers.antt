@@ -3,7 +3,7 @@ use Rattle.std.specs.Prelude.{Option, is_some}
 use Rattle.base.specs.formats.Chain.{Header}
 use Rattle.base.specs.formats.Geometry.{block_count}
 use Rattle.base.specs.steps.Logs.{KeptBlock}
-use Rattle.intent_log.specs.Kept.{header_fields}
+use Rattle.intent_log.specs.Kept.{RunLog, header_fields, log_shown}
 use Rattle.intent_log.proofs.Callers.{none_is_before}
 use Rattle.space.specs.FreeSets.{FreeSpace}
 use Rattle.group_plans.specs.Areas.{AreBlocksOf}
@@ -34,13 +34,12 @@ loop-address-preserved c =
     let now = c.give.ensures.given low in
     record {
       count = ap (λ (s : FreeSpace). s.blocks) now ∙ i.count;
-      placed = subst (λ (h : Header). AreBlocksOf blocks (map (λ (b : KeptBlock). b.address) new ++ h.address ∷ [])) (sym c.give_back.ensures.next)
+      placed = subst (λ (h : Header). AreBlocksOf blocks (map (λ (b : KeptBlock). b.address) new ++ h.address ∷ [])) (sym (ap (λ (l : RunLog). l.next) c.give_back.ensures.others))
           (placed-given header old new address given blocks c.loop-address.log.next.address i.placed).1;
       given = ap (λ (s : FreeSpace). after_gives (addresses_before header new) s) now ∙ sym (gives_first free c.block_index.result address (addresses_before header new) c.block_index.ensures.address)
           ∙ ap (λ (l : List ℕ). after_gives l free) (sym (addresses-given header old new address given)) ∙ i.given;
       same = sym (from-given header old new address given) ∙ i.same;
-      begun = c.give_back.ensures.begun ∙ i.begun;
-      next = c.give_back.ensures.next ∙ i.next;
+      others = c.give_back.ensures.others ∙ ap (λ (l : RunLog). record l { kept = new; block_room = c.give_back.new.self.block_room }) i.others;
     }
 
 pub returns-clause-free : goal.returns-clause-free
@@ -50,5 +49,11 @@ returns-clause-free c =
 
 pub returns-clause-kept : goal.returns-clause-kept
 returns-clause-kept c =
-    none_is_before (header_fields c.args.header) c.loop-address.log c.give_back.new.self c.give_back.result c.give_back.ensures.none c.give_back.ensures.unchanged
-    (ap (λ (o : Option ℕ). is_some o) c.in_default.is) ∙ c.loop-address.invariant.same
+    let left = none_is_before (header_fields c.args.header) c.loop-address.log c.give_back.new.self c.give_back.result c.give_back.ensures.none c.give_back.ensures.unchanged
+    (ap (λ (o : Option ℕ). is_some o) c.in_default.is) ∙ c.loop-address.invariant.same in
+    let others = c.give_back.ensures.others ∙ ap (λ (l : RunLog). record l { kept = c.give_back.new.self.kept; block_room = c.give_back.new.self.block_room }) c.loop-address.invariant.others in
+    ap log_shown others ∙ (λ k. record (log_shown c.args.log.now) { kept = left k })
+
+pub returns-clause-records : goal.returns-clause-records
+returns-clause-records c =
+    ap (λ (l : RunLog). l.records) c.give_back.ensures.others ∙ ap (λ (l : RunLog). l.records) c.loop-address.invariant.others

@@ -14,8 +14,7 @@ invariant-loop-address l = record {
   placed : AreBlocksOf (block_count l.geometry) (log_addresses (log_shown l.log));
   given : after_gives (addresses_before (header_fields l.header) l.log.kept) l.free ≡ after_gives (addresses_before (header_fields l.header) l.fn.log.kept) l.fn.free;
   same : blocks_from (header_fields l.header) l.log.kept ≡ blocks_from (header_fields l.header) l.fn.log.kept;
-  begun : l.log.begun ≡ l.fn.log.begun;
-  next : l.log.next ≡ l.fn.log.next;
+  others : l.log ≡ record l.fn.log { kept = l.log.kept; block_room = l.log.block_room };
 }
 
 abbrev pub decreases-loop-address : goal.decreases-loop-address

@@ -1,6 +1,7 @@
 use Rattle.std.proofs.Common.{◌≡◌, ◌∙◌, ◌∷◌, [], ℕ, List, refl, ap}
 use Rattle.std.specs.FinSet as set
 use Rattle.std.proofs.lemmas.Bool.{lt-leb, lt-ltb}
+use Rattle.base.specs.steps.Logs.{Log}
 use Rattle.intent_log.specs.Kept.{header_fields}
 use Rattle.space.specs.FreeSets.{FreeSpace}
 use Rattle.import_replay.specs.FreeBlocks.{after_gives}
@@ -20,4 +21,4 @@ pub returns-clause-gone : goal.returns-clause-gone
 returns-clause-gone c =
     let header = header_fields c.args.header in
     let none : blocks_from header c.args.log.now.kept ≡ [] = rw (c.requires.kept, lt-leb header.number 3 c.requires.before) refl in
-    c.give_log.ensures.kept ∙ none
+    ap (λ (l : Log). l.kept) c.give_log.ensures.kept ∙ none

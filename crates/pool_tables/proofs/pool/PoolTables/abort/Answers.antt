@@ -102,6 +102,14 @@ invariant_of-self-2-clause-unsynced_kept c =
     (may_release pool.groups c.in-Some.transaction.group.0 held) c.release.ensures.released in
     rw (released, line-after_release pool.groups pool.accounted.counted c.in-Some.transaction.group.0) pool.unsynced_kept
 
+pub invariant_of-self-2-clause-logged : goal.invariant_of-self-2-clause-logged
+invariant_of-self-2-clause-logged c =
+    let pool = c.args.self.now in
+    let held = ended_held pool c.args.tx.0 (admission_of c.in-Some.transaction) (sym c.in-Some.ensures.ended) c.in-Some.ensures.apart in
+    let released : c.release.new.self ≡ after_release c.in-Some.transaction.group.0 pool.groups = where_passed c.release.result _ _ c.release.ensures.refused
+    (may_release pool.groups c.in-Some.transaction.group.0 held) c.release.ensures.released in
+    rw (released, line-after_release pool.groups pool.accounted.counted c.in-Some.transaction.group.0) pool.logged
+
 pub returns-clause-step : goal.returns-clause-step
 returns-clause-step c =
     let pool = c.args.self.now in

@@ -38,18 +38,23 @@ returns-in_err-tx-clause-step c =
     let p = err_from_is_err_and c.from_residual-in_err-tx.result c.from_residual-in_err-tx.ensures.1 in
     let s = pool_shown c.args.self.now in
     let none = subst (λ (l : List Shape). begin_refusal c.args.owner.0 l s ≡ None) c.as_slice.ensures c.in_ok-cost.ensures.refusal in
-    let may = may_begin c.args.owner.0 c.args.plan.now s none in
-    let wants = rw (c.in_ok-plan.ensures, begin_admits c.args.owner.0 c.args.plan.now s may) at c.in_err-tx.ensures.refused in
-    rw (p.1, p.2, c.in_err-tx.ensures.unchanged, wants) (begin_wants c.args.owner.0 c.args.plan.now s none)
+    rw (p.1, p.2, c.in_err-tx.ensures.unchanged, c.in_err-tx.ensures.refused) (begin_wants c.args.owner.0 c.args.plan.now s none)
 
-pub admit-requires : goal.admit-requires
-admit-requires c =
+pub admit_tested-requires-clause-allowed : goal.admit_tested-requires-clause-allowed
+admit_tested-requires-clause-allowed c =
     let may = may_begin c.args.owner.0 c.as_slice.result.now (pool_shown c.args.self.now) c.in_ok-cost.ensures.refusal in
     let allowed = may.allowed in
     subst (λ (l : List Shape). is_plan_allowed l ≡ true) (c.as_slice.ensures ∙ sym c.in_ok-plan.ensures) allowed
 
-pub admit-requires-2 : goal.admit-requires-2
-admit-requires-2 c = rw c.open_group-group.ensures.open_group (open_charged c.args.self.now)
+pub admit_tested-requires-clause-passed : goal.admit_tested-requires-clause-passed
+admit_tested-requires-clause-passed c =
+    let s = pool_shown c.args.self.now in
+    let none = subst (λ (l : List Shape). begin_refusal c.args.owner.0 l s ≡ None) c.as_slice.ensures c.in_ok-cost.ensures.refusal in
+    let may = may_begin c.args.owner.0 c.args.plan.now s none in
+    rw c.in_ok-plan.ensures (begin_admits c.args.owner.0 c.args.plan.now s may)
+
+pub admit-requires : goal.admit-requires
+admit-requires c = rw c.open_group-group.ensures.open_group (open_charged c.args.self.now)
 
 pub unreachable-requires : goal.unreachable-requires
 unreachable-requires c =
@@ -83,7 +88,7 @@ invariant_of-self-2-clause-accounted c =
     (may_begin_hold pool.groups pool.accounted.counted pool.transactions.transactions pool.accounted.holds_exact may.few) c.hold.ensures.held in
     record {
       counted = rw held (counted_hold pool.groups pool.accounted.counted);
-      holds_exact = subst (AreHoldsExact c.admit.new.self.transactions) (sym held)
+      holds_exact = subst (AreHoldsExact c.admit_tested.new.self.transactions) (sym held)
           (subst (λ (o : Open). AreHoldsExact o.transactions (after_hold pool.groups)) admitted (exact_begin all pool.groups _ pool.accounted.holds_exact opened));
       charged = rw (held, c.in-Ok.ensures.admitted, c.in_ok-cost.ensures.charge, opened)
           ((sums_stay_on_lines pool.groups.line pool.dirty pool.accounted.charged).admit pool.groups.line.open_group c.as_slice.result.now (omega arith));
@@ -102,6 +107,14 @@ invariant_of-self-2-clause-unsynced_kept c =
     let held : c.hold.new.self ≡ after_hold pool.groups = where_passed c.hold.result _ _ c.hold.ensures.refused
     (may_begin_hold pool.groups pool.accounted.counted pool.transactions.transactions pool.accounted.holds_exact may.few) c.hold.ensures.held in
     rw held pool.unsynced_kept
+
+pub invariant_of-self-2-clause-logged : goal.invariant_of-self-2-clause-logged
+invariant_of-self-2-clause-logged c =
+    let pool = c.args.self.now in
+    let may = may_begin c.args.owner.0 c.as_slice.result.now (pool_shown pool) c.in_ok-cost.ensures.refusal in
+    let held : c.hold.new.self ≡ after_hold pool.groups = where_passed c.hold.result _ _ c.hold.ensures.refused
+    (may_begin_hold pool.groups pool.accounted.counted pool.transactions.transactions pool.accounted.holds_exact may.few) c.hold.ensures.held in
+    rw held pool.logged
 
 pub returns-clause-step : goal.returns-clause-step
 returns-clause-step c =

@@ -2,7 +2,7 @@ use Rattle.std.proofs.Common.{refl}
 use Rattle.std.proofs.lemmas.Result.{err_from_is_err_and}
 use Rattle.pool_tables.proofs.Closes.{accounts_move_on, close_ends, close_moves, close_suspended}
 use Rattle.pool_tables.proofs.HeldGroups.{close_keeps}
-use Rattle.pool_tables.proofs.UnsyncedChanges.{moved_on}
+use Rattle.pool_tables.proofs.UnsyncedChanges.{log_on, moved_on}
 use Rattle.pool_tables.specs.Shows.{pool_shown}
 use Rattle.intent_log.specs.Kept.{log_shown}
 use Rattle.pool_tables.proofs.pool.PoolTables.close_group.Goals as goal
@@ -25,7 +25,13 @@ pub invariant_of-self-clause-unsynced_kept : goal.invariant_of-self-clause-unsyn
 invariant_of-self-clause-unsynced_kept c =
     let pool = c.args.self.now in
     let told = c.close_open.ensures in
-    moved_on pool.groups.line c.close_open.new.self.line pool.unsynced.items pool.written (log_shown pool.log) pool.synced pool.changes (close_moves c.close_open.result pool.groups c.close_open.new.self told.unchanged told.closed) pool.unsynced_kept
+    moved_on pool.groups.line c.close_open.new.self.line pool.log.records pool.synced pool.changes (close_moves c.close_open.result pool.groups c.close_open.new.self told.unchanged told.closed) pool.unsynced_kept
+
+pub invariant_of-self-clause-logged : goal.invariant_of-self-clause-logged
+invariant_of-self-clause-logged c =
+    let pool = c.args.self.now in
+    let told = c.close_open.ensures in
+    log_on pool.groups.line c.close_open.new.self.line (log_shown pool.log) (close_moves c.close_open.result pool.groups c.close_open.new.self told.unchanged told.closed) pool.logged
 
 pub returns-clause-step : goal.returns-clause-step
 returns-clause-step c =

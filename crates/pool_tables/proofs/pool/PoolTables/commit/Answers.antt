@@ -4,11 +4,19 @@ use Rattle.std.proofs.lemmas.Result.{err_from_is_err_and}
 use Rattle.base.specs.declared.error.PoolError.TheVariants as error
 use Rattle.base.specs.declared.operation.Op.{Op}
 use Rattle.base.specs.formats.Records.{is_content_allowed}
+use Rattle.base.specs.formats.Geometry.{block_count}
+use Rattle.base.specs.steps.Exact.{log_addresses}
+use Rattle.base.specs.steps.Logs.{Log}
 use Rattle.base.specs.steps.Refusals.{commit_refusal}
+use Rattle.group_plans.specs.Areas.{AreBlocksOf}
+use Rattle.intent_log.specs.Kept.{RunLog, header_fields, log_shown}
+use Rattle.intent_log.specs.RunLogs.{IsLogOf, KeepsHeader}
 use Rattle.base.specs.steps.Shown.{Shown}
 use Rattle.base.specs.steps.Steps.{Commit}
 use Rattle.pool_tables.specs.Meets.{MayCommit, MeetsExplained}
+use Rattle.transactions.specs.declared.record.Record.{Record}
 use Rattle.pool_tables.specs.Entries.{shown_after_entry}
+use Rattle.pool_tables.specs.Unsynced.{KeepsUnsynced}
 use Rattle.pool_tables.specs.Running.{stages_for}
 use Rattle.pool_tables.specs.Shows.{pool_shown, shown_contents}
 use Rattle.pool_tables.proofs.CommitSteps.{commit_refused, commit_wants}
@@ -32,14 +40,34 @@ returns-in_err-group-clause-own c =
     let p = err_from_is_err_and c.from_residual.result c.from_residual.ensures.1 in
     rw (p.1, p.2) (commit_own c.args.tx.0 _ s c.in_err-group.field-0.0 c.in_err-group.ensures.refusal)
 
-pub returns-in_err-reserve-clause-step : goal.returns-in_err-reserve-clause-step
-returns-in_err-reserve-clause-step c =
+pub returns-in_err-reserve_record-clause-step : goal.returns-in_err-reserve_record-clause-step
+returns-in_err-reserve_record-clause-step c =
     let tx = c.args.tx.0 in
     let ops = c.args.ops in
     let s = pool_shown c.args.self.now in
     let may : MayCommit tx ops c.in_ok-group.group.0 s = subst (λ (l : List Op). MayCommit tx l c.in_ok-group.group.0 s) c.as_slice.ensures c.in_ok-group.ensures.refusal in
-    let p = err_from_is_err_and c.from_residual-in_err-reserve.result c.from_residual-in_err-reserve.ensures.1 in
-    rw (p.1, p.2, c.in_err-reserve.ensures.items) (commit_wants tx ops s may.passes)
+    let p = err_from_is_err_and c.from_residual-in_err-reserve_record.result c.from_residual-in_err-reserve_record.ensures.1 in
+    rw (p.1, p.2, c.in_err-reserve_record.ensures.refused)
+    (subst (λ (x : Shown). MeetsExplained (Commit tx ops) (Err error.NoMemory) s x) (λ k. record s { log = log_shown (sym c.in_err-reserve_record.ensures.same k) }) (commit_wants tx ops s may.passes))
+
+pub invariant_of-self : goal.invariant_of-self
+invariant_of-self c =
+    let pool = c.args.self.now in
+    let log = sym (ap log_shown c.reserve_record.ensures.same) in
+    record {
+      sized = pool.sized;
+      free_counted = pool.free_counted;
+      import_fits = pool.import_fits;
+      next_ordinal_fits = pool.next_ordinal_fits;
+      accounted = pool.accounted;
+      running = pool.running;
+      sync_line = pool.sync_line;
+      tree_placed = pool.tree_placed;
+      unsynced_kept = subst (λ (rs : List Record). KeepsUnsynced pool.groups.line rs pool.synced pool.changes) (sym (ap (λ (l : RunLog). l.records) c.reserve_record.ensures.same)) pool.unsynced_kept;
+      logged = subst (IsLogOf pool.groups.line.synced) log pool.logged;
+      log_placed = subst (λ (l : Log). AreBlocksOf (block_count pool.geometry) (log_addresses l)) log pool.log_placed;
+      sync_header = λ r is. subst (λ (l : Log). KeepsHeader r.group.0 (header_fields r.header) l) log (pool.sync_header r is);
+    }
 
 pub place_of-place-requires : goal.place_of-place-requires
 place_of-place-requires c =
@@ -51,6 +79,8 @@ place_of-place-requires c =
 pub invariant_of-self-2 : goal.invariant_of-self-2
 invariant_of-self-2 c =
     let pool = c.args.self.now in
+    let records = ap (λ (l : RunLog). l.records) c.in_ok-reserve_record.ensures.same in
+    let log = sym (ap log_shown c.in_ok-reserve_record.ensures.same) in
     record {
       sized = pool.sized;
       free_counted = pool.free_counted;
@@ -59,38 +89,34 @@ invariant_of-self-2 c =
       accounted = pool.accounted;
       running = λ r is. let was = pool.running r is in record {
         geometry = was.geometry;
-        stages = was.stages ∙ ap (stages_for pool.guid r.group.0 pool.geometry) (sym (c.reserve-2.ensures.same.names 0));
+        stages = was.stages ∙ ap (stages_for pool.guid r.group.0 pool.geometry) (sym (c.reserve.ensures.same.names 0));
         left = was.left;
         uberblock = was.uberblock;
         placed = was.placed;
       };
       sync_line = pool.sync_line;
       tree_placed = pool.tree_placed;
-      log_placed = pool.log_placed;
-      sync_header = pool.sync_header;
+      log_placed = subst (λ (l : Log). AreBlocksOf (block_count pool.geometry) (log_addresses l)) log pool.log_placed;
+      sync_header = λ r is. subst (λ (l : Log). KeepsHeader r.group.0 (header_fields r.header) l) log (pool.sync_header r is);
       unsynced_kept = record {
-        above = rw c.in_ok-reserve.ensures.items pool.unsynced_kept.above;
-        open_or_before = rw c.in_ok-reserve.ensures.items pool.unsynced_kept.open_or_before;
+        open_or_before = rw records pool.unsynced_kept.open_or_before;
         within = pool.unsynced_kept.within;
-        changed = rw c.in_ok-reserve.ensures.items (changes_left_at pool.groups.line.synced pool.unsynced.items pool.changes c.reserve-2.new.self pool.unsynced_kept.changed c.reserve-2.ensures.same);
-        named = rw c.in_ok-reserve.ensures.items (names_left_at pool.groups.line.synced pool.unsynced.items pool.changes c.reserve-2.new.self pool.unsynced_kept.named c.reserve-2.ensures.same);
-        allowed = rw c.in_ok-reserve.ensures.items pool.unsynced_kept.allowed;
-        front = rw c.in_ok-reserve.ensures.items pool.unsynced_kept.front;
-        noted = rw c.in_ok-reserve.ensures.items pool.unsynced_kept.noted;
-        balanced = pool.unsynced_kept.balanced;
+        changed = rw records (changes_left_at pool.groups.line.synced pool.log.records pool.changes c.reserve.new.self pool.unsynced_kept.changed c.reserve.ensures.same);
+        named = rw records (names_left_at pool.groups.line.synced pool.log.records pool.changes c.reserve.new.self pool.unsynced_kept.named c.reserve.ensures.same);
       };
+      logged = subst (IsLogOf pool.groups.line.synced) log pool.logged;
     }
 
-pub returns-in_err-reserve-2-clause-step : goal.returns-in_err-reserve-2-clause-step
-returns-in_err-reserve-2-clause-step c =
+pub returns-in_err-reserve-clause-step : goal.returns-in_err-reserve-clause-step
+returns-in_err-reserve-clause-step c =
     let tx = c.args.tx.0 in
     let ops = c.args.ops in
     let pool = c.args.self.now in
     let s = pool_shown pool in
     let may : MayCommit tx ops c.in_ok-group.group.0 s = subst (λ (l : List Op). MayCommit tx l c.in_ok-group.group.0 s) c.as_slice.ensures c.in_ok-group.ensures.refusal in
-    let p = err_from_is_err_and c.from_residual-in_err-reserve-2.result c.from_residual-in_err-reserve-2.ensures.1 in
+    let p = err_from_is_err_and c.from_residual-in_err-reserve.result c.from_residual-in_err-reserve.ensures.1 in
     rw (p.1, p.2)
-    (subst (λ (x : Shown). MeetsExplained (Commit tx ops) (Err error.NoMemory) s x) (sym (shown_left pool c.reserve-2.new.self c.reserve.new.self.items c.reserve-2.ensures.same c.in_ok-reserve.ensures.items)) (commit_wants tx ops s may.passes))
+    (subst (λ (x : Shown). MeetsExplained (Commit tx ops) (Err error.NoMemory) s x) (sym (shown_left pool c.reserve.new.self c.reserve_record.new.self c.reserve.ensures.same (ap log_shown c.in_ok-reserve_record.ensures.same))) (commit_wants tx ops s may.passes))
 
 pub enter-ordinal-requires-clause-may : goal.enter-ordinal-requires-clause-may
 enter-ordinal-requires-clause-may c =
@@ -99,7 +125,7 @@ enter-ordinal-requires-clause-may c =
     let pool = c.args.self.now in
     let s = pool_shown pool in
     let may : MayCommit tx ops c.in_ok-group.group.0 s = subst (λ (l : List Op). MayCommit tx l c.in_ok-group.group.0 s) c.as_slice.ensures c.in_ok-group.ensures.refusal in
-    subst (λ (x : Shown). MayCommit tx ops c.in_ok-group.group.0 x) (sym (shown_left pool c.reserve-2.new.self c.reserve.new.self.items c.in_ok-reserve-2.ensures.same c.in_ok-reserve.ensures.items)) may
+    subst (λ (x : Shown). MayCommit tx ops c.in_ok-group.group.0 x) (sym (shown_left pool c.reserve.new.self c.reserve_record.new.self c.in_ok-reserve.ensures.same (ap log_shown c.in_ok-reserve_record.ensures.same))) may
 
 pub returns-clause-step : goal.returns-clause-step
 returns-clause-step c =
@@ -110,7 +136,7 @@ returns-clause-step c =
     let s = pool_shown pool in
     let new = c.enter-ordinal.new.self in
     let may : MayCommit tx ops group s = subst (λ (l : List Op). MayCommit tx l group s) c.as_slice.ensures c.in_ok-group.ensures.refusal in
-    let bytes = subst (λ (l : List Op). list_all is_content_allowed l ≡ true) c.as_slice-2.ensures c.in_ok-reserve-2.ensures.bytes in
+    let bytes = subst (λ (l : List Op). list_all is_content_allowed l ≡ true) c.as_slice-2.ensures c.in_ok-reserve.ensures.bytes in
     let shown : pool_shown new ≡ shown_after_entry tx group ops (shown_contents new) s = c.enter-ordinal.ensures.shown
-    ∙ ap (λ (x : Shown). shown_after_entry tx group ops (shown_contents new) x) (shown_left pool c.reserve-2.new.self c.reserve.new.self.items c.in_ok-reserve-2.ensures.same c.in_ok-reserve.ensures.items) in
+    ∙ ap (λ (x : Shown). shown_after_entry tx group ops (shown_contents new) x) (shown_left pool c.reserve.new.self c.reserve_record.new.self c.in_ok-reserve.ensures.same (ap log_shown c.in_ok-reserve_record.ensures.same)) in
     rw c.enter-ordinal.ensures.ordinal (entered tx ops group s may bytes new shown)

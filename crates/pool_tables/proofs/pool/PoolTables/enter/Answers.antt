@@ -1,24 +1,27 @@
-use Rattle.std.proofs.Common.{◌≡◌, ◌∙◌, ◌==◌, Bool, not, List, length, ap, refl, sym, subst, arith}
+use Rattle.std.proofs.Common.{◌≡◌, ◌∙◌, ◌==◌, ℕ, Bool, not, List, ap, refl, sym, subst, arith}
 use Rattle.std.specs.Prelude.{◌<◌, ◌≤◌}
 use Rattle.std.proofs.lemmas.Bool.{false≢true}
-use Rattle.std.proofs.lemmas.List.{length_push, map-append}
 use Rattle.std.proofs.lemmas.List.Elements.{All-filter, All-push}
-use Rattle.base.specs.formats.Records.{IsAllowed}
-use Rattle.base.specs.steps.Groups.{Admission}
+use Rattle.base.specs.formats.Geometry.{block_count}
+use Rattle.base.specs.steps.Exact.{log_addresses}
+use Rattle.base.specs.steps.Groups.{Admission, Line}
+use Rattle.base.specs.steps.Logs.{Log}
+use Rattle.group_plans.specs.Areas.{AreBlocksOf}
+use Rattle.intent_log.specs.Kept.{header_fields, log_shown}
+use Rattle.intent_log.specs.RunLogs.{IsLogOf, KeepsHeader}
+use Rattle.intent_log.proofs.RunLogs.{entered_log, header_entered}
 use Rattle.extents.specs.Unsynced.{laid_all, name_over}
 use Rattle.groups.specs.CountedLines.{CountedLine, after_release}
 use Rattle.groups.specs.Laws.{AreHoldsExact}
 use Rattle.throttle.proofs.OpenCharges.{stay_charged}
 use Rattle.throttle.specs.Blocks.{AreSumsOn}
 use Rattle.transactions.specs.declared.record.Record.{Record}
-use Rattle.transactions.specs.Records.{record_fields}
 use Rattle.pool_tables.specs.Entries.{shown_after_entry}
 use Rattle.pool_tables.specs.Running.{stages_for}
 use Rattle.pool_tables.specs.Shows.{pool_shown, synced_of}
 use Rattle.pool_tables.proofs.HeldGroups.{counted_release, exact_end, has_hold, line-after_release, may_release}
 use Rattle.pool_tables.proofs.Opens.{HasAllowedPlan, IsSmall}
 use Rattle.pool_tables.proofs.PendingChanges.{changes_entered, entered_behind, kept_oldest, names_entered, same_plan}
-use Rattle.pool_tables.proofs.WrittenRecords.{pending-entered, written-entered}
 use Rattle.pool_tables.proofs.pool.PoolTables.enter.Goals as goal
 
 pub unreachable-requires : goal.unreachable-requires
@@ -38,6 +41,7 @@ invariant_of-self c =
     let behind = entered_behind pool group hold in
     let line : c.release.new.self.line ≡ pool.groups.line = ap (λ (l : CountedLine). l.line) c.in-Ok.ensures.released ∙ line-after_release pool.groups pool.accounted.counted group in
     let p : Admission → Bool = λ (a : Admission). not (a.tx == c.args.tx.0) in
+    let log = c.enter.ensures.shown in
     record {
       sized = pool.sized;
       free_counted = pool.free_counted;
@@ -62,29 +66,35 @@ invariant_of-self c =
       };
       sync_line = pool.sync_line ∙ ap (λ l. l.syncing) (sym line);
       tree_placed = pool.tree_placed;
-      log_placed = pool.log_placed;
-      sync_header = pool.sync_header;
+      log_placed = subst (λ (l : Log). AreBlocksOf (block_count pool.geometry) (log_addresses l)) (sym log) pool.log_placed;
+      sync_header = λ r is. subst (λ (l : Log). KeepsHeader r.group.0 (header_fields r.header) l) (sym log) (header_entered r.group.0 (header_fields r.header) _ (log_shown pool.log) (pool.sync_header r is));
       unsynced_kept = record {
-        above = rw (line, c.push_reserved.ensures.items) (All-push (λ (x : Record). pool.groups.line.synced < x.group.0) pool.unsynced.items _ pool.unsynced_kept.above behind.above);
-        open_or_before = rw (line, c.push_reserved.ensures.items) (All-push (λ (x : Record). x.group.0 ≤ pool.groups.line.open_group) pool.unsynced.items _ pool.unsynced_kept.open_or_before behind.open_or_before);
+        open_or_before = rw (line, c.enter.ensures.records) (All-push (λ (x : Record). x.group.0 ≤ pool.groups.line.open_group) pool.log.records _ pool.unsynced_kept.open_or_before behind.open_or_before);
         within = pool.unsynced_kept.within;
-        changed = rw (line, c.push_reserved.ensures.items)
-            (changes_entered pool.groups.line.synced c.args.place pool.unsynced.items _ pool.changes c.apply.new.self c.requires.place pool.unsynced_kept.changed
+        changed = rw (line, c.enter.ensures.records)
+            (changes_entered pool.groups.line.synced c.args.place pool.log.records _ pool.changes c.apply.new.self c.requires.place pool.unsynced_kept.changed
             (rw c.as_slice.ensures at c.apply.ensures.applied) c.apply.ensures.others);
-        named = rw (line, c.push_reserved.ensures.items)
-            (names_entered pool.groups.line.synced c.args.place pool.unsynced.items _ pool.changes c.apply.new.self c.requires.place pool.unsynced_kept.named
+        named = rw (line, c.enter.ensures.records)
+            (names_entered pool.groups.line.synced c.args.place pool.log.records _ pool.changes c.apply.new.self c.requires.place pool.unsynced_kept.named
             (rw c.as_slice.ensures at c.apply.ensures.applied) c.apply.ensures.others);
-        allowed = rw c.push_reserved.ensures.items (All-push (λ (x : Record). IsAllowed (record_fields x)) pool.unsynced.items _ pool.unsynced_kept.allowed (record {
-          group = let last = pool.accounted.counted.line.last in let low = behind.open_or_before in omega (arith, last, low);
-          ordinal = c.requires.named;
-          shapes = c.requires.fits.shapes;
-          contents = c.requires.bytes;
-          size = c.requires.fits.size;
-        }));
-        front = let more = ap (λ (l : List Record). length l) c.push_reserved.ensures.items ∙ length_push pool.unsynced.items _ in let front = pool.unsynced_kept.front in omega (arith, more, front);
-        noted = rw (line, c.push_reserved.ensures.items, written-entered pool.written pool.unsynced.items _ pool.unsynced_kept.front) pool.unsynced_kept.noted;
-        balanced = pool.unsynced_kept.balanced;
       };
+      logged = subst (λ (g : ℕ). IsLogOf g (log_shown c.enter.new.self)) (sym (ap (λ (l : Line). l.synced) line))
+          (subst (IsLogOf pool.groups.line.synced) (sym log) (entered_log pool.groups.line.synced _ (log_shown pool.log) behind.above pool.logged));
+    }
+
+pub enter-requires-clause-allowed : goal.enter-requires-clause-allowed
+enter-requires-clause-allowed c =
+    let pool = c.args.self.now in
+    let may = c.requires.may in
+    let group = c.args.group.0 in
+    let hold = has_hold pool.transactions.transactions pool.groups c.args.tx.0 may.admission group pool.accounted.holds_exact c.end.ensures.apart may.found may.group_is in
+    let behind = entered_behind pool group hold in
+    record {
+      group = let last = pool.accounted.counted.line.last in let low = behind.open_or_before in omega (arith, last, low);
+      ordinal = c.requires.named;
+      shapes = c.requires.fits.shapes;
+      contents = c.requires.bytes;
+      size = c.requires.fits.size;
     }
 
 pub returns-clause-shown : goal.returns-clause-shown
@@ -95,5 +105,5 @@ returns-clause-shown c =
     let group = c.args.group.0 in
     let hold = has_hold pool.transactions.transactions pool.groups c.args.tx.0 may.admission group pool.accounted.holds_exact c.end.ensures.apart may.found may.group_is in
     let same = same_plan pool c.apply.new.self (λ r is. kept_oldest pool group hold c.args.place c.apply.new.self c.requires.place r is c.apply.ensures.others) in
-    rw (c.end.ensures.others, c.end.ensures.next, c.in-Ok.ensures.released, line-after_release pool.groups pool.accounted.counted group, c.push_reserved.ensures.items, pending-entered pool.written pool.unsynced.items _ pool.unsynced_kept.front, map-append record_fields pool.unsynced.items _)
+    rw (c.end.ensures.others, c.end.ensures.next, c.in-Ok.ensures.released, line-after_release pool.groups pool.accounted.counted group, c.enter.ensures.shown)
     (λ k. record (shown_after_entry c.args.tx.0 group c.args.ops (record { name = name_over c.apply.new.self pool.synced.name; objects = laid_all c.apply.new.self (synced_of pool).objects }) s) { sync = same k })

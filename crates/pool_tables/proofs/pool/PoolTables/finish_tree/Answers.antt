@@ -25,17 +25,8 @@ invariant_of-self-3 c =
       log_placed = pool.log_placed;
       sync_line = pool.sync_line;
       tree_placed = placed_after (block_count pool.geometry) _ _ c.set_all.ensures.pointers c.requires.placed;
-      unsynced_kept = record {
-        above = pool.unsynced_kept.above;
-        open_or_before = pool.unsynced_kept.open_or_before;
-        within = pool.unsynced_kept.within;
-        changed = pool.unsynced_kept.changed;
-        named = pool.unsynced_kept.named;
-        allowed = pool.unsynced_kept.allowed;
-        front = pool.unsynced_kept.front;
-        noted = pool.unsynced_kept.noted;
-        balanced = pool.unsynced_kept.balanced;
-      };
+      unsynced_kept = pool.unsynced_kept;
+      logged = pool.logged;
     }
 
 pub returns-clause-shown : goal.returns-clause-shown

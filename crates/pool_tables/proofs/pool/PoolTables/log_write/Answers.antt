@@ -18,8 +18,11 @@ returns-in_err-reserve_log-clause-step g c =
     let told = c.in_err-reserve_log.ensures in
     rw (p.1, p.2, told.refused) (write_wants (pool_shown c.args.self.now) (pool_shown c.reserve_log.new.self) c.in_ok-check_log_write.ensures told.unchanged)
 
-pub pack_next-requires : goal.pack_next-requires
-pack_next-requires g c = ap (λ (s : Shown). log_write_refusal s) c.in_ok-reserve_log.ensures.unchanged ∙ c.in_ok-check_log_write.ensures
+pub lowest_free-next-requires : goal.lowest_free-next-requires
+lowest_free-next-requires g c = ap (λ (s : Shown). log_write_refusal s) c.in_ok-reserve_log.ensures.unchanged ∙ c.in_ok-check_log_write.ensures
+
+pub pack_next-requires-clause-passes : goal.pack_next-requires-clause-passes
+pack_next-requires-clause-passes g c = ap (λ (s : Shown). log_write_refusal s) c.in_ok-reserve_log.ensures.unchanged ∙ c.in_ok-check_log_write.ensures
 
 pub returns-in_err-block-clause-step : goal.returns-in_err-block-clause-step
 returns-in_err-block-clause-step g c =
@@ -40,24 +43,24 @@ write-requires g c =
 
 pub returns-in-Ok-clause-step : goal.returns-in-Ok-clause-step
 returns-in-Ok-clause-step g c =
-    block_written c.reserve_log.new.self c.in_ok-block.field-0 c.in_ok-block.ensures.packs (pool_shown c.args.self.now) c.in_ok-reserve_log.ensures.unchanged
+    block_written c.reserve_log.new.self c.lowest_free-next.result c.lowest_free-next.ensures c.in_ok-block.field-0 c.in_ok-block.ensures.packs (pool_shown c.args.self.now) c.in_ok-reserve_log.ensures.unchanged
     (pool_shown c.note_written-ends.new.self) c.in_ok-check_log_write.ensures c.note_written-ends.result c.note_written-ends.ensures.ends c.note_written-ends.ensures.shown
 
 pub returns-in-Ok-clause-wrote : goal.returns-in-Ok-clause-wrote
 returns-in-Ok-clause-wrote g c = λ keeps.
     let at = ap (λ (h : Header). h.address) c.next-address.ensures.header in
-    puts_written c.reserve_log.new.self c.in_ok-block.field-0 c.in_ok-block.ensures.packs (pool_shown c.args.self.now) c.in_ok-reserve_log.ensures.unchanged
+    puts_written c.reserve_log.new.self c.lowest_free-next.result c.lowest_free-next.ensures c.in_ok-block.field-0 c.in_ok-block.ensures.packs (pool_shown c.args.self.now) c.in_ok-reserve_log.ensures.unchanged
     (pool_shown c.note_written-ends.new.self) (g.D.SectorDevice.disk c.args.device.now) (g.D.SectorDevice.disk c.write.new.self)
     (rw (at, c.as_bytes.ensures.bytes) at (c.in-Ok.ensures.disk keeps)) c.note_written-ends.ensures.shown
 
 pub returns-in-Err-clause-step : goal.returns-in-Err-clause-step
 returns-in-Err-clause-step g c =
-    rw c.in-Err.ensures.refusal (block_refused c.reserve_log.new.self c.in_ok-block.field-0 c.in_ok-block.ensures.packs (pool_shown c.args.self.now) c.in_ok-reserve_log.ensures.unchanged
+    rw c.in-Err.ensures.refusal (block_refused c.reserve_log.new.self c.lowest_free-next.result c.lowest_free-next.ensures c.in_ok-block.field-0 c.in_ok-block.ensures.packs (pool_shown c.args.self.now) c.in_ok-reserve_log.ensures.unchanged
     (record (pool_shown c.note_written-ends.new.self) { suspended = true }) c.in_ok-check_log_write.ensures (λ k. record (c.note_written-ends.ensures.shown k) { suspended = true }))
 
 pub returns-in-Err-clause-wrote : goal.returns-in-Err-clause-wrote
 returns-in-Err-clause-wrote g c = λ keeps.
     let at = ap (λ (h : Header). h.address) c.next-address.ensures.header in
-    inr (puts_refused c.reserve_log.new.self c.in_ok-block.field-0 c.in_ok-block.ensures.packs (pool_shown c.args.self.now) c.in_ok-reserve_log.ensures.unchanged
+    inr (puts_refused c.reserve_log.new.self c.lowest_free-next.result c.lowest_free-next.ensures c.in_ok-block.field-0 c.in_ok-block.ensures.packs (pool_shown c.args.self.now) c.in_ok-reserve_log.ensures.unchanged
     (record (pool_shown c.note_written-ends.new.self) { suspended = true }) (g.D.SectorDevice.disk c.args.device.now) (g.D.SectorDevice.disk c.write.new.self) c.in-Err.error
     (rw (at, c.as_bytes.ensures.bytes) at (c.in-Err.ensures.disk keeps)) (λ k. record (c.note_written-ends.ensures.shown k) { suspended = true }))

@@ -3,7 +3,7 @@ use Rattle.std.proofs.lemmas.Result.{err_from_is_err_and}
 use Rattle.groups.proofs.ExactHolds.{count_transactions}
 use Rattle.pool_tables.proofs.Closes.{accounts_move_on, quiesce_ends, quiesce_moves, quiesce_suspended}
 use Rattle.pool_tables.proofs.HeldGroups.{quiesce_keeps}
-use Rattle.pool_tables.proofs.UnsyncedChanges.{moved_on}
+use Rattle.pool_tables.proofs.UnsyncedChanges.{log_on, moved_on}
 use Rattle.pool_tables.specs.Shows.{pool_shown}
 use Rattle.intent_log.specs.Kept.{log_shown}
 use Rattle.pool_tables.proofs.pool.PoolTables.mark_quiesced.Goals as goal
@@ -26,7 +26,13 @@ pub invariant_of-self-clause-unsynced_kept : goal.invariant_of-self-clause-unsyn
 invariant_of-self-clause-unsynced_kept c =
     let pool = c.args.self.now in
     let told = c.mark_quiesced.ensures in
-    moved_on pool.groups.line c.mark_quiesced.new.self.line pool.unsynced.items pool.written (log_shown pool.log) pool.synced pool.changes (quiesce_moves c.mark_quiesced.result pool.groups c.mark_quiesced.new.self told.unchanged told.quiesced) pool.unsynced_kept
+    moved_on pool.groups.line c.mark_quiesced.new.self.line pool.log.records pool.synced pool.changes (quiesce_moves c.mark_quiesced.result pool.groups c.mark_quiesced.new.self told.unchanged told.quiesced) pool.unsynced_kept
+
+pub invariant_of-self-clause-logged : goal.invariant_of-self-clause-logged
+invariant_of-self-clause-logged c =
+    let pool = c.args.self.now in
+    let told = c.mark_quiesced.ensures in
+    log_on pool.groups.line c.mark_quiesced.new.self.line (log_shown pool.log) (quiesce_moves c.mark_quiesced.result pool.groups c.mark_quiesced.new.self told.unchanged told.quiesced) pool.logged
 
 pub returns-clause-step : goal.returns-clause-step
 returns-clause-step c =

@@ -2,12 +2,12 @@ use Rattle.std.proofs.Common.{◌≡◌, ◌∙◌, ◌<◌, ◌≤◌, ℕ, [],
 use Rattle.std.proofs.Math.Logic.{∥∥₁_elim}
 use mathlib.Core.Bool.{Bool-set}
 use Rattle.std.proofs.lemmas.List.Elements.{All-cons, All-nil}
-use Rattle.base.specs.formats.Chain.{Header}
 use Rattle.base.specs.formats.Geometry.{block_count}
-use Rattle.base.specs.formats.Records.{IsAllowed}
+use Rattle.base.specs.steps.Exact.{log_addresses}
+use Rattle.base.specs.steps.Logs.{Log}
 use Rattle.groups.specs.CountedLines.{counted_behind}
 use Rattle.transactions.specs.declared.record.Record.{Record}
-use Rattle.transactions.specs.Records.{record_fields}
+use Rattle.intent_log.proofs.RunLogs.{first_log}
 use Rattle.throttle.specs.Blocks.{blocks_in}
 use Rattle.throttle.proofs.BlockSums.{blocks_of-empty}
 use Rattle.throttle.proofs.ShownSums.{new_sums_are_on_lines}
@@ -42,28 +42,25 @@ invariant_of-result-clause-free_counted c =
     }
 
 pub invariant_of-result-clause-unsynced_kept : goal.invariant_of-result-clause-unsynced_kept
-invariant_of-result-clause-unsynced_kept c = rw (c.new-2.ensures, c.new-6.ensures.items, c.new-7.ensures.none, c.new-7.ensures.begun) (record {
-  above = All-nil (λ (x : Record). c.args.mounted.group.0 < x.group.0);
+invariant_of-result-clause-unsynced_kept c = rw (c.new-2.ensures, c.new-6.ensures.records) (record {
   open_or_before = All-nil (λ (x : Record). x.group.0 ≤ (counted_behind c.args.mounted.group.0).line.open_group);
   within = c.requires;
   changed = first_changes c.new-5.result c.new-5.ensures.patches c.args.mounted.group.0;
   named = first_names c.new-5.result c.new-5.ensures.names c.args.mounted.group.0;
-  allowed = All-nil (λ (x : Record). IsAllowed (record_fields x));
-  front = omega arith;
-  noted = refl;
-  balanced = ∣ refl ∣₁;
 })
+
+pub invariant_of-result-clause-logged : goal.invariant_of-result-clause-logged
+invariant_of-result-clause-logged c = rw (c.new-2.ensures, c.new-6.ensures.shown) (first_log c.args.mounted.group.0 (record { address = c.args.mounted.log_address; number = 0 }))
 
 pub invariant_of-result-clause-log_placed : goal.invariant_of-result-clause-log_placed
 invariant_of-result-clause-log_placed c =
     let blocks = block_count c.args.mounted.geometry in
     let address = c.args.mounted.log_address in
     let is : is_block_of blocks address ≡ true = ∥∥₁_elim c.args.mounted.log_placed (Bool-set _ _) (block_passes blocks address) in
-    rw c.new-7.ensures.none (subst (λ (a : ℕ). AreBlocksOf blocks (a ∷ [])) (sym (ap (λ (h : Header). h.address) c.new-7.ensures.next))
-    (All-cons (λ (a : ℕ). is_block_of blocks a ≡ true) address [] is (All-nil (λ (a : ℕ). is_block_of blocks a ≡ true))))
+    subst (λ (l : Log). AreBlocksOf blocks (log_addresses l)) (sym c.new-6.ensures.shown) (All-cons (λ (a : ℕ). is_block_of blocks a ≡ true) address [] is (All-nil (λ (a : ℕ). is_block_of blocks a ≡ true)))
 
 pub returns-clause-shown : goal.returns-clause-shown
 returns-clause-shown c =
     let objects = first_objects c.new-5.result c.new-5.ensures.patches (contents_of c.args.mounted.contents).objects c.requires in
     let name = first_name c.new-5.result c.new-5.ensures.names c.args.mounted.contents.name in
-    rw (c.new.ensures.none, c.new.ensures.next, c.new-2.ensures, c.new-3.ensures.none, c.new-3.ensures.first, c.new-4.ensures, c.new-6.ensures.items, c.new-7.ensures.none, c.new-7.ensures.begun, c.new-7.ensures.next, blocks_of-empty, objects, name) refl
+    rw (c.new.ensures.none, c.new.ensures.next, c.new-2.ensures, c.new-3.ensures.none, c.new-3.ensures.first, c.new-4.ensures, c.new-6.ensures.shown, blocks_of-empty, objects, name) refl

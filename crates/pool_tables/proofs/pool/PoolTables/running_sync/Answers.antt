@@ -10,7 +10,6 @@ use Rattle.tree_plans.specs.Plans.{address_of}
 use Rattle.group_plans.specs.Pointers.{lengths_after}
 use Rattle.pool_tables.specs.Running.{stages_for}
 use Rattle.pool_tables.specs.Shows.{contents_after_oldest, new_plan, pool_shown}
-use Rattle.pool_tables.proofs.LogHeaders.{header_starts}
 use Rattle.pool_tables.proofs.pool.PoolTables.running_sync.Goals as goal
 
 -- label stages count as the name that they write
@@ -31,4 +30,4 @@ returns-clause-plan c =
     λ k. record plan { steps_left = steps k; taken = taken k; header = c.header_for-header.ensures.header k }
 
 pub returns-clause-header : goal.returns-clause-header
-returns-clause-header c = header_starts c.args.group.0 c.args.self.now.log _ c.header_for-header.ensures.numbered c.args.self.now.unsynced_kept.balanced c.header_for-header.ensures.header
+returns-clause-header c = c.header_for-header.ensures.keeps c.args.self.now.groups.line.synced c.args.self.now.logged

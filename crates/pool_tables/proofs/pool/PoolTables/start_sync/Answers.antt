@@ -10,7 +10,7 @@ use Rattle.space.specs.FreeSets.{FreeSpace}
 use Rattle.tree_plans.specs.declared.planner.PlannedBlock.{PlannedBlock}
 use Rattle.pool_tables.specs.Accounts.{AreAccounted}
 use Rattle.pool_tables.specs.declared.pool.RunningSync.{RunningSync}
-use Rattle.pool_tables.specs.Running.{KeepsHeader}
+use Rattle.intent_log.specs.RunLogs.{IsLogOf, KeepsHeader}
 use Rattle.pool_tables.specs.RunningUberblocks.{WritesUberblock, uberblock_with}
 use Rattle.pool_tables.specs.Unsynced.{KeepsUnsynced}
 use Rattle.pool_tables.proofs.Closes.{accounts_move_on}
@@ -81,8 +81,9 @@ invariant_of-self g c =
       log_placed = pool.log_placed;
       sync_header = λ x e. subst (λ (r : RunningSync). KeepsHeader r.group.0 (header_fields r.header) (log_shown pool.log)) (kept_sync rs x e)
           (subst (λ (g : ℕ). KeepsHeader g (header_fields rs.header) (log_shown pool.log)) (ap (λ (g : Group). g.0) (sym ens.group)) ens.header);
-      unsynced_kept = subst (λ (l : CountedLine). KeepsUnsynced l.line pool.unsynced.items pool.written (log_shown pool.log) pool.synced pool.changes) (sym now)
-          (moved_on pool.groups.line (after_start group pool.groups).line pool.unsynced.items pool.written (log_shown pool.log) pool.synced pool.changes (refl, omega arith) pool.unsynced_kept);
+      unsynced_kept = subst (λ (l : CountedLine). KeepsUnsynced l.line pool.log.records pool.synced pool.changes) (sym now)
+          (moved_on pool.groups.line (after_start group pool.groups).line pool.log.records pool.synced pool.changes (refl, omega arith) pool.unsynced_kept);
+      logged = subst (λ (l : CountedLine). IsLogOf l.line.synced (log_shown pool.log)) (sym now) pool.logged;
     }
 
 pub returns-clause-start : goal.returns-clause-start

@@ -6,19 +6,18 @@ use Rattle.base.specs.tree.PlacedTrees.{ArePlaced}
 use Rattle.base.specs.steps.Shown.{SyncPlan}
 use Rattle.object_maps.specs.Pointers.{pointers_of}
 use Rattle.pool_tables.specs.declared.pool.RunningSync.{RunningSync}
-use Rattle.transactions.specs.Records.{record_fields}
-use Rattle.pool_tables.specs.Areas.{addresses_before, blocks_from}
-use Rattle.pool_tables.specs.Running.{KeepsHeader}
+use Rattle.group_plans.specs.Areas.{AreBlocksOf}
+use Rattle.base.specs.steps.Exact.{log_addresses}
+use Rattle.pool_tables.specs.Areas.{addresses_before}
 use Rattle.pool_tables.specs.Shows.{contents_after_oldest, plan_of, pool_shown, shown_after_tree}
-use Rattle.pool_tables.specs.Unsynced.{is_after}
-use Rattle.intent_log.specs.Kept.{begun_shown, header_fields, log_shown}
+use Rattle.intent_log.specs.Kept.{RunLog, header_fields, log_shown}
+use Rattle.intent_log.specs.RunLogs.{IsLogOf, KeepsHeader}
+use Rattle.intent_log.proofs.RunLogs.{synced_log}
+use Rattle.intent_log.proofs.SyncedRecords.{synced_shown}
 use Rattle.space.specs.FreeSets.{FreeSpace}
 use Rattle.pool_tables.proofs.FreeBlocks.{union_both}
-use Rattle.pool_tables.proofs.Mapped.{filter-map}
-use Rattle.pool_tables.proofs.WrittenRecords.{all_after, front_within, noted-synced, pending-synced}
 use Rattle.pool_tables.proofs.UnsyncedChanges.{open_three, same_contents, synced_changes, synced_names, synced_within, syncing_follows}
-use Rattle.base.specs.formats.Records.{IsAllowed, Record}
-use Rattle.base.specs.steps.Logs.{KeptBlock, committed_above, committed_in}
+use Rattle.base.specs.steps.Logs.{log_after_sync}
 use Rattle.transactions.specs.declared.record.Record as code
 use Rattle.std.proofs.lemmas.List.Elements.{All-filter}
 use Rattle.pool_tables.proofs.syncs.SameSyncs.{RunsIn, as_many, counted_still, kept_sync, left_as_before, more_left, one_left, one_less, refused_as, runs_on}
@@ -97,32 +96,38 @@ invariant_of-self-in-Ok-Last-clause-unsynced_kept g c =
     let syncing = was_syncing pool c.in-Some.running c.in-Some.is ∙ ap (λ (r : RunningSync). Some r.group.0) (sym same) in
     let finished : c.finish_sync.new.self ≡ after_sync group pool.groups =
     of_group (λ n. after_sync n pool.groups) pool.groups.line.syncing group _ syncing c.in-Ok.ensures.group c.in-Ok.ensures.synced in
-    let header = subst (λ (r : RunningSync). KeepsHeader r.group.0 (header_fields r.header) (log_shown pool.log)) (sym same) (pool.sync_header c.in-Some.running c.in-Some.is) in
     let next = syncing_follows pool.groups.line group pool.accounted.counted.line syncing in
-    let later : code.Record → Bool = is_after group in
-    rw (finished, c.drop_synced.ensures.left, c.drop_synced.ensures.written) (record {
-      above = all_after group pool.unsynced.items;
-      open_or_before = All-filter later (λ (x : code.Record). x.group.0 ≤ pool.groups.line.open_group) pool.unsynced.items pool.unsynced_kept.open_or_before;
+    let later : code.Record → Bool = λ x. nat_lt group x.group.0 in
+    let records = c.give_log.ensures.records ∙ ap (λ (l : RunLog). l.records) c.drop_synced.ensures in
+    rw (finished, records) (record {
+      open_or_before = All-filter later (λ (x : code.Record). x.group.0 ≤ pool.groups.line.open_group) pool.log.records pool.unsynced_kept.open_or_before;
       within = synced_within pool.changes pool.synced c.lay_oldest.new.synced c.lay_oldest.ensures.contents pool.unsynced_kept.within;
-      changed = synced_changes pool.groups.line.synced group pool.unsynced.items pool.changes c.lay_oldest.new.changes next
-          pool.unsynced_kept.changed (open_three pool.groups.line pool.unsynced.items pool.accounted.counted.line pool.unsynced_kept.open_or_before) c.lay_oldest.ensures.changes;
-      named = synced_names pool.groups.line.synced group pool.unsynced.items pool.changes c.lay_oldest.new.changes next
-          pool.unsynced_kept.named (open_three pool.groups.line pool.unsynced.items pool.accounted.counted.line pool.unsynced_kept.open_or_before) c.lay_oldest.ensures.changes;
-      allowed = All-filter later (λ (x : code.Record). IsAllowed (record_fields x)) pool.unsynced.items pool.unsynced_kept.allowed;
-      front = front_within later pool.written pool.unsynced.items;
-      noted = ap (λ (kept : List KeptBlock). committed_above group (committed_in (record (log_shown pool.log) { kept = kept }))) c.give_log.ensures.kept
-          ∙ noted-synced pool.groups.line.synced group pool.written (header_fields c.in-Some-take.synced.header) (log_shown pool.log) pool.unsynced.items (omega (arith, next)) header.none_before pool.unsynced_kept.noted;
-      balanced = rw (c.give_log.ensures.kept, c.give_log.ensures.begun) header.balanced;
+      changed = synced_changes pool.groups.line.synced group pool.log.records pool.changes c.lay_oldest.new.changes next
+          pool.unsynced_kept.changed (open_three pool.groups.line pool.log.records pool.accounted.counted.line pool.unsynced_kept.open_or_before) c.lay_oldest.ensures.changes;
+      named = synced_names pool.groups.line.synced group pool.log.records pool.changes c.lay_oldest.new.changes next
+          pool.unsynced_kept.named (open_three pool.groups.line pool.log.records pool.accounted.counted.line pool.unsynced_kept.open_or_before) c.lay_oldest.ensures.changes;
     })
 
-pub drop_synced-requires : goal.drop_synced-requires
-drop_synced-requires g c = record { front = c.args.self.now.unsynced_kept.front }
+pub invariant_of-self-in-Ok-Last-clause-logged : goal.invariant_of-self-in-Ok-Last-clause-logged
+invariant_of-self-in-Ok-Last-clause-logged g c =
+    let pool = c.args.self.now in
+    let group = c.in-Some-take.synced.group.0 in
+    let same = kept_sync c.in-Some-take.synced _ c.in-Some-take.ensures.value in
+    let syncing = was_syncing pool c.in-Some.running c.in-Some.is ∙ ap (λ (r : RunningSync). Some r.group.0) (sym same) in
+    let finished : c.finish_sync.new.self ≡ after_sync group pool.groups =
+    of_group (λ n. after_sync n pool.groups) pool.groups.line.syncing group _ syncing c.in-Ok.ensures.group c.in-Ok.ensures.synced in
+    let header = subst (λ (r : RunningSync). KeepsHeader r.group.0 (header_fields r.header) (log_shown pool.log)) (sym same) (pool.sync_header c.in-Some.running c.in-Some.is) in
+    let next = syncing_follows pool.groups.line group pool.accounted.counted.line syncing in
+    let log = synced_shown group (header_fields c.in-Some-take.synced.header) pool.log c.drop_synced.new.self c.give_log.new.log c.drop_synced.ensures c.give_log.ensures.kept in
+    subst (λ (l : CountedLine). IsLogOf l.line.synced (log_shown c.give_log.new.log)) (sym finished)
+    (subst (IsLogOf group) (sym log) (synced_log pool.groups.line.synced group (header_fields c.in-Some-take.synced.header) (log_shown pool.log) (omega (arith, next)) header pool.logged))
 
 pub give_log-requires-clause-count : goal.give_log-requires-clause-count
 give_log-requires-clause-count g c = ap (λ (s : FreeSpace). s.blocks) c.end_charges.ensures.free ∙ c.args.self.now.free_counted.sized
 
 pub give_log-requires-clause-placed : goal.give_log-requires-clause-placed
-give_log-requires-clause-placed g c = c.args.self.now.log_placed
+give_log-requires-clause-placed g c =
+    subst (λ (l : RunLog). AreBlocksOf (block_count c.args.self.now.geometry) (log_addresses (log_shown l))) (sym c.drop_synced.ensures) c.args.self.now.log_placed
 
 pub invariant_of-self-in-Ok-Last-clause-free_counted : goal.invariant_of-self-in-Ok-Last-clause-free_counted
 invariant_of-self-in-Ok-Last-clause-free_counted g c = rw c.take.ensures.after (record {
@@ -181,11 +186,9 @@ returns-in-Ok-clause-step g c =
     let same = kept_sync c.in-Some-take.synced _ c.in-Some-take.ensures.value in
     let finished : c.finish_sync.new.self ≡ after_sync c.in-Some-take.synced.group.0 pool.groups =
     of_group (λ n. after_sync n pool.groups) pool.groups.line.syncing c.in-Some-take.synced.group.0 _ (syncing ∙ ap (λ (r : RunningSync). Some r.group.0) (sym same)) c.in-Ok.ensures.group c.in-Ok.ensures.synced in
-    let pending = (λ k. map record_fields (drop (c.drop_synced.ensures.written k) (c.drop_synced.ensures.left k)))
-    ∙ pending-synced c.in-Some-take.synced.group.0 pool.written pool.unsynced.items ∙ (λ k. filter (λ (x : Record). nat_lt (same k).group.0 x.group) s.log.pending) in
-    let unsynced = ap (map record_fields) c.drop_synced.ensures.left ∙ sym (filter-map (λ (x : Record). nat_lt c.in-Some-take.synced.group.0 x.group) record_fields pool.unsynced.items)
-    ∙ (λ k. filter (λ (x : Record). nat_lt (same k).group.0 x.group) s.log.unsynced) in
-    let kept = c.give_log.ensures.kept ∙ (λ k. blocks_from (header_fields (same k).header) pool.log.kept) in
+    let log = synced_shown c.in-Some-take.synced.group.0 (header_fields c.in-Some-take.synced.header) pool.log c.drop_synced.new.self c.give_log.new.log c.drop_synced.ensures c.give_log.ensures.kept
+    ∙ (λ k. log_after_sync (same k).group.0 (header_fields (same k).header) s.log) in
+    let kept = ap (λ (l : RunLog). l.kept) c.drop_synced.ensures in
     let contents = same_contents pool.changes pool.synced c.lay_oldest.new.synced c.lay_oldest.ensures.contents c.lay_oldest.new.changes c.lay_oldest.ensures.changes in
     step_synced s _ c.in-Some.running.group.0 c.in-Some-take.synced.group.0 _ c.in_ok-check_running.ensures syncing (was_planned pool c.in-Some.running is)
     (one_left c.in-Some.running.run c.next.new.self told.counts.same told.counts.done (told.counts.last.0 c.in-Ok-Last.field-0-is)) (ap (λ (r : RunningSync). r.group.0) same)
@@ -194,9 +197,9 @@ returns-in-Ok-clause-step g c =
       line = line_after_sync (same k).group.0 s.line;
       dirty = finite.remove s.dirty (same k).group.0;
       reserved = finite.remove s.reserved (same k).group.0;
-      free = set.union s.free (set.from_list (addresses_before (header_fields (same k).header) pool.log.kept));
+      free = set.union s.free (set.from_list (addresses_before (header_fields (same k).header) (kept k)));
       contents = contents k;
-      log = record { unsynced = unsynced k; begun = option_map begun_shown (c.give_log.ensures.begun k); pending = pending k; kept = kept k; next = c.give_log.ensures.next k };
+      log = log k;
       synced_contents = c.lay_oldest.ensures.contents k;
       sync = None;
     }))
