@@ -37,5 +37,6 @@ pub mod ShownMounts
 pub mod UsedBlocks
 pub mod ChainRecords
 pub mod Inspections
+pub mod Views
 pub mod TakenBlocks
 pub mod Promises

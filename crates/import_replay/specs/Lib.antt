@@ -22,3 +22,4 @@ pub mod Mounts
 pub mod ShownMounts
 pub mod RunStarts
 pub mod Inspections
+pub mod Views

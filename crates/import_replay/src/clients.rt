@@ -60,6 +60,28 @@ fn the_next_uberblock_is_active<D: SectorDevice>(
     import(alloc, device, 1_048_576, 0)
 }
 
+// The moment that an import is told is that of the active uberblock then.
+fn an_import_stores_its_moment<D: SectorDevice>(
+    alloc: Global,
+    device: D,
+) -> Result<Imported<D>, (PoolError, D)>
+    ensures { IsTrue D.keeps_model → IfOk result (λ i. (v : image.Uberblock)
+        × IsActive (bytes_of (D.disk i.device).now) v × (v.moment ≡ 1234)) }
+{
+    import(alloc, device, 1_048_576, 1_234)
+}
+
+// If group 2^60 - 4 is active, no import of the pool succeeds: its open group would pass the last number.
+fn no_import_passes_the_last_group<D: SectorDevice>(
+    alloc: Global,
+    device: D,
+) -> Result<Imported<D>, (PoolError, D)>
+    ensures { IsTrue D.keeps_model → IfOk result (λ i. (u : image.Uberblock)
+        → IsActive (bytes_of (D.disk device).now) u → u.group ≡ 1152921504606846972 → ⊥) }
+{
+    import(alloc, device, 1_048_576, 0)
+}
+
 // No block of the tree is free after an import.
 fn no_block_of_the_tree_is_free<D: SectorDevice>(
     alloc: Global,

@@ -14,6 +14,7 @@ mod label_sync;
 mod mounted;
 mod next_pool;
 mod reading;
+mod viewing;
 
 pub use creation::create;
 pub use free_blocks::give_all;
@@ -21,3 +22,4 @@ pub use imported::Imported;
 pub use importing::{import, import_with};
 pub use inspection::{Inspected, inspect};
 pub use mounted::Mounted;
+pub use viewing::{View, view_pool};
