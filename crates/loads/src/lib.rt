@@ -7,9 +7,9 @@
 //! 3. Stream j draws its writes by a generator, PCG (XSH-RR 64/32), from a seed and its number (`words.rt`). It writes
 //!    to object j and to a part of object 16 that no other stream writes. So what a load leaves doesn't depend on the
 //!    order in which threads write.
-//! 4. A write locks its range, begins, commits and unlocks. After each eighth write a stream waits until it is durable,
-//!    and then reads all parts of object 16 under a lock.
-//! 5. If a write finds no space, its stream syncs the pool and begins again, at most 8 times.
+//! 4. A write locks its range, begins, commits and unlocks, in one turn of the pool's lock (`transact` of a handle).
+//!    After each eighth write a stream waits until it is durable, and then reads all parts of object 16 under a lock.
+//! 5. If a write finds no space, its stream syncs the pool and begins again, at most 8 times. It holds no lock then.
 //! 6. At the end the pool is synced, the loops are stopped, and the digest of the contents is taken.
 //! 7. A refusal ends the load: no worker begins a further write, each gives up what it holds, and the loops stop.
 //!

@@ -1,6 +1,7 @@
-//! What a worker of a load does on the pool: one transaction after another, each under a lock of its own.
+//! What a worker of a load does on the pool: one transaction after another, each in one turn of the pool's lock, under
+//! a lock of its range.
 //!
-//! A refused transaction is aborted and its range unlocked, so that no other thread waits for it.
+//! A refused transaction holds no range, so no other thread waits for it, also while its stream syncs the pool.
 
 ghost use Rattle.std.specs.Prelude.{◌≡◌, IfErr};
 
@@ -8,10 +9,7 @@ use crate::gate::Gate;
 use crate::halt::Halt;
 use crate::order::{Order, STREAMS, WRITES_BETWEEN_WAITS};
 use crate::words::{PART, SHARED, Word, Words};
-use base::{
-    Bytes, Group, Mode, ObjectId, ObjectRange, Op, Ops, Owner, Plan, PoolError, Range, Receipt,
-    TxId,
-};
+use base::{Bytes, Mode, ObjectId, Op, Ops, Owner, PoolError, Range, Receipt};
 use device_model::SectorDevice;
 use pool_threads::{Handle, Pool};
 use std::alloc::Global;
@@ -54,11 +52,7 @@ impl<'a, 'p, D: SectorDevice, W: Wait> Writer<'a, 'p, D, W> {
                 Err(PoolError::NoObject) => Op::Create(object),
                 Err(error) => return Err(error),
             };
-            let place = ObjectRange {
-                object,
-                range: Range::WHOLE,
-            };
-            self.transact(place, op, 0)?;
+            self.transact(op)?;
         }
         Ok(())
     }
@@ -89,53 +83,28 @@ impl<'a, 'p, D: SectorDevice, W: Wait> Writer<'a, 'p, D, W> {
         Ok(())
     }
 
+    // Commits a write. If it finds no space it syncs the pool and begins again, at most so often.
     fn write(&mut self, word: Word) -> Result<Receipt, PoolError> {
-        let bytes = Bytes::new(vec![in self.alloc; word.byte; word.length]?);
-        let op = Op::Write(word.place.object, word.place.range.low, bytes);
-        self.transact(word.place, op, SYNCS_FOR_SPACE)
-    }
-
-    // Commits an operation in a transaction of its own, under a lock of its place.
-    fn transact(
-        &mut self,
-        place: ObjectRange,
-        op: Op,
-        syncs_for_space: u32,
-    ) -> Result<Receipt, PoolError> {
-        let ops = Ops::new(vec![in self.alloc; op]?);
-        let ObjectRange { object, range } = place;
-        let lock = self
-            .handle
-            .lock(self.rt, self.owner, object, range, Mode::Writer)?;
-        let committed = self.begin_and_commit(ops, syncs_for_space);
-        let unlocked = self.handle.unlock(self.rt, self.owner, lock);
-        let receipt = committed?;
-        unlocked?;
-        Ok(receipt)
-    }
-
-    fn begin_and_commit(&mut self, ops: Ops, syncs_for_space: u32) -> Result<Receipt, PoolError> {
-        let (tx, _) = self.begin(&ops, syncs_for_space)?;
-        let committed = self.handle.commit(self.rt, tx, ops);
-        if committed.is_err() {
-            let _ = self.handle.abort(self.rt, tx);
-        }
-        committed
-    }
-
-    // Begins a transaction. If it finds no space it syncs the pool and begins again, at most so often.
-    fn begin(&mut self, ops: &Ops, syncs_for_space: u32) -> Result<(TxId, Group), PoolError> {
-        for _ in 0..syncs_for_space {
-            let plan = Plan::of(self.alloc, ops)?;
-            match self.handle.begin(self.rt, self.owner, plan) {
+        for _ in 0..SYNCS_FOR_SPACE {
+            match self.try_write(word) {
                 Err(PoolError::NoSpace) => {
                     self.handle.sync_pool(self.rt)?;
                 }
-                begun => return begun,
+                written => return written,
             }
         }
-        let plan = Plan::of(self.alloc, ops)?;
-        self.handle.begin(self.rt, self.owner, plan)
+        self.try_write(word)
+    }
+
+    fn try_write(&mut self, word: Word) -> Result<Receipt, PoolError> {
+        let bytes = Bytes::new(vec![in self.alloc; word.byte; word.length]?);
+        self.transact(Op::Write(word.place.object, word.place.range.low, bytes))
+    }
+
+    // Commits an operation in a transaction of its own.
+    fn transact(&mut self, op: Op) -> Result<Receipt, PoolError> {
+        let ops = Ops::new(vec![in self.alloc; op]?);
+        self.handle.transact(self.rt, self.owner, ops)
     }
 
     // Reads all parts of the shared object, under a lock.

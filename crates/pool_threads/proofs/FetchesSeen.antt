@@ -25,11 +25,11 @@ use Rattle.pool_threads.specs.declared.handle.Handle.{Handle}
 use Rattle.pool_threads.specs.Answers.{IsRefusal, MakesAtLast, Sees, state_seen}
 use Rattle.pool_threads.specs.Fetches.{Fetches, IsFetchRefusal, LeavesNoLock, ReadsUnderLock, ShowsSame, reader_step}
 use Rattle.pool_threads.specs.Handles.{kin_of}
+use Rattle.pool_threads.proofs.AloneSteps.{Leaves, sound_before, step_at_last, step_at_once}
+use Rattle.pool_threads.proofs.Along.{GoesAlong, along_last, along_made, along_on, along_same, seen_last, seen_made, seen_made_on}
 use Rattle.pool_threads.proofs.Answered.{refused_between}
 use Rattle.pool_threads.proofs.Fetched.{shows_same}
 use Rattle.pool_threads.proofs.Released.{lock_refused}
-use Rattle.pool_threads.proofs.TransactsRelease.{Leaves, sound_before, step_at_last, step_at_once}
-use Rattle.pool_threads.proofs.TransactsSeen.{GoesAlong, along_last, along_made, along_on, along_same, seen_last, seen_made, seen_made_on}
 
 -- a read is refused as busy never
 no_busy_test : (a b c d : Bool) → first_refusal (refused_if a error.Suspended ∷ refused_if b error.BadRange ∷ refused_if c error.NotLocked ∷ refused_if d error.NoObject ∷ []) ≡ Some error.Busy → ⊥

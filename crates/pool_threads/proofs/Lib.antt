@@ -10,18 +10,25 @@ pub mod Limits
 pub mod Looked
 pub mod Ends
 pub mod SafeTurns
+pub mod Along
+pub mod AloneSteps
 pub mod Transacted
-pub mod TransactsSeen
+pub mod FreshLocks
 pub mod Released
-pub mod TransactsRelease
-pub mod TransactClients
 pub mod Fetched
 pub mod FetchesSeen
 pub mod FetchClients
 mod Served
+pub mod TransactsSeen
+pub mod PaidSteps
+pub mod TransactsRelease
+pub mod OneTurn
+pub mod TransactTurns
 mod Waited
 mod WaitsSeen
+mod TransactLoops
 mod TransactsDurably
+pub mod TransactClients
 mod Looped
 mod WaitClients
 mod LoopClients

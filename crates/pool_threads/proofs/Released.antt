@@ -1,13 +1,11 @@
--- What a transaction holds while it runs is released after it, in a pool that nobody else uses.
-use Rattle.std.proofs.Common.{◌≡◌, ℕ, zero, suc, ◌+◌, ◌<◌, ◌≤◌, Bool, true, false, not, ◌&&◌, ◌||◌, List, [], ◌∷◌, ◌++◌, map, length, append_assoc, drop, refl, ap, sym, subst, ◌∙◌, arith, inl, inr}
-use Rattle.std.specs.Prelude.{◌⊎◌, Option, Some, None, Result, Ok, Err, cond, filter, find, is_none, slice_get, ◌==◌}
-use Rattle.std.specs.List.{list_any}
-use Rattle.std.specs.Option.{option_map_or}
-use Rattle.std.proofs.lemmas.Bool.{eq-eqb, ne_eqb, and_from, false≢true, or_right}
-use Rattle.std.proofs.lemmas.List.{append-nil, length-append}
+-- What the steps of a transaction lock and begin is gone after them, whatever others hold.
+use Rattle.std.proofs.Common.{◌≡◌, ℕ, zero, suc, ◌+◌, ◌<◌, ◌≤◌, Bool, true, false, not, ◌&&◌, List, [], ◌∷◌, ◌++◌, append_assoc, drop, refl, ap, sym, subst, ◌∙◌, arith, inl, inr}
+use Rattle.std.specs.Prelude.{◌⊎◌, Option, Some, None, Result, Ok, Err, cond, filter, find, is_none, length, slice_get, ◌==◌}
+use Rattle.std.specs.Option.{option_map_or, option_or}
+use Rattle.std.proofs.lemmas.Bool.{and_from, and_left, eq-eqb, false≢true, ne_eqb}
+use Rattle.std.proofs.lemmas.List.{append-nil}
 use Rattle.std.proofs.lemmas.List.Elements.{filter-append}
-use Rattle.std.proofs.lemmas.List.Folds.{list_any-append}
-use Rattle.std.proofs.lemmas.Option.{slice_get_within}
+use Rattle.std.proofs.lemmas.List.Folds.{find-append}
 use Rattle.base.specs.declared.error.PoolError.{PoolError}
 use Rattle.base.specs.declared.error.PoolError.TheVariants as error
 use Rattle.base.specs.declared.names.Group.{Group}
@@ -19,21 +17,22 @@ use Rattle.base.specs.declared.names.TxId.{TxId}
 use Rattle.base.specs.declared.operation.Op.{Op}
 use Rattle.base.specs.declared.operation.Shape.{Shape}
 use Rattle.base.specs.declared.range.Mode.{Mode}
+use Rattle.base.specs.declared.range.Mode.TheVariants.{Writer}
 use Rattle.base.specs.declared.range.Range.{Range}
 use Rattle.base.specs.declared.step.Step.TheVariants as step
 use Rattle.base.specs.declared.step.Reply as declared_reply
 use Rattle.base.specs.declared.step.Reply.TheVariants as reply
-use Rattle.base.specs.steps.Exact.{AreLocksExact}
 use Rattle.base.specs.steps.ExactNow.{IsExplainedNow}
 use Rattle.base.specs.steps.Groups.{Admission}
-use Rattle.base.specs.steps.Locks.{Grant, held_locks, is_in, is_reader}
-use Rattle.base.specs.steps.Refusals.{Test, begin_tests, first_refusal, is_lock_in_use, lock_of, lock_tests, object_range, refused_if, transaction_of, unlock_refusal, abort_refusal}
+use Rattle.base.specs.steps.Locks.{Grant, is_blocked}
+use Rattle.base.specs.steps.Refusals.{Test, abort_refusal, begin_tests, first_refusal, is_lock_in_use, lock_of, lock_tests, object_range, refused_if, transaction_of, unlock_refusal}
 use Rattle.base.specs.steps.Runs.{Step, reply_of}
 use Rattle.base.specs.steps.Steps.{Answers, State, next_admission, next_grant, state_after_charged_admission, state_after_grant, state_after_unlock, transactions_without}
-use Rattle.base.specs.history.Plans.{lies_in, range_of}
-use Rattle.base.proofs.common.KeptLists.{Some-injective, any_at, any_none, at_front, at_last, filter_at, filter_same, not_found, none_at, push-cases}
-use Rattle.base.proofs.common.Sieves.{filter_nothing}
-use Rattle.base.proofs.steps.KeptTables.{steps_keep_tables}
+use Rattle.base.proofs.common.KeptLists.{All-each, Some-injective, at_front, at_last, none_at, not_found}
+use Rattle.base.proofs.common.Sieves.{filter_all}
+use Rattle.base.proofs.history.CommitOrder.{no_refusal}
+use Rattle.pool_threads.specs.Transacts.{AreReleased}
+use Rattle.pool_threads.proofs.FreshLocks.{below_next, is_used_by, new_transaction, unused_yet}
 
 -- a step that was not refused did what it does
 pub done : {A : Type 0} (make : A → declared_reply.Reply) (o : Option PoolError) (answer : Result A PoolError) (old new : State) (does : A → Type 0) (own : PoolError → Type 0) (r : declared_reply.Reply)
@@ -59,6 +58,13 @@ pub runs_on : (b : Bool) (rest : List Test) → first_refusal (refused_if b erro
 runs_on false rest is = refl
 runs_on true rest is = absurd (let no_way : Some error.Suspended ≡ None = is in cc)
 
+-- tests of which none applies
+passes_two : (a b : Bool) (e f : PoolError) → a ≡ false → b ≡ false → first_refusal (refused_if a e ∷ refused_if b f ∷ []) ≡ None
+passes_two a b e f no_a no_b = subst (λ x. first_refusal (refused_if x e ∷ refused_if b f ∷ []) ≡ None) (sym no_a) (subst (λ x. first_refusal (refused_if false e ∷ refused_if x f ∷ []) ≡ None) (sym no_b) refl)
+
+pub passes_three : (a b c : Bool) (e f g : PoolError) → a ≡ false → b ≡ false → c ≡ false → first_refusal (refused_if a e ∷ refused_if b f ∷ refused_if c g ∷ []) ≡ None
+passes_three a b c e f g no_a no_b no_c = subst (λ x. first_refusal (refused_if x e ∷ refused_if b f ∷ refused_if c g ∷ []) ≡ None) (sym no_a) (passes_two b c f g no_b no_c)
+
 module _ (now : List ℕ) (owner : Owner) where
   pub lock_refused : (n : ObjectId) (range : Range) (mode : Mode) (e : PoolError) (old new : State) → Step ⊥ now (step.Lock owner n range mode) (reply.Refused e) old new → new ≡ old
   lock_refused n range mode e old new (answer, is, holds) = stays _ _ answer old new _ _ e (λ a h. let no_way : reply.Refused e ≡ reply.Locked (record { 0 = a }) = h in cc) (λ f own. own.1) is holds
@@ -77,68 +83,63 @@ AreNext owner n (g ∷ gs) (id ∷ ids) = (g.id ≡ n) × (id.0 ≡ n) × (g.own
 AreNext owner n [] (id ∷ ids) = ⊥
 AreNext owner n (g ∷ gs) [] = ⊥
 
+-- none of these transactions uses one of these locks
+abbrev pub AreUnused : List Grant → List Admission → Type 0
+AreUnused gs ts = (i : ℕ) (g : Grant) → slice_get gs i ≡ Some g → is_used_by g ts ≡ false
+
+-- each of these locks has a lower name
+abbrev pub AreBelow : ℕ → List Grant → Type 0
+AreBelow n gs = (i : ℕ) (h : Grant) → slice_get gs i ≡ Some h → h.id < n
+
 -- the locks of these names were granted to an owner, and nothing else was done
 pub record HasLocked (owner : ℕ) (ids : List LockId) (b s : State) : Type 0 where
   pub grants : List Grant
-  pub next : AreNext owner (length b.past.grants) grants ids
-  pub granted : s.past.grants ≡ b.past.grants ++ grants
-  pub let_go : s.past.let_go ≡ b.past.let_go
+  pub next : AreNext owner b.shown.next_lock grants ids
+  pub held : s.shown.locks ≡ b.shown.locks ++ grants
+  pub unused : AreUnused grants s.shown.transactions
   pub transactions : s.shown.transactions ≡ b.shown.transactions
   pub running : s.shown.suspended ≡ b.shown.suspended
-  pub ran : (ids ≡ []) ⊎ (b.shown.suspended ≡ false)
-  pub explained : IsExplainedNow s.shown s.past
+  pub ran : (ids ≡ []) ⊎ ((b.shown.suspended ≡ false) × AreBelow b.shown.next_lock b.shown.locks)
 
-pub none_locked : (owner : ℕ) (b : State) → IsExplainedNow b.shown b.past → HasLocked owner [] b b
-none_locked owner b x = record { grants = []; next = tt; granted = sym (append-nil b.past.grants); let_go = refl; transactions = refl; running = refl; ran = inl refl; explained = x }
+pub none_locked : (owner : ℕ) (b : State) → HasLocked owner [] b b
+none_locked owner b = record { grants = []; next = tt; held = sym (append-nil b.shown.locks); unused = λ i g at. absurd (none_at i g at); transactions = refl; running = refl; ran = inl refl }
 
-pub one_locked : (now : List ℕ) (owner : Owner) (n : ObjectId) (range : Range) (mode : Mode) (id : LockId) (ids : List LockId) (b m s : State) → IsExplainedNow b.shown b.past
-    → Step ⊥ now (step.Lock owner n range mode) (reply.Locked id) b m → HasLocked owner.0 ids m s → HasLocked owner.0 (id ∷ ids) b s
-one_locked now owner n range mode id ids b m s x (answer, is, holds) rest =
+pub one_locked : (now : List ℕ) (owner : Owner) (n : ObjectId) (range : Range) (id : LockId) (ids : List LockId) (b m s : State) → IsExplainedNow b.shown b.past → Step ⊥ now (step.Lock owner n range Writer) (reply.Locked id) b m
+    → HasLocked owner.0 ids m s → HasLocked owner.0 (id ∷ ids) b s
+one_locked now owner n range id ids b m s x (answer, is, holds) rest =
+    let wanted = object_range n.0 range.low range.high in
     let d = done _ _ answer b m _ _ (reply.Locked id) (λ e h. let no_way : reply.Locked id ≡ reply.Refused e = h in cc) is holds in
-    let g : Grant = next_grant owner.0 (record { number = n.0; low = range.low; high = range.high }) mode b.shown in
+    let g : Grant = next_grant owner.0 wanted Writer b.shown in
     let after : m ≡ state_after_grant g b = d.3.1 in
     let named : id ≡ record { 0 = d.0 } = (let same : reply.Locked id ≡ reply.Locked (record { 0 = d.0 }) = d.2 in cc) in
-    let number : b.shown.next_lock ≡ length b.past.grants = x.exact.locks.next in
-    let longer : length m.past.grants ≡ length b.past.grants + 1 = ap (λ (t : State). length t.past.grants) after ∙ length-append b.past.grants (g ∷ []) in
+    let free : is_blocked wanted Writer b.shown.locks ≡ false = no_refusal (lock_tests owner.0 wanted Writer b.shown) d.1 2 _ refl in
+    let open_then : s.shown.transactions ≡ b.shown.transactions = rest.transactions ∙ ap (λ (t : State). t.shown.transactions) after in
+    let first : is_used_by g s.shown.transactions ≡ false = ap (λ ts. is_used_by g ts) open_then ∙ unused_yet b.shown b.past x.exact wanted free g refl in
     record {
       grants = g ∷ rest.grants;
-      next = (number, ap (λ (i : LockId). i.0) named ∙ d.3.0 ∙ number, refl, subst (λ (k : ℕ). AreNext owner.0 k rest.grants ids) longer rest.next);
-      granted = rest.granted ∙ ap (λ (t : State). t.past.grants ++ rest.grants) after ∙ append_assoc b.past.grants (g ∷ []) rest.grants;
-      let_go = rest.let_go ∙ ap (λ (t : State). t.past.let_go) after;
-      transactions = rest.transactions ∙ ap (λ (t : State). t.shown.transactions) after;
+      next = (refl, ap (λ (i : LockId). i.0) named ∙ d.3.0, refl, subst (λ (k : ℕ). AreNext owner.0 k rest.grants ids) (ap (λ (t : State). t.shown.next_lock) after) rest.next);
+      held = rest.held ∙ ap (λ (t : State). t.shown.locks ++ rest.grants) after ∙ append_assoc b.shown.locks (g ∷ []) rest.grants;
+      unused = each g rest.grants first rest.unused;
+      transactions = open_then;
       running = rest.running ∙ ap (λ (t : State). t.shown.suspended) after;
-      ran = inr (runs_on b.shown.suspended (drop 1 (lock_tests owner.0 (object_range n.0 range.low range.high) mode b.shown)) d.1);
-      explained = rest.explained;
+      ran = inr (runs_on b.shown.suspended (drop 1 (lock_tests owner.0 wanted Writer b.shown)) d.1, below_next b.shown b.past x.exact);
     }
+  where
+    each : (g : Grant) (gs : List Grant) → is_used_by g s.shown.transactions ≡ false → AreUnused gs s.shown.transactions → AreUnused (g ∷ gs) s.shown.transactions
+    each g gs first others zero h at = subst (λ (k : Grant). is_used_by k s.shown.transactions ≡ false) (Some-injective at) first
+    each g gs first others (suc i) h at = others i h at
 
--- tests of which none applies
-passes_two : (a b : Bool) (e f : PoolError) → a ≡ false → b ≡ false → first_refusal (refused_if a e ∷ refused_if b f ∷ []) ≡ None
-passes_two a b e f no_a no_b = subst (λ x. first_refusal (refused_if x e ∷ refused_if b f ∷ []) ≡ None) (sym no_a) (subst (λ x. first_refusal (refused_if false e ∷ refused_if x f ∷ []) ≡ None) (sym no_b) refl)
-
-pub passes_three : (a b c : Bool) (e f g : PoolError) → a ≡ false → b ≡ false → c ≡ false → first_refusal (refused_if a e ∷ refused_if b f ∷ refused_if c g ∷ []) ≡ None
-passes_three a b c e f g no_a no_b no_c = subst (λ x. first_refusal (refused_if x e ∷ refused_if b f ∷ refused_if c g ∷ []) ≡ None) (sym no_a) (passes_two b c f g no_b no_c)
-
--- what was done between the locks and the unlocks leaves them, and no transaction
+-- what was done between the locks and the unlocks leaves them, and the transactions that were open
 pub record KeepsLocks (l e : State) : Type 0 where
-  pub grants : e.past.grants ≡ l.past.grants
-  pub let_go : e.past.let_go ≡ l.past.let_go
+  pub locks : e.shown.locks ≡ l.shown.locks
+  pub transactions : e.shown.transactions ≡ l.shown.transactions
   pub running : e.shown.suspended ≡ l.shown.suspended
-  pub none_open : e.shown.transactions ≡ []
-  pub explained : IsExplainedNow e.shown e.past
 
-pub keeps_same : (l e : State) → IsExplainedNow l.shown l.past → l.shown.transactions ≡ [] → e ≡ l → KeepsLocks l e
-keeps_same l e x none same = subst (λ (s : State). KeepsLocks l s) (sym same) (record { grants = refl; let_go = refl; running = refl; none_open = none; explained = x })
+pub keeps_same : (l e : State) → e ≡ l → KeepsLocks l e
+keeps_same l e same = subst (λ (s : State). KeepsLocks l s) (sym same) (record { locks = refl; transactions = refl; running = refl })
 
--- the only transaction that is open
-one_without : (a : Admission) (tx : ℕ) → a.tx ≡ tx → transactions_without tx (a ∷ []) ≡ []
-one_without a tx is = ap (λ b. cond (not b) (a ∷ []) []) (eq-eqb a.tx tx is)
-
-one_found : (a : Admission) (tx : ℕ) → a.tx ≡ tx → is_none (find (λ (x : Admission). x.tx == tx) (a ∷ [])) ≡ false
-one_found a tx is = ap (λ b. is_none (cond b (Some a) None)) (eq-eqb a.tx tx is)
-
-module _ (now : List ℕ) (owner : Owner) (plan : List Shape) (tx : TxId) (group : Group) (l b : State) (x : IsExplainedNow l.shown l.past) (none : l.shown.transactions ≡ [])
-    (begins : Step ⊥ now (step.Begin owner plan) (reply.Began tx group) l b) where
-  admission : Admission
+module _ (now : List ℕ) (owner : Owner) (plan : List Shape) (tx : TxId) (group : Group) (l b : State) (x : IsExplainedNow l.shown l.past) (begins : Step ⊥ now (step.Begin owner plan) (reply.Began tx group) l b) where
+  abbrev admission : Admission
   admission = next_admission owner.0 plan l.shown
 
   begun : (tx.0 ≡ l.shown.next_tx) × (b ≡ state_after_charged_admission (next_admission owner.0 plan l.shown) l) × (l.shown.suspended ≡ false)
@@ -147,14 +148,29 @@ module _ (now : List ℕ) (owner : Owner) (plan : List Shape) (tx : TxId) (group
       let named : tx ≡ record { 0 = d.0.0 } = (let same : reply.Began tx group ≡ reply.Began (record { 0 = d.0.0 }) (record { 0 = d.0.1 }) = d.2 in cc) in
       (ap (λ (t : TxId). t.0) named ∙ ap (λ (p : ℕ × ℕ). p.0) d.3.0, d.3.1, runs_on l.shown.suspended (drop 1 (begin_tests owner.0 plan l.shown)) d.1)
 
-  only_one : b.shown.transactions ≡ next_admission owner.0 plan l.shown ∷ []
-  only_one = ap (λ (t : State). t.shown.transactions) begun.1 ∙ ap (λ ts. ts ++ next_admission owner.0 plan l.shown ∷ []) none
+  abbrev is_other : Admission → Bool
+  is_other a = not (a.tx == tx.0)
 
-  without : transactions_without tx.0 b.shown.transactions ≡ []
-  without = ap (λ ts. transactions_without tx.0 ts) only_one ∙ one_without (next_admission owner.0 plan l.shown) tx.0 (sym begun.0)
+  -- without the new transaction the others are left
+  without : transactions_without tx.0 b.shown.transactions ≡ l.shown.transactions
+  without =
+      ap (λ (t : State). transactions_without tx.0 t.shown.transactions) begun.1
+      ∙ filter-append is_other l.shown.transactions (admission ∷ [])
+      ∙ ap (λ ts. ts ++ filter is_other (admission ∷ []))
+      (filter_all is_other l.shown.transactions (All-each (λ (a : Admission). is_other a ≡ true) l.shown.transactions (λ i a at. ap (λ (n : ℕ). not (a.tx == n)) begun.0 ∙ ap not (new_transaction l.shown l.past x.exact i a at))))
+      ∙ ap (λ c. l.shown.transactions ++ cond (not c) (admission ∷ []) []) (eq-eqb admission.tx tx.0 (sym begun.0))
+      ∙ append-nil l.shown.transactions
 
-  explained_then : IsExplainedNow b.shown b.past
-  explained_then = steps_keep_tables ⊥ now (step.Begin owner plan) (reply.Began tx group) l b begins x
+  -- it is found
+  is_open : is_none (transaction_of tx.0 b.shown) ≡ false
+  is_open = go (transaction_of tx.0 b.shown) refl
+    where
+      go : (o : Option Admission) → transaction_of tx.0 b.shown ≡ o → is_none o ≡ false
+      go (Some a) is = refl
+      go None is =
+          let none = not_found (λ (a : Admission). a.tx == tx.0) b.shown.transactions is (length l.shown.transactions) admission
+          (ap (λ (t : State). slice_get t.shown.transactions (length l.shown.transactions)) begun.1 ∙ at_last l.shown.transactions admission) in
+          absurd (false≢true (sym none ∙ eq-eqb admission.tx tx.0 (sym begun.0)))
 
   module _ (ops : List Op) where
     pub keeps_committed : (receipt : Receipt) (e : State) → Step ⊥ now (step.Commit tx ops) (reply.Committed receipt) b e → KeepsLocks l e
@@ -162,11 +178,9 @@ module _ (now : List ℕ) (owner : Owner) (plan : List Shape) (tx : TxId) (group
         let d = done _ _ commits.0 b e _ _ (reply.Committed receipt) (λ f h. let no_way : reply.Committed receipt ≡ reply.Refused f = h in cc) commits.1 commits.2 in
         let after = d.3.6 in
         record {
-          grants = ap (λ (t : State). t.past.grants) after ∙ ap (λ (t : State). t.past.grants) begun.1;
-          let_go = ap (λ (t : State). t.past.let_go) after ∙ ap (λ (t : State). t.past.let_go) begun.1;
+          locks = ap (λ (t : State). t.shown.locks) after ∙ ap (λ (t : State). t.shown.locks) begun.1;
+          transactions = ap (λ (t : State). t.shown.transactions) after ∙ without;
           running = ap (λ (t : State). t.shown.suspended) after ∙ ap (λ (t : State). t.shown.suspended) begun.1;
-          none_open = ap (λ (t : State). t.shown.transactions) after ∙ without;
-          explained = steps_keep_tables ⊥ now (step.Commit tx ops) (reply.Committed receipt) b e commits explained_then;
         }
 
     -- a refused commit leaves the transaction open, and the abort ends it
@@ -174,158 +188,107 @@ module _ (now : List ℕ) (owner : Owner) (plan : List Shape) (tx : TxId) (group
     keeps_given_up e answer f t refused aborts =
         let same : f ≡ b = commit_refused now owner tx ops e b f refused in
         let running : f.shown.suspended ≡ false = ap (λ (s : State). s.shown.suspended) (same ∙ begun.1) ∙ begun.2 in
-        let is_there : is_none (transaction_of tx.0 f.shown) ≡ false =
-        ap (λ (s : State). is_none (transaction_of tx.0 s.shown)) same ∙ ap (λ ts. is_none (find (λ (y : Admission). y.tx == tx.0) ts)) only_one ∙ one_found (next_admission owner.0 plan l.shown) tx.0 (sym begun.0) in
+        let is_there : is_none (transaction_of tx.0 f.shown) ≡ false = ap (λ (s : State). is_none (transaction_of tx.0 s.shown)) same ∙ is_open in
         let d = passed (abort_refusal tx.0 f.shown) aborts.0 f t _ (passes_two f.shown.suspended (is_none (transaction_of tx.0 f.shown)) error.Suspended error.NoSuchTransaction running is_there) aborts.2 in
         let after = d.1.2 in
         record {
-          grants = ap (λ (s : State). s.past.grants) after ∙ ap (λ (s : State). s.past.grants) (same ∙ begun.1);
-          let_go = ap (λ (s : State). s.past.let_go) after ∙ ap (λ (s : State). s.past.let_go) (same ∙ begun.1);
+          locks = ap (λ (s : State). s.shown.locks) after ∙ ap (λ (s : State). s.shown.locks) (same ∙ begun.1);
+          transactions = ap (λ (s : State). s.shown.transactions) after ∙ ap (λ (s : State). transactions_without tx.0 s.shown.transactions) same ∙ without;
           running = ap (λ (s : State). s.shown.suspended) after ∙ ap (λ (s : State). s.shown.suspended) (same ∙ begun.1);
-          none_open = ap (λ (s : State). s.shown.transactions) after ∙ ap (λ (s : State). transactions_without tx.0 s.shown.transactions) same ∙ without;
-          explained = steps_keep_tables ⊥ now (step.Abort tx) (reply_of (λ _. reply.Done) answer) f t aborts (subst (λ (s : State). IsExplainedNow s.shown s.past) (sym same) explained_then);
         }
 
--- An owner holds locks of these names, from this number on, and none of a lower number was granted after them. No
--- transaction is open.
-pub record Holds (owner n : ℕ) (gs : List Grant) (ids : List LockId) (s : State) : Type 0 where
-  pub front : List Grant
-  pub count : length front ≡ n
-  pub granted : s.past.grants ≡ front ++ gs
+-- Besides others an owner holds locks of these names, from this number on, which no transaction uses.
+pub record Holds (owner n : ℕ) (base gs : List Grant) (ids : List LockId) (s : State) : Type 0 where
+  pub held : s.shown.locks ≡ base ++ gs
   pub next : AreNext owner n gs ids
-  pub below : (i t : ℕ) → slice_get s.past.let_go i ≡ Some t → t < n
-  pub none_open : s.shown.transactions ≡ []
+  pub below : AreBelow n base
+  pub unused : AreUnused gs s.shown.transactions
   pub running : s.shown.suspended ≡ false
-  pub explained : IsExplainedNow s.shown s.past
 
-and_no : (b : Bool) → (b && false) ≡ false
-and_no true = refl
-and_no false = refl
+-- the names of such locks are no lower
+no_lower : (owner n : ℕ) (gs : List Grant) (ids : List LockId) (i : ℕ) (h : Grant) → AreNext owner n gs ids → slice_get gs i ≡ Some h → n ≤ h.id
+no_lower owner n [] ids i h are at = absurd (none_at i h at)
+no_lower owner n (g ∷ gs) (id ∷ ids) zero h are at = let same : g.id ≡ h.id = ap (λ (k : Grant). k.id) (Some-injective at) in let is : g.id ≡ n = are.0 in omega arith
+no_lower owner n (g ∷ gs) (id ∷ ids) (suc i) h are at = let rest : n + 1 ≤ h.id = no_lower owner (n + 1) gs ids i h are.3 at in omega arith
+no_lower owner n (g ∷ gs) [] i h are at = absurd are
 
--- a lock of an owner may be unlocked while no transaction is open
-may_unlock : (owner id i : ℕ) (g : Grant) (s : State) → AreLocksExact s.shown s.past → slice_get s.past.grants i ≡ Some g → g.id ≡ id → g.owner ≡ owner → is_in id s.past.let_go ≡ false
-    → s.shown.transactions ≡ [] → s.shown.suspended ≡ false → unlock_refusal owner id s.shown ≡ None
-may_unlock owner id i g s x at named owned held none running =
-    passes_three s.shown.suspended (is_none (lock_of owner id s.shown)) (option_map_or (λ h. is_lock_in_use h s.shown) (lock_of owner id s.shown) false) error.Suspended error.NoSuchLock error.LockInUse
-    running (found (lock_of owner id s.shown) refl) (unused (lock_of owner id s.shown))
-  where
-    there : (j : ℕ) × (slice_get s.shown.locks j ≡ Some g)
-    there = subst (λ ls. (j : ℕ) × (slice_get ls j ≡ Some g)) (sym x.held) (filter_at (λ (h : Grant). not (is_in h.id s.past.let_go)) s.past.grants i g at (ap not (ap (λ k. is_in k s.past.let_go) named ∙ held)))
+find_past : {A : Type 0} (p : A → Bool) (xs : List A) → ((i : ℕ) (x : A) → slice_get xs i ≡ Some x → p x ≡ false) → find p xs ≡ None
+find_past p [] none = refl
+find_past p (x ∷ xs) none = ap (λ (b : Bool). cond b (Some x) (find p xs)) (none 0 x refl) ∙ find_past p xs (λ i y at. none (suc i) y at)
 
-    found : (o : Option Grant) → lock_of owner id s.shown ≡ o → is_none o ≡ false
-    found (Some h) is = refl
-    found None is = absurd (false≢true (sym (not_found (λ (h : Grant). (h.id == id) && (h.owner == owner)) s.shown.locks is there.0 g there.1) ∙ and_from (g.id == id) (g.owner == owner) (eq-eqb g.id id named) (eq-eqb g.owner owner owned)))
+module _ (now : List ℕ) (owner : Owner) (n : ℕ) (base : List Grant) (g : Grant) (gs : List Grant) (id : LockId) (ids : List LockId) (answer : Result (Unit {0}) PoolError) (s t : State) (h : Holds owner.0 n base (g ∷ gs) (id ∷ ids) s)
+    (unlocks : Step ⊥ now (step.Unlock owner id) (reply_of (λ _. reply.Done) answer) s t) where
+  abbrev is_it : Grant → Bool
+  is_it k = (k.id == id.0) && (k.owner == owner.0)
 
-    unused : (o : Option Grant) → option_map_or (λ h. is_lock_in_use h s.shown) o false ≡ false
-    unused None = refl
-    unused (Some h) = ap (λ ts. not (is_reader h.mode) && list_any (λ (a : Admission). list_any (λ y. lies_in (range_of y) h.range) a.plan) ts) none ∙ and_no (not (is_reader h.mode))
+  abbrev is_kept : Grant → Bool
+  is_kept k = not (k.id == id.0)
 
--- the first of them is unlocked
-pub unlocked_once : (now : List ℕ) (owner : Owner) (n : ℕ) (g : Grant) (gs : List Grant) (id : LockId) (ids : List LockId) (answer : Result (Unit {0}) PoolError) (s t : State) → Holds owner.0 n (g ∷ gs) (id ∷ ids) s
-    → Step ⊥ now (step.Unlock owner id) (reply_of (λ _. reply.Done) answer) s t → (t ≡ state_after_unlock id.0 s) × Holds owner.0 (n + 1) gs ids t
-unlocked_once now owner n g gs id ids answer s t h unlocks =
-    let at : slice_get s.past.grants (length h.front) ≡ Some g = subst (λ ls. slice_get ls (length h.front) ≡ Some g) (append_assoc h.front (g ∷ []) gs ∙ sym h.granted) (at_front (h.front ++ g ∷ []) gs (length h.front) g (at_last h.front g)) in
-    let held : is_in id.0 s.past.let_go ≡ false = any_none (λ y. id.0 == y) s.past.let_go (λ i y at_y. ne_eqb id.0 y (λ same. let low : y < n = h.below i y at_y in let is : id.0 ≡ n = h.next.1 in absurd (omega arith))) in
-    let passes = may_unlock owner.0 id.0 (length h.front) g s h.explained.exact.locks at (h.next.0 ∙ sym h.next.1) h.next.2 held h.none_open h.running in
-    let d = passed (unlock_refusal owner.0 id.0 s.shown) unlocks.0 s t _ passes unlocks.2 in
-    let after : t ≡ state_after_unlock id.0 s = d.1 in (
-      after,
-      record {
-        front = h.front ++ g ∷ [];
-        count = length-append h.front (g ∷ []) ∙ ap (λ k. k + 1) h.count;
-        granted = ap (λ (r : State). r.past.grants) after ∙ h.granted ∙ sym (append_assoc h.front (g ∷ []) gs);
-        next = h.next.3;
-        below = λ i k at_k. elim (push-cases s.past.let_go id.0 k i (subst (λ ls. slice_get ls i ≡ Some k) (ap (λ (r : State). r.past.let_go) after) at_k)) as (λ _. k < n + 1) [
-          | inl old ↦ let low : k < n = h.below i k old in omega arith
-          | inr is ↦ let same : id.0 ≡ k = is.1 in let named : id.0 ≡ n = h.next.1 in omega arith
-        ];
-        none_open = ap (λ (r : State). r.shown.transactions) after ∙ h.none_open;
-        running = ap (λ (r : State). r.shown.suspended) after ∙ h.running;
-        explained = steps_keep_tables ⊥ now (step.Unlock owner id) (reply_of (λ _. reply.Done) answer) s t unlocks h.explained;
-      },
-    )
+  named : g.id ≡ id.0
+  named = h.next.0 ∙ sym h.next.1
 
--- the locks of these names were released, and nothing else was done
-pub record HasUnlocked (ids : List LockId) (s t : State) : Type 0 where
-  pub grants : t.past.grants ≡ s.past.grants
-  pub let_go : t.past.let_go ≡ s.past.let_go ++ map (λ (id : LockId). id.0) ids
-  pub transactions : t.shown.transactions ≡ s.shown.transactions
-  pub explained : IsExplainedNow t.shown t.past
+  older : (i : ℕ) (k : Grant) → slice_get base i ≡ Some k → (k.id == id.0) ≡ false
+  older i k at = ne_eqb k.id id.0 (λ same. let low : k.id < n = h.below i k at in let is : id.0 ≡ n = h.next.1 in absurd (omega arith))
 
-pub none_unlocked : (s : State) → IsExplainedNow s.shown s.past → HasUnlocked [] s s
-none_unlocked s x = record { grants = refl; let_go = sym (append-nil s.past.let_go); transactions = refl; explained = x }
+  newer : (i : ℕ) (k : Grant) → slice_get gs i ≡ Some k → (k.id == id.0) ≡ false
+  newer i k at = ne_eqb k.id id.0 (λ same. let high : n + 1 ≤ k.id = no_lower owner.0 (n + 1) gs ids i k h.next.3 at in let is : id.0 ≡ n = h.next.1 in absurd (omega arith))
 
-pub one_unlocked : (id : LockId) (ids : List LockId) (s m t : State) → m ≡ state_after_unlock id.0 s → HasUnlocked ids m t → HasUnlocked (id ∷ ids) s t
-one_unlocked id ids s m t after rest = record {
-  grants = rest.grants ∙ ap (λ (r : State). r.past.grants) after;
-  let_go = rest.let_go ∙ ap (λ (r : State). r.past.let_go ++ map (λ (i : LockId). i.0) ids) after ∙ append_assoc s.past.let_go (id.0 ∷ []) (map (λ (i : LockId). i.0) ids);
-  transactions = rest.transactions ∙ ap (λ (r : State). r.shown.transactions) after;
-  explained = rest.explained;
-}
+  found : lock_of owner.0 id.0 s.shown ≡ Some g
+  found =
+      ap (find is_it) h.held
+      ∙ find-append is_it base (g ∷ gs)
+      ∙ ap (λ (o : Option Grant). option_or o (find is_it (g ∷ gs))) (find_past is_it base (λ i k at. and_left (k.id == id.0) (k.owner == owner.0) (older i k at)))
+      ∙ ap (λ (c : Bool). option_or None (cond c (Some g) (find is_it gs))) (and_from (g.id == id.0) (g.owner == owner.0) (eq-eqb g.id id.0 named) (eq-eqb g.owner owner.0 h.next.2))
 
-abbrev names : List LockId → List ℕ
-names ids = map (λ (id : LockId). id.0) ids
+  after : t ≡ state_after_unlock id.0 s
+  after =
+      (passed (unlock_refusal owner.0 id.0 s.shown) unlocks.0 s t _
+      (passes_three s.shown.suspended (is_none (lock_of owner.0 id.0 s.shown)) (option_map_or (λ k. is_lock_in_use k s.shown) (lock_of owner.0 id.0 s.shown) false) error.Suspended error.NoSuchLock error.LockInUse
+      h.running (ap (λ (o : Option Grant). is_none o) found) (ap (λ (o : Option Grant). option_map_or (λ k. is_lock_in_use k s.shown) o false) found ∙ h.unused 0 g refl)) unlocks.2).1
 
-no_lower : (owner n : ℕ) (gs : List Grant) (ids : List LockId) (i y : ℕ) → AreNext owner n gs ids → slice_get (names ids) i ≡ Some y → n ≤ y
-no_lower owner n [] [] i y are at = absurd (none_at i y at)
-no_lower owner n (g ∷ gs) (id ∷ ids) zero y are at = let same : id.0 ≡ y = Some-injective at in let is : id.0 ≡ n = are.1 in omega arith
-no_lower owner n (g ∷ gs) (id ∷ ids) (suc i) y are at = let rest : n + 1 ≤ y = no_lower owner (n + 1) gs ids i y are.3 at in omega arith
-no_lower owner n [] (id ∷ ids) i y are at = absurd are
-no_lower owner n (g ∷ gs) [] i y are at = absurd are
+  left : t.shown.locks ≡ base ++ gs
+  left =
+      ap (λ (r : State). r.shown.locks) after
+      ∙ ap (filter is_kept) h.held
+      ∙ filter-append is_kept base (g ∷ gs)
+      ∙ ap (λ (ls : List Grant). ls ++ filter is_kept (g ∷ gs)) (filter_all is_kept base (All-each (λ (k : Grant). is_kept k ≡ true) base (λ i k at. ap not (older i k at))))
+      ∙ ap (λ (c : Bool). base ++ cond (not c) (g ∷ filter is_kept gs) (filter is_kept gs)) (eq-eqb g.id id.0 named)
+      ∙ ap (λ (ls : List Grant). base ++ ls) (filter_all is_kept gs (All-each (λ (k : Grant). is_kept k ≡ true) gs (λ i k at. ap not (newer i k at))))
 
-each_named : (owner n : ℕ) (gs : List Grant) (ids : List LockId) (i : ℕ) (h : Grant) → AreNext owner n gs ids → slice_get gs i ≡ Some h → (j : ℕ) × (slice_get (names ids) j ≡ Some h.id)
-each_named owner n [] [] i h are at = absurd (none_at i h at)
-each_named owner n (g ∷ gs) (id ∷ ids) zero h are at = (zero, ap (λ k. Some k) (are.1 ∙ sym are.0 ∙ ap (λ (k : Grant). k.id) (Some-injective at)))
-each_named owner n (g ∷ gs) (id ∷ ids) (suc i) h are at = let rest = each_named owner (n + 1) gs ids i h are.3 at in (suc rest.0, rest.1)
-each_named owner n [] (id ∷ ids) i h are at = absurd are
-each_named owner n (g ∷ gs) [] i h are at = absurd are
+  -- the first of them is unlocked
+  pub unlocked_once : (t.shown.transactions ≡ s.shown.transactions) × Holds owner.0 (n + 1) base gs ids t
+  unlocked_once = (
+    ap (λ (r : State). r.shown.transactions) after,
+    record {
+      held = left;
+      next = h.next.3;
+      below = λ i k at. let low : k.id < n = h.below i k at in omega arith;
+      unused = λ i k at. ap (λ (r : State). is_used_by k r.shown.transactions) after ∙ h.unused (suc i) k at;
+      running = ap (λ (r : State). r.shown.suspended) after ∙ h.running;
+    },
+  )
 
-or_no : (a b : Bool) → b ≡ false → (a || b) ≡ a
-or_no true b is = refl
-or_no false b is = is
+no_grants : (owner n : ℕ) (gs : List Grant) → AreNext owner n gs [] → gs ≡ []
+no_grants owner n [] are = refl
+no_grants owner n (g ∷ gs) are = absurd are
 
--- what was granted and then released leaves the locks that were held before
-locks_again : (owner : ℕ) (grants gs : List Grant) (let_go : List ℕ) (ids : List LockId) → ((i : ℕ) (g : Grant) → slice_get grants i ≡ Some g → g.id ≡ i) → AreNext owner (length grants) gs ids
-    → held_locks (grants ++ gs) (let_go ++ names ids) ≡ held_locks grants let_go
-locks_again owner grants gs let_go ids numbered are =
-    filter-append (λ (h : Grant). not (is_in h.id (let_go ++ names ids))) grants gs
-    ∙ ap (λ ls. ls ++ filter (λ (h : Grant). not (is_in h.id (let_go ++ names ids))) gs) (filter_same (λ (h : Grant). not (is_in h.id (let_go ++ names ids))) (λ (h : Grant). not (is_in h.id let_go)) grants older)
-    ∙ ap (λ ls. held_locks grants let_go ++ ls) (filter_same (λ (h : Grant). not (is_in h.id (let_go ++ names ids))) (λ h. false) gs newer ∙ filter_nothing gs)
-    ∙ append-nil (held_locks grants let_go)
-  where
-    older : (i : ℕ) (h : Grant) → slice_get grants i ≡ Some h → not (is_in h.id (let_go ++ names ids)) ≡ not (is_in h.id let_go)
-    older i h at =
-        let low : i < length grants = slice_get_within grants i h at in
-        let is : h.id ≡ i = numbered i h at in
-        ap not (list_any-append (λ y. h.id == y) let_go (names ids) ∙ or_no (is_in h.id let_go) (is_in h.id (names ids))
-        (any_none (λ y. h.id == y) (names ids) (λ j y at_y. ne_eqb h.id y (λ same. let high : length grants ≤ y = no_lower owner (length grants) gs ids j y are at_y in absurd (omega arith)))))
-
-    newer : (i : ℕ) (h : Grant) → slice_get gs i ≡ Some h → not (is_in h.id (let_go ++ names ids)) ≡ false
-    newer i h at =
-        let named = each_named owner (length grants) gs ids i h are at in
-        ap not (list_any-append (λ y. h.id == y) let_go (names ids) ∙ or_right (is_in h.id let_go) (is_in h.id (names ids)) (any_at (λ y. h.id == y) (names ids) named.0 h.id named.1 (eq-eqb h.id h.id refl)))
-
-module _ (owner : ℕ) (ids : List LockId) (b l e : State) (x : IsExplainedNow b.shown b.past) (none : b.shown.transactions ≡ []) (locked : HasLocked owner ids b l) (ended : KeepsLocks l e) where
+module _ (owner : ℕ) (ids : List LockId) (b l e : State) (locked : HasLocked owner ids b l) (ended : KeepsLocks l e) where
   -- the locks are held to the end
-  pub holds_then : b.shown.suspended ≡ false → Holds owner (length b.past.grants) locked.grants ids e
-  holds_then running = record {
-    front = b.past.grants;
-    count = refl;
-    granted = ended.grants ∙ locked.granted;
+  pub holds_then : (b.shown.suspended ≡ false) × AreBelow b.shown.next_lock b.shown.locks → Holds owner b.shown.next_lock b.shown.locks locked.grants ids e
+  holds_then ran = record {
+    held = ended.locks ∙ locked.held;
     next = locked.next;
-    below = λ i t at. x.exact.locks.granted i t (subst (λ ls. slice_get ls i ≡ Some t) (ended.let_go ∙ locked.let_go) at);
-    none_open = ended.none_open;
-    running = ended.running ∙ locked.running ∙ running;
-    explained = ended.explained;
+    below = ran.1;
+    unused = λ i g at. ap (λ ts. is_used_by g ts) ended.transactions ∙ locked.unused i g at;
+    running = ended.running ∙ locked.running ∙ ran.0;
   }
 
-  -- and none of them afterwards
-  pub all_released : (t : State) → HasUnlocked ids e t → (t.shown.locks ≡ b.shown.locks) × (t.shown.transactions ≡ [])
-  all_released t u = (
-    u.explained.exact.locks.held
-        ∙ ap (λ gs. held_locks gs t.past.let_go) (u.grants ∙ ended.grants ∙ locked.granted)
-        ∙ ap (λ ns. held_locks (b.past.grants ++ locked.grants) ns) (u.let_go ∙ ap (λ ns. ns ++ names ids) (ended.let_go ∙ locked.let_go))
-        ∙ locks_again owner b.past.grants locked.grants b.past.let_go ids x.exact.locks.numbered locked.next
-        ∙ sym x.exact.locks.held,
-    u.transactions ∙ ended.none_open,
-  )
+  -- and if there is none, nothing is left of them
+  pub none_held : ids ≡ [] → AreReleased b e
+  none_held is = record {
+    locks = ended.locks ∙ locked.held ∙ ap (λ gs. b.shown.locks ++ gs) (no_grants owner b.shown.next_lock locked.grants (subst (λ (ns : List LockId). AreNext owner b.shown.next_lock locked.grants ns) is locked.next)) ∙ append-nil b.shown.locks;
+    transactions = ended.transactions ∙ locked.transactions;
+  }
+
+  pub all_released : (t : State) → (t.shown.locks ≡ b.shown.locks) × (t.shown.transactions ≡ e.shown.transactions) → AreReleased b t
+  all_released t u = record { locks = u.0; transactions = u.1 ∙ ended.transactions ∙ locked.transactions }

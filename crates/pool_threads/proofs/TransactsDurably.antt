@@ -11,7 +11,8 @@ use Rattle.pool_threads.specs.Answers.{Sees}
 use Rattle.pool_threads.specs.Transacts.{IsTransacted, TransactsDurably}
 use Rattle.pool_threads.specs.Views.{grows_onward}
 use Rattle.pool_threads.specs.Waits.{WaitsUntil}
-use Rattle.pool_threads.proofs.TransactsSeen.{GoesAlong, entered_by}
+use Rattle.pool_threads.proofs.Along.{GoesAlong}
+use Rattle.pool_threads.proofs.TransactsSeen.{entered_by}
 use Rattle.pool_threads.proofs.Waited.{whole_wait}
 
 module _ {Dev : Type 0} {G : Ghosts Dev} where

@@ -1,5 +1,6 @@
--- What a handle does in the turns of one transaction: it locks ranges, begins, commits or aborts, and unlocks.
-use Rattle.std.specs.Prelude.{◌≡◌, ◌⊎◌, ◌++◌, List, [], ◌∷◌, map, None, Ok, Err, Option, Result, Some}
+-- What a handle does for one transaction: in one turn it locks ranges, begins, commits or aborts, and unlocks. Before
+-- that it may have had turns in which it tried so, and turns in which it made steps of a sync.
+use Rattle.std.specs.Prelude.{ℕ, ◌≡◌, ◌⊎◌, ◌++◌, All, IsTrue, List, [], ◌∷◌, map, None, Ok, Err, Option, Result, Some, true}
 use Rattle.base.specs.declared.error.PoolError.{PoolError}
 use Rattle.base.specs.declared.error.PoolError.TheVariants as error
 use Rattle.base.specs.declared.names.Group.{Group}
@@ -13,17 +14,24 @@ use Rattle.base.specs.declared.range.Mode.TheVariants.{Writer}
 use Rattle.base.specs.declared.range.ObjectRange.{ObjectRange}
 use Rattle.base.specs.declared.step.Step as declared_step
 use Rattle.base.specs.declared.step.Step.TheVariants as step
+use Rattle.base.specs.declared.step.Reply as declared_reply
 use Rattle.base.specs.declared.step.Reply.TheVariants as reply
 use Rattle.base.specs.history.Plans.{shape_of}
 use Rattle.base.specs.steps.Runs.{reply_of}
 use Rattle.base.specs.steps.Seen.{IsCommitted}
+use Rattle.base.specs.steps.Shown.{Shown}
 use Rattle.base.specs.steps.Steps.{State}
 use Rattle.device_model.specs.declared.device.SectorDevice.{Ghosts}
+use Rattle.pool_tables.specs.BeginTests.{is_above_limit}
+use Rattle.pool_tables.specs.declared.duty.Duty.TheVariants as duty
 use Rattle.pool_threads.specs.declared.handle.Handle.{Handle}
-use Rattle.pool_threads.specs.Answers.{IsRefusal, Makes, MakesAtLast, Sees, state_seen}
-use Rattle.pool_threads.specs.Handles.{kin_of}
-use Rattle.pool_threads.specs.Waits.{WaitsUntil}
+use Rattle.pool_threads.specs.Answers.{IsRefusal, Sees, TakesAtLast, TakesOne, state_seen}
+use Rattle.pool_threads.specs.Handles.{kin_of, moment_of, turns_of}
+use Rattle.pool_threads.specs.Serves.{GoesOnAfter, IsServedTurn}
+use Rattle.pool_threads.specs.Views.{IsPoolStep, SeenPool, viewed_state}
+use Rattle.pool_threads.specs.Waits.{IsSyncingRefusal, WaitsUntil}
 use Rattle.transactions.specs.LockRanges.{lock_ranges}
+use Rattle.word_lock.specs.declared.rule.Turn.{Turn}
 
 -- the step that locks a range for writing
 abbrev pub lock_step : Owner → ObjectRange → declared_step.Step
@@ -33,97 +41,168 @@ lock_step owner r = step.Lock owner r.object r.range Writer
 abbrev pub plan_of : List Op → List Shape
 plan_of ops = map shape_of ops
 
-module _ {Dev : Type 0} {G : Ghosts Dev} where
-  -- the handle locked these ranges in order, got these locks, and made no other step but tries that were refused `Busy`
-  abbrev pub Locks : Owner → List ObjectRange → List LockId → Handle Dev G → Handle Dev G → Type 0
-  Locks owner [] [] old new = new ≡ old
-  Locks owner (r ∷ rs) (id ∷ ids) old new = (next : Handle Dev G) × MakesAtLast (lock_step owner r) error.Busy (reply.Locked id) old next × Locks owner rs ids next new
-  Locks owner [] (id ∷ ids) old new = ⊥
-  Locks owner (r ∷ rs) [] old new = ⊥
+module _ (keeps : Type 0) where
+  -- these ranges were locked in order, with these locks
+  abbrev pub Locks : Owner → List ObjectRange → List LockId → SeenPool → SeenPool → Type 0
+  Locks owner [] [] v w = w ≡ v
+  Locks owner (r ∷ rs) (id ∷ ids) v w = (next : SeenPool) × IsPoolStep keeps (lock_step owner r) (reply.Locked id) v next × Locks owner rs ids next w
+  Locks owner [] (id ∷ ids) v w = ⊥
+  Locks owner (r ∷ rs) [] v w = ⊥
 
-  -- The handle locked the first of these ranges, got these locks, and then was refused one.
-  pub record StopsAtLock (owner : Owner) (ranges : List ObjectRange) (ids : List LockId) (e : PoolError) (old new : Handle Dev G) : Type 0 where
+  -- The first of these ranges were locked, with these locks, and then one was refused.
+  pub record StopsAtLock (owner : Owner) (ranges : List ObjectRange) (ids : List LockId) (e : PoolError) (v w : SeenPool) : Type 0 where
     pub locked : List ObjectRange
     pub range : ObjectRange
     pub rest : List ObjectRange
     pub ranges_are : ranges ≡ locked ++ range ∷ rest
-    pub middle : Handle Dev G
-    pub locks : Locks owner locked ids old middle
-    pub refused : MakesAtLast (lock_step owner range) error.Busy (reply.Refused e) middle new
+    pub middle : SeenPool
+    pub locks : Locks owner locked ids v middle
+    pub refused : IsPoolStep keeps (lock_step owner range) (reply.Refused e) middle w
 
-  -- it locked them all, or was refused one
-  abbrev pub LocksAll : Owner → List ObjectRange → List LockId → Result (Unit {0}) PoolError → Handle Dev G → Handle Dev G → Type 0
-  LocksAll owner ranges ids (Ok done) old new = Locks owner ranges ids old new
-  LocksAll owner ranges ids (Err e) old new = StopsAtLock owner ranges ids e old new
+  -- all were locked, or one was refused
+  abbrev pub LocksAll : Owner → List ObjectRange → List LockId → Result (Unit {0}) PoolError → SeenPool → SeenPool → Type 0
+  LocksAll owner ranges ids (Ok done) v w = Locks owner ranges ids v w
+  LocksAll owner ranges ids (Err e) v w = StopsAtLock owner ranges ids e v w
 
-  -- The handle began a transaction of this plan and committed these operations in it.
-  pub record Commits (owner : Owner) (plan : List Shape) (ops : List Op) (receipt : Receipt) (old new : Handle Dev G) : Type 0 where
+  -- all were locked, and then a transaction of this plan was begun, or was refused
+  abbrev pub LocksAndBegins : Owner → List ObjectRange → List Shape → List LockId → Result TxId PoolError → SeenPool → SeenPool → Type 0
+  LocksAndBegins owner ranges plan ids (Ok tx) v w =
+      (locked : SeenPool) × Locks owner ranges ids v locked × ((group : Group) × IsPoolStep keeps (step.Begin owner plan) (reply.Began tx group) locked w)
+  LocksAndBegins owner ranges plan ids (Err e) v w =
+      StopsAtLock owner ranges ids e v w ⊎ ((locked : SeenPool) × Locks owner ranges ids v locked × IsPoolStep keeps (step.Begin owner plan) (reply.Refused e) locked w)
+
+  -- the transaction was committed with these operations; or the commit was refused, and then it was aborted
+  abbrev pub Ends : TxId → List Op → Result Receipt PoolError → SeenPool → SeenPool → Type 0
+  Ends tx ops (Ok receipt) v w = IsPoolStep keeps (step.Commit tx ops) (reply.Committed receipt) v w
+  Ends tx ops (Err e) v w =
+      (failed : SeenPool) × IsPoolStep keeps (step.Commit tx ops) (reply.Refused e) v failed × ((answer : Result (Unit {0}) PoolError) × IsPoolStep keeps (step.Abort tx) (reply_of (λ _. reply.Done) answer) failed w)
+
+  -- A transaction was begun under these locks, and ended so.
+  pub record BeginsAndEnds (owner : Owner) (ranges : List ObjectRange) (plan : List Shape) (ops : List Op) (ids : List LockId) (result : Result Receipt PoolError) (v w : SeenPool) : Type 0 where
     pub tx : TxId
-    pub group : Group
-    pub begun : Handle Dev G
-    pub begins : MakesAtLast (step.Begin owner plan) error.Throttled (reply.Began tx group) old begun
-    pub commits : Makes (step.Commit tx ops) (reply.Committed receipt) begun new
+    pub begun : SeenPool
+    pub begins : LocksAndBegins owner ranges plan ids (Ok tx) v begun
+    pub ends : Ends tx ops result begun w
 
-  -- It began one, was refused the commit, and aborted it.
-  pub record GivesUp (owner : Owner) (plan : List Shape) (ops : List Op) (e : PoolError) (old new : Handle Dev G) : Type 0 where
-    pub tx : TxId
-    pub group : Group
-    pub begun : Handle Dev G
-    pub begins : MakesAtLast (step.Begin owner plan) error.Throttled (reply.Began tx group) old begun
-    pub failed : Handle Dev G
-    pub refused : Makes (step.Commit tx ops) (reply.Refused e) begun failed
-    pub answer : Result (Unit {0}) PoolError
-    pub aborts : Makes (step.Abort tx) (reply_of (λ _. reply.Done) answer) failed new
+  -- it was so, or a lock or the begin was refused
+  abbrev pub LocksAndEnds : Owner → List ObjectRange → List Shape → List Op → List LockId → Result Receipt PoolError → SeenPool → SeenPool → Type 0
+  LocksAndEnds owner ranges plan ops ids (Ok receipt) v w = BeginsAndEnds owner ranges plan ops ids (Ok receipt) v w
+  LocksAndEnds owner ranges plan ops ids (Err e) v w = LocksAndBegins owner ranges plan ids (Err e) v w ⊎ BeginsAndEnds owner ranges plan ops ids (Err e) v w
 
-  -- the handle committed, or was refused the begin, or was refused the commit and aborted
-  abbrev pub Ends : Owner → List Shape → List Op → Result Receipt PoolError → Handle Dev G → Handle Dev G → Type 0
-  Ends owner plan ops (Ok receipt) old new = Commits owner plan ops receipt old new
-  Ends owner plan ops (Err e) old new = MakesAtLast (step.Begin owner plan) error.Throttled (reply.Refused e) old new ⊎ GivesUp owner plan ops e old new
+  -- each of these was unlocked in order, with some answer
+  abbrev pub Unlocks : Owner → List LockId → SeenPool → SeenPool → Type 0
+  Unlocks owner [] v w = w ≡ v
+  Unlocks owner (id ∷ ids) v w =
+      (next : SeenPool) × (answer : Result (Unit {0}) PoolError) × IsPoolStep keeps (step.Unlock owner id) (reply_of (λ _. reply.Done) answer) v next × Unlocks owner ids next w
 
-  -- the handle unlocked each of these in order, with some answer, and made no other step
-  abbrev pub Unlocks : Owner → List LockId → Handle Dev G → Handle Dev G → Type 0
-  Unlocks owner [] old new = new ≡ old
-  Unlocks owner (id ∷ ids) old new =
-      (next : Handle Dev G) × (answer : Result (Unit {0}) PoolError) × Makes (step.Unlock owner id) (reply_of (λ _. reply.Done) answer) old next × Unlocks owner ids next new
-
-  -- the handle locked these ranges, got these locks, and ended a transaction of this plan so; or it was refused a lock
-  abbrev pub LocksAndEnds : Owner → List ObjectRange → List Shape → List Op → List LockId → Result Receipt PoolError → Handle Dev G → Handle Dev G → Type 0
-  LocksAndEnds owner ranges plan ops ids (Ok receipt) old new = (locked : Handle Dev G) × Locks owner ranges ids old locked × Commits owner plan ops receipt locked new
-  LocksAndEnds owner ranges plan ops ids (Err e) old new =
-      StopsAtLock owner ranges ids e old new ⊎ ((locked : Handle Dev G) × Locks owner ranges ids old locked × Ends owner plan ops (Err e) locked new)
-
-  -- In these turns and no others the handle locked the ranges of the plan, began, committed, and unlocked all. It
-  -- stopped at the first refusal, which is the result; then it aborted what was begun, and unlocked what was locked.
-  pub record Transacts (owner : Owner) (ops : List Op) (result : Result Receipt PoolError) (old new : Handle Dev G) : Type 0 where
+  -- These steps were made and no others: the ranges were locked, a transaction of this plan was begun and committed,
+  -- and all was unlocked. The first refusal is the result: then what was begun was aborted, and what was locked was
+  -- unlocked.
+  pub record MakesTransaction (owner : Owner) (ranges : List ObjectRange) (plan : List Shape) (ops : List Op) (result : Result Receipt PoolError) (v w : SeenPool) : Type 0 where
     pub ids : List LockId
-    pub ended : Handle Dev G
-    pub ends : LocksAndEnds owner (lock_ranges (plan_of ops)) (plan_of ops) ops ids result old ended
-    pub unlocks : Unlocks owner ids ended new
+    pub ended : SeenPool
+    pub ends : LocksAndEnds owner ranges plan ops ids result v ended
+    pub unlocks : Unlocks owner ids ended w
+
+-- a refusal after which a transaction is tried again: `Throttled`, and `Busy` if it locks ranges itself
+abbrev pub IsRetried : List ObjectRange → PoolError → Type 0
+IsRetried [] e = e ≡ error.Throttled
+IsRetried (r ∷ rs) e = (e ≡ error.Busy) ⊎ (e ≡ error.Throttled)
+
+-- it is not tried again after this one, unless it is `Throttled` and the plan's charge alone is above the dirty limit
+abbrev pub IsForGood : List ObjectRange → List Shape → PoolError → Shown → Type 0
+IsForGood ranges plan e s = IsRetried ranges e → (e ≡ error.Throttled) × (is_above_limit plan s ≡ true)
+
+-- what was due for a sync of the groups up to the one that was open as this turn began, with this moment, was done in
+-- it, the last step with this reply
+abbrev pub IsOpenGroupTurn : Type 0 → ℕ → Option declared_reply.Reply → Turn SeenPool → Type 0
+IsOpenGroupTurn keeps moment r t = (group : Group) × (group.0 ≡ (viewed_state t.took).shown.line.open_group) × IsServedTurn keeps (duty.SyncUpTo group moment) r t
+
+-- so it was, and nothing was refused; or the last step was refused so
+abbrev pub IsPayingTurn : Type 0 → ℕ → Turn SeenPool → Type 0
+IsPayingTurn keeps moment t = (r : Option declared_reply.Reply) × GoesOnAfter None r × IsOpenGroupTurn keeps moment r t
+
+abbrev pub IsRefusedPayment : Type 0 → ℕ → PoolError → Turn SeenPool → Type 0
+IsRefusedPayment keeps moment e t = IsOpenGroupTurn keeps moment (Some (reply.Refused e)) t
+
+-- in this turn a transaction was made with this result
+abbrev pub IsTransactionTurn : Type 0 → Owner → List ObjectRange → List Shape → List Op → Result Receipt PoolError → Turn SeenPool → Type 0
+IsTransactionTurn keeps owner ranges plan ops result t = MakesTransaction keeps owner ranges plan ops result t.took t.left
+
+module _ (keeps : Type 0) (moment : ℕ) (owner : Owner) (ranges : List ObjectRange) (plan : List Shape) (ops : List Op) where
+  -- in this turn the transaction was tried, and was refused so that it is tried again; or steps of a sync were made
+  abbrev pub IsEarlierTurn : Turn SeenPool → Type 0
+  IsEarlierTurn t = ((e : PoolError) × IsRetried ranges e × IsTransactionTurn keeps owner ranges plan ops (Err e) t) ⊎ IsPayingTurn keeps moment t
+
+  -- the last turn, with this result: that of the transaction, or the refusal of a step of a sync
+  abbrev pub IsLastTurn : Result Receipt PoolError → Turn SeenPool → Type 0
+  IsLastTurn (Ok receipt) t = IsTransactionTurn keeps owner ranges plan ops (Ok receipt) t
+  IsLastTurn (Err e) t = (IsTransactionTurn keeps owner ranges plan ops (Err e) t × IsForGood ranges plan e (viewed_state t.left).shown) ⊎ IsRefusedPayment keeps moment e t
+
+module _ {Dev : Type 0} {G : Ghosts Dev} where
+  -- The handle made the transaction in one turn, with this result, after turns in which it was tried or steps of a sync
+  -- were made. It had no other turn.
+  abbrev pub TransactsAtLast : Owner → List ObjectRange → List Shape → List Op → Result Receipt PoolError → Handle Dev G → Handle Dev G → Type 0
+  TransactsAtLast owner ranges plan ops result old =
+      TakesAtLast (IsEarlierTurn (IsTrue G.keeps_model) (moment_of old) owner ranges plan ops) (IsLastTurn (IsTrue G.keeps_model) (moment_of old) owner ranges plan ops result) old
+
+  -- so it was of operations, under locks of the ranges of their plan
+  abbrev pub Transacts : Owner → List Op → Result Receipt PoolError → Handle Dev G → Handle Dev G → Type 0
+  Transacts owner ops = TransactsAtLast owner (lock_ranges (plan_of ops)) (plan_of ops) ops
+
+  -- so it was under locks that the owner had before
+  abbrev pub TransactsLocked : Owner → List Op → Result Receipt PoolError → Handle Dev G → Handle Dev G → Type 0
+  TransactsLocked owner ops = TransactsAtLast owner [] (plan_of ops) ops
 
   -- it did so, or made no step for want of memory
   abbrev pub TransactsOrLacks : Owner → List Op → Result Receipt PoolError → Handle Dev G → Handle Dev G → Type 0
   TransactsOrLacks owner ops result old new = Transacts owner ops result old new ⊎ ((result ≡ Err error.NoMemory) × (new ≡ old))
 
+  abbrev pub TransactsLockedOrLacks : Owner → List Op → Result Receipt PoolError → Handle Dev G → Handle Dev G → Type 0
+  TransactsLockedOrLacks owner ops result old new = TransactsLocked owner ops result old new ⊎ ((result ≡ Err error.NoMemory) × (new ≡ old))
+
+  -- one turn of a sync of the open group: it refused nothing, or a step so
+  abbrev pub Pays : ℕ → Result (Unit {0}) PoolError → Handle Dev G → Handle Dev G → Type 0
+  Pays moment (Ok done) = TakesOne (IsPayingTurn (IsTrue G.keeps_model) moment)
+  Pays moment (Err e) = TakesOne (IsRefusedPayment (IsTrue G.keeps_model) moment e)
+
+  -- it had such a turn, or none
+  abbrev pub MakesRoom : ℕ → Result (Unit {0}) PoolError → Handle Dev G → Handle Dev G → Type 0
+  MakesRoom moment (Ok done) old new = (new ≡ old) ⊎ Pays moment (Ok tt) old new
+  MakesRoom moment (Err e) old new = Pays moment (Err e) old new
+
 -- a transaction committed these operations with this receipt
 abbrev pub IsTransacted : List Op → Receipt → State → State → Type 0
 IsTransacted ops r before after = (tx : TxId) × IsCommitted tx.0 ops r.ordinal.0 r.group.0 before after
 
--- a refusal of a lock, of the begin or of the commit of a transaction
-abbrev pub IsTransactRefusal : Owner → List Op → PoolError → State → State → Type 0
-IsTransactRefusal owner ops e before after =
-    ((r : ObjectRange) × IsRefusal (lock_step owner r) e before after)
-    ⊎ (IsRefusal (step.Begin owner (plan_of ops)) e before after ⊎ ((tx : TxId) × IsRefusal (step.Commit tx ops) e before after))
+-- a refusal of the begin or of the commit of a transaction, or of a step of a sync with this moment
+abbrev pub IsCommitRefusal : ℕ → Owner → List Op → PoolError → State → State → Type 0
+IsCommitRefusal moment owner ops e before after =
+    IsRefusal (step.Begin owner (plan_of ops)) e before after
+    ⊎ (((tx : TxId) × IsRefusal (step.Commit tx ops) e before after) ⊎ ((group : Group) × IsSyncingRefusal moment group e before after))
 
--- the held locks are those from before, and no transaction is open
+-- a refusal of a lock, or one of those
+abbrev pub IsTransactRefusal : ℕ → Owner → List Op → PoolError → State → State → Type 0
+IsTransactRefusal moment owner ops e before after = ((r : ObjectRange) × IsRefusal (lock_step owner r) e before after) ⊎ IsCommitRefusal moment owner ops e before after
+
+-- the held locks and the open transactions are those from before
 pub record AreReleased (before after : State) : Type 0 where
   pub locks : after.shown.locks ≡ before.shown.locks
-  pub none_open : after.shown.transactions ≡ []
+  pub transactions : after.shown.transactions ≡ before.shown.transactions
 
--- The only handle of a pool in which no transaction was open has left no lock and no transaction of its own.
-abbrev pub LeavesNothing : {Dev : Type 0} {G : Ghosts Dev} → Handle Dev G → Handle Dev G → Type 0
-LeavesNothing old new = kin_of old ≡ 0 → (state_seen old).shown.transactions ≡ [] → Sees AreReleased old new
+-- Each of these turns has left the locks that were held as it began, the transactions that were open, and no others.
+abbrev pub ReleasesInEach : List (Turn SeenPool) → Type 0
+ReleasesInEach = All (λ (t : Turn SeenPool). ∥ AreReleased (viewed_state t.took) (viewed_state t.left) ∥₁)
 
 module _ {Dev : Type 0} {G : Ghosts Dev} where
+  -- The handle has left no lock and no transaction of its own in any of its turns. So the only handle of a pool has
+  -- left the locks and the transactions that were there before.
+  pub record LeavesNothing (old new : Handle Dev G) : Type 0 where
+    pub had : List (Turn SeenPool)
+    pub turns : turns_of new ≡ turns_of old ++ had
+    pub each : ReleasesInEach had
+    pub alone : kin_of old ≡ 0 → Sees AreReleased old new
+
   -- the handle made a transaction with this receipt, in which it left nothing, and then waited with this result
   pub record TransactsThenWaits (owner : Owner) (ops : List Op) (r : Receipt) (result : Result (Unit {0}) PoolError) (old new : Handle Dev G) : Type 0 where
     pub done : Handle Dev G

@@ -39,6 +39,11 @@ module _ {T R : Type 0} where
     pub made : IsPoolStep keeps s r (seen holder) (seen new)
     pub turn : HasTurned holder new (seen new)
 
+  -- In the turn in which it had the lock, the seat did this.
+  pub record HasDone (P : SeenPool → SeenPool → Type 0) (holder new : Seat T R SeenPool) : Type 0 where
+    pub made : P (seen holder) (seen new)
+    pub turn : HasTurned holder new (seen new)
+
   -- In one turn and no other, of which this is so, the seat went from a view that goes on from what it had seen to the
   -- one that it has seen then. The only seat of a lock took just what it had seen.
   pub record HasHadOne (keeps : Type 0) (P : Turn SeenPool → Type 0) (old new : Seat T R SeenPool) : Type 0 where

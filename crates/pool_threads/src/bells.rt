@@ -26,6 +26,9 @@ const PERIOD_IN_MICROSECONDS: u64 = 20_000;
 #[derive(Drop)]
 pub(crate) struct Bells {
     stopped: AtomicU64,
+    // how many quiescers and syncers are at work
+    quiescers: AtomicU64,
+    syncers: AtomicU64,
     // whether the quiescer was called since it last looked
     called: AtomicU64,
     // the greatest numbers of groups that were noted as opened, quiesced and synced
@@ -50,6 +53,8 @@ impl Bells {
     pub(crate) fn new() -> Self {
         Bells {
             stopped: AtomicU64::new(0),
+            quiescers: AtomicU64::new(0),
+            syncers: AtomicU64::new(0),
             called: AtomicU64::new(0),
             opened: AtomicU64::new(0),
             quiesced: AtomicU64::new(0),
@@ -70,6 +75,29 @@ impl Bells {
         self.quiescer.ring();
         self.syncer.ring();
         self.ended.ring();
+    }
+
+    /// A loop begins.
+    pub(crate) fn loop_begins(&self, duty: Duty) {
+        self.loops_of(duty).fetch_add(1, Ordering::SeqCst);
+    }
+
+    /// It ends.
+    pub(crate) fn loop_ends(&self, duty: Duty) {
+        self.loops_of(duty).fetch_sub(1, Ordering::SeqCst);
+    }
+
+    /// Whether loops quiesce and sync groups, so that room comes by itself.
+    pub(crate) fn has_loops(&self) -> bool {
+        self.quiescers.load(Ordering::SeqCst) != 0 && self.syncers.load(Ordering::SeqCst) != 0
+    }
+
+    fn loops_of(&self, duty: Duty) -> &AtomicU64 {
+        if duty == Duty::Quiesce {
+            &self.quiescers
+        } else {
+            &self.syncers
+        }
     }
 
     /// A begin was throttled, so a group should be closed.

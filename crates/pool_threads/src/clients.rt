@@ -3,6 +3,7 @@
 
 mod fetches;
 mod pools;
+mod transacts;
 mod waits;
 
 ghost use Rattle.std.specs.Prelude.{ℕ, ◌≡◌, ◌≢◌, ◌≤◌, [], ◌∷◌, ◌+◌, ◌++◌, IfErr, IfNone, IfOk, IfSome, IsSome, IsTrue, List, Option, Some, false, true};
@@ -26,10 +27,9 @@ ghost use Rattle.pool_threads.specs.Answers.{Makes, MakesAtLast, Sees, Takes, st
 ghost use Rattle.pool_threads.specs.Handles.{IsOf, IsOfSamePool, OpensBehind, StartsBehind, TakesOneTurn, TakesTurns, WasOf, kin_left, kin_of, moment_of, opening_view, owned_of, shared_of, taken_by, turns_of, view_seen};
 ghost use Rattle.pool_threads.specs.Loops.{Works};
 ghost use Rattle.pool_threads.specs.Serves.{IsServedTurn};
-ghost use Rattle.pool_threads.specs.Transacts.{IsTransacted, Locks, Unlocks, plan_of};
+ghost use Rattle.pool_threads.specs.Transacts.{IsTransacted};
 ghost use Rattle.pool_threads.specs.Views.{Explains, GrowsTo, IsFollowed, SeenPool, WereSafeBetween, since};
 ghost use Rattle.pool_threads.specs.declared.handle.Handle.{Handle};
-ghost use Rattle.transactions.specs.LockRanges.{lock_ranges};
 ghost use Rattle.word_lock.specs.Seats.{seen};
 ghost use Rattle.word_lock.specs.Turns.{turn};
 
@@ -425,64 +425,6 @@ fn a_begin_is_throttled_above_the_limit_alone<D: SectorDevice, W: Wait>(
 {
     let answer = handle.begin(rt, Owner(3), plan);
     matches!(answer, Err(PoolError::Throttled))
-}
-
-fn a_transact_enters_its_operations<D: SectorDevice, W: Wait>(
-    rt: &W,
-    handle: &mut Handle<'_, D>,
-    ops: Ops,
-) -> Result<Receipt, PoolError>
-    ensures entered { IfOk result (λ r. Sees (IsTransacted ops r) handle.old handle.new) }
-    ensures number { kin_of handle.new ≡ kin_of handle.old }
-{
-    handle.transact(rt, Owner(3), ops)
-}
-
-// These are all its steps: nothing lies between them but tries that were refused.
-fn a_transact_locks_begins_commits_and_unlocks<D: SectorDevice, W: Wait>(
-    rt: &W,
-    handle: &mut Handle<'_, D>,
-    owner: Owner,
-    ops: Ops,
-) -> Result<Receipt, PoolError>
-    ensures { IfOk result (λ r. (ids : List LockId) × (tx : TxId) × (group : Group)
-        × (locked : Handle _ _) × (begun : Handle _ _) × (done : Handle _ _)
-        × Locks owner (lock_ranges (plan_of ops)) ids handle.old locked
-        × MakesAtLast (step.Begin owner (plan_of ops)) error.Throttled
-        (reply.Began tx group) locked begun
-        × Makes (step.Commit tx ops) (reply.Committed r) begun done
-        × Unlocks owner ids done handle.new) }
-{
-    handle.transact(rt, owner, ops)
-}
-
-// Under the names of the locks that it got.
-fn a_refused_transact_unlocks_what_it_locked<D: SectorDevice, W: Wait>(
-    rt: &W,
-    handle: &mut Handle<'_, D>,
-    owner: Owner,
-    ops: Ops,
-) -> Result<Receipt, PoolError>
-    ensures { IfErr result (λ e. (ids : List LockId) × (ranges : List ObjectRange)
-        × (locked : Handle _ _) × (ended : Handle _ _)
-        × Locks owner ranges ids handle.old locked × Unlocks owner ids ended handle.new) }
-{
-    handle.transact(rt, owner, ops)
-}
-
-// If no transaction was open before it. Also if it is refused.
-fn a_transact_of_the_only_handle_leaves_nothing_of_its_own<D: SectorDevice, W: Wait>(
-    rt: &W,
-    handle: &mut Handle<'_, D>,
-    ops: Ops,
-) -> Result<Receipt, PoolError>
-    ensures locks { kin_of handle.old ≡ 0 → (state_seen handle.old).shown.transactions ≡ []
-        → Sees (λ before after. after.shown.locks ≡ before.shown.locks) handle.old handle.new }
-    ensures transactions { kin_of handle.old ≡ 0
-        → (state_seen handle.old).shown.transactions ≡ []
-        → Sees (λ _ after. after.shown.transactions ≡ []) handle.old handle.new }
-{
-    handle.transact(rt, Owner(3), ops)
 }
 
 // A wait that returns Ok has found the transaction durable. So the next one is not refused, also on a pool that is

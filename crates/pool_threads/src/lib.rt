@@ -1,14 +1,14 @@
 //! A pool that threads share: each takes it whole, makes one step, and releases it.
 //!
-//! **At the dirty limit `transact` waits until a thread syncs.** So a loop of `transact` in one thread waits for ever,
-//! unless it calls `sync_pool` now and then, or other threads run the loops `quiescer` and `syncer`. At the default
-//! limit it waits at the 43rd object, if each transaction creates one and writes a few bytes to it. Transactions are
-//! charged until their group is synced.
+//! **At the dirty limit `transact` makes the steps of a sync itself**, unless other threads run the loops `quiescer`
+//! and `syncer`: then it waits for them. At the default limit the 43rd object makes the first sync, if each transaction
+//! creates one and writes a few bytes to it. Transactions are charged until their group is synced.
 //!
 //! [`Pool::open`] opens the pool on a device, and [`Pool::handle`] gives each thread a [`Handle`]. `transact` of a
-//! handle makes a whole transaction, and `transact_durably` returns once no crash loses it. `fetch` reads a range under
-//! a lock. Its other calls are single steps, as those of `PoolState` in `pool_core`; `lock` and `begin` wait for what
-//! others hold. When no handle is left, [`Pool::close`] gives the state back.
+//! handle makes a whole transaction in one turn, and `transact_durably` returns once no crash loses it.
+//! `transact_locked` makes one under the caller's locks. `fetch` reads a range under a lock. Its other calls are single
+//! steps, as those of `PoolState` in `pool_core`; `lock` and `begin` wait for what others hold. When no handle is left,
+//! [`Pool::close`] gives the state back.
 //!
 //! As each step is made under the pool's lock, other threads wait for a write or a flush.
 //!
@@ -51,6 +51,7 @@ mod flushers;
 mod handle;
 mod laws;
 mod loops;
+mod one_turn;
 mod owned;
 mod pool;
 mod retries;

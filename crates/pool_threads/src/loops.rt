@@ -60,8 +60,25 @@ impl<'p, D: SectorDevice> Handle<'p, D> {
         self.work(rt, Duty::Sync(moment))
     }
 
-    // Does what is due until the pool is told to stop.
+    // Does what is due until the pool is told to stop, as one of the loops that are at work.
     fn work<'a, 'b, W: Wait>(&'a mut self, rt: &'b W, duty: Duty) -> Result<(), PoolError>
+        ensures worked { MatchResult result (λ _. Works duty self.old self.new)
+            (λ e. WorksUntil duty e self.old self.new) }
+        ensures refused { IfErr result (λ e. Sees (IsRefusedDuty duty e) self.old self.new) }
+        ensures not_unready { IfErr result (λ e. e ≢ PoolError.NotReady) }
+    {
+        self.shared.bells.loop_begins(duty);
+        let ended = self.work_until_stopped(rt, duty);
+        self.shared.loop_ends(duty);
+        ended
+    }
+
+    // Does what is due until the pool is told to stop.
+    fn work_until_stopped<'a, 'b, W: Wait>(
+        &'a mut self,
+        rt: &'b W,
+        duty: Duty,
+    ) -> Result<(), PoolError>
         ensures worked { MatchResult result (λ _. Works duty self.old self.new)
             (λ e. WorksUntil duty e self.old self.new) }
         ensures refused { IfErr result (λ e. Sees (IsRefusedDuty duty e) self.old self.new) }

@@ -5,13 +5,16 @@
 //!
 //! | who sleeps | by which bell | who rings |
 //! |---|---|---|
-//! | a lock that is refused `Busy` | `ranges` | an unlock |
-//! | a `begin` that is throttled | `room` | an abort, and the end of a sync |
-//! | a sync of groups, and the quiescer, while transactions of a closed group are open | `bells.ended` | a commit and an abort |
+//! | a lock or a `transact` that is refused `Busy` | `ranges` | an unlock |
+//! | a `begin` that is throttled, and a `transact` beside loops | `room` | an abort, the end of a sync, and of a loop |
+//! | a sync and the quiescer, while transactions of a closed group are open | `bells.ended` | a commit and an abort |
+//! | a `transact` without loops, while such transactions are open | `bells.ended` | the same |
 //! | the quiescer else | its own | a `begin` that is throttled |
 //! | the syncer | its own | the turn that quiesced a group |
-//! | a handle that waits until a commit is durable | that of the rounds (`flushers.rt`) | the leader that ends a round |
+//! | a handle that waits until a commit is durable | that of the rounds (`flushers.rt`) | the leader of a round |
 //! | a leader that waits for other handles | none (`flushers.rt`) | the last handle that it expects |
+//!
+//! A `transact` rings for nobody: no other thread has seen its locks or its transaction (`one_turn.rt`).
 //!
 //! A write or a flush that is refused suspends the pool, and rings for all that wait for others' steps.
 ghost use Rattle.std.specs.Prelude.{◌≡◌, IfErr, IfOk, IfSome, IsSome};
@@ -23,7 +26,7 @@ use crate::handle::{Handle, LastSeen};
 use crate::rule::PoolRule;
 use base::{PoolError, Reply, Step};
 use device_model::SectorDevice;
-use pool_core::{Change, PoolCall, PoolState};
+use pool_core::{Change, Duty, PoolCall, PoolState};
 use std::alloc::Global;
 use std::sync::Wait;
 use word_lock::WordLock;
@@ -111,6 +114,20 @@ impl<D: SectorDevice> Shared<D> {
             self.bells.call_for_close();
             self.room.sleep(rt, rings);
         }
+    }
+
+    /// If no step was made, since a transaction of a closed group is open, it sleeps until one has ended. `ended` had
+    /// this number before.
+    pub(crate) fn rest_unless_made<W: Wait>(&self, rt: &W, reply: &Option<Reply>, ends: u64) {
+        if reply.is_none() {
+            self.bells.ended.sleep_briefly(rt, ends);
+        }
+    }
+
+    /// A loop ends. Who waits for room may have to make room.
+    pub(crate) fn loop_ends(&self, duty: Duty) {
+        self.bells.loop_ends(duty);
+        self.room.ring();
     }
 
     fn ring_all(&self) {

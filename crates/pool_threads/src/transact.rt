@@ -1,44 +1,56 @@
-//! A whole transaction in one call: the locks of its plan, a begin, a commit, and the unlocks.
-ghost use Rattle.std.specs.Prelude.{◌≡◌, ◌≤◌, ◌⊎◌, [], IfErr, IfOk, length, vec_capacity};
-ghost use Rattle.base.specs.declared.error.PoolError.TheVariants as error;
-ghost use Rattle.pool_threads.specs.Answers.{Sees};
-ghost use Rattle.pool_threads.specs.Handles.{StaysInPool};
-ghost use Rattle.pool_threads.specs.Transacts.{Ends, IsTransacted, IsTransactRefusal, LeavesNothing, LocksAll, LocksAndEnds, TransactsDurably, TransactsOrLacks, Unlocks};
+//! A whole transaction in one call, and in one turn: the locks of its plan, a begin, a commit, and the unlocks.
+//!
+//! 1. A transaction is made in one turn of the pool's lock (`one_turn.rt`). If it is refused `Busy` or `Throttled` it
+//!    releases in that turn what it has got, waits, and is made again. So it holds nothing while it waits.
+//! 2. At the dirty limit it waits for the loops of the pool. Without loops it makes the steps of a sync itself, as
+//!    `txg_wait_synced` of `txg.c` would have them made, and as `sync_pool` does.
+ghost use Rattle.std.specs.Prelude.{◌≡◌, ◌≤◌, ◌⊎◌, IfErr, IfNone, IfOk, IfSome, IsErrAnd, IsTrue, None, Some, length, vec_capacity};
+ghost use Rattle.base.specs.declared.step.Reply.TheVariants as replied;
+ghost use Rattle.pool_core.specs.States.{shown};
+ghost use Rattle.pool_threads.specs.Answers.{Sees, TakesOne, state_seen};
+ghost use Rattle.pool_threads.specs.Handles.{StaysInPool, moment_of};
+ghost use Rattle.pool_threads.specs.Serves.{GoesOnAfter};
+ghost use Rattle.pool_threads.specs.Transacts.{IsCommitRefusal, IsForGood, IsOpenGroupTurn, IsRetried, IsTransacted, IsTransactionTurn, IsTransactRefusal, LeavesNothing, MakesRoom, Pays, TransactsAtLast, TransactsDurably, TransactsLockedOrLacks, TransactsOrLacks};
 ghost use Rattle.pool_threads.specs.Waits.{LeavesDurable};
 ghost use Rattle.word_lock.specs.Seats.{HasMetNone};
 
 use crate::handle::Handle;
-use base::{LockId, Mode, ObjectRange, Ops, Owner, Plan, PoolError, Receipt};
+use crate::one_turn::transact_turn;
+use crate::turn::serve_turn;
+use base::{Group, LockId, ObjectRange, Ops, Owner, Plan, PoolError, Receipt, Reply};
+use crossbeam_utils::Backoff;
 use device_model::SectorDevice;
+use pool_core::{Duty, PoolState};
 use std::sync::Wait;
 use transactions::lock_ranges;
 
 impl<'p, D: SectorDevice> Handle<'p, D> {
     /// Commits operations as one entry, in a transaction of its own: all of them take place, or none.
     ///
-    /// **At the dirty limit it waits until a thread syncs.** So a loop of `transact` in one thread waits for ever,
-    /// unless it calls `sync_pool` now and then, or other threads run the loops `quiescer` and `syncer`. At
-    /// [`DEFAULT_DIRTY_MAX`](base::DEFAULT_DIRTY_MAX) it waits at the 43rd object, if each transaction creates one and
-    /// writes a few bytes to it. A transaction is charged for what its sync writes (`PoolState::begin` says how much),
-    /// until its group is synced.
+    /// In one turn of the pool's lock it locks the ranges of the operations' plan as a writer, begins, commits, and
+    /// unlocks all. The ranges are in rising order of object and low end, with those that overlap joined to one. After
+    /// a refusal it aborts the transaction, if it was begun, and unlocks what it locked, in the same turn.
     ///
-    /// It locks the ranges of the operations' plan as a writer, in rising order of object and low end, with those that
-    /// overlap joined to one. Then it begins, commits, and unlocks all. `lock` and `begin` wait as the calls of that
-    /// name do. After a refusal it aborts the transaction, if it was begun, and unlocks what it locked.
+    /// While another thread holds a lock that overlaps one of the ranges it waits, and then tries again. A caller that
+    /// holds such a lock itself waits for itself: it takes `transact_locked`.
     ///
-    /// As the order rises, no two calls of `transact` wait for each other's locks. A caller that holds a lock of its
-    /// own that overlaps one of these ranges waits for itself.
+    /// **At the dirty limit** it waits while the loops `quiescer` and `syncer` run. If they don't, it makes the steps
+    /// of a sync of the open group itself, as `sync_pool` does, and then tries again. While another thread's
+    /// transaction is open in a closed group it waits for the end of that transaction. A transaction is charged for
+    /// what its sync writes (`PoolState::begin` says how much), until its group is synced. At
+    /// [`DEFAULT_DIRTY_MAX`](base::DEFAULT_DIRTY_MAX) the 43rd object makes the first sync, if each transaction creates
+    /// one and writes a few bytes to it.
     ///
-    /// The receipt is returned also if an unlock is refused: `Suspended` if a sync of another thread failed, or
-    /// `NoSuchLock` or `LockInUse` if another handle uses the same owner.
-    ///
-    /// For proofs: the only handle of a pool, if no transaction was open, leaves the locks that were held before, and
-    /// no open transaction, also after a refusal (`released`).
+    /// It holds no lock and has no open transaction while it waits, while it syncs, and after it, also after a refusal
+    /// (`released`). A try that was refused has used up the names of the locks and of the transaction that it got.
     ///
     /// # Errors
     /// `NoMemory` if there is none for the plan, its ranges and the names of the locks; then no step was made. Else the
-    /// first refusal of `lock`, `begin` or `commit`, in this order, and none of the operations takes place. The names
-    /// of the locks and of the transaction that it got by then are used up.
+    /// first refusal of `lock`, `begin` or `commit`, in this order, except `Busy`; `Throttled` only if the plan's
+    /// charge alone is above the dirty limit. If it makes steps of a sync, also those of such a step, as `sync_pool`
+    /// lists them: `Write` or `Flush`, after which the pool is suspended, `NoMemory`, `Read` or `Damaged` if a block
+    /// that the sync needs can't be read, and `NotReady` only if the open group is 2^60. None of the operations takes
+    /// place then.
     pub fn transact<'a, 'b, W: Wait>(
         &'a mut self,
         rt: &'b W,
@@ -48,7 +60,7 @@ impl<'p, D: SectorDevice> Handle<'p, D> {
         ensures made { TransactsOrLacks owner ops result self.old self.new }
         ensures committed { IfOk result (λ r. Sees (IsTransacted ops r) self.old self.new) }
         ensures refused { IfErr result (λ e. (e ≡ PoolError.NoMemory)
-            ⊎ Sees (IsTransactRefusal owner ops e) self.old self.new) }
+            ⊎ Sees (IsTransactRefusal (moment_of self.old) owner ops e) self.old self.new) }
         ensures same_pool { StaysInPool self.old self.new }
         ensures met_none { HasMetNone self.old.seat self.new.seat }
         ensures released { LeavesNothing self.old self.new }
@@ -57,16 +69,45 @@ impl<'p, D: SectorDevice> Handle<'p, D> {
         let plan = Plan::of(alloc, &ops)?;
         let ranges = lock_ranges(alloc, plan.as_slice())?;
         let mut locks = Vec::with_capacity(alloc, ranges.len())?;
-        let result = self.lock_and_commit(rt, owner, &ranges, &mut locks, plan, ops);
-        self.unlock_all(rt, owner, &locks);
-        result
+        self.transact_at_last(rt, owner, &ranges, &mut locks, &plan, ops)
+    }
+
+    /// Commits operations as one entry, in a transaction of its own, under locks that the owner holds. So a caller can
+    /// lock, read, and write what follows from it.
+    ///
+    /// In one turn of the pool's lock it begins and commits. After a refused commit it aborts the transaction in the
+    /// same turn. It locks nothing and unlocks nothing. At the dirty limit it waits, or makes the steps of a sync, as
+    /// `transact` does. The locks of the caller stay held then.
+    ///
+    /// # Errors
+    /// `NoMemory` if there is none for the plan; then no step was made. Else the first refusal of `begin` or `commit`,
+    /// in this order: `NotLocked` if the owner's locks don't cover the plan, and `Throttled` only if the plan's charge
+    /// alone is above the dirty limit. If it makes steps of a sync, also those of such a step, as for `transact`. None
+    /// of the operations takes place then.
+    pub fn transact_locked<'a, 'b, W: Wait>(
+        &'a mut self,
+        rt: &'b W,
+        owner: Owner,
+        ops: Ops,
+    ) -> Result<Receipt, PoolError>
+        ensures made { TransactsLockedOrLacks owner ops result self.old self.new }
+        ensures committed { IfOk result (λ r. Sees (IsTransacted ops r) self.old self.new) }
+        ensures refused { IfErr result (λ e. (e ≡ PoolError.NoMemory)
+            ⊎ Sees (IsCommitRefusal (moment_of self.old) owner ops e) self.old self.new) }
+        ensures same_pool { StaysInPool self.old self.new }
+        ensures met_none { HasMetNone self.old.seat self.new.seat }
+        ensures released { LeavesNothing self.old self.new }
+    {
+        let alloc = self.shared.alloc;
+        let plan = Plan::of(alloc, &ops)?;
+        let mut locks = Vec::new(alloc);
+        self.transact_at_last(rt, owner, &[], &mut locks, &plan, ops)
     }
 
     /// Commits operations as `transact` does, and returns once the commit is durable, as `fsync` does.
     ///
-    /// **At the dirty limit it waits until a thread syncs**, as `transact` does. A commit that is durable is charged
-    /// until its group is synced. So a loop of it in one thread waits for ever, unless it calls `sync_pool` now and
-    /// then, or other threads run the loops `quiescer` and `syncer`.
+    /// A commit that is durable is charged until its group is synced. At the dirty limit it waits, or makes the steps
+    /// of a sync, as `transact` does.
     ///
     /// # Errors
     /// Those of `transact`, without a receipt: then none of the operations takes place. Those of `fsync`, with the
@@ -91,71 +132,120 @@ impl<'p, D: SectorDevice> Handle<'p, D> {
         }
     }
 
-    // Locks these ranges, and commits operations in a transaction of this plan if it gets them all. It adds each lock
-    // that it gets to `locks`.
-    fn lock_and_commit<'a, 'b, W: Wait>(
+    // Makes a transaction of this plan in one turn, under locks of these ranges. While it may pass later it waits, or
+    // makes steps of a sync, and tries again. The list of locks is its room for their names.
+    fn transact_at_last<'a, 'b, W: Wait>(
         &'a mut self,
         rt: &'b W,
         owner: Owner,
         ranges: &[ObjectRange],
         locks: &mut Vec<LockId>,
-        plan: Plan,
+        plan: &Plan,
         ops: Ops,
     ) -> Result<Receipt, PoolError>
-        requires none { locks.old.items ≡ [] }
-        requires room { length ranges.now ≤ vec_capacity locks.old }
-        ensures { LocksAndEnds owner ranges.now plan ops locks.new.items result
+        requires { length ranges.now ≤ vec_capacity locks.old }
+        ensures { TransactsAtLast owner ranges.now plan.now ops result self.old self.new }
+    {
+        let moment = self.shared.moment;
+        let backoff = Backoff::new();
+        let mut ops = ops;
+        for _ in rt.forever() {
+            let unlocks = self.shared.ranges.rings();
+            let frees = self.shared.room.rings();
+            let (result, back) = self.try_transact(rt, owner, ranges, locks, plan, ops);
+            match back {
+                None => return result,
+                Some(back) => ops = back,
+            }
+            if matches!(result, Err(PoolError::Busy)) {
+                self.shared.ranges.rest(rt, &backoff, unlocks);
+            } else {
+                self.make_room(rt, moment, frees)?;
+            }
+        }
+        unreachable!()
+    }
+
+    // Makes a transaction in one turn, and returns the operations too if it may pass when it is made again.
+    fn try_transact<'a, 'b, W: Wait>(
+        &'a mut self,
+        rt: &'b W,
+        owner: Owner,
+        ranges: &[ObjectRange],
+        locks: &mut Vec<LockId>,
+        plan: &Plan,
+        ops: Ops,
+    ) -> (Result<Receipt, PoolError>, Option<Ops>)
+        requires { length ranges.now ≤ vec_capacity locks.old }
+        ensures made { TakesOne (IsTransactionTurn (IsTrue D.keeps_model) owner ranges.now plan.now
+            ops result.0) self.old self.new }
+        ensures again { IfSome result.1
+            (λ back. (back ≡ ops) × IsErrAnd result.0 (IsRetried ranges.now)) }
+        ensures for_good { IfNone result.1 (IfErr result.0 (λ e. IsForGood ranges.now plan.now e
+            (state_seen self.new).shown)) }
+        ensures room { length ranges.now ≤ vec_capacity locks.new }
+    {
+        let guard = self.seat.acquire(rt, &self.shared.lock);
+        transact_turn(guard, owner, ranges, locks, plan, ops)
+    }
+
+    // Waits for room while loops sync, or else has one turn of a sync. `room` had this number before the try.
+    fn make_room<'a, 'b, W: Wait>(
+        &'a mut self,
+        rt: &'b W,
+        moment: u64,
+        frees: u64,
+    ) -> Result<(), PoolError>
+        ensures { MakesRoom moment result self.old self.new }
+    {
+        if self.shared.bells.has_loops() {
+            self.shared.rest_for_room(rt, frees);
+            return Ok(());
+        }
+        self.pay(rt, moment)
+    }
+
+    // Makes the steps that are due for a sync of the open group, in one turn. If none is due it rests until a
+    // transaction has ended.
+    fn pay<'a, 'b, W: Wait>(&'a mut self, rt: &'b W, moment: u64) -> Result<(), PoolError>
+        ensures { Pays moment result self.old self.new }
+    {
+        let ends = self.shared.bells.ended.rings();
+        let reply = self.serve_open_group(rt, moment);
+        self.shared.rest_unless_made(rt, &reply, ends);
+        match refusal(&reply) {
+            Some(error) => Err(error),
+            None => Ok(()),
+        }
+    }
+
+    // Makes the steps that are due for a sync of the open group, in one turn: the reply of the last one.
+    fn serve_open_group<'a, 'b, W: Wait>(&'a mut self, rt: &'b W, moment: u64) -> Option<Reply>
+        ensures { TakesOne (IsOpenGroupTurn (IsTrue D.keeps_model) moment result)
             self.old self.new }
     {
-        self.lock_all(rt, owner, ranges, locks)?;
-        self.begin_and_commit(rt, owner, plan, ops)
+        let guard = self.seat.acquire(rt, &self.shared.lock);
+        let group = open_group(&guard.held.value);
+        let (reply, _) = serve_turn(guard, Duty::SyncUpTo(group, moment));
+        self.shared.note_last(&reply);
+        reply
     }
+}
 
-    // Locks these ranges as a writer, in order, up to the first that is refused. It adds each lock that it gets to
-    // `locks`.
-    fn lock_all<'a, 'b, W: Wait>(
-        &'a mut self,
-        rt: &'b W,
-        owner: Owner,
-        ranges: &[ObjectRange],
-        locks: &mut Vec<LockId>,
-    ) -> Result<(), PoolError>
-        requires none { locks.old.items ≡ [] }
-        requires room { length ranges.now ≤ vec_capacity locks.old }
-        ensures { LocksAll owner ranges.now locks.new.items result self.old self.new }
-    {
-        for range in ranges {
-            let id = self.lock(rt, owner, range.object, range.range, Mode::Writer)?;
-            locks.push_reserved(id);
-        }
-        Ok(())
-    }
+// The group that is open.
+fn open_group<D: SectorDevice>(state: &PoolState<D>) -> Group
+    ensures { result.0 ≡ (shown state.now).line.open_group }
+{
+    state.status().open_group
+}
 
-    // Commits operations in a transaction, under locks that the owner has. It aborts the transaction if the commit is
-    // refused.
-    fn begin_and_commit<'a, 'b, W: Wait>(
-        &'a mut self,
-        rt: &'b W,
-        owner: Owner,
-        plan: Plan,
-        ops: Ops,
-    ) -> Result<Receipt, PoolError>
-        ensures { Ends owner plan ops result self.old self.new }
-    {
-        let (tx, _) = self.begin(rt, owner, plan)?;
-        let committed = self.commit(rt, tx, ops);
-        if committed.is_err() {
-            let _ = self.abort(rt, tx);
-        }
-        committed
-    }
-
-    // Unlocks these locks in order, and goes on after a refusal.
-    fn unlock_all<'a, 'b, W: Wait>(&'a mut self, rt: &'b W, owner: Owner, locks: &[LockId])
-        ensures { Unlocks owner locks.now self.old self.new }
-    {
-        for id in locks {
-            let _ = self.unlock(rt, owner, *id);
-        }
+// The refusal that ends a turn of a sync.
+fn refusal(reply: &Option<Reply>) -> Option<PoolError>
+    ensures refused { IfSome result (λ e. reply.now ≡ Some (replied.Refused e)) }
+    ensures passed { IfNone result (GoesOnAfter None reply.now) }
+{
+    match reply {
+        Some(Reply::Refused(error)) => Some(*error),
+        _ => None,
     }
 }

@@ -1,7 +1,7 @@
 //! One step on the pool of a lock, and the view after it.
 //!
 //! Every call of a handle goes through `step_noted`, which makes it and goes on to the view after it. `turn` and
-//! `retried_turn` have it made while a seat has the lock, and free the lock.
+//! `retried_turn` have it made while a seat has the lock, and free the lock. `one_turn.rt` makes a transaction so.
 ghost use Rattle.std.specs.Prelude.{◌≡◌, IsSome, IsTrue, MatchOption, IfErr, Err, false, true};
 ghost use Rattle.base.specs.steps.Runs.{reply_of};
 ghost use Rattle.base.specs.steps.SyncEnds.{IsAnswer};
@@ -32,8 +32,8 @@ fn next_view<'a, D: SectorDevice, C: PoolCall<D>>(
     Told::of(&(view, call, answer, state))
 }
 
-// Makes a step, and goes on to the view after it.
-fn step_noted<'h, D: SectorDevice, C: PoolCall<D>>(
+/// Makes a step, and goes on to the view after it.
+pub(crate) fn step_noted<'h, D: SectorDevice, C: PoolCall<D>>(
     held: &'h mut Held<Box<PoolState<D>>, PoolView>,
     call: C,
 ) -> Result<C::Answer, PoolError>

@@ -1,10 +1,9 @@
 //! What a script prints for a command.
 
-ghost use Rattle.std.specs.Prelude.{◌≡◌};
+ghost use Rattle.std.specs.Prelude.{◌≡◌, ◌<◌};
+ghost use Rattle.base.specs.formats.Limits.{last_number};
 
 use base::{Bytes, Group, PoolError, PoolName, Reply, Status};
-use device_model::SectorDevice;
-use import_replay::Imported;
 use std::fmt;
 
 /// The answer to a command, one line of text.
@@ -28,15 +27,15 @@ pub enum Answer {
 impl Answer {
     ghost use Rattle.script_lines.specs.Answers.{imported_answer};
 
-    /// The answer to an import: the group that it synced, the open one after it, and how many log records it replayed.
-    pub fn imported<D: SectorDevice>(imported: &Imported<D>) -> Answer
-        ensures { result ≡ imported_answer imported.now.mounted }
+    /// The answer to an import that synced this group and replayed so many log records. The group after it is open.
+    pub fn imported(synced: Group, records: u64) -> Answer
+        requires { synced.0 < last_number }
+        ensures { result ≡ imported_answer synced records }
     {
-        let synced = imported.group();
         Answer::Imported {
             synced,
-            open: Group(synced.0.saturating_add(1)),
-            records: imported.records(),
+            open: Group(synced.0 + 1),
+            records,
         }
     }
 

@@ -76,7 +76,7 @@ module _ {Dev : Type 0} (V : Ghosts Dev) where
     pub device : Dev
     pub mounted : Mounted
     pub imported : IsImportRun dirty_max moment old device mounted
-    pub told_is : told ≡ imported_answer mounted
+    pub told_is : told ≡ imported_answer mounted.group mounted.records
     pub mounts : Mounts old device mounted moment pool
 
   -- the import is refused so, or it is not, and its mount is

@@ -24,7 +24,8 @@ pub(crate) fn import_for_mount<D: SectorDevice>(
 ) -> Result<(Imported<D>, Answer), (PoolError, D)>
     ensures run { IfOk result (λ p.
         IsImportRun D.SectorDevice dirty_max moment device p.0.device p.0.mounted) }
-    ensures answer { IfOk result (λ p. p.1 ≡ imported_answer p.0.mounted) }
+    ensures answer { IfOk result (λ p.
+        p.1 ≡ imported_answer p.0.mounted.group p.0.mounted.records) }
     ensures starts { IsTrue D.keeps_model → IfOk result (λ p.
         StartsBehind (D.disk device) p.0.mounted (D.disk p.0.device)) }
     ensures refused { IfErr result (λ e.
@@ -35,7 +36,7 @@ pub(crate) fn import_for_mount<D: SectorDevice>(
 {
     match import_with(alloc, device, dirty_max, cache_blocks, moment) {
         Ok(imported) => {
-            let answer = Answer::imported(&imported);
+            let answer = Answer::imported(imported.group(), imported.records());
             Ok((imported, answer))
         }
         Err(refused) => Err(refused),

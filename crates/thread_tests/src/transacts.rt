@@ -1,6 +1,6 @@
 //! Whole transactions, each by one call of a handle.
 
-use crate::fixture::{SMALL, new_pool, on_pool, read_all};
+use crate::fixture::{SMALL, Size, new_pool, on_pool, read_all};
 use base::{
     Bytes, LockId, Mode, ObjectId, Op, Ops, Ordinal, Owner, PoolError, Range, Receipt, Reply, Step,
 };
@@ -193,5 +193,33 @@ fn a_refused_transaction_leaves_no_lock(rt: HostRuntime) -> Result<(), Fail> {
     let refused = (Err(PoolError::NoObject), true, Ok(()));
     let empty = Err(PoolError::BadRange);
     assert_eq!(rt; returned, Ok((refused, empty, (Ordinal(0), true))));
+    Ok(())
+}
+
+// Makes the object, and writes its first byte in so many transactions: the ordinal of the last one.
+fn write_again<W: Wait>(
+    rt: &W,
+    alloc: Global,
+    handle: &mut Handle<'_, MemDevice>,
+    count: u32,
+) -> Result<Ordinal, PoolError> {
+    let mut receipt = create_and_write(rt, alloc, handle, Owner(1))?;
+    for _ in 0..count {
+        let ops = Ops::new(vec![in alloc; write(alloc, 0, 9)?]?);
+        receipt = handle.transact(rt, Owner(1), ops)?;
+    }
+    Ok(receipt.ordinal)
+}
+
+// No loop syncs, and 1 MiB has room for 64 of them, of 16,384 bytes each.
+#[test]
+fn one_thread_commits_on_at_the_dirty_limit(rt: HostRuntime) -> Result<(), Fail> {
+    let size = Size {
+        sectors: 16_384,
+        dirty_max: 1_048_576,
+    };
+    let pool = new_pool(rt.alloc(), size)?;
+    let last = on_pool(pool, |handle| write_again(&rt, rt.alloc(), handle, 10_000));
+    assert_eq!(rt; last, Ok(Ordinal(10_000)));
     Ok(())
 }

@@ -1,29 +1,46 @@
-use Rattle.std.proofs.Common.{◌∙◌, ap, inl, subst}
-use Rattle.pool_threads.specs.Transacts.{Unlocks}
-use Rattle.pool_threads.proofs.Transacted.{transacted}
-use Rattle.pool_threads.proofs.TransactsRelease.{leaves_nothing}
-use Rattle.pool_threads.proofs.TransactsSeen.{refusals_seen, transacts_along, transacts_seen}
+use Rattle.std.proofs.Common.{[], ◌∙◌, ap, inl, refl}
+use Rattle.pool_threads.proofs.TransactLoops.{made_of}
+use Rattle.pool_threads.proofs.TransactsRelease.{leaves_nothing, nothing_left}
+use Rattle.pool_threads.proofs.TransactsSeen.{refusals_seen, at_last_along, at_last_seen}
+use Rattle.pool_threads.specs.Transacts.{plan_of}
 use Rattle.transactions.specs.LockRanges.{lock_ranges}
 use Rattle.pool_threads.proofs.handle.Handle.transact.Goals as goal
 
+pub returns-in_err-plan-clause-released : goal.returns-in_err-plan-clause-released
+returns-in_err-plan-clause-released g c = nothing_left _ _ refl
+
+pub returns-in_err-ranges-clause-released : goal.returns-in_err-ranges-clause-released
+returns-in_err-ranges-clause-released g c = nothing_left _ _ refl
+
+pub returns-in_err-locks-clause-released : goal.returns-in_err-locks-clause-released
+returns-in_err-locks-clause-released g c = nothing_left _ _ refl
+
 pub returns-clause-made : goal.returns-clause-made
 returns-clause-made g c =
-    let done = c.lock_and_commit-result in
-    let ranges_are = c.deref.ensures.value ∙ c.in_ok-ranges.ensures ∙ ap lock_ranges c.as_slice.ensures in
-    let unlocks = subst (λ ids. Unlocks c.args.owner ids done.new.self c.unlock_all.new.self) c.deref-2.ensures.value c.unlock_all.ensures in
-    inl (transacted c.args.owner c.deref.result.now c.in_ok-plan.plan c.args.ops done.new.locks.items done.result c.args.self.now done.new.self c.unlock_all.new.self c.in_ok-plan.ensures ranges_are done.ensures unlocks)
+    let u = made_of c.args.owner c.args.ops c.transact_at_last.result c.args.self.now c.transact_at_last.new.self c.deref.result.now c.in_ok-plan.plan c.in_ok-plan.ensures (c.deref.ensures.value ∙ c.in_ok-ranges.ensures ∙ ap lock_ranges c.as_slice.ensures) c.transact_at_last.ensures in
+    inl u
 
 pub returns-clause-committed : goal.returns-clause-committed
-returns-clause-committed g c = transacts_seen c.args.owner c.args.ops c.lock_and_commit-result.result c.args.self.now c.unlock_all.new.self (returns-clause-made g c)
+returns-clause-committed g c =
+    let u = made_of c.args.owner c.args.ops c.transact_at_last.result c.args.self.now c.transact_at_last.new.self c.deref.result.now c.in_ok-plan.plan c.in_ok-plan.ensures (c.deref.ensures.value ∙ c.in_ok-ranges.ensures ∙ ap lock_ranges c.as_slice.ensures) c.transact_at_last.ensures in
+    at_last_seen c.args.owner (lock_ranges (plan_of c.args.ops)) (plan_of c.args.ops) c.args.ops c.transact_at_last.result c.args.self.now c.transact_at_last.new.self u
 
 pub returns-clause-refused : goal.returns-clause-refused
-returns-clause-refused g c = refusals_seen c.args.owner c.args.ops c.lock_and_commit-result.result c.args.self.now c.unlock_all.new.self (returns-clause-made g c)
+returns-clause-refused g c =
+    let u = made_of c.args.owner c.args.ops c.transact_at_last.result c.args.self.now c.transact_at_last.new.self c.deref.result.now c.in_ok-plan.plan c.in_ok-plan.ensures (c.deref.ensures.value ∙ c.in_ok-ranges.ensures ∙ ap lock_ranges c.as_slice.ensures) c.transact_at_last.ensures in
+    refusals_seen c.args.owner c.args.ops c.transact_at_last.result c.args.self.now c.transact_at_last.new.self u
 
 pub returns-clause-same_pool : goal.returns-clause-same_pool
-returns-clause-same_pool g c = (transacts_along c.args.owner c.args.ops c.lock_and_commit-result.result c.args.self.now c.unlock_all.new.self (returns-clause-made g c)).same_pool
+returns-clause-same_pool g c =
+    let u = made_of c.args.owner c.args.ops c.transact_at_last.result c.args.self.now c.transact_at_last.new.self c.deref.result.now c.in_ok-plan.plan c.in_ok-plan.ensures (c.deref.ensures.value ∙ c.in_ok-ranges.ensures ∙ ap lock_ranges c.as_slice.ensures) c.transact_at_last.ensures in
+    (at_last_along c.args.owner (lock_ranges (plan_of c.args.ops)) (plan_of c.args.ops) c.args.ops c.transact_at_last.result c.args.self.now c.transact_at_last.new.self u).same_pool
 
 pub returns-clause-met_none : goal.returns-clause-met_none
-returns-clause-met_none g c = (transacts_along c.args.owner c.args.ops c.lock_and_commit-result.result c.args.self.now c.unlock_all.new.self (returns-clause-made g c)).met_none
+returns-clause-met_none g c =
+    let u = made_of c.args.owner c.args.ops c.transact_at_last.result c.args.self.now c.transact_at_last.new.self c.deref.result.now c.in_ok-plan.plan c.in_ok-plan.ensures (c.deref.ensures.value ∙ c.in_ok-ranges.ensures ∙ ap lock_ranges c.as_slice.ensures) c.transact_at_last.ensures in
+    (at_last_along c.args.owner (lock_ranges (plan_of c.args.ops)) (plan_of c.args.ops) c.args.ops c.transact_at_last.result c.args.self.now c.transact_at_last.new.self u).met_none
 
 pub returns-clause-released : goal.returns-clause-released
-returns-clause-released g c = leaves_nothing c.args.owner c.args.ops c.lock_and_commit-result.result c.args.self.now c.unlock_all.new.self (returns-clause-made g c)
+returns-clause-released g c =
+    let u = made_of c.args.owner c.args.ops c.transact_at_last.result c.args.self.now c.transact_at_last.new.self c.deref.result.now c.in_ok-plan.plan c.in_ok-plan.ensures (c.deref.ensures.value ∙ c.in_ok-ranges.ensures ∙ ap lock_ranges c.as_slice.ensures) c.transact_at_last.ensures in
+    leaves_nothing c.args.owner (lock_ranges (plan_of c.args.ops)) (plan_of c.args.ops) c.args.ops c.transact_at_last.result c.args.self.now c.transact_at_last.new.self u
