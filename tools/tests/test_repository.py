@@ -1,7 +1,7 @@
 import unittest
 
 from tools import runner
-from tools.repository import clauses, mentions, program_crates
+from tools.repository import api, clauses, mentions, program_crates
 
 
 class Faults(unittest.TestCase):
@@ -19,6 +19,13 @@ class Faults(unittest.TestCase):
     def test_rows_of_labels(self):
         text = "| function | labels |\n|---|---|\n| `f` | `a`; `b` |\n\n| `g` | `c` |"
         self.assertEqual(list(clauses.rows(text)), [(3, "`f`: `a`, `b`")])
+
+    def test_signatures(self):
+        lines = ["    pub fn f<'a, W: Wait>(", "        &'a mut self,", "        rt: &'a W,", "    ) -> u64", "        ensures { x }"]
+        self.assertEqual(api.signature(lines), "pub fn f<W: Wait>(&mut self, rt: &W) -> u64")
+        self.assertEqual(api.signature(["pub fn g<'a>(&'a self) -> Handle<'_, D> {"]), "pub fn g(&self) -> Handle<'_, D>")
+        doc = ["Commits **all** of [`a`](crate::a): it", "waits. Then more.", "", "Another paragraph."]
+        self.assertEqual(api.first_sentence(doc), "Commits all of `a`: it waits.")
 
     def test_tools_that_are_not_there(self):
         text = "`tools/README.md`, `tools/rows/*.rows`, `python3 tools test`."

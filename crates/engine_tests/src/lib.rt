@@ -3,7 +3,7 @@
 //!
 //! The tests of these crates stand in this one crate, so that a gate proves each crate once and not once more beside
 //! its tests. Those of the crates below stand in `part_tests`, those of `word_lock` in `lock_tests`, those of threads
-//! and commands in `thread_tests`, and whole scripts are data of `script_rows`.
+//! in `thread_tests`, those of loads and commands in `load_tests`, and whole scripts are data of `script_rows`.
 #![tactic(auto)]
 
 #[cfg(test)]

@@ -39,8 +39,8 @@ fn write_note<R: Wait + Print>(rt: &R, alloc: Global, device: FileDevice) -> Res
     let pool = make_pool(alloc, device)?;
     let mut handle = pool.handle();
     commit_note(rt, alloc, &mut handle)?;
-    // A power failure before the sync would lose the note. A program that writes for long syncs again and again: at the
-    // dirty limit a transaction waits until a thread does.
+    // A power failure before the sync would lose the note. A program that writes for long needs no more than this: at
+    // the dirty limit a transaction makes a sync itself.
     let group = handle.sync_pool(rt)?;
     println!(rt; "group {} is synced", group.0)?;
     Ok(())

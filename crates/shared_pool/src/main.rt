@@ -1,6 +1,6 @@
 //! Four threads share a pool in memory: each makes an object, and writes a line to it, again and again. A fifth one
-//! syncs beside them: at the dirty limit they wait until a group is synced. Then the power is lost, and what was synced
-//! is opened again and read.
+//! syncs beside them, so that they seldom sync themselves at the dirty limit. Then the power is lost, and what was
+//! synced is opened again and read.
 #![tactic(auto)]
 
 use anyhow::{Context, Result};
@@ -14,7 +14,7 @@ use topzerad::{
 };
 
 /// How often each thread writes its line. Each write is charged 16,384 bytes, and each create 8,192. So all of them
-/// together pass the dirty limit of 1 MiB, and would wait for ever if nobody synced.
+/// together pass the dirty limit of 1 MiB.
 const ROUNDS: u32 = 25;
 
 /// The line of an owner, which goes into an object of its own.

@@ -3,10 +3,6 @@
 //! A program keeps numbered objects of bytes in a pool, changes them by transactions from many threads, and finds them
 //! again after a power failure.
 //!
-//! **At the dirty limit `transact` of a handle waits until a thread syncs.** So a loop of `transact` in one thread
-//! waits for ever, unless it calls `sync_pool` now and then, or other threads run the loops `quiescer` and `syncer`.
-//! At [`DEFAULT_DIRTY_MAX`] it waits at the 43rd object, if each transaction creates one and writes a few bytes to it.
-//!
 //! 1. **A device** holds the pool: a [`FileDevice`] on a file, or a [`MemDevice`] in memory for tests. A device on a
 //!    file holds the file's lock, so one device at a time writes to it.
 //! 2. **[`create`]** makes a pool on a device once. **[`Pool::open`]** opens it, as often as one likes: take this way
@@ -14,8 +10,8 @@
 //!    [`inspect`] only shows what is there.
 //! 3. **A [`Handle`]** makes the calls of a thread. `transact` commits operations whole, or returns why it refused
 //!    them. `fetch` reads a range. To read several as they are at one moment, `lock` them first: nobody changes them
-//!    until they are unlocked. An [`Owner`] is a number for who holds locks and transactions; each thread takes one of
-//!    its own.
+//!    until they are unlocked. `transact_locked` commits under such locks, so that what was read still stands. An
+//!    [`Owner`] is a number for who holds locks and transactions; each thread takes one of its own.
 //! 4. **`transact_durably`** returns once no power failure loses the commit, and so does `fsync` of a receipt. Both
 //!    write the intent log and flush it; threads that wait at once share one flush. A commit that nobody waited for
 //!    may be lost, until its [`Group`] is synced.
@@ -25,12 +21,15 @@
 //! 6. **The dirty limit**, as [`DEFAULT_DIRTY_MAX`], is in bytes. Until its group is synced, a transaction is charged
 //!    4,096 bytes for each block that its sync may write: 2 blocks for a create or a remove, 4 for a new length. A
 //!    write is 3 blocks, and one more for each piece of 4,032 bytes that it touches. At the limit [`PoolState::begin`]
-//!    is refused `Throttled`, and `begin` and `transact` of a handle wait until a group is synced.
+//!    is refused `Throttled`, and `begin` of a handle waits until a thread syncs a group. `transact` waits only while
+//!    the loops `quiescer` and `syncer` run; without them it makes the sync itself. At [`DEFAULT_DIRTY_MAX`] the 43rd
+//!    object makes the first sync, if each transaction creates one and writes a few bytes to it.
 //! 7. **A refusal** is a [`PoolError`]. A refused step changes nothing, with one exception: a refused write or flush
 //!    suspends the pool, and it has to be opened again. `sync_pool` and `sync_open_group` keep the steps before the
-//!    refused one. A refused `transact` changes no contents. [`create`], [`import`] and [`Pool::open`] give the device
-//!    back with their refusal, and `transact_durably` the receipt, if the commit took place. In a function that returns
-//!    a `PoolError`, `?` takes the refusal and drops the other. With `anyhow`, write `.map_err(PoolError::from)?`.
+//!    refused one. A refused `transact` changes no contents, and holds no lock. [`create`], [`import`] and
+//!    [`Pool::open`] give the device back with their refusal, and `transact_durably` the receipt, if the commit took
+//!    place. In a function that returns a `PoolError`, `?` takes the refusal and drops the other. With `anyhow`, write
+//!    `.map_err(PoolError::from)?`.
 //!
 //! Numbers: an object has up to 338,688 bytes ([`MAX_LENGTH`]), a device 6 MiB to 1 GiB in sectors of 512 bytes. A guid
 //! is any number that distinguishes pools. A moment is a time in seconds that the uberblocks carry; 0 serves if no
@@ -70,7 +69,7 @@
 //!     let ops = vec![in rt.alloc(); Op::Create(ObjectId(1)), Op::Write(ObjectId(1), 0, bytes)]?;
 //!     let committed = handle.transact_durably(rt, Owner(1), Ops::new(ops));
 //!     committed.map_err(PoolError::from)?; // from here on a power failure loses nothing
-//!     Ok(handle.sync_pool(rt)?) // a program that commits more has to sync
+//!     Ok(handle.sync_pool(rt)?) // writes the object to its place
 //! }
 //!
 //! fn read<R: Wait + AllocGlobal>(rt: &R, device: FileDevice) -> Result<Bytes> {
@@ -89,9 +88,12 @@ pub use base::{
     Step, TxId, is_name,
 };
 pub use device_model::{
-    Access, Fault, FileDevice, FileRefusal, HeldFile, MemDevice, SectorDevice, SectorFile,
+    Access, CallCause, Fault, FileCall, FileDevice, FileRefusal, HeldFile, MemDevice, RefusedCall,
+    SectorDevice, SectorFile,
 };
-pub use import_replay::{Imported, Inspected, Mounted, create, import, import_with, inspect};
+pub use import_replay::{
+    Imported, Inspected, Mounted, View, create, import, import_with, inspect, view_pool,
+};
 pub use pool_core::{Duty, PoolState, Progress, run};
 pub use pool_threads::{Handle, Pool};
 pub use range_locks::{HeldLock, HeldLocks, HeldPiece};

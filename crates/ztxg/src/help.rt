@@ -2,7 +2,7 @@
 
 /// The program's version, and the kit that it was tested with. `python3 tools version` compares it with README.md and
 /// with the kit that runs the gate.
-pub const VERSION: &str = "0.1.0 (rattle-kit-13b logic dac8208d650f15bf)";
+pub const VERSION: &str = "0.2.0 (rattle-kit-13f logic dac8208d650f15bf)";
 
 /// What stands after the help of the program.
 pub const PROGRAM: &str = "\
