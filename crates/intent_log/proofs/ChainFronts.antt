@@ -1,16 +1,16 @@
--- A front of a chain, up to the place where its next piece has to be, has no more pieces than the area has blocks.
+-- A front of a chain, up to the place where its next piece has to be, has no more blocks than the area has.
 use Rattle.std.proofs.Common.{◌≡◌, ℕ, suc, ◌+◌, ◌<◌, ◌≤◌, ◌||◌, Bool, true, false, List, [], ◌∷◌, ◌++◌, length, length-append, refl, sym, ap, subst, ◌∙◌, arith, eqb}
 use Rattle.std.specs.List.{list_any, IsDistinct, AllByRecursion}
 use Rattle.std.proofs.lemmas.Bool.{eqb-true, ne_eqb}
+use Rattle.std.proofs.lemmas.List.{length-map}
 use Rattle.std.proofs.lemmas.Map.Steps.{length-le_from_distinct_below}
 use Rattle.base.specs.formats.Fields.{number_at, part}
 use Rattle.base.specs.formats.Geometry.{block_address, block_size}
 use Rattle.base.specs.formats.Blocks.{Frame}
-use Rattle.base.specs.formats.Chain.{Header, LogPiece, IsPiece, IsLogBlock, IsChain, addresses_of, next_header}
-use Rattle.base.proofs.formats.Pieces.{piece_block}
+use Rattle.base.specs.formats.Chain.{Header, LogBlock, LogPiece, IsPiece, IsLogBlock, IsChain, AreLogBlocks, addresses_of, after_blocks, next_block, next_header}
 
 module _ (image : List ℕ) (frame : Frame) (chain : ℕ) where
-  -- these blocks follow one another from a header up to another
+  -- these pieces follow one another from a header up to another
   abbrev pub IsFront : Header → List LogPiece → Header → Type 0
   IsFront header [] end = header ≡ end
   IsFront header (b ∷ bs) end = IsPiece image frame chain header b × IsFront (next_header header b) bs end
@@ -30,29 +30,18 @@ module _ (image : List ℕ) (frame : Frame) (chain : ℕ) where
   abbrev stamp : ℕ → ℕ
   stamp k = number_at (part image (block_address k) block_size) 24
 
-  -- the index of the first block of a piece
-  index_of : (header : Header) (b : LogPiece) → IsPiece image frame chain header b → ℕ
-  index_of header b block = (piece_block image frame chain header b block).1.in_area.0
+  -- the indices of blocks that follow one another
+  indices : (header : Header) (bs : List LogBlock) → AreLogBlocks image frame chain header bs → List ℕ
+  indices header [] are = []
+  indices header (b ∷ bs) (first, rest) = first.in_area.0 ∷ indices (next_block header b) bs rest
 
-  index_within : (header : Header) (b : LogPiece) (block : IsPiece image frame chain header b) → index_of header b block < frame.blocks
-  unfolding index_of
-  index_within header b block = (piece_block image frame chain header b block).1.in_area.1
-
-  -- the indices of the first blocks of a front's pieces
-  indices : (header : Header) (bs : List LogPiece) (end : Header) → IsFront header bs end → List ℕ
-  indices header [] end e = []
-  indices header (b ∷ bs) end (first, rest) = index_of header b first ∷ indices (next_header header b) bs end rest
-
-  length-indices : (header : Header) (bs : List LogPiece) (end : Header) (f : IsFront header bs end) → length (indices header bs end f) ≡ length bs
+  length-indices : (header : Header) (bs : List LogBlock) (are : AreLogBlocks image frame chain header bs) → length (indices header bs are) ≡ length bs
   unfolding indices
-  length-indices header [] end e = refl
-  length-indices header (b ∷ bs) end (first, rest) = ap suc (length-indices (next_header header b) bs end rest)
+  length-indices header [] are = refl
+  length-indices header (b ∷ bs) (first, rest) = ap suc (length-indices (next_block header b) bs rest)
 
-  stamp-is : (header : Header) (b : LogPiece) (block : IsPiece image frame chain header b) → stamp (index_of header b block) ≡ header.number
-  unfolding index_of
-  stamp-is header b block =
-      let first : IsLogBlock image frame chain header (piece_block image frame chain header b block).0 = (piece_block image frame chain header b block).1 in
-      subst (λ (a : ℕ). number_at (part image a block_size) 24 ≡ header.number) first.in_area.2 first.sealed.number_is
+  stamp-is : (header : Header) (b : LogBlock) (first : IsLogBlock image frame chain header b) → stamp first.in_area.0 ≡ header.number
+  stamp-is header b first = subst (λ (a : ℕ). number_at (part image a block_size) 24 ≡ header.number) first.in_area.2 first.sealed.number_is
 
   -- each is in the area, and has a number from the header's on
   record IsOf (header : Header) (k : ℕ) : Type 0 where
@@ -63,34 +52,69 @@ module _ (image : List ℕ) (frame : Frame) (chain : ℕ) where
   either true y h left right = left refl
   either false y h left right = right h
 
-  each_is_of : (header : Header) (bs : List LogPiece) (end : Header) (f : IsFront header bs end) (k : ℕ) → list_any (eqb k) (indices header bs end f) ≡ true → IsOf header k
+  each_is_of : (header : Header) (bs : List LogBlock) (are : AreLogBlocks image frame chain header bs) (k : ℕ) → list_any (eqb k) (indices header bs are) ≡ true → IsOf header k
   unfolding indices
-  each_is_of header [] end e k h = absurd (let no : false ≡ true = h in cc)
-  each_is_of header (b ∷ bs) end (first, rest) k h =
-      either (eqb k (index_of header b first)) (list_any (eqb k) (indices (next_header header b) bs end rest)) h
-      (λ same. let e : k ≡ index_of header b first = eqb-true k (index_of header b first) same in
-      subst (λ (n : ℕ). IsOf header n) (sym e) (record { within = index_within header b first; from = omega (arith, stamp-is header b first) }))
-      (λ behind. let r = each_is_of (next_header header b) bs end rest k behind in record { within = r.within; from = omega (arith, r.from) })
+  each_is_of header [] are k h = absurd (let no : false ≡ true = h in cc)
+  each_is_of header (b ∷ bs) (first, rest) k h =
+      either (eqb k first.in_area.0) (list_any (eqb k) (indices (next_block header b) bs rest)) h
+      (λ same. let e : k ≡ first.in_area.0 = eqb-true k first.in_area.0 same in
+      subst (λ (n : ℕ). IsOf header n) (sym e) (record { within = first.in_area.1; from = omega (arith, stamp-is header b first) }))
+      (λ behind. let r = each_is_of (next_block header b) bs rest k behind in record { within = r.within; from = omega (arith, r.from) })
 
   -- the block of a lower number is none of them
-  apart : (k : ℕ) (header : Header) (bs : List LogPiece) (end : Header) (f : IsFront header bs end) → stamp k < header.number → AllByRecursion (λ y. eqb k y ≡ false) (indices header bs end f)
+  apart : (k : ℕ) (header : Header) (bs : List LogBlock) (are : AreLogBlocks image frame chain header bs) → stamp k < header.number
+      → AllByRecursion (λ y. eqb k y ≡ false) (indices header bs are)
   unfolding indices
-  apart k header [] end e lower = tt
-  apart k header (b ∷ bs) end (first, rest) lower = (
-    ne_eqb k (index_of header b first) (λ same. let at : stamp k ≡ header.number = ap stamp same ∙ stamp-is header b first in omega (arith, at, lower)),
-    apart k (next_header header b) bs end rest (omega (arith, lower)),
+  apart k header [] are lower = tt
+  apart k header (b ∷ bs) (first, rest) lower = (
+    ne_eqb k first.in_area.0 (λ same. let at : stamp k ≡ header.number = ap stamp same ∙ stamp-is header b first in omega (arith, at, lower)),
+    apart k (next_block header b) bs rest (omega (arith, lower)),
   )
 
-  are_distinct : (header : Header) (bs : List LogPiece) (end : Header) (f : IsFront header bs end) → IsDistinct eqb (indices header bs end f)
+  are_distinct : (header : Header) (bs : List LogBlock) (are : AreLogBlocks image frame chain header bs) → IsDistinct eqb (indices header bs are)
   unfolding IsDistinct indices
-  are_distinct header [] end e = tt
-  are_distinct header (b ∷ bs) end (first, rest) =
-      (apart (index_of header b first) (next_header header b) bs end rest (omega (arith, stamp-is header b first)), are_distinct (next_header header b) bs end rest)
+  are_distinct header [] are = tt
+  are_distinct header (b ∷ bs) (first, rest) = (apart first.in_area.0 (next_block header b) bs rest (omega (arith, stamp-is header b first)), are_distinct (next_block header b) bs rest)
 
-  -- so a front has no more blocks than the area
-  pub front-short : (header : Header) (bs : List LogPiece) (end : Header) → IsFront header bs end → length bs ≤ frame.blocks
-  front-short header bs end f = rw (← length-indices header bs end f)
-      (length-le_from_distinct_below (indices header bs end f) frame.blocks (are_distinct header bs end f) (λ k h. (each_is_of header bs end f k h).within))
+  -- so no more blocks follow one another than the area has
+  blocks-short : (header : Header) (bs : List LogBlock) (are : AreLogBlocks image frame chain header bs) → length bs ≤ frame.blocks
+  blocks-short header bs are = rw (← length-indices header bs are)
+      (length-le_from_distinct_below (indices header bs are) frame.blocks (are_distinct header bs are) (λ k h. (each_is_of header bs are k h).within))
+
+  -- blocks that follow those of another list
+  and_more : (header : Header) (bs cs : List LogBlock) → AreLogBlocks image frame chain header bs → AreLogBlocks image frame chain (after_blocks header bs) cs
+      → AreLogBlocks image frame chain header (bs ++ cs)
+  and_more header [] cs are more = more
+  and_more header (b ∷ bs) cs (first, rest) more = (first, and_more (next_block header b) bs cs rest more)
+
+  number-after : (header : Header) (bs : List LogBlock) → (after_blocks header bs).number ≡ header.number + length bs
+  number-after header [] = omega arith
+  number-after header (b ∷ bs) = omega (arith, number-after (next_block header b) bs)
+
+  -- the blocks of a front: each adds one to the number
+  record HasBlocks (header end : Header) : Type 0 where
+    pub blocks : List LogBlock
+    pub follow : AreLogBlocks image frame chain header blocks
+    pub counted : end.number ≡ header.number + length blocks
+
+  blocks_of_front : (header : Header) (bs : List LogPiece) (end : Header) → IsFront header bs end → HasBlocks header end
+  blocks_of_front header [] end e = record { blocks = []; follow = tt; counted = let same : header.number ≡ end.number = ap (λ (h : Header). h.number) e in omega (arith, same) }
+  blocks_of_front header (b ∷ bs) end (piece, rest) =
+      let later = blocks_of_front (next_header header b) bs end rest in
+      let first = piece.blocks in
+      let many : length first ≡ length (addresses_of b) = sym (length-map first (λ (x : LogBlock). x.address)) ∙ ap (λ (l : List ℕ). length l) piece.addresses in
+      let number = number-after header first in
+      let next : after_blocks header first ≡ next_header header b = λ i. record { address = piece.next_is i; number = (number ∙ ap (λ (n : ℕ). header.number + n) many) i } in
+      let counted = later.counted in
+      record {
+        blocks = first ++ later.blocks;
+        follow = and_more header first later.blocks piece.stand (subst (λ (h : Header). AreLogBlocks image frame chain h later.blocks) (sym next) later.follow);
+        counted = omega (arith, counted, many, length-append first later.blocks);
+      }
+
+  -- so a front's numbers are no more than the area has blocks
+  pub front-short : (header : Header) (bs : List LogPiece) (end : Header) → IsFront header bs end → end.number ≤ header.number + frame.blocks
+  front-short header bs end f = let has = blocks_of_front header bs end f in let counted = has.counted in omega (arith, counted, blocks-short header has.blocks has.follow)
 
   -- one piece more
   pub front_push : (header : Header) (bs new : List LogPiece) (end after : Header) (b : LogPiece) → IsFront header bs end → IsPiece image frame chain end b → new ≡ bs ++ b ∷ []
@@ -99,8 +123,8 @@ module _ (image : List ℕ) (frame : Frame) (chain : ℕ) where
       let next : next_header end b ≡ after = λ i. record { address = sym at i; number = sym number i } in
       subst (λ (h : Header). IsFront header new h) next (subst (λ (l : List LogPiece). IsFront header l (next_header end b)) (sym whole) (front_more header bs end b f block))
 
-  -- after as many as the area has comes none
-  pub front_full : (header : Header) (bs : List LogPiece) (end : Header) → IsFront header bs end → frame.blocks ≤ length bs → (b : LogPiece) → IsPiece image frame chain end b → ⊥
+  -- after as many numbers as the area has blocks comes none
+  pub front_full : (header : Header) (bs : List LogPiece) (end : Header) → IsFront header bs end → header.number + frame.blocks ≤ end.number → (b : LogPiece) → IsPiece image frame chain end b → ⊥
   front_full header bs end f full b block =
       let short = front-short header (bs ++ b ∷ []) (next_header end b) (front_more header bs end b f block) in
-      omega (arith, short, full, length-append bs (b ∷ []))
+      omega (arith, short, full)

@@ -19,7 +19,6 @@ use Rattle.intent_log.specs.Kept.{RunLog, begun_shown, log_shown}
 use Rattle.intent_log.specs.Packing.{IsBegunOf, IsPackedFront}
 use Rattle.intent_log.specs.Receipts.{committed}
 use Rattle.intent_log.specs.declared.begun.BegunRecord.{BegunRecord}
-use Rattle.intent_log.specs.declared.filling.Filling.{Filling}
 use Rattle.intent_log.specs.declared.filling.Filling.TheVariants.{Whole, First, Part}
 use Rattle.transactions.specs.declared.record.Record as code
 use Rattle.transactions.specs.Records.{record_fields}

@@ -8,7 +8,7 @@ use Rattle.std.proofs.lemmas.List.{append-nil, take_all, drop_all, take-append-d
 use Rattle.std.proofs.lemmas.List.Folds.{list_any-append}
 use Rattle.base.specs.declared.names.Receipt.{Receipt}
 use Rattle.base.specs.formats.Chain.{Header}
-use Rattle.base.specs.steps.Logs.{Begun, Committed, KeptBlock, Log, awaits_flush, begins_unfinished, begun_committed, blocks_before, has_record, header_at, header_for, is_flushed_in, is_needed, is_same, log_after_flush, committed_of}
+use Rattle.base.specs.steps.Logs.{Committed, KeptBlock, begins_unfinished, begun_committed, blocks_before, has_record, header_at, is_needed, is_same, committed_of}
 use Rattle.intent_log.specs.Kept.{IsFrontGiven, LeadUpTo, begins_begun, begun_shown, header_fields, is_block_needed, receipt_begun, shown_block, shown_blocks}
 use Rattle.intent_log.specs.Receipts.{begins_of, committed, ends_of, is_in_later_group, is_same_receipt}
 use Rattle.intent_log.specs.declared.begun.BegunRecord.{BegunRecord}

@@ -8,8 +8,8 @@
 //! 4. Its used bytes are whole records, one at least, or the next part of a long record. After them it has zeros.
 //!
 //! The first block that isn't so ends the chain. A long record that isn't whole ends it before its first block.
-//! Whatever the device holds, a chain has no more pieces than the area has blocks: each block has a number of its own,
-//! and so an address of its own.
+//! A chain has no more blocks than the device has room for: each has a number of its own, and so an address of its own.
+//! Whatever the device holds, none is read after so many.
 
 ghost use Rattle.std.specs.Prelude.{◌≡◌, ◌≤◌, ◌<◌, ◌^◌, All, IfErr, IfOk, IfSome, IfNone, IsTrue, length, map, take};
 ghost use Rattle.base.specs.disk.Disk.{bytes_of};
@@ -21,12 +21,15 @@ ghost use Rattle.intent_log.specs.Chains.{HasNoLong, HasNoPieceAt, HasNoRecords,
 use crate::log_blocks::{LogBlock, read_block};
 use crate::parts::{Parts, gather, long_size};
 use crate::records::{read_record, read_records};
-use base::{PoolError, Version};
+use base::{BLOCK_SIZE, PoolError, SECTOR_SIZE, Version};
 use checked_blocks::Frame;
 use device_model::SectorDevice;
 use std::alloc::Global;
 use std::marker::Model;
 use transactions::Record;
+
+/// How many sectors a block has.
+const SECTORS: u64 = BLOCK_SIZE as u64 / SECTOR_SIZE;
 
 /// The first block of a chain: where it lies, its log number, the import number of the chain's run, and the version by
 /// whose rules it is read.
@@ -112,7 +115,6 @@ pub fn chain<D: SectorDevice>(
     header: &ChainHeader,
 ) -> Result<Vec<LoggedPiece>, PoolError>
     requires fits { block_address frame.now.blocks ≤ D.size device.old }
-    requires area { frame.now.blocks ≤ 2 ^ 52 }
     requires number { header.now.number ≤ 2 ^ 60 }
     ensures reads { OnlyReads D.SectorDevice result device.old device.new }
     ensures cause { IfErr result IsChainRefusal }
@@ -123,7 +125,8 @@ pub fn chain<D: SectorDevice>(
 {
     let mut pieces = Vec::new(alloc);
     let mut next = *header;
-    for _ in 0..frame.blocks() {
+    let end = header.number + device.sectors() / SECTORS;
+    while next.number < end {
         let Some(piece) = read_piece(alloc, device, frame, &next)? else {
             return Ok(pieces);
         };

@@ -24,7 +24,6 @@ fn no_chain_begins_at_address_0<D: SectorDevice>(
     frame: &Frame,
 ) -> Result<Vec<LoggedPiece>, PoolError>
     requires fits { block_address frame.now.blocks ≤ D.size device.old }
-    requires area { frame.now.blocks ≤ 2 ^ 52 }
     ensures { IsTrue D.keeps_model → IfOk result (λ pieces. pieces.items ≡ []) }
 {
     chain(
@@ -48,7 +47,6 @@ fn a_block_of_one_record_is_read<D: SectorDevice>(
     header: &ChainHeader,
 ) -> Result<Vec<LoggedPiece>, PoolError>
     requires fits { block_address frame.now.blocks ≤ D.size device.old }
-    requires area { frame.now.blocks ≤ 2 ^ 52 }
     requires number { header.now.number ≤ 2 ^ 60 }
     ensures { IsTrue D.keeps_model → (r : base_record.Record)
         → HasOneRecord (bytes_of (D.disk device.old).now) frame.now header.now.import_number
@@ -66,7 +64,6 @@ fn a_chain_goes_on_with_the_next_number<D: SectorDevice>(
     header: &ChainHeader,
 ) -> Result<Vec<LoggedPiece>, PoolError>
     requires fits { block_address frame.now.blocks ≤ D.size device.old }
-    requires area { frame.now.blocks ≤ 2 ^ 52 }
     requires number { header.now.number ≤ 2 ^ 60 }
     ensures { IsTrue D.keeps_model → IfOk result (λ pieces. (piece : LogPiece)
         (r : base_record.Record) → pieces.items ≡ piece ∷ []
@@ -83,7 +80,6 @@ fn a_chain_is_read_without_a_write<D: SectorDevice>(
     header: &ChainHeader,
 ) -> Result<usize, PoolError>
     requires fits { block_address frame.now.blocks ≤ D.size device.old }
-    requires area { frame.now.blocks ≤ 2 ^ 52 }
     requires number { header.now.number ≤ 2 ^ 60 }
     ensures same { IsTrue D.keeps_model → D.disk device.new ≡ D.disk device.old }
     ensures refused { IfErr result (λ e. (e ≡ PoolError.NoMemory) ⊎ (e ≡ PoolError.Read)) }
@@ -99,7 +95,6 @@ fn a_chain_begins_in_the_area<D: SectorDevice>(
     header: &ChainHeader,
 ) -> Result<Option<u64>, PoolError>
     requires fits { block_address frame.now.blocks ≤ D.size device.old }
-    requires area { frame.now.blocks ≤ 2 ^ 52 }
     requires number { header.now.number ≤ 2 ^ 60 }
     ensures { IfOk result (λ found. IfSome found (IsBlockAddress frame.now.blocks)) }
 {

@@ -1,6 +1,6 @@
-use Rattle.std.proofs.Common.{◌≡◌, List, ap, map, refl, sym, ◌∙◌}
+use Rattle.std.proofs.Common.{ap, map, sym, ◌∙◌}
 use Rattle.base.specs.formats.Records.{Record}
-use Rattle.base.specs.steps.Logs.{KeptBlock, Log}
+use Rattle.base.specs.steps.Logs.{Log}
 use Rattle.transactions.specs.Records.{record_fields}
 use Rattle.std.specs.Prelude.{nat_lt}
 use Rattle.intent_log.specs.Kept.{RunLog, header_fields, log_shown}

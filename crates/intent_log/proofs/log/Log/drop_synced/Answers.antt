@@ -1,11 +1,7 @@
-use Rattle.std.proofs.Common.{◌≡◌, ◌∙◌, ◌≤◌, ℕ, List, ap, arith, drop, length, map, sym, subst, take, rules}
-use Rattle.std.specs.Prelude.{All, vec_capacity, vec_len, ◌-◌}
+use Rattle.std.proofs.Common.{◌≡◌, ◌∙◌, ℕ, drop, length, map, subst, take, rules}
+use Rattle.std.specs.Prelude.{vec_capacity, vec_len, ◌-◌}
 use Rattle.std.proofs.lemmas.Fn.{filter_same}
-use Rattle.std.proofs.lemmas.List.Elements.{All-filter}
-use Rattle.base.specs.formats.Records as formats
-use Rattle.base.specs.formats.Records.{IsAllowed}
 use Rattle.transactions.specs.Records.{record_fields}
-use Rattle.transactions.specs.declared.record.Record.{Record}
 use Rattle.intent_log.specs.Kept.{RunLog, run_log}
 use Rattle.intent_log.specs.RunLogs.{pending_after, records_after}
 use Rattle.intent_log.proofs.SyncedRecords.{allowed-after, front_within, pending-after}

@@ -1,4 +1,4 @@
-use Rattle.std.proofs.Common.{◌≡◌, ap, map, rules, subst, sym, tests, ◌∙◌}
+use Rattle.std.proofs.Common.{◌≡◌, ap, rules, subst, sym, tests, ◌∙◌}
 use Rattle.std.specs.Prelude.{Bool}
 use Rattle.std.specs.List.{list_any}
 use mathlib.Core.List.{reverse}

@@ -1,9 +1,9 @@
-use Rattle.std.proofs.Common.{◌≡◌, ◌∙◌, ◌+◌, ◌++◌, ◌∷◌, [], ℕ, List, ap, arith, drop, false, length, map, subst, sym}
+use Rattle.std.proofs.Common.{◌≡◌, ◌∙◌, ◌+◌, ◌++◌, ◌∷◌, [], ap, arith, drop, false, length, map, subst, sym}
 use Rattle.std.specs.Prelude.{Some}
-use Rattle.base.specs.steps.Logs.{KeptBlock, Log, log_after_write}
+use Rattle.base.specs.steps.Logs.{Log, log_after_write}
 use Rattle.transactions.specs.Records.{record_fields}
 use Rattle.intent_log.specs.Fillings.{TakesNext, taken_of}
-use Rattle.intent_log.specs.Kept.{RunLog, begun_shown, log_shown, run_log, shown_blocks}
+use Rattle.intent_log.specs.Kept.{RunLog, begun_shown, log_shown, run_log}
 use Rattle.intent_log.specs.RunLogs.{KeepsHeader}
 use Rattle.intent_log.specs.declared.filling.Filling.{Filling}
 use Rattle.intent_log.specs.declared.filling.Filling.TheVariants.{Whole, First, Part}

@@ -1,7 +1,5 @@
-use Rattle.std.proofs.Common.{◌∙◌, arith, subst, sym}
-use Rattle.intent_log.specs.Kept.{AreNumberedTo}
+use Rattle.std.proofs.Common.{◌∙◌, arith, sym}
 use Rattle.intent_log.proofs.Fillings.{more_left}
-use Rattle.intent_log.proofs.KeptBlocks.{numbered_at}
 use Rattle.intent_log.proofs.log.Log.note_part.Goals as goal
 
 pub overflow_add-begun : goal.overflow_add-begun

@@ -1,9 +1,8 @@
-use Rattle.std.proofs.Common.{◌≡◌, ◌∷◌, ℕ, List, ap, drop, map, refl, subst, take}
+use Rattle.std.proofs.Common.{◌≡◌, ℕ, List, ap, drop, map, refl, subst, take}
 use Rattle.std.specs.Prelude.{None, option_map}
 use Rattle.std.proofs.lemmas.List.{take_rest}
 use Rattle.std.proofs.lemmas.List.Elements.{All-take}
-use Rattle.base.specs.formats.Records.{IsAllowed, Record}
-use Rattle.transactions.specs.Records.{record_fields}
+use Rattle.base.specs.formats.Records.{IsAllowed}
 use Rattle.intent_log.specs.Fillings.{IsNextBlock, receipt_of}
 use Rattle.intent_log.specs.Kept.{RunLog, begun_shown, run_log}
 use Rattle.intent_log.specs.Packing.{HoldsUsed, IsPackedAs}
