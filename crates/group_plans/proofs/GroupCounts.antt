@@ -81,6 +81,13 @@ module _ (group : ℕ) (records : List Record) (maps : List ObjectEntry) (before
   short_of_places free short =
       subst (λ (n : ℕ). length free < n) (sym (count_told short.objects short.changes)) (short.fewer (in_range ops maps before after x short.objects short.changes))
 
+  -- however it is told which records have a block
+  pub short_of_these : (free : List ℕ) → IsShortOfBlocks group records maps pointers after.objects free
+      → (had : Place → Bool) → ((n r : ℕ) → n < object_count → r < pointer_count → has_address (pointers (Data n r)) ≡ had (Data n r)) → length free < length (written_places ops before had)
+  short_of_these free short had same =
+      subst (λ (ps : List Place). length free < length ps) (sym (places_told ops maps before after x pointers short.objects short.changes had same))
+      (short.fewer (in_range ops maps before after x short.objects short.changes))
+
   -- and fewer than they are estimated at
   pub short_of_estimate : (free : List ℕ) → IsShortOfBlocks group records maps pointers after.objects free → length free < estimate_of (map shape_of ops)
   short_of_estimate free short =

@@ -30,9 +30,9 @@ use Rattle.tree_plans.specs.Marks.{AreChangesOf, pending_ops}
 use Rattle.transactions.specs.declared.record.Record.{Record}
 use Rattle.object_maps.specs.declared.tree.Tree.{Tree}
 use Rattle.group_plans.specs.Prepared.{IsPrepareRefusal}
-use Rattle.group_plans.specs.GroupPlans.{HoldsGroupObjects, IsRefusedShort, MakesGroupTree, MakesHoles, plan_pointers}
+use Rattle.group_plans.specs.GroupPlans.{HoldsGroupObjects, IsRefusedShort, IsTreeShort, MakesGroupTree, MakesHoles, plan_pointers}
 use Rattle.group_plans.specs.OldMaps.{AreMapsOf}
-use Rattle.group_plans.specs.ReadPlans.{HoldsPlanned, IsShortFor, PlansTree}
+use Rattle.group_plans.specs.ReadPlans.{HoldsPlanned, IsShortFor, IsShortFrom, PlansTree}
 use Rattle.group_plans.proofs.PlannedBlocks.{addresses_are}
 use Rattle.group_plans.proofs.PlannedPointers.{after_placed, before_placed, same_after, same_lengths}
 use Rattle.group_plans.proofs.PreparedPlans.{no_space_prepare, same_group}
@@ -52,6 +52,11 @@ pub not_short : (objects : List (ObjectId × ObjectChanges)) (after : FinMap nat
 not_short objects after free r x e is same cause =
     subst (λ (r : Result TreePlan PoolError). IfErr r (IsShortFor objects after free)) (sym is) (λ space. absurd (no_space_prepare e cause (sym same ∙ space)))
 
+pub not_short_from : (old : Place → Pointer) (objects : List (ObjectId × ObjectChanges)) (after : FinMap nat_cmp (List ℕ)) (free : FinSet nat_cmp) (r : Result TreePlan PoolError) (x e : PoolError) → r ≡ Err x → x ≡ e
+    → IsPrepareRefusal e → IfErr r (IsShortFrom old objects after free)
+not_short_from old objects after free r x e is same cause =
+    subst (λ (r : Result TreePlan PoolError). IfErr r (IsShortFrom old objects after free)) (sym is) (λ space. absurd (no_space_prepare e cause (sym same ∙ space)))
+
 -- The same of a group, whose changes these are.
 module _ (frame : Frame) (records : List Record) (tree : Tree) (objects : List (ObjectId × ObjectChanges)) (changes : AreChangesOf (pending_ops frame.group records) tree.entries.items objects)
     (after : FinMap nat_cmp (List ℕ)) where
@@ -68,6 +73,9 @@ module _ (frame : Frame) (records : List Record) (tree : Tree) (objects : List (
 
   pub group_short : (free : FinSet nat_cmp) (e : PoolError) → IsShortFor objects after free e → IsRefusedShort frame.group tree records after free e
   group_short free e short space = let of = short space in (of.0, record { objects = objects; changes = changes; fewer = of.1 })
+
+  pub tree_short : (free : FinSet nat_cmp) (e : PoolError) → IsShortFrom (pointers_of tree) objects after free e → IsTreeShort frame.group tree records after free e
+  tree_short free e short space = record { objects = objects; changes = changes; fewer = short space }
 
 module _ (source : PlanSource) (changes : BTreeMap ObjectId ObjectChanges)
     (none : (n : ℕ) → is_some (entry_of changes.entries n) ≡ false → is_some (entry_of source.old_maps.now.entries n) ≡ false)

@@ -113,6 +113,10 @@ pub record HoldsGroupObjects (frame : Frame) (tree : Tree) (records : List Recor
 abbrev pub IsRefusedShort : ℕ → Tree → List Record → FinMap nat_cmp (List ℕ) → FinSet nat_cmp → PoolError → Type 0
 IsRefusedShort group tree records after free e = e ≡ NoSpace → (old : Place → Pointer) × IsShortOfBlocks group records tree.entries.items old after (rising free)
 
+-- and of the pointers that the tree has
+abbrev pub IsTreeShort : ℕ → Tree → List Record → FinMap nat_cmp (List ℕ) → FinSet nat_cmp → PoolError → Type 0
+IsTreeShort group tree records after free e = e ≡ NoSpace → IsShortOfBlocks group records tree.entries.items (pointers_of tree) after (rising free)
+
 -- why a plan of a group is refused: it wants memory or blocks, or a read of a block was refused
 abbrev pub IsPlanRefusal : PoolError → Type 0
 IsPlanRefusal e = IsWant e ⊎ IsReadRefusal e

@@ -45,6 +45,10 @@ pub record HoldsPlanned (frame : Frame) (tree : Tree) (objects : List (ObjectId 
   pub planned : (before : FinMap nat_cmp (List ℕ)) → IsCoveredBy objects (pointers_of tree) before after → AreChanges objects after → AreTreePointers objects (pointers_of tree) after
       → IsTreePlan (map new_block p.blocks.items) frame (pointers_of tree) (plan_pointers tree p) before after
 
--- refused NoSpace, the free blocks are too few for these changes, of whichever old pointers
+-- refused NoSpace, the free blocks are too few for these changes of these old pointers
+abbrev pub IsShortFrom : (Place → Pointer) → List (ObjectId × ObjectChanges) → FinMap nat_cmp (List ℕ) → FinSet nat_cmp → PoolError → Type 0
+IsShortFrom old objects after free e = e ≡ NoSpace → AreInRange objects → length (rising free) < length (written_by (changes_of_group objects old after))
+
+-- and so of some old pointers
 abbrev pub IsShortFor : List (ObjectId × ObjectChanges) → FinMap nat_cmp (List ℕ) → FinSet nat_cmp → PoolError → Type 0
 IsShortFor objects after free e = e ≡ NoSpace → (old : Place → Pointer) × (AreInRange objects → length (rising free) < length (written_by (changes_of_group objects old after)))

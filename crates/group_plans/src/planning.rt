@@ -15,8 +15,8 @@ ghost use Rattle.tree_plans.specs.Changes.{written_frame};
 ghost use Rattle.tree_plans.specs.Parts.{AreMapsRead};
 ghost use Rattle.tree_plans.specs.Pointers.{entry_of};
 ghost use Rattle.group_plans.specs.OldMaps.{AreMapsOf, AreMapsOfObjects};
-ghost use Rattle.group_plans.specs.ReadPlans.{HoldsPlanned, IsShortFor, PlansTree};
-ghost use Rattle.group_plans.specs.GroupPlans.{FitsIn, HoldsGroupObjects, IsHeldRefusal, IsPlanRefusal, IsRefusedShort, MakesReadTree, TakesLowest, frame_of, objects_with};
+ghost use Rattle.group_plans.specs.ReadPlans.{HoldsPlanned, IsShortFor, IsShortFrom, PlansTree};
+ghost use Rattle.group_plans.specs.GroupPlans.{FitsIn, HoldsGroupObjects, IsHeldRefusal, IsPlanRefusal, IsRefusedShort, IsTreeShort, MakesReadTree, TakesLowest, frame_of, objects_with};
 
 use crate::old_maps::read_maps;
 use crate::preparing::prepare;
@@ -63,7 +63,8 @@ pub struct GroupSource<'a> {
 ///   the new tree has the objects after the group.
 ///
 /// # Errors
-/// - `NoSpace`, only if fewer blocks are free than there are places to write (`no_space`).
+/// - `NoSpace`, only if fewer blocks are free than there are places to write (`no_space`). If the device keeps the model
+///   and holds the tree, these are the places that the group writes over it (`short`).
 /// - `NoMemory`.
 /// - `Read`, and `Damaged` if a block is none of the tree. A device that keeps the model and holds the tree gives none
 ///   that is damaged (`sound`).
@@ -91,6 +92,10 @@ pub fn plan_group<B: BlockReader>(
         (objects_with extents.now contents.now)) }
     ensures no_space { IfErr result (IsRefusedShort source.now.group.0 source.now.tree.now
         records.now (objects_with extents.now contents.now) source.now.free.now.free) }
+    ensures short { IsTrue B.keeps_model → HoldsTree (bytes_of (B.disk reader.old).now) before.now
+        (pointers_of source.now.tree.now) (contents_of contents.now).objects
+        → IfErr result (IsTreeShort source.now.group.0 source.now.tree.now records.now
+        (objects_with extents.now contents.now) source.now.free.now.free) }
     ensures refused { IfErr result IsPlanRefusal }
     ensures sound { IsTrue B.keeps_model → HoldsTree (bytes_of (B.disk reader.old).now) before.now
         (pointers_of source.now.tree.now) (contents_of contents.now).objects
@@ -143,6 +148,11 @@ fn plan_read<B: BlockReader>(
         (written_frame read.now.guid read.now.geometry read.now.group.0) read.now.tree.now
         objects.now.entries (objects_with extents.now contents.now)) }
     ensures no_space { IfErr result (IsShortFor objects.now.entries
+        (objects_with extents.now contents.now) read.now.free.now.free) }
+    ensures short { IsTrue B.keeps_model → HoldsTree (bytes_of (B.disk reader.old).now) before.now
+        (pointers_of read.now.tree.now) (contents_of contents.now).objects
+        → AreMapsOfObjects (pointers_of read.now.tree.now) read.now.old_maps.now.entries
+        → IfErr result (IsShortFrom (pointers_of read.now.tree.now) objects.now.entries
         (objects_with extents.now contents.now) read.now.free.now.free) }
     ensures refused { IfErr result IsPlanRefusal }
     ensures sound { IsTrue B.keeps_model → HoldsTree (bytes_of (B.disk reader.old).now) before.now

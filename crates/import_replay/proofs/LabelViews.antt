@@ -1,7 +1,7 @@
 -- The sync of an import leads from the view that it began on to the one that it writes: each moment of it is of one of
 -- the phases, what a read gives stays fair, no config counts but that of the import, and no log block of a later chain
 -- than the view's does.
-use Rattle.std.proofs.Common.{◌≡◌, inl, inr, ⊎_elim, ℕ, ◌+◌, ◌<◌, ◌≤◌, List, length, drop, Option, Some, refl, sym, ◌∙◌, ap, subst, arith}
+use Rattle.std.proofs.Common.{◌≡◌, inl, inr, ⊎_elim, ℕ, ◌+◌, ◌<◌, ◌≤◌, List, drop, Option, Some, refl, sym, ◌∙◌, ap, subst, arith}
 use Rattle.std.specs.Prelude.{◌≢◌, All, vec_len}
 use Rattle.base.specs.crash.CallStages.{FixedLabels}
 use Rattle.base.specs.crash.CrashRule.{IsImportMoment}

@@ -8,12 +8,9 @@ use Rattle.std.proofs.lemmas.Bool.{cases_order}
 use Rattle.std.proofs.lemmas.List.{ext_get_or, get_or-take, get_or-drop, get_or-replicate, length-replicate}
 use Rattle.base.specs.formats.Fields.{part, number_at, no_pointer}
 use Rattle.base.specs.formats.Limits.{first_group}
-use Rattle.base.specs.formats.Geometry.{IsGeometry, block_address, block_count, slot_place, slot_of}
-use Rattle.base.specs.formats.Blocks.{Frame}
+use Rattle.base.specs.formats.Geometry.{IsGeometry, block_count, slot_place, slot_of}
 use Rattle.base.specs.tree.Places.{Place, pointer_of, IsInTree}
 use Rattle.base.specs.tree.Places.Place.{Root, Directory, Indirect, Data}
-use Rattle.base.specs.tree.Tree.{IsTree}
-use Rattle.base.specs.formats.Chain.{IsChain}
 use Rattle.base.specs.history.Contents.{Contents}
 use Rattle.base.specs.disk.Disk.{Moment, bytes_of, CrashLeaves}
 use Rattle.base.specs.formats.Uberblocks.{Uberblock, StandsIn, IsActive, IsUberblock}

@@ -43,7 +43,7 @@ use Rattle.base.proofs.stored.StoredSets.{IsAt, at-map, map-at, rising-in, risin
 use Rattle.group_plans.specs.GroupPlans.{MakesGroupTree, MakesHoles, plan_pointers}
 use Rattle.group_plans.specs.Pointers.{lengths_after}
 use Rattle.group_plans.proofs.GroupChanges.{lengths_told, makes_holes}
-use Rattle.group_plans.proofs.GroupCounts.{plans_fit_estimates, short_plans_lack_blocks, takes_at_places}
+use Rattle.group_plans.proofs.GroupCounts.{plans_fit_estimates, short_of_these, short_plans_lack_blocks, takes_at_places}
 use Rattle.group_plans.proofs.GroupTrees.{plans_make_trees}
 use Rattle.group_plans.proofs.PlannedBlocks.{addresses_are}
 use Rattle.intent_log.specs.Chains.{IsSoundPiece}
@@ -66,7 +66,7 @@ use Rattle.import_replay.specs.ImportRefusals.{HasLastNumbers, IsReason, LacksIm
 use Rattle.import_replay.specs.ImportStops.{writes_of_next}
 use Rattle.import_replay.specs.LabelSyncs.{AreApartIn, IsGroupSynced}
 use Rattle.import_replay.specs.Mounts.{IsImport, IsMountedFrom}
-use Rattle.import_replay.specs.NextPools.{AreMadeOver, ArePartsFor, AreWithinLimits, IsPlannedFrom, IsReadyFor, IsReplayedPool, LacksBlocks, PoolParts, next_frame, objects_replayed, parts_of, synced_with}
+use Rattle.import_replay.specs.NextPools.{AreMadeOver, ArePartsFor, AreWithinLimits, IsPlannedFrom, IsReadyFor, IsReplayedPool, LacksBlocks, LacksTreeBlocks, PoolParts, next_frame, objects_replayed, parts_of, synced_with}
 use Rattle.import_replay.specs.ReadPools.{IsLoadedFor, IsReadPool, frame_of_size}
 use Rattle.import_replay.specs.TakenBlocks.{AreForEachPlace, AreLowestSpare, replayed_places}
 use Rattle.import_replay.specs.declared.mounted.Mounted.{Mounted}
@@ -219,17 +219,56 @@ module _ (size : ℕ) (u : Uberblock) (name : List ℕ) (tree : Tree) (slots : L
       let long = length-map plan.blocks.items address_of in
       omega (arith, within, short, long)
 
+  -- the tree's pointers name a block where the image has one
+  had_block : (n k : ℕ) → n < object_count → k < pointer_count → has_address (pointers_of pool.tree (Data n k)) ≡ has_block image u.root (Data n k)
+  had_block n k low below =
+      ap (λ (q : Pointer). not (q.address == 0)) (sym (pointers-told image (frame_of_size u size) (pointers_of pool.tree) (objects_of pool.synced.slots.items) mine_read.held (Data n k) (low, below)))
+      ∙ ap (λ (q : Pointer). has_block image q (Data n k)) mine_read.root
+
+  -- what the records leave, and the places that they write
+  abbrev left_by : Contents
+  left_by = replays.after size u name tree slots chain pool named loaded r
+
+  abbrev pending : List Op
+  pending = pending_ops (u.group + 4) pool.replayed.records.items
+
+  places-replayed : replayed_places image u chain (contents_of pool.synced) ≡ written_places pending (contents_of pool.synced) (has_block image u.root)
+  places-replayed = ap (λ (ops : List Op). written_places ops (contents_of pool.synced) (has_block image u.root)) (replays.ops_replayed size u name tree slots chain pool named loaded r)
+
+  -- where blocks lack for the tree, no more are spare than these places
+  few_spare : LacksTreeBlocks size u pool → set.len pool.spare.free ≤ length (replayed_places image u chain (contents_of pool.synced))
+  few_spare (inl short) =
+      let fewer = short_of_these (u.group + 4) pool.replayed.records.items pool.tree.entries.items (contents_of pool.synced) left_by (replays.takes_place size u name tree slots chain pool named loaded r) (pointers_of pool.tree)
+      (rising pool.spare.free) short (has_block image u.root) had_block in
+      let count = length-rising pool.spare.free in
+      let same = ap (λ (l : List Place). length l) places-replayed in
+      omega (arith, fewer, count, same)
+  few_spare (inr (plan, makes, all)) =
+      let places : List Place = written_places pending (contents_of pool.synced) (has_block image u.root) in
+      let new : Place → Pointer = plan_pointers pool.tree plan in
+      let bs : List NewBlock = map new_block plan.blocks.items in
+      let each = takes_at_places (u.group + 4) pool.replayed.records.items pool.tree.entries.items (contents_of pool.synced) left_by (replays.takes_place size u name tree slots chain pool named loaded r) (pointers_of pool.tree)
+      new bs plan.freed.items makes.made.places (has_block image u.root) had_block in
+      let many : length places ≡ length plan.blocks.items =
+      sym (length-map places (λ (place : Place). (new place).address)) ∙ ap (λ (l : List ℕ). length l) each ∙ length-map bs (λ (b : NewBlock). b.address) ∙ length-map plan.blocks.items new_block in
+      let most = all_taken plan all in
+      let same = ap (λ (l : List Place). length l) places-replayed in
+      omega (arith, many, most, same)
+
   -- where blocks lack, there is no room
-  pub lacks_room : is_past_last u.group u.import_number ≡ false → LacksBlocks size u pool → LacksImportRoom image
-  lacks_room within lacks = record {
+  pub lacks_room : is_past_last u.group u.import_number ≡ false → LacksBlocks size u pool → LacksTreeBlocks size u pool → LacksImportRoom image
+  lacks_room within full lacks = record {
     u = u;
     chain = chain;
-    contents = replays.after size u name tree slots chain pool named loaded r;
+    contents = left_by;
     mounts = replay_mounts;
     within = within;
     spare = pool.spare.free;
     all = λ address is unused. ⊎_elim (λ spare. spare) (λ used. absurd (unused used)) (spare-or_used address (subst (λ (n : ℕ). IsBlockAddress (block_count n) address) read.long is));
-    few = ⊎_elim
+    synced = contents_of pool.synced;
+    found = found_read image size u name pool.tree pool.synced.slots.items chain mine_read pool.synced r.name_is refl;
+    few = few_spare lacks;
+    estimated = ⊎_elim
         (λ short.
         let fewer = short_plans_lack_blocks (u.group + 4) pool.tree pool.replayed.records.items short.0 (contents_of pool.synced) (replays.after size u name tree slots chain pool named loaded r) pool.spare.free short.1 (replays.takes_place size u name tree slots chain pool named loaded r) in
         let count = length-rising pool.spare.free in
@@ -239,7 +278,7 @@ module _ (size : ℕ) (u : Uberblock) (name : List ℕ) (tree : Tree) (slots : L
         let fits = plans_fit_estimates (next_frame u size) pool.tree pool.replayed.records.items (contents_of pool.synced) (replays.after size u name tree slots chain pool named loaded r) takes.0 takes.1 (replays.takes_place size u name tree slots chain pool named loaded r) in
         let all = all_taken takes.0 takes.2 in
         let same = replays.estimate size u name tree slots chain pool named loaded r in
-        omega (arith, fits, all, same)) lacks;
+        omega (arith, fits, all, same)) full;
   }
 
 module _ (holds : Type 0) (size : ℕ) (u : Uberblock) (name : List ℕ) (tree : Tree) (slots : List Slot) (chain : List LogPiece) (pool : ReplayedPool) (next : NextPool) (is : IsPrepared holds size u name tree slots chain pool next) where
@@ -374,17 +413,13 @@ module _ (holds : Type 0) (size : ℕ) (u : Uberblock) (name : List ℕ) (tree :
           ∙ ap (λ (ops : List Op). map (λ (place : Place). (plan_pointers pool.tree plan place).address) (written_places ops (contents_of pool.synced) (has_block image u.root)))
           (replays.ops_replayed size u name tree slots chain pool is.named is.loaded is.replayed)
           ∙ takes_at_places (u.group + 4) pool.replayed.records.items pool.tree.entries.items (contents_of pool.synced) left (replays.takes_place size u name tree slots chain pool is.named is.loaded is.replayed) (pointers_of pool.tree)
-          (plan_pointers pool.tree plan) (map new_block blocks) plan.freed.items from_tree.places (has_block image u.root) had
+          (plan_pointers pool.tree plan) (map new_block blocks) plan.freed.items from_tree.places (has_block image u.root)
+          (had_block size u name tree slots chain pool is.named is.loaded is.replayed image read)
           ∙ addresses_are blocks;
     }
       where
         places : List Place
         places = replayed_places image u chain (contents_of pool.synced)
-
-        had : (n r : ℕ) → n < object_count → r < pointer_count → has_address (pointers_of pool.tree (Data n r)) ≡ has_block image u.root (Data n r)
-        had n r low below =
-            ap (λ (q : Pointer). not (q.address == 0)) (sym (pointers-told image (frame_of_size u size) (pointers_of pool.tree) (objects_of pool.synced.slots.items) mine.held (Data n r) (low, below)))
-            ∙ ap (λ (q : Pointer). has_block image q (Data n r)) mine.root
 
     all_unused : (i : ℕ) (b : PlannedBlock) → slice_get blocks i ≡ Some b → IsUsed image u.root chain (block_address b.index) → ⊥
     all_unused i b at = spare-unused size u name tree slots chain pool is.named is.loaded is.replayed image read (block_address b.index) (was_spare i b at)

@@ -103,7 +103,7 @@ module _ (disk : Disk) (created guid : ℕ) (contents : Contents) (own : IsOwnWi
       let (place, in_range, names, some) = in-tree image (view_frame (disk_size disk) here.v) here.v.pointers here.v.synced.objects laid.firm.tree.holds address there in
       spare.1.not_in_tree place in_range some names)
       (λ is_logged. not_logged address spare.1.not_logged (subst (λ (bs : List LogPiece). Contains (flat_map addresses_of bs) address) chains is_logged)) used)) in
-      omega (arith, within, few, full.few, here.room.enough)
+      omega (arith, within, few, full.estimated, here.room.enough)
 
 pub finds_own : (disk : Disk) (e : PoolError) → IsReason (bytes_of disk.now) e → FindsOwn disk e
 finds_own disk e reason created guid contents own =

@@ -1,7 +1,7 @@
 -- What is read of a device without a write or a flush is of its image: an active pool, the tree under its root and its
 -- chain, or the first damage of that tree. A flush before it leaves that image.
-use Rattle.std.proofs.Common.{◌≡◌, ℕ, ◌≤◌, List, length, Ok, sym, subst, arith}
-use Rattle.std.specs.Prelude.{◌^◌, All, Bool, IsTrue}
+use Rattle.std.proofs.Common.{◌≡◌, ℕ, List, length, Ok, sym, subst}
+use Rattle.std.specs.Prelude.{All, Bool, IsTrue}
 use Rattle.std.specs.Ordering.{nat_cmp}
 use Rattle.std.specs.FinMap.{FinMap}
 use Rattle.base.specs.crash.Mount.{HasPool, IsChainOf, IsTreeDamaged, header_of}
@@ -9,12 +9,10 @@ use Rattle.base.specs.disk.Calls.{Flushes}
 use Rattle.base.specs.disk.Disk.{Disk, bytes_of}
 use Rattle.base.specs.formats.Blocks.{Frame}
 use Rattle.base.specs.formats.Chain.{IsChain, LogPiece}
-use Rattle.base.specs.formats.Geometry.{IsGeometry, block_count}
 use Rattle.base.specs.formats.Uberblocks.{Uberblock}
 use Rattle.base.specs.tree.Damages.{IsFirstDamage}
 use Rattle.base.specs.tree.PlacedTrees.{ArePlaced, HoldsTree}
 use Rattle.base.proofs.disk.Regions.{flushed_clean}
-use Rattle.base.proofs.formats.Geometry.{IsGeometry-IsSize, blocks-end}
 use Rattle.intent_log.specs.Chains.{IsSoundPiece}
 use Rattle.object_maps.specs.declared.contents.Slot.{Slot}
 use Rattle.object_maps.specs.declared.tree.Tree.{Tree}
@@ -44,10 +42,6 @@ module _ (image : List ℕ) (found : Disk) (size : ℕ) (frame : Frame) (u : Ube
         (subst (λ (b : List ℕ). IsFirstDamage b (frame_of_size u size) u.root kind address) same
         (subst (λ (f : Frame). IsFirstDamage (bytes_of found.now) f u.root kind address) framed damage));
   }
-
--- an area has fewer blocks than a chain's numbers can count
-pub few_blocks : (size : ℕ) → IsGeometry size → block_count size ≤ 2 ^ 52
-few_blocks size g = let s = IsGeometry-IsSize size g in let end = blocks-end size g in omega (arith, s.greatest, end)
 
 -- the chain that was read in this frame, by the rules of the uberblock's version, is the uberblock's
 pub is_read_chain : (image : List ℕ) (size : ℕ) (frame : Frame) (u : Uberblock) (chain : List LogPiece) → length image ≡ size → frame ≡ frame_of_size u size

@@ -11,7 +11,7 @@ use Rattle.group_plans.specs.GroupPlans.{IsHeldRefusal, IsPlanRefusal}
 use Rattle.log_replay.specs.Replays.{IsReplayCause}
 use Rattle.import_replay.specs.ImportRefusals.{HasLastNumbers, LacksImportRoom, IsImportRefusal, IsReason, IsInspectionRefusal, IsMountRefusal, IsReadingRefusal, IsSyncRefusal, IsWalkRefusal}
 use Rattle.import_replay.specs.ImportStops.{IsImportStopped}
-use Rattle.import_replay.specs.NextPools.{IsNextRefused, LacksBlocks}
+use Rattle.import_replay.specs.NextPools.{IsNextRefused, LacksBlocks, LacksTreeBlocks}
 use Rattle.import_replay.specs.Refused.{IsImportRefused, IsInspectionRefused, IsMountRefused}
 use Rattle.import_replay.specs.declared.next_pool.ReplayedPool.{ReplayedPool}
 use Rattle.import_replay.proofs.OwnRefusals.{finds_own}
@@ -23,8 +23,9 @@ not_full e (inl is) full = let no : Write ≡ NoSpace = sym is ∙ full in cc
 not_full e (inr is) full = let no : Flush ≡ NoSpace = sym is ∙ full in cc
 
 -- a pool is not planned for want of blocks
-pub next_full : (holds : Type 0) (size : ℕ) (u : Uberblock) (pool : ReplayedPool) (e : PoolError) → e ≡ NoSpace → LacksBlocks size u pool → IsNextRefused holds size u pool e
-next_full holds size u pool e is lacks = record { kind = inl (inl is); sound = λ held. inl (inl is); full = λ full. lacks }
+pub next_full : (holds : Type 0) (size : ℕ) (u : Uberblock) (pool : ReplayedPool) (e : PoolError) → e ≡ NoSpace → LacksBlocks size u pool → (holds → LacksTreeBlocks size u pool)
+    → IsNextRefused holds size u pool e
+next_full holds size u pool e is full lacks = record { kind = inl (inl is); sound = λ held. inl (inl is); full = λ _. full; lacks = λ held _. lacks held }
 
 -- an import that had begun
 module _ (keeps : Bool) (moment : ℕ) (old mid new : Disk) (e : PoolError) where

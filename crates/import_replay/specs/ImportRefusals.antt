@@ -10,12 +10,13 @@ use Rattle.base.specs.formats.Geometry.{IsBlockAddress, IsGeometry, block_count}
 use Rattle.base.specs.formats.Chain.{LogPiece}
 use Rattle.base.specs.formats.Uberblocks.{Uberblock}
 use Rattle.base.specs.tree.Tree.{IsTree}
-use Rattle.base.specs.crash.Mount.{HasNoPool, HasPool, IsChainDamaged, IsTreeDamaged, IsUsed, Mounts, frame_of, records_above}
+use Rattle.base.specs.crash.Mount.{HasNoPool, HasPool, IsChainDamaged, IsFound, IsTreeDamaged, IsUsed, Mounts, frame_of, records_above}
 use Rattle.base.specs.crash.Imports.{is_dirty_max_allowed, is_past_last}
 use Rattle.base.specs.crash.CrashRule.{IsOwnOnceFlushed}
 use Rattle.base.specs.disk.Disk.{Disk}
 use Rattle.base.specs.history.Contents.{Contents}
 use Rattle.import_replay.specs.PlacedRecords.{placed_estimate}
+use Rattle.import_replay.specs.TakenBlocks.{replayed_places}
 
 -- an import of a device of so many bytes with this limit may begin
 abbrev pub CanImport : ℕ → ℕ → Type 0
@@ -94,8 +95,8 @@ pub record HasLastNumbers (image : List ℕ) : Type 0 where
   pub past_last : is_past_last u.group u.import_number ≡ true
 
 -- The image mounts contents and the numbers fit, but the blocks that neither the tree nor the chain has are no more
--- than the chain's records above the group are estimated at. Where it has none, each block is in the tree or in the
--- chain.
+-- than the places that the chain's records above the group write. So none is left for the log. Where there are no such
+-- records, each block is in the tree or in the chain. The records are estimated at no fewer blocks.
 pub record LacksImportRoom (image : List ℕ) : Type 0 where
   pub u : Uberblock
   pub chain : List LogPiece
@@ -104,7 +105,10 @@ pub record LacksImportRoom (image : List ℕ) : Type 0 where
   pub within : is_past_last u.group u.import_number ≡ false
   pub spare : FinSet nat_cmp
   pub all : (address : ℕ) → IsBlockAddress (block_count (length image)) address → (IsUsed image u.root chain address → ⊥) → set.contains spare address ≡ true
-  pub few : set.len spare ≤ placed_estimate (records_above u.group chain)
+  pub synced : Contents
+  pub found : IsFound image u synced chain
+  pub few : set.len spare ≤ length (replayed_places image u chain synced)
+  pub estimated : set.len spare ≤ placed_estimate (records_above u.group chain)
 
 -- the tree of the image's pool has this first damage, or a log block of its chain, at this address, is refused
 abbrev pub IsDamagedWith : (ℕ → Type 0) → List ℕ → ℕ → ℕ → Type 0

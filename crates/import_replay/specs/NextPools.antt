@@ -141,6 +141,13 @@ IsShortPlan u pool = (old : Place → Pointer) × IsShortOfBlocks (u.group + 4) 
 abbrev pub TellsShortPlan : Uberblock → ReplayedPool → PoolError → Type 0
 TellsShortPlan u pool e = e ≡ NoSpace → IsShortPlan u pool
 
+-- and so of the pointers that the tree has
+abbrev pub IsShortTree : Uberblock → ReplayedPool → Type 0
+IsShortTree u pool = IsShortOfBlocks (u.group + 4) pool.replayed.records.items pool.tree.entries.items (pointers_of pool.tree) (objects_replayed pool) (rising pool.spare.free)
+
+abbrev pub TellsShortTree : Uberblock → ReplayedPool → PoolError → Type 0
+TellsShortTree u pool e = e ≡ NoSpace → IsShortTree u pool
+
 -- or its plan takes all of them, and leaves none for the log
 abbrev pub TakesAll : ℕ → Uberblock → ReplayedPool → Type 0
 TakesAll size u pool = (plan : TreePlan) × MakesReadNext size u pool plan × AreAllPlanned pool.spare plan.blocks.items
@@ -148,12 +155,17 @@ TakesAll size u pool = (plan : TreePlan) × MakesReadNext size u pool plan × Ar
 abbrev pub LacksBlocks : ℕ → Uberblock → ReplayedPool → Type 0
 LacksBlocks size u pool = IsShortPlan u pool ⊎ TakesAll size u pool
 
+-- and so of a plan from the pointers that the tree has
+abbrev pub LacksTreeBlocks : ℕ → Uberblock → ReplayedPool → Type 0
+LacksTreeBlocks size u pool = IsShortTree u pool ⊎ ((plan : TreePlan) × HoldsNextObjects size u pool plan × AreAllPlanned pool.spare plan.blocks.items)
+
 -- The pool is refused: there is no memory, blocks lack, or a block could not be read. Where this holds, no block that
--- was read is damaged.
+-- was read is damaged, and blocks lack for the pointers that the tree has.
 pub record IsNextRefused (holds : Type 0) (size : ℕ) (u : Uberblock) (pool : ReplayedPool) (e : PoolError) : Type 0 where
   pub kind : IsPlanRefusal e
   pub sound : holds → IsHeldRefusal e
   pub full : e ≡ NoSpace → LacksBlocks size u pool
+  pub lacks : holds → e ≡ NoSpace → LacksTreeBlocks size u pool
 
 -- The pool has the tree of a plan, which takes the lowest spare blocks, and the contents that the records leave. Where
 -- this holds, the plan's blocks hold the objects of these. The first log block is the lowest spare one that the plan

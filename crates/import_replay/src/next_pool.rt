@@ -23,7 +23,7 @@ ghost use Rattle.object_maps.specs.Lengths.{lengths_of};
 ghost use Rattle.object_maps.specs.Pointers.{pointers_of};
 ghost use Rattle.uberblocks.specs.Slots.{fields_of};
 ghost use Rattle.import_replay.specs.Devices.{IsSizedFor};
-ghost use Rattle.import_replay.specs.NextPools.{HoldsLoaded, HoldsNextObjects, IsNextRefused, IsPlannedFrom, IsReplayedPool, MakesReadNext, TellsShortPlan, synced_with};
+ghost use Rattle.import_replay.specs.NextPools.{HoldsLoaded, HoldsNextObjects, IsNextRefused, IsPlannedFrom, IsReplayedPool, MakesReadNext, TellsShortPlan, TellsShortTree, synced_with};
 
 use crate::finding::{Found, copy_name};
 use crate::free_blocks::{give_all, lowest_left, take_logged, take_planned};
@@ -171,6 +171,9 @@ fn plan_tree<B: BlockReader>(
         (fields_of uberblock.now) pool.now
         → IfOk result (HoldsNextObjects geometry (fields_of uberblock.now) pool.now) }
     ensures no_space { IfErr result (TellsShortPlan (fields_of uberblock.now) pool.now) }
+    ensures short { HoldsLoaded B.SectorDevice reader.old geometry
+        (fields_of uberblock.now) pool.now
+        → IfErr result (TellsShortTree (fields_of uberblock.now) pool.now) }
     ensures refused { IfErr result IsPlanRefusal }
     ensures sound { HoldsLoaded B.SectorDevice reader.old geometry
         (fields_of uberblock.now) pool.now

@@ -9,7 +9,7 @@ use Rattle.object_maps.specs.ContentsShown.{contents_of}
 use Rattle.object_maps.specs.Pointers.{pointers_of}
 use Rattle.group_plans.specs.GroupPlans.{frame_of, objects_with}
 use Rattle.group_plans.specs.OldMaps.{AreMapsOf}
-use Rattle.group_plans.proofs.ReadPlans.{group_held, group_short, group_tree}
+use Rattle.group_plans.proofs.ReadPlans.{group_held, group_short, group_tree, tree_short}
 use Rattle.group_plans.proofs.PreparedPlans.{held_prepare, no_space_prepare, of_prepare}
 use Rattle.group_plans.proofs.planning.plan_group.Goals as goal
 
@@ -40,6 +40,11 @@ returns-in_err-old_maps-clause-sound g c = λ keeps held.
 
 pub returns-in_err-old_maps-clause-no_space : goal.returns-in_err-old_maps-clause-no_space
 returns-in_err-old_maps-clause-no_space g c =
+    let p = err_from_is_err_and c.from_residual-in_err-old_maps.result c.from_residual-in_err-old_maps.ensures.1 in
+    rw (p.1, p.2) (λ space. absurd (no_space_prepare _ c.in_err-old_maps.ensures.refused space))
+
+pub returns-in_err-old_maps-clause-short : goal.returns-in_err-old_maps-clause-short
+returns-in_err-old_maps-clause-short g c = λ keeps held.
     let p = err_from_is_err_and c.from_residual-in_err-old_maps.result c.from_residual-in_err-old_maps.ensures.1 in
     rw (p.1, p.2) (λ space. absurd (no_space_prepare _ c.in_err-old_maps.ensures.refused space))
 
@@ -78,3 +83,13 @@ returns-clause-no_space g c =
     let objects : List (ObjectId × ObjectChanges) = c.in_ok-objects.objects.entries in
     let changes : AreChangesOf (pending_ops source.group.0 c.args.records.now) tree.entries.items objects = rw (← c.deref.ensures.value) c.in_ok-objects.ensures.changes in
     IfErr-weaker c.plan_read.result _ _ (λ e short. group_short (frame_of source) c.args.records.now tree objects changes (objects_with c.args.extents.now c.args.contents.now) source.free.now.free e short) c.plan_read.ensures.no_space
+
+pub returns-clause-short : goal.returns-clause-short
+returns-clause-short g c = λ keeps held.
+    let source = c.args.source.now in
+    let tree = source.tree.now in
+    let objects : List (ObjectId × ObjectChanges) = c.in_ok-objects.objects.entries in
+    let changes : AreChangesOf (pending_ops source.group.0 c.args.records.now) tree.entries.items objects = rw (← c.deref.ensures.value) c.in_ok-objects.ensures.changes in
+    let still = subst (λ (d : Disk). HoldsTree (bytes_of d.now) c.args.before.now (pointers_of tree) (contents_of c.args.contents.now).objects) (sym (c.in_ok-old_maps.ensures.reads.disk keeps)) held in
+    IfErr-weaker c.plan_read.result _ _ (λ e short. tree_short (frame_of source) c.args.records.now tree objects changes (objects_with c.args.extents.now c.args.contents.now) source.free.now.free e short)
+    (c.plan_read.ensures.short keeps still (c.in_ok-old_maps.ensures.exact keeps held))

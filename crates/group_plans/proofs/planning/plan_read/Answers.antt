@@ -4,6 +4,7 @@ use Rattle.std.specs.Ordering.{nat_cmp}
 use Rattle.std.specs.FinMap.{FinMap}
 use Rattle.std.proofs.Math.Logic.{∥∥₁_map}
 use Rattle.std.proofs.lemmas.Result.{IfErr-weaker, IfOk-weaker, err_from_is_err_and}
+use Rattle.base.specs.declared.error.PoolError.{PoolError}
 use Rattle.base.specs.declared.names.ObjectId.{ObjectId}
 use Rattle.base.specs.declared.pointer.Pointer.{Pointer}
 use Rattle.base.specs.common.Rising.{rising}
@@ -17,16 +18,17 @@ use Rattle.object_maps.specs.ContentsShown.{contents_of}
 use Rattle.object_maps.specs.declared.contents.Contents as slots
 use Rattle.object_maps.specs.Pointers.{pointers_of}
 use Rattle.tree_plans.specs.declared.changes.ObjectChanges.{ObjectChanges}
+use Rattle.tree_plans.specs.declared.plan_source.PlanSource.{PlanSource}
 use Rattle.tree_plans.specs.declared.planner.TreePlan.{TreePlan}
-use Rattle.tree_plans.specs.Changes.{changes_of_group}
 use Rattle.tree_plans.specs.Pointers.{pointers_before}
 use Rattle.tree_plans.specs.TreePlans.{GivesBack, GivesTree, HasLengths, HasMaps, TakesBlocks, TellsFull}
 use Rattle.group_plans.specs.GroupPlans.{objects_with}
 use Rattle.group_plans.specs.Prepared.{at_hand, with_records}
+use Rattle.group_plans.specs.ReadPlans.{IsShortFrom}
 use Rattle.group_plans.proofs.PlannedBlocks.{are_blocks}
 use Rattle.group_plans.proofs.PlannedPointers.{before_placed, same_before}
 use Rattle.group_plans.proofs.PreparedPlans.{held_prepare, held_want, of_prepare, of_want, prepared_exact, prepared_length, same_group, want_counts}
-use Rattle.group_plans.proofs.ReadPlans.{IfOk_both, IfOk_five, holds_planned, not_short, plans_tree}
+use Rattle.group_plans.proofs.ReadPlans.{IfOk_both, IfOk_five, holds_planned, not_short, not_short_from, plans_tree}
 use Rattle.group_plans.proofs.planning.plan_read.Goals as goal
 
 -- what is told of the objects with records at hand, told of the same changes and contents as before
@@ -51,6 +53,13 @@ pub returns-in_err-after-clause-no_space : goal.returns-in_err-after-clause-no_s
 returns-in_err-after-clause-no_space g c =
     let p = err_from_is_err_and c.from_residual.result c.from_residual.ensures.1 in
     not_short c.args.objects.now.entries (objects_with c.args.extents.now c.args.contents.now) c.args.read.now.free.now.free c.from_residual.result p.0 c.in_err-after.field-0.0 p.1 p.2 c.in_err-after.ensures.refused
+
+pub returns-in_err-after-clause-short : goal.returns-in_err-after-clause-short
+returns-in_err-after-clause-short g c = λ keeps held exact.
+    let source = c.args.read.now in
+    let p = err_from_is_err_and c.from_residual.result c.from_residual.ensures.1 in
+    not_short_from (pointers_of source.tree.now) c.args.objects.now.entries (objects_with c.args.extents.now c.args.contents.now) source.free.now.free c.from_residual.result p.0 c.in_err-after.field-0.0 p.1 p.2
+    c.in_err-after.ensures.refused
 
 pub returns-clause-reads : goal.returns-clause-reads
 returns-clause-reads g c =
@@ -114,6 +123,13 @@ returns-clause-refused g c = of_want c.plan.result c.plan.ensures.refused
 pub returns-clause-sound : goal.returns-clause-sound
 returns-clause-sound g c = λ keeps held exact. held_want c.plan.result c.plan.ensures.refused
 
+-- where the plan is short of blocks, so it is for the changes of all objects, of these old pointers
+module _ (source : PlanSource) (objects : List (ObjectId × ObjectChanges)) (hand : ℕ → ℕ → Option (List ℕ)) (extents : Extents) (contents : slots.Contents) (e : PoolError) where
+  short_of : (full : TellsFull source (with_records hand (objects_with extents contents)) objects e) → IsShortFrom (pointers_before source) objects (objects_with extents contents) source.free.now.free e
+  short_of full no_space within =
+      subst (λ (x : GroupChanges). length (rising source.free.now.free) < length (written_by x))
+      (same_group objects (pointers_before source) (with_records hand (objects_with extents contents)) (objects_with extents contents) (prepared_length hand extents contents)) (full.fewer no_space within)
+
 pub returns-clause-no_space : goal.returns-clause-no_space
 returns-clause-no_space g c =
     let source = c.args.read.now in
@@ -121,11 +137,17 @@ returns-clause-no_space g c =
     let extents : Extents = c.args.extents.now in
     let contents : slots.Contents = c.args.contents.now in
     let hand : ℕ → ℕ → Option (List ℕ) = at_hand c.in_ok-after.after.records in
-    let wanted : FinMap nat_cmp (List ℕ) = objects_with extents contents in
-    let after : FinMap nat_cmp (List ℕ) = with_records hand wanted in
-    let old : Place → Pointer = pointers_before source in
-    let group : changes_of_group objects old after ≡ changes_of_group objects old wanted = same_group objects old after wanted (prepared_length hand extents contents) in
-    IfErr-weaker c.plan.result _ _ (λ e (full : TellsFull source after objects e) no_space. (
-      old,
-      λ within. subst (λ (x : GroupChanges). length (rising source.free.now.free) < length (written_by x)) group (full.fewer no_space within),
-    )) (moved (λ (o : FinMap nat_cmp (List ℕ)). IfErr c.plan.result (TellsFull source o objects)) hand _ _ _ _ c.in_ok-after.ensures.extents c.in_ok-after.ensures.contents c.plan.ensures.full)
+    IfErr-weaker c.plan.result _ _ (λ e (full : TellsFull source (with_records hand (objects_with extents contents)) objects e) no_space. (pointers_before source, short_of source objects hand extents contents e full no_space))
+    (moved (λ (o : FinMap nat_cmp (List ℕ)). IfErr c.plan.result (TellsFull source o objects)) hand _ _ _ _ c.in_ok-after.ensures.extents c.in_ok-after.ensures.contents c.plan.ensures.full)
+
+pub returns-clause-short : goal.returns-clause-short
+returns-clause-short g c = λ keeps held exact.
+    let source = c.args.read.now in
+    let objects = c.args.objects.now in
+    let extents : Extents = c.args.extents.now in
+    let contents : slots.Contents = c.args.contents.now in
+    let hand : ℕ → ℕ → Option (List ℕ) = at_hand c.in_ok-after.after.records in
+    let old : pointers_before source ≡ pointers_of source.tree.now = λ k place. same_before source objects.entries c.requires.none (block_count source.geometry) c.requires.old exact place k in
+    IfErr-weaker c.plan.result _ _ (λ e (full : TellsFull source (with_records hand (objects_with extents contents)) objects.entries e).
+    subst (λ (f : Place → Pointer). IsShortFrom f objects.entries (objects_with extents contents) source.free.now.free e) old (short_of source objects.entries hand extents contents e full))
+    (moved (λ (o : FinMap nat_cmp (List ℕ)). IfErr c.plan.result (TellsFull source o objects.entries)) hand _ _ _ _ c.in_ok-after.ensures.extents c.in_ok-after.ensures.contents c.plan.ensures.full)

@@ -1,4 +1,4 @@
-use Rattle.std.proofs.Common.{◌≡◌, ◌∙◌, ℕ, List, ap, length, subst, sym}
+use Rattle.std.proofs.Common.{◌≡◌, ◌∙◌, Bool, ℕ, List, ap, length, subst, sym}
 use Rattle.base.specs.crash.CrashRule.{KeepsOwn}
 use Rattle.base.specs.crash.Imports.{are_limits_allowed}
 use Rattle.base.specs.disk.Disk.{bytes_of}
@@ -7,12 +7,13 @@ use Rattle.base.specs.history.Past.{new_past}
 use Rattle.base.specs.steps.ExactNow.{IsExplainedNow}
 use Rattle.object_maps.specs.CachedDevices.{device_in}
 use Rattle.object_maps.specs.ContentsShown.{contents_of}
+use Rattle.import_replay.specs.ImportRefusals.{IsImportRefusal}
 use Rattle.import_replay.specs.Mounts.{IsImport, StandsOn, shown_of_import}
 use Rattle.import_replay.specs.Refused.{IsMountRefused}
 use Rattle.import_replay.specs.RunStarts.{StartsRun}
 use Rattle.import_replay.specs.ShownMounts.{LabelsShow}
 use Rattle.import_replay.proofs.CachedImports.{holds_outside}
-use Rattle.import_replay.proofs.Refused.{mount_refused}
+use Rattle.import_replay.proofs.Refused.{bounds_refused, mount_refused}
 use Rattle.import_replay.proofs.ShownMounts.{labels_show}
 use Rattle.import_replay.proofs.importing.import_with.Goals as goal
 
@@ -52,6 +53,13 @@ pub returns-in-Ok-mount_pool-clause-starts : goal.returns-in-Ok-mount_pool-claus
 returns-in-Ok-mount_pool-clause-starts g c = λ keeps.
     holds_outside c.new-cached.ensures.device c.into_parts-device.ensures.device
     (λ old new. StartsRun (g.D.SectorDevice.disk old) c.args.dirty_max (g.D.SectorDevice.disk new) c.in-Ok-mount_pool.mounted) (c.in-Ok-mount_pool.ensures.starts keeps)
+
+pub returns-in-Err-clause-refused : goal.returns-in-Err-clause-refused
+returns-in-Err-clause-refused g c =
+    let allowed : Bool = are_limits_allowed c.args.dirty_max c.args.cache_blocks in
+    let bad = c.in-Err.ensures.refused in
+    bounds_refused g.D.SectorDevice allowed c.args.moment c.args.device c.in-Err.error bad.0
+    (subst (λ (n : ℕ). IsImportRefusal n allowed c.in-Err.error) c.sectors.ensures.size bad.1)
 
 pub returns-in-Err-mount_pool-clause-own : goal.returns-in-Err-mount_pool-clause-own
 returns-in-Err-mount_pool-clause-own g c = λ keeps.

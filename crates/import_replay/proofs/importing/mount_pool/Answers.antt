@@ -174,7 +174,8 @@ returns-in_err-next-clause-refused g c =
     (λ keeps. refused.sound (keeps, loaded_held size u name tree slots chain pool replayed mid _ (c.read_pool.ensures.reads.disk keeps) (c.in_ok-found.ensures.pool keeps)))
     (λ keeps is.
     let read = read_behind_flush old mid size u name tree slots chain (c.in_ok-flush.ensures.disk keeps) (c.in_ok-found.ensures.pool keeps) in
-    lacks_room size u name tree slots chain pool c.in_ok-found.found.named c.in_ok-found.ensures.loaded replayed image read (sym c.if-is_past_last.ensures) (refused.full is))
+    lacks_room size u name tree slots chain pool c.in_ok-found.found.named c.in_ok-found.ensures.loaded replayed image read (sym c.if-is_past_last.ensures) (refused.full is)
+    (refused.lacks (keeps, loaded_held size u name tree slots chain pool replayed mid _ (c.read_pool.ensures.reads.disk keeps) (c.in_ok-found.ensures.pool keeps)) is))
     (λ keeps. c.plan_pool.ensures.reads.disk keeps ∙ c.read_pool.ensures.reads.disk keeps))
 
 pub returns-clause-refused : goal.returns-clause-refused

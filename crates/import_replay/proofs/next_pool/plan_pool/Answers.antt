@@ -15,14 +15,15 @@ use Rattle.import_replay.proofs.next_pool.plan_pool.Goals as goal
 pub returns-in_err-planned-clause-refused : goal.returns-in_err-planned-clause-refused
 returns-in_err-planned-clause-refused g c =
     let told = c.in_err-planned.ensures in
-    passed_on c.from_residual.result c.in_err-planned.field-0.0 _ c.from_residual.ensures.1 (record { kind = told.refused; sound = told.sound; full = λ is. inl (told.no_space is) })
+    passed_on c.from_residual.result c.in_err-planned.field-0.0 _ c.from_residual.ensures.1 (record { kind = told.refused; sound = told.sound; full = λ is. inl (told.no_space is); lacks = λ held is. inl (told.short held is) })
 
 pub returns-in_err-log_block-clause-refused : goal.returns-in_err-log_block-clause-refused
 returns-in_err-log_block-clause-refused g c =
     let plan : TreePlan = c.in_ok-planned.planned in
     let all : AreAllPlanned c.args.pool.spare plan.blocks.items = subst (λ (bs : List PlannedBlock). AreAllPlanned c.args.pool.spare bs) c.deref.ensures.value c.in_err-log_block.ensures.full in
     passed_on c.from_residual-in_err-log_block.result c.in_err-log_block.field-0.0 _ c.from_residual-in_err-log_block.ensures.1
-    (next_full _ _ _ c.args.pool _ c.in_err-log_block.ensures.refused (inr (plan, c.in_ok-planned.ensures.tree, all)))
+    (next_full _ _ _ c.args.pool _ c.in_err-log_block.ensures.refused (inr (plan, c.in_ok-planned.ensures.tree, all))
+    (λ held. inr (plan, c.in_ok-planned.ensures.objects held, all)))
 
 pub returns-in_err-log_block-clause-reads : goal.returns-in_err-log_block-clause-reads
 returns-in_err-log_block-clause-reads g c =

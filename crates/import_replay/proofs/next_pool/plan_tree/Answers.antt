@@ -30,6 +30,14 @@ returns-clause-sound g c = λ held.
     let now : List ℕ = bytes_of (g.B.SectorDevice.disk c.args.reader.now).now in
     c.plan_group.ensures.sound held.0 (subst (λ (f : Frame). HoldsTree now f (pointers_of pool.tree) (contents_of pool.synced).objects) (sym c.frame_of-before.ensures) held.1)
 
+pub returns-clause-short : goal.returns-clause-short
+returns-clause-short g c = λ held.
+    let pool : ReplayedPool = c.args.pool.now in
+    let now : List ℕ = bytes_of (g.B.SectorDevice.disk c.args.reader.now).now in
+    subst (λ (rs : List Record). IfErr c.plan_group.result (λ e. e ≡ NoSpace
+    → IsShortOfBlocks (c.args.uberblock.now.group.0 + 4) rs pool.tree.entries.items (pointers_of pool.tree) (objects_replayed pool) (rising pool.spare.free)))
+    c.deref.ensures.value (c.plan_group.ensures.short held.0 (subst (λ (f : Frame). HoldsTree now f (pointers_of pool.tree) (contents_of pool.synced).objects) (sym c.frame_of-before.ensures) held.1))
+
 pub returns-clause-no_space : goal.returns-clause-no_space
 returns-clause-no_space g c =
     let pool : ReplayedPool = c.args.pool.now in

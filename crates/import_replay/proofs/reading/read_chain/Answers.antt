@@ -1,15 +1,12 @@
-use Rattle.std.proofs.Common.{ℕ, ◌≤◌, List, subst, sym, ◌∙◌}
-use Rattle.std.specs.Prelude.{◌^◌, All, IfOk}
+use Rattle.std.proofs.Common.{ℕ, List, subst, ◌∙◌}
+use Rattle.std.specs.Prelude.{All, IfOk}
 use Rattle.base.specs.disk.Disk.{bytes_of}
 use Rattle.base.specs.formats.Blocks.{Frame}
 use Rattle.uberblocks.specs.Slots.{fields_of}
 use Rattle.intent_log.specs.Chains.{IsSoundPiece}
 use Rattle.import_replay.proofs.Configs.{ok_weaker}
-use Rattle.import_replay.proofs.ReadPools.{few_blocks, is_read_chain}
+use Rattle.import_replay.proofs.ReadPools.{is_read_chain}
 use Rattle.import_replay.proofs.reading.read_chain.Goals as goal
-
-pub chain-requires-clause-area : goal.chain-requires-clause-area
-chain-requires-clause-area g c = subst (λ (f : Frame). f.blocks ≤ 2 ^ 52) (sym c.frame_of.ensures) (few_blocks c.args.geometry c.requires.sized.geometry)
 
 pub returns-clause-chain : goal.returns-clause-chain
 returns-clause-chain g c = λ keeps.

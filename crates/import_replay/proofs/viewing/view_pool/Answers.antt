@@ -1,10 +1,11 @@
-use Rattle.std.proofs.Common.{◌≡◌, ℕ, List, false, true, refl, subst, sym, ◌∙◌}
+use Rattle.std.proofs.Common.{◌≡◌, false, true, refl, subst, sym, ◌∙◌}
+use Rattle.base.specs.declared.error.PoolError.TheVariants.{NoMemory}
 use Rattle.base.specs.disk.Disk.{bytes_of}
 use Rattle.base.specs.formats.Geometry.{IsGeometry}
 use Rattle.uberblocks.specs.Slots.{fields_of}
 use Rattle.import_replay.proofs.NextPools.{reason_of_replay}
 use Rattle.import_replay.proofs.Reasons.{passed_on}
-use Rattle.import_replay.proofs.Refused.{size_refused, walk_refused}
+use Rattle.import_replay.proofs.Refused.{memory_refused, size_refused, walk_refused}
 use Rattle.import_replay.proofs.Views.{cause_walks, fits, is_view}
 use Rattle.import_replay.proofs.viewing.view_pool.Goals as goal
 
@@ -32,6 +33,12 @@ returns-in_err-pool-clause-refused g c =
     (walk_refused g.D.SectorDevice c.args.device.now _ x sized (cause_walks x c.in_err-pool.ensures.cause) (λ keeps.
     reason_of_replay (bytes_of (g.D.SectorDevice.disk c.args.device.now).now) c.in_ok-geometry.geometry (fields_of found.uberblock) found.name loaded.tree loaded.slots.items c.in_ok-found.logged.items
     (c.in_ok-found.ensures.pool keeps) x c.in_err-pool.ensures.cause c.in_err-pool.ensures.refused))
+
+pub returns-in_err-view-clause-refused : goal.returns-in_err-view-clause-refused
+returns-in_err-view-clause-refused g c =
+    let sized : IsGeometry (g.D.SectorDevice.size c.args.device.now) = subst IsGeometry c.sectors.ensures.size (c.in_ok-geometry.ensures.ok.0 refl) in
+    passed_on c.from_residual-in_err-view.result NoMemory _ c.from_residual-in_err-view.ensures.1
+    (memory_refused g.D.SectorDevice c.args.device.now _ NoMemory sized refl)
 
 pub returns-clause-mounted : goal.returns-clause-mounted
 returns-clause-mounted g c = λ keeps.

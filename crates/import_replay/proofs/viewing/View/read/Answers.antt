@@ -1,4 +1,4 @@
-use Rattle.std.proofs.Common.{◌≡◌, ℕ, refl, sym, ◌∙◌}
+use Rattle.std.proofs.Common.{sym, ◌∙◌}
 use Rattle.import_replay.proofs.Views.{no_damage, not_absent, objects_are, of_range, stands, tree_fits}
 use Rattle.import_replay.proofs.viewing.View.read.Goals as goal
 
