@@ -4,6 +4,9 @@ pub mod Turned
 pub mod Made
 pub mod Answered
 pub mod Seen
+pub mod AnswersSeen
+pub mod ListedObjects
+pub mod ObjectClients
 pub mod Tried
 pub mod Firsts
 pub mod Limits
@@ -18,6 +21,7 @@ pub mod Released
 pub mod Fetched
 pub mod FetchesSeen
 pub mod FetchClients
+pub mod AnswerClients
 mod Served
 pub mod TransactsSeen
 pub mod PaidSteps
@@ -26,6 +30,8 @@ pub mod OneTurn
 pub mod TransactTurns
 mod Waited
 mod WaitsSeen
+mod DurableLogs
+mod FsyncedAll
 mod TransactLoops
 mod TransactsDurably
 pub mod TransactClients

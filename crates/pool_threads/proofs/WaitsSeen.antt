@@ -89,7 +89,7 @@ module _ (keeps : Type 0) (u w : SeenPool) where
         by (inl other) = absurd (let no_way : error.NotReady ≡ error.Suspended = sym is ∙ other in cc)
         by (inr found) = le-leb last_number _ found.1
 
-    syncs_without_log : e ≡ error.NoLogSpace → ⊥
+    pub syncs_without_log : e ≡ error.NoLogSpace → ⊥
     syncs_without_log is = ∥∥₁_elim (there d e seen_by does) ⊥_prop (λ h. by (refusals_up_to _ _ e group.0 moment (last d e seen_by does).due h.0))
       where
         d : Duty

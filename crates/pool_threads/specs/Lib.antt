@@ -8,4 +8,5 @@ pub mod Serves
 pub mod Waits
 pub mod Transacts
 pub mod Fetches
+pub mod Objects
 pub mod Loops

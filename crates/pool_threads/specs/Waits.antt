@@ -1,11 +1,12 @@
 -- What a handle does that waits until a transaction is durable, or until groups are synced.
-use Rattle.std.specs.Prelude.{ℕ, ◌≡◌, ◌≢◌, ◌≤◌, ◌⊎◌, Bool, IsTrue, List, [], ◌∷◌, None, Option, Result, Ok, Err, Some, false, if◌then◌else◌, true}
+use Rattle.std.specs.Prelude.{ℕ, ◌≡◌, ◌≢◌, ◌≤◌, ◌⊎◌, ◌++◌, Bool, IsTrue, List, [], ◌∷◌, None, Option, Result, Ok, Err, Some, false, if◌then◌else◌, slice_get, true}
 use Rattle.base.specs.declared.error.PoolError.{PoolError}
 use Rattle.base.specs.declared.error.PoolError.TheVariants.{NoLogSpace}
 use Rattle.base.specs.declared.names.Group.{Group}
 use Rattle.base.specs.declared.names.Receipt.{Receipt}
 use Rattle.base.specs.declared.step.Reply as declared_reply
 use Rattle.base.specs.declared.step.Reply.TheVariants as reply
+use Rattle.base.specs.history.History.{Entry}
 use Rattle.base.specs.steps.ExactNow.{GoesOn, IsExplainedNow}
 use Rattle.base.specs.steps.Refusals.{fsync_refusal}
 use Rattle.base.specs.steps.Seen.{IsKnownDurable, IsRefusedBetween}
@@ -16,10 +17,11 @@ use Rattle.pool_tables.specs.declared.duty.Duty.TheVariants as duty
 use Rattle.pool_tables.specs.Receipts.{ChecksReceipt}
 use Rattle.pool_threads.specs.declared.handle.Handle.{Handle}
 use Rattle.pool_threads.specs.Answers.{TakesAtLast, TakesOne, state_seen}
-use Rattle.pool_threads.specs.Handles.{HasLooked, moment_of}
+use Rattle.pool_threads.specs.Handles.{HasLooked, moment_of, turns_of, view_seen}
 use Rattle.pool_threads.specs.Serves.{GoesOnAfter, IsDutyTurn, IsRefusedDuty, IsRefusedTurn, IsServedTurn}
-use Rattle.pool_threads.specs.Views.{SeenPool, viewed_state}
+use Rattle.pool_threads.specs.Views.{GrowsTo, SeenPool, viewed_state}
 use Rattle.word_lock.specs.declared.rule.Turn.{Turn}
+use Rattle.word_lock.specs.Turns.{turn}
 
 -- This turn changed nothing, and the receipt was checked in it with this result, of a pool that its past explains.
 pub record FindsReceipt (receipt : Receipt) (result : Result Bool PoolError) (t : Turn SeenPool) : Type 0 where
@@ -61,6 +63,27 @@ pub record IsWaitingRefusal (moment : ℕ) (receipt : Receipt) (e : PoolError) (
   pub explained : IsExplainedNow looked.shown looked.past
   pub not_durable : is_durable looked.shown receipt.ordinal.0 receipt.group.0 ≡ false
   pub refused : IsRefusedAfter moment receipt e looked after
+
+-- after a turn for the log with this last reply a sync does it instead: the log found no space, or the turn ended early
+abbrev pub NeedsSync : Option declared_reply.Reply → Type 0
+NeedsSync None = ⊥
+NeedsSync (Some reply.Flushed) = ⊥
+NeedsSync (Some (reply.Refused e)) = e ≡ NoLogSpace
+NeedsSync (Some r) = Unit {0}
+
+-- what such a turn comes to: nothing is due any more, or a refusal; or None if a sync does it instead
+abbrev pub IsLogOutcome : Option declared_reply.Reply → Option (Result (Unit {0}) PoolError) → Type 0
+IsLogOutcome r (Some (Ok done)) = (r ≡ None) ⊎ (r ≡ Some reply.Flushed)
+IsLogOutcome r (Some (Err e)) = (r ≡ Some (reply.Refused e)) × (e ≢ NoLogSpace)
+IsLogOutcome r None = NeedsSync r
+
+-- each entry of the earlier state is durable in the later one
+abbrev pub AreDurable : State → State → Type 0
+AreDurable at after = (ordinal : ℕ) (e : Entry) → slice_get at.past.entries ordinal ≡ Some e → IsKnownDurable ordinal e.group after
+
+-- a refusal of a step for the log, or for a sync
+abbrev pub IsFsyncAllRefusal : ℕ → PoolError → State → State → Type 0
+IsFsyncAllRefusal moment e before after = IsRefusedDuty duty.CommitLog e before after ⊎ ((group : Group) × IsSyncingRefusal moment group e before after)
 
 -- the group, or the refusal
 abbrev pub result_of : Group → Result (Unit {0}) PoolError → Result Group PoolError
@@ -128,3 +151,28 @@ module _ {Dev : Type 0} {G : Ghosts Dev} where
     pub result : Result (Unit {0}) PoolError
     pub syncs : SyncsUpTo group result looked new
     pub answered : answer ≡ result_of group result
+
+  -- the turn's outcome, or else the handle synced the pool with this result
+  abbrev pub EndsFsync : Option (Result (Unit {0}) PoolError) → Result (Unit {0}) PoolError → Handle Dev G → Handle Dev G → Type 0
+  EndsFsync (Some ended) result wrote new = (result ≡ ended) × (new ≡ wrote)
+  EndsFsync None (Ok done) wrote new = (group : Group) × SyncsPool (Ok group) wrote new
+  EndsFsync None (Err e) wrote new = SyncsPool (Err e) wrote new
+
+  -- The handle wrote the log in one turn. Unless that left nothing to write or to flush, or was refused, it synced the
+  -- pool.
+  pub record FsyncsAll (result : Result (Unit {0}) PoolError) (old new : Handle Dev G) : Type 0 where
+    pub reply : Option declared_reply.Reply
+    pub wrote : Handle Dev G
+    pub writes : WritesLog reply old wrote
+    pub outcome : Option (Result (Unit {0}) PoolError)
+    pub is_outcome : IsLogOutcome reply outcome
+    pub ends : EndsFsync outcome result wrote new
+
+  -- The handle had a first turn, and each commit that was made before that turn is durable now, whoever made it.
+  pub record LeavesAllDurable (old new : Handle Dev G) : Type 0 where
+    pub took : SeenPool
+    pub left : SeenPool
+    pub later : List (Turn SeenPool)
+    pub turns : turns_of new ≡ (turns_of old ++ turn took left ∷ []) ++ later
+    pub onward : GrowsTo (IsTrue G.keeps_model) (view_seen old) took
+    pub durable : ∥ AreDurable (viewed_state took) (state_seen new) ∥₁

@@ -40,6 +40,7 @@
 //! ```
 #![tactic(auto)]
 
+mod answers;
 mod bell;
 mod bells;
 mod calls;
@@ -48,9 +49,12 @@ mod debug;
 mod fetch;
 mod first;
 mod flushers;
+mod fsync_all;
 mod handle;
 mod laws;
+mod limited;
 mod loops;
+mod objects;
 mod one_turn;
 mod owned;
 mod pool;

@@ -102,8 +102,8 @@ impl<'p, D: SectorDevice> Handle<'p, D> {
         unreachable!()
     }
 
-    // Makes a call in one turn, and returns too whether it may pass if it is made again.
-    fn try_call<'a, 'b, W: Wait, C: RetriedCall<D> + Drop>(
+    /// Makes a call in one turn, and returns too whether it may pass if it is made again.
+    pub(crate) fn try_call<'a, 'b, W: Wait, C: RetriedCall<D> + Drop>(
         &'a mut self,
         rt: &'b W,
         call: C,

@@ -10,6 +10,7 @@
 ghost use Rattle.std.specs.Prelude.{◌≡◌, ◌≢◌, ◌≤◌, IfErr, IfOk, IsTrue};
 ghost use Rattle.base.specs.declared.names.Group.{Group};
 ghost use Rattle.base.specs.formats.Limits.{last_number};
+ghost use Rattle.base.specs.steps.ExactNow.{IsExplainedNow};
 ghost use Rattle.pool_threads.specs.Answers.{Sees, TakesOne, state_seen};
 ghost use Rattle.pool_threads.specs.Handles.{HasLooked, moment_of};
 ghost use Rattle.pool_threads.specs.Serves.{IsServedTurn};
@@ -30,6 +31,9 @@ impl<'p, D: SectorDevice> Handle<'p, D> {
     /// It writes the log and flushes it, together with the commits of other handles that wait at the same time. If the
     /// log finds no block, it syncs groups until the transaction's group is synced. Transactions that are open in these
     /// groups have to end first.
+    ///
+    /// It waits for that transaction alone. One that was committed before may be of a later group, so the newest
+    /// receipt doesn't promise the older ones: `fsync_all` does.
     ///
     /// # Errors
     /// Those of the tests in this order, `Suspended`, or `BadRange` if no such transaction was committed, unless the
@@ -169,6 +173,8 @@ impl<'p, D: SectorDevice> Handle<'p, D> {
         ensures served { TakesOne (IsServedTurn (IsTrue D.keeps_model) duty result.0)
             self.old self.new }
         ensures synced { result.1.0 ≡ (state_seen self.new).shown.line.synced }
+        ensures explained { ∥ IsExplainedNow (state_seen self.new).shown
+            (state_seen self.new).past ∥₁ }
     {
         let guard = self.seat.acquire(rt, &self.shared.lock);
         let (reply, synced) = serve_turn(guard, duty);

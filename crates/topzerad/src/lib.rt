@@ -10,11 +10,13 @@
 //!    [`inspect`] only shows what is there.
 //! 3. **A [`Handle`]** makes the calls of a thread. `transact` commits operations whole, or returns why it refused
 //!    them. `fetch` reads a range. To read several as they are at one moment, `lock` them first: nobody changes them
-//!    until they are unlocked. `transact_locked` commits under such locks, so that what was read still stands. An
-//!    [`Owner`] is a number for who holds locks and transactions; each thread takes one of its own.
+//!    until they are unlocked. `transact_locked` commits under such locks, so that what was read still stands.
+//!    `objects` lists what is there, and `status`, `name`, `digest` and `durable` answer too. An [`Owner`] is a number
+//!    for who holds locks and transactions; each thread takes one of its own.
 //! 4. **`transact_durably`** returns once no power failure loses the commit, and so does `fsync` of a receipt. Both
 //!    write the intent log and flush it; threads that wait at once share one flush. A commit that nobody waited for
-//!    may be lost, until its [`Group`] is synced.
+//!    may be lost, until its [`Group`] is synced. The newest receipt doesn't promise older ones: `fsync_all` waits for
+//!    each commit so far.
 //! 5. **A sync** writes the objects of a group to their places. `sync_pool` syncs all that was committed before. A
 //!    program that writes for long has two threads for it: `quiescer` and `syncer` of a handle each run until
 //!    `Pool::stop`. A write or a flush is made under the pool's lock, so other threads wait for it.

@@ -1,16 +1,19 @@
 //! What callers rest on of calls that make the steps that are due, told by turns and views.
-ghost use Rattle.std.specs.Prelude.{◌≡◌, ◌≢◌, ◌⊎◌, ◌++◌, ◌∷◌, [], All, IfErr, IsTrue, List, Ok, Option, Some, true};
+ghost use Rattle.std.specs.Prelude.{ℕ, ◌≡◌, ◌≢◌, ◌⊎◌, ◌++◌, ◌∷◌, [], All, IfErr, IfOk, IsTrue, List, None, Ok, Option, Some, false, slice_get, true};
 ghost use Rattle.base.specs.declared.error.PoolError.{PoolError};
 ghost use Rattle.base.specs.declared.error.PoolError.TheVariants as error;
 ghost use Rattle.base.specs.declared.step.Reply as declared_reply;
 ghost use Rattle.base.specs.declared.step.Reply.TheVariants as reply;
+ghost use Rattle.base.specs.history.History.{Entry};
+ghost use Rattle.base.specs.steps.Seen.{IsKnownDurable};
 ghost use Rattle.base.specs.steps.Shown.{is_durable};
 ghost use Rattle.pool_tables.specs.declared.duty.Duty.{Duty};
 ghost use Rattle.pool_tables.specs.declared.duty.Duty.TheVariants as duty;
-ghost use Rattle.pool_threads.specs.Answers.{Takes, TakesAtLast};
+ghost use Rattle.pool_threads.specs.Answers.{Sees, Takes, TakesAtLast, TakesOne, state_seen};
 ghost use Rattle.pool_threads.specs.Handles.{moment_of, turns_of, view_seen};
 ghost use Rattle.pool_threads.specs.Serves.{AreDue, IsServedTurn};
 ghost use Rattle.pool_threads.specs.Views.{GrowsTo, SeenPool, viewed_state};
+ghost use Rattle.pool_threads.specs.declared.handle.Handle.{Handle};
 ghost use Rattle.word_lock.specs.declared.rule.Turn.{Turn};
 ghost use Rattle.word_lock.specs.Turns.{turn};
 
@@ -88,4 +91,43 @@ fn a_syncer_that_ends_early_was_refused_in_its_last_turn<D: SectorDevice, W: Wai
         handle.old handle.new) }
 {
     handle.syncer(rt)
+}
+
+// Of the state that its first turn took: so it is of a commit of any thread that came before the call.
+fn a_wait_for_all_leaves_each_earlier_commit_durable<D: SectorDevice, W: Wait>(
+    rt: &W,
+    handle: &mut Handle<'_, D>,
+) -> Result<(), PoolError>
+    ensures first { IfOk result (λ _. (took : SeenPool) × (left : SeenPool)
+        × (rest : List (Turn SeenPool))
+        × (turns_of handle.new ≡ (turns_of handle.old ++ turn took left ∷ []) ++ rest)
+        × ∥ ((o : ℕ) (e : Entry) → slice_get took.past.entries o ≡ Some e
+        → IsKnownDurable o e.group (state_seen handle.new)) ∥₁) }
+    ensures seen { IfOk result (λ _. Sees (λ before after. (e : Entry)
+        → slice_get before.past.entries 3 ≡ Some e → IsKnownDurable 3 e.group after)
+        handle.old handle.new) }
+{
+    handle.fsync_all(rt)
+}
+
+// It writes the log in its first turn. If nothing is due for it, it does no more.
+fn a_wait_for_all_that_finds_nothing_to_write_ends<D: SectorDevice, W: Wait>(
+    rt: &W,
+    handle: &mut Handle<'_, D>,
+) -> Result<(), PoolError>
+    ensures { (r : Option declared_reply.Reply) × (wrote : Handle _ _)
+        × TakesOne (IsServedTurn (IsTrue D.keeps_model) duty.CommitLog r) handle.old wrote
+        × (r ≡ None → (result ≡ Ok tt) × (handle.new ≡ wrote)) }
+{
+    handle.fsync_all(rt)
+}
+
+fn a_wait_for_all_is_never_refused_for_log_space<D: SectorDevice, W: Wait>(
+    rt: &W,
+    handle: &mut Handle<'_, D>,
+) -> bool
+    ensures { result ≡ false }
+{
+    let answer = handle.fsync_all(rt);
+    matches!(answer, Err(PoolError::NoLogSpace))
 }

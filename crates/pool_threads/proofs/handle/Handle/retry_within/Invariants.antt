@@ -1,0 +1,6 @@
+use Rattle.pool_threads.specs.Answers.{Tries}
+use Rattle.pool_threads.proofs.handle.Handle.retry_within.Given as goal
+
+-- so far the handle only tried
+abbrev pub invariant-loop : goal.invariant-loop
+invariant-loop g l = Tries (g.C.PoolCall.step l.initial.call) g.C.RetriedCall.retried l.initial.self l.self
