@@ -1,0 +1,5 @@
+pub mod Limits
+pub mod Requests
+pub mod Reading
+pub mod Answers
+pub mod Laws
