@@ -22,7 +22,7 @@ use std::alloc::Global;
 ///
 /// `NoMemory` if there is no memory for the requests. Else the first of these that applies, from left to right:
 ///
-/// - `CutOff` if the bytes end within the head or within a request.
+/// - `CutOff` if the bytes end within the head, or within a request but not in its log record.
 /// - `BadLength` if the frame says another length than it has, or one above [`MAX_FRAME`].
 /// - `BadVersion` and `BadKind` if it is of another version, or no frame of requests.
 /// - `BadCall` if no call has the number of a request's; `BadRecord` if a transaction is no log record.

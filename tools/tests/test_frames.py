@@ -1,0 +1,110 @@
+"""Frames as docs/FORMATS.md, 14, spells them, and frames that are none."""
+
+import io
+import struct
+import unittest
+
+from tools.model.formats import TEXT
+from tools.model.frames import (
+    ANSWERS_TOO_LONG,
+    BAD_CALL,
+    BAD_KIND,
+    BAD_LENGTH,
+    BAD_RECORD,
+    BAD_VERSION,
+    CALLS,
+    CUT_OFF,
+    SURPLUS,
+    Answer,
+    Refused,
+    Request,
+    Server,
+    answers_frame,
+    frame,
+    read_answers,
+    read_requests,
+    refused,
+    refused_frame,
+    requests_frame,
+)
+
+CREATE = [("c", 1, 0, b"")]
+
+REQUESTS = {
+    "15000000 0100 0100 01000000 0500000000000000 06": Request(5, "status", ()),
+    "30000000 0100 0100 01000000 0200000000000000 01": Request(2, "transact", CREATE),
+}
+
+ANSWERS = {
+    "25000000 0100 0200 01000000 0200000000000000 01 0300000000000000 0900000000000000": Answer(
+        2, 1, struct.pack("<QQ", 3, 9)
+    ),
+    "26000000 0100 0200 01000000 0200000000000000 00 10 0000000000000000 0000000000000000": refused(2, 16),
+}
+
+# One request of each call.
+EACH = [
+    Request(number, call, CREATE if call.startswith("transact") else (1, 2, 3)[: {"read": 3, "length": 1}.get(call, 2)])
+    for number, call in enumerate(("transact", "transact_durably", "read", "length", "objects", "durable"))
+] + [Request(7, call, ()) for call in ("status", "flush", "sync", "name")]
+
+
+class Frames(unittest.TestCase):
+    def test_requests_are_spelled_so(self):
+        for spelled, request in REQUESTS.items():
+            self.assertIn(f"`{spelled}`", TEXT)
+            self.assertTrue(requests_frame([request]).startswith(bytes.fromhex(spelled)))
+
+    def test_answers_are_spelled_so(self):
+        for spelled, answer in ANSWERS.items():
+            self.assertIn(f"`{spelled}`", TEXT)
+            self.assertEqual(answers_frame([answer]), bytes.fromhex(spelled))
+            self.assertEqual(read_answers(bytes.fromhex(spelled)), [answer])
+        self.assertIn("`0c000000 0100 0300 06000000`", TEXT)
+        self.assertEqual(refused_frame(6), bytes.fromhex("0c000000 0100 0300 06000000"))
+
+    def test_what_is_written_is_read(self):
+        self.assertEqual({request.call for request in EACH}, set(CALLS))
+        self.assertEqual(read_requests(requests_frame(EACH)), EACH)
+        self.assertEqual(read_requests(requests_frame([])), [])
+
+    def refuses(self, number, content):
+        with self.assertRaises(Refused) as caught:
+            read_requests(content)
+        self.assertEqual(caught.exception.number, number)
+
+    def test_what_is_none_is_refused(self):
+        whole = requests_frame(EACH)
+        status = requests_frame([Request(5, "status", ())])
+        self.refuses(CUT_OFF, b"\x0c\0\0")
+        self.refuses(BAD_LENGTH, whole[:-1])
+        self.refuses(BAD_LENGTH, whole + b"\0")
+        self.refuses(BAD_VERSION, status[:4] + b"\2" + status[5:])
+        self.refuses(BAD_KIND, status[:6] + b"\2" + status[7:])
+        self.refuses(CUT_OFF, status[:8] + b"\2" + status[9:])
+        self.refuses(SURPLUS, status[:8] + b"\0" + status[9:])
+        self.refuses(BAD_CALL, status[:-1] + b"\x0b")
+        self.refuses(BAD_CALL, status[:-1] + b"\0")
+        self.refuses(BAD_RECORD, frame(1, 1, struct.pack("<QB", 1, 1)))
+        self.refuses(BAD_RECORD, requests_frame([Request(1, "transact", [])]))
+
+    def test_the_most_requests(self):
+        """docs/FORMATS.md, 14: 52,428 requests, and 12 reads of whole objects."""
+        self.assertEqual(len(read_requests(requests_frame([Request(1, "name", ())] * 52_428))), 52_428)
+        self.refuses(ANSWERS_TOO_LONG, requests_frame([Request(1, "name", ())] * 52_429))
+        whole = Request(1, "read", (1, 0, 338_688))
+        self.assertEqual(len(read_requests(requests_frame([whole] * 12))), 12)
+        self.refuses(ANSWERS_TOO_LONG, requests_frame([whole] * 13))
+
+
+class Serving(unittest.TestCase):
+    def test_a_stream_is_answered_frame_by_frame(self):
+        source = io.BytesIO(requests_frame(EACH) + requests_frame([Request(5, "status", ())])[:-1] + b"\x0b")
+        sink = io.BytesIO()
+        Server().serve(source, sink)
+        whole = sink.getvalue()
+        (length,) = struct.unpack_from("<I", whole)
+        answers = read_answers(whole[:length])
+        self.assertEqual([answer.number for answer in answers], [request.number for request in EACH])
+        self.assertEqual([answer.came for answer in answers], [1, 0, 3, 4, 5, 7, 6, 8, 9, 10])
+        self.assertEqual(read_answers(whole[length:]), BAD_CALL)
