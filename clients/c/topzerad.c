@@ -1,0 +1,495 @@
+/* Calls of all threads are queued. The first thread that finds no leader sends all that are queued as one frame, reads
+ * the answers into the memory of their callers, and wakes them. While it waits, the next ones gather. */
+#define _GNU_SOURCE
+#include "topzerad.h"
+
+#include <errno.h>
+#include <spawn.h>
+#include <string.h>
+#include <sys/socket.h>
+#include <sys/wait.h>
+#include <unistd.h>
+
+extern char **environ;
+
+enum { HEAD = 12, MAX_FRAME = 4194304, VERSION = 1, REQUESTS = 1, ANSWERS = 2, REFUSED_FRAME = 3 };
+enum { LEAST_ROOM = 80, LISTED = 12, RECORD_HEAD = 22 };
+enum { TRANSACT = 1, TRANSACT_DURABLY, READ, LENGTH, OBJECTS, STATUS, DURABLE, FLUSH, SYNC, NAME, NOT_DURABLE };
+
+/* A call that waits for its answer, on its caller's stack. */
+typedef struct topzerad_call {
+    uint8_t number;
+    uint8_t fields[20];
+    size_t field_count;
+    const uint8_t *content;
+    size_t content_count;
+    size_t room;              /* the bytes that are kept for its answer */
+    void *into;               /* where the bytes or the objects of its answer go, and how many fit */
+    size_t most, count;
+    uint64_t values[7];       /* the numbers of its answer */
+    int refusal, committed, done;
+    struct topzerad_call *next;
+} call;
+
+static void put(uint8_t *to, uint64_t value, size_t count) {
+    for (size_t i = 0; i < count; i++) to[i] = (uint8_t)(value >> (8 * i));
+}
+
+static uint64_t get(const uint8_t *from, size_t count) {
+    uint64_t value = 0;
+    for (size_t i = 0; i < count; i++) value |= (uint64_t)from[i] << (8 * i);
+    return value;
+}
+
+/* Transactions: the bytes of a log record, whose group and ordinal stay 0. */
+
+void topzerad_tx_start(topzerad_tx *tx, void *memory, size_t size) {
+    tx->bytes = memory;
+    tx->room = size < TOPZERAD_MAX_RECORD ? size : TOPZERAD_MAX_RECORD;
+    tx->length = RECORD_HEAD;
+    tx->count = 0;
+    memset(tx->bytes, 0, RECORD_HEAD);
+    put(tx->bytes, RECORD_HEAD, 4);
+}
+
+static uint8_t *add(topzerad_tx *tx, uint8_t tag, size_t size) {
+    if (size > tx->room || tx->length > tx->room - size) return NULL;
+    uint8_t *op = tx->bytes + tx->length;
+    tx->length += size;
+    tx->count++;
+    put(tx->bytes, tx->length, 4);
+    put(tx->bytes + 20, tx->count, 2);
+    op[0] = tag;
+    return op;
+}
+
+static int add_object(topzerad_tx *tx, uint8_t tag, uint32_t object) {
+    uint8_t *op = add(tx, tag, 5);
+    if (!op) return TOPZERAD_TOO_LARGE;
+    put(op + 1, object, 4);
+    return 0;
+}
+
+int topzerad_tx_create(topzerad_tx *tx, uint32_t object) { return add_object(tx, 1, object); }
+
+int topzerad_tx_remove(topzerad_tx *tx, uint32_t object) { return add_object(tx, 2, object); }
+
+int topzerad_tx_write(topzerad_tx *tx, uint32_t object, uint64_t offset, const void *bytes, size_t count) {
+    uint8_t *op = count > TOPZERAD_MAX_RECORD ? NULL : add(tx, 3, 17 + count);
+    if (!op) return TOPZERAD_TOO_LARGE;
+    put(op + 1, object, 4);
+    put(op + 5, offset, 8);
+    put(op + 13, count, 4);
+    if (count) memcpy(op + 17, bytes, count);
+    return 0;
+}
+
+int topzerad_tx_set_length(topzerad_tx *tx, uint32_t object, uint64_t length) {
+    uint8_t *op = add(tx, 4, 13);
+    if (!op) return TOPZERAD_TOO_LARGE;
+    put(op + 1, object, 4);
+    put(op + 5, length, 8);
+    return 0;
+}
+
+int topzerad_tx_set_name(topzerad_tx *tx, const void *name, size_t count) {
+    uint8_t *op = count > TOPZERAD_MAX_RECORD ? NULL : add(tx, 5, 5 + count);
+    if (!op) return TOPZERAD_TOO_LARGE;
+    put(op + 1, count, 4);
+    if (count) memcpy(op + 5, name, count);
+    return 0;
+}
+
+/* The socket, through the pool's buffer. Each returns 0, or -1 if the process is gone. */
+
+static int send_all(topzerad *pool, const uint8_t *from, size_t count) {
+    while (count) {
+        ssize_t sent = send(pool->socket, from, count, MSG_NOSIGNAL);
+        if (sent < 0 && errno == EINTR) continue;
+        if (sent <= 0) return -1;
+        from += sent;
+        count -= (size_t)sent;
+    }
+    return 0;
+}
+
+static int empty_out(topzerad *pool) {
+    size_t used = pool->used;
+    pool->used = 0;
+    return send_all(pool, pool->bytes, used);
+}
+
+static int put_out(topzerad *pool, const uint8_t *from, size_t count) {
+    if (count > sizeof pool->bytes - pool->used && empty_out(pool)) return -1;
+    if (count > sizeof pool->bytes) return send_all(pool, from, count);
+    if (count) memcpy(pool->bytes + pool->used, from, count);
+    pool->used += count;
+    return 0;
+}
+
+static ssize_t receive(topzerad *pool, void *into, size_t count) {
+    ssize_t got;
+    do got = recv(pool->socket, into, count, 0);
+    while (got < 0 && errno == EINTR);
+    return got;
+}
+
+/* Takes bytes of an answer, and counts them off what is left of its frame. */
+static int take_in(topzerad *pool, void *to, size_t count, size_t *left) {
+    uint8_t *into = to;
+    if (count > *left) return -1;
+    *left -= count;
+    while (count) {
+        size_t there = pool->used - pool->taken;
+        if (!there && count >= sizeof pool->bytes) {
+            ssize_t got = receive(pool, into, count);
+            if (got <= 0) return -1;
+            into += got;
+            count -= (size_t)got;
+            continue;
+        }
+        if (!there) {
+            ssize_t got = receive(pool, pool->bytes, sizeof pool->bytes);
+            if (got <= 0) return -1;
+            pool->used = (size_t)got;
+            pool->taken = 0;
+            continue;
+        }
+        if (there > count) there = count;
+        memcpy(into, pool->bytes + pool->taken, there);
+        pool->taken += there;
+        into += there;
+        count -= there;
+    }
+    return 0;
+}
+
+/* Frames. */
+
+static size_t size_of(const call *c) { return 9 + c->field_count + c->content_count; }
+
+static int send_frame(topzerad *pool, const call *calls) {
+    uint8_t head[HEAD], start[9];
+    size_t size = HEAD;
+    uint64_t count = 0;
+    for (const call *c = calls; c; c = c->next, count++) size += size_of(c);
+    put(head, size, 4);
+    put(head + 4, VERSION, 2);
+    put(head + 6, REQUESTS, 2);
+    put(head + 8, count, 4);
+    pool->used = 0;
+    if (put_out(pool, head, HEAD)) return -1;
+    count = 0;
+    for (const call *c = calls; c; c = c->next, count++) {
+        put(start, count, 8);
+        start[8] = c->number;
+        if (put_out(pool, start, 9) || put_out(pool, c->fields, c->field_count)
+            || put_out(pool, c->content, c->content_count))
+            return -1;
+    }
+    return empty_out(pool);
+}
+
+static int read_values(topzerad *pool, call *c, size_t count, size_t *left) {
+    uint8_t bytes[56];
+    if (take_in(pool, bytes, 8 * count, left)) return -1;
+    for (size_t i = 0; i < count; i++) c->values[i] = get(bytes + 8 * i, 8);
+    return 0;
+}
+
+static int read_refusal(topzerad *pool, call *c, size_t *left) {
+    uint8_t bytes[17];
+    if (take_in(pool, bytes, 17, left)) return -1;
+    c->refusal = bytes[0];
+    return c->refusal ? 0 : -1;
+}
+
+static int read_count(topzerad *pool, call *c, size_t *left) {
+    uint8_t bytes[4];
+    if (take_in(pool, bytes, 4, left)) return -1;
+    c->count = get(bytes, 4);
+    return c->count > c->most ? -1 : 0;
+}
+
+static int read_objects(topzerad *pool, call *c, size_t *left) {
+    topzerad_listed *listed = c->into;
+    uint8_t bytes[LISTED];
+    if (read_count(pool, c, left)) return -1;
+    for (size_t i = 0; i < c->count; i++) {
+        if (take_in(pool, bytes, LISTED, left)) return -1;
+        listed[i].object = (uint32_t)get(bytes, 4);
+        listed[i].length = get(bytes + 4, 8);
+    }
+    return 0;
+}
+
+/* Reads what came of a call. */
+static int read_outcome(topzerad *pool, call *c, uint8_t came, size_t *left) {
+    uint8_t byte;
+    if (came == 0) return read_refusal(pool, c, left);
+    if (came == NOT_DURABLE && c->number == TRANSACT_DURABLY) {
+        c->committed = 1;
+        return read_values(pool, c, 2, left) || read_refusal(pool, c, left) ? -1 : 0;
+    }
+    if (came != c->number) return -1;
+    switch (came) {
+    case TRANSACT:
+    case TRANSACT_DURABLY:
+        c->committed = 1;
+        return read_values(pool, c, 2, left);
+    case READ:
+    case NAME:
+        return read_count(pool, c, left) || take_in(pool, c->into, c->count, left) ? -1 : 0;
+    case LENGTH:
+    case SYNC:
+        return read_values(pool, c, 1, left);
+    case OBJECTS:
+        return read_objects(pool, c, left);
+    case STATUS:
+        return read_values(pool, c, 7, left);
+    case DURABLE:
+        if (take_in(pool, &byte, 1, left)) return -1;
+        c->values[0] = byte;
+        return 0;
+    default:
+        return 0;
+    }
+}
+
+static int read_frame(topzerad *pool, call *calls) {
+    uint8_t head[HEAD], start[9];
+    size_t left = HEAD;
+    uint64_t count = 0;
+    pool->used = pool->taken = 0;
+    if (take_in(pool, head, HEAD, &left)) return -1;
+    uint64_t size = get(head, 4), kind = get(head + 6, 2), said = get(head + 8, 4);
+    if (get(head + 4, 2) != VERSION || size < HEAD || size > MAX_FRAME) return -1;
+    left = size - HEAD;
+    if (kind == REFUSED_FRAME) {
+        for (call *c = calls; c; c = c->next) c->refusal = TOPZERAD_FRAME + (int)said;
+        return left ? -1 : 0;
+    }
+    if (kind != ANSWERS) return -1;
+    for (call *c = calls; c; c = c->next, count++) {
+        if (take_in(pool, start, 9, &left) || get(start, 8) != count) return -1;
+        if (read_outcome(pool, c, start[8], &left)) return -1;
+    }
+    return left || said != count ? -1 : 0;
+}
+
+/* Calls. */
+
+/* Takes the calls that fit one frame off the queue. */
+static call *take_calls(topzerad *pool) {
+    call *first = pool->first, *last = first;
+    size_t size = HEAD + size_of(first), room = HEAD + first->room;
+    while (last->next) {
+        size += size_of(last->next);
+        room += last->next->room;
+        if (size > MAX_FRAME || room > MAX_FRAME) break;
+        last = last->next;
+    }
+    pool->first = last->next;
+    if (!pool->first) pool->last = &pool->first;
+    last->next = NULL;
+    return first;
+}
+
+/* Queues a call, and returns its refusal once it is answered. */
+static int make(topzerad *pool, call *c) {
+    c->next = NULL;
+    pthread_mutex_lock(&pool->lock);
+    *pool->last = c;
+    pool->last = &c->next;
+    while (!c->done) {
+        if (pool->led) {
+            pthread_cond_wait(&pool->turn, &pool->lock);
+            continue;
+        }
+        call *calls = take_calls(pool);
+        int failed = pool->ended;
+        pool->led = 1;
+        pthread_mutex_unlock(&pool->lock);
+        failed = failed || send_frame(pool, calls) || read_frame(pool, calls);
+        pthread_mutex_lock(&pool->lock);
+        if (failed) pool->ended = 1;
+        for (call *next; calls; calls = next) {
+            next = calls->next;
+            if (failed) calls->refusal = TOPZERAD_ENDED;
+            calls->done = 1;
+        }
+        pool->led = 0;
+        pthread_cond_broadcast(&pool->turn);
+    }
+    pthread_mutex_unlock(&pool->lock);
+    return c->refusal;
+}
+
+static void add_field(call *c, uint64_t value, size_t count) {
+    put(c->fields + c->field_count, value, count);
+    c->field_count += count;
+}
+
+static call new_call(uint8_t number) {
+    call c;
+    memset(&c, 0, sizeof c);
+    c.number = number;
+    c.room = LEAST_ROOM;
+    return c;
+}
+
+int topzerad_transact(topzerad *pool, const topzerad_tx *tx, int durable, topzerad_receipt *receipt, int *committed) {
+    call c = new_call(durable ? TRANSACT_DURABLY : TRANSACT);
+    c.content = tx->bytes;
+    c.content_count = tx->length;
+    int refusal = make(pool, &c);
+    if (receipt) *receipt = (topzerad_receipt){c.values[0], c.values[1]};
+    if (committed) *committed = c.committed;
+    return refusal;
+}
+
+int topzerad_read(topzerad *pool, uint32_t object, uint64_t low, uint64_t high, void *into, size_t *count) {
+    call c = new_call(READ);
+    add_field(&c, object, 4);
+    add_field(&c, low, 8);
+    add_field(&c, high, 8);
+    c.into = into;
+    c.most = high > low ? high - low : 0;
+    if (c.most > TOPZERAD_MAX_LENGTH) c.most = TOPZERAD_MAX_LENGTH;
+    c.room += c.most;
+    int refusal = make(pool, &c);
+    *count = refusal ? 0 : c.count;
+    return refusal;
+}
+
+int topzerad_length(topzerad *pool, uint32_t object, uint64_t *length) {
+    call c = new_call(LENGTH);
+    add_field(&c, object, 4);
+    int refusal = make(pool, &c);
+    *length = c.values[0];
+    return refusal;
+}
+
+int topzerad_objects(topzerad *pool, uint32_t first, uint32_t past, topzerad_listed *into, size_t *count) {
+    call c = new_call(OBJECTS);
+    add_field(&c, first, 4);
+    add_field(&c, past, 4);
+    c.into = into;
+    c.most = past > first ? past - first : 0;
+    if (c.most > TOPZERAD_OBJECTS) c.most = TOPZERAD_OBJECTS;
+    c.room += LISTED * c.most;
+    int refusal = make(pool, &c);
+    *count = refusal ? 0 : c.count;
+    return refusal;
+}
+
+int topzerad_state(topzerad *pool, topzerad_status *status) {
+    call c = new_call(STATUS);
+    int refusal = make(pool, &c);
+    const uint64_t *v = c.values;
+    *status = (topzerad_status){v[0], v[1], v[2], v[3], v[4], v[5], v[6]};
+    return refusal;
+}
+
+int topzerad_durable(topzerad *pool, topzerad_receipt receipt, int *durable) {
+    call c = new_call(DURABLE);
+    add_field(&c, receipt.ordinal, 8);
+    add_field(&c, receipt.group, 8);
+    int refusal = make(pool, &c);
+    *durable = c.values[0] != 0;
+    return refusal;
+}
+
+int topzerad_flush(topzerad *pool) {
+    call c = new_call(FLUSH);
+    return make(pool, &c);
+}
+
+int topzerad_sync(topzerad *pool, uint64_t *group) {
+    call c = new_call(SYNC);
+    int refusal = make(pool, &c);
+    if (group) *group = c.values[0];
+    return refusal;
+}
+
+int topzerad_name(topzerad *pool, char name[TOPZERAD_MAX_NAME + 1]) {
+    call c = new_call(NAME);
+    c.into = name;
+    c.most = TOPZERAD_MAX_NAME;
+    int refusal = make(pool, &c);
+    name[refusal ? 0 : c.count] = 0;
+    return refusal;
+}
+
+/* The process. */
+
+int topzerad_open(topzerad *pool, const char *program, const char *path) {
+    int ends[2];
+    char *words[] = {(char *)program, "serve", (char *)path, NULL};
+    posix_spawn_file_actions_t actions;
+    if (socketpair(AF_UNIX, SOCK_STREAM | SOCK_CLOEXEC, 0, ends)) return TOPZERAD_SYSTEM;
+    int failed = posix_spawn_file_actions_init(&actions);
+    if (!failed) {
+        failed = posix_spawn_file_actions_adddup2(&actions, ends[1], 0);
+        if (!failed) failed = posix_spawn_file_actions_adddup2(&actions, ends[1], 1);
+        if (!failed) failed = posix_spawnp(&pool->process, program, &actions, NULL, words, environ);
+        posix_spawn_file_actions_destroy(&actions);
+    }
+    close(ends[1]);
+    if (failed) {
+        close(ends[0]);
+        errno = failed;
+        return TOPZERAD_SYSTEM;
+    }
+    pool->socket = ends[0];
+    pool->led = pool->ended = 0;
+    pool->first = NULL;
+    pool->last = &pool->first;
+    pool->used = pool->taken = 0;
+    pthread_mutex_init(&pool->lock, NULL);
+    pthread_cond_init(&pool->turn, NULL);
+    return 0;
+}
+
+int topzerad_close(topzerad *pool) {
+    int status = 0;
+    shutdown(pool->socket, SHUT_WR);
+    while (waitpid(pool->process, &status, 0) < 0 && errno == EINTR) continue;
+    close(pool->socket);
+    pthread_mutex_destroy(&pool->lock);
+    pthread_cond_destroy(&pool->turn);
+    return WIFEXITED(status) && WEXITSTATUS(status) == 0 ? 0 : TOPZERAD_ENDED;
+}
+
+const char *topzerad_text(int refusal) {
+    static const char *const texts[] = {
+        "done",
+        "there is no memory for the call",
+        "the device refused a read",
+        "the device refused a write",
+        "the device refused a flush",
+        "the pool is suspended: a write or a flush was refused before",
+        "the device holds no pool",
+        "a block is damaged",
+        "a pool can't have the size of this device",
+        "there is no such object",
+        "the object exists already",
+        "a number, a range, a plan, a name or a limit is out of bounds",
+        "the operations are not those of the transaction's plan",
+        "no lock of the owner covers the range",
+        "the range overlaps one that is locked",
+        "an open transaction uses the lock",
+        "there are not enough free blocks",
+        "too many bytes are not synced yet",
+        "the transaction is too long",
+        "no such transaction is open",
+        "the transaction groups are not ready for this step",
+        "the owner holds no such lock",
+        "there are as many locks or transactions as there may be",
+        "there is no block for the log, or no log number is left",
+    };
+    if (refusal >= 0 && refusal < (int)(sizeof texts / sizeof *texts)) return texts[refusal];
+    if (refusal == TOPZERAD_SYSTEM) return "a call of the system failed";
+    if (refusal == TOPZERAD_ENDED) return "the process with the pool ended";
+    return "the frame was refused";
+}

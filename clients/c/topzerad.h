@@ -1,0 +1,139 @@
+/* topzerad.h: a pool of numbered objects in a file, changed by transactions that survive a power failure.
+ *
+ * topzerad_open starts `PROGRAM serve FILE`, a process that has the pool. Calls are sent to it as frames
+ * (docs/FORMATS.md, "Frames"). Any thread may make any call at any time. What several threads ask at once is sent in one
+ * frame, so their durable transactions share one flush.
+ *
+ * Each call returns 0 or a refusal; topzerad_text has its words. A refused transaction changes nothing. After
+ * TOPZERAD_WRITE and TOPZERAD_FLUSH the pool is suspended: close it and open it again. All memory is the caller's: the
+ * library takes none, and keeps nothing that is passed after the call.
+ */
+#ifndef TOPZERAD_H
+#define TOPZERAD_H
+
+#include <pthread.h>
+#include <stddef.h>
+#include <stdint.h>
+#include <sys/types.h>
+
+#ifdef __cplusplus
+extern "C" {
+#endif
+
+enum {
+    TOPZERAD_OK = 0,
+    /* Refusals of the pool. */
+    TOPZERAD_NO_MEMORY = 1,
+    TOPZERAD_READ = 2,
+    TOPZERAD_WRITE = 3,
+    TOPZERAD_FLUSH = 4,
+    TOPZERAD_SUSPENDED = 5,
+    TOPZERAD_NO_POOL = 6,
+    TOPZERAD_DAMAGED = 7,
+    TOPZERAD_BAD_GEOMETRY = 8,
+    TOPZERAD_NO_OBJECT = 9,
+    TOPZERAD_EXISTS = 10,
+    TOPZERAD_BAD_RANGE = 11,
+    TOPZERAD_OUT_OF_PLAN = 12,
+    TOPZERAD_NOT_LOCKED = 13,
+    TOPZERAD_BUSY = 14,
+    TOPZERAD_LOCK_IN_USE = 15,
+    TOPZERAD_NO_SPACE = 16,
+    TOPZERAD_THROTTLED = 17,
+    TOPZERAD_TOO_LARGE = 18,
+    TOPZERAD_NO_SUCH_TRANSACTION = 19,
+    TOPZERAD_NOT_READY = 20,
+    TOPZERAD_NO_SUCH_LOCK = 21,
+    TOPZERAD_TOO_MANY = 22,
+    TOPZERAD_NO_LOG_SPACE = 23,
+    /* The frame was refused: 100 and its number. None of its calls was made. */
+    TOPZERAD_FRAME = 100,
+    /* A call of the system failed: errno has its cause. */
+    TOPZERAD_SYSTEM = 200,
+    /* The process ended, or answered what is no frame. What was not durable may be lost. */
+    TOPZERAD_ENDED = 201
+};
+
+#define TOPZERAD_OBJECTS 5292u       /* objects have the numbers below this */
+#define TOPZERAD_MAX_LENGTH 338688u  /* the most bytes of an object */
+#define TOPZERAD_MAX_RECORD 65536u   /* the most bytes of a transaction */
+#define TOPZERAD_MAX_NAME 64u        /* the most bytes of a name */
+
+/* A pool that is open, in the caller's memory. Its fields are the library's. */
+typedef struct topzerad {
+    int socket;
+    pid_t process;
+    pthread_mutex_t lock;
+    pthread_cond_t turn;
+    int led, ended;
+    struct topzerad_call *first, **last;
+    uint8_t bytes[65536];
+    size_t used, taken;
+} topzerad;
+
+/* Where a transaction stands in the history since the pool was opened, and its group. */
+typedef struct {
+    uint64_t ordinal, group;
+} topzerad_receipt;
+
+/* The groups, 0 for one that isn't there; bytes charged to unsynced groups; blocks. */
+typedef struct {
+    uint64_t synced, syncing, middle, open, dirty, free, available;
+} topzerad_status;
+
+typedef struct {
+    uint32_t object;
+    uint64_t length;
+} topzerad_listed;
+
+/* The operations of one transaction: all take place, or none. */
+typedef struct {
+    uint8_t *bytes;
+    size_t room, length;
+    uint32_t count;
+} topzerad_tx;
+
+/* Begins a transaction without operations, in memory of at least 22 bytes. An operation takes 5 bytes more for a create
+ * or a remove, 13 for a length, 17 and its bytes for a write, 5 and its bytes for a name. */
+void topzerad_tx_start(topzerad_tx *tx, void *memory, size_t size);
+/* Each adds an operation. TOPZERAD_TOO_LARGE if there is no room for it, or above 65,536 bytes: nothing is added. */
+int topzerad_tx_create(topzerad_tx *tx, uint32_t object);
+int topzerad_tx_remove(topzerad_tx *tx, uint32_t object);
+int topzerad_tx_write(topzerad_tx *tx, uint32_t object, uint64_t offset, const void *bytes, size_t count);
+int topzerad_tx_set_length(topzerad_tx *tx, uint32_t object, uint64_t length);
+int topzerad_tx_set_name(topzerad_tx *tx, const void *name, size_t count);
+
+/* Starts `program serve path`. `ztxg create` makes a pool. What keeps the process from opening it is told by the first
+ * call: TOPZERAD_ENDED. */
+int topzerad_open(topzerad *pool, const char *program, const char *path);
+/* Ends the process once it has synced the pool, and waits for its end. TOPZERAD_ENDED if it did not end well. No other
+ * call may run. */
+int topzerad_close(topzerad *pool);
+
+/* Commits a transaction. If `durable`, it returns once no power failure loses it. The receipt may be NULL. `committed`
+ * may be NULL too; after a refusal it says whether the transaction took place but could not be made durable. */
+int topzerad_transact(topzerad *pool, const topzerad_tx *tx, int durable, topzerad_receipt *receipt, int *committed);
+/* Reads the bytes of [low, high) that lie below the object's length. `into` has room for high - low, `count` says how
+ * many there were. */
+int topzerad_read(topzerad *pool, uint32_t object, uint64_t low, uint64_t high, void *into, size_t *count);
+int topzerad_length(topzerad *pool, uint32_t object, uint64_t *length);
+/* Which objects are there from `first` on, below `past`, by rising number. `into` has room for past - first. */
+int topzerad_objects(topzerad *pool, uint32_t first, uint32_t past, topzerad_listed *into, size_t *count);
+int topzerad_state(topzerad *pool, topzerad_status *status);
+/* Whether no power failure loses a transaction. */
+int topzerad_durable(topzerad *pool, topzerad_receipt receipt, int *durable);
+/* Makes durable what was committed so far, by the log. */
+int topzerad_flush(topzerad *pool);
+/* Syncs the open group: what was committed so far is durable, and no longer charged. `group` may be NULL. */
+int topzerad_sync(topzerad *pool, uint64_t *group);
+/* The pool's name, with a 0 after it. */
+int topzerad_name(topzerad *pool, char name[TOPZERAD_MAX_NAME + 1]);
+
+/* The words for a refusal. */
+const char *topzerad_text(int refusal);
+
+#ifdef __cplusplus
+}
+#endif
+
+#endif

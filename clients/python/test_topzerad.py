@@ -1,0 +1,62 @@
+"""Makes each call on a pool without objects that is named tank: `python3 test_topzerad.py [PROGRAM FILE]`. Without words
+it takes the stand-in."""
+
+import pathlib
+import sys
+import threading
+import unittest
+
+import topzerad
+from topzerad import create, remove, set_length, set_name, write
+
+WORDS = [str(pathlib.Path(__file__).resolve().parent.parent / "stand_in"), "-"]
+
+
+class Calls(unittest.TestCase):
+    def refused(self, number, call, *words):
+        with self.assertRaises(topzerad.Refused) as caught:
+            call(*words)
+        self.assertEqual(caught.exception.number, number)
+
+    def test_each_call(self):
+        with topzerad.Pool(*WORDS) as pool:
+            self.assertEqual(pool.name(), b"tank")
+            self.refused(9, pool.length, 1)
+            receipt = pool.transact([create(1), write(1, 100, b"wxyz")])
+            self.assertTrue(pool.durable(receipt))
+            self.refused(10, pool.transact, [create(1)])
+            self.assertEqual(pool.read(1, 98), b"\0\0wxyz")
+            self.assertEqual(pool.length(1), 104)
+            first, second, third = pool.transact_many([[create(2)], [create(2)], [set_length(2, 7)]])
+            self.assertEqual((first.ordinal + 1, third.ordinal), (third.ordinal, receipt.ordinal + 2))
+            self.assertEqual((second.number, second.receipt), (10, None))
+            self.assertEqual(pool.objects(), {1: 104, 2: 7})
+            pool.transact([remove(1), set_name(b"pond")], durable=False)
+            pool.flush()
+            self.assertEqual((pool.name(), pool.objects()), (b"pond", {2: 7}))
+            self.assertEqual(pool.sync(), pool.status().synced)
+            with self.assertRaises(topzerad.RefusedFrame) as caught:
+                pool.transact([])
+            self.assertEqual(caught.exception.number, 7)
+
+    def test_threads(self):
+        with topzerad.Pool(*WORDS) as pool:
+
+            def commit(number):
+                pool.transact([create(number)])
+                for at in range(50):
+                    pool.transact([write(number, at, bytes([at]))])
+
+            threads = [threading.Thread(target=commit, args=(100 + at,)) for at in range(4)]
+            for thread in threads:
+                thread.start()
+            for thread in threads:
+                thread.join()
+            for at in range(4):
+                self.assertEqual(pool.read(100 + at), bytes(range(50)))
+
+
+if __name__ == "__main__":
+    if len(sys.argv) == 3:
+        WORDS = sys.argv[1:]
+    unittest.main(argv=sys.argv[:1])

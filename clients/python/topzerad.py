@@ -1,0 +1,180 @@
+"""A pool of numbered objects in a file, from Python. A process `PROGRAM serve FILE` has the pool, and is asked by frames
+(docs/FORMATS.md, "Frames")."""
+
+import collections
+import struct
+import subprocess
+import threading
+
+HEAD = struct.Struct("<IHHI")
+VERSION, REQUESTS, ANSWERS, REFUSED_FRAME = 1, 1, 2, 3
+TRANSACT, TRANSACT_DURABLY, READ, LENGTH, OBJECTS, STATUS, DURABLE, FLUSH, SYNC, NAME, NOT_DURABLE = range(1, 12)
+MAX_LENGTH, OBJECT_COUNT = 338_688, 5_292
+
+Receipt = collections.namedtuple("Receipt", "ordinal group")
+Status = collections.namedtuple("Status", "synced syncing middle open dirty free available")
+
+NAMES = (
+    "NoMemory Read Write Flush Suspended NoPool Damaged BadGeometry NoObject Exists BadRange OutOfPlan NotLocked Busy "
+    "LockInUse NoSpace Throttled TooLarge NoSuchTransaction NotReady NoSuchLock TooMany NoLogSpace"
+).split()
+
+
+class Refused(Exception):
+    """A call was refused: its number and name. `receipt` is there if the transaction took place but is not durable."""
+
+    def __init__(self, number, kind=0, address=0, receipt=None):
+        super().__init__(f"refused {number} {NAMES[number - 1]}")
+        self.number, self.kind, self.address, self.receipt = number, kind, address, receipt
+
+
+class RefusedFrame(Exception):
+    """The frame was refused whole, with this number. None of its calls was made."""
+
+    def __init__(self, number):
+        super().__init__(f"frame refused {number}")
+        self.number = number
+
+
+# Operations of a transaction.
+
+
+def create(number):
+    return struct.pack("<BI", 1, number)
+
+
+def remove(number):
+    return struct.pack("<BI", 2, number)
+
+
+def write(number, offset, content):
+    return struct.pack("<BIQI", 3, number, offset, len(content)) + content
+
+
+def set_length(number, length):
+    return struct.pack("<BIQ", 4, number, length)
+
+
+def set_name(name):
+    return struct.pack("<BI", 5, len(name)) + name
+
+
+def record(ops):
+    body = struct.pack("<QQH", 0, 0, len(ops)) + b"".join(ops)
+    return struct.pack("<I", 4 + len(body)) + body
+
+
+class Pool:
+    """A pool that is open. Use it in a `with`, or close it. Several threads may call it; each call is one frame."""
+
+    def __init__(self, program, path):
+        self.process = subprocess.Popen([program, "serve", path], stdin=subprocess.PIPE, stdout=subprocess.PIPE)
+        self.lock = threading.Lock()
+
+    def __enter__(self):
+        return self
+
+    def __exit__(self, *_):
+        self.close()
+
+    def close(self):
+        """Ends the process once it has synced the pool."""
+        self.process.stdin.close()
+        status = self.process.wait()
+        self.process.stdout.close()
+        if status:
+            raise OSError(f"the process with the pool ended with status {status}")
+
+    def transact(self, ops, durable=True):
+        """Commits operations: all of them take place, or none. If `durable`, no power failure loses them then."""
+        return self._one(TRANSACT_DURABLY if durable else TRANSACT, record(ops))
+
+    def transact_many(self, transactions, durable=True):
+        """Commits several transactions in their order, each by itself, in one frame: a receipt or a `Refused` for each.
+        If `durable`, they share one flush."""
+        call = TRANSACT_DURABLY if durable else TRANSACT
+        return self._ask([(call, record(ops)) for ops in transactions])
+
+    def read(self, number, low=0, high=MAX_LENGTH):
+        """The bytes of the range that lie below the object's length."""
+        return self._one(READ, struct.pack("<IQQ", number, low, high))
+
+    def length(self, number):
+        return self._one(LENGTH, struct.pack("<I", number))
+
+    def objects(self, first=0, past=OBJECT_COUNT):
+        """The lengths of the objects that are there, by their numbers."""
+        return self._one(OBJECTS, struct.pack("<II", first, past))
+
+    def status(self):
+        return self._one(STATUS)
+
+    def durable(self, receipt):
+        """Whether no power failure loses this transaction."""
+        return self._one(DURABLE, struct.pack("<QQ", *receipt))
+
+    def flush(self):
+        """Makes durable what was committed so far, by the log."""
+        self._one(FLUSH)
+
+    def sync(self):
+        """Syncs the open group, and returns it."""
+        return self._one(SYNC)
+
+    def name(self):
+        return self._one(NAME)
+
+    def _one(self, call, needs=b""):
+        (outcome,) = self._ask([(call, needs)])
+        if isinstance(outcome, Refused):
+            raise outcome
+        return outcome
+
+    def _ask(self, calls):
+        items = b"".join(struct.pack("<QB", at, call) + needs for at, (call, needs) in enumerate(calls))
+        with self.lock:
+            self.process.stdin.write(HEAD.pack(HEAD.size + len(items), VERSION, REQUESTS, len(calls)) + items)
+            self.process.stdin.flush()
+            size, version, kind, count = HEAD.unpack(self._take(HEAD.size))
+            content = self._take(size - HEAD.size)
+        if version != VERSION or kind not in (ANSWERS, REFUSED_FRAME):
+            raise OSError("the process answered what is no frame")
+        if kind == REFUSED_FRAME:
+            raise RefusedFrame(count)
+        answers, at = [], 0
+        for _ in range(count):
+            came = content[at + 8]
+            outcome, at = read_outcome(came, content, at + 9)
+            answers.append(outcome)
+        return answers
+
+    def _take(self, count):
+        content = self.process.stdout.read(count)
+        if len(content) < count:
+            raise OSError("the process with the pool ended")
+        return content
+
+
+def read_outcome(came, content, at):
+    """What came of a call, and the place after it."""
+    if came == 0:
+        return Refused(*struct.unpack_from("<BQQ", content, at)), at + 17
+    if came in (TRANSACT, TRANSACT_DURABLY):
+        return Receipt(*struct.unpack_from("<QQ", content, at)), at + 16
+    if came == NOT_DURABLE:
+        ordinal, group, *refusal = struct.unpack_from("<QQBQQ", content, at)
+        return Refused(*refusal, receipt=Receipt(ordinal, group)), at + 33
+    if came in (READ, NAME):
+        (count,) = struct.unpack_from("<I", content, at)
+        return content[at + 4 : at + 4 + count], at + 4 + count
+    if came in (LENGTH, SYNC):
+        return struct.unpack_from("<Q", content, at)[0], at + 8
+    if came == OBJECTS:
+        (count,) = struct.unpack_from("<I", content, at)
+        rows = (struct.unpack_from("<IQ", content, at + 4 + 12 * row) for row in range(count))
+        return dict(rows), at + 4 + 12 * count
+    if came == STATUS:
+        return Status(*struct.unpack_from("<7Q", content, at)), at + 56
+    if came == DURABLE:
+        return content[at] == 1, at + 1
+    return None, at
