@@ -1,7 +1,7 @@
 //! What callers rest on: one function for each promise of this crate's calls, proved from the contract of the call
 //! alone. So it is refused as soon as that contract says less.
 
-ghost use Rattle.std.specs.Prelude.{◌≡◌, ◌⊎◌, ◌++◌, ◌∷◌, [], IfOk, IsErrAnd, OnOk};
+ghost use Rattle.std.specs.Prelude.{◌≡◌, ◌⊎◌, ◌++◌, ◌∷◌, [], IfErr, IfOk, IsErrAnd, OnOk};
 ghost use Rattle.base.specs.declared.operation.Op.TheVariants as op;
 ghost use Rattle.base.specs.declared.error.PoolError.TheVariants.{NoSpace};
 ghost use Rattle.frames.specs.Reading.{DecodesTo};
@@ -89,6 +89,16 @@ fn what_is_decoded_is_encoded(alloc: Global, bytes: &[u8]) -> Result<Vec<u8>, Fr
 {
     let requests = decode_frame(alloc, bytes)?;
     encode_requests(alloc, requests.as_slice())
+}
+
+// Requests that were a frame's are encoded again, unless memory runs out.
+fn what_was_decoded_lacks_only_memory(alloc: Global, bytes: &[u8]) -> Result<Vec<u8>, FrameError>
+    ensures { IfErr result (λ e. e ≡ FrameError.NoMemory) }
+{
+    match decode_frame(alloc, bytes) {
+        Ok(requests) => encode_requests(alloc, requests.as_slice()),
+        Err(_) => Err(FrameError::NoMemory),
+    }
 }
 
 // A transaction that is refused `NoSpace`, number 2, is answered by a frame of 38 bytes.

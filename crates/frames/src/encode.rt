@@ -3,6 +3,7 @@
 ghost use Rattle.std.specs.Prelude.{◌≡◌, ◌+◌, ◌*◌, ◌-◌, ◌^◌, ◌<◌, ◌≤◌, ◌⊎◌, ◌++◌, IfErr, IfNone, IfOk, IfSome, IsOk, OnErr, OnOk, All, ◌∷◌, length, min};
 ghost use Rattle.std.specs.Int.{to_le_bytes, w16, w32, w64};
 ghost use Rattle.frames.specs.Answers.{bytes_of_answer, bytes_of_answers, bytes_of_listing, bytes_of_outcome, bytes_of_refused, size_of_answers};
+ghost use Rattle.base.specs.declared.error.PoolError.TheVariants as lacking;
 ghost use Rattle.base.specs.formats.Records.{IsAllowed, bytes_of_record};
 ghost use Rattle.frames.specs.Limits.{frame_version, max_frame};
 ghost use Rattle.frames.specs.Requests.{AreAllowed, IsCallAllowed, IsFrameOf, IsRequestAllowed, bytes_of_all, bytes_of_call, bytes_of_request, number_of_call};
@@ -63,6 +64,7 @@ pub fn encode_refusal(out: &mut Vec<u8>, error: FrameError) -> Result<(), AllocE
 /// it would have more than [`MAX_FRAME`] bytes, and `AnswersTooLong` if `answers_room` has none for the requests.
 pub fn encode_requests(alloc: Global, requests: &[Request]) -> Result<Vec<u8>, FrameError>
     ensures spelled { IfOk result (λ frame. IsFrameOf frame.items requests.now) }
+    ensures refused { AreAllowed requests.now → IfErr result (λ e. e ≡ FrameError.NoMemory) }
 {
     let mut body = Vec::new(alloc);
     append_requests(&mut body, requests)?;
@@ -164,6 +166,8 @@ fn size_of_listing(listed: &[Listed]) -> u64
 fn append_requests(out: &mut Vec<u8>, requests: &[Request]) -> Result<(), FrameError>
     ensures bytes { OnOk result (out.new.items ≡ out.old.items ++ bytes_of_all requests.now) }
     ensures allowed { OnOk result (All IsRequestAllowed requests.now) }
+    ensures refused { All IsRequestAllowed requests.now
+        → IfErr result (λ e. e ≡ FrameError.NoMemory) }
 {
     for request in requests {
         append_request(out, request)?;
@@ -176,6 +180,8 @@ fn append_request(out: &mut Vec<u8>, request: &Request) -> Result<(), FrameError
     ensures bytes { OnOk result
         (out.new.items ≡ out.old.items ++ bytes_of_request request.now) }
     ensures allowed { OnOk result (IsRequestAllowed request.now) }
+    ensures refused { IsRequestAllowed request.now
+        → IfErr result (λ e. e ≡ FrameError.NoMemory) }
 {
     out.reserve(32)?;
     write_u64(out, request.number);
@@ -188,6 +194,7 @@ fn append_call(out: &mut Vec<u8>, call: &Call) -> Result<(), FrameError>
     ensures bytes { OnOk result (out.new.items
         ≡ out.old.items ++ number_of_call call.now ∷ bytes_of_call call.now) }
     ensures allowed { OnOk result (IsCallAllowed call.now) }
+    ensures refused { IsCallAllowed call.now → IfErr result (λ e. e ≡ FrameError.NoMemory) }
 {
     match call {
         Call::Transact(committed) => append_record(out, 1, committed)?,
@@ -233,11 +240,22 @@ fn append_record(out: &mut Vec<u8>, number: u8, committed: &Record) -> Result<()
     ensures bytes { OnOk result (out.new.items
         ≡ out.old.items ++ number ∷ bytes_of_record (record_fields committed.now)) }
     ensures allowed { OnOk result (IsAllowed (record_fields committed.now)) }
+    ensures refused { IsAllowed (record_fields committed.now)
+        → IfErr result (λ e. e ≡ FrameError.NoMemory) }
 {
     write_bytes(out, &[number]);
     match encode_into(out, committed) {
         Ok(()) => Ok(()),
-        Err(PoolError::NoMemory) => Err(FrameError::NoMemory),
-        Err(_) => Err(FrameError::BadRecord),
+        Err(error) => Err(frame_error(error)),
+    }
+}
+
+/// Why a frame is refused if one of its records is.
+fn frame_error(error: PoolError) -> FrameError
+    ensures { error ≡ lacking.NoMemory → result ≡ FrameError.NoMemory }
+{
+    match error {
+        PoolError::NoMemory => FrameError::NoMemory,
+        _ => FrameError::BadRecord,
     }
 }
