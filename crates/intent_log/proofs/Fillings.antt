@@ -98,17 +98,6 @@ part_is g rest = (refl, refl, refl, by (is_last_part g) refl)
     by true is = inl (leb-true (size_of g.logged) (g.written + log_block_room) is, refl, refl)
     by false is = inr (leb-false (size_of g.logged) (g.written + log_block_room) is, refl, refl)
 
-pub takes_part : (l : RunLog) (g : Begun) → l.begun ≡ Some g → TakesNext l Part
-takes_part l g is = record {
-  taken = rw is (part_is g l.pending);
-  within = omega arith;
-  named = refl;
-  part = ap (λ (o : Option Begun). is_some o) is;
-}
-
-pub part_used : (l : RunLog) (g : Begun) → l.begun ≡ Some g → next_part g ≡ used_by l Part
-part_used l g is = ap (λ (o : Option Begun). option_map_or next_part o []) (sym is)
-
 -- Once so many more are written, they are pending no more.
 pub pending-written : (written count : ℕ) (records : List code.Record) → map record_fields (drop (written + count) records) ≡ drop count (map record_fields (drop written records))
 pending-written written count records = ap (map record_fields) (sym (drop-drop count written records)) ∙ sym (drop-map record_fields count (drop written records))
