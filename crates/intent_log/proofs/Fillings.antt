@@ -1,5 +1,5 @@
--- What the next block takes: whole records, the first part of one, or a later part of the one that is begun. With it the
--- log is the one after a write of them.
+-- What the next block takes: whole records, the first part of one, or a later part of the one that is begun. With it
+-- the log is the one after a write of them.
 use Rattle.std.proofs.Common.{◌≡◌, ℕ, ◌+◌, ◌<◌, ◌≤◌, ◌⊎◌, Bool, true, false, List, [], ◌∷◌, ◌++◌, inl, inr, map, length, take, drop, ap, refl, sym, subst, ◌∙◌, arith}
 use Rattle.std.specs.Prelude.{All, IfSome, None, Option, Some, cond, is_some, nat_le, ◌-◌}
 use Rattle.std.specs.Global.{Vec}
