@@ -97,7 +97,7 @@ pub use import_replay::{
     Imported, Inspected, Mounted, View, create, import, import_with, inspect, view_pool,
 };
 pub use pool_core::{Duty, PoolState, Progress, run};
-pub use pool_threads::{Handle, Pool};
+pub use pool_threads::{Handle, Opened, Pool};
 pub use range_locks::{HeldLock, HeldLocks, HeldPiece};
 pub use transactions::{charge, is_plan_allowed, record_size};
 
