@@ -159,8 +159,8 @@ impl<D: SectorDevice> Pool<D> {
 
     /// For proofs: a pool of a state, with a view that explains it. A program takes `open`.
     ///
-    /// No thread has the pool yet. The syncs that its handles start carry this moment, in seconds. It tells of its import
-    /// what it is handed.
+    /// No thread has the pool yet. The syncs that its handles start carry this moment, in seconds. `Pool::opened` tells
+    /// what it is handed here.
     ///
     /// # Errors
     /// `NoMemory` if there is none for the lock. The state then comes back.
