@@ -1,5 +1,5 @@
 -- What contracts say of a pool under its lock, and of its handles.
-use Rattle.std.specs.Prelude.{ℕ, ◌≡◌, ◌⊎◌, ◌+◌, ◌++◌, IsTrue, List, [], ◌∷◌}
+use Rattle.std.specs.Prelude.{ℕ, ◌≡◌, ◌≤◌, ◌⊎◌, ◌+◌, ◌/◌, ◌++◌, IsTrue, List, [], ◌∷◌, length}
 use Rattle.base.specs.crash.CrashRule.{KeepsOwn}
 use Rattle.base.specs.crash.Imports.{IsImportOf}
 use Rattle.base.specs.declared.error.PoolError.{PoolError}
@@ -140,6 +140,14 @@ module _ {Dev : Type 0} {G : Ghosts Dev} where
   abbrev pub TakesTurns : Handle Dev G → Handle Dev G → Type 0
   TakesTurns old new = (tries : List (Turn SeenPool)) × (took : SeenPool) × (turns_of new ≡ (turns_of old ++ tries) ++ turn took (view_seen new) ∷ []) × HasMetNone old.seat new.seat
 
+  -- the handle had so many turns more
+  abbrev pub TakesSoMany : ℕ → Handle Dev G → Handle Dev G → Type 0
+  TakesSoMany count old new = length (turns_of new) ≡ length (turns_of old) + count
+
+  -- it had so many at most
+  abbrev pub TakesAtMost : ℕ → Handle Dev G → Handle Dev G → Type 0
+  TakesAtMost count old new = length (turns_of new) ≤ length (turns_of old) + count
+
   -- what a handle had seen as it left its pool, and the turns that it had had
   abbrev pub IsLeftBehind : Handle Dev G → LastSeen Dev G → Type 0
   IsLeftBehind h l = l.seat ≡ h.seat
@@ -192,6 +200,10 @@ module _ {Dev : Type 0} {G : Ghosts Dev} where
     pub onward : GrowsTo (IsTrue G.keeps_model) (seen l.seat) last
     pub history : IsTurnHistory (GrowsTo (IsTrue G.keeps_model)) (opening_view p) (seat_number l.seat) (turns l.seat) last
     pub alone : kin_left l ≡ 0 → last ≡ seen l.seat
+
+-- how many tries of a lock fit in a limit of so many nanoseconds: one at once, and one after each half millisecond
+abbrev pub tries_within : ℕ → ℕ
+tries_within limit = limit / 500_000 + 1
 
 -- whichever run left the old disk, it left the new one too
 abbrev pub LeavesSame : Disk → Disk → Type 0
