@@ -164,6 +164,58 @@ fn a_file_that_shrinks_is_refused(rt: HostRuntime) -> Result<(), Fail> {
     Ok(())
 }
 
+// A call that is refused, and the text of its refusal.
+#[derive(Clone, Copy)]
+struct Text {
+    call: Row,
+    text: &'static str,
+}
+
+// Whether a call is refused, and this is its text.
+fn has_text(rt: &HostRuntime, device: &mut FileDevice, row: Text) -> Result<bool, Fail> {
+    let is_refused = holds(device, row.call);
+    let Some(refused) = device.last_error() else {
+        return Ok(false);
+    };
+    Ok(is_refused && refused.to_string(rt.alloc())?.as_str() == row.text)
+}
+
+// How many rows hold on a file of four sectors that is cut after its second one.
+fn count_texts(rt: &HostRuntime, path: &str, rows: &[Text]) -> Result<usize, Fail> {
+    let file = new_file(rt, path, 2048)?;
+    let other = file.try_clone()?;
+    let mut device = FileDevice::new(file)?;
+    other.set_len(1024)?;
+    fs::remove_file(rt, path)?;
+    for index in 0..rows.len() {
+        if !has_text(rt, &mut device, rows[index])? {
+            return Ok(index);
+        }
+    }
+    Ok(rows.len())
+}
+
+// The text of the cause of a read is that of Rust's library.
+#[test]
+fn a_refused_call_has_a_text_with_its_byte(rt: HostRuntime) -> Result<(), Fail> {
+    let rows = [
+        Text {
+            call: Row::Read(3, Err(PoolError::Read)),
+            text: "read at byte 1536: failed to fill whole buffer",
+        },
+        Text {
+            call: Row::Write(1, Err(PoolError::Write)),
+            text: "write at byte 512: the file has become shorter",
+        },
+        Text {
+            call: Row::Flush(Err(PoolError::Flush)),
+            text: "flush: the file has become shorter",
+        },
+    ];
+    assert_eq!(rt; count_texts(&rt, "texts", &rows)?, 3);
+    Ok(())
+}
+
 // How many rows hold on a file that is open for reading.
 fn count_on_read_only(rt: &HostRuntime, path: &str, rows: &[Row]) -> Result<usize, Fail> {
     let mut device = FileDevice::new(File::open(rt, path)?)?;
