@@ -12,3 +12,5 @@ mod pool_files;
 mod rounds;
 #[cfg(test)]
 mod steps;
+#[cfg(test)]
+mod views;

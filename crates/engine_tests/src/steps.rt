@@ -51,3 +51,18 @@ pub fn synced(alloc: Global, empty: usize) -> Result<Vec<Step>, AllocError> {
     }
     Ok(steps)
 }
+
+/// Those steps, and then a transaction that writes 4 bytes from the object's third one on. Its record lies in a flushed
+/// log block, and its group is not synced.
+pub fn logged(alloc: Global) -> Result<Vec<Step>, AllocError> {
+    let mut steps = synced(alloc, 0)?;
+    let write = Op::Write(OBJECT, 2, Bytes::from_slice(alloc, b"wxyz")?);
+    let ops = Ops::new(vec![in alloc; write]?);
+    let plan = Plan::of(alloc, &ops)?;
+    steps.push(Step::Lock(OWNER, OBJECT, Range::WHOLE, Mode::Writer))?;
+    steps.push(Step::Begin(OWNER, plan))?;
+    steps.push(Step::Commit(TxId(1), ops))?;
+    steps.push(Step::LogWrite)?;
+    steps.push(Step::LogFlush)?;
+    Ok(steps)
+}
