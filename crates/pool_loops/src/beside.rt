@@ -33,7 +33,9 @@ pub fn run_beside_loops<
     let (quiesced, (synced, worked)) = join(
         rt,
         move || quiesce(rt, pool, halt),
-        move || sync_beside(rt, pool, halt, work),
+        move ||
+            requires { F.pre work }
+        { sync_beside(rt, pool, halt, work) },
     );
     match cause(synced, quiesced) {
         Ok(()) => worked,
