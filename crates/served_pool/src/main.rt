@@ -8,7 +8,7 @@ use std::sync::Wait;
 use std::thread::{Threads, map_vec};
 use topzerad::{
     Bytes, DEFAULT_DIRTY_MAX, Halt, Handle, MemDevice, ObjectId, Op, Ops, Owner, Pool, PoolError,
-    Receipt, create, run_beside_loops,
+    create, run_beside_loops,
 };
 
 /// How many lines each thread adds. Each write is charged 16,384 bytes, so all of them together pass the dirty limit of
@@ -89,10 +89,11 @@ fn write_lines<R: Wait + AllocGlobal>(
 
 // The planned end: syncs all that was committed. One more line comes after it: no sync reaches it any more, so it is
 // durable by the log alone. A server that acknowledges each line would add each of them so.
-fn end<R: Wait + AllocGlobal>(rt: &R, handle: &mut Handle<'_, MemDevice>) -> Result<Receipt> {
+fn end<R: Wait + AllocGlobal>(rt: &R, handle: &mut Handle<'_, MemDevice>) -> Result<()> {
     handle.sync_pool(rt)?;
     let line = Bytes::from_slice(rt.alloc(), LINE)?;
     let ops = vec![in rt.alloc(); Op::Create(ObjectId(5)), Op::Write(ObjectId(5), 0, line)]?;
     let committed = handle.transact_durably(rt, Owner(5), Ops::new(ops));
-    Ok(committed.map_err(PoolError::from)?)
+    committed.map_err(PoolError::from)?;
+    Ok(())
 }
