@@ -1,0 +1,13 @@
+//! Answers to frames: what a program asks by a frame is made on a pool's handle, and answered by a frame.
+//!
+//! [`answer_frame`] answers one frame, and [`serve`] all frames of an input.
+#![tactic(auto)]
+
+mod answering;
+mod calls;
+mod flushing;
+mod listing;
+mod serving;
+
+pub use answering::answer_frame;
+pub use serving::{Ending, serve};
