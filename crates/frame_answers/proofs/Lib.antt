@@ -1,1 +1,6 @@
 pub mod Made
+pub mod Along
+pub mod Durable
+pub mod ListedBelow
+pub mod Room
+pub mod Served

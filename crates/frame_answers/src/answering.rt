@@ -1,26 +1,37 @@
 //! A frame's answer.
+//!
+//! All room that the answer takes is had before the first request is made. So what was made is answered, and a frame
+//! for which there is no memory is refused with nothing made.
 
-ghost use Rattle.std.specs.Prelude.{◌≡◌, ◌⊎◌, ◌+◌, ◌≤◌, ◌++◌, [], OnOk, is_ok, vec_capacity, vec_len};
+ghost use Rattle.std.specs.Prelude.{ℕ, ◌≡◌, ◌+◌, ◌≤◌, ◌++◌, [], List, OnErr, OnOk, vec_capacity, vec_len};
 ghost use Rattle.frames.specs.Answers.{bytes_of_refused};
-ghost use Rattle.frame_answers.specs.Calls.{AnswersFrame, MakesCalls, WaitsForAll};
+ghost use Rattle.frames.specs.Limits.{max_frame};
+ghost use Rattle.frames.specs.Requests.{room_of_answers};
+ghost use Rattle.frame_answers.specs.Calls.{MakesCalls};
+ghost use Rattle.frame_answers.specs.Frames.{AnswersFrame};
+ghost use Rattle.transactions.specs.Writing.{HasRoomFor};
 
-use crate::calls::{make_call, wait_for};
+use crate::calls::make_call;
+use crate::durability::make_durable;
 use base::Owner;
 use device_model::SectorDevice;
-use frames::{Answer, FrameError, Request, decode_frame, encode_answers, encode_refusal};
+use frames::{
+    Answer, FrameError, Request, answers_room, decode_frame, encode_answers, encode_refusal,
+};
 use pool_threads::Handle;
-use std::alloc::Global;
+use std::alloc::{AllocError, Global};
 use std::sync::Wait;
 
 /// Makes the requests of a frame, of which these are all the bytes, and appends the frame that answers it.
 ///
 /// The requests are made in their order, each as the call of the handle that has its name; the operations of a
-/// transaction take place whole or not at all. Then the durable transactions wait until they are durable, so that one
-/// flush of the log serves them all. A frame that is none is answered by its refusal, and nothing is made.
+/// transaction take place whole or not at all. Then one flush of the log makes all durable transactions durable. Bytes
+/// that are no frame are answered by the refusal of a frame, and so is a frame for which there is no memory. Nothing is
+/// made then.
 ///
 /// # Errors
 ///
-/// A `FrameError` if there is no memory for the answer: the requests may have been made then.
+/// `NoMemory` if there is no memory for the refusal. Then nothing was made, and nothing was appended.
 pub fn answer_frame<'a, 'b, 'p, D: SectorDevice, W: Wait>(
     handle: &'a mut Handle<'p, D>,
     rt: &'b W,
@@ -29,8 +40,9 @@ pub fn answer_frame<'a, 'b, 'p, D: SectorDevice, W: Wait>(
     bytes: &[u8],
     out: &mut Vec<u8>,
 ) -> Result<(), FrameError>
-    ensures { AnswersFrame owner bytes.now out.old.items out.new.items (is_ok result)
-        handle.old handle.new }
+    ensures answered { (answer : List ℕ) × AnswersFrame owner bytes.now answer handle.old handle.new
+        × OnOk result (out.new.items ≡ out.old.items ++ answer) }
+    ensures unchanged { OnErr result (out.new.items ≡ out.old.items) }
 {
     let requests = match decode_frame(alloc, bytes) {
         Ok(requests) => requests,
@@ -42,17 +54,33 @@ pub fn answer_frame<'a, 'b, 'p, D: SectorDevice, W: Wait>(
     let Ok(last) = Vec::with_capacity(alloc, requests.len()) else {
         return refuse(out, FrameError::NoMemory);
     };
+    if take_room(out, requests.as_slice()).is_err() {
+        return refuse(out, FrameError::NoMemory);
+    }
     let made = make_calls(handle, rt, alloc, owner, requests, room);
-    let answers = wait_for_all(handle, rt, made, last);
+    let answers = make_durable(handle, rt, made, last);
     encode_answers(out, answers.as_slice())
 }
 
 /// Appends the refusal of a frame.
 fn refuse(out: &mut Vec<u8>, error: FrameError) -> Result<(), FrameError>
-    ensures { OnOk result (out.new.items ≡ out.old.items ++ bytes_of_refused error) }
+    ensures bytes { OnOk result (out.new.items ≡ out.old.items ++ bytes_of_refused error) }
+    ensures unchanged { OnErr result (out.new.items ≡ out.old.items) }
 {
-    encode_refusal(out, error)?;
-    Ok(())
+    match encode_refusal(out, error) {
+        Ok(()) => Ok(()),
+        Err(_) => Err(FrameError::NoMemory),
+    }
+}
+
+/// Takes room for the answers to requests.
+fn take_room(out: &mut Vec<u8>, requests: &[Request]) -> Result<(), AllocError>
+    requires { room_of_answers requests.now ≤ max_frame }
+    ensures room { OnOk result (HasRoomFor out.new (room_of_answers requests.now)) }
+    ensures unchanged { out.new.items ≡ out.old.items }
+{
+    let room = answers_room(requests).unwrap_or(0);
+    out.reserve(room as usize)
 }
 
 /// Makes the calls of requests, in their order. The list of answers has room for them.
@@ -74,24 +102,6 @@ fn make_calls<'a, 'b, 'p, D: SectorDevice, W: Wait>(
         let number = request.number;
         let outcome = make_call(handle, rt, alloc, owner, request.call);
         answers.push_reserved(Answer { number, outcome });
-    }
-    answers
-}
-
-/// Waits for the durable ones of these answers, in their order. The list of answers has room for them.
-fn wait_for_all<'a, 'b, 'p, D: SectorDevice, W: Wait>(
-    handle: &'a mut Handle<'p, D>,
-    rt: &'b W,
-    made: Vec<Answer>,
-    room: Vec<Answer>,
-) -> Vec<Answer>
-    requires room { vec_len room + vec_len made ≤ vec_capacity room }
-    requires empty { room.items ≡ [] }
-    ensures { WaitsForAll made.items result.items handle.old handle.new }
-{
-    let mut answers = room;
-    for answer in made {
-        answers.push_reserved(wait_for(handle, rt, answer));
     }
     answers
 }

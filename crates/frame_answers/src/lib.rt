@@ -5,7 +5,7 @@
 
 mod answering;
 mod calls;
-mod flushing;
+mod durability;
 mod listing;
 mod serving;
 

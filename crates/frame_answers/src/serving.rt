@@ -1,6 +1,11 @@
 //! The frames of an input, one after another, each answered before the next is read.
 
-ghost use Rattle.std.specs.Prelude.{◌≤◌, vec_len};
+ghost use Rattle.std.specs.Prelude.{ℕ, ◌≡◌, ◌≤◌, ◌++◌, [], List, Result, Err, IfErr, IfOk, OnOk};
+ghost use Rattle.std.specs.Io.KnownBytes.{Consumes};
+ghost use Rattle.base.specs.declared.error.PoolError as declared_error;
+ghost use Rattle.base.specs.declared.names.Group as group;
+ghost use Rattle.frame_answers.specs.Serving.{AnswersFrames, EndsWell, Exchange, GoesOnWell, ReadsFrame, ServesFrames, program};
+ghost use Rattle.pool_threads.specs.Handles.{shared_of};
 
 use crate::answering::answer_frame;
 use base::{Owner, PoolError};
@@ -44,82 +49,123 @@ pub fn serve<'b, D: SectorDevice, W: Wait, R: Read, O: Write>(
     pool: &Pool<D>,
     input: &mut R,
     output: &mut O,
-) -> Result<Ending, PoolError> {
+) -> Result<Ending, PoolError>
+    ensures served { (exchanges : List Exchange)
+        × (synced : Result group.Group declared_error.PoolError)
+        × ServesFrames program (shared_of pool.entry.now) exchanges synced
+        × IfErr result (λ e. synced ≡ Err e)
+        × IfOk result (λ ending. EndsWell ending exchanges
+        (record { input = R.remaining input.old; output = O.contents output.old })
+        (record { input = R.remaining input.new; output = O.contents output.new })) }
+{
     let mut handle = pool.handle();
     let ending = answer_all(&mut handle, rt, alloc, input, output);
     handle.sync_pool(rt)?;
     Ok(ending)
 }
 
+/// Answers all frames of the input, until it ends.
 fn answer_all<'a, 'b, 'p, D: SectorDevice, W: Wait, R: Read, O: Write>(
     handle: &'a mut Handle<'p, D>,
     rt: &'b W,
     alloc: Global,
     input: &mut R,
     output: &mut O,
-) -> Ending {
+) -> Ending
+    ensures { (exchanges : List Exchange) × AnswersFrames program exchanges handle.old handle.new
+        × EndsWell result exchanges
+        (record { input = R.remaining input.old; output = O.contents output.old })
+        (record { input = R.remaining input.new; output = O.contents output.new }) }
+{
     let mut frame = Vec::new(alloc);
     let mut answer = Vec::new(alloc);
     for _ in rt.forever() {
-        let ending = read_frame(input, &mut frame);
-        if !frame.is_empty() {
-            answer.clear();
-            if answer_frame(handle, rt, alloc, PROGRAM, frame.as_slice(), &mut answer).is_err() {
-                return Ending::NoMemory;
-            }
-            if output.write_all(answer.as_slice()).is_err() || output.flush().is_err() {
-                return Ending::Failed;
-            }
-        }
-        if let Some(ending) = ending {
+        if let Err(ending) = answer_next(handle, rt, alloc, input, output, &mut frame, &mut answer) {
             return ending;
         }
     }
     unreachable!()
 }
 
-/// Reads a frame, or what its refusal needs, in place of the bytes that there were. There are none if there is nothing
-/// to answer. It returns how the input ended, if it did.
-fn read_frame<R: Read>(input: &mut R, frame: &mut Vec<u8>) -> Option<Ending> {
+/// Reads the next frame and answers it. The lists of bytes are its room.
+fn answer_next<'a, 'b, 'p, D: SectorDevice, W: Wait, R: Read, O: Write>(
+    handle: &'a mut Handle<'p, D>,
+    rt: &'b W,
+    alloc: Global,
+    input: &mut R,
+    output: &mut O,
+    frame: &mut Vec<u8>,
+    answer: &mut Vec<u8>,
+) -> Result<(), Ending>
+    ensures { (exchanges : List Exchange) × AnswersFrames program exchanges handle.old handle.new
+        × GoesOnWell result exchanges
+        (record { input = R.remaining input.old; output = O.contents output.old })
+        (record { input = R.remaining input.new; output = O.contents output.new }) }
+{
+    read_frame(input, frame)?;
+    answer.clear();
+    if answer_frame(handle, rt, alloc, PROGRAM, frame.as_slice(), answer).is_err() {
+        return Err(Ending::NoMemory);
+    }
+    if output.write_all(answer.as_slice()).is_err() || output.flush().is_err() {
+        return Err(Ending::Failed);
+    }
+    if frame.len() == LENGTH_SIZE {
+        return Err(Ending::CutOff);
+    }
+    Ok(())
+}
+
+/// Reads a frame in place of the bytes that there were. If its length can't be a frame's, these four bytes are all:
+/// they are refused `BadLength`.
+fn read_frame<R: Read>(input: &mut R, frame: &mut Vec<u8>) -> Result<(), Ending>
+    ensures { ReadsFrame result frame.new.items (R.remaining input.old) (R.remaining input.new) }
+{
     frame.clear();
     let mut length = [0; LENGTH_SIZE];
     match input.read(&mut length[..1]) {
-        Ok(0) => return Some(Ending::Done),
+        Ok(0) => return Err(Ending::Done),
         Ok(_) => {}
-        Err(_) => return Some(Ending::Failed),
+        Err(_) => return Err(Ending::Failed),
     }
     if input.read_exact(&mut length[1..]).is_err() {
-        return Some(Ending::CutOff);
+        return Err(Ending::CutOff);
     }
     let size = u32::from_le_bytes(length);
     if size < FRAME_HEAD as u32 || u64::from(size) > MAX_FRAME {
-        // These four bytes alone are refused `BadLength`.
-        return match frame.extend_from_slice(&length) {
-            Ok(()) => Some(Ending::CutOff),
-            Err(_) => Some(Ending::NoMemory),
-        };
+        return start_frame(frame, &length);
     }
     read_rest(input, frame, &length, size as usize)
 }
 
-/// Reads a frame of this size, which begins with these bytes.
+/// Begins a frame with the bytes of its length.
+fn start_frame(frame: &mut Vec<u8>, length: &[u8; LENGTH_SIZE]) -> Result<(), Ending>
+    ensures { OnOk result (frame.new.items ≡ frame.old.items ++ length.now) }
+{
+    match frame.extend_from_slice(length) {
+        Ok(()) => Ok(()),
+        Err(_) => Err(Ending::NoMemory),
+    }
+}
+
+/// Reads a frame of this size, which begins with these bytes. There are no others yet.
 fn read_rest<R: Read>(
     input: &mut R,
     frame: &mut Vec<u8>,
     length: &[u8; LENGTH_SIZE],
     size: usize,
-) -> Option<Ending>
-    requires { 4 ≤ size }
+) -> Result<(), Ending>
+    requires size { 4 ≤ size }
+    requires empty { frame.old.items ≡ [] }
+    ensures { OnOk result ((rest : List ℕ) × (frame.new.items ≡ length.now ++ rest)
+        × Consumes (R.remaining input.old) (R.remaining input.new) rest) }
 {
+    start_frame(frame, length)?;
     if frame.resize(size, 0).is_err() {
-        frame.clear();
-        return Some(Ending::NoMemory);
+        return Err(Ending::NoMemory);
     }
-    let bytes = frame.as_mut_slice();
-    bytes[..LENGTH_SIZE].copy_from_slice(length);
-    if input.read_exact(&mut bytes[LENGTH_SIZE..]).is_err() {
-        frame.clear();
-        return Some(Ending::CutOff);
+    if input.read_exact(&mut frame.as_mut_slice()[LENGTH_SIZE..]).is_err() {
+        return Err(Ending::CutOff);
     }
-    None
+    Ok(())
 }

@@ -1,0 +1,81 @@
+-- A handle that makes the calls of a frame stays in its pool, and sees what goes on from what it had seen.
+use Rattle.std.proofs.Common.{◌≡◌, ◌⊎◌, ◌++◌, ◌∷◌, [], List, inl, inr, refl, sym, subst, ◌∙◌}
+use Rattle.std.specs.Prelude.{ℕ, IsTrue, None, Option, Result, Ok, Err, Some}
+use Rattle.base.specs.declared.error.PoolError.{PoolError}
+use Rattle.base.specs.declared.error.PoolError.TheVariants as error
+use Rattle.base.specs.declared.names.Group.{Group}
+use Rattle.base.specs.declared.names.Owner.{Owner}
+use Rattle.base.specs.declared.names.Receipt.{Receipt}
+use Rattle.base.specs.declared.operation.Op.{Op}
+use Rattle.base.specs.declared.step.Reply as declared_reply
+use Rattle.base.specs.declared.step.Reply.TheVariants as reply
+use Rattle.device_model.specs.declared.device.SectorDevice.{Ghosts}
+use Rattle.pool_tables.specs.declared.duty.Duty.{Duty}
+use Rattle.pool_tables.specs.declared.duty.Duty.TheVariants as duty
+use Rattle.pool_threads.specs.declared.handle.Handle.{Handle}
+use Rattle.pool_threads.specs.Answers.{TakesAtLast, TakesOne}
+use Rattle.pool_threads.specs.Handles.{HasLooked, moment_of}
+use Rattle.pool_threads.specs.Objects.{IsListRefusal}
+use Rattle.pool_threads.specs.Serves.{AreDue, IsServedTurn, MakesDue}
+use Rattle.pool_threads.specs.Transacts.{TransactsOrLacks, plan_of}
+use Rattle.pool_threads.specs.Views.{GrowsTo, SeenPool, grows_onward, grows_same}
+use Rattle.pool_threads.specs.Waits.{EndsFsync, EndsSyncing, FsyncsAll, IsLogOutcome, SyncsPool, SyncsUpTo, WritesLog}
+use Rattle.pool_threads.proofs.Along.{GoesAlong, along_on, along_same}
+use Rattle.pool_threads.proofs.TransactsSeen.{at_last_along}
+use Rattle.pool_threads.proofs.Turned.{grows_by_one}
+use Rattle.transactions.specs.LockRanges.{lock_ranges}
+use Rattle.word_lock.specs.declared.rule.Turn.{Turn}
+use Rattle.word_lock.specs.Seats.{seen}
+use Rattle.word_lock.specs.Turns.{turn}
+
+module _ (keeps : Type 0) (d : Duty) where
+  -- steps that were due lead on
+  due_grow : (rs : List declared_reply.Reply) (v w : SeenPool) → AreDue keeps d rs v w → GrowsTo keeps v w
+  due_grow [] v w same = subst (GrowsTo keeps v) (sym same) (grows_same keeps v)
+  due_grow (r ∷ rs) v w (s, middle, due, one, rest) = grows_onward keeps _ _ _ (grows_by_one keeps _ _ _ _ _ refl one) (due_grow rs middle w rest)
+
+  served_grows : (r : Option declared_reply.Reply) (v w : SeenPool) → MakesDue keeps d r v w → GrowsTo keeps v w
+  served_grows None v w made = subst (GrowsTo keeps v) (sym made.1) (grows_same keeps v)
+  served_grows (Some r) v w made = due_grow (made.0 ++ r ∷ []) v w made.2
+
+-- so does the last turn of a sync
+syncing_grows : (keeps : Type 0) (moment : ℕ) (group : Group) (result : Result (Unit {0}) PoolError) (t : Turn SeenPool) → EndsSyncing keeps moment group result t → GrowsTo keeps t.took t.left
+syncing_grows keeps moment group (Ok done) t ends = served_grows keeps (duty.SyncUpTo group moment) ends.0.0 t.took t.left ends.0.2
+syncing_grows keeps moment group (Err e) t ends = served_grows keeps (duty.SyncUpTo group moment) (Some (reply.Refused e)) t.took t.left ends
+
+module _ {Dev : Type 0} {G : Ghosts Dev} where
+  pub along_looked : (old new : Handle Dev G) → HasLooked old new → GoesAlong old new
+  along_looked old new l = record { same_pool = l.same_pool; onward = l.onward; met_none = l.met_none }
+
+  pub along_transacts : (owner : Owner) (ops : List Op) (result : Result Receipt PoolError) (old new : Handle Dev G) → TransactsOrLacks owner ops result old new → GoesAlong old new
+  along_transacts owner ops result old new (inl u) = at_last_along owner (lock_ranges (plan_of ops)) (plan_of ops) ops result old new u
+  along_transacts owner ops result old new (inr (lacks, same)) = along_same old new same
+
+  pub along_lists : (e : PoolError) (old new : Handle Dev G) → IsListRefusal e old new → GoesAlong old new
+  along_lists e old new (inl (lacks, same)) = along_same old new same
+  along_lists e old new (inr (suspended, looked, is)) = along_looked old new looked
+
+  along_up_to : (group : Group) (result : Result (Unit {0}) PoolError) (old new : Handle Dev G) → SyncsUpTo group result old new → GoesAlong old new
+  along_up_to group result old new u = record {
+    same_pool = u.same_pool;
+    onward = grows_onward (IsTrue G.keeps_model) (seen old.seat) u.made.took (seen new.seat) u.made.onward (syncing_grows (IsTrue G.keeps_model) (moment_of old) group result (turn u.made.took (seen new.seat)) u.made.made);
+    met_none = u.made.met_none;
+  }
+
+  pub along_syncs : (answer : Result Group PoolError) (old new : Handle Dev G) → SyncsPool answer old new → GoesAlong old new
+  along_syncs answer old new s = along_on old s.looked new (along_looked old s.looked s.looks) (along_up_to s.group s.result s.looked new s.syncs)
+
+  along_writes : (r : Option declared_reply.Reply) (old new : Handle Dev G) → WritesLog r old new → GoesAlong old new
+  along_writes r old new w = record {
+    same_pool = w.same_pool;
+    onward = grows_onward (IsTrue G.keeps_model) (seen old.seat) w.made.took (seen new.seat) w.made.onward (served_grows (IsTrue G.keeps_model) duty.CommitLog r w.made.took (seen new.seat) w.made.made);
+    met_none = w.made.met_none;
+  }
+
+  along_ends : (outcome : Option (Result (Unit {0}) PoolError)) (result : Result (Unit {0}) PoolError) (wrote new : Handle Dev G) → EndsFsync outcome result wrote new → GoesAlong wrote new
+  along_ends (Some ended) result wrote new ends = along_same wrote new ends.1
+  along_ends None (Ok done) wrote new ends = along_syncs (Ok ends.0) wrote new ends.1
+  along_ends None (Err e) wrote new ends = along_syncs (Err e) wrote new ends
+
+  pub along_fsyncs : (result : Result (Unit {0}) PoolError) (old new : Handle Dev G) → FsyncsAll result old new → GoesAlong old new
+  along_fsyncs result old new f = along_on old f.wrote new (along_writes f.reply old f.wrote f.writes) (along_ends f.outcome result f.wrote new f.ends)

@@ -1,0 +1,52 @@
+-- Frames that are answered one after another, as a loop does, are all answered; and the bytes of all were moved.
+use Rattle.std.proofs.Common.{◌≡◌, ◌∷◌, ◌++◌, [], ℕ, List, append_assoc, append-nil, ap, refl, subst, sym, ◌∙◌}
+use Rattle.std.specs.Prelude.{None, Option, Some, Result, Ok, Err}
+use Rattle.std.specs.Io.KnownBytes.{Appends, Consumes}
+use Rattle.std.proofs.lemmas.Grind.{flat_map-append}
+use Rattle.base.specs.declared.names.Owner.{Owner}
+use Rattle.device_model.specs.declared.device.SectorDevice.{Ghosts}
+use Rattle.pool_threads.specs.declared.handle.Handle.{Handle}
+use Rattle.frame_answers.specs.Frames.{AnswersFrame}
+use Rattle.frame_answers.specs.Serving.{AnswersFrames, EndsWell, Exchange, Exchanges, GoesOnWell, Streams, answers_of, frames_of}
+use Rattle.frame_answers.specs.declared.serving.Ending.{Ending}
+use Rattle.frame_answers.specs.declared.serving.Ending.TheVariants as ending
+
+pub consumes_then : (a b c : Option (List ℕ)) (x y : List ℕ) → Consumes a b x → Consumes b c y → Consumes a c (x ++ y)
+consumes_then None b c x y p q = tt
+consumes_then (Some xs) None c x y p q = absurd p
+consumes_then (Some xs) (Some ys) None x y p q = absurd q
+consumes_then (Some xs) (Some ys) (Some zs) x y p q = p ∙ ap (λ (l : List ℕ). x ++ l) q ∙ sym (append_assoc x y zs)
+
+pub appends_then : (a b c : Option (List ℕ)) (x y : List ℕ) → Appends a b x → Appends b c y → Appends a c (x ++ y)
+appends_then None b c x y p q = tt
+appends_then (Some xs) None c x y p q = absurd p
+appends_then (Some xs) (Some ys) None x y p q = absurd q
+appends_then (Some xs) (Some ys) (Some zs) x y p q = q ∙ ap (λ (l : List ℕ). l ++ y) p ∙ append_assoc xs x y
+
+pub exchanges_none : (old : Streams) → Exchanges [] old old
+exchanges_none old = record { reads = none_read old.input; writes = none_written old.output }
+  where
+    none_read : (a : Option (List ℕ)) → Consumes a a []
+    none_read None = tt
+    none_read (Some xs) = refl
+
+    none_written : (a : Option (List ℕ)) → Appends a a []
+    none_written None = tt
+    none_written (Some xs) = sym (append-nil xs)
+
+pub exchanges_then : (xs ys : List Exchange) (a b c : Streams) → Exchanges xs a b → Exchanges ys b c → Exchanges (xs ++ ys) a c
+exchanges_then xs ys a b c p q = record {
+  reads = subst (Consumes a.input c.input) (sym (flat_map-append (λ (x : Exchange). x.frame) xs ys)) (consumes_then a.input b.input c.input (frames_of xs) (frames_of ys) p.reads q.reads);
+  writes = subst (Appends a.output c.output) (sym (flat_map-append (λ (x : Exchange). x.answer) xs ys)) (appends_then a.output b.output c.output (answers_of xs) (answers_of ys) p.writes q.writes);
+}
+
+pub ends_then : (e : Ending) (xs ys : List Exchange) (a b c : Streams) → Exchanges xs a b → EndsWell e ys b c → EndsWell e (xs ++ ys) a c
+ends_then ending.Done xs ys a b c p q = (exchanges_then xs ys a b c p q.0, q.1)
+ends_then ending.CutOff xs ys a b c p q = tt
+ends_then ending.Failed xs ys a b c p q = tt
+ends_then ending.NoMemory xs ys a b c p q = tt
+
+module _ {Dev : Type 0} {G : Ghosts Dev} (owner : Owner) where
+  pub answers_then : (xs ys : List Exchange) (a b c : Handle Dev G) → AnswersFrames owner xs a b → AnswersFrames owner ys b c → AnswersFrames owner (xs ++ ys) a c
+  answers_then [] ys a b c same rest = subst (λ (h : Handle Dev G). AnswersFrames owner ys h c) same rest
+  answers_then (x ∷ xs) ys a b c (next, one, more) rest = (next, one, answers_then xs ys next b c more rest)

@@ -1,0 +1,73 @@
+-- What a handle does for the frames of an input, and what becomes of the input's and the output's bytes.
+use Rattle.std.specs.Prelude.{ℕ, ◌≡◌, ◌⊎◌, List, [], ◌∷◌, Option, Result, Ok, Err}
+use Rattle.std.specs.List.{flat_map}
+use Rattle.std.specs.Io.KnownBytes.{Appends, Consumes, IsAtEnd}
+use Rattle.base.specs.declared.error.PoolError.{PoolError}
+use Rattle.base.specs.declared.names.Group.{Group}
+use Rattle.base.specs.declared.names.Owner.{Owner}
+use Rattle.device_model.specs.declared.device.SectorDevice.{Ghosts}
+use Rattle.pool_threads.specs.declared.handle.Handle.{Handle}
+use Rattle.pool_threads.specs.declared.shared.Shared.{Shared}
+use Rattle.pool_threads.specs.Handles.{IsNewHandle}
+use Rattle.pool_threads.specs.Waits.{SyncsPool}
+use Rattle.frame_answers.specs.Frames.{AnswersFrame}
+use Rattle.frame_answers.specs.declared.serving.Ending.{Ending}
+use Rattle.frame_answers.specs.declared.serving.Ending.TheVariants as ending
+
+-- the owner of the transactions and the reads that frames ask for
+abbrev pub program : Owner
+program = record { 0 = 1 }
+
+-- a frame, and the one that answers it
+pub record Exchange : Type 0 where
+  pub frame : List ℕ
+  pub answer : List ℕ
+
+-- the bytes of the frames that were read, and those of their answers
+abbrev pub frames_of : List Exchange → List ℕ
+frames_of xs = flat_map (λ (x : Exchange). x.frame) xs
+
+abbrev pub answers_of : List Exchange → List ℕ
+answers_of xs = flat_map (λ (x : Exchange). x.answer) xs
+
+module _ {Dev : Type 0} {G : Ghosts Dev} where
+  -- the frames were answered, one after another
+  abbrev pub AnswersFrames : Owner → List Exchange → Handle Dev G → Handle Dev G → Type 0
+  AnswersFrames owner [] old new = new ≡ old
+  AnswersFrames owner (x ∷ xs) old new = (next : Handle Dev G) × AnswersFrame owner x.frame x.answer old next × AnswersFrames owner xs next new
+
+  -- A new handle of this pool answered the frames, one after another. Then it synced the pool, with this result, and
+  -- did no more.
+  pub record ServesFrames (owner : Owner) (p : Shared Dev G) (xs : List Exchange) (synced : Result Group PoolError) : Type 0 where
+    pub first : Handle Dev G
+    pub is_new : IsNewHandle p first
+    pub served : Handle Dev G
+    pub answers : AnswersFrames owner xs first served
+    pub last : Handle Dev G
+    pub syncs : SyncsPool synced served last
+
+-- what is known of the bytes that an input has left, and of those that an output holds
+pub record Streams : Type 0 where
+  pub input : Option (List ℕ)
+  pub output : Option (List ℕ)
+
+-- the frames were read from the input, and their answers were written to the output
+pub record Exchanges (xs : List Exchange) (old new : Streams) : Type 0 where
+  pub reads : Consumes old.input new.input (frames_of xs)
+  pub writes : Appends old.output new.output (answers_of xs)
+
+-- so it was if the input ended after a whole frame, or after none; nothing of it is left then
+abbrev pub EndsWell : Ending → List Exchange → Streams → Streams → Type 0
+EndsWell ending.Done xs old new = Exchanges xs old new × IsAtEnd new.input
+EndsWell e xs old new = Unit {0}
+
+-- so it was after one more frame
+abbrev pub GoesOnWell : Result (Unit {0}) Ending → List Exchange → Streams → Streams → Type 0
+GoesOnWell (Ok done) xs old new = Exchanges xs old new
+GoesOnWell (Err e) xs old new = EndsWell e xs old new
+
+-- a frame was read whole, or the input had ended before it
+abbrev pub ReadsFrame : Result (Unit {0}) Ending → List ℕ → Option (List ℕ) → Option (List ℕ) → Type 0
+ReadsFrame (Ok done) frame old new = Consumes old new frame
+ReadsFrame (Err ending.Done) frame old new = Consumes old new [] × IsAtEnd new
+ReadsFrame (Err e) frame old new = Unit {0}
