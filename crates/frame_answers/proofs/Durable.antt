@@ -45,9 +45,9 @@ entered_durable : (r : Receipt) (s t : State) → AreDurable s t → IsEntered r
 entered_durable r s t all (e, there, same) = subst (λ (g : ℕ). IsKnownDurable r.ordinal.0 g t) same (all r.ordinal.0 e there)
 
 -- an outcome that is no receipt of a durable transaction
-never : {A : Type 0} (as : A → Outcome) → ((x : A) → durable_receipt (as x) ≡ None) → (result : Result A PoolError) (o : Outcome) → o ≡ outcome_of as result → durable_receipt o ≡ None
-never as none (Ok x) o is = ap durable_receipt is ∙ none x
-never as none (Err e) o is = ap durable_receipt is
+pub never : {A : Type 0} (make : A → Outcome) → ((x : A) → durable_receipt (make x) ≡ None) → (result : Result A PoolError) (o : Outcome) → o ≡ outcome_of make result → durable_receipt o ≡ None
+never make none (Ok x) o is = ap durable_receipt is ∙ none x
+never make none (Err e) o is = ap durable_receipt is
 
 module _ {Dev : Type 0} {G : Ghosts Dev} where
   along_objects : (first past : ℕ) (result : Result (List _) PoolError) (old new : Handle Dev G) → ListsObjects first past result old new → GoesAlong old new
@@ -145,9 +145,9 @@ module _ {Dev : Type 0} {G : Ghosts Dev} where
   made_durable : (made answers : List Answer) (middle new : Handle Dev G) → All (IsEnteredAs middle) made → MakesDurable made answers middle new → All (λ (a : Answer). IsDurableNow new (durable_receipt a.outcome)) answers
   made_durable made answers middle new entered (inl (none, same, still)) =
       subst (All (λ (a : Answer). IsDurableNow new (durable_receipt a.outcome))) (sym same) (λ k d below. if_none _ (none k d below))
-  made_durable made answers middle new entered (inr (inl (same, flushes))) =
+  made_durable made answers middle new entered (inr (awaits, inl (same, flushes))) =
       subst (All (λ (a : Answer). IsDurableNow new (durable_receipt a.outcome))) (sym same) (λ k d below. by_flush middle new flushes.1 _ (entered k d below))
-  made_durable made answers middle new entered (inr (inr (e, flushed, refused, asked))) = by_questions e made answers flushed new asked
+  made_durable made answers middle new entered (inr (awaits, inr (e, flushed, refused, asked))) = by_questions e made answers flushed new asked
 
   -- the answers that say so are right
   pub durable_at_end : (owner : Owner) (rs : List Request) (made answers : List Answer) (old middle new : Handle Dev G) → MakesCalls owner rs made old middle → MakesDurable made answers middle new → All (IsDurableAs old new) answers
@@ -155,5 +155,5 @@ module _ {Dev : Type 0} {G : Ghosts Dev} where
 
   along_made_durable : (made answers : List Answer) (old new : Handle Dev G) → MakesDurable made answers old new → GoesAlong old new
   along_made_durable made answers old new (inl (none, same, still)) = along_same old new still
-  along_made_durable made answers old new (inr (inl (same, flushes))) = along_fsyncs (Ok tt) old new flushes.0
-  along_made_durable made answers old new (inr (inr (e, flushed, refused, asked))) = along_on old flushed new (along_fsyncs (Err e) old flushed refused.0) (along_all_asked e made answers flushed new asked)
+  along_made_durable made answers old new (inr (awaits, inl (same, flushes))) = along_fsyncs (Ok tt) old new flushes.0
+  along_made_durable made answers old new (inr (awaits, inr (e, flushed, refused, asked))) = along_on old flushed new (along_fsyncs (Err e) old flushed refused.0) (along_all_asked e made answers flushed new asked)

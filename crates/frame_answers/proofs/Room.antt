@@ -1,6 +1,6 @@
 -- The answers to requests fit the room that is kept for them, over a device that keeps the disk model.
 use Rattle.std.proofs.Common.{◌≡◌, ◌≤◌, ◌<◌, ◌+◌, ◌-◌, ◌*◌, ◌∷◌, ◌++◌, ◌&&◌, ℕ, [], List, ap, arith, inl, inr, length, length-append, refl, subst, sym, ◌∙◌}
-use Rattle.std.specs.Prelude.{Bool, Err, IfOk, IfSome, IsTrue, None, Ok, Option, Result, Some, false, is_none, min, nat_le, nat_lt, option_map, sum_by, true}
+use Rattle.std.specs.Prelude.{Bool, Err, IfOk, IfSome, IsOk, IsTrue, None, Ok, OnErr, Option, Result, Some, false, is_none, min, nat_le, nat_lt, option_map, sum_by, true}
 use Rattle.std.specs.FinMap as finite
 use Rattle.std.specs.List.{flat_map, list_all}
 use Rattle.std.proofs.Math.Bridge.{le_prop}
@@ -43,6 +43,11 @@ use Rattle.pool_threads.specs.Views.{viewed_state}
 use Rattle.frame_answers.specs.Calls.{Asks, AsksAll, ListsObjects, MakesCall, MakesCalls, MakesDurable, durable_receipt, outcome_of}
 use Rattle.frame_answers.proofs.ListedBelow.{room_below}
 
+-- what can't fail is never refused
+pub never_err : {A E P : Type 0} (result : Result A E) → IsOk result → OnErr result P
+never_err (Ok x) ok = tt
+never_err (Err e) ok = absurd ok
+
 -- what is read of an object is no longer than it, and than the range
 read_short : (owner : Owner) (n : ObjectId) (range : Range) (bytes now : List ℕ) (s t : State) → IsExplainedNow s.shown s.past → Step (Unit {0}) now (step.Read owner n range) (reply.Bytes bytes) s t → length bytes ≤ min (range.high - range.low) max_length
 read_short owner n range bytes now s t x (Err e, is, h) = absurd (let no_way : reply.Bytes bytes ≡ reply.Refused e = is in cc)
@@ -73,9 +78,9 @@ name_short name is =
 abbrev pub Fits : ℕ → Outcome → Type 0
 Fits room o = 8 + length (bytes_of_outcome o) ≤ room
 
-by_result : {A : Type 0} (as : A → Outcome) (room : ℕ) (result : Result A PoolError) (o : Outcome) → least_room ≤ room → IfOk result (λ x. Fits room (as x)) → o ≡ outcome_of as result → Fits room o
-by_result as room (Ok x) o least fits is = subst (Fits room) (sym is) fits
-by_result as room (Err e) o least fits is = subst (Fits room) (sym is) (let size : length (bytes_of_outcome (outcome.Refused e)) ≡ 18 = refl in omega (arith, size))
+by_result : {A : Type 0} (make : A → Outcome) (room : ℕ) (result : Result A PoolError) (o : Outcome) → least_room ≤ room → IfOk result (λ x. Fits room (make x)) → o ≡ outcome_of make result → Fits room o
+by_result make room (Ok x) o least fits is = subst (Fits room) (sym is) fits
+by_result make room (Err e) o least fits is = subst (Fits room) (sym is) (let size : length (bytes_of_outcome (outcome.Refused e)) ≡ 18 = refl in omega (arith, size))
 
 all_fit : {A : Type 0} {P : A → Type 0} (result : Result A PoolError) → ((x : A) → P x) → IfOk result P
 all_fit (Ok x) p = p x
@@ -170,8 +175,8 @@ module _ {Dev : Type 0} {G : Ghosts Dev} (keeps : IsTrue G.keeps_model) where
 
   durable_fit : (rs : List Request) (made answers : List Answer) (old new : Handle Dev G) → MakesDurable made answers old new → AllFit rs made → AllFit rs answers
   durable_fit rs made answers old new (inl (none, same, still)) fit = subst (AllFit rs) (sym same) fit
-  durable_fit rs made answers old new (inr (inl (same, flushes))) fit = subst (AllFit rs) (sym same) fit
-  durable_fit rs made answers old new (inr (inr (e, flushed, refused, asked))) fit = all_asked_fit e rs made answers flushed new asked fit
+  durable_fit rs made answers old new (inr (awaits, inl (same, flushes))) fit = subst (AllFit rs) (sym same) fit
+  durable_fit rs made answers old new (inr (awaits, inr (e, flushed, refused, asked))) fit = all_asked_fit e rs made answers flushed new asked fit
 
   all_bytes_fit : (rs : List Request) (answers : List Answer) → AllFit rs answers → length (flat_map bytes_of_answer answers) ≤ sum_by (λ (r : Request). room_of_call r.call) rs
   all_bytes_fit [] [] fit = omega arith

@@ -1,5 +1,6 @@
 -- What a handle does for the requests of a frame, and what they are answered.
-use Rattle.std.specs.Prelude.{ℕ, ◌≡◌, ◌⊎◌, All, Bool, true, false, List, [], ◌∷◌, IfOk, IfSome, Option, Some, None, Result, Ok, Err, nat_lt, if◌then◌else◌}
+use Rattle.std.specs.Prelude.{ℕ, ◌≡◌, ◌⊎◌, All, Bool, true, false, List, [], ◌∷◌, IfOk, IfSome, IsSome, Option, Some, None, Result, Ok, Err, nat_lt, if◌then◌else◌}
+use Rattle.std.specs.List.{Contains}
 use Rattle.base.specs.declared.error.PoolError.{PoolError}
 use Rattle.base.specs.declared.names.Group.{Group}
 use Rattle.base.specs.declared.names.ObjectId.{ObjectId}
@@ -32,13 +33,20 @@ listed_below past (x ∷ others) = if nat_lt x.0.0 past then (record { object = 
 
 -- what a call returned, as an answer
 abbrev pub outcome_of : {A : Type 0} → (A → Outcome) → Result A PoolError → Outcome
-outcome_of as (Ok x) = as x
-outcome_of as (Err e) = outcome.Refused e
+outcome_of make (Ok x) = make x
+outcome_of make (Err e) = outcome.Refused e
 
 -- the receipt in the answer of a durable transaction
 abbrev pub durable_receipt : Outcome → Option Receipt
 durable_receipt (outcome.MadeDurable receipt) = Some receipt
 durable_receipt o = None
+
+-- there is the answer of a durable transaction among these, or none
+abbrev pub AwaitsFlush : List Answer → Type 0
+AwaitsFlush answers = (a : Answer) × Contains answers a × IsSome (durable_receipt a.outcome)
+
+abbrev pub AwaitsNoFlush : List Answer → Type 0
+AwaitsNoFlush answers = All (λ (a : Answer). durable_receipt a.outcome ≡ None) answers
 
 module _ {Dev : Type 0} {G : Ghosts Dev} where
   -- In one turn and no other the handle looked, and these are the objects from a number on, below another, that it saw
@@ -92,12 +100,14 @@ module _ {Dev : Type 0} {G : Ghosts Dev} where
   AsksAll e (m ∷ ms) [] old new = ⊥
 
   -- The commits of all durable transactions are made durable by one flush of the log. If it is refused, the handle asks
-  -- for each of them. If there are none, nothing is done.
+  -- for each of them.
+  abbrev pub FlushesForAll : List Answer → List Answer → Handle Dev G → Handle Dev G → Type 0
+  FlushesForAll made answers old new = ((answers ≡ made) × Flushes (Ok tt) old new)
+      ⊎ ((e : PoolError) × (flushed : Handle Dev G) × Flushes (Err e) old flushed × AsksAll e made answers flushed new)
+
+  -- so it is if there is one; else nothing is done
   abbrev pub MakesDurable : List Answer → List Answer → Handle Dev G → Handle Dev G → Type 0
-  MakesDurable made answers old new =
-      (All (λ (a : Answer). durable_receipt a.outcome ≡ None) made × (answers ≡ made) × (new ≡ old))
-      ⊎ (((answers ≡ made) × Flushes (Ok tt) old new)
-      ⊎ ((e : PoolError) × (flushed : Handle Dev G) × Flushes (Err e) old flushed × AsksAll e made answers flushed new))
+  MakesDurable made answers old new = (AwaitsNoFlush made × (answers ≡ made) × (new ≡ old)) ⊎ (AwaitsFlush made × FlushesForAll made answers old new)
 
   -- an answer that says that a commit is durable is right: it is so in what the handle has seen then
   abbrev pub IsDurableAs : Handle Dev G → Handle Dev G → Answer → Type 0

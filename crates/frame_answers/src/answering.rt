@@ -3,7 +3,7 @@
 //! All room that the answer takes is had before the first request is made. So what was made is answered, and a frame
 //! for which there is no memory is refused with nothing made.
 
-ghost use Rattle.std.specs.Prelude.{ℕ, ◌≡◌, ◌+◌, ◌≤◌, ◌++◌, [], List, OnErr, OnOk, vec_capacity, vec_len};
+ghost use Rattle.std.specs.Prelude.{ℕ, ◌≡◌, ◌+◌, ◌≤◌, ◌++◌, [], IsTrue, List, OnErr, OnOk, vec_capacity, vec_len};
 ghost use Rattle.frames.specs.Answers.{bytes_of_refused};
 ghost use Rattle.frames.specs.Limits.{max_frame};
 ghost use Rattle.frames.specs.Requests.{room_of_answers};
@@ -43,6 +43,7 @@ pub fn answer_frame<'a, 'b, 'p, D: SectorDevice, W: Wait>(
     ensures answered { (answer : List ℕ) × AnswersFrame owner bytes.now answer handle.old handle.new
         × OnOk result (out.new.items ≡ out.old.items ++ answer) }
     ensures unchanged { OnErr result (out.new.items ≡ out.old.items) }
+    ensures none_made { IsTrue D.keeps_model → OnErr result (handle.new ≡ handle.old) }
 {
     let requests = match decode_frame(alloc, bytes) {
         Ok(requests) => requests,
@@ -54,9 +55,9 @@ pub fn answer_frame<'a, 'b, 'p, D: SectorDevice, W: Wait>(
     let Ok(last) = Vec::with_capacity(alloc, requests.len()) else {
         return refuse(out, FrameError::NoMemory);
     };
-    if take_room(out, requests.as_slice()).is_err() {
+    let Ok(()) = take_room(out, requests.as_slice()) else {
         return refuse(out, FrameError::NoMemory);
-    }
+    };
     let made = make_calls(handle, rt, alloc, owner, requests, room);
     let answers = make_durable(handle, rt, made, last);
     encode_answers(out, answers.as_slice())

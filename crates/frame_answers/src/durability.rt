@@ -1,7 +1,7 @@
 //! How the durable transactions of a frame become durable: by one flush of the log for all of them.
 
-ghost use Rattle.std.specs.Prelude.{◌≡◌, ◌≤◌, ◌+◌, [], All, None, false, vec_capacity, vec_len};
-ghost use Rattle.frame_answers.specs.Calls.{Asks, AsksAll, MakesDurable, durable_receipt};
+ghost use Rattle.std.specs.Prelude.{◌≡◌, ◌≤◌, ◌+◌, [], IsSome, None, false, true, vec_capacity, vec_len};
+ghost use Rattle.frame_answers.specs.Calls.{Asks, AsksAll, AwaitsFlush, AwaitsNoFlush, MakesDurable, durable_receipt};
 
 use base::PoolError;
 use device_model::SectorDevice;
@@ -34,14 +34,16 @@ pub(crate) fn make_durable<'a, 'b, 'p, D: SectorDevice, W: Wait>(
 
 /// Whether there is the answer of a durable transaction among them.
 fn await_flush(answers: &[Answer]) -> bool
-    ensures { result ≡ false → All (λ a. durable_receipt a.outcome ≡ None) answers.now }
+    ensures some { result ≡ true → AwaitsFlush answers.now }
+    ensures none { result ≡ false → AwaitsNoFlush answers.now }
 {
     answers.iter().any(|answer| says_durable(answer))
 }
 
 /// Whether this is the answer of a durable transaction.
 fn says_durable(answer: &Answer) -> bool
-    ensures { result ≡ false → durable_receipt answer.now.outcome ≡ None }
+    ensures some { result ≡ true → IsSome (durable_receipt answer.now.outcome) }
+    ensures none { result ≡ false → durable_receipt answer.now.outcome ≡ None }
 {
     matches!(answer.outcome, Outcome::MadeDurable(_))
 }
