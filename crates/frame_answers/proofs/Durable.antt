@@ -6,6 +6,7 @@ use Rattle.std.proofs.Math.Logic.{∥∥₁_elim, ∥∥₁_map, ∥∥₁_prop}
 use Rattle.base.specs.declared.error.PoolError.{PoolError}
 use Rattle.base.specs.declared.names.Owner.{Owner}
 use Rattle.base.specs.declared.names.Receipt.{Receipt}
+use Rattle.base.specs.declared.operation.Op.{Op}
 use Rattle.base.specs.declared.step.Step.TheVariants as step
 use Rattle.base.specs.declared.step.Reply.TheVariants as reply
 use Rattle.base.specs.history.History.{Entry}
@@ -17,6 +18,7 @@ use Rattle.device_model.specs.declared.device.SectorDevice.{Ghosts}
 use Rattle.frames.specs.declared.answer.Answer.{Answer}
 use Rattle.frames.specs.declared.answer.Outcome.{Outcome}
 use Rattle.frames.specs.declared.answer.Outcome.TheVariants as outcome
+use Rattle.frames.specs.declared.listing.Listed.{Listed}
 use Rattle.frames.specs.declared.request.Call.{Call}
 use Rattle.frames.specs.declared.request.Call.TheVariants as call
 use Rattle.frames.specs.declared.request.Request.{Request}
@@ -49,8 +51,19 @@ pub never : {A : Type 0} (make : A → Outcome) → ((x : A) → durable_receipt
 never make none (Ok x) o is = ap durable_receipt is ∙ none x
 never make none (Err e) o is = ap durable_receipt is
 
+-- of no receipt all is so
+if_none : (P : Receipt → Type 0) (o : Option Receipt) → o ≡ None → IfSome o P
+if_none P o is = subst (λ (x : Option Receipt). IfSome x P) (sym is) tt
+
 module _ {Dev : Type 0} {G : Ghosts Dev} where
-  along_objects : (first past : ℕ) (result : Result (List _) PoolError) (old new : Handle Dev G) → ListsObjects first past result old new → GoesAlong old new
+  -- the entry of a receipt is there, or it is durable, in what the handle has seen
+  abbrev IsEnteredIn : Handle Dev G → Receipt → Type 0
+  IsEnteredIn now receipt = ∥ IsEntered receipt (state_seen now) ∥₁
+
+  abbrev IsDurableIn : Handle Dev G → Receipt → Type 0
+  IsDurableIn now receipt = ∥ IsKnownDurable receipt.ordinal.0 receipt.group.0 (state_seen now) ∥₁
+
+  along_objects : (first past : ℕ) (result : Result (List Listed) PoolError) (old new : Handle Dev G) → ListsObjects first past result old new → GoesAlong old new
   along_objects first past (Ok listed) old new l = along_looked old new l.looked
   along_objects first past (Err e) old new l = along_lists e old new l
 
@@ -74,29 +87,26 @@ module _ {Dev : Type 0} {G : Ghosts Dev} where
 
   -- the entry of an answer's receipt is there, in what the handle has seen
   abbrev pub IsEnteredAs : Handle Dev G → Answer → Type 0
-  IsEnteredAs now a = IfSome (durable_receipt a.outcome) (λ receipt. ∥ IsEntered receipt (state_seen now) ∥₁)
+  IsEnteredAs now a = IfSome (durable_receipt a.outcome) (IsEnteredIn now)
 
-  entered_result : (owner : Owner) (ops : List _) (result : Result Receipt PoolError) (o : Outcome) (old next new : Handle Dev G) → TransactsOrLacks owner ops result old next → GoesAlong next new → o ≡ outcome_of outcome.MadeDurable result
-      → IfSome (durable_receipt o) (λ receipt. ∥ IsEntered receipt (state_seen new) ∥₁)
+  entered_result : (owner : Owner) (ops : List Op) (result : Result Receipt PoolError) (o : Outcome) (old next new : Handle Dev G) → TransactsOrLacks owner ops result old next → GoesAlong next new → o ≡ outcome_of outcome.MadeDurable result
+      → IfSome (durable_receipt o) (IsEnteredIn new)
   entered_result owner ops (Ok r) o old next new made later is =
-      subst (λ (x : Outcome). IfSome (durable_receipt x) (λ receipt. ∥ IsEntered receipt (state_seen new) ∥₁)) (sym is)
+      subst (λ (x : Outcome). IfSome (durable_receipt x) (IsEnteredIn new)) (sym is)
       (∥∥₁_map {B = IsEntered r (state_seen new)} (entered_by owner ops r old next new made later) (λ t. (_, t.1.entry, refl)))
-  entered_result owner ops (Err e) o old next new made later is = subst (λ (x : Outcome). IfSome (durable_receipt x) (λ receipt. ∥ IsEntered receipt (state_seen new) ∥₁)) (sym is) tt
+  entered_result owner ops (Err e) o old next new made later is = subst (λ (x : Outcome). IfSome (durable_receipt x) (IsEnteredIn new)) (sym is) tt
 
-  if_none : {P : Receipt → Type 0} (o : Option Receipt) → o ≡ None → IfSome o P
-  if_none {P} o is = subst (λ (x : Option Receipt). IfSome x P) (sym is) tt
-
-  entered_call : (owner : Owner) (c : Call) (o : Outcome) (old next new : Handle Dev G) → MakesCall owner c o old next → GoesAlong next new → IfSome (durable_receipt o) (λ receipt. ∥ IsEntered receipt (state_seen new) ∥₁)
+  entered_call : (owner : Owner) (c : Call) (o : Outcome) (old next new : Handle Dev G) → MakesCall owner c o old next → GoesAlong next new → IfSome (durable_receipt o) (IsEnteredIn new)
   entered_call owner (call.TransactDurably r) o old next new (result, made, is) later = entered_result owner r.ops result o old next new made later is
-  entered_call owner (call.Transact r) o old next new (result, made, is) later = if_none (durable_receipt o) (never outcome.Transacted (λ x. refl) result o is)
-  entered_call owner (call.Read object range) o old next new (result, made, is) later = if_none (durable_receipt o) (never outcome.Bytes (λ x. refl) result o is)
-  entered_call owner (call.Length object) o old next new (result, made, is) later = if_none (durable_receipt o) (never outcome.Length (λ x. refl) result o is)
-  entered_call owner (call.Objects first past) o old next new (result, made, is) later = if_none (durable_receipt o) (never outcome.Objects (λ x. refl) result o is)
-  entered_call owner call.Status o old next new (status, made, is) later = if_none (durable_receipt o) (ap durable_receipt is)
-  entered_call owner (call.Durable receipt) o old next new (durable, made, is) later = if_none (durable_receipt o) (ap durable_receipt is)
-  entered_call owner call.Flush o old next new (result, made, is) later = if_none (durable_receipt o) (never (λ _. outcome.Flushed) (λ x. refl) result o is)
-  entered_call owner call.Sync o old next new (result, made, is) later = if_none (durable_receipt o) (never outcome.Synced (λ x. refl) result o is)
-  entered_call owner call.Name o old next new (name, made, is) later = if_none (durable_receipt o) (ap durable_receipt is)
+  entered_call owner (call.Transact r) o old next new (result, made, is) later = if_none (IsEnteredIn new) (durable_receipt o) (never outcome.Transacted (λ x. refl) result o is)
+  entered_call owner (call.Read object range) o old next new (result, made, is) later = if_none (IsEnteredIn new) (durable_receipt o) (never outcome.Bytes (λ x. refl) result o is)
+  entered_call owner (call.Length object) o old next new (result, made, is) later = if_none (IsEnteredIn new) (durable_receipt o) (never outcome.Length (λ x. refl) result o is)
+  entered_call owner (call.Objects first past) o old next new (result, made, is) later = if_none (IsEnteredIn new) (durable_receipt o) (never outcome.Objects (λ x. refl) result o is)
+  entered_call owner call.Status o old next new (status, made, is) later = if_none (IsEnteredIn new) (durable_receipt o) (ap durable_receipt is)
+  entered_call owner (call.Durable receipt) o old next new (durable, made, is) later = if_none (IsEnteredIn new) (durable_receipt o) (ap durable_receipt is)
+  entered_call owner call.Flush o old next new (result, made, is) later = if_none (IsEnteredIn new) (durable_receipt o) (never (λ _. outcome.Flushed) (λ x. refl) result o is)
+  entered_call owner call.Sync o old next new (result, made, is) later = if_none (IsEnteredIn new) (durable_receipt o) (never outcome.Synced (λ x. refl) result o is)
+  entered_call owner call.Name o old next new (name, made, is) later = if_none (IsEnteredIn new) (durable_receipt o) (ap durable_receipt is)
 
   -- the entries of all durable transactions are there, once the calls are made
   pub entered_all : (owner : Owner) (rs : List Request) (answers : List Answer) (old new : Handle Dev G) → MakesCalls owner rs answers old new → All (IsEnteredAs new) answers
@@ -107,10 +117,10 @@ module _ {Dev : Type 0} {G : Ghosts Dev} where
   entered_all owner (r ∷ rs) [] old new h = absurd h
 
   -- the commit of an answer's receipt is durable, in what the handle has seen
-  abbrev pub IsDurableNow : Handle Dev G → Option Receipt → Type 0
-  IsDurableNow now o = IfSome o (λ receipt. ∥ IsKnownDurable receipt.ordinal.0 receipt.group.0 (state_seen now) ∥₁)
+  abbrev IsDurableNow : Handle Dev G → Answer → Type 0
+  IsDurableNow now a = IfSome (durable_receipt a.outcome) (IsDurableIn now)
 
-  by_flush : (old new : Handle Dev G) → LeavesAllDurable old new → (o : Option Receipt) → IfSome o (λ receipt. ∥ IsEntered receipt (state_seen old) ∥₁) → IsDurableNow new o
+  by_flush : (old new : Handle Dev G) → LeavesAllDurable old new → (o : Option Receipt) → IfSome o (IsEnteredIn old) → IfSome o (IsDurableIn new)
   by_flush old new l None entered = tt
   by_flush old new l (Some r) entered =
       ∥∥₁_elim entered ∥∥₁_prop (λ there.
@@ -129,24 +139,24 @@ module _ {Dev : Type 0} {G : Ghosts Dev} where
   along_all_asked e [] (a ∷ others) old new h = absurd h
   along_all_asked e (m ∷ ms) [] old new h = absurd h
 
-  by_question : (e : PoolError) (m a : Answer) (old next new : Handle Dev G) → Asks e m a old next → GoesAlong next new → IsDurableNow new (durable_receipt a.outcome)
-  by_question e m a old next new (inl (none, same, still)) later = if_none (durable_receipt a.outcome) (ap (λ (x : Answer). durable_receipt x.outcome) same ∙ none)
+  by_question : (e : PoolError) (m a : Answer) (old next new : Handle Dev G) → Asks e m a old next → GoesAlong next new → IsDurableNow new a
+  by_question e m a old next new (inl (none, same, still)) later = if_none (IsDurableIn new) (durable_receipt a.outcome) (ap (λ (x : Answer). durable_receipt x.outcome) same ∙ none)
   by_question e m a old next new (inr (receipt, is, inl (same, made))) later =
-      subst (IsDurableNow new) (sym (ap (λ (x : Answer). durable_receipt x.outcome) same ∙ is))
+      subst (λ (o : Option Receipt). IfSome o (IsDurableIn new)) (sym (ap (λ (x : Answer). durable_receipt x.outcome) same ∙ is))
       (∥∥₁_map {B = IsKnownDurable receipt.ordinal.0 receipt.group.0 (state_seen new)} (seen_made old old next new (along_same old old refl) made later) (durables_are_seen receipt (state_seen old) (state_seen new)))
-  by_question e m a old next new (inr (receipt, is, inr (other, made))) later = if_none (durable_receipt a.outcome) (ap (λ (x : Answer). durable_receipt x.outcome) other)
+  by_question e m a old next new (inr (receipt, is, inr (other, made))) later = if_none (IsDurableIn new) (durable_receipt a.outcome) (ap (λ (x : Answer). durable_receipt x.outcome) other)
 
-  by_questions : (e : PoolError) (ms answers : List Answer) (old new : Handle Dev G) → AsksAll e ms answers old new → All (λ (a : Answer). IsDurableNow new (durable_receipt a.outcome)) answers
-  by_questions e [] [] old new same = All-nil _
-  by_questions e (m ∷ ms) (a ∷ others) old new (next, asked, rest) = All-cons _ a others (by_question e m a old next new asked (along_all_asked e ms others next new rest)) (by_questions e ms others next new rest)
+  by_questions : (e : PoolError) (ms answers : List Answer) (old new : Handle Dev G) → AsksAll e ms answers old new → All (IsDurableNow new) answers
+  by_questions e [] [] old new same = All-nil (IsDurableNow new)
+  by_questions e (m ∷ ms) (a ∷ others) old new (next, asked, rest) = All-cons (IsDurableNow new) a others (by_question e m a old next new asked (along_all_asked e ms others next new rest)) (by_questions e ms others next new rest)
   by_questions e [] (a ∷ others) old new h = absurd h
   by_questions e (m ∷ ms) [] old new h = absurd h
 
-  made_durable : (made answers : List Answer) (middle new : Handle Dev G) → All (IsEnteredAs middle) made → MakesDurable made answers middle new → All (λ (a : Answer). IsDurableNow new (durable_receipt a.outcome)) answers
+  made_durable : (made answers : List Answer) (middle new : Handle Dev G) → All (IsEnteredAs middle) made → MakesDurable made answers middle new → All (IsDurableNow new) answers
   made_durable made answers middle new entered (inl (none, same, still)) =
-      subst (All (λ (a : Answer). IsDurableNow new (durable_receipt a.outcome))) (sym same) (λ k d below. if_none _ (none k d below))
+      subst (All (IsDurableNow new)) (sym same) (λ k d below. if_none (IsDurableIn new) _ (none k d below))
   made_durable made answers middle new entered (inr (awaits, inl (same, flushes))) =
-      subst (All (λ (a : Answer). IsDurableNow new (durable_receipt a.outcome))) (sym same) (λ k d below. by_flush middle new flushes.1 _ (entered k d below))
+      subst (All (IsDurableNow new)) (sym same) (λ k d below. by_flush middle new flushes.1 _ (entered k d below))
   made_durable made answers middle new entered (inr (awaits, inr (e, flushed, refused, asked))) = by_questions e made answers flushed new asked
 
   -- the answers that say so are right

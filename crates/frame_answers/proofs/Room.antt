@@ -1,6 +1,6 @@
 -- The answers to requests fit the room that is kept for them, over a device that keeps the disk model.
 use Rattle.std.proofs.Common.{◌≡◌, ◌≤◌, ◌<◌, ◌+◌, ◌-◌, ◌*◌, ◌∷◌, ◌++◌, ◌&&◌, ℕ, [], List, ap, arith, inl, inr, length, length-append, refl, subst, sym, ◌∙◌}
-use Rattle.std.specs.Prelude.{Bool, Err, IfOk, IfSome, IsOk, IsTrue, None, Ok, OnErr, Option, Result, Some, false, is_none, min, nat_le, nat_lt, option_map, sum_by, true}
+use Rattle.std.specs.Prelude.{Bool, Err, IfOk, IfSome, IsOk, IsTrue, None, Ok, OnErr, Option, Result, Some, false, is_none, min, nat_le, nat_lt, option_map, slice_index, sum_by, true}
 use Rattle.std.specs.FinMap as finite
 use Rattle.std.specs.List.{flat_map, list_all}
 use Rattle.std.proofs.Math.Bridge.{le_prop}
@@ -14,6 +14,7 @@ use Rattle.base.specs.declared.names.Owner.{Owner}
 use Rattle.base.specs.declared.range.Range.{Range}
 use Rattle.base.specs.declared.step.Reply.TheVariants as reply
 use Rattle.base.specs.declared.step.Step.TheVariants as step
+use Rattle.base.specs.disk.Disk.{bytes_of}
 use Rattle.base.specs.formats.Limits.{max_length, max_name, object_count}
 use Rattle.base.specs.formats.Names.{IsName, is_letter, is_name_byte, is_name_length}
 use Rattle.base.specs.history.Contents.{length_of}
@@ -44,9 +45,9 @@ use Rattle.frame_answers.specs.Calls.{Asks, AsksAll, ListsObjects, MakesCall, Ma
 use Rattle.frame_answers.proofs.ListedBelow.{room_below}
 
 -- what can't fail is never refused
-pub never_err : {A E P : Type 0} (result : Result A E) → IsOk result → OnErr result P
-never_err (Ok x) ok = tt
-never_err (Err e) ok = absurd ok
+pub never_err : {A E : Type 0} (P : Type 0) (result : Result A E) → IsOk result → OnErr result P
+never_err P (Ok x) ok = tt
+never_err P (Err e) ok = absurd (false≢true ok)
 
 -- what is read of an object is no longer than it, and than the range
 read_short : (owner : Owner) (n : ObjectId) (range : Range) (bytes now : List ℕ) (s t : State) → IsExplainedNow s.shown s.past → Step (Unit {0}) now (step.Read owner n range) (reply.Bytes bytes) s t → length bytes ≤ min (range.high - range.low) max_length
@@ -64,14 +65,14 @@ read_short owner n range bytes now s t x (Ok bs, is, h) =
         let long : length bytes ≡ min (range.high - range.low) (length all - range.low) = ap length (same ∙ read) ∙ length-take (range.high - range.low) _ ∙ ap (min (range.high - range.low)) (length-drop range.low all) in
         let one = min-le_left (range.high - range.low) (length all - range.low) in
         let other = min-le_right (range.high - range.low) (length all - range.low) in
-        let most : length all ≤ max_length = bounded.1.0 in
+        let most : length all ≤ max_length = bounded.1 in
         le-min (omega arith) (omega arith)
 
 -- a name is short
 name_short : (name : List ℕ) → IsName name → length name ≤ max_name
 name_short name is =
-    let parts = and_parts (is_name_length (length name) && is_letter _) _ is in
-    let long = and_parts (is_name_length (length name)) _ parts.0 in
+    let parts = and_parts (is_name_length (length name) && is_letter (slice_index name 0)) (list_all is_name_byte name) is in
+    let long = and_parts (is_name_length (length name)) (is_letter (slice_index name 0)) parts.0 in
     leb-true (length name) max_name (and_parts (nat_lt 0 (length name)) (nat_le (length name) max_name) long.0).1
 
 -- an answer and its number fit so much room
@@ -86,24 +87,53 @@ all_fit : {A : Type 0} {P : A → Type 0} (result : Result A PoolError) → ((x 
 all_fit (Ok x) p = p x
 all_fit (Err e) p = tt
 
+-- each answer fits the room of its request
+abbrev AllFit : List Request → List Answer → Type 0
+AllFit [] [] = Unit {0}
+AllFit (r ∷ rs) (a ∷ answers) = Fits (room_of_call r.call) a.outcome × AllFit rs answers
+AllFit [] (a ∷ answers) = ⊥
+AllFit (r ∷ rs) [] = ⊥
+
+least_of : (c : Call) → least_room ≤ room_of_call c
+least_of (call.Transact r) = omega arith
+least_of (call.TransactDurably r) = omega arith
+least_of (call.Read object range) = omega arith
+least_of (call.Length object) = omega arith
+least_of (call.Objects first past) = omega arith
+least_of call.Status = omega arith
+least_of (call.Durable receipt) = omega arith
+least_of call.Flush = omega arith
+least_of call.Sync = omega arith
+least_of call.Name = omega arith
+
+all_bytes_fit : (rs : List Request) (answers : List Answer) → AllFit rs answers → length (flat_map bytes_of_answer answers) ≤ sum_by (λ (r : Request). room_of_call r.call) rs
+all_bytes_fit [] [] fit = omega arith
+all_bytes_fit (r ∷ rs) (a ∷ answers) fit =
+    let others = all_bytes_fit rs answers fit.1 in
+    let one : 8 + length (bytes_of_outcome a.outcome) ≤ room_of_call r.call = fit.0 in
+    let size : length (bytes_of_answer a) ≡ 8 + length (bytes_of_outcome a.outcome) = omega arith in
+    omega (arith, others, one, size, length-append (bytes_of_answer a) (flat_map bytes_of_answer answers))
+all_bytes_fit [] (a ∷ answers) fit = absurd fit
+all_bytes_fit (r ∷ rs) [] fit = absurd fit
+
 module _ {Dev : Type 0} {G : Ghosts Dev} (keeps : IsTrue G.keeps_model) where
   fetched_short : (owner : Owner) (n : ObjectId) (range : Range) (bytes : List ℕ) (old new : Handle Dev G) → ReadsUnderLock owner n range (Ok bytes) old new → length bytes ≤ min (range.high - range.low) max_length
   fetched_short owner n range bytes old new t =
       let made = t.reads.made.made in
       ∥∥₁_elim made.explained le_prop (λ x.
-      ∥∥₁_elim (made.over keeps) le_prop (λ one. read_short owner n range bytes _ (viewed_state t.reads.made.took) (state_seen t.read) x one))
+      ∥∥₁_elim (made.over keeps) le_prop (λ one. read_short owner n range bytes (bytes_of t.reads.made.took.disk.now) (viewed_state t.reads.made.took) (state_seen t.read) x one))
 
   fetched_fits : (owner : Owner) (n : ObjectId) (range : Range) (result : Result (List ℕ) PoolError) (old new : Handle Dev G) → Fetches owner n range result old new → IfOk result (λ bytes. Fits (room_of_call (call.Read n range)) (outcome.Bytes bytes))
   fetched_fits owner n range (Ok bytes) old new t =
       let short = fetched_short owner n range bytes old new t in
-      let size : length (bytes_of_outcome (outcome.Bytes bytes)) ≡ 5 + length bytes = refl in
+      let size : length (bytes_of_outcome (outcome.Bytes bytes)) ≡ 5 + length bytes = omega arith in
       omega (arith, short, size)
   fetched_fits owner n range (Err e) old new t = tt
 
   listed_fits : (first past : ObjectId) (result : Result (List Listed) PoolError) (old new : Handle Dev G) → ListsObjects first.0 past.0 result old new → IfOk result (λ listed. Fits (room_of_call (call.Objects first past)) (outcome.Objects listed))
   listed_fits first past (Ok listed) old new l =
       let some : length listed ≤ min (past.0 - first.0) object_count = room_below (state_seen new).shown.contents past.0 first.0 listed l.objects in
-      let size : length (bytes_of_outcome (outcome.Objects listed)) ≡ 5 + length (flat_map bytes_of_listed listed) = refl in
+      let size : length (bytes_of_outcome (outcome.Objects listed)) ≡ 5 + length (flat_map bytes_of_listed listed) = omega arith in
       omega (arith, some, size, length-listed listed)
   listed_fits first past (Err e) old new l = tt
 
@@ -117,7 +147,7 @@ module _ {Dev : Type 0} {G : Ghosts Dev} (keeps : IsTrue G.keeps_model) where
       told {s} {t} (Ok other, is, h) named =
           let same : name ≡ s.shown.contents.name = (let given : name ≡ other = cc in given ∙ h.0) in
           let short : length name ≤ max_name = name_short name (subst IsName (sym same) named) in
-          let size : length (bytes_of_outcome (outcome.Name name)) ≡ 5 + length name = refl in
+          let size : length (bytes_of_outcome (outcome.Name name)) ≡ 5 + length name = omega arith in
           omega (arith, short, size)
       told (Err e, is, h) named = absurd h
 
@@ -133,30 +163,11 @@ module _ {Dev : Type 0} {G : Ghosts Dev} (keeps : IsTrue G.keeps_model) where
   call_fits owner call.Sync o old new (result, made, is) = by_result outcome.Synced least_room result o (omega arith) (all_fit result (λ x. let size : length (bytes_of_outcome (outcome.Synced x)) ≡ 9 = refl in omega (arith, size))) is
   call_fits owner call.Name o old new (name, made, is) = subst (Fits least_room) (sym is) (name_fits name old new made)
 
-  -- each answer fits the room of its request
-  abbrev AllFit : List Request → List Answer → Type 0
-  AllFit [] [] = Unit {0}
-  AllFit (r ∷ rs) (a ∷ answers) = Fits (room_of_call r.call) a.outcome × AllFit rs answers
-  AllFit [] (a ∷ answers) = ⊥
-  AllFit (r ∷ rs) [] = ⊥
-
   calls_fit : (owner : Owner) (rs : List Request) (answers : List Answer) (old new : Handle Dev G) → MakesCalls owner rs answers old new → AllFit rs answers
   calls_fit owner [] [] old new same = tt
   calls_fit owner (r ∷ rs) (a ∷ answers) old new (next, numbered, made, rest) = (call_fits owner r.call a.outcome old next made, calls_fit owner rs answers next new rest)
   calls_fit owner [] (a ∷ answers) old new h = absurd h
   calls_fit owner (r ∷ rs) [] old new h = absurd h
-
-  least_of : (c : Call) → least_room ≤ room_of_call c
-  least_of (call.Transact r) = omega arith
-  least_of (call.TransactDurably r) = omega arith
-  least_of (call.Read object range) = omega arith
-  least_of (call.Length object) = omega arith
-  least_of (call.Objects first past) = omega arith
-  least_of call.Status = omega arith
-  least_of (call.Durable receipt) = omega arith
-  least_of call.Flush = omega arith
-  least_of call.Sync = omega arith
-  least_of call.Name = omega arith
 
   asked_fits : (c : Call) (e : PoolError) (m a : Answer) (old new : Handle Dev G) → Asks e m a old new → Fits (room_of_call c) m.outcome → Fits (room_of_call c) a.outcome
   asked_fits c e m a old new (inl (none, same, still)) fits = subst (λ (x : Answer). Fits (room_of_call c) x.outcome) (sym same) fits
@@ -177,16 +188,6 @@ module _ {Dev : Type 0} {G : Ghosts Dev} (keeps : IsTrue G.keeps_model) where
   durable_fit rs made answers old new (inl (none, same, still)) fit = subst (AllFit rs) (sym same) fit
   durable_fit rs made answers old new (inr (awaits, inl (same, flushes))) fit = subst (AllFit rs) (sym same) fit
   durable_fit rs made answers old new (inr (awaits, inr (e, flushed, refused, asked))) fit = all_asked_fit e rs made answers flushed new asked fit
-
-  all_bytes_fit : (rs : List Request) (answers : List Answer) → AllFit rs answers → length (flat_map bytes_of_answer answers) ≤ sum_by (λ (r : Request). room_of_call r.call) rs
-  all_bytes_fit [] [] fit = omega arith
-  all_bytes_fit (r ∷ rs) (a ∷ answers) fit =
-      let others = all_bytes_fit rs answers fit.1 in
-      let one : 8 + length (bytes_of_outcome a.outcome) ≤ room_of_call r.call = fit.0 in
-      let size : length (bytes_of_answer a) ≡ 8 + length (bytes_of_outcome a.outcome) = refl in
-      omega (arith, others, one, size, length-append (bytes_of_answer a) (flat_map bytes_of_answer answers))
-  all_bytes_fit [] (a ∷ answers) fit = absurd fit
-  all_bytes_fit (r ∷ rs) [] fit = absurd fit
 
   pub answers_fit : (owner : Owner) (rs : List Request) (made answers : List Answer) (old middle new : Handle Dev G) → MakesCalls owner rs made old middle → MakesDurable made answers middle new → size_of_answers answers ≤ room_of_answers rs
   answers_fit owner rs made answers old middle new makes flushes =
