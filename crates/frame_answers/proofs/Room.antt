@@ -8,6 +8,7 @@ use Rattle.std.proofs.Math.Logic.{∥∥₁_elim}
 use Rattle.std.proofs.Math.Nat.{le-min, min-le_left, min-le_right}
 use Rattle.std.proofs.lemmas.Bool.{and_parts, false≢true, leb-true}
 use Rattle.std.proofs.lemmas.List.{length-drop, length-take}
+use Rattle.std.proofs.lemmas.List.Sums.{sum_by-cons}
 use Rattle.base.specs.declared.error.PoolError.{PoolError}
 use Rattle.base.specs.declared.names.ObjectId.{ObjectId}
 use Rattle.base.specs.declared.names.Owner.{Owner}
@@ -111,8 +112,8 @@ all_bytes_fit [] [] fit = omega arith
 all_bytes_fit (r ∷ rs) (a ∷ answers) fit =
     let others = all_bytes_fit rs answers fit.1 in
     let one : 8 + length (bytes_of_outcome a.outcome) ≤ room_of_call r.call = fit.0 in
-    let size : length (bytes_of_answer a) ≡ 8 + length (bytes_of_outcome a.outcome) = omega arith in
-    omega (arith, others, one, size, length-append (bytes_of_answer a) (flat_map bytes_of_answer answers))
+    let sum : sum_by (λ (r : Request). room_of_call r.call) (r ∷ rs) ≡ room_of_call r.call + sum_by (λ (r : Request). room_of_call r.call) rs = sum_by-cons (λ (r : Request). room_of_call r.call) r rs in
+    omega (arith, others, one, sum, length-append (bytes_of_outcome a.outcome) (flat_map bytes_of_answer answers))
 all_bytes_fit [] (a ∷ answers) fit = absurd fit
 all_bytes_fit (r ∷ rs) [] fit = absurd fit
 

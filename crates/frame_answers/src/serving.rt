@@ -60,8 +60,10 @@ pub fn serve<'b, D: SectorDevice, W: Wait, R: Read, O: Write>(
 {
     let mut handle = pool.handle();
     let ending = answer_all(&mut handle, rt, alloc, input, output);
-    handle.sync_pool(rt)?;
-    Ok(ending)
+    match handle.sync_pool(rt) {
+        Ok(_) => Ok(ending),
+        Err(error) => Err(error),
+    }
 }
 
 /// Answers all frames of the input, until it ends.
@@ -102,7 +104,10 @@ fn answer_next<'a, 'b, 'p, D: SectorDevice, W: Wait, R: Read, O: Write>(
         (record { input = R.remaining input.old; output = O.contents output.old })
         (record { input = R.remaining input.new; output = O.contents output.new }) }
 {
-    read_frame(input, frame)?;
+    match read_frame(input, frame) {
+        Ok(()) => {}
+        Err(ending) => return Err(ending),
+    }
     answer.clear();
     if answer_frame(handle, rt, alloc, PROGRAM, frame.as_slice(), answer).is_err() {
         return Err(Ending::NoMemory);
@@ -160,7 +165,10 @@ fn read_rest<R: Read>(
     ensures { OnOk result ((rest : List ℕ) × (frame.new.items ≡ length.now ++ rest)
         × Consumes (R.remaining input.old) (R.remaining input.new) rest) }
 {
-    start_frame(frame, length)?;
+    match start_frame(frame, length) {
+        Ok(()) => {}
+        Err(ending) => return Err(ending),
+    }
     if frame.resize(size, 0).is_err() {
         return Err(Ending::NoMemory);
     }
