@@ -4,3 +4,4 @@ pub mod Durable
 pub mod ListedBelow
 pub mod Room
 pub mod Served
+pub mod ClientFrames

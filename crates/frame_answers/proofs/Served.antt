@@ -1,13 +1,13 @@
 -- Frames that are answered one after another, as a loop does, are all answered; and the bytes of all were moved.
 use Rattle.std.proofs.Common.{◌≡◌, ◌∷◌, ◌++◌, [], ℕ, List, append_assoc, append-nil, ap, refl, subst, sym, ◌∙◌}
 use Rattle.std.specs.Prelude.{None, Option, Some, Result, Ok, Err}
-use Rattle.std.specs.Io.KnownBytes.{Appends, Consumes}
+use Rattle.std.specs.Io.KnownBytes.{Appends, Consumes, Keeps}
 use Rattle.std.proofs.lemmas.Grind.{flat_map-append}
 use Rattle.base.specs.declared.names.Owner.{Owner}
 use Rattle.device_model.specs.declared.device.SectorDevice.{Ghosts}
 use Rattle.pool_threads.specs.declared.handle.Handle.{Handle}
 use Rattle.frame_answers.specs.Frames.{AnswersFrame}
-use Rattle.frame_answers.specs.Serving.{AnswersFrames, EndsWell, Exchange, Exchanges, GoesOnWell, Streams, answers_of, frames_of}
+use Rattle.frame_answers.specs.Serving.{AnswersFrames, EndsWell, Exchange, Exchanges, GoesOnWell, ReadsFrame, Streams, answers_of, frames_of}
 use Rattle.frame_answers.specs.declared.serving.Ending.{Ending}
 use Rattle.frame_answers.specs.declared.serving.Ending.TheVariants as ending
 
@@ -22,6 +22,20 @@ appends_then None b c x y p q = tt
 appends_then (Some xs) None c x y p q = absurd p
 appends_then (Some xs) (Some ys) None x y p q = absurd q
 appends_then (Some xs) (Some ys) (Some zs) x y p q = q ∙ ap (λ (l : List ℕ). l ++ y) p ∙ append_assoc xs x y
+
+-- nothing is added
+pub appends_kept : (a b c : Option (List ℕ)) (x : List ℕ) → Appends a b x → Keeps b c → Appends a c x
+appends_kept None b c x p q = tt
+appends_kept (Some xs) None c x p q = absurd p
+appends_kept (Some xs) (Some ys) None x p q = absurd q
+appends_kept (Some xs) (Some ys) (Some zs) x p q = q ∙ p
+
+-- how an input ended, whatever was read
+pub ends_same : (e : Ending) (x y : List ℕ) (a b : Option (List ℕ)) → ReadsFrame (Err e) x a b → ReadsFrame (Err e) y a b
+ends_same ending.Done x y a b p = p
+ends_same ending.CutOff x y a b p = tt
+ends_same ending.Failed x y a b p = tt
+ends_same ending.NoMemory x y a b p = tt
 
 pub exchanges_none : (old : Streams) → Exchanges [] old old
 exchanges_none old = record { reads = none_read old.input; writes = none_written old.output }
@@ -46,7 +60,22 @@ ends_then ending.CutOff xs ys a b c p q = tt
 ends_then ending.Failed xs ys a b c p q = tt
 ends_then ending.NoMemory xs ys a b c p q = tt
 
+-- one frame and its answer
+exchanges_one : (x : Exchange) (a b : Streams) → Consumes a.input b.input x.frame → Appends a.output b.output x.answer → Exchanges (x ∷ []) a b
+exchanges_one x a b reads writes = record {
+  reads = subst (Consumes a.input b.input) (sym (append-nil x.frame)) reads;
+  writes = subst (Appends a.output b.output) (sym (append-nil x.answer)) writes;
+}
+
 module _ {Dev : Type 0} {G : Ghosts Dev} (owner : Owner) where
+  -- a frame that was answered, and what was written of it
+  pub exchanged : (frame shown cleared out sent : List ℕ) (a b : Streams) (old new : Handle Dev G) → ((answer : List ℕ) × AnswersFrame owner shown answer old new × (out ≡ cleared ++ answer))
+      → cleared ≡ [] → shown ≡ frame → sent ≡ out → Consumes a.input b.input frame → Appends a.output b.output sent → (xs : List Exchange) × AnswersFrames owner xs old new × Exchanges xs a b
+  exchanged frame shown cleared out sent a b old new (answer, answered, added) empty same whole reads writes =
+      let x : Exchange = record { frame = shown; answer = answer } in
+      let all : sent ≡ answer = whole ∙ added ∙ ap (λ (l : List ℕ). l ++ answer) empty in
+      (x ∷ [], (new, answered, refl), exchanges_one x a b (subst (Consumes a.input b.input) (sym same) reads) (subst (Appends a.output b.output) all writes))
+
   pub answers_then : (xs ys : List Exchange) (a b c : Handle Dev G) → AnswersFrames owner xs a b → AnswersFrames owner ys b c → AnswersFrames owner (xs ++ ys) a c
   answers_then [] ys a b c same rest = subst (λ (h : Handle Dev G). AnswersFrames owner ys h c) same rest
   answers_then (x ∷ xs) ys a b c (next, one, more) rest = (next, one, answers_then xs ys next b c more rest)

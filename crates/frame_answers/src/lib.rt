@@ -5,6 +5,7 @@
 
 mod answering;
 mod calls;
+mod clients;
 mod durability;
 mod listing;
 mod serving;

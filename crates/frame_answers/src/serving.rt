@@ -1,7 +1,7 @@
 //! The frames of an input, one after another, each answered before the next is read.
 
-ghost use Rattle.std.specs.Prelude.{ℕ, ◌≡◌, ◌≤◌, ◌++◌, [], List, Result, Err, IfErr, IfOk, OnOk};
-ghost use Rattle.std.specs.Io.KnownBytes.{Consumes};
+ghost use Rattle.std.specs.Prelude.{ℕ, ◌≡◌, ◌≤◌, ◌++◌, List, Result, Err, IfErr, IfOk, OnOk, length, take, true};
+ghost use Rattle.std.specs.Io.KnownBytes.{Appends, Consumes};
 ghost use Rattle.base.specs.declared.error.PoolError as declared_error;
 ghost use Rattle.base.specs.declared.names.Group as group;
 ghost use Rattle.frame_answers.specs.Serving.{AnswersFrames, EndsWell, Exchange, GoesOnWell, ReadsFrame, ServesFrames, program};
@@ -13,7 +13,7 @@ use device_model::SectorDevice;
 use frames::{FRAME_HEAD, MAX_FRAME};
 use pool_threads::{Handle, Pool};
 use std::alloc::Global;
-use std::io::{Read, Write};
+use std::io::{self, Read, Write};
 use std::sync::Wait;
 
 /// The bytes of a frame's length.
@@ -82,8 +82,9 @@ fn answer_all<'a, 'b, 'p, D: SectorDevice, W: Wait, R: Read, O: Write>(
     let mut frame = Vec::new(alloc);
     let mut answer = Vec::new(alloc);
     for _ in rt.forever() {
-        if let Err(ending) = answer_next(handle, rt, alloc, input, output, &mut frame, &mut answer) {
-            return ending;
+        match answer_next(handle, rt, alloc, input, output, &mut frame, &mut answer) {
+            Ok(()) => {}
+            Err(ending) => return ending,
         }
     }
     unreachable!()
@@ -109,16 +110,28 @@ fn answer_next<'a, 'b, 'p, D: SectorDevice, W: Wait, R: Read, O: Write>(
         Err(ending) => return Err(ending),
     }
     answer.clear();
-    if answer_frame(handle, rt, alloc, PROGRAM, frame.as_slice(), answer).is_err() {
-        return Err(Ending::NoMemory);
+    match answer_frame(handle, rt, alloc, PROGRAM, frame.as_slice(), answer) {
+        Ok(()) => {}
+        Err(_) => return Err(Ending::NoMemory),
     }
-    if output.write_all(answer.as_slice()).is_err() || output.flush().is_err() {
-        return Err(Ending::Failed);
+    match write_answer(output, answer.as_slice()) {
+        Ok(()) => {}
+        Err(_) => return Err(Ending::Failed),
     }
     if frame.len() == LENGTH_SIZE {
         return Err(Ending::CutOff);
     }
     Ok(())
+}
+
+/// Writes an answer, and flushes the output.
+fn write_answer<O: Write>(output: &mut O, answer: &[u8]) -> io::Result<()>
+    ensures { OnOk result (Appends (O.contents output.old) (O.contents output.new) answer.now) }
+{
+    match output.write_all(answer) {
+        Ok(()) => output.flush(),
+        Err(error) => Err(error),
+    }
 }
 
 /// Reads a frame in place of the bytes that there were. If its length can't be a frame's, these four bytes are all:
@@ -128,52 +141,55 @@ fn read_frame<R: Read>(input: &mut R, frame: &mut Vec<u8>) -> Result<(), Ending>
 {
     frame.clear();
     let mut length = [0; LENGTH_SIZE];
+    match read_length(input, &mut length) {
+        Ok(()) => {}
+        Err(ending) => return Err(ending),
+    }
+    match frame.extend_from_slice(&length) {
+        Ok(()) => {}
+        Err(_) => return Err(Ending::NoMemory),
+    }
+    let size = u32::from_le_bytes(length);
+    if !is_size(size) {
+        return Ok(());
+    }
+    match frame.resize(size as usize, 0) {
+        Ok(()) => {}
+        Err(_) => return Err(Ending::NoMemory),
+    }
+    match read_rest(input, frame) {
+        Ok(()) => Ok(()),
+        Err(_) => Err(Ending::CutOff),
+    }
+}
+
+/// Whether a frame may have this length.
+fn is_size(size: u32) -> bool
+    ensures { result ≡ true → 4 ≤ size }
+{
+    size >= FRAME_HEAD as u32 && u64::from(size) <= MAX_FRAME
+}
+
+/// Reads the length of a frame.
+fn read_length<R: Read>(input: &mut R, length: &mut [u8; LENGTH_SIZE]) -> Result<(), Ending>
+    ensures { ReadsFrame result length.new (R.remaining input.old) (R.remaining input.new) }
+{
     match input.read(&mut length[..1]) {
         Ok(0) => return Err(Ending::Done),
         Ok(_) => {}
         Err(_) => return Err(Ending::Failed),
     }
-    if input.read_exact(&mut length[1..]).is_err() {
-        return Err(Ending::CutOff);
-    }
-    let size = u32::from_le_bytes(length);
-    if size < FRAME_HEAD as u32 || u64::from(size) > MAX_FRAME {
-        return start_frame(frame, &length);
-    }
-    read_rest(input, frame, &length, size as usize)
-}
-
-/// Begins a frame with the bytes of its length.
-fn start_frame(frame: &mut Vec<u8>, length: &[u8; LENGTH_SIZE]) -> Result<(), Ending>
-    ensures { OnOk result (frame.new.items ≡ frame.old.items ++ length.now) }
-{
-    match frame.extend_from_slice(length) {
+    match input.read_exact(&mut length[1..]) {
         Ok(()) => Ok(()),
-        Err(_) => Err(Ending::NoMemory),
+        Err(_) => Err(Ending::CutOff),
     }
 }
 
-/// Reads a frame of this size, which begins with these bytes. There are no others yet.
-fn read_rest<R: Read>(
-    input: &mut R,
-    frame: &mut Vec<u8>,
-    length: &[u8; LENGTH_SIZE],
-    size: usize,
-) -> Result<(), Ending>
-    requires size { 4 ≤ size }
-    requires empty { frame.old.items ≡ [] }
-    ensures { OnOk result ((rest : List ℕ) × (frame.new.items ≡ length.now ++ rest)
+/// Reads what follows the length of a frame.
+fn read_rest<R: Read>(input: &mut R, frame: &mut Vec<u8>) -> io::Result<()>
+    requires { 4 ≤ length frame.old.items }
+    ensures { OnOk result ((rest : List ℕ) × (frame.new.items ≡ take 4 frame.old.items ++ rest)
         × Consumes (R.remaining input.old) (R.remaining input.new) rest) }
 {
-    match start_frame(frame, length) {
-        Ok(()) => {}
-        Err(ending) => return Err(ending),
-    }
-    if frame.resize(size, 0).is_err() {
-        return Err(Ending::NoMemory);
-    }
-    if input.read_exact(&mut frame.as_mut_slice()[LENGTH_SIZE..]).is_err() {
-        return Err(Ending::CutOff);
-    }
-    Ok(())
+    input.read_exact(&mut frame.as_mut_slice()[LENGTH_SIZE..])
 }

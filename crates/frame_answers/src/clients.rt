@@ -1,0 +1,124 @@
+//! What callers rest on: one function for each promise of this crate's calls, proved from the contract of the call
+//! alone. So it is refused as soon as that contract says less.
+
+ghost use Rattle.std.specs.Prelude.{ℕ, ◌≡◌, ◌≢◌, ◌⊎◌, ◌++◌, ◌∷◌, [], All, Err, IfErr, IfOk, IfSome, IsTrue, List, Ok, OnErr, OnOk, Option, Result, Some};
+ghost use Rattle.base.specs.declared.error.PoolError as error;
+ghost use Rattle.base.specs.declared.names.Group as group;
+ghost use Rattle.base.specs.declared.names.Receipt as receipt;
+ghost use Rattle.device_model.specs.declared.device.SectorDevice as device;
+ghost use Rattle.frame_answers.specs.Calls.{durable_receipt, outcome_of};
+ghost use Rattle.frame_answers.specs.Frames.{AnswersFrame};
+ghost use Rattle.frame_answers.specs.Serving.{AnswersFrames, Exchange, answers_of, frames_of, program};
+ghost use Rattle.frames.specs.Answers.{bytes_of_answers, bytes_of_refused};
+ghost use Rattle.frames.specs.Requests.{IsFrameOf};
+ghost use Rattle.frames.specs.declared.answer.Answer as answer;
+ghost use Rattle.frames.specs.declared.answer.Outcome.TheVariants as outcome;
+ghost use Rattle.frames.specs.declared.error.FrameError as refusal;
+ghost use Rattle.frames.specs.declared.request.Call.TheVariants as call;
+ghost use Rattle.frames.specs.declared.request.Request as request;
+ghost use Rattle.pool_threads.specs.declared.handle.Handle as handles;
+ghost use Rattle.pool_threads.specs.Answers.{Sees};
+ghost use Rattle.pool_threads.specs.Handles.{IsNewHandle, shared_of};
+ghost use Rattle.pool_threads.specs.Transacts.{TransactsOrLacks};
+ghost use Rattle.pool_threads.specs.Waits.{LeavesDurable, SyncsPool};
+ghost use Rattle.transactions.specs.declared.record.Record as records;
+
+use crate::answering::answer_frame;
+use crate::serving::{Ending, serve};
+use base::{Owner, PoolError};
+use device_model::SectorDevice;
+use frames::{FrameError, frames_agree};
+use pool_threads::{Handle, Pool};
+use std::alloc::Global;
+use std::io::{Read, Write};
+use std::sync::Wait;
+
+// Bytes that no requests are spelled by are answered by a refusal, and the handle has done nothing.
+fn a_malformed_frame_changes_nothing<D: SectorDevice, W: Wait>(
+    rt: &W,
+    alloc: Global,
+    handle: &mut Handle<'_, D>,
+    bytes: &[u8],
+    out: &mut Vec<u8>,
+) -> Result<(), FrameError>
+    requires { (requests : List request.Request) → IsFrameOf bytes.now requests → ⊥ }
+    ensures unchanged { handle.new ≡ handle.old }
+    ensures refused { OnOk result ((e : refusal.FrameError)
+        × (out.new.items ≡ out.old.items ++ bytes_of_refused e)) }
+{
+    answer_frame(handle, rt, alloc, Owner(1), bytes, out)
+}
+
+// If the frame was answered by answers, each that says `MadeDurable` is right: no crash loses that commit.
+fn an_answer_of_a_durable_transaction_comes_after_its_flush<D: SectorDevice, W: Wait>(
+    rt: &W,
+    alloc: Global,
+    handle: &mut Handle<'_, D>,
+    bytes: &[u8],
+    out: &mut Vec<u8>,
+) -> Result<(), FrameError>
+    ensures { OnOk result (((e : refusal.FrameError)
+        × (out.new.items ≡ out.old.items ++ bytes_of_refused e))
+        ⊎ ((answers : List answer.Answer)
+        × (out.new.items ≡ out.old.items ++ bytes_of_answers answers)
+        × All (λ a. IfSome (durable_receipt a.outcome)
+        (λ r. Sees (LeavesDurable r) handle.old handle.new)) answers)) }
+{
+    answer_frame(handle, rt, alloc, Owner(1), bytes, out)
+}
+
+// The first is made before the second, each with a result of its own, and both results are answered in that order. Or
+// there was no memory, and neither is made.
+fn two_transactions_of_a_frame_are_made_in_order<D: SectorDevice, W: Wait>(
+    rt: &W,
+    alloc: Global,
+    handle: &mut Handle<'_, D>,
+    bytes: &[u8],
+    out: &mut Vec<u8>,
+) -> Result<(), FrameError>
+    ensures { (a b : records.Record) → IsFrameOf bytes.now
+        (record { number = 1; call = call.Transact a }
+        ∷ record { number = 2; call = call.Transact b } ∷ [])
+        → (handle.new ≡ handle.old)
+        ⊎ ((first second : Result receipt.Receipt error.PoolError) × (next : handles.Handle _ _)
+        × TransactsOrLacks (record { 0 = 1 }) a.ops first handle.old next
+        × TransactsOrLacks (record { 0 = 1 }) b.ops second next handle.new
+        × OnOk result (out.new.items ≡ out.old.items ++ bytes_of_answers
+        (record { number = 1; outcome = outcome_of outcome.Transacted first }
+        ∷ record { number = 2; outcome = outcome_of outcome.Transacted second } ∷ []))) }
+{
+    frames_agree();
+    answer_frame(handle, rt, alloc, Owner(1), bytes, out)
+}
+
+// It answered frames, and then synced the pool: it made no other steps.
+fn a_serve_only_answers_frames_and_syncs<D: SectorDevice, W: Wait, R: Read, O: Write>(
+    rt: &W,
+    alloc: Global,
+    pool: &Pool<D>,
+    input: &mut R,
+    output: &mut O,
+) -> Result<Ending, PoolError>
+    ensures { (exchanges : List Exchange) × (first served last : handles.Handle _ _)
+        × (synced : Result group.Group error.PoolError)
+        × IsNewHandle (shared_of pool.entry.now) first
+        × AnswersFrames program exchanges first served
+        × SyncsPool synced served last }
+{
+    serve(rt, alloc, pool, input, output)
+}
+
+// An input of known bytes that ended after a whole frame is those frames, and the output got the answers to them.
+fn a_serve_that_ends_well_answered_all_of_its_input<D: SectorDevice, W: Wait>(
+    rt: &W,
+    alloc: Global,
+    pool: &Pool<D>,
+    input: &mut &[u8],
+    output: &mut Vec<u8>,
+) -> Result<Ending, PoolError>
+    ensures { result ≡ Ok Ending.Done → (exchanges : List Exchange)
+        × (frames_of exchanges ≡ input.old.now)
+        × (output.new.items ≡ output.old.items ++ answers_of exchanges) }
+{
+    serve(rt, alloc, pool, input, output)
+}
