@@ -1,6 +1,7 @@
 -- What a frame's contract says of the frames that clients speak of.
 use Rattle.std.proofs.Common.{◌≡◌, ◌≤◌, ◌<◌, ◌+◌, ◌⊎◌, ◌++◌, ◌∷◌, [], ℕ, zero, suc, List, inl, inr, length, refl, sym, ap, subst, ◌∙◌}
 use Rattle.std.specs.Prelude.{All, IfSome, IsSome, None, OnOk, Option, Result, Ok, Err, Some}
+use Rattle.std.proofs.lemmas.Bool.{false≢true}
 use Rattle.std.proofs.lemmas.List.Elements.{All-cons, All-nil}
 use Rattle.base.specs.declared.error.PoolError.{PoolError}
 use Rattle.base.specs.declared.names.Owner.{Owner}
@@ -41,13 +42,20 @@ no_flush : (answers : List Answer) → AwaitsNoFlush answers → AwaitsFlush ans
 no_flush answers none (a, (k, below, is), some) = never_some (durable_receipt a.outcome) (subst (λ (x : Answer). durable_receipt x.outcome ≡ None) is (none k a below)) some
   where
     never_some : (o : Option Receipt) → o ≡ None → IsSome o → ⊥
-    never_some None is some = some
+    never_some None is some = absurd (false≢true some)
     never_some (Some r) is some = absurd (let no_way : Some r ≡ None = is in cc)
 
-module _ {Dev : Type 0} {G : Ghosts Dev} (owner : Owner) (a b : Record) where
-  abbrev both : List Request
-  both = record { number = 1; call = call.Transact a } ∷ record { number = 2; call = call.Transact b } ∷ []
+-- two transactions, as the requests of a frame, and what they are answered
+abbrev both : Record → Record → List Request
+both a b = record { number = 1; call = call.Transact a } ∷ record { number = 2; call = call.Transact b } ∷ []
 
+abbrev answers_to_both : Result Receipt PoolError → Result Receipt PoolError → List Answer
+answers_to_both first second = record { number = 1; outcome = outcome_of outcome.Transacted first } ∷ record { number = 2; outcome = outcome_of outcome.Transacted second } ∷ []
+
+same_answer : (x : Answer) (n : ℕ) (o : Outcome) → x.number ≡ n → x.outcome ≡ o → x ≡ record { number = n; outcome = o }
+same_answer x n o is so = ap (λ (m : ℕ). record { number = m; outcome = x.outcome }) is ∙ ap (λ (y : Outcome). record { number = n; outcome = y }) so
+
+module _ {Dev : Type 0} {G : Ghosts Dev} (owner : Owner) (a b : Record) where
   -- both transactions were made, in order, and these are the answers
   pub record MakesBoth (answers : List Answer) (old new : Handle Dev G) : Type 0 where
     pub first : Result Receipt PoolError
@@ -55,12 +63,9 @@ module _ {Dev : Type 0} {G : Ghosts Dev} (owner : Owner) (a b : Record) where
     pub next : Handle Dev G
     pub one : TransactsOrLacks owner a.ops first old next
     pub other : TransactsOrLacks owner b.ops second next new
-    pub answers_are : answers ≡ record { number = 1; outcome = outcome_of outcome.Transacted first } ∷ record { number = 2; outcome = outcome_of outcome.Transacted second } ∷ []
+    pub answers_are : answers ≡ answers_to_both first second
 
-  same_answer : (x : Answer) (n : ℕ) (o : Outcome) → x.number ≡ n → x.outcome ≡ o → x ≡ record { number = n; outcome = o }
-  same_answer x n o is so = ap (λ (m : ℕ). record { number = m; outcome = x.outcome }) is ∙ ap (λ (y : Outcome). record { number = n; outcome = y }) so
-
-  made_both : (made answers : List Answer) (old middle new : Handle Dev G) → MakesCalls owner both made old middle → MakesDurable made answers middle new → MakesBoth answers old new
+  made_both : (made answers : List Answer) (old middle new : Handle Dev G) → MakesCalls owner (both a b) made old middle → MakesDurable made answers middle new → MakesBoth answers old new
   made_both (x ∷ y ∷ []) answers old middle new (next, number_x, (first, one, is_x), (last, number_y, (second, other, is_y), end)) flushes = by flushes
     where
       none : AwaitsNoFlush (x ∷ y ∷ [])
@@ -81,12 +86,12 @@ module _ {Dev : Type 0} {G : Ghosts Dev} (owner : Owner) (a b : Record) where
   made_both (x ∷ []) answers old middle new (next, number, made, h) flushes = absurd h
   made_both (x ∷ y ∷ z ∷ more) answers old middle new (next, number, made, (last, numbered, other, h)) flushes = absurd h
 
-  pub both_in_order : FramesAgree → (bytes answer : List ℕ) (old new : Handle Dev G) → IsFrameOf bytes both → AnswersFrame owner bytes answer old new
+  pub both_in_order : FramesAgree → (bytes answer : List ℕ) (old new : Handle Dev G) → IsFrameOf bytes (both a b) → AnswersFrame owner bytes answer old new
       → (new ≡ old) ⊎ ((answers : List Answer) × MakesBoth answers old new × (answer ≡ bytes_of_answers answers))
   both_in_order agree bytes answer old new spelled (inl refused) = inl refused.unchanged
   both_in_order agree bytes answer old new spelled (inr x) =
-      let same : x.requests ≡ both = agree bytes x.requests both x.spelled spelled in
-      let makes : MakesCalls owner both x.makes.made old x.makes.middle = subst (λ (rs : List Request). MakesCalls owner rs x.makes.made old x.makes.middle) same x.makes.makes in
+      let same : x.requests ≡ both a b = agree bytes x.requests (both a b) x.spelled spelled in
+      let makes : MakesCalls owner (both a b) x.makes.made old x.makes.middle = subst (λ (rs : List Request). MakesCalls owner rs x.makes.made old x.makes.middle) same x.makes.makes in
       inr (x.answers, made_both x.makes.made x.answers old x.makes.middle new makes x.makes.flushes, x.answer_is)
 
 -- what follows of what a call appended, if it returned Ok
@@ -101,11 +106,7 @@ appended out new answer P (inl (e, is)) added = inl (e, added ∙ ap (λ (l : Li
 appended out new answer P (inr (answers, is, p)) added = inr (answers, added ∙ ap (λ (l : List ℕ). out ++ l) is, p)
 
 module _ {Dev : Type 0} {G : Ghosts Dev} (owner : Owner) (a b : Record) (agree : FramesAgree) where
-  -- what two transactions of a frame are answered
-  abbrev answers_to_both : Result Receipt PoolError → Result Receipt PoolError → List Answer
-  answers_to_both first second = record { number = 1; outcome = outcome_of outcome.Transacted first } ∷ record { number = 2; outcome = outcome_of outcome.Transacted second } ∷ []
-
-  pub both_answered : {A E : Type 0} (bytes out new_out answer : List ℕ) (old new : Handle Dev G) (result : Result A E) → IsFrameOf bytes (both owner a b) → AnswersFrame owner bytes answer old new
+  pub both_answered : {A E : Type 0} (bytes out new_out answer : List ℕ) (old new : Handle Dev G) (result : Result A E) → IsFrameOf bytes (both a b) → AnswersFrame owner bytes answer old new
       → OnOk result (new_out ≡ out ++ answer)
       → (new ≡ old) ⊎ ((first second : Result Receipt PoolError) × (next : Handle Dev G) × TransactsOrLacks owner a.ops first old next × TransactsOrLacks owner b.ops second next new
       × OnOk result (new_out ≡ out ++ bytes_of_answers (answers_to_both first second)))
