@@ -37,7 +37,11 @@ module _ {Dev : Type 0} {G : Ghosts Dev} (owner : Owner) (bytes answer : List �
   durable_answers (inl refused) = inl (refused.error, refused.answer_is)
   durable_answers (inr a) = inr (a.answers, a.answer_is, a.makes.durable)
 
--- no answer among these awaits a flush
+-- an answer that awaits no flush
+abbrev IsQuiet : Answer → Type 0
+IsQuiet a = durable_receipt a.outcome ≡ None
+
+-- none among these awaits one
 no_flush : (answers : List Answer) → AwaitsNoFlush answers → AwaitsFlush answers → ⊥
 no_flush answers none (a, (k, below, is), some) = never_some (durable_receipt a.outcome) (subst (λ (x : Answer). durable_receipt x.outcome ≡ None) is (none k a below)) some
   where
@@ -69,7 +73,7 @@ module _ {Dev : Type 0} {G : Ghosts Dev} (owner : Owner) (a b : Record) where
   made_both (x ∷ y ∷ []) answers old middle new (next, number_x, (first, one, is_x), (last, number_y, (second, other, is_y), end)) flushes = by flushes
     where
       none : AwaitsNoFlush (x ∷ y ∷ [])
-      none = All-cons _ x (y ∷ []) (never outcome.Transacted (λ r. refl) first x.outcome is_x) (All-cons _ y [] (never outcome.Transacted (λ r. refl) second y.outcome is_y) (All-nil _))
+      none = All-cons IsQuiet x (y ∷ []) (never outcome.Transacted (λ r. refl) first x.outcome is_x) (All-cons IsQuiet y [] (never outcome.Transacted (λ r. refl) second y.outcome is_y) (All-nil IsQuiet))
 
       by : MakesDurable (x ∷ y ∷ []) answers middle new → MakesBoth answers old new
       by (inl (quiet, same, still)) = record {

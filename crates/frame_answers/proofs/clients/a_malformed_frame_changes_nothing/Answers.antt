@@ -1,5 +1,7 @@
 use Rattle.std.proofs.Common.{◌≡◌, ◌++◌, subst}
 use Rattle.std.specs.Prelude.{OnOk}
+use Rattle.frames.specs.Answers.{bytes_of_refused}
+use Rattle.frames.specs.declared.error.FrameError.{FrameError}
 use Rattle.frame_answers.proofs.ClientFrames.{malformed, ok_with}
 use Rattle.frame_answers.proofs.clients.a_malformed_frame_changes_nothing.Goals as goal
 
@@ -12,4 +14,5 @@ pub returns-clause-refused : goal.returns-clause-refused
 returns-clause-refused g c =
     let a = c.answer_frame.ensures.answered in
     let refused = malformed _ c.args.bytes.now a.0 c.args.handle.now c.answer_frame.new.handle c.requires a.1 in
-    ok_with c.answer_frame.result a.2 (λ added. (refused.error, subst (λ answer. c.answer_frame.new.out.items ≡ c.args.out.now.items ++ answer) refused.answer_is added))
+    ok_with {Q = (e : FrameError) × (c.answer_frame.new.out.items ≡ c.args.out.now.items ++ bytes_of_refused e)} c.answer_frame.result a.2
+    (λ added. (refused.error, subst (λ answer. c.answer_frame.new.out.items ≡ c.args.out.now.items ++ answer) refused.answer_is added))
