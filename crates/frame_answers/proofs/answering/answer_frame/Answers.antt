@@ -43,7 +43,7 @@ returns-clause-answered g c =
         answer_is = refl;
       }),
       subst (λ l. OnOk c.encode_answers.result (c.encode_answers.new.out.items ≡ l ++ bytes_of_answers all.result.items)) c.take_room.ensures.unchanged
-      (subst (λ answers. OnOk c.encode_answers.result (c.encode_answers.new.out.items ≡ c.take_room.new.out.items ++ bytes_of_answers answers)) c.as_slice-2.ensures.value c.encode_answers.ensures.bytes),
+          (subst (λ answers. OnOk c.encode_answers.result (c.encode_answers.new.out.items ≡ c.take_room.new.out.items ++ bytes_of_answers answers)) c.as_slice-2.ensures.value c.encode_answers.ensures.bytes),
     )
 
 pub returns-clause-none_made : goal.returns-clause-none_made
@@ -52,8 +52,8 @@ returns-clause-none_made g c = λ keeps.
     let all = c.make_durable-answers in
     let fit = answers_fit keeps c.args.owner c.in-Ok.requests.items made.result.items all.result.items c.args.handle.now made.new.handle all.new.handle made.ensures.made all.ensures in
     let fits : size_of_answers c.as_slice-2.result.now ≤ room_of_answers c.as_slice.result.now =
-        subst (λ answers. size_of_answers answers ≤ room_of_answers c.as_slice.result.now) (sym c.as_slice-2.ensures.value)
-        (subst (λ requests. size_of_answers all.result.items ≤ room_of_answers requests) (sym c.as_slice.ensures.value) fit) in
+    subst (λ answers. size_of_answers answers ≤ room_of_answers c.as_slice.result.now) (sym c.as_slice-2.ensures.value)
+    (subst (λ requests. size_of_answers all.result.items ≤ room_of_answers requests) (sym c.as_slice.ensures.value) fit) in
     let most : room_of_answers c.as_slice.result.now ≤ max_frame = subst (λ requests. room_of_answers requests ≤ max_frame) (sym c.as_slice.ensures.value) c.in-Ok.ensures.spelled.allowed.answers in
     let taken = c.in-Ok-take_room.ensures.room in
     never_err _ c.encode_answers.result (c.encode_answers.ensures.room (omega (arith, fits, taken)) (omega (arith, fits, most)))

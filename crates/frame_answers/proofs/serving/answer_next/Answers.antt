@@ -18,4 +18,4 @@ returns g c =
     let first : Streams = record { input = g.R.Read.remaining c.args.input.now; output = g.O.Write.contents c.args.output.now } in
     let last : Streams = record { input = g.R.Read.remaining c.read_frame.new.input; output = g.O.Write.contents c.write_answer.new.output } in
     exchanged program c.read_frame.new.frame.items c.as_slice.result.now c.clear.new.self.items c.answer_frame.new.out.items c.as_slice-2.result.now first last c.args.handle.now c.answer_frame.new.handle
-        c.in-Ok-answer_frame.ensures.answered c.clear.ensures.items c.as_slice.ensures.value c.as_slice-2.ensures.value c.in-Ok.ensures c.in-Ok-write_answer.ensures
+    c.in-Ok-answer_frame.ensures.answered c.clear.ensures.items c.as_slice.ensures.value c.as_slice-2.ensures.value c.in-Ok.ensures c.in-Ok-write_answer.ensures
