@@ -1,8 +1,7 @@
 -- A handle that makes the calls of a frame stays in its pool, and sees what goes on from what it had seen.
-use Rattle.std.proofs.Common.{◌≡◌, ◌⊎◌, ◌++◌, ◌∷◌, [], List, inl, inr, refl, sym, subst, ◌∙◌}
+use Rattle.std.proofs.Common.{◌++◌, ◌∷◌, [], List, inl, inr, refl, sym, subst}
 use Rattle.std.specs.Prelude.{ℕ, IsTrue, None, Option, Result, Ok, Err, Some}
 use Rattle.base.specs.declared.error.PoolError.{PoolError}
-use Rattle.base.specs.declared.error.PoolError.TheVariants as error
 use Rattle.base.specs.declared.names.Group.{Group}
 use Rattle.base.specs.declared.names.Owner.{Owner}
 use Rattle.base.specs.declared.names.Receipt.{Receipt}
@@ -13,13 +12,12 @@ use Rattle.device_model.specs.declared.device.SectorDevice.{Ghosts}
 use Rattle.pool_tables.specs.declared.duty.Duty.{Duty}
 use Rattle.pool_tables.specs.declared.duty.Duty.TheVariants as duty
 use Rattle.pool_threads.specs.declared.handle.Handle.{Handle}
-use Rattle.pool_threads.specs.Answers.{TakesAtLast, TakesOne}
 use Rattle.pool_threads.specs.Handles.{HasLooked, moment_of}
 use Rattle.pool_threads.specs.Objects.{IsListRefusal}
-use Rattle.pool_threads.specs.Serves.{AreDue, IsServedTurn, MakesDue}
+use Rattle.pool_threads.specs.Serves.{AreDue, MakesDue}
 use Rattle.pool_threads.specs.Transacts.{TransactsOrLacks, plan_of}
 use Rattle.pool_threads.specs.Views.{GrowsTo, SeenPool, grows_onward, grows_same}
-use Rattle.pool_threads.specs.Waits.{EndsFsync, EndsSyncing, FsyncsAll, IsLogOutcome, SyncsPool, SyncsUpTo, WritesLog}
+use Rattle.pool_threads.specs.Waits.{EndsFsync, EndsSyncing, FsyncsAll, SyncsPool, SyncsUpTo, WritesLog}
 use Rattle.pool_threads.proofs.Along.{GoesAlong, along_on, along_same}
 use Rattle.pool_threads.proofs.TransactsSeen.{at_last_along}
 use Rattle.pool_threads.proofs.Turned.{grows_by_one}

@@ -1,5 +1,5 @@
 -- What a frame's contract says of the frames that clients speak of.
-use Rattle.std.proofs.Common.{◌≡◌, ◌≤◌, ◌<◌, ◌+◌, ◌⊎◌, ◌++◌, ◌∷◌, [], ℕ, zero, suc, List, inl, inr, length, refl, sym, ap, subst, ◌∙◌}
+use Rattle.std.proofs.Common.{◌≡◌, ◌⊎◌, ◌++◌, ◌∷◌, [], ℕ, List, inl, inr, refl, sym, ap, subst, ◌∙◌}
 use Rattle.std.specs.Prelude.{All, IfSome, IsSome, None, OnOk, Option, Result, Ok, Err, Some}
 use Rattle.std.proofs.lemmas.Bool.{false≢true}
 use Rattle.std.proofs.lemmas.List.Elements.{All-cons, All-nil}
@@ -21,7 +21,7 @@ use Rattle.pool_threads.specs.Answers.{Sees}
 use Rattle.pool_threads.specs.Transacts.{TransactsOrLacks}
 use Rattle.pool_threads.specs.Waits.{LeavesDurable}
 use Rattle.transactions.specs.declared.record.Record.{Record}
-use Rattle.frame_answers.specs.Calls.{AwaitsFlush, AwaitsNoFlush, MakesAll, MakesCalls, MakesDurable, durable_receipt, outcome_of}
+use Rattle.frame_answers.specs.Calls.{AwaitsFlush, AwaitsNoFlush, MakesCalls, MakesDurable, durable_receipt, outcome_of}
 use Rattle.frame_answers.specs.Frames.{AnswersFrame, RefusesFrame}
 use Rattle.frame_answers.proofs.Durable.{never}
 

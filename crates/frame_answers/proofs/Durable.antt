@@ -1,14 +1,12 @@
 -- What a frame's durable transactions committed is durable in what the handle has seen at the end of the frame.
-use Rattle.std.proofs.Common.{◌≡◌, ◌⊎◌, ◌∷◌, [], ℕ, List, inl, inr, refl, sym, ap, subst, ◌∙◌}
-use Rattle.std.specs.Prelude.{All, IfOk, IfSome, None, Option, Result, Ok, Err, Some, slice_get, true, false}
+use Rattle.std.proofs.Common.{◌≡◌, ◌∷◌, [], ℕ, List, inl, inr, refl, sym, ap, subst, ◌∙◌}
+use Rattle.std.specs.Prelude.{All, IfSome, None, Option, Result, Ok, Err, Some, slice_get}
 use Rattle.std.proofs.lemmas.List.Elements.{All-cons, All-nil}
 use Rattle.std.proofs.Math.Logic.{∥∥₁_elim, ∥∥₁_map, ∥∥₁_prop}
 use Rattle.base.specs.declared.error.PoolError.{PoolError}
 use Rattle.base.specs.declared.names.Owner.{Owner}
 use Rattle.base.specs.declared.names.Receipt.{Receipt}
 use Rattle.base.specs.declared.operation.Op.{Op}
-use Rattle.base.specs.declared.step.Step.TheVariants as step
-use Rattle.base.specs.declared.step.Reply.TheVariants as reply
 use Rattle.base.specs.history.History.{Entry}
 use Rattle.base.specs.steps.ExactNow.{GoesOn}
 use Rattle.base.specs.steps.Seen.{IsKnownDurable}
@@ -23,15 +21,15 @@ use Rattle.frames.specs.declared.request.Call.{Call}
 use Rattle.frames.specs.declared.request.Call.TheVariants as call
 use Rattle.frames.specs.declared.request.Request.{Request}
 use Rattle.pool_threads.specs.declared.handle.Handle.{Handle}
-use Rattle.pool_threads.specs.Answers.{Makes, Sees, state_seen}
+use Rattle.pool_threads.specs.Answers.{state_seen}
 use Rattle.pool_threads.specs.Transacts.{TransactsOrLacks}
 use Rattle.pool_threads.specs.Views.{viewed_state}
-use Rattle.pool_threads.specs.Waits.{AreDurable, LeavesAllDurable, LeavesDurable}
+use Rattle.pool_threads.specs.Waits.{AreDurable, LeavesAllDurable}
 use Rattle.pool_threads.proofs.Along.{GoesAlong, along_made, along_on, along_same, seen_made}
 use Rattle.pool_threads.proofs.AnswersSeen.{durables_are_seen}
 use Rattle.pool_threads.proofs.FetchesSeen.{fetches_along}
 use Rattle.pool_threads.proofs.TransactsSeen.{entered_by}
-use Rattle.frame_answers.specs.Calls.{Asks, AsksAll, Flushes, IsDurableAs, ListsObjects, MakesCall, MakesCalls, MakesDurable, durable_receipt, outcome_of}
+use Rattle.frame_answers.specs.Calls.{Asks, AsksAll, IsDurableAs, ListsObjects, MakesCall, MakesCalls, MakesDurable, durable_receipt, outcome_of}
 use Rattle.frame_answers.proofs.Along.{along_fsyncs, along_lists, along_looked, along_syncs, along_transacts}
 
 -- the entry of a receipt is there

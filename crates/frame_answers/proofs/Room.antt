@@ -1,6 +1,6 @@
 -- The answers to requests fit the room that is kept for them, over a device that keeps the disk model.
-use Rattle.std.proofs.Common.{◌≡◌, ◌≤◌, ◌<◌, ◌+◌, ◌-◌, ◌*◌, ◌∷◌, ◌++◌, ◌&&◌, ℕ, [], List, ap, arith, inl, inr, length, length-append, refl, subst, sym, ◌∙◌}
-use Rattle.std.specs.Prelude.{Bool, Err, IfOk, IfSome, IsOk, IsTrue, None, Ok, OnErr, Option, Result, Some, false, is_none, min, nat_le, nat_lt, option_map, slice_index, sum_by, true}
+use Rattle.std.proofs.Common.{◌≡◌, ◌≤◌, ◌<◌, ◌+◌, ◌-◌, ◌∷◌, ◌&&◌, ℕ, [], List, ap, arith, inl, inr, length, length-append, refl, subst, sym, ◌∙◌}
+use Rattle.std.specs.Prelude.{Err, IfOk, IfSome, IsOk, IsTrue, None, Ok, OnErr, Option, Result, Some, false, is_none, min, nat_le, nat_lt, option_map, slice_index, sum_by, true}
 use Rattle.std.specs.FinMap as finite
 use Rattle.std.specs.List.{flat_map, list_all}
 use Rattle.std.proofs.Math.Bridge.{le_prop}
@@ -18,17 +18,15 @@ use Rattle.base.specs.declared.step.Step.TheVariants as step
 use Rattle.base.specs.disk.Disk.{bytes_of}
 use Rattle.base.specs.formats.Limits.{max_length, max_name, object_count}
 use Rattle.base.specs.formats.Names.{IsName, is_letter, is_name_byte, is_name_length}
-use Rattle.base.specs.history.Contents.{length_of}
 use Rattle.base.specs.steps.ExactNow.{IsExplainedNow}
 use Rattle.base.specs.steps.Refusals as refusal
 use Rattle.base.specs.steps.Refusals.{object_range}
 use Rattle.base.specs.steps.Runs.{Step}
-use Rattle.base.specs.steps.Shown.{Shown}
 use Rattle.base.specs.steps.Steps.{State, bytes_in}
 use Rattle.base.proofs.history.CommitOrder.{no_refusal, ok-none}
 use Rattle.device_model.specs.declared.device.SectorDevice.{Ghosts}
 use Rattle.frames.specs.Answers.{bytes_of_answer, bytes_of_listed, bytes_of_outcome, size_of_answers}
-use Rattle.frames.specs.Limits.{frame_head, least_room, listed_size}
+use Rattle.frames.specs.Limits.{least_room}
 use Rattle.frames.specs.Requests.{room_of_answers, room_of_call}
 use Rattle.frames.specs.declared.answer.Answer.{Answer}
 use Rattle.frames.specs.declared.answer.Outcome.{Outcome}
@@ -42,7 +40,7 @@ use Rattle.pool_threads.specs.declared.handle.Handle.{Handle}
 use Rattle.pool_threads.specs.Answers.{Makes, state_seen}
 use Rattle.pool_threads.specs.Fetches.{Fetches, ReadsUnderLock}
 use Rattle.pool_threads.specs.Views.{viewed_state}
-use Rattle.frame_answers.specs.Calls.{Asks, AsksAll, ListsObjects, MakesCall, MakesCalls, MakesDurable, durable_receipt, outcome_of}
+use Rattle.frame_answers.specs.Calls.{Asks, AsksAll, ListsObjects, MakesCall, MakesCalls, MakesDurable, outcome_of}
 use Rattle.frame_answers.proofs.ListedBelow.{room_below}
 
 -- what can't fail is never refused

@@ -1,4 +1,4 @@
-use Rattle.std.proofs.Common.{◌≡◌, ◌≤◌, ◌++◌, List, arith, inl, inr, refl, subst, sym}
+use Rattle.std.proofs.Common.{◌≡◌, ◌≤◌, ◌++◌, arith, inl, inr, refl, subst, sym}
 use Rattle.std.specs.Prelude.{OnOk}
 use Rattle.frames.specs.Answers.{bytes_of_answers, bytes_of_refused, size_of_answers}
 use Rattle.frames.specs.Limits.{max_frame}

@@ -1,5 +1,4 @@
 use Rattle.std.proofs.Common.{◌≡◌, ◌++◌, subst}
-use Rattle.std.specs.Prelude.{OnOk}
 use Rattle.frames.specs.Answers.{bytes_of_refused}
 use Rattle.frames.specs.declared.error.FrameError.{FrameError}
 use Rattle.frame_answers.proofs.ClientFrames.{malformed, ok_with}
