@@ -1,6 +1,6 @@
 -- What a frame's contract says of the frames that clients speak of.
 use Rattle.std.proofs.Common.{◌≡◌, ◌⊎◌, ◌++◌, ◌∷◌, [], ℕ, List, inl, inr, refl, sym, ap, subst, ◌∙◌}
-use Rattle.std.specs.Prelude.{All, IfSome, IsSome, None, OnOk, Option, Result, Ok, Err, Some}
+use Rattle.std.specs.Prelude.{All, IfErr, IfSome, IsSome, None, OnErr, OnOk, Option, Result, Ok, Err, Some}
 use Rattle.std.proofs.lemmas.Bool.{false≢true}
 use Rattle.std.proofs.lemmas.List.Elements.{All-cons, All-nil}
 use Rattle.base.specs.declared.error.PoolError.{PoolError}
@@ -102,6 +102,11 @@ module _ {Dev : Type 0} {G : Ghosts Dev} (owner : Owner) (a b : Record) where
 pub ok_with : {A E P Q : Type 0} (result : Result A E) → OnOk result P → (P → Q) → OnOk result Q
 ok_with (Ok x) p q = q p
 ok_with (Err e) p q = tt
+
+-- what is so after an error
+pub err_with : {A E : Type 0} (P : E → Type 0) (Q : Type 0) (result : Result A E) → IfErr result (λ e. P e × Q) → OnErr result Q
+err_with P Q (Ok x) p = tt
+err_with P Q (Err e) p = p.1
 
 -- the refusal or the answers are what was appended
 pub appended : (out new answer : List ℕ) (P : List Answer → Type 0) → ((e : FrameError) × (answer ≡ bytes_of_refused e)) ⊎ ((answers : List Answer) × (answer ≡ bytes_of_answers answers) × P answers)

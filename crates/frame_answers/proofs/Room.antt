@@ -1,6 +1,6 @@
 -- The answers to requests fit the room that is kept for them, over a device that keeps the disk model.
 use Rattle.std.proofs.Common.{◌≡◌, ◌≤◌, ◌<◌, ◌+◌, ◌-◌, ◌∷◌, ◌&&◌, ℕ, [], List, ap, arith, inl, inr, length, length-append, refl, subst, sym, ◌∙◌}
-use Rattle.std.specs.Prelude.{Err, IfOk, IfSome, IsOk, IsTrue, None, Ok, OnErr, Option, Result, Some, false, is_none, min, nat_le, nat_lt, option_map, slice_index, sum_by, true}
+use Rattle.std.specs.Prelude.{Err, IfErr, IfOk, IfSome, IsOk, IsTrue, None, Ok, Option, Result, Some, false, is_none, min, nat_le, nat_lt, option_map, slice_index, sum_by, true}
 use Rattle.std.specs.FinMap as finite
 use Rattle.std.specs.List.{flat_map, list_all}
 use Rattle.std.proofs.Math.Bridge.{le_prop}
@@ -44,7 +44,7 @@ use Rattle.frame_answers.specs.Calls.{Asks, AsksAll, ListsObjects, MakesCall, Ma
 use Rattle.frame_answers.proofs.ListedBelow.{room_below}
 
 -- what can't fail is never refused
-pub never_err : {A E : Type 0} (P : Type 0) (result : Result A E) → IsOk result → OnErr result P
+pub never_err : {A E : Type 0} (P : E → Type 0) (result : Result A E) → IsOk result → IfErr result P
 never_err P (Ok x) ok = tt
 never_err P (Err e) ok = absurd (false≢true ok)
 

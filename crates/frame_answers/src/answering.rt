@@ -3,7 +3,7 @@
 //! All room that the answer takes is had before the first request is made. So what was made is answered, and a frame
 //! for which there is no memory is refused with nothing made.
 
-ghost use Rattle.std.specs.Prelude.{ℕ, ◌≡◌, ◌+◌, ◌≤◌, ◌++◌, [], IsTrue, List, OnErr, OnOk, vec_capacity, vec_len};
+ghost use Rattle.std.specs.Prelude.{ℕ, ◌≡◌, ◌+◌, ◌≤◌, ◌++◌, [], IfErr, IsTrue, List, OnErr, OnOk, vec_capacity, vec_len};
 ghost use Rattle.frames.specs.Answers.{bytes_of_refused};
 ghost use Rattle.frames.specs.Limits.{max_frame};
 ghost use Rattle.frames.specs.Requests.{room_of_answers};
@@ -32,6 +32,8 @@ use std::sync::Wait;
 /// # Errors
 ///
 /// `NoMemory` if there is no memory for the refusal. Then nothing was made, and nothing was appended.
+///
+/// For proofs: this is so over a device that keeps the disk model (`none_made`).
 pub fn answer_frame<'a, 'b, 'p, D: SectorDevice, W: Wait>(
     handle: &'a mut Handle<'p, D>,
     rt: &'b W,
@@ -43,7 +45,8 @@ pub fn answer_frame<'a, 'b, 'p, D: SectorDevice, W: Wait>(
     ensures answered { (answer : List ℕ) × AnswersFrame owner bytes.now answer handle.old handle.new
         × OnOk result (out.new.items ≡ out.old.items ++ answer) }
     ensures unchanged { OnErr result (out.new.items ≡ out.old.items) }
-    ensures none_made { IsTrue D.keeps_model → OnErr result (handle.new ≡ handle.old) }
+    ensures none_made { IsTrue D.keeps_model
+        → IfErr result (λ e. (e ≡ FrameError.NoMemory) × (handle.new ≡ handle.old)) }
 {
     let requests = match decode_frame(alloc, bytes) {
         Ok(requests) => requests,
@@ -66,6 +69,7 @@ pub fn answer_frame<'a, 'b, 'p, D: SectorDevice, W: Wait>(
 /// Appends the refusal of a frame.
 fn refuse(out: &mut Vec<u8>, error: FrameError) -> Result<(), FrameError>
     ensures bytes { OnOk result (out.new.items ≡ out.old.items ++ bytes_of_refused error) }
+    ensures no_memory { IfErr result (λ e. e ≡ FrameError.NoMemory) }
     ensures unchanged { OnErr result (out.new.items ≡ out.old.items) }
 {
     match encode_refusal(out, error) {

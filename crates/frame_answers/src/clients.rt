@@ -26,7 +26,7 @@ ghost use Rattle.transactions.specs.declared.record.Record as records;
 use crate::answering::answer_frame;
 use crate::serving::{Ending, serve};
 use base::{Owner, PoolError};
-use device_model::SectorDevice;
+use device_model::{MemDevice, SectorDevice};
 use frames::{FrameError, frames_agree};
 use pool_threads::{Handle, Pool};
 use std::alloc::Global;
@@ -45,6 +45,19 @@ fn a_malformed_frame_changes_nothing<D: SectorDevice, W: Wait>(
     ensures unchanged { handle.new ≡ handle.old }
     ensures refused { OnOk result ((e : refusal.FrameError)
         × (out.new.items ≡ out.old.items ++ bytes_of_refused e)) }
+{
+    answer_frame(handle, rt, alloc, Owner(1), bytes, out)
+}
+
+// A frame that is neither answered nor refused, for want of memory, has changed nothing.
+fn a_frame_that_is_not_answered_was_not_made<W: Wait>(
+    rt: &W,
+    alloc: Global,
+    handle: &mut Handle<'_, MemDevice>,
+    bytes: &[u8],
+    out: &mut Vec<u8>,
+) -> Result<(), FrameError>
+    ensures { OnErr result (handle.new ≡ handle.old) }
 {
     answer_frame(handle, rt, alloc, Owner(1), bytes, out)
 }
