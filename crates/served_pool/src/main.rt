@@ -7,8 +7,8 @@ use std::io::Print;
 use std::sync::Wait;
 use std::thread::{Threads, map_vec};
 use topzerad::{
-    Bytes, DEFAULT_DIRTY_MAX, Halt, Handle, MemDevice, ObjectId, Op, Ops, Owner, Pool, PoolError,
-    create, run_beside_loops,
+    Bytes, DEFAULT_DIRTY_MAX, Halt, MemDevice, ObjectId, Op, Ops, Owner, Pool, PoolError, create,
+    run_beside_loops,
 };
 
 /// How many lines each thread adds. Each write is charged 16,384 bytes, so all of them together pass the dirty limit of
@@ -27,14 +27,11 @@ fn main(rt: HostRuntime) -> Result<()> {
     let halt = Halt::new();
     // It returns once the threads have, and the loops have ended.
     run_beside_loops(&rt, &pool, &halt, || write_in_threads(&rt, &pool, &halt))?;
-    end(&rt, &mut pool.handle())?;
+    end(&rt, &pool)?;
     let state = pool.close().context("a thread has the pool")?;
     // The power is lost: the device in memory keeps what was flushed.
     let pool = start(&rt, state.into_device().crash(&[]))?;
-    for (object, length) in pool.handle().objects(&rt, ObjectId(0), usize::MAX)? {
-        println!(rt; "object {}: {} lines", object.0, length / LINE.len() as u64)?;
-    }
-    Ok(())
+    list(&rt, &pool)
 }
 
 // Opens the pool on a device, and says what was found. Records of the log are replayed if the last run left commits
@@ -89,11 +86,20 @@ fn write_lines<R: Wait + AllocGlobal>(
 
 // The planned end: syncs all that was committed. One more line comes after it: no sync reaches it any more, so it is
 // durable by the log alone. A server that acknowledges each line would add each of them so.
-fn end<R: Wait + AllocGlobal>(rt: &R, handle: &mut Handle<'_, MemDevice>) -> Result<()> {
+fn end<R: Wait + AllocGlobal>(rt: &R, pool: &Pool<MemDevice>) -> Result<()> {
+    let mut handle = pool.handle();
     handle.sync_pool(rt)?;
     let line = Bytes::from_slice(rt.alloc(), LINE)?;
     let ops = vec![in rt.alloc(); Op::Create(ObjectId(5)), Op::Write(ObjectId(5), 0, line)]?;
     let committed = handle.transact_durably(rt, Owner(5), Ops::new(ops));
     committed.map_err(PoolError::from)?;
+    Ok(())
+}
+
+// Prints how many lines each object has.
+fn list<R: Wait + Print>(rt: &R, pool: &Pool<MemDevice>) -> Result<()> {
+    for (object, length) in pool.handle().objects(rt, ObjectId(0), usize::MAX)? {
+        println!(rt; "object {}: {} lines", object.0, length / LINE.len() as u64)?;
+    }
     Ok(())
 }

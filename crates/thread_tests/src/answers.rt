@@ -3,7 +3,7 @@
 use crate::fixture::{SMALL, make_object, new_pool, on_pool, open_pool};
 use base::{Bytes, Group, Mode, ObjectId, Op, Ops, Owner, PoolError, Range, Receipt};
 use device_model::MemDevice;
-use pool_threads::{Handle, Opened};
+use pool_threads::{Handle, Opened, Pool};
 use std::alloc::Global;
 use std::sync::Wait;
 use std::test::Fail;
@@ -127,17 +127,28 @@ fn a_lock_with_a_limit_is_refused_at_its_end(rt: HostRuntime) -> Result<(), Fail
     Ok(())
 }
 
-// What a pool tells of its import after a crash, before which four transactions were durable and no group was synced.
-fn reopen<W: Wait>(rt: &W, alloc: Global) -> Result<Opened, PoolError> {
-    let pool = new_pool(alloc, SMALL)?;
-    let mut handle = pool.handle();
-    make_three(rt, alloc, &mut handle)?;
-    handle.fsync_all(rt)?;
-    let Some(state) = pool.close() else {
-        return Err(PoolError::NotReady);
-    };
+// Makes four transactions, which are durable then. No group is synced.
+fn make_durably<W: Wait>(
+    rt: &W,
+    alloc: Global,
+    handle: &mut Handle<'_, MemDevice>,
+) -> Result<(), PoolError> {
+    make_three(rt, alloc, handle)?;
+    handle.fsync_all(rt)
+}
+
+// What the pool that is there after a crash tells of its import. No thread has the pool.
+fn open_after_crash(alloc: Global, pool: Pool<MemDevice>) -> Result<Opened, PoolError> {
+    let state = pool.close().ok_or(PoolError::Busy)?;
     let pool = open_pool(alloc, state.into_device().crash(&[]), SMALL)?;
     Ok(pool.opened())
+}
+
+// Both, one after the other.
+fn reopen<W: Wait>(rt: &W, alloc: Global) -> Result<Opened, PoolError> {
+    let pool = new_pool(alloc, SMALL)?;
+    make_durably(rt, alloc, &mut pool.handle())?;
+    open_after_crash(alloc, pool)
 }
 
 // A pool is created with group 4, and each import syncs the fourth group after the last one.
