@@ -54,12 +54,12 @@ pub const LEAST_DIRTY_MAX: u64 = 4096;
 /// The greatest limit of a pool's unsynced bytes that an import accepts.
 pub const GREATEST_DIRTY_MAX: u64 = 1_099_511_627_776;
 
-/// A dirty limit for small pools: the most bytes that the transactions of unsynced groups may be charged, 1 MiB.
+/// A dirty limit that serves most pools: the most bytes that the transactions of unsynced groups may be charged, 4 MiB.
 ///
 /// A create is charged 8,192 bytes, and a write 12,288 and 4,096 more for each piece of 4,032 bytes that it touches. So
-/// 42 transactions with a create and a short write are admitted. Further ones are refused `Throttled`, and those of a
+/// 170 transactions with a create and a short write are admitted. Further ones are refused `Throttled`, and those of a
 /// handle wait, until a group is synced.
-pub const DEFAULT_DIRTY_MAX: u64 = 1_048_576;
+pub const DEFAULT_DIRTY_MAX: u64 = 4_194_304;
 
 /// The greatest number of tree blocks that an import lets a pool keep in memory. The least is one.
 pub const GREATEST_CACHE_BLOCKS: u64 = 4096;

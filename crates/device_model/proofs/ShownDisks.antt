@@ -1,12 +1,15 @@
 -- A file's disk keeps its size over each call, and each write that counts stays earlier than the disk now.
-use Rattle.std.proofs.Common.{◌≡◌, inl, inr, ℕ, ◌+◌, ◌≤◌, Bool, true, false, List, length, Result, Ok, Err, refl, sym, ◌∙◌, ap, subst}
+use Rattle.std.proofs.Common.{◌≡◌, inl, inr, ℕ, ◌+◌, ◌≤◌, Bool, true, false, List, length, Option, Result, Ok, Err, refl, sym, ◌∙◌, ap, subst}
 use Rattle.base.specs.declared.error.PoolError.{PoolError}
 use Rattle.base.specs.disk.Calls.{Flushes, Writes}
 use Rattle.base.specs.disk.Disk.{Disk, bytes_of, disk_size, written}
 use Rattle.base.proofs.disk.EarlierWrites.{earlier_flushes, earlier_writes}
 use Rattle.base.proofs.disk.Put.{length-put}
 use Rattle.base.proofs.disk.Regions.{flushed_clean}
-use Rattle.device_model.specs.FileState.{FileState, ShowsDisk, size_of}
+use Rattle.device_model.specs.FileState.{FileState, NotesLast, ShowsDisk, size_of}
+use Rattle.device_model.specs.declared.refused_call.FileCall.{FileCall}
+use Rattle.device_model.specs.declared.refused_call.RefusedCall.{RefusedCall}
+use Rattle.std.specs.Prelude.{OnOk}
 
 size-written : (place : ℕ) (content : List ℕ) (done : Bool) (disk : Disk) → place + length content ≤ disk_size disk → disk_size (written place content done disk) ≡ disk_size disk
 size-written place content true disk fits = length-put place content (bytes_of disk.now) fits
@@ -25,13 +28,6 @@ size-flushes old new (Err e) is = ap (λ (d : Disk). disk_size d) is
 pub fits_on_disk : (keeps : Bool) (seen s : FileState) (end : ℕ) → keeps ≡ true → seen ≡ s → end ≤ size_of keeps s → end ≤ disk_size seen.disk
 fits_on_disk keeps seen s end is same fits = subst (λ (n : ℕ). end ≤ n) (ap (λ (b : Bool). size_of b s) is ∙ ap (λ (t : FileState). disk_size t.disk) (sym same)) fits
 
--- a call that leaves the disk as it is
-pub shown_kept : (sectors : ℕ) (old new : Disk) → new ≡ old → ShowsDisk sectors old → ShowsDisk sectors new
-shown_kept sectors old new same shown = subst (λ (d : Disk). ShowsDisk sectors d) (sym same) shown
-
-pub fits_kept : (end : ℕ) (old new : Disk) → new ≡ old → end ≤ disk_size old → end ≤ disk_size new
-fits_kept end old new same fits = subst (λ (d : Disk). end ≤ disk_size d) (sym same) fits
-
 pub shown_writes : (sectors place : ℕ) (content : List ℕ) (old new : Disk) (r : Result (Unit {0}) PoolError) → place + length content ≤ disk_size old → Writes old place content r new
     → ShowsDisk sectors old → ShowsDisk sectors new
 shown_writes sectors place content old new r fits writes shown = record {
@@ -44,3 +40,8 @@ shown_flushes sectors old new r flushes shown = record {
   size = size-flushes old new r flushes ∙ shown.size;
   earlier = earlier_flushes old new r flushes shown.earlier;
 }
+
+-- a call that was answered leaves the last refused one
+pub last_left : (r : Result (Unit {0}) PoolError) (call : FileCall) (old new : Option RefusedCall) → NotesLast r call old new → OnOk r (new ≡ old)
+last_left (Ok x) call old new same = same
+last_left (Err e) call old new noted = tt

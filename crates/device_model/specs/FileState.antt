@@ -1,11 +1,12 @@
 -- What callers see of a device on a file.
-use Rattle.std.specs.Prelude.{◌≡◌, ℕ, ◌*◌, ◌/◌, Bool, true, false, IsTrue, Option, None, Result, Ok, Err}
+use Rattle.std.specs.Prelude.{◌≡◌, ℕ, ◌*◌, ◌/◌, Bool, true, false, IsTrue, Option, None, Some, Result, Ok, Err}
 use Rattle.base.specs.declared.error.PoolError.{PoolError}
 use Rattle.base.specs.disk.Disk.{Disk, HasEarlierWrites, disk_size}
 use Rattle.base.specs.formats.Geometry.{sector_size}
 use Rattle.base.specs.declared.refused.RefusedCalls.{RefusedCalls}
 use Rattle.device_model.specs.MemState.{blank}
 use Rattle.device_model.specs.declared.refused_call.CallCause.{CallCause}
+use Rattle.device_model.specs.declared.refused_call.FileCall.{FileCall}
 use Rattle.device_model.specs.declared.refused_call.RefusedCall.{RefusedCall}
 
 -- its size in bytes, how many calls of each kind it refused, the last of these, and the disk that the file shows
@@ -39,6 +40,12 @@ pub record ShowsDisk (sectors : ℕ) (disk : Disk) : Type 0 where
 pub record IsSoundFile (keeps : Bool) (sectors : ℕ) (disk : Disk) (refused : RefusedCalls) (last : Option RefusedCall) : Type 0 where
   pub shown : IsTrue keeps → ShowsDisk sectors disk
   pub none : last ≡ None → refused ≡ none_refused
+
+-- What a device has as the last refused call after this one: this call with a cause, if it was refused; else what it
+-- had.
+abbrev pub NotesLast : Result (Unit {0}) PoolError → FileCall → Option RefusedCall → Option RefusedCall → Type 0
+NotesLast (Ok _) call old new = new ≡ old
+NotesLast (Err _) call old new = (cause : CallCause) × new ≡ Some (record { call = call; cause = cause })
 
 -- a file's answer as the device's: whatever the cause, it is this refusal
 abbrev pub refused_as : PoolError → Result (Unit {0}) CallCause → Result (Unit {0}) PoolError

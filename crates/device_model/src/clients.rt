@@ -1,10 +1,10 @@
 //! What callers rest on: one function for each promise of this crate's calls, proved from the contract of the call
 //! alone. So it is refused as soon as that contract says less.
 
-ghost use Rattle.std.specs.Prelude.{◌≡◌, ◌≢◌, ◌∷◌, [], false, IfOk, IsErrOf, IsOk, IsTrue, None, OnErr, OnOk, length, true};
+ghost use Rattle.std.specs.Prelude.{◌≡◌, ◌≢◌, ◌∷◌, [], false, IfErr, IfOk, IsErrOf, IsOk, IsTrue, None, OnErr, OnOk, Some, option_map, length, true};
 ghost use Rattle.base.specs.disk.Calls.{IsOnDevice};
 ghost use Rattle.base.specs.disk.Disk.{HasEarlierWrites, bytes_of, disk_size};
-ghost use Rattle.device_model.specs.FileState.{none_refused};
+ghost use Rattle.device_model.specs.FileState.{none_refused, size_of};
 ghost use Rattle.device_model.specs.MemState.{blank, zeros};
 
 use crate::device::SectorDevice;
@@ -12,7 +12,7 @@ use crate::fault::Fault;
 use crate::file::FileDevice;
 use crate::held_file::{Access, FileRefusal, HeldFile};
 use crate::memory::MemDevice;
-use crate::refused_call::RefusedCall;
+use crate::refused_call::{FileCall, RefusedCall};
 use crate::sector_file::SectorFile;
 use base::{Piece, PoolError, RefusedCalls};
 use std::alloc::Global;
@@ -152,6 +152,38 @@ fn a_call_that_a_device_on_a_file_refused_has_a_cause<F: SectorFile + Drop>(
 {
     let _ = device.flush();
     device.last_error()
+}
+
+fn a_refused_write_is_the_last_error_with_its_place<F: SectorFile + Drop>(
+    device: &mut FileDevice<F>,
+    bytes: &[u8],
+) -> Result<(), Option<FileCall>>
+    requires { IsOnDevice (size_of F.keeps_model device.old) 4096 (length bytes.now) }
+    ensures { IfErr result (λ call. call ≡ Some (FileCall.Write 4096)) }
+{
+    match device.write(4096, bytes) {
+        Ok(()) => Ok(()),
+        Err(_) => Err(last_call(device)),
+    }
+}
+
+fn a_read_that_is_answered_leaves_the_last_error<F: SectorFile + Drop>(
+    device: &mut FileDevice<F>,
+    into: &mut [u8],
+) -> Result<(), PoolError>
+    requires { IsOnDevice (size_of F.keeps_model device.old) 4096 (length into.old) }
+    ensures { OnOk result (device.new.last ≡ device.old.last) }
+{
+    device.read(4096, into)
+}
+
+fn last_call<F: SectorFile + Drop>(device: &FileDevice<F>) -> Option<FileCall>
+    ensures { result ≡ option_map (λ (r : RefusedCall). r.call) device.now.last }
+{
+    match device.last_error() {
+        Some(refused) => Some(refused.call),
+        None => None,
+    }
 }
 
 fn a_device_that_holds_its_file_has_its_lock<F: SectorFile + HeldFile + OpenFile + Drop>(

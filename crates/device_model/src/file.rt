@@ -109,6 +109,11 @@ impl<F: SectorFile + Drop> SectorDevice for FileDevice<F> {
 
     ghost disk = { λ device. device.disk };
 
+    ghost use Rattle.std.specs.Prelude.{◌≡◌, IfErr, IsTrue, OnOk, length};
+    ghost use Rattle.base.specs.disk.Calls.{Flushes, IsOnDevice, Writes, counted};
+    ghost use Rattle.base.specs.disk.Disk.{bytes_of};
+    ghost use Rattle.base.specs.formats.Fields.{part};
+    ghost use Rattle.device_model.specs.FileState.{NotesLast};
     ghost use Rattle.std.proofs.Common.{ap, sym};
 
     ghost sized = { λ keeps device. ap (λ (b : Bool). size_of b device) (sym keeps) };
@@ -117,7 +122,16 @@ impl<F: SectorFile + Drop> SectorDevice for FileDevice<F> {
         self.sectors
     }
 
-    fn read(&mut self, at: u64, into: &mut [u8]) -> Result<(), PoolError> {
+    fn read(&mut self, at: u64, into: &mut [u8]) -> Result<(), PoolError>
+        requires { IsOnDevice (size_of F.keeps_model self.old) at (length into.old) }
+        ensures size { size_of F.keeps_model self.new ≡ size_of F.keeps_model self.old }
+        ensures count { self.new.refused ≡ counted result self.old.refused }
+        ensures refusal { IfErr result (λ e. e ≡ PoolError.Read) }
+        ensures bytes { IsTrue F.keeps_model
+            → OnOk result (into.new ≡ part (bytes_of self.old.disk.now) at (length into.old)) }
+        ensures disk { IsTrue F.keeps_model → self.new.disk ≡ self.old.disk }
+        ensures last { NotesLast result (FileCall.Read at) self.old.last self.new.last }
+    {
         if let Err(cause) = self.file.read_sectors(at, into) {
             self.refused.count(PoolError::Read);
             let call = FileCall::Read(at);
@@ -127,7 +141,15 @@ impl<F: SectorFile + Drop> SectorDevice for FileDevice<F> {
         Ok(())
     }
 
-    fn write(&mut self, at: u64, bytes: &[u8]) -> Result<(), PoolError> {
+    fn write(&mut self, at: u64, bytes: &[u8]) -> Result<(), PoolError>
+        requires { IsOnDevice (size_of F.keeps_model self.old) at (length bytes.now) }
+        ensures size { size_of F.keeps_model self.new ≡ size_of F.keeps_model self.old }
+        ensures count { self.new.refused ≡ counted result self.old.refused }
+        ensures refusal { IfErr result (λ e. e ≡ PoolError.Write) }
+        ensures disk { IsTrue F.keeps_model
+            → Writes self.old.disk at bytes.now result self.new.disk }
+        ensures last { NotesLast result (FileCall.Write at) self.old.last self.new.last }
+    {
         if let Err(cause) = write_whole(&mut self.file, self.sectors, at, bytes) {
             self.refused.count(PoolError::Write);
             let call = FileCall::Write(at);
@@ -137,7 +159,13 @@ impl<F: SectorFile + Drop> SectorDevice for FileDevice<F> {
         Ok(())
     }
 
-    fn flush(&mut self) -> Result<(), PoolError> {
+    fn flush(&mut self) -> Result<(), PoolError>
+        ensures size { size_of F.keeps_model self.new ≡ size_of F.keeps_model self.old }
+        ensures count { self.new.refused ≡ counted result self.old.refused }
+        ensures refusal { IfErr result (λ e. e ≡ PoolError.Flush) }
+        ensures disk { IsTrue F.keeps_model → Flushes self.old.disk result self.new.disk }
+        ensures last { NotesLast result FileCall.Flush self.old.last self.new.last }
+    {
         if let Err(cause) = sync_whole(&mut self.file, self.sectors) {
             self.refused.count(PoolError::Flush);
             let call = FileCall::Flush;

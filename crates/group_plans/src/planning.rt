@@ -63,8 +63,8 @@ pub struct GroupSource<'a> {
 ///   the new tree has the objects after the group.
 ///
 /// # Errors
-/// - `NoSpace`, only if fewer blocks are free than there are places to write (`no_space`). If the device keeps the model
-///   and holds the tree, these are the places that the group writes over it (`short`).
+/// - `NoSpace`, only if fewer blocks are free than there are places to write (`no_space`). If the device keeps the
+///   model and holds the tree, these are the places that the group writes over it (`short`).
 /// - `NoMemory`.
 /// - `Read`, and `Damaged` if a block is none of the tree. A device that keeps the model and holds the tree gives none
 ///   that is damaged (`sound`).

@@ -1,5 +1,5 @@
--- What the next block takes: whole records, the first part of one, or a later part of the one that is begun. With it the
--- log is the one after a write of them.
+-- What the next block takes: whole records, the first part of one, or a later part of the one that is begun. With it
+-- the log is the one after a write of them.
 use Rattle.std.proofs.Common.{◌≡◌, ℕ, ◌+◌, ◌<◌, ◌≤◌, ◌⊎◌, Bool, true, false, List, [], ◌∷◌, ◌++◌, inl, inr, map, length, take, drop, ap, refl, sym, subst, ◌∙◌, arith}
 use Rattle.std.specs.Prelude.{All, IfSome, None, Option, Some, cond, is_some, nat_le, ◌-◌}
 use Rattle.std.specs.Global.{Vec}
@@ -97,17 +97,6 @@ part_is g rest = (refl, refl, refl, by (is_last_part g) refl)
         ⊎ ((g.written + log_block_room < size_of g.logged) × (ended last ≡ []) × (left last ≡ Some (record g { written = g.written + log_block_room })))
     by true is = inl (leb-true (size_of g.logged) (g.written + log_block_room) is, refl, refl)
     by false is = inr (leb-false (size_of g.logged) (g.written + log_block_room) is, refl, refl)
-
-pub takes_part : (l : RunLog) (g : Begun) → l.begun ≡ Some g → TakesNext l Part
-takes_part l g is = record {
-  taken = rw is (part_is g l.pending);
-  within = omega arith;
-  named = refl;
-  part = ap (λ (o : Option Begun). is_some o) is;
-}
-
-pub part_used : (l : RunLog) (g : Begun) → l.begun ≡ Some g → next_part g ≡ used_by l Part
-part_used l g is = ap (λ (o : Option Begun). option_map_or next_part o []) (sym is)
 
 -- Once so many more are written, they are pending no more.
 pub pending-written : (written count : ℕ) (records : List code.Record) → map record_fields (drop (written + count) records) ≡ drop count (map record_fields (drop written records))

@@ -16,7 +16,8 @@ use Rattle.intent_log.specs.declared.kept_block.KeptBlock as code
 use Rattle.intent_log.specs.declared.log.Log.TheInside.{Inside}
 
 -- the records of unsynced groups in commit order, those of which no part is written, the record that is begun and not
--- yet whole, the kept blocks in order, where the next block goes, and for how many more records and blocks there is room
+-- yet whole, the kept blocks in order, where the next block goes, and for how many more records and blocks there is
+-- room
 pub record RunLog : Type 0 where
   pub records : List code_record.Record
   pub pending : List Record

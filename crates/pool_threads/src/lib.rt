@@ -1,8 +1,8 @@
 //! A pool that threads share: each takes it whole, makes one step, and releases it.
 //!
 //! **At the dirty limit `transact` makes the steps of a sync itself**, unless other threads run the loops `quiescer`
-//! and `syncer`: then it waits for them. At the default limit the 43rd object makes the first sync, if each transaction
-//! creates one and writes a few bytes to it. Transactions are charged until their group is synced.
+//! and `syncer`: then it waits for them. At the default limit the 171st object makes the first sync, if each
+//! transaction creates one and writes a few bytes to it. Transactions are charged until their group is synced.
 //!
 //! [`Pool::open`] opens the pool on a device, and [`Pool::handle`] gives each thread a [`Handle`]. `transact` of a
 //! handle makes a whole transaction in one turn, and `transact_durably` returns once no crash loses it.

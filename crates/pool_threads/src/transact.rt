@@ -38,8 +38,8 @@ impl<'p, D: SectorDevice> Handle<'p, D> {
     /// of a sync of the open group itself, as `sync_pool` does, and then tries again. While another thread's
     /// transaction is open in a closed group it waits for the end of that transaction. A transaction is charged for
     /// what its sync writes (`PoolState::begin` says how much), until its group is synced. At
-    /// [`DEFAULT_DIRTY_MAX`](base::DEFAULT_DIRTY_MAX) the 43rd object makes the first sync, if each transaction creates
-    /// one and writes a few bytes to it.
+    /// [`DEFAULT_DIRTY_MAX`](base::DEFAULT_DIRTY_MAX) the 171st object makes the first sync, if each transaction
+    /// creates one and writes a few bytes to it.
     ///
     /// It holds no lock and has no open transaction while it waits, while it syncs, and after it, also after a refusal
     /// (`released`). A try that was refused has used up the names of the locks and of the transaction that it got.

@@ -14,8 +14,8 @@ use topzerad::{
 };
 
 /// How often each thread writes its line. Each write is charged 16,384 bytes, and each create 8,192. So all of them
-/// together pass the dirty limit of 1 MiB.
-const ROUNDS: u32 = 25;
+/// together pass the dirty limit of 4 MiB.
+const ROUNDS: u32 = 65;
 
 /// The line of an owner, which goes into an object of its own.
 #[derive(Clone, Copy)]

@@ -24,7 +24,7 @@
 //!    4,096 bytes for each block that its sync may write: 2 blocks for a create or a remove, 4 for a new length. A
 //!    write is 3 blocks, and one more for each piece of 4,032 bytes that it touches. At the limit [`PoolState::begin`]
 //!    is refused `Throttled`, and `begin` of a handle waits until a thread syncs a group. `transact` waits only while
-//!    the loops `quiescer` and `syncer` run; without them it makes the sync itself. At [`DEFAULT_DIRTY_MAX`] the 43rd
+//!    the loops `quiescer` and `syncer` run; without them it makes the sync itself. At [`DEFAULT_DIRTY_MAX`] the 171st
 //!    object makes the first sync, if each transaction creates one and writes a few bytes to it.
 //! 7. **A refusal** is a [`PoolError`]. A refused step changes nothing, with one exception: a refused write or flush
 //!    suspends the pool, and it has to be opened again. `sync_pool` and `sync_open_group` keep the steps before the
@@ -42,7 +42,7 @@
 //! bytes (a write), or 5 and its bytes (a name). So one write has at most 65,497 bytes. Whatever its size, a
 //! transaction takes place whole or not at all. [`record_size`] returns how many bytes the record of a plan has.
 //! [`charge`] returns what the plan is charged: if that alone is above the dirty limit, the transaction is refused
-//! `Throttled`. So at [`DEFAULT_DIRTY_MAX`] it has at most 128 creates.
+//! `Throttled`. So at [`DEFAULT_DIRTY_MAX`] it has at most 512 creates.
 //!
 //! # Examples
 //!

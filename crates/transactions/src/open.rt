@@ -115,8 +115,8 @@ impl OpenTransactions {
         self.admit_tested(owner, group, plan)
     }
 
-    /// Admits a transaction that `is_blocked` and `is_full` were asked about, and that neither keeps from being admitted.
-    /// It makes neither test again, so the ranges are searched once.
+    /// Admits a transaction that `is_blocked` and `is_full` were asked about, and that neither keeps from being
+    /// admitted. It makes neither test again, so the ranges are searched once.
     ///
     /// # Errors
     /// `NoMemory`. All is as before then.

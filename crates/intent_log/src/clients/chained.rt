@@ -56,7 +56,8 @@ fn a_block_of_one_record_is_read<D: SectorDevice>(
     chain(alloc, device, frame, header)
 }
 
-// A chain goes on as long as a piece follows: where a chain of one piece ends, no block of the next number has a record.
+// A chain goes on as long as a piece follows: where a chain of one piece ends, no block of the next number has a
+// record.
 fn a_chain_goes_on_with_the_next_number<D: SectorDevice>(
     alloc: Global,
     device: &mut D,

@@ -80,7 +80,8 @@ impl PoolTables {
     fn pack_next(&self, next: usize) -> Result<NextLogBlock, PoolError>
         requires passes { log_write_refusal (pool_shown self.now) ≡ None }
         requires next { IsLowestFree self.now.free next }
-        ensures packs { IfOk result (IsNextBlock (next_place (block_address next) self.now) self.now.log) }
+        ensures packs { IfOk result
+            (IsNextBlock (next_place (block_address next) self.now) self.now.log) }
         ensures refused { IfErr result (λ e. e ≡ PoolError.NoMemory) }
     {
         self.log.pack_next(self.alloc, &self.next_place(next))

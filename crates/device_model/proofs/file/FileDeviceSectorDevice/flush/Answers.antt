@@ -1,5 +1,6 @@
+use Rattle.std.proofs.Common.{ap, refl}
 use Rattle.base.specs.declared.error.PoolError.TheVariants.{Flush}
-use Rattle.device_model.specs.FileState.{refused_as}
+use Rattle.device_model.specs.FileState.{FileState, refused_as}
 use Rattle.device_model.proofs.ShownDisks.{shown_flushes}
 use Rattle.device_model.proofs.file.FileDeviceSectorDevice.flush.Goals as goal
 
@@ -14,3 +15,9 @@ invariant_of-self-in_default g c = record {
   shown = λ keeps. shown_flushes c.self.inside.sectors _ _ (refused_as Flush c.sync_whole.result) (c.sync_whole.ensures keeps) (c.self.invariant.shown keeps);
   none = c.self.invariant.none;
 }
+
+pub returns-in-Err-clause-last : goal.returns-in-Err-clause-last
+returns-in-Err-clause-last g c = (c.in-Err.cause, refl)
+
+pub returns-clause-last : goal.returns-clause-last
+returns-clause-last g c = ap (λ (s : FileState). s.last) c.self.view_is

@@ -1,6 +1,6 @@
-use Rattle.std.proofs.Common.{◌+◌, length}
+use Rattle.std.proofs.Common.{◌+◌, ap, length, refl}
 use Rattle.base.specs.declared.error.PoolError.TheVariants.{Write}
-use Rattle.device_model.specs.FileState.{refused_as}
+use Rattle.device_model.specs.FileState.{FileState, refused_as}
 use Rattle.device_model.proofs.ShownDisks.{fits_on_disk, shown_writes}
 use Rattle.device_model.proofs.file.FileDeviceSectorDevice.write.Goals as goal
 
@@ -19,3 +19,9 @@ invariant_of-self-in_default g c = record {
       shown_writes c.self.inside.sectors c.args.at c.args.bytes.now _ _ (refused_as Write c.write_whole.result) fits (c.write_whole.ensures keeps) (c.self.invariant.shown keeps);
   none = c.self.invariant.none;
 }
+
+pub returns-in-Err-clause-last : goal.returns-in-Err-clause-last
+returns-in-Err-clause-last g c = (c.in-Err.cause, refl)
+
+pub returns-clause-last : goal.returns-clause-last
+returns-clause-last g c = ap (λ (s : FileState). s.last) c.self.view_is
