@@ -87,17 +87,33 @@ fn read_labels<D: SectorDevice>(alloc: Global, device: &mut D) -> Result<Labels,
     ensures { OnlyReads D.SectorDevice result device.old device.new }
 {
     let geometry = Geometry::of(device.sectors())?;
-    let mut ring = vec![in alloc; 0u8; LABEL_COUNT * ARRAY_SIZE]?;
+    let ring = read_ring(alloc, device, geometry)?;
+    let configs = read_configs(device, geometry)?;
+    Ok(Labels { configs, ring })
+}
+
+// The uberblock arrays of the four labels.
+fn read_ring<D: SectorDevice>(
+    alloc: Global,
+    device: &mut D,
+    geometry: Geometry,
+) -> Result<Vec<u8>, PoolError>
+    requires { D.size device.old ≡ geometry }
+    ensures reads { OnlyReads D.SectorDevice result device.old device.new }
+    ensures length { IfOk result (λ ring. vec_len ring ≡ ring_size) }
+{
+    let mut ring = blank(alloc, LABEL_COUNT * ARRAY_SIZE)?;
     for label in 0..LABEL_COUNT {
         read_array(device, geometry, label, ring.as_mut_slice())?;
     }
-    let configs = [
-        read_config(device, geometry, 0)?,
-        read_config(device, geometry, 1)?,
-        read_config(device, geometry, 2)?,
-        read_config(device, geometry, 3)?,
-    ];
-    Ok(Labels { configs, ring })
+    Ok(ring)
+}
+
+fn blank(alloc: Global, size: usize) -> Result<Vec<u8>, PoolError>
+    ensures size { IfOk result (λ bytes. vec_len bytes ≡ size) }
+    ensures refused { IfErr result (λ e. e ≡ PoolError.NoMemory) }
+{
+    Ok(vec![in alloc; 0u8; size]?)
 }
 
 fn read_array<D: SectorDevice>(
@@ -114,6 +130,22 @@ fn read_array<D: SectorDevice>(
 {
     let at = geometry.label_place(label) + ARRAY_AT;
     device.read(at, &mut ring[ARRAY_SIZE * label..ARRAY_SIZE * (label + 1)])
+}
+
+// What stands in the places of the four configs.
+fn read_configs<D: SectorDevice>(
+    device: &mut D,
+    geometry: Geometry,
+) -> Result<[ConfigFound; 4], PoolError>
+    requires { D.size device.old ≡ geometry }
+    ensures { OnlyReads D.SectorDevice result device.old device.new }
+{
+    Ok([
+        read_config(device, geometry, 0)?,
+        read_config(device, geometry, 1)?,
+        read_config(device, geometry, 2)?,
+        read_config(device, geometry, 3)?,
+    ])
 }
 
 fn read_config<D: SectorDevice>(
