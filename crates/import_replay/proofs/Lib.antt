@@ -34,6 +34,7 @@ pub mod OwnRefusals
 pub mod Refused
 pub mod CachedImports
 pub mod ShownMounts
+pub mod SpareRoom
 pub mod UsedBlocks
 pub mod ChainRecords
 pub mod Inspections

@@ -9,7 +9,7 @@ ghost use Rattle.base.specs.formats.Uberblocks as image;
 ghost use Rattle.base.specs.formats.Uberblocks.{IsActive};
 ghost use Rattle.base.specs.crash.Mount.{IsChainDamaged, IsUsed, Mounts, records_above};
 ghost use Rattle.base.specs.formats.Chain.{LogPiece};
-ghost use Rattle.base.specs.formats.Geometry.{block_address, block_count};
+ghost use Rattle.base.specs.formats.Geometry.{IsBlockAddress, block_address, block_count};
 ghost use Rattle.base.specs.history.Contents.{Contents};
 ghost use Rattle.base.specs.tree.Places.{IsInTree, data_pointer, indirect_pointer};
 ghost use Rattle.base.specs.tree.Syncs.{is_on};
@@ -167,6 +167,22 @@ fn an_import_has_its_group<D: SectorDevice>(imported: &Imported<D>) -> Group
     let records = imported.records();
     prove!(records == 3);
     imported.group()
+}
+
+// If no record of the chain is above the active group, and a block is neither in the tree nor in the chain, an import has
+// room.
+fn one_spare_block_is_room_without_records<D: SectorDevice>(
+    alloc: Global,
+    device: D,
+) -> Result<Imported<D>, (PoolError, D)>
+    ensures { IsTrue D.keeps_model → IfErr result (λ e. (u : image.Uberblock)
+        → (chain : List LogPiece) → (contents : Contents) → (address : ℕ)
+        → Mounts (bytes_of (D.disk device).now) u chain contents → records_above u.group chain ≡ []
+        → IsBlockAddress (block_count (length (bytes_of (D.disk device).now))) address
+        → (IsUsed (bytes_of (D.disk device).now) u.root chain address → ⊥)
+        → e.0 ≢ PoolError.NoSpace) }
+{
+    import(alloc, device, 1_048_576, 0)
 }
 
 // An import replays each record of the chain that is above the active group. What it gives has the contents that the

@@ -18,8 +18,6 @@
 
 mod clients;
 mod gate;
-mod halt;
-mod loops;
 mod order;
 mod words;
 mod workers;

@@ -1,4 +1,4 @@
-//! The threads of a load: one for each loop, and one for each worker.
+//! The threads of a load: one for each worker, beside the loops of the pool.
 
 ghost use Rattle.std.specs.Prelude.{◌≡◌, Err, IfOk, false};
 ghost use Rattle.loads.specs.Digests.{RepliesDigest};
@@ -6,16 +6,15 @@ ghost use Rattle.loads.specs.Orders.{committed_by, is_order};
 ghost use Rattle.pool_threads.specs.Handles.{shared_of};
 
 use crate::gate::Gate;
-use crate::halt::Halt;
-use crate::loops::{quiesce, sync};
 use crate::order::{Loaded, Order, STREAMS};
 use crate::writer::Writer;
 use base::{Owner, PoolError, Reply, Step};
 use device_model::SectorDevice;
+use pool_loops::{Halt, run_beside_loops};
 use pool_threads::Pool;
 use std::alloc::Global;
 use std::sync::Wait;
-use std::thread::{Threads, join, map_vec};
+use std::thread::{Threads, map_vec};
 
 /// Makes the writes of a load on a pool, and syncs it. All its threads have ended when it returns.
 ///
@@ -45,12 +44,7 @@ pub fn load<D: SectorDevice + Send, G: Gate + Sync, R: Threads + Wait + Sync>(
     }
     let halt = Halt::new();
     let halt = &halt;
-    let (quiesced, (synced, worked)) = join(
-        rt,
-        move || quiesce(rt, pool, halt),
-        move || sync_beside_work(rt, alloc, pool, order, gate, halt),
-    );
-    cause(&[synced, quiesced, worked])?;
+    run_beside_loops(rt, pool, halt, || work(rt, alloc, pool, order, gate, halt))?;
     Ok(Loaded {
         committed: order.committed(),
         digest: digest(rt, pool)?,
@@ -83,27 +77,6 @@ fn digest<D: SectorDevice, W: Wait>(rt: &W, pool: &Pool<D>) -> Result<[u8; 32], 
     }
 }
 
-// The loop that syncs, beside the work.
-fn sync_beside_work<D: SectorDevice + Send, G: Gate + Sync, R: Threads + Wait + Sync>(
-    rt: &R,
-    alloc: Global,
-    pool: &Pool<D>,
-    order: Order,
-    gate: &G,
-    halt: &Halt,
-) -> (Result<(), PoolError>, Result<(), PoolError>) {
-    join(
-        rt,
-        move || sync(rt, pool, halt),
-        move || {
-            let worked = work(rt, alloc, pool, order, gate, halt);
-            // also after a refusal, since the loops are joined
-            pool.stop();
-            worked
-        },
-    )
-}
-
 // The objects, then the streams, and at last a sync.
 fn work<D: SectorDevice + Send, G: Gate + Sync, R: Threads + Wait + Sync>(
     rt: &R,
@@ -113,7 +86,6 @@ fn work<D: SectorDevice + Send, G: Gate + Sync, R: Threads + Wait + Sync>(
     gate: &G,
     halt: &Halt,
 ) -> Result<(), PoolError> {
-    halt.wait_for_loops(rt)?;
     Writer::new(rt, alloc, pool, Owner(STREAMS)).make_objects()?;
     let workers = (0..order.workers).collect(alloc)?;
     let ends = map_vec(

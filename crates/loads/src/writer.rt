@@ -6,11 +6,11 @@
 ghost use Rattle.std.specs.Prelude.{◌≡◌, IfErr};
 
 use crate::gate::Gate;
-use crate::halt::Halt;
 use crate::order::{Order, STREAMS, WRITES_BETWEEN_WAITS};
 use crate::words::{PART, SHARED, Word, Words};
 use base::{Bytes, Mode, ObjectId, Op, Ops, Owner, PoolError, Range, Receipt};
 use device_model::SectorDevice;
+use pool_loops::Halt;
 use pool_threads::{Handle, Pool};
 use std::alloc::Global;
 use std::sync::Wait;

@@ -1,14 +1,12 @@
 -- What callers take from the steps of a question: its numbers, and that it changes nothing.
-use Rattle.std.proofs.Common.{◌≡◌, ◌≤◌, ℕ, Bool, List, ap, length}
-use Rattle.std.specs.Prelude.{Ok, Err, take}
+use Rattle.std.proofs.Common.{◌≡◌, ℕ, Bool, List, ap}
+use Rattle.std.specs.Prelude.{Ok, Err}
 use Rattle.base.specs.declared.names.Receipt.{Receipt}
 use Rattle.base.specs.declared.status.Status.{Status}
 use Rattle.base.specs.declared.step.Step.TheVariants as step
 use Rattle.base.specs.declared.step.Reply.TheVariants as reply
-use Rattle.base.specs.history.Contents.{Contents}
-use Rattle.base.specs.history.History.{replay}
 use Rattle.base.specs.steps.ExactNow.{GoesOn}
-use Rattle.base.specs.steps.Seen.{IsContentsBetween, IsStatusBetween}
+use Rattle.base.specs.steps.Seen.{IsStatusBetween}
 use Rattle.base.specs.steps.Shown.{available, dirty_total, free_count}
 use Rattle.base.specs.steps.Steps.{State}
 use Rattle.pool_threads.proofs.AloneSteps.{Does}
@@ -26,11 +24,6 @@ status_numbers status before after x = (
   ap (λ (t : Status). t.free) x.told,
   ap (λ (t : Status). t.available) x.told,
 )
-
--- contents that some prefix of the later history leaves
-pub replayed_between : (before after : State) (c : Contents) → IsContentsBetween before after c
-    → (count : ℕ) × (length before.past.entries ≤ count) × (count ≤ length after.past.entries) × (replay (take count after.past.entries) after.past.base ≡ Ok c)
-replayed_between before after c x = (x.count, x.no_shorter, x.no_longer, x.replayed)
 
 pub status_stays : (status : Status) (old new : State) → Does step.Status (reply.Status status) old new → new ≡ old
 status_stays status old new (Ok r, is, h) = h.1

@@ -1,12 +1,11 @@
 -- What the status, the name, the digest and the answer of a durable commit say to a handle, and that three of them are
 -- never refused.
-use Rattle.std.proofs.Common.{◌≡◌, ℕ, Bool, true, List, ap, refl, sym, subst, ◌∙◌}
-use Rattle.std.specs.Prelude.{Ok, Err, None, Result}
+use Rattle.std.proofs.Common.{◌≡◌, ℕ, true, List, sym, subst, ◌∙◌}
+use Rattle.std.specs.Prelude.{Ok, Err, None}
 use Rattle.std.proofs.Math.Logic.{∥∥₁_elim}
 use Rattle.base.specs.declared.error.PoolError.{PoolError}
 use Rattle.base.specs.declared.names.Receipt.{Receipt}
 use Rattle.base.specs.declared.status.Status.{Status}
-use Rattle.base.specs.declared.step.Step as declared_step
 use Rattle.base.specs.declared.step.Step.TheVariants as step
 use Rattle.base.specs.declared.step.Reply as declared_reply
 use Rattle.base.specs.declared.step.Reply.TheVariants as reply

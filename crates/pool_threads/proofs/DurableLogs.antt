@@ -1,5 +1,5 @@
 -- Once nothing is due for the log, each entry is durable: its group is synced, or its record lies in a flushed block.
-use Rattle.std.proofs.Common.{◌≡◌, ◌<◌, ◌≤◌, ◌+◌, ◌++◌, ◌∷◌, ◌⊎◌, ◌||◌, ◌&&◌, ℕ, zero, suc, [], Bool, List, ap, arith, append-nil, false, inl, inr, length, not, refl, subst, sym, true, ◌∙◌}
+use Rattle.std.proofs.Common.{◌≡◌, ◌<◌, ◌+◌, ◌++◌, ◌∷◌, ◌||◌, ◌&&◌, ℕ, zero, suc, [], Bool, List, ap, arith, append-nil, false, length, not, refl, subst, sym, true, ◌∙◌}
 use Rattle.std.specs.Prelude.{◌==◌, Err, None, Ok, Option, Some, if◌then◌else◌, is_none, map, nat_le, nat_lt, slice_get}
 use Rattle.std.specs.List.{enumerate_from, list_any}
 use Rattle.std.proofs.lemmas.Bool.{and_parts, eq-eqb, eqb-true, false≢true, leb-false, or_left, or_right}

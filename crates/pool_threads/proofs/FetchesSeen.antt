@@ -1,6 +1,6 @@
 -- What a fetch says to its handle, and what the only handle leaves by it.
 use Rattle.std.proofs.Common.{◌≡◌, ◌≢◌, ◌||◌, Bool, true, false, not, List, ℕ, [], ◌∷◌, inl, inr, refl, sym, ap, subst, ◌∙◌}
-use Rattle.std.specs.Prelude.{◌⊎◌, IfErr, IfOk, IsErrAnd, IsTrue, None, Result, Ok, Err, Some, is_none, nat_le}
+use Rattle.std.specs.Prelude.{IfErr, IfOk, IsErrAnd, IsTrue, None, Result, Ok, Err, Some, is_none, nat_le}
 use Rattle.std.proofs.Math.Logic.{∥∥₁_map, ∥∥₁_elim, ∥∥₁_prop}
 use Rattle.base.specs.declared.error.PoolError.{PoolError}
 use Rattle.base.specs.declared.error.PoolError.TheVariants as error

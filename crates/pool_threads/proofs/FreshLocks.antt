@@ -1,6 +1,6 @@
 -- A writer's lock that is granted is in no use: no open transaction touches a byte of its range.
-use Rattle.std.proofs.Common.{◌≡◌, ℕ, zero, suc, ◌+◌, ◌<◌, ◌≤◌, Bool, true, false, not, ◌&&◌, List, [], ◌∷◌, length, refl, ap, sym, subst, ◌∙◌, arith}
-use Rattle.std.specs.Prelude.{Some, filter, nat_le, nat_lt, slice_get, ◌==◌}
+use Rattle.std.proofs.Common.{◌≡◌, ℕ, zero, suc, ◌+◌, ◌<◌, ◌≤◌, Bool, true, false, not, ◌&&◌, List, [], ◌∷◌, length, refl, sym, subst, ◌∙◌, arith}
+use Rattle.std.specs.Prelude.{Some, nat_le, nat_lt, slice_get, ◌==◌}
 use Rattle.std.specs.List.{list_all, list_any}
 use Rattle.std.proofs.lemmas.Bool.{and_from, and_parts, eq-eqb, eqb-true, false≢true, false_from_ne_true, leb-true, lt-ltb, ltb-true, ne_eqb}
 use Rattle.std.proofs.lemmas.Option.{slice_get_within}
@@ -10,7 +10,7 @@ use Rattle.base.specs.declared.range.Mode.TheVariants.{Writer}
 use Rattle.base.specs.formats.Limits.{max_length, object_count}
 use Rattle.base.specs.history.Past.{Past}
 use Rattle.base.specs.history.Plans.{NumberRange, is_shape_allowed, lies_in, overlaps, range_of}
-use Rattle.base.specs.steps.Exact.{AreLocksExact, IsExact}
+use Rattle.base.specs.steps.Exact.{IsExact}
 use Rattle.base.specs.steps.Groups.{Admission, is_committed}
 use Rattle.base.specs.steps.Locks.{Grant, is_blocked, is_covered_for_writing, is_in, is_reader}
 use Rattle.base.specs.steps.Shown.{Shown}

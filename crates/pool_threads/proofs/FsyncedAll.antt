@@ -1,6 +1,6 @@
 -- What a wait for all commits says to its handle.
-use Rattle.std.proofs.Common.{◌≡◌, ◌≢◌, ◌≤◌, ◌⊎◌, ◌++◌, ◌∷◌, ℕ, [], List, append_assoc, append-nil, ap, arith, inl, inr, refl, subst, sym, ◌∙◌}
-use Rattle.std.specs.Prelude.{Err, IfErr, IfOk, IsTrue, None, Ok, Option, Result, Some, slice_get}
+use Rattle.std.proofs.Common.{◌≡◌, ◌≢◌, ◌≤◌, ◌⊎◌, ◌++◌, ◌∷◌, ℕ, [], List, append_assoc, append-nil, ap, arith, inl, inr, subst, sym, ◌∙◌}
+use Rattle.std.specs.Prelude.{Err, IfErr, IfOk, IsTrue, None, Ok, Option, Result, Some}
 use Rattle.std.proofs.Math.Logic.{∥∥₁_elim, ∥∥₁_map, ∥∥₁_prop}
 use Rattle.base.specs.declared.error.PoolError.{PoolError}
 use Rattle.base.specs.declared.error.PoolError.TheVariants as error
@@ -18,7 +18,7 @@ use Rattle.pool_threads.specs.Answers.{Sees, state_seen}
 use Rattle.pool_threads.specs.Handles.{moment_of, turns_of, view_seen}
 use Rattle.pool_threads.specs.Serves.{MakesDue, due_of}
 use Rattle.pool_threads.specs.Views.{GrowsTo, SeenPool, grows_onward, viewed_state}
-use Rattle.pool_threads.specs.Waits.{AreDurable, EndsFsync, FsyncsAll, IsFsyncAllRefusal, IsLogOutcome, IsSyncingRefusal, LeavesAllDurable, NeedsSync, SyncsPool, SyncsUpTo, WritesLog, result_of}
+use Rattle.pool_threads.specs.Waits.{AreDurable, EndsFsync, IsFsyncAllRefusal, IsLogOutcome, IsSyncingRefusal, LeavesAllDurable, NeedsSync, SyncsPool, SyncsUpTo, WritesLog, result_of}
 use Rattle.pool_threads.proofs.DurableLogs.{all_durable, settled, settled_after}
 use Rattle.pool_threads.proofs.Served.{grows_by_due, last_made, refused_due}
 use Rattle.pool_threads.proofs.WaitsSeen.{syncs_without_log}

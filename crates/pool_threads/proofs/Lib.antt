@@ -8,6 +8,7 @@ pub mod AnswersSeen
 pub mod ListedObjects
 pub mod ObjectClients
 pub mod Tried
+pub mod CountedTries
 pub mod Firsts
 pub mod Limits
 pub mod Looked

@@ -1,5 +1,5 @@
 -- The steps that are due for a sync leave the locks and the transactions.
-use Rattle.std.proofs.Common.{◌≡◌, ◌++◌, ◌∷◌, [], Bool, false, true, List, if◌then◌else◌, inl, inr, refl, sym, ap, subst, ◌∙◌}
+use Rattle.std.proofs.Common.{◌≡◌, ◌++◌, ◌∷◌, [], Bool, false, true, List, if◌then◌else◌, refl, sym, ap, subst, ◌∙◌}
 use Rattle.std.specs.Prelude.{ℕ, ◌||◌, IfSome, Option, Some, None, Result, Ok, Err, is_none, is_some, nat_le}
 use Rattle.std.proofs.Math.Logic.{∥∥₁_map, ∥∥₁_elim, ∥∥₁_prop}
 use Rattle.std.proofs.lemmas.Bool.{false≢true}
@@ -18,7 +18,7 @@ use Rattle.pool_tables.specs.declared.duty.Duty.TheVariants as duty
 use Rattle.pool_tables.specs.Duties.{closing_step, is_quiescent, step_to_sync, step_up_to, syncing_step}
 use Rattle.pool_threads.specs.Serves.{AreDue, MakesDue, due_of}
 use Rattle.pool_threads.specs.Transacts.{AreReleased}
-use Rattle.pool_threads.specs.Views.{IsPoolStep, SeenPool, viewed_state}
+use Rattle.pool_threads.specs.Views.{SeenPool, viewed_state}
 
 pub released_same : (a b : State) → b ≡ a → AreReleased a b
 released_same a b same = subst (λ (s : State). AreReleased a s) (sym same) (record { locks = refl; transactions = refl })

@@ -28,7 +28,7 @@ use Rattle.base.specs.steps.Locks.{Grant, is_blocked}
 use Rattle.base.specs.steps.Refusals.{Test, abort_refusal, begin_tests, first_refusal, is_lock_in_use, lock_of, lock_tests, object_range, refused_if, transaction_of, unlock_refusal}
 use Rattle.base.specs.steps.Runs.{Step, reply_of}
 use Rattle.base.specs.steps.Steps.{Answers, State, next_admission, next_grant, state_after_charged_admission, state_after_grant, state_after_unlock, transactions_without}
-use Rattle.base.proofs.common.KeptLists.{All-each, Some-injective, at_front, at_last, none_at, not_found}
+use Rattle.base.proofs.common.KeptLists.{All-each, Some-injective, at_last, none_at, not_found}
 use Rattle.base.proofs.common.Sieves.{filter_all}
 use Rattle.base.proofs.history.CommitOrder.{no_refusal}
 use Rattle.pool_threads.specs.Transacts.{AreReleased}

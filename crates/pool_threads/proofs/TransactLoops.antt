@@ -14,11 +14,10 @@ use Rattle.base.specs.steps.Steps.{State}
 use Rattle.device_model.specs.declared.device.SectorDevice.{Ghosts}
 use Rattle.pool_core.specs.declared.state.PoolState.{PoolState}
 use Rattle.pool_core.specs.States.{shown}
-use Rattle.pool_tables.specs.declared.duty.Duty.TheVariants as duty
 use Rattle.pool_threads.specs.declared.handle.Handle.{Handle}
 use Rattle.pool_threads.specs.Answers.{Takes, TakesOne, state_seen}
 use Rattle.pool_threads.specs.Handles.{moment_of}
-use Rattle.pool_threads.specs.Serves.{GoesOnAfter, IsServedTurn}
+use Rattle.pool_threads.specs.Serves.{GoesOnAfter}
 use Rattle.pool_threads.specs.Transacts.{IsEarlierTurn, IsForGood, IsOpenGroupTurn, IsRetried, IsTransactionTurn, MakesRoom, Pays, Transacts, TransactsAtLast, TransactsLocked, plan_of}
 use Rattle.pool_threads.specs.Views.{Explains, SeenPool, viewed_state}
 use Rattle.pool_threads.proofs.TransactsSeen.{earlier_grows}
@@ -77,14 +76,6 @@ module _ {Dev : Type 0} {G : Ghosts Dev} (owner : Owner) (ops : List Op) (result
 
   pub locked_of : (plan : List Shape) → plan ≡ plan_of ops → TransactsAtLast owner [] plan ops result old new → TransactsLocked owner ops result old new
   locked_of plan plan_is u = subst (λ (p : List Shape). TransactsAtLast owner [] p ops result old new) plan_is u
-
--- a turn of a sync up to the group that was open as it began
-pub open_group_turn : {Dev : Type 0} {G : Ghosts Dev} (moment : ℕ) (group : Group) (r : Option declared_reply.Reply) (now next : Handle Dev G) (m : TakesOne (IsServedTurn (IsTrue G.keeps_model) (duty.SyncUpTo group moment) r) now next)
-    → group.0 ≡ (viewed_state m.made.took).shown.line.open_group → TakesOne (IsOpenGroupTurn (IsTrue G.keeps_model) moment r) now next
-open_group_turn moment group r now next m is = record {
-  same_pool = m.same_pool;
-  made = record { took = m.made.took; onward = m.made.onward; made = (group, is, m.made.made); turn = m.made.turn; met_none = m.made.met_none; alone = m.made.alone };
-}
 
 -- what is open of a pool is open by a view that explains it
 pub open_seen : {Dev : Type 0} {G : Ghosts Dev} (p : PoolState Dev G) (v : SeenPool) (group : Group) → Explains p v → group.0 ≡ (shown p).line.open_group → group.0 ≡ (viewed_state v).shown.line.open_group

@@ -1,6 +1,6 @@
 -- When a transaction is made again: never after its commit was refused.
-use Rattle.std.proofs.Common.{◌≡◌, ◌++◌, ◌∷◌, [], List, inl, inr, ap, refl, sym, subst, ◌∙◌}
-use Rattle.std.specs.Prelude.{ℕ, ◌⊎◌, Bool, IfErr, IsErrAnd, None, Option, Result, Ok, Err, Some, false, not, true}
+use Rattle.std.proofs.Common.{◌≡◌, ◌∷◌, [], List, inl, inr, ap, refl, sym, ◌∙◌}
+use Rattle.std.specs.Prelude.{ℕ, Bool, IfErr, None, Option, Result, Ok, Err, Some, false, not, true}
 use Rattle.std.specs.FinMap as map
 use Rattle.std.specs.List.{list_all}
 use Rattle.std.proofs.Math.Logic.{∥∥₁_elim}
@@ -15,15 +15,15 @@ use Rattle.base.specs.declared.operation.Op.TheVariants.{Create, Remove, SetLeng
 use Rattle.base.specs.declared.range.ObjectRange.{ObjectRange}
 use Rattle.base.specs.declared.step.Step.TheVariants as step
 use Rattle.base.specs.declared.step.Reply.TheVariants as reply
-use Rattle.base.specs.history.Contents.{Contents, apply, at_object, bytes_after_write, changed, created, removed, resize, with_object}
+use Rattle.base.specs.history.Contents.{Contents, apply, bytes_after_write, changed, created, removed, resize, with_object}
 use Rattle.base.specs.history.History.{apply_all}
 use Rattle.base.specs.history.Sequences.{and_then, in_turn}
 use Rattle.base.specs.steps.Refusals.{Test, commit_tests, first_refusal, ops_tests, refused_if}
-use Rattle.base.specs.steps.Runs.{Step, receipt_reply, reply_of}
+use Rattle.base.specs.steps.Runs.{receipt_reply, reply_of}
 use Rattle.base.specs.steps.Shown.{Shown}
 use Rattle.base.specs.steps.Steps.{Answers, State, WantsMemory}
 use Rattle.pool_threads.specs.Transacts.{Ends, IsRetried}
-use Rattle.pool_threads.specs.Views.{IsPoolStep, SeenPool, viewed_state}
+use Rattle.pool_threads.specs.Views.{SeenPool, viewed_state}
 
 -- whether a transaction may be made again after a refusal
 abbrev is_again : PoolError → Bool

@@ -1,14 +1,12 @@
 -- Each turn of a transaction leaves the locks and the transactions that it found.
 use Rattle.std.proofs.Common.{◌≡◌, ℕ, ◌+◌, ◌++◌, ◌∷◌, [], List, append-nil, append_assoc, inl, inr, refl, sym, ap, subst, ◌∙◌}
-use Rattle.std.specs.Prelude.{◌⊎◌, false, All, IsTrue, Result, Ok, Err, Some}
+use Rattle.std.specs.Prelude.{◌⊎◌, false, IsTrue, Result, Ok, Err, Some}
 use Rattle.std.proofs.Math.Logic.{∥∥₁_map, ∥∥₁_elim, ∥∥₁_prop}
 use Rattle.std.proofs.lemmas.List.Elements.{All-head, All-nil, All-push, All-tail, All-weaker}
 use Rattle.base.specs.declared.error.PoolError.{PoolError}
-use Rattle.base.specs.declared.error.PoolError.TheVariants as error
 use Rattle.base.specs.declared.names.LockId.{LockId}
 use Rattle.base.specs.declared.names.Owner.{Owner}
 use Rattle.base.specs.declared.names.Receipt.{Receipt}
-use Rattle.base.specs.declared.names.TxId.{TxId}
 use Rattle.base.specs.declared.operation.Op.{Op}
 use Rattle.base.specs.declared.operation.Shape.{Shape}
 use Rattle.base.specs.declared.range.Mode.TheVariants.{Writer}

@@ -24,7 +24,7 @@ use Rattle.pool_tables.specs.declared.duty.Duty.TheVariants as duty
 use Rattle.pool_threads.specs.declared.handle.Handle.{Handle}
 use Rattle.pool_threads.specs.Answers.{IsRefusal, Sees, state_seen}
 use Rattle.pool_threads.specs.Handles.{moment_of}
-use Rattle.pool_threads.specs.Transacts.{BeginsAndEnds, Ends, IsCommitRefusal, IsEarlierTurn, IsLastTurn, IsPayingTurn, IsRefusedPayment, IsTransactRefusal, IsTransacted, Locks, LocksAndBegins, LocksAndEnds, MakesTransaction, StopsAtLock, Transacts, TransactsAtLast, TransactsLocked, TransactsOrLacks, Unlocks, lock_step, plan_of}
+use Rattle.pool_threads.specs.Transacts.{BeginsAndEnds, Ends, IsCommitRefusal, IsEarlierTurn, IsLastTurn, IsPayingTurn, IsTransactRefusal, IsTransacted, Locks, LocksAndBegins, LocksAndEnds, MakesTransaction, Transacts, TransactsAtLast, TransactsLocked, TransactsOrLacks, Unlocks, lock_step, plan_of}
 use Rattle.pool_threads.specs.Views.{GrowsTo, IsPoolStep, SeenPool, grows_onward, grows_same, viewed_state}
 use Rattle.pool_threads.specs.Waits.{IsSyncingRefusal}
 use Rattle.pool_threads.proofs.Along.{GoesAlong, along_same, between_all}

@@ -14,13 +14,13 @@ use Rattle.base.specs.steps.SyncEnds.{IsAnswer, is_refusal}
 use Rattle.device_model.specs.declared.device.SectorDevice.{Ghosts}
 use Rattle.pool_tables.specs.declared.duty.Duty.{Duty}
 use Rattle.pool_threads.specs.declared.handle.Handle.{Handle}
-use Rattle.pool_threads.specs.Answers.{Takes, TakesAtLast}
+use Rattle.pool_threads.specs.Answers.{Takes}
 use Rattle.pool_threads.specs.Handles.{turns_of, view_seen}
 use Rattle.pool_threads.specs.Serves.{AreDue, IsServedTurn}
 use Rattle.pool_threads.specs.Views.{GrowsTo, SeenPool, grows_same, viewed_state}
 use Rattle.pool_threads.specs.Waits.{EndsAfter, LooksAt, SyncsPool, Waits, WaitsUntil}
 use Rattle.pool_threads.proofs.Looked.{looked_one}
-use Rattle.pool_threads.proofs.Waited.{LeadsOn, LooksOrServes, TakesAny, TakesAnyAtLast, all_alike, ends_on, lead_turns, more_leads_on, round_rest, sync_turns, takes_as, whole_wait}
+use Rattle.pool_threads.proofs.Waited.{LeadsOn, LooksOrServes, TakesAnyAtLast, all_alike, ends_on, lead_turns, more_leads_on, round_rest, sync_turns, takes_as, whole_wait}
 use Rattle.pool_threads.proofs.Tried.{no_turns}
 use Rattle.word_lock.specs.declared.rule.Turn.{Turn}
 use Rattle.word_lock.specs.Turns.{turn}

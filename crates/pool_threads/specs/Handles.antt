@@ -1,6 +1,7 @@
 -- What contracts say of a pool under its lock, and of its handles.
-use Rattle.std.specs.Prelude.{ℕ, ◌≡◌, ◌⊎◌, ◌+◌, ◌++◌, IsTrue, List, [], ◌∷◌}
+use Rattle.std.specs.Prelude.{ℕ, ◌≡◌, ◌≤◌, ◌⊎◌, ◌+◌, ◌/◌, ◌++◌, IsTrue, List, [], ◌∷◌, length}
 use Rattle.base.specs.crash.CrashRule.{KeepsOwn}
+use Rattle.base.specs.crash.Imports.{IsImportOf}
 use Rattle.base.specs.declared.error.PoolError.{PoolError}
 use Rattle.base.specs.declared.error.PoolError.TheVariants.{NoMemory}
 use Rattle.base.specs.disk.Disk.{Disk, bytes_of, certain}
@@ -18,6 +19,7 @@ use Rattle.pool_core.specs.KeptSafe.{disk_of}
 use Rattle.pool_core.specs.States.{device_of, shown}
 use Rattle.pool_threads.specs.declared.handle.Handle.{Handle}
 use Rattle.pool_threads.specs.declared.handle.LastSeen.{LastSeen}
+use Rattle.pool_threads.specs.declared.opened.Opened.{Opened}
 use Rattle.pool_threads.specs.declared.owned.OwnedPool.{OwnedPool}
 use Rattle.pool_threads.specs.declared.pool.Pool.{Pool}
 use Rattle.pool_threads.specs.declared.shared.Shared.{Shared}
@@ -32,6 +34,10 @@ module _ {Dev : Type 0} {G : Ghosts Dev} where
   -- what the handles of a pool share
   abbrev pub shared_of : Pool Dev G → Shared Dev G
   shared_of p = p.shared
+
+  -- what is told of its import
+  abbrev pub opened_in : Pool Dev G → Opened
+  opened_in p = p.opened
 
   -- so it is of a pool of one owner
   abbrev pub owned_of : OwnedPool Dev G → Shared Dev G
@@ -134,6 +140,14 @@ module _ {Dev : Type 0} {G : Ghosts Dev} where
   abbrev pub TakesTurns : Handle Dev G → Handle Dev G → Type 0
   TakesTurns old new = (tries : List (Turn SeenPool)) × (took : SeenPool) × (turns_of new ≡ (turns_of old ++ tries) ++ turn took (view_seen new) ∷ []) × HasMetNone old.seat new.seat
 
+  -- the handle had so many turns more
+  abbrev pub TakesSoMany : ℕ → Handle Dev G → Handle Dev G → Type 0
+  TakesSoMany count old new = length (turns_of new) ≡ length (turns_of old) + count
+
+  -- it had so many at most
+  abbrev pub TakesAtMost : ℕ → Handle Dev G → Handle Dev G → Type 0
+  TakesAtMost count old new = length (turns_of new) ≤ length (turns_of old) + count
+
   -- what a handle had seen as it left its pool, and the turns that it had had
   abbrev pub IsLeftBehind : Handle Dev G → LastSeen Dev G → Type 0
   IsLeftBehind h l = l.seat ≡ h.seat
@@ -187,6 +201,10 @@ module _ {Dev : Type 0} {G : Ghosts Dev} where
     pub history : IsTurnHistory (GrowsTo (IsTrue G.keeps_model)) (opening_view p) (seat_number l.seat) (turns l.seat) last
     pub alone : kin_left l ≡ 0 → last ≡ seen l.seat
 
+-- how many tries of a lock fit in a limit of so many nanoseconds: one at once, and one after each half millisecond
+abbrev pub tries_within : ℕ → ℕ
+tries_within limit = limit / 500_000 + 1
+
 -- whichever run left the old disk, it left the new one too
 abbrev pub LeavesSame : Disk → Disk → Type 0
 LeavesSame old new = (past : Past) → IsLeft past old → IsLeft past new
@@ -202,10 +220,16 @@ pub record ShowsMounted (m : Mounted) (disk : Disk) (v : SeenPool) : Type 0 wher
   pub shown : (viewed_state v).shown ≡ shown_of_import m
   pub disk_is : v.disk ≡ disk
 
+-- what is told of an import
+abbrev pub opened_of : Mounted → Opened
+opened_of m = record { guid = m.guid; group = m.group; import_number = m.import_number; records = m.records }
+
 -- The view shows what one import of the old disk mounted, with this moment in its uberblocks, and its disk is the one
--- that the import left.
-pub record ShowsImport (moment : ℕ) (old : Disk) (v : SeenPool) : Type 0 where
+-- that the import left. It replayed the records of the log that the disk had, and this is told of it.
+pub record ShowsImport (moment : ℕ) (old : Disk) (told : Opened) (v : SeenPool) : Type 0 where
   pub mounted : Mounted
+  pub told_is : told ≡ opened_of mounted
+  pub replayed : IsImportOf (bytes_of old.now) (bytes_of v.disk.now) mounted.dirty_max mounted.records (shown_of_import mounted)
   pub synced : IsImportSynced old v.disk moment mounted
   pub shown : (viewed_state v).shown ≡ shown_of_import mounted
 

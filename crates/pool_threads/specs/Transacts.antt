@@ -25,7 +25,7 @@ use Rattle.device_model.specs.declared.device.SectorDevice.{Ghosts}
 use Rattle.pool_tables.specs.BeginTests.{is_above_limit}
 use Rattle.pool_tables.specs.declared.duty.Duty.TheVariants as duty
 use Rattle.pool_threads.specs.declared.handle.Handle.{Handle}
-use Rattle.pool_threads.specs.Answers.{IsRefusal, Sees, TakesAtLast, TakesOne, state_seen}
+use Rattle.pool_threads.specs.Answers.{IsRefusal, Sees, TakesAtLast, TakesOne}
 use Rattle.pool_threads.specs.Handles.{kin_of, moment_of, turns_of}
 use Rattle.pool_threads.specs.Serves.{GoesOnAfter, IsServedTurn}
 use Rattle.pool_threads.specs.Views.{IsPoolStep, SeenPool, viewed_state}

@@ -56,6 +56,7 @@ mod limited;
 mod loops;
 mod objects;
 mod one_turn;
+mod opened;
 mod owned;
 mod pool;
 mod retries;
@@ -66,6 +67,7 @@ mod turn;
 mod waits;
 
 pub use handle::Handle;
+pub use opened::Opened;
 pub use pool::Pool;
 
 // For proofs.

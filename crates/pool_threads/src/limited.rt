@@ -1,12 +1,14 @@
 //! A lock that waits for at most a time.
-ghost use Rattle.std.specs.Prelude.{IfErr, IfOk};
+ghost use Rattle.std.specs.Prelude.{◌≡◌, ◌⊎◌, ◌+◌, IfErr, IfOk};
+ghost use Rattle.std.specs.Duration.{as_nanos};
 ghost use Rattle.base.specs.declared.error.PoolError.TheVariants as error;
 ghost use Rattle.base.specs.declared.step.Reply.TheVariants as reply;
 ghost use Rattle.base.specs.declared.step.Step.TheVariants as step;
 ghost use Rattle.base.specs.steps.Refusals.{object_range};
 ghost use Rattle.base.specs.steps.Runs.{reply_of};
 ghost use Rattle.base.specs.steps.Seen.{IsGranted};
-ghost use Rattle.pool_threads.specs.Answers.{IsRefusal, MakesAtLast, Sees};
+ghost use Rattle.pool_threads.specs.Answers.{IsRefusal, MakesAtLast, Sees, state_seen};
+ghost use Rattle.pool_threads.specs.Handles.{TakesAtMost, TakesSoMany, tries_within};
 
 use crate::bell::Bell;
 use crate::handle::Handle;
@@ -44,6 +46,9 @@ impl<'p, D: SectorDevice> Handle<'p, D> {
             (object_range object.0 range.low range.high) mode id.0) self.old self.new) }
         ensures refused { IfErr result (λ e. Sees
             (IsRefusal (step.Lock owner object range mode) e) self.old self.new) }
+        ensures limited { TakesAtMost (tries_within (as_nanos limit)) self.old self.new }
+        ensures patient { IfErr result (λ e. e ≡ error.Busy
+            → TakesSoMany (tries_within (as_nanos limit)) self.old self.new) }
     {
         let lock = Lock {
             owner,
@@ -61,7 +66,12 @@ impl<'p, D: SectorDevice> Handle<'p, D> {
         call: C,
         naps: u128,
     ) -> Result<C::Answer, PoolError>
-        ensures { MakesAtLast (C.step call) C.retried (reply_of C.reply result) self.old self.new }
+        ensures made { MakesAtLast (C.step call) C.retried (reply_of C.reply result)
+            self.old self.new }
+        ensures limited { TakesAtMost (naps + 1) self.old self.new }
+        ensures patient { IfErr result (λ e. e ≡ C.retried
+            → C.is_in_vain call (state_seen self.new).shown
+            ⊎ TakesSoMany (naps + 1) self.old self.new) }
     {
         // nobody rings it
         let alarm = Bell::new();

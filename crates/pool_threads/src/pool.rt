@@ -3,6 +3,7 @@ ghost use Rattle.word_lock.specs.Seats.{IsSourceOf};
 
 use crate::first::{first_view, state_behind, view_behind};
 use crate::handle::{Handle, LastSeen};
+use crate::opened::Opened;
 use crate::rule::{PoolRule, PoolView};
 use crate::shared::{Shared, boxed};
 use base::{DEFAULT_CACHE_BLOCKS, PoolError, Told};
@@ -19,6 +20,7 @@ use word_lock::{SeatSource, WordLock};
 #[derive(Drop)]
 pub struct Pool<D: SectorDevice> {
     pub(crate) shared: Shared<D>,
+    pub(crate) opened: Opened,
     source: SeatSource<Box<PoolState<D>>, PoolRule<D>>,
     ghost own: { IsSourceOf shared.lock source },
 }
@@ -30,7 +32,7 @@ impl<D: SectorDevice> Pool<D> {
     ghost use Rattle.import_replay.specs.ImportRefusals.{IsImportRefusal};
     ghost use Rattle.import_replay.specs.Mounts.{shown_of_import};
     ghost use Rattle.pool_core.specs.States.{device_of, shown};
-    ghost use Rattle.pool_threads.specs.Handles.{IsLastState, IsLaterState, IsLeftByOpen, IsNewHandle, IsReadyBehind, LeavesSame, OpensBehind, ShowsImport, ShowsMounted, StartsBehind, WasOf, kin_left, moment_in, opening_view, shared_of};
+    ghost use Rattle.pool_threads.specs.Handles.{IsLastState, IsLaterState, IsLeftByOpen, IsNewHandle, IsReadyBehind, LeavesSame, OpensBehind, ShowsImport, ShowsMounted, StartsBehind, WasOf, kin_left, moment_in, opened_in, opened_of, opening_view, shared_of};
     ghost use Rattle.pool_threads.specs.Views.{Explains, SeenPool};
 
     /// Opens the pool on a device, as often as one likes: this is the way in for a program. It keeps 256 tree blocks in
@@ -44,7 +46,8 @@ impl<D: SectorDevice> Pool<D> {
         ensures opened { IfOk result (λ p. OpensBehind (IsTrue D.keeps_model) (D.disk device)
             dirty_max (opening_view (shared_of p))) }
         ensures imported { IsTrue D.keeps_model → IfOk result
-            (λ p. ShowsImport moment (D.disk device) (opening_view (shared_of p))) }
+            (λ p. ShowsImport moment (D.disk device) (opened_in p)
+            (opening_view (shared_of p))) }
         ensures moment { IfOk result (λ p. moment_in (shared_of p) ≡ moment) }
         ensures refused { IfErr result (λ e. IsImportRefusal (D.size device)
             (is_dirty_max_allowed dirty_max) e.0) }
@@ -85,7 +88,8 @@ impl<D: SectorDevice> Pool<D> {
         ensures opened { IfOk result (λ p. OpensBehind (IsTrue D.keeps_model) (D.disk device)
             dirty_max (opening_view (shared_of p))) }
         ensures imported { IsTrue D.keeps_model → IfOk result
-            (λ p. ShowsImport moment (D.disk device) (opening_view (shared_of p))) }
+            (λ p. ShowsImport moment (D.disk device) (opened_in p)
+            (opening_view (shared_of p))) }
         ensures moment { IfOk result (λ p. moment_in (shared_of p) ≡ moment) }
         ensures cache { IfOk result (λ _. is_cache_allowed cache_blocks ≡ true) }
         ensures refused { IfErr result (λ e. IsImportRefusal (D.size device)
@@ -108,6 +112,13 @@ impl<D: SectorDevice> Pool<D> {
             Ok(pool) => Ok(pool),
             Err((error, state)) => Err((error, state.into_device())),
         }
+    }
+
+    /// What the import found and did as the pool was opened: also whether it had to replay the log.
+    pub fn opened(&self) -> Opened
+        ensures { result ≡ opened_in self.now }
+    {
+        self.opened
     }
 
     /// A handle for a thread, at any time. Each thread has one of its own.
@@ -138,25 +149,35 @@ impl<D: SectorDevice> Pool<D> {
         D: Drop,
         ensures { IfSome result (λ s. IsLaterState (shared_of self) s) }
     {
-        let Pool { shared, source: _ } = self;
+        let Pool {
+            shared,
+            opened: _,
+            source: _,
+        } = self;
         shared.close()
     }
 
     /// For proofs: a pool of a state, with a view that explains it. A program takes `open`.
     ///
-    /// No thread has the pool yet. The syncs that its handles start carry this moment, in seconds.
+    /// No thread has the pool yet. The syncs that its handles start carry this moment, in seconds. `Pool::opened` tells
+    /// what it is handed here.
     ///
     /// # Errors
     /// `NoMemory` if there is none for the lock. The state then comes back.
-    pub fn new(state: PoolState<D>, moment: u64) -> Result<Pool<D>, (PoolError, PoolState<D>)>
+    pub fn new(
+        state: PoolState<D>,
+        opened: Opened,
+        moment: u64,
+    ) -> Result<Pool<D>, (PoolError, PoolState<D>)>
         ghost first: { SeenPool }
         requires explained { Explains state first }
         ensures opening { IfOk result (λ p. opening_view (shared_of p) ≡ first) }
+        ensures told { IfOk result (λ p. opened_in p ≡ opened) }
         ensures moment { IfOk result (λ p. moment_in (shared_of p) ≡ moment) }
         ensures refused { IfErr result (λ e. (e.0 ≡ PoolError.NoMemory) × (e.1 ≡ state)) }
     {
         let first = first_view(&state);
-        Pool::with_view(state, moment, &first)
+        Pool::with_view(state, opened, moment, &first)
     }
 
     /// For proofs: the pool that an import gave, to be shared. A program takes `open`.
@@ -169,13 +190,15 @@ impl<D: SectorDevice> Pool<D> {
     pub fn share(imported: Imported<D>, moment: u64) -> Result<Pool<D>, (PoolError, PoolState<D>)>
         ensures shown { IfOk result (λ p. ShowsMounted imported.mounted (D.disk imported.device)
             (opening_view (shared_of p))) }
+        ensures told { IfOk result (λ p. opened_in p ≡ opened_of imported.mounted) }
         ensures moment { IfOk result (λ p. moment_in (shared_of p) ≡ moment) }
         ensures refused { IfErr result (λ e. (e.0 ≡ PoolError.NoMemory)
             × (device_of e.1 ≡ imported.device)
             × (shown e.1 ≡ shown_of_import imported.mounted)) }
     {
+        let opened = Opened::of(&imported.mounted);
         let state = PoolState::new(imported);
-        Pool::new(state, moment)
+        Pool::new(state, opened, moment)
     }
 
     /// For proofs: the pool that an import gave, to be shared, with the device as it was before the import. A program
@@ -198,14 +221,16 @@ impl<D: SectorDevice> Pool<D> {
             (shown_of_import imported.mounted).dirty_max (opening_view (shared_of p))) }
         ensures shown { IfOk result (λ p. ShowsMounted imported.mounted (D.disk imported.device)
             (opening_view (shared_of p))) }
+        ensures told { IfOk result (λ p. opened_in p ≡ opened_of imported.mounted) }
         ensures moment { IfOk result (λ p. moment_in (shared_of p) ≡ moment) }
         ensures refused { IfErr result (λ e. e.0 ≡ PoolError.NoMemory) }
         ensures given_back { IfErr result (λ e. IsReadyBehind (D.disk before.now.value)
             imported.mounted imported.device e.1) }
     {
+        let opened = Opened::of(&imported.mounted);
         let state = state_behind(imported, before);
         let first = view_behind(before, &state);
-        Pool::with_view(state, moment, &first)
+        Pool::with_view(state, opened, moment, &first)
     }
 
     /// For proofs: as `close`, after what a handle had seen as it left. A program takes `close`.
@@ -218,18 +243,24 @@ impl<D: SectorDevice> Pool<D> {
         ensures last { IfSome result (λ s. IsLastState (shared_of self) last s) }
         ensures only { kin_left last ≡ 0 → IsSome result }
     {
-        let Pool { shared, source: _ } = self;
+        let Pool {
+            shared,
+            opened: _,
+            source: _,
+        } = self;
         shared.close_after(last)
     }
 
-    // A pool with this view, which explains it.
+    // A pool with this view, which explains it, and which tells this of its import.
     fn with_view(
         state: PoolState<D>,
+        opened: Opened,
         moment: u64,
         first: &Told<PoolView>,
     ) -> Result<Pool<D>, (PoolError, PoolState<D>)>
         requires explained { Explains state first.now.value }
         ensures opening { IfOk result (λ p. opening_view (shared_of p) ≡ first.now.value) }
+        ensures told { IfOk result (λ p. opened_in p ≡ opened) }
         ensures moment { IfOk result (λ p. moment_in (shared_of p) ≡ moment) }
         ensures refused { IfErr result (λ e. (e.0 ≡ PoolError.NoMemory) × (e.1 ≡ state)) }
     {
@@ -241,6 +272,7 @@ impl<D: SectorDevice> Pool<D> {
         match WordLock::with_source(alloc, held, first) {
             Ok((lock, source)) => Ok(Pool {
                 shared: Shared::new(lock, alloc, moment),
+                opened,
                 source,
             }),
             Err((error, held)) => Err((error, Box::into_inner(held))),

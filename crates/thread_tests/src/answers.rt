@@ -1,9 +1,9 @@
 //! What a handle answers of its pool, and calls that wait for no longer than they are told.
 
-use crate::fixture::{SMALL, make_object, new_pool, on_pool};
+use crate::fixture::{SMALL, make_object, new_pool, on_pool, open_pool};
 use base::{Bytes, Group, Mode, ObjectId, Op, Ops, Owner, PoolError, Range, Receipt};
 use device_model::MemDevice;
-use pool_threads::Handle;
+use pool_threads::{Handle, Opened};
 use std::alloc::Global;
 use std::sync::Wait;
 use std::test::Fail;
@@ -124,5 +124,31 @@ fn a_lock_with_a_limit_is_refused_at_its_end(rt: HostRuntime) -> Result<(), Fail
     let pool = new_pool(rt.alloc(), SMALL)?;
     let locked = on_pool(pool, |handle| lock_twice(&rt, handle));
     assert_eq!(rt; locked, Ok((Some(PoolError::Busy), true)));
+    Ok(())
+}
+
+// What a pool tells of its import after a crash, before which four transactions were durable and no group was synced.
+fn reopen<W: Wait>(rt: &W, alloc: Global) -> Result<Opened, PoolError> {
+    let pool = new_pool(alloc, SMALL)?;
+    let mut handle = pool.handle();
+    make_three(rt, alloc, &mut handle)?;
+    handle.fsync_all(rt)?;
+    let Some(state) = pool.close() else {
+        return Err(PoolError::NotReady);
+    };
+    let pool = open_pool(alloc, state.into_device().crash(&[]), SMALL)?;
+    Ok(pool.opened())
+}
+
+// A pool is created with group 4, and each import syncs the fourth group after the last one.
+#[test]
+fn a_pool_tells_what_its_import_replayed(rt: HostRuntime) -> Result<(), Fail> {
+    let opened = Opened {
+        guid: 77,
+        group: Group(12),
+        import_number: 2,
+        records: 4,
+    };
+    assert_eq!(rt; reopen(&rt, rt.alloc()), Ok(opened));
     Ok(())
 }

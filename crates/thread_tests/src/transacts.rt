@@ -10,6 +10,7 @@ use std::alloc::Global;
 use std::sync::Wait;
 use std::test::Fail;
 use std::thread::{Threads, map_vec};
+use std::time::Duration;
 
 const OBJECT: ObjectId = ObjectId(1);
 
@@ -193,6 +194,50 @@ fn a_refused_transaction_leaves_no_lock(rt: HostRuntime) -> Result<(), Fail> {
     let refused = (Err(PoolError::NoObject), true, Ok(()));
     let empty = Err(PoolError::BadRange);
     assert_eq!(rt; returned, Ok((refused, empty, (Ordinal(0), true))));
+    Ok(())
+}
+
+// What a write of the first byte returns whose owner holds a lock of these bytes, and whether another is refused them
+// after it.
+fn write_locked<W: Wait>(
+    rt: &W,
+    alloc: Global,
+    handle: &mut Handle<'_, MemDevice>,
+    range: Range,
+) -> Result<(Option<PoolError>, bool), PoolError> {
+    let held = handle.lock(rt, Owner(1), OBJECT, range, Mode::Writer)?;
+    let ops = Ops::new(vec![in alloc; write(alloc, 0, 5)?]?);
+    let refused = handle.transact_locked(rt, Owner(1), ops).err();
+    let other = handle.lock_within(rt, Owner(2), OBJECT, range, Mode::Reader, Duration::ZERO);
+    handle.unlock(rt, Owner(1), held)?;
+    Ok((refused, other == Err(PoolError::Busy)))
+}
+
+// They, under a lock of the byte, under one of more bytes, and under one of others, and whether the byte is written.
+fn write_under_locks<W: Wait>(
+    rt: &W,
+    alloc: Global,
+    handle: &mut Handle<'_, MemDevice>,
+) -> Result<([(Option<PoolError>, bool); 3], bool), PoolError> {
+    create_and_write(rt, alloc, handle, Owner(1))?;
+    let rows = [
+        write_locked(rt, alloc, handle, Range { low: 0, high: 1 })?,
+        write_locked(rt, alloc, handle, Range { low: 0, high: 9 })?,
+        write_locked(rt, alloc, handle, Range { low: 1, high: 9 })?,
+    ];
+    Ok((rows, has_bytes(rt, handle, &[5])?))
+}
+
+#[test]
+fn a_transaction_under_the_callers_locks_leaves_them_held(rt: HostRuntime) -> Result<(), Fail> {
+    let pool = new_pool(rt.alloc(), SMALL)?;
+    let written = on_pool(pool, |handle| write_under_locks(&rt, rt.alloc(), handle));
+    let rows = [
+        (None, true),
+        (None, true),
+        (Some(PoolError::NotLocked), true),
+    ];
+    assert_eq!(rt; written, Ok((rows, true)));
     Ok(())
 }
 

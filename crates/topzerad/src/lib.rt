@@ -19,7 +19,8 @@
 //!    each commit so far.
 //! 5. **A sync** writes the objects of a group to their places. `sync_pool` syncs all that was committed before. A
 //!    program that writes for long has two threads for it: `quiescer` and `syncer` of a handle each run until
-//!    `Pool::stop`. A write or a flush is made under the pool's lock, so other threads wait for it.
+//!    `Pool::stop`. [`run_beside_loops`] starts them beside a program's work, and stops them. A write or a flush is
+//!    made under the pool's lock, so other threads wait for it.
 //! 6. **The dirty limit**, as [`DEFAULT_DIRTY_MAX`], is in bytes. Until its group is synced, a transaction is charged
 //!    4,096 bytes for each block that its sync may write: 2 blocks for a create or a remove, 4 for a new length. A
 //!    write is 3 blocks, and one more for each piece of 4,032 bytes that it touches. At the limit [`PoolState::begin`]
@@ -97,7 +98,8 @@ pub use import_replay::{
     Imported, Inspected, Mounted, View, create, import, import_with, inspect, view_pool,
 };
 pub use pool_core::{Duty, PoolState, Progress, run};
-pub use pool_threads::{Handle, Pool};
+pub use pool_loops::{Halt, run_beside_loops};
+pub use pool_threads::{Handle, Opened, Pool};
 pub use range_locks::{HeldLock, HeldLocks, HeldPiece};
 pub use transactions::{charge, is_plan_allowed, record_size};
 

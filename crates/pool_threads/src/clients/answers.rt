@@ -1,16 +1,18 @@
 //! What callers rest on of the calls by which a handle answers.
-ghost use Rattle.std.specs.Prelude.{ℕ, ◌≡◌, ◌≤◌, ◌<◌, ◌⊎◌, IfErr, IfOk, IsTrue, Ok, Some, false, length, slice_get, take, true};
+ghost use Rattle.std.specs.Prelude.{ℕ, ◌≡◌, ◌≤◌, ◌<◌, ◌⊎◌, ◌+◌, IfErr, IfOk, IsTrue, Ok, Some, false, length, slice_get, take, true};
 ghost use Rattle.base.specs.declared.names.ObjectId.{ObjectId};
+ghost use Rattle.base.specs.declared.range.Mode.TheVariants.{Writer};
 ghost use Rattle.base.specs.formats.Digest.{digest_of};
 ghost use Rattle.base.specs.formats.Limits.{object_count};
 ghost use Rattle.base.specs.history.Contents.{Contents, length_of};
 ghost use Rattle.base.specs.history.History.{replay};
 ghost use Rattle.base.specs.steps.ExactNow.{GoesOn};
-ghost use Rattle.base.specs.steps.Seen.{IsKnownDurable};
+ghost use Rattle.base.specs.steps.Refusals.{object_range};
+ghost use Rattle.base.specs.steps.Seen.{IsGranted, IsKnownDurable};
 ghost use Rattle.base.specs.steps.Shown.{available, dirty_total, free_count};
 ghost use Rattle.base.specs.steps.Steps.{State};
 ghost use Rattle.pool_threads.specs.Answers.{Sees, state_seen};
-ghost use Rattle.pool_threads.specs.Handles.{TakesOneTurn, TakesTurns, kin_of};
+ghost use Rattle.pool_threads.specs.Handles.{TakesOneTurn, TakesTurns, kin_of, turns_of};
 
 use crate::Handle;
 use base::{
@@ -196,4 +198,39 @@ fn a_lock_with_a_limit_takes_turns<D: SectorDevice, W: Wait>(
     ensures { TakesTurns handle.old handle.new }
 {
     handle.lock_within(rt, owner, ObjectId(5), range, Mode::Writer, limit)
+}
+
+// One at once, and one after each half millisecond. `Busy` is the answer after the last one alone.
+fn a_lock_with_a_limit_of_two_milliseconds_has_five_tries<D: SectorDevice, W: Wait>(
+    rt: &W,
+    handle: &mut Handle<'_, D>,
+    owner: Owner,
+    range: Range,
+) -> Result<LockId, PoolError>
+    ensures most { length (turns_of handle.new) ≤ length (turns_of handle.old) + 5 }
+    ensures busy { IfErr result (λ e. e ≡ PoolError.Busy
+        → length (turns_of handle.new) ≡ length (turns_of handle.old) + 5) }
+{
+    let limit = Duration::from_millis(2);
+    handle.lock_within(rt, owner, ObjectId(5), range, Mode::Writer, limit)
+}
+
+// It was granted during the call, and is held after it.
+fn a_lock_with_a_limit_is_held_by_its_owner<D: SectorDevice, W: Wait>(
+    rt: &W,
+    handle: &mut Handle<'_, D>,
+    limit: Duration,
+) -> Result<LockId, PoolError>
+    ensures granted { IfOk result (λ id. Sees
+        (IsGranted 3 (object_range 5 2 9) Writer id.0) handle.old handle.new) }
+    ensures held { IfOk result (λ id. ∥ ((i : ℕ) × (slice_get
+        (state_seen handle.new).shown.locks i ≡ Some (record {
+          id = id.0;
+          owner = 3;
+          range = object_range 5 2 9;
+          mode = Writer;
+        }))) ∥₁) }
+{
+    let range = Range { low: 2, high: 9 };
+    handle.lock_within(rt, Owner(3), ObjectId(5), range, Mode::Writer, limit)
 }

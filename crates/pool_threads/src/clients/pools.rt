@@ -1,6 +1,10 @@
 //! What callers rest on of the calls that make a pool and its handles.
-ghost use Rattle.std.specs.Prelude.{◌≡◌, [], IfSome, IsTrue};
+ghost use Rattle.std.specs.Prelude.{◌≡◌, ◌+◌, [], IfSome, IsTrue, List, length};
 ghost use Rattle.base.specs.crash.LeftDisks.{IsLeft};
+ghost use Rattle.base.specs.crash.Mount.{IsChainOf, records_above};
+ghost use Rattle.base.specs.disk.Disk.{bytes_of};
+ghost use Rattle.base.specs.formats.Chain.{LogPiece};
+ghost use Rattle.base.specs.formats.Uberblocks.{IsActive, Uberblock};
 ghost use Rattle.base.specs.history.Past.{Past};
 ghost use Rattle.base.specs.steps.Explains.{IsLeftBy};
 ghost use Rattle.import_replay.specs.Mounts.{shown_of_import};
@@ -8,10 +12,11 @@ ghost use Rattle.pool_threads.specs.Handles.{StartsBehind, kin_of, moment_in, mo
 ghost use Rattle.pool_threads.specs.Views.{Explains, GrowsTo, SeenPool, viewed_state};
 ghost use Rattle.pool_threads.specs.Views.CrashRule.{Behind};
 
-use crate::{Handle, Pool};
+use crate::{Handle, Opened, Pool};
 use device_model::SectorDevice;
 use import_replay::Imported;
 use pool_core::PoolState;
+use std::alloc::Global;
 use std::snapshot::Snapshot;
 
 // It has seen what goes on from the opening view, and has had no turn.
@@ -67,6 +72,7 @@ where
 // Whichever view that is.
 fn a_pool_opens_with_the_view_that_explains_its_state<D: SectorDevice>(
     state: PoolState<D>,
+    opened: Opened,
 ) -> Option<Pool<D>>
 where
     D: Drop,
@@ -75,8 +81,40 @@ where
     ensures opening { IfSome result (λ p. opening_view (shared_of p) ≡ first) }
     ensures moment { IfSome result (λ p. moment_in (shared_of p) ≡ 7) }
 {
-    match Pool::new(state, 7) {
+    match Pool::new(state, opened, 7) {
         Ok(pool) => Some(pool),
+        Err(_) => None,
+    }
+}
+
+// Of the log that the disk had: as many as the chain of its active uberblock has above the synced group.
+fn an_open_pool_tells_how_many_records_it_replayed<D: SectorDevice>(
+    alloc: Global,
+    device: D,
+) -> Option<u64>
+where
+    D: Drop,
+    ensures { IsTrue D.keeps_model → IfSome result (λ records. (u : Uberblock)
+        × (chain : List LogPiece) × IsActive (bytes_of (D.disk device).now) u
+        × IsChainOf (bytes_of (D.disk device).now) u chain
+        × (length (records_above u.group chain) ≡ records)) }
+{
+    match Pool::open(alloc, device, 1_048_576, 0) {
+        Ok(pool) => Some(pool.opened().records),
+        Err(_) => None,
+    }
+}
+
+// The group is the active one and four more, since an import skips the numbers that a crash may have used.
+fn an_open_pool_tells_what_its_disk_had<D: SectorDevice>(alloc: Global, device: D) -> Option<Opened>
+where
+    D: Drop,
+    ensures { IsTrue D.keeps_model → IfSome result (λ opened. (u : Uberblock)
+        × IsActive (bytes_of (D.disk device).now) u × (opened.guid ≡ u.guid)
+        × (opened.group.0 ≡ u.group + 4) × (opened.import_number ≡ u.import_number + 1)) }
+{
+    match Pool::open(alloc, device, 1_048_576, 0) {
+        Ok(pool) => Some(pool.opened()),
         Err(_) => None,
     }
 }

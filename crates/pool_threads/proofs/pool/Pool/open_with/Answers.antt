@@ -1,4 +1,7 @@
+use Rattle.base.specs.crash.Imports.{IsImportOf}
 use Rattle.base.specs.disk.Calls.{with_refusal}
+use Rattle.base.specs.disk.Disk.{bytes_of}
+use Rattle.import_replay.specs.Mounts.{shown_of_import}
 use Rattle.std.proofs.Common.{◌∙◌, ap, inl, inr, sym, subst}
 use Rattle.import_replay.specs.ImportSyncs.{IsImportSynced}
 use Rattle.import_replay.specs.RunStarts.{StartsRun}
@@ -25,8 +28,12 @@ returns-in-Ok-share_after-clause-opened g c =
     subst (λ d. OpensBehind keeps (disk d) c.args.dirty_max view) c.of-before.ensures (subst (λ n. OpensBehind keeps (disk c.of-before.result.value) n view) limit c.in-Ok-share_after.ensures.opened)
 
 pub returns-in-Ok-share_after-clause-imported : goal.returns-in-Ok-share_after-clause-imported
-returns-in-Ok-share_after-clause-imported g c = λ keeps. record {
-  mounted = c.in-Ok.imported.mounted;
+returns-in-Ok-share_after-clause-imported g c = λ keeps. let m = c.in-Ok.imported.mounted in let image = bytes_of (g.D.SectorDevice.disk c.args.device).now in record {
+  mounted = m;
+  told_is = c.in-Ok-share_after.ensures.told;
+  replayed =
+      subst (λ d. IsImportOf image (bytes_of d.now) m.dirty_max m.records (shown_of_import m)) (sym c.in-Ok-share_after.ensures.shown.disk_is)
+      (subst (λ n. IsImportOf image (bytes_of (g.D.SectorDevice.disk c.in-Ok.imported.device).now) n m.records (shown_of_import m)) (sym (c.in-Ok.ensures.mounted.explained 0).exact.charges.limit) (c.in-Ok.ensures.imported keeps).imported);
   synced = subst (λ d. IsImportSynced (g.D.SectorDevice.disk c.args.device) d c.args.moment c.in-Ok.imported.mounted) (sym c.in-Ok-share_after.ensures.shown.disk_is) (c.in-Ok.ensures.written keeps).synced;
   shown = c.in-Ok-share_after.ensures.shown.shown;
 }

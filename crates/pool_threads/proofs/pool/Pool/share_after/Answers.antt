@@ -18,6 +18,9 @@ returns-clause-shown g c =
     if_ok _ _ c.with_view.result c.with_view.ensures.opening
     (λ p is. shows_mounted c.state_behind-state.result _ _ _ _ _ (is ∙ c.view_behind-first.ensures) ready.shown_is ready.device_is)
 
+pub returns-clause-told : goal.returns-clause-told
+returns-clause-told g c = if_ok _ _ c.with_view.result c.with_view.ensures.told (λ p is. is ∙ c.of-opened.ensures)
+
 pub returns-clause-refused : goal.returns-clause-refused
 returns-clause-refused g c = if_err _ _ c.with_view.result c.with_view.ensures.refused (λ e given. given.0)
 

@@ -1,4 +1,4 @@
-//! The flags that the threads of a load share beside the pool. No clause rests on them.
+//! The flags that the threads beside a pool share. No clause rests on them.
 
 ghost use Rattle.std.specs.Prelude.{◌≡◌};
 
@@ -10,33 +10,34 @@ use std::time::Duration;
 // How many loops there are.
 const LOOPS: u64 = 2;
 
-// So often, and so long each time, the workers wait for the loops: ten seconds in all.
+// So often, and so long each time, the work waits for the loops: ten seconds in all.
 const NAPS: u32 = 10_000;
 
 const NAP_IN_MICROSECONDS: u64 = 1_000;
 
-/// Whether the load is to end early, and how many loops have begun.
+/// Whether the work beside the loops of a pool is to end early, and how many loops have begun.
 #[derive(Drop)]
-pub(crate) struct Halt {
+pub struct Halt {
     raised: AtomicBool,
     loops: AtomicU64,
 }
 
 impl Halt {
-    pub(crate) fn new() -> Self {
+    /// A flag that is not raised, for one call of `run_beside_loops`.
+    pub fn new() -> Self {
         Halt {
             raised: AtomicBool::new(false),
             loops: AtomicU64::new(0),
         }
     }
 
-    /// Whether the workers are to begin no further write.
-    pub(crate) fn is_raised(&self) -> bool {
+    /// Whether the work is to end: a loop was refused, or `note` was given a refusal.
+    pub fn is_raised(&self) -> bool {
         self.raised.load(Ordering::SeqCst)
     }
 
-    /// Ends the load if a call was refused. It hands the answer on.
-    pub(crate) fn note(&self, answer: Result<(), PoolError>) -> Result<(), PoolError>
+    /// Raises the flag if a call was refused. It hands the answer on.
+    pub fn note(&self, answer: Result<(), PoolError>) -> Result<(), PoolError>
         ensures { result ≡ answer }
     {
         if answer.is_err() {

@@ -1,4 +1,4 @@
-//! The two loops of the pool beside the workers of a load.
+//! The two loops of a pool.
 //!
 //! A loop that ends early would leave a write that waits at the dirty limit waiting for ever, with two exceptions. If
 //! the pool is suspended, each call is refused. A syncer that lacks memory, or a block that it needs, is called again

@@ -1,0 +1,28 @@
+//! What callers rely on: one function for each promise of this crate's calls, proved from the contract of the call
+//! alone. So it is refused as soon as that contract promises less.
+
+ghost use Rattle.std.specs.Prelude.{◌≡◌, IfOk};
+
+use crate::beside::run_beside_loops;
+use crate::halt::Halt;
+use base::PoolError;
+use device_model::SectorDevice;
+use pool_threads::Pool;
+use std::sync::Wait;
+use std::thread::Threads;
+
+fn what_the_work_returns_is_returned<D: SectorDevice + Send, R: Threads + Wait + Sync>(
+    rt: &R,
+    pool: &Pool<D>,
+    count: u64,
+) -> Result<u64, PoolError>
+    ensures { IfOk result (λ n. n ≡ count) }
+{
+    run_beside_loops(rt, pool, &Halt::new(), || Ok(count))
+}
+
+fn a_noted_answer_is_handed_on(halt: &Halt, answer: Result<(), PoolError>) -> Result<(), PoolError>
+    ensures { result ≡ answer }
+{
+    halt.note(answer)
+}

@@ -1,0 +1,13 @@
+//! The two loops of a pool beside a program's work: one closes groups, and one syncs them, each in a thread of its own.
+//!
+//! [`run_beside_loops`] starts them, runs the work, stops them and waits for their ends. `load` of `loads` and the
+//! command `serve` of `ztxg` are built on it.
+#![tactic(auto)]
+
+mod beside;
+mod clients;
+mod halt;
+mod loops;
+
+pub use beside::run_beside_loops;
+pub use halt::Halt;
