@@ -1,7 +1,9 @@
 -- What `get` writes: bytes of an object in what the image mounts.
-use Rattle.std.specs.Prelude.{ℕ, ◌≡◌, ◌+◌, List, Option, None, Some, min}
+use Rattle.std.specs.Prelude.{ℕ, ◌≡◌, ◌≢◌, ◌+◌, List, Option, None, Some, min}
 use Rattle.std.specs.Io.KnownBytes.{Appends}
 use Rattle.base.specs.crash.Mount.{MountsTo}
+use Rattle.base.specs.declared.error.PoolError.{PoolError}
+use Rattle.base.specs.declared.error.PoolError.TheVariants.{Flush, Write}
 use Rattle.base.specs.declared.range.Range.{Range}
 use Rattle.base.specs.formats.Limits.{max_length}
 use Rattle.base.specs.history.Contents.{Contents}
@@ -23,3 +25,7 @@ IsMountedRange image object range bytes = (contents : Contents) × MountsTo imag
 -- they were written after what the writer had, if that is known
 abbrev pub WritesMounted : List ℕ → ℕ → Range → Option (List ℕ) → Option (List ℕ) → Type 0
 WritesMounted image object range old new = (bytes : List ℕ) × IsMountedRange image object range bytes × Appends old new bytes
+
+-- a refusal of what only reads: no write and no flush was refused
+abbrev pub IsReadersRefusal : PoolError → Type 0
+IsReadersRefusal e = (e ≢ Write) × (e ≢ Flush)

@@ -2,9 +2,10 @@
 //!
 //! So it says something of a file that holds no pool too: a config is there but for a file of another size, or none is.
 
-ghost use Rattle.std.specs.Prelude.{◌≡◌, ◌≢◌, ◌≤◌, ◌<◌, ◌*◌, Err, IfErr, IfOk, IsErr, length, vec_len};
+ghost use Rattle.std.specs.Prelude.{◌≡◌, ◌≢◌, ◌≤◌, ◌<◌, ◌*◌, ◌⊎◌, Err, IfErr, IfOk, IsErr, OnOk, length, vec_len};
+ghost use Rattle.base.specs.formats.Geometry.{IsGeometry};
 ghost use Rattle.device_model.specs.Reading.{OnlyReads};
-ghost use Rattle.commands.specs.Checks.{StaysOpened};
+ghost use Rattle.commands.specs.Checks.{IsCheckRefusal, StaysOpened};
 ghost use Rattle.uberblocks.specs.Rings.{ring_size};
 
 use crate::failure::{Failure, NotesRefusals, Verbosity, report_failure};
@@ -34,6 +35,7 @@ pub fn run_labels<D: SectorDevice + NotesRefusals, W: Write, E: Write>(
 ) -> u8
     ensures only_read { StaysOpened D.SectorDevice opened.old opened.new }
     ensures unusable { IsErr opened.old → result ≡ 3 }
+    ensures size { IfOk opened.old (λ device. (IsGeometry (D.size device) → ⊥) → result ≡ 1) }
     ensures range { result ≤ 3 }
     ensures no_usage { result ≢ 2 }
 {
@@ -50,6 +52,8 @@ fn show_labels<D: SectorDevice + NotesRefusals, W: Write>(
 ) -> Result<(), Failure>
     ensures only_read { StaysOpened D.SectorDevice opened.old opened.new }
     ensures unusable { IfErr opened.old (λ cause. result ≡ Err (Failure.Unusable cause)) }
+    ensures size { IfOk opened.old (λ device. (IsGeometry (D.size device) → ⊥)
+        → result ≡ Err (Failure.Refused PoolError.BadGeometry)) }
 {
     let device = match opened {
         Ok(device) => device,
@@ -84,7 +88,9 @@ enum ConfigFound {
 }
 
 fn read_labels<D: SectorDevice>(alloc: Global, device: &mut D) -> Result<Labels, PoolError>
-    ensures { OnlyReads D.SectorDevice result device.old device.new }
+    ensures reads { OnlyReads D.SectorDevice result device.old device.new }
+    ensures sized { OnOk result (IsGeometry (D.size device.old)) }
+    ensures refused { IfErr result (IsCheckRefusal (D.size device.old)) }
 {
     let geometry = Geometry::of(device.sectors())?;
     let ring = read_ring(alloc, device, geometry)?;
@@ -101,6 +107,7 @@ fn read_ring<D: SectorDevice>(
     requires { D.size device.old ≡ geometry }
     ensures reads { OnlyReads D.SectorDevice result device.old device.new }
     ensures length { IfOk result (λ ring. vec_len ring ≡ ring_size) }
+    ensures refused { IfErr result (λ e. (e ≡ PoolError.NoMemory) ⊎ (e ≡ PoolError.Read)) }
 {
     let mut ring = blank(alloc, LABEL_COUNT * ARRAY_SIZE)?;
     for label in 0..LABEL_COUNT {
@@ -126,6 +133,7 @@ fn read_array<D: SectorDevice>(
     requires label { label < 4 }
     requires ring { length ring.old ≡ ring_size }
     ensures reads { OnlyReads D.SectorDevice result device.old device.new }
+    ensures refused { IfErr result (λ e. e ≡ PoolError.Read) }
     ensures length { length ring.new ≡ ring_size }
 {
     let at = geometry.label_place(label) + ARRAY_AT;
@@ -138,7 +146,8 @@ fn read_configs<D: SectorDevice>(
     geometry: Geometry,
 ) -> Result<[ConfigFound; 4], PoolError>
     requires { D.size device.old ≡ geometry }
-    ensures { OnlyReads D.SectorDevice result device.old device.new }
+    ensures reads { OnlyReads D.SectorDevice result device.old device.new }
+    ensures refused { IfErr result (λ e. e ≡ PoolError.Read) }
 {
     Ok([
         read_config(device, geometry, 0)?,
@@ -155,7 +164,8 @@ fn read_config<D: SectorDevice>(
 ) -> Result<ConfigFound, PoolError>
     requires sized { D.size device.old ≡ geometry }
     requires label { label < 4 }
-    ensures { OnlyReads D.SectorDevice result device.old device.new }
+    ensures reads { OnlyReads D.SectorDevice result device.old device.new }
+    ensures refused { IfErr result (λ e. e ≡ PoolError.Read) }
 {
     let mut block = [0; BLOCK_SIZE];
     device.read(geometry.config_place(label), &mut block[..])?;

@@ -1,10 +1,11 @@
 //! The command `get`: the bytes of an object of the pool in a file, as an import would mount them. It only reads.
 
-ghost use Rattle.std.specs.Prelude.{◌≡◌, ◌≢◌, ◌≤◌, Err, IfErr, IfOk, IsErr, IsTrue};
+ghost use Rattle.std.specs.Io.KnownBytes.{Appends};
+ghost use Rattle.std.specs.Prelude.{◌≡◌, ◌≢◌, ◌≤◌, Err, IfErr, IfOk, IsErr, IsOkAnd, IsTrue, OnOk};
 ghost use Rattle.base.specs.disk.Disk.{bytes_of};
 ghost use Rattle.device_model.specs.Reading.{OnlyReads};
 ghost use Rattle.commands.specs.Checks.{StaysOpened};
-ghost use Rattle.commands.specs.Reads.{IsMountedRange, WritesMounted, range_of};
+ghost use Rattle.commands.specs.Reads.{IsMountedRange, IsReadersRefusal, WritesMounted, range_of};
 
 use crate::arguments::GetArguments;
 use crate::failure::{Failure, NotesRefusals, Verbosity, report_failure};
@@ -38,18 +39,28 @@ pub fn run_get<D: SectorDevice + NotesRefusals, W: Write, E: Write>(
     ensures no_usage { result.0 ≢ 2 }
 {
     let (read, opened) = get_bytes(alloc, arguments, opened);
-    let written = match read {
-        Ok(bytes) => out
-            .write_all(bytes.as_slice())
-            .map_err(|_| Failure::Unwritten),
-        Err(failure) => Err(failure),
-    };
-    match written {
+    match write_read(read, out) {
         Ok(()) => (0, opened),
         Err(failure) => (
             report_failure(failure, arguments.file, verbosity, errors),
             opened,
         ),
+    }
+}
+
+// Writes the bytes that were read, if they were.
+fn write_read<W: Write>(read: Result<Bytes, Failure>, out: &mut W) -> Result<(), Failure>
+    ensures written { OnOk result
+        (IsOkAnd read (Appends (W.contents out.old) (W.contents out.new))) }
+    ensures failed { IfErr read (λ failure. result ≡ Err failure) }
+{
+    let bytes = match read {
+        Ok(bytes) => bytes,
+        Err(failure) => return Err(failure),
+    };
+    match out.write_all(bytes.as_slice()) {
+        Ok(()) => Ok(()),
+        Err(_) => Err(Failure::Unwritten),
     }
 }
 
@@ -93,6 +104,7 @@ fn read_range<B: BlockReader>(
     ensures reads { OnlyReads B.SectorDevice result reader.old reader.new }
     ensures bytes { IsTrue B.keeps_model → IfOk result
         (IsMountedRange (bytes_of (B.disk reader.old).now) object.0 range) }
+    ensures refused { IfErr result IsReadersRefusal }
 {
     let view = view_pool(alloc, reader)?;
     view.read(reader, alloc, object, range)
@@ -102,7 +114,7 @@ impl GetArguments<'_> {
     // The range that is asked for, up to the last byte that an object may have. It has no byte if the offset is there or
     // above it.
     fn range(&self) -> Range
-        ensures { result ≡ range_of self.entry }
+        ensures { result ≡ range_of self.now }
     {
         let high = match self.length {
             Some(length) => self.offset.saturating_add(length).min(MAX_LENGTH),
