@@ -5,7 +5,8 @@ digests of loads and the refusals are read from its tables. Compared are what a 
 files hold.
 
 - New files, byte for byte; a file that is there keeps what a create doesn't write.
-- What `show` and `check` print of a pool that is new, synced, logged, damaged or missing. The moments that are stored.
+- What `show`, `check` and `ls` print of a pool that is new, synced, logged, damaged or missing. The moments that are
+  stored. Bytes that are put and got. What labels hold. What a script may do at its end.
 - Faults of the command line, files that can't be used and why, locks of other processes, output that can't be written.
 - A script answers each line before the next one comes. A load shows its progress on a terminal alone.
 - The help and the version.
@@ -23,6 +24,7 @@ import re
 import shutil
 import subprocess
 import tempfile
+import time
 
 from tools import TOP
 from tools.harness import program
@@ -87,7 +89,16 @@ def commands(file):
         "check": ["check", file],
         "load": ["load", file, *LOAD],
         "script": ["script", "--file", file, "-"],
+        "put": ["put", file, "1"],
+        "ls": ["ls", file],
+        "get": ["get", file, "1"],
+        "rm": ["rm", file, "1"],
+        "labels": ["labels", file],
     }
+
+
+# These only read their file.
+READERS = ("show", "check", "ls", "get", "labels")
 
 
 class Commands(Judge):
@@ -161,11 +172,13 @@ class Commands(Judge):
             (self.make("logged.pool", LOG), LOGGED, "clean group 8 records 2\n"),
         ]:
             self.ends(["show", name], 0, shown)
+            self.ends(["ls", name], 0, re.sub(r"(?s).*objects \d+\n", "", shown))
             self.ends(["check", name], 0, checked)
         flawed("synced.pool", DATA + 64)
         refusal = f"refused 7 Damaged 5 {DATA}\n"
         self.ends(["check", "synced.pool"], 1, f"damaged 5 {DATA}\n")
-        self.ends(["show", "synced.pool"], 1, errors=f"ztxg: {refusal}")
+        for name in ("show", "ls"):
+            self.ends([name, "synced.pool"], 1, errors=f"ztxg: {refusal}")
         self.ends(["load", "synced.pool", *LOAD], 1, errors=f"ztxg: {refusal}")
         self.ends(["script", "--file", "synced.pool", "-"], 0, refusal, script="import 1048576\n")
         for size, checked, errors in [
@@ -180,6 +193,97 @@ class Commands(Judge):
             self.ends(["check", "zeros.pool"], 1, checked, "" if checked else errors)
             self.ends(["show", "zeros.pool"], 1, errors=errors)
             self.ends(["load", "zeros.pool", *LOAD], 1, errors=errors)
+
+    def objects(self):
+        """Bytes that are put are those that are got, also in pieces and in the log, and a refused put says how far it came."""
+        name = self.make("objects.pool")
+        big = "".join(chr(33 + at % 90) for at in range(338_688))
+        for words, script, out in [
+            (["put", name, "7"], "hello", "put 5 bytes in 1 transactions\n"),
+            (["put", name, "7", "--offset", "5"], " there", "put 6 bytes in 1 transactions\n"),
+            (["get", name, "7"], "", "hello there"),
+            (["get", name, "7", "--offset", "3", "--length", "4"], "", "lo t"),
+            (["put", name, "7"], big, "put 338688 bytes in 6 transactions\n"),
+            (["get", name, "7"], "", big),
+            (["put", name, "8"], "", "put 0 bytes in 1 transactions\n"),
+            (["ls", name], "", "7 338688\n8 0\n"),
+            (["rm", name, "7"], "", "removed 7\n"),
+            (["ls", name], "", "8 0\n"),
+        ]:
+            found = self.put(words, script)
+            if found != (0, out, ""):
+                self.differ(words, "ends with", found[0], found[1][:80], found[2])
+        made = pathlib.Path(name).read_bytes()
+        for words, refusal in [
+            (["get", name, "7"], "9 NoObject"),
+            (["get", name, "5292"], "11 BadRange"),
+            (["get", name, "8", "--length", "0"], "11 BadRange"),
+            (["get", name, "8", "--offset", "338688"], "11 BadRange"),
+            (["put", name, "5292"], "11 BadRange"),
+            (["put", name, "8", "--offset", "338688"], "11 BadRange"),
+        ]:
+            found = self.put(words, "x")
+            if found != (1, "", f"ztxg: refused {refusal}\n"):
+                self.differ(words, "ends with", found)
+        if pathlib.Path(name).read_bytes() != made:
+            self.differ("a refused command on an object changes the file")
+        self.ends(["get", self.make("logged.pool", LOG), "1"], 0, "\0" * 100 + "wxyz")
+        for number in range(20):
+            status, out, errors = self.put(["put", name, str(number)], big)
+            if status:
+                break
+        if (status, out) != (1, "") or not re.fullmatch(
+            r"ztxg: refused 16 NoSpace\n(ztxg: committed \d+ bytes in \d transactions\n)?", errors
+        ):
+            self.differ("a put into a full pool ends with", (status, out, errors))
+        self.ends(["check", name, "-v"], 0, self.run(["check", name])[1])
+
+    def put(self, words, text):
+        """How a run ends whose input has no newline at its end."""
+        self.runs += 1
+        ran = subprocess.run([self.ztxg, *words], input=text, capture_output=True, text=True, timeout=SECONDS)
+        return ran.returncode, ran.stdout, ran.stderr
+
+    def labels(self):
+        name = self.make("labels.pool")
+        lines = [f"label {n} config tank 77 4 {SIZE}\nlabel {n} uberblocks 1 highest 4\n" for n in range(4)]
+        self.ends(["labels", name], 0, "".join(lines) + "active 4 of label 0\n")
+        os.truncate(name, 6 * MIB)
+        for n in range(4):
+            lines[n] = f"label {n} config none zeros\nlabel {n} uberblocks 0\n"
+        for n in range(2):
+            lines[n] = f"label {n} config none size {SIZE}\nlabel {n} uberblocks 1 highest 4\n"
+        self.ends(["labels", name], 0, "".join(lines) + "active 4 of label 0\n")
+        flawed(name, CONFIG_AT)
+        lines[0] = lines[0].replace(f"size {SIZE}", "check")
+        self.ends(["labels", name], 0, "".join(lines) + "active 4 of label 0\n")
+
+    def endings(self):
+        """A script that stops at a refusal, one that syncs, and commits that aren't durable."""
+        script = "import 1048576\nlock 1 1 w 0 338688\nbegin 1 c:1\ncommit 0\nlength 2\nname\n"
+        answers = "lock 0\ntx 0 group {0}\nentry 0 group {0}\nrefused 9 NoObject\n"
+        words = ["script", "--file", self.make("ends.pool"), "-"]
+        lost = "ztxg: 1 commits are not durable\n"
+        head = "synced {} open {} records 0\n".format
+        self.ends(words, 0, head(8, 9) + answers.format(9) + "name tank\n", lost, script=script)
+        self.ends([*words, "--stop"], 1, head(12, 13) + answers.format(13), lost, script=script)
+        self.ends([*words, "--sync"], 0, head(16, 17) + answers.format(17) + "name tank\n", script=script)
+        self.ends(["ls", "ends.pool"], 0, "1 0\n")
+
+    def waits(self):
+        """A file that another process has is waited for."""
+        name = self.make("wait.pool")
+        with open(name, "rb") as file:
+            fcntl.flock(file, fcntl.LOCK_EX)
+            self.ends(["--wait", "1", "show", name], 3, errors=f"ztxg: cannot use {name}\n")
+            with subprocess.Popen(
+                [self.ztxg, "show", name, "--wait", "10"], stdout=subprocess.PIPE, text=True
+            ) as running:
+                time.sleep(0.5)
+                fcntl.flock(file, fcntl.LOCK_UN)
+                out = running.stdout.read()
+        if (running.returncode, out) != (0, NEW):
+            self.differ("a command that waits ends with", (running.returncode, out))
 
     def moments(self):
         """The uberblock of group g lies in slot g mod 128 of each label, with its moment from byte 32 on."""
@@ -248,6 +352,11 @@ class Commands(Judge):
         for told in (words, ["-v", *words], [words[0], "-v", *words[1:]], [*words, "--verbose"]):
             self.ends(told, 3, errors=fact if told is words else f"{fact}ztxg: cause: {cause}\n", **how)
 
+    def read(self, words):
+        """How a reader ends with -v if it ends so without: a refusal has a second line."""
+        status, out, errors = self.run(words)
+        return status, out, f"{errors}ztxg: cause: there is no such object\n" if status else errors
+
     def unusable_files(self):
         os.mkdir("folder")
         os.mkfifo("pipe")
@@ -272,15 +381,15 @@ class Commands(Judge):
             for lock, readers in [(fcntl.LOCK_EX, False), (fcntl.LOCK_SH, True)]:
                 fcntl.flock(file, lock)
                 for name, words in commands("held.pool").items():
-                    if readers and name in ("show", "check"):
-                        self.ends([*words, "-v"], 0, self.run(words)[1])
+                    if readers and name in READERS:
+                        self.ends([*words, "-v"], *self.read(words))
                     else:
                         self.unusable(words, "held.pool", IN_USE)
         if pathlib.Path("held.pool").read_bytes() != made:
             self.differ("a file that is held changes")
-        # -v changes nothing else
         os.truncate("held.pool", 0)
-        self.ends(["-v", "check", "held.pool"], 1, errors="ztxg: refused 8 BadGeometry\n")
+        cause = "a pool can't have the size of this device"
+        self.ends(["-v", "check", "held.pool"], 1, errors=f"ztxg: refused 8 BadGeometry\nztxg: cause: {cause}\n")
 
     def denied_files(self):
         """Files and folders that this user may not use. For root the program runs as nobody does."""
@@ -359,7 +468,7 @@ class Commands(Judge):
             status, out, errors = self.run(words)
             if (status, errors) != (0, "") or not out:
                 self.differ(words, "ends with", (status, errors))
-            defaults = {"create": ["0"], "script": ["0"], "load": ["1048576", "256", "0"]}.get(words[0], [])
+            defaults = {"create": ["0"], "script": ["0"], "load": ["1048576", "256", "0"], "get": ["0"], "put": ["0"], "rm": ["0"]}.get(words[0], [])
             if re.findall(r"\[default: (\w+)\]", out) != defaults:
                 self.differ(words, "names other defaults than", defaults)
             if words != ["--help"]:
@@ -384,6 +493,10 @@ def main(ztxg):
         judge.new_files()
         judge.kept_bytes()
         judge.pools()
+        judge.objects()
+        judge.labels()
+        judge.endings()
+        judge.waits()
         judge.moments()
         judge.faults()
         judge.unusable_files()

@@ -1,1 +1,3 @@
 mod Findings
+mod MountedBytes
+mod OnlyRead

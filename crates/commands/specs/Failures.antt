@@ -1,17 +1,26 @@
 -- How a command on a pool in a file ends.
-use Rattle.std.specs.Prelude.{ℕ, ◌≡◌, ◌*◌, ◌/◌, false, List, Result, Ok, Err}
+use Rattle.std.specs.Prelude.{ℕ, ◌≡◌, ◌*◌, ◌/◌, Bool, true, false, List, Result, Ok, Err}
 use Rattle.base.specs.declared.error.PoolError.{PoolError}
-use Rattle.base.specs.declared.error.PoolError.TheVariants.{BadGeometry, BadRange}
+use Rattle.base.specs.declared.error.PoolError.TheVariants.{BadGeometry, BadRange, Flush, Read, Suspended, Write}
 use Rattle.base.specs.formats.Geometry.{IsGeometry, is_geometry}
 use Rattle.base.specs.formats.Names.{is_name}
 use Rattle.commands.specs.declared.failure.Failure.{Failure}
-use Rattle.commands.specs.declared.failure.Failure.TheVariants.{Refused, Unusable, Unwritten}
+use Rattle.commands.specs.declared.failure.Failure.TheVariants.{Refused, RefusedCall, Unusable, Unwritten}
 
 -- the status of a failure
 abbrev pub failure_status : Failure → ℕ
 failure_status (Refused refusal) = 1
+failure_status (RefusedCall refusal call) = 1
 failure_status (Unusable cause) = 3
 failure_status Unwritten = 3
+
+-- a refusal that follows from a call that the device refused
+abbrev pub is_of_device : PoolError → Bool
+is_of_device Read = true
+is_of_device Write = true
+is_of_device Flush = true
+is_of_device Suspended = true
+is_of_device _ = false
 
 -- the bytes of the whole sectors of a file of so many bytes
 abbrev pub sector_bytes : ℕ → ℕ

@@ -1,2 +1,4 @@
 pub mod Checks
 pub mod Failures
+pub mod Puts
+pub mod Reads

@@ -1,6 +1,16 @@
 //! The arguments of the program: which command, and what it works on.
 
+use crate::failure::Verbosity;
 use loads::Order;
+
+/// What a command is given whichever it is.
+#[derive(Clone, Copy, Debug, PartialEq, Eq)]
+pub struct Options {
+    /// How much is reported if it was not done.
+    pub verbosity: Verbosity,
+    /// For how many seconds it tries to open a file that another process has.
+    pub wait: u32,
+}
 
 /// A command of the program, with its arguments.
 #[derive(Clone, Copy, Debug, PartialEq, Eq)]
@@ -15,6 +25,16 @@ pub enum Arguments<'a> {
     Show(&'a str),
     /// `ztxg check`, with the path of the pool's file.
     Check(&'a str),
+    /// `ztxg ls`, with the path of the pool's file.
+    List(&'a str),
+    /// `ztxg labels`, with the path of the pool's file.
+    Labels(&'a str),
+    /// `ztxg get`.
+    Get(GetArguments<'a>),
+    /// `ztxg put`.
+    Put(PutArguments<'a>),
+    /// `ztxg rm`.
+    Remove(RemoveArguments<'a>),
 }
 
 /// The device that a script works on.
@@ -35,6 +55,10 @@ pub struct ScriptArguments<'a> {
     pub script: &'a str,
     /// The moment, in seconds, of each uberblock that the run writes.
     pub moment: u64,
+    /// Whether the first refused line ends the script.
+    pub stops: bool,
+    /// Whether a pool in a file is synced at the end.
+    pub syncs: bool,
 }
 
 /// The arguments of `ztxg create`.
@@ -65,6 +89,43 @@ pub struct LoadArguments<'a> {
     pub dirty_max: u64,
     /// The most tree blocks that stay in memory once they were read.
     pub cache_blocks: u64,
+    /// The moment, in seconds, of each uberblock that the run writes.
+    pub moment: u64,
+}
+
+/// The arguments of `ztxg get`.
+#[derive(Clone, Copy, Debug, PartialEq, Eq)]
+pub struct GetArguments<'a> {
+    /// The path of the pool's file.
+    pub file: &'a str,
+    /// The object's number.
+    pub object: u32,
+    /// The first byte that is read.
+    pub offset: u64,
+    /// The most bytes that are read, if it isn't all of them.
+    pub length: Option<u64>,
+}
+
+/// The arguments of `ztxg put`.
+#[derive(Clone, Copy, Debug, PartialEq, Eq)]
+pub struct PutArguments<'a> {
+    /// The path of the pool's file.
+    pub file: &'a str,
+    /// The object's number.
+    pub object: u32,
+    /// Where the bytes go in the object, if they don't replace all of it.
+    pub offset: Option<u64>,
+    /// The moment, in seconds, of each uberblock that the run writes.
+    pub moment: u64,
+}
+
+/// The arguments of `ztxg rm`.
+#[derive(Clone, Copy, Debug, PartialEq, Eq)]
+pub struct RemoveArguments<'a> {
+    /// The path of the pool's file.
+    pub file: &'a str,
+    /// The object's number.
+    pub object: u32,
     /// The moment, in seconds, of each uberblock that the run writes.
     pub moment: u64,
 }

@@ -6,7 +6,7 @@ ghost use Rattle.base.specs.formats.Geometry.{IsGeometry};
 ghost use Rattle.device_model.specs.Reading.{OnlyReads};
 ghost use Rattle.commands.specs.Checks.{IsCheckRefusal, IsFoundIn, MountsWhole, StaysOpened, finding_status, found_of};
 
-use crate::failure::{Failure, REFUSED, Verbosity, report_failure};
+use crate::failure::{Failure, NotesRefusals, REFUSED, Verbosity, report_failure};
 use base::{Group, PoolError};
 use device_model::{FileRefusal, SectorDevice};
 use import_replay::{Inspected, inspect};
@@ -96,7 +96,7 @@ fn finding_of(inspected: Result<Inspected, PoolError>) -> Result<Finding, PoolEr
 /// The status is 0 if the pool is whole. It is 1 if a block is damaged, if there is no pool, or if the engine refused
 /// the check. It is 3 if the file was not opened as a device or `out` can't be written. A failure is reported on
 /// `errors`.
-pub fn run_check<D: SectorDevice, W: Write, E: Write>(
+pub fn run_check<D: SectorDevice + NotesRefusals, W: Write, E: Write>(
     alloc: Global,
     file: &str,
     verbosity: Verbosity,
@@ -118,7 +118,7 @@ pub fn run_check<D: SectorDevice, W: Write, E: Write>(
     }
 }
 
-fn check_opened<D: SectorDevice, W: Write>(
+fn check_opened<D: SectorDevice + NotesRefusals, W: Write>(
     alloc: Global,
     opened: &mut Result<D, FileRefusal>,
     out: &mut W,
@@ -134,7 +134,10 @@ fn check_opened<D: SectorDevice, W: Write>(
         Ok(device) => device,
         Err(cause) => return Err(Failure::Unusable(*cause)),
     };
-    let finding = check_pool(alloc, device)?;
+    let finding = match check_pool(alloc, device) {
+        Ok(finding) => finding,
+        Err(refusal) => return Err(Failure::of_pool(refusal, device)),
+    };
     if writeln!(out, "{finding}").is_err() {
         return Err(Failure::Unwritten);
     }

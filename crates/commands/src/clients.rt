@@ -7,9 +7,9 @@ ghost use Rattle.base.specs.disk.Disk.{bytes_of};
 ghost use Rattle.base.specs.history.Contents.{Contents};
 ghost use Rattle.commands.specs.Checks.{finding_status};
 
-use crate::arguments::{CreateArguments, LoadArguments, ScriptArguments, ScriptDevice};
+use crate::arguments::{CreateArguments, LoadArguments, Options, ScriptArguments, ScriptDevice};
 use crate::checks::{Finding, check_pool, run_check};
-use crate::failure::{Failure, Verbosity, report_failure};
+use crate::failure::{Failure, NotesRefusals, Verbosity, report_failure};
 use crate::load::run_load;
 use crate::pool_files::{run_create, run_show};
 use crate::program::run_opened;
@@ -24,6 +24,11 @@ use std::sync::Wait;
 use std::thread::Threads;
 
 const BRIEF: Verbosity = Verbosity::Brief;
+
+const OPTIONS: Options = Options {
+    verbosity: BRIEF,
+    wait: 0,
+};
 
 // A refusal of the engine has status 1.
 fn a_refusal_has_status_1<E: Write>(errors: &mut E) -> u8
@@ -47,8 +52,8 @@ fn an_output_that_is_not_written_has_status_3<E: Write>(errors: &mut E) -> u8
 }
 
 // A file of less than 6 MiB can hold no pool.
-fn a_pool_in_a_small_file_has_status_1<R: Files, W: Write, E: Write>(
-    files: &R,
+fn a_pool_in_a_small_file_has_status_1<R: Files + Wait, W: Write, E: Write>(
+    rt: &R,
     out: &mut W,
     errors: &mut E,
 ) -> u8
@@ -64,12 +69,12 @@ where
         only_new: false,
         moment: 0,
     };
-    run_create(files, arguments, BRIEF, out, errors)
+    run_create(rt, arguments, OPTIONS, out, errors)
 }
 
 // A name begins with a letter.
-fn a_pool_named_by_a_digit_has_status_1<R: Files, W: Write, E: Write>(
-    files: &R,
+fn a_pool_named_by_a_digit_has_status_1<R: Files + Wait, W: Write, E: Write>(
+    rt: &R,
     out: &mut W,
     errors: &mut E,
 ) -> u8
@@ -85,14 +90,14 @@ where
         only_new: false,
         moment: 0,
     };
-    run_create(files, arguments, BRIEF, out, errors)
+    run_create(rt, arguments, OPTIONS, out, errors)
 }
 
-fn a_pool_that_is_not_opened_shows_status_3<D: SectorDevice + Drop, W: Write, E: Write>(
-    alloc: Global,
-    out: &mut W,
-    errors: &mut E,
-) -> u8
+fn a_pool_that_is_not_opened_shows_status_3<
+    D: SectorDevice + NotesRefusals + Drop,
+    W: Write,
+    E: Write,
+>(alloc: Global, out: &mut W, errors: &mut E) -> u8
     ensures { result ≡ 3 }
 {
     let mut opened: Result<D, FileRefusal> = Err(FileRefusal::InUse);
@@ -100,7 +105,7 @@ fn a_pool_that_is_not_opened_shows_status_3<D: SectorDevice + Drop, W: Write, E:
 }
 
 // Whatever a show finds, it leaves the disk as it was, and the device refused no write and no flush.
-fn a_show_writes_nothing<D: SectorDevice, W: Write, E: Write>(
+fn a_show_writes_nothing<D: SectorDevice + NotesRefusals, W: Write, E: Write>(
     alloc: Global,
     device: D,
     out: &mut W,
@@ -131,9 +136,11 @@ where
         device: ScriptDevice::Memory(8_388_608),
         script: "no/script",
         moment: 0,
+        stops: false,
+        syncs: false,
     };
     let opened: io::Result<R> = Err(io::Error::from(ErrorKind::NotFound));
-    run_opened(rt, arguments, BRIEF, opened, out, errors)
+    run_opened(rt, arguments, OPTIONS, opened, out, errors)
 }
 
 // What is loaded by so many workers.
@@ -155,7 +162,7 @@ fn tank_by(workers: u32) -> LoadArguments<'static>
 
 fn a_pool_that_is_not_opened_is_loaded_with_status_3<
     R: Threads + Wait + Sync + Eprint + AllocGlobal,
-    D: SectorDevice + Send + Drop,
+    D: SectorDevice + NotesRefusals + Send + Drop,
     W: Write,
     E: Write,
 >(rt: &R, out: &mut W, errors: &mut E) -> u8
@@ -168,7 +175,7 @@ fn a_pool_that_is_not_opened_is_loaded_with_status_3<
 // There are 16 streams, so no more workers.
 fn a_load_by_17_workers_has_status_1<
     R: Threads + Wait + Sync + Eprint + AllocGlobal,
-    D: SectorDevice + Send + Drop,
+    D: SectorDevice + NotesRefusals + Send + Drop,
     W: Write,
     E: Write,
 >(rt: &R, device: D, out: &mut W, errors: &mut E) -> u8
@@ -177,11 +184,11 @@ fn a_load_by_17_workers_has_status_1<
     run_load(rt, tank_by(17), BRIEF, Ok(device), false, out, errors)
 }
 
-fn a_pool_that_is_not_opened_is_checked_with_status_3<D: SectorDevice + Drop, W: Write, E: Write>(
-    alloc: Global,
-    out: &mut W,
-    errors: &mut E,
-) -> u8
+fn a_pool_that_is_not_opened_is_checked_with_status_3<
+    D: SectorDevice + NotesRefusals + Drop,
+    W: Write,
+    E: Write,
+>(alloc: Global, out: &mut W, errors: &mut E) -> u8
     ensures { result ≡ 3 }
 {
     let mut opened: Result<D, FileRefusal> = Err(FileRefusal::InUse);
@@ -189,7 +196,7 @@ fn a_pool_that_is_not_opened_is_checked_with_status_3<D: SectorDevice + Drop, W:
 }
 
 // If a block of the tree is damaged, the status is not 0.
-fn a_damaged_pool_is_not_clean<D: SectorDevice + Drop, W: Write, E: Write>(
+fn a_damaged_pool_is_not_clean<D: SectorDevice + NotesRefusals + Drop, W: Write, E: Write>(
     alloc: Global,
     device: D,
     out: &mut W,
@@ -202,7 +209,7 @@ fn a_damaged_pool_is_not_clean<D: SectorDevice + Drop, W: Write, E: Write>(
 }
 
 // A file of 512 bytes can hold no pool.
-fn a_check_of_a_small_file_has_status_1<D: SectorDevice + Drop, W: Write, E: Write>(
+fn a_check_of_a_small_file_has_status_1<D: SectorDevice + NotesRefusals + Drop, W: Write, E: Write>(
     alloc: Global,
     device: D,
     out: &mut W,
@@ -215,7 +222,7 @@ fn a_check_of_a_small_file_has_status_1<D: SectorDevice + Drop, W: Write, E: Wri
 }
 
 // Whatever a check finds, it leaves the disk as it was, and the device refused no write and no flush.
-fn a_check_writes_nothing<D: SectorDevice, W: Write, E: Write>(
+fn a_check_writes_nothing<D: SectorDevice + NotesRefusals, W: Write, E: Write>(
     alloc: Global,
     device: D,
     out: &mut W,

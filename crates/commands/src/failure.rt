@@ -1,20 +1,22 @@
 //! Why a command on a pool in a file was not done, with its exit status and its text.
 
-ghost use Rattle.std.specs.Prelude.{◌≡◌, ◌≢◌, ◌≤◌};
-ghost use Rattle.commands.specs.Failures.{failure_status};
+ghost use Rattle.std.specs.Prelude.{◌≡◌, ◌≢◌, ◌≤◌, false};
+ghost use Rattle.commands.specs.Failures.{failure_status, is_of_device};
 
 use base::PoolError;
-use device_model::FileRefusal;
+use device_model::{FileDevice, FileRefusal, MemDevice, RefusedCall, SectorDevice, SectorFile};
+use pool_threads::Pool;
 use scripts::{Answer, FAILED};
+use std::fmt;
 use std::io::Write;
 
 /// The status of a refusal, and of a pool that is not whole.
 pub(crate) const REFUSED: u8 = 1;
 
-/// How much is reported of a file that can't be used.
+/// How much is reported of a command that was not done.
 #[derive(Clone, Copy, Debug, PartialEq, Eq)]
 pub enum Verbosity {
-    /// That it can't be used, in one line.
+    /// That it was not done, in one line.
     Brief,
     /// Also the cause, in a second line.
     Verbose,
@@ -25,6 +27,8 @@ pub enum Verbosity {
 pub enum Failure {
     /// The engine refused it.
     Refused(PoolError),
+    /// The engine refused it, since the device refused this call.
+    RefusedCall(PoolError, RefusedCall),
     /// The file can't be used, for this cause.
     Unusable(FileRefusal),
     /// The output can't be written.
@@ -42,8 +46,58 @@ impl From<PoolError> for Failure {
     }
 }
 
+/// A device that may note the last call that it refused.
+pub trait NotesRefusals {
+    /// The last call that it refused, if it notes one.
+    fn last_refusal(&self) -> Option<RefusedCall>;
+}
+
+impl<F: SectorFile + Drop> NotesRefusals for FileDevice<F> {
+    fn last_refusal(&self) -> Option<RefusedCall> {
+        self.last_error()
+    }
+}
+
+/// Its calls fail by a plan, so it notes none.
+impl NotesRefusals for MemDevice {
+    fn last_refusal(&self) -> Option<RefusedCall> {
+        None
+    }
+}
+
+impl Failure {
+    ghost use Rattle.commands.specs.declared.failure.Failure.TheVariants as failure;
+
+    /// The failure of a command whose pool refused it, with the call that the device refused, if it was for that.
+    pub fn of_pool<D: NotesRefusals>(refusal: PoolError, device: &D) -> Failure
+        ensures status { failure_status result ≡ 1 }
+        ensures other { is_of_device refusal ≡ false → result ≡ failure.Refused refusal }
+    {
+        match (refusal, device.last_refusal()) {
+            (
+                PoolError::Read | PoolError::Write | PoolError::Flush | PoolError::Suspended,
+                Some(call),
+            ) => Failure::RefusedCall(refusal, call),
+            _ => Failure::Refused(refusal),
+        }
+    }
+
+    /// The failure of a command that a pool refused while it ran. The pool is closed.
+    pub fn of_running<D: SectorDevice + NotesRefusals + Drop>(
+        refusal: PoolError,
+        pool: Pool<D>,
+    ) -> Failure
+        ensures { failure_status result ≡ 1 }
+    {
+        match pool.close() {
+            Some(state) => Failure::of_pool(refusal, &state.into_device()),
+            None => Failure::Refused(refusal),
+        }
+    }
+}
+
 /// Reports on `errors` why a command on this file was not done, and returns the exit status. If the output can't be
-/// written, nothing is reported. The cause why the file can't be used is reported if it is asked for.
+/// written, nothing is reported. If it is asked for, a second line has the cause.
 pub fn report_failure<E: Write>(
     failure: Failure,
     file: &str,
@@ -57,15 +111,25 @@ pub fn report_failure<E: Write>(
     match failure {
         Failure::Refused(refusal) => {
             let _ = writeln!(errors, "ztxg: {}", Answer::refused(refusal));
+            report_cause(&refusal, verbosity, errors);
+            REFUSED
+        }
+        Failure::RefusedCall(refusal, call) => {
+            let _ = writeln!(errors, "ztxg: {}", Answer::refused(refusal));
+            report_cause(&call, verbosity, errors);
             REFUSED
         }
         Failure::Unusable(cause) => {
             let _ = writeln!(errors, "ztxg: cannot use {file}");
-            if verbosity == Verbosity::Verbose {
-                let _ = writeln!(errors, "ztxg: cause: {cause}");
-            }
+            report_cause(&cause, verbosity, errors);
             FAILED
         }
         Failure::Unwritten => FAILED,
+    }
+}
+
+fn report_cause<C: fmt::Display, E: Write>(cause: &C, verbosity: Verbosity, errors: &mut E) {
+    if verbosity == Verbosity::Verbose {
+        let _ = writeln!(errors, "ztxg: cause: {cause}");
     }
 }

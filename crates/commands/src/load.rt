@@ -7,7 +7,7 @@ ghost use Rattle.std.specs.Prelude.{◌≡◌, ◌≢◌, ◌≤◌, Err, IfErr,
 ghost use Rattle.loads.specs.Orders.{is_order};
 
 use crate::arguments::LoadArguments;
-use crate::failure::{Failure, Verbosity, report_failure};
+use crate::failure::{Failure, NotesRefusals, Verbosity, report_failure};
 use base::{PoolError, Reply};
 use device_model::{FileRefusal, SectorDevice};
 use loads::{Gate, Loaded, Order, STREAMS, WRITES_BETWEEN_WAITS, load};
@@ -28,7 +28,7 @@ use std::thread::Threads;
 /// how many percent of the writes are durable.
 pub fn run_load<
     R: Threads + Wait + Sync + Eprint + AllocGlobal,
-    D: SectorDevice + Send + Drop,
+    D: SectorDevice + NotesRefusals + Send + Drop,
     W: Write,
     E: Write,
 >(
@@ -53,7 +53,7 @@ pub fn run_load<
 
 fn load_pool<
     R: Threads + Wait + Sync + Eprint + AllocGlobal,
-    D: SectorDevice + Send + Drop,
+    D: SectorDevice + NotesRefusals + Send + Drop,
     W: Write,
 >(
     rt: &R,
@@ -75,16 +75,22 @@ fn load_pool<
     }
     let alloc = rt.alloc();
     let (dirty_max, cache_blocks) = (arguments.dirty_max, arguments.cache_blocks);
-    let pool = Pool::open_with(alloc, device, dirty_max, cache_blocks, arguments.moment).map_err(
-        PoolError::from,
-    )?;
+    let opened = Pool::open_with(alloc, device, dirty_max, cache_blocks, arguments.moment);
+    let pool = match opened {
+        Ok(pool) => pool,
+        Err((refusal, device)) => return Err(Failure::of_pool(refusal, &device)),
+    };
     let progress = Progress::new(rt, arguments.order, shows_progress);
     let loaded = load(rt, alloc, &pool, arguments.order, &progress);
     progress.end();
-    if write_loaded(&loaded?, out).is_err() {
-        return Err(Failure::Unwritten);
+    let loaded = match loaded {
+        Ok(loaded) => loaded,
+        Err(refusal) => return Err(Failure::of_running(refusal, pool)),
+    };
+    match write_loaded(&loaded, out) {
+        Ok(()) => Ok(()),
+        Err(_) => Err(Failure::Unwritten),
     }
-    Ok(())
 }
 
 fn write_loaded<W: Write>(loaded: &Loaded, out: &mut W) -> io::Result<()> {

@@ -1,15 +1,20 @@
 //! The program after its arguments were read. A script is read from a file or from standard input, and a pool is in a
 //! file.
 
-ghost use Rattle.std.specs.Prelude.{◌≡◌, ◌≢◌, ◌≤◌, IsErr};
+ghost use Rattle.std.specs.Prelude.{◌≡◌, ◌≢◌, ◌≤◌, ◌⊎◌, IsErr, IsTrue};
 
-use crate::arguments::{Arguments, ScriptArguments, ScriptDevice};
+use crate::arguments::{Arguments, Options, ScriptArguments, ScriptDevice};
+use crate::changes::{read_input, run_put, run_remove};
 use crate::checks::run_check;
 use crate::failure::{Failure, Verbosity, report_failure};
+use crate::label_lines::run_labels;
 use crate::load::run_load;
-use crate::pool_files::{run_create, run_show};
-use device_model::{FileDevice, FileRefusal, HeldFile, SectorFile};
-use scripts::{FileSession, SharedSession, run_script_on};
+use crate::noted_session::NotedSession;
+use crate::pool_files::{run_create, run_list, run_show};
+use crate::reads::run_get;
+use crate::waiting::open_within;
+use device_model::{Access, FileDevice, FileRefusal, HeldFile, SectorFile};
+use scripts::{AfterRefusal, FileSession, SharedSession, run_script_with};
 use std::alloc::Global;
 use std::fs::File;
 use std::io::{self, Eprint, IsTerminal, Read, Write};
@@ -18,35 +23,37 @@ use std::rt::Files;
 use std::sync::Wait;
 use std::thread::Threads;
 
-/// Does a command of the program, and returns the exit status. A script may wait for its pool. A load has threads, and
-/// shows its progress if `errors`, which is standard error, is a terminal. Failures are reported there.
+/// Does a command of the program, and returns the exit status. A file that another process has is waited for as long as
+/// the options say, and a script may wait for its pool. A load has threads, and shows its progress if `errors`, which is
+/// standard error, is a terminal. Failures are reported there.
 pub fn run<
     R: Files + Input + Print + Eprint + AllocGlobal + Threads + Wait + Sync,
     E: Write + IsTerminal,
->(rt: &R, arguments: Arguments<'_>, verbosity: Verbosity, errors: &mut E) -> u8
+>(rt: &R, arguments: Arguments<'_>, options: Options, errors: &mut E) -> u8
 where
     R::File: FileExt + HeldFile + Send,
     ensures { result ≤ 3 }
 {
+    let Options { verbosity, wait } = options;
     match arguments {
+        Arguments::Create(arguments) => {
+            run_create(rt, arguments, options, &mut io::writer(rt), errors)
+        }
+        Arguments::Script(arguments) => run_named_script(rt, arguments, options, errors),
         Arguments::Load(arguments) => run_load(
             rt,
             arguments,
             verbosity,
-            FileDevice::open(rt, arguments.file),
+            open_within(rt, arguments.file, Access::Write, wait),
             errors.is_terminal(),
             &mut io::writer(rt),
             errors,
         ),
-        Arguments::Script(arguments) => run_named_script(rt, arguments, verbosity, errors),
-        Arguments::Create(arguments) => {
-            run_create(rt, arguments, verbosity, &mut io::writer(rt), errors)
-        }
         Arguments::Show(file) => run_show(
             rt.alloc(),
             file,
             verbosity,
-            &mut FileDevice::open_to_read(rt, file),
+            &mut open_within(rt, file, Access::Read, wait),
             &mut io::writer(rt),
             errors,
         ),
@@ -54,7 +61,47 @@ where
             rt.alloc(),
             file,
             verbosity,
-            &mut FileDevice::open_to_read(rt, file),
+            &mut open_within(rt, file, Access::Read, wait),
+            &mut io::writer(rt),
+            errors,
+        ),
+        Arguments::List(file) => run_list(
+            rt.alloc(),
+            file,
+            verbosity,
+            &mut open_within(rt, file, Access::Read, wait),
+            &mut io::writer(rt),
+            errors,
+        ),
+        Arguments::Labels(file) => run_labels(
+            rt.alloc(),
+            file,
+            verbosity,
+            &mut open_within(rt, file, Access::Read, wait),
+            &mut io::writer(rt),
+            errors,
+        ),
+        Arguments::Get(arguments) => {
+            let opened = open_within(rt, arguments.file, Access::Read, wait);
+            let mut out = io::writer(rt);
+            let (status, _) = run_get(rt.alloc(), arguments, verbosity, opened, &mut out, errors);
+            status
+        }
+        // The input is read first: nobody waits for it with the file's lock.
+        Arguments::Put(arguments) => run_put(
+            rt,
+            arguments,
+            verbosity,
+            read_input(rt.alloc(), rt.reader()),
+            open_within(rt, arguments.file, Access::Write, wait),
+            &mut io::writer(rt),
+            errors,
+        ),
+        Arguments::Remove(arguments) => run_remove(
+            rt,
+            arguments,
+            verbosity,
+            open_within(rt, arguments.file, Access::Write, wait),
             &mut io::writer(rt),
             errors,
         ),
@@ -64,30 +111,30 @@ where
 fn run_named_script<R: Files + Input + Print + AllocGlobal + Wait, E: Write>(
     rt: &R,
     arguments: ScriptArguments<'_>,
-    verbosity: Verbosity,
+    options: Options,
     errors: &mut E,
 ) -> u8
 where
     R::File: FileExt + HeldFile,
-    ensures range { result ≤ 3 }
-    ensures no_refusal { result ≢ 1 }
+    ensures { result ≤ 3 }
 {
     let out = io::writer(rt);
     if arguments.script == "-" {
-        return run_opened(rt, arguments, verbosity, Ok(rt.reader()), out, errors);
+        return run_opened(rt, arguments, options, Ok(rt.reader()), out, errors);
     }
     let opened = File::open(rt, arguments.script);
-    run_opened(rt, arguments, verbosity, opened, out, errors)
+    run_opened(rt, arguments, options, opened, out, errors)
 }
 
 /// Runs a script that was opened, and returns the exit status. On a device in memory its pool is under a lock.
 ///
 /// If it was not opened, or its device's file can't be used, `ztxg: cannot use FILE` is printed to `errors`, and the
-/// status is 3.
+/// status is 3. The status is 1 if the script stops at a refusal, or the sync at its end is refused. If commits on a
+/// file aren't durable at the end, `errors` has their number.
 pub fn run_opened<H: Files + Wait + AllocGlobal, R: Read + Drop, W: Write + Drop, E: Write>(
     rt: &H,
     arguments: ScriptArguments<'_>,
-    verbosity: Verbosity,
+    options: Options,
     opened: io::Result<R>,
     out: W,
     errors: &mut E,
@@ -96,8 +143,10 @@ where
     H::File: FileExt + HeldFile,
     ensures failed { IsErr opened → result ≡ 3 }
     ensures range { result ≤ 3 }
-    ensures no_refusal { result ≢ 1 }
+    ensures no_refusal { IsTrue arguments.entry.stops ⊎ IsTrue arguments.entry.syncs
+        ⊎ (result ≢ 1) }
 {
+    let verbosity = options.verbosity;
     let script = match opened {
         Ok(script) => script,
         Err(error) => {
@@ -108,26 +157,64 @@ where
     match arguments.device {
         ScriptDevice::Memory(size) => {
             let mut session = SharedSession::new(rt, rt.alloc(), size, arguments.moment);
-            run_script_on(rt.alloc(), &mut session, script, out)
+            run_script_with(
+                rt.alloc(),
+                &mut session,
+                arguments.after_refusal(),
+                script,
+                out,
+            )
         }
-        ScriptDevice::File(path) => match FileDevice::open(rt, path) {
-            Ok(device) => run_on_file(rt.alloc(), device, arguments.moment, script, out),
+        ScriptDevice::File(path) => match open_within(rt, path, Access::Write, options.wait) {
+            Ok(device) => run_on_file(rt.alloc(), device, arguments, script, out, errors),
             Err(cause) => report_failure(Failure::Unusable(cause), path, verbosity, errors),
         },
     }
 }
 
+impl ScriptArguments<'_> {
+    fn after_refusal(&self) -> AfterRefusal {
+        if self.stops {
+            AfterRefusal::Stop
+        } else {
+            AfterRefusal::GoOn
+        }
+    }
+}
+
 // Runs a script on a file's device, whose pool the session steps itself.
-fn run_on_file<F: SectorFile + Drop, R: Read + Drop, W: Write + Drop>(
+fn run_on_file<F: SectorFile + Drop, R: Read + Drop, W: Write + Drop, E: Write>(
     alloc: Global,
     device: FileDevice<F>,
-    moment: u64,
+    arguments: ScriptArguments<'_>,
     script: R,
     out: W,
+    errors: &mut E,
 ) -> u8
     ensures range { result ≤ 3 }
-    ensures no_refusal { result ≢ 1 }
 {
-    let mut session: FileSession<'_, F> = FileSession::new(&(), alloc, device, moment);
-    run_script_on(alloc, &mut session, script, out)
+    let session: FileSession<'_, F> = FileSession::new(&(), alloc, device, arguments.moment);
+    let mut session = NotedSession::new(alloc, session);
+    let after = arguments.after_refusal();
+    let status = run_script_with(alloc, &mut session, after, script, out);
+    let synced = if arguments.syncs {
+        session.sync()
+    } else {
+        Ok(())
+    };
+    let lost = session.count_lost();
+    if lost != 0 {
+        let _ = writeln!(errors, "ztxg: {lost} commits are not durable");
+    }
+    match synced {
+        Err(refusal) if status == 0 => {
+            report_failure(
+                Failure::Refused(refusal),
+                arguments.script,
+                Verbosity::Brief,
+                errors,
+            )
+        }
+        _ => status,
+    }
 }

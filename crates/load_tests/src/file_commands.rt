@@ -1,11 +1,12 @@
 //! What is printed where a script can't be opened, and the commands on a pool in a file, on a file of their own.
 
 use commands::{
-    CreateArguments, LoadArguments, Order, ScriptArguments, ScriptDevice, Verbosity, run_check,
-    run_create, run_load, run_opened, run_show,
+    CreateArguments, GetArguments, LoadArguments, Options, Order, PutArguments, RemoveArguments,
+    ScriptArguments, ScriptDevice, Verbosity, read_input, run_check, run_create, run_get,
+    run_labels, run_list, run_load, run_opened, run_put, run_remove, run_show,
 };
 use device_model::{FileDevice, FileRefusal, HeldFile};
-use std::fs::{self, File};
+use std::fs::{self, File, OpenFile};
 use std::io::{self, Eprint, ErrorKind};
 use std::os::unix::fs::FileExt;
 use std::rt::Files;
@@ -22,6 +23,12 @@ enum Command<'a> {
     Create(CreateArguments<'a>),
     Show(&'a str),
     Check(&'a str),
+    List(&'a str),
+    Labels(&'a str),
+    Get(GetArguments<'a>),
+    // with what it reads
+    Put(PutArguments<'a>, &'a str),
+    Remove(RemoveArguments<'a>),
 }
 
 // A device that has a file while a command runs.
@@ -50,15 +57,21 @@ enum Row<'a> {
 }
 
 // Does a command, and returns its status.
-fn run(
-    rt: &HostRuntime,
+fn run<R: Files + Wait + AllocGlobal>(
+    rt: &R,
     command: Command<'_>,
     verbosity: Verbosity,
     out: &mut Vec<u8>,
     errors: &mut Vec<u8>,
-) -> u8 {
+) -> u8
+where
+    R::File: FileExt + HeldFile,
+{
     match command {
-        Command::Create(given) => run_create(rt, given, verbosity, out, errors),
+        Command::Create(given) => {
+            let options = Options { verbosity, wait: 0 };
+            run_create(rt, given, options, out, errors)
+        }
         Command::Show(file) => {
             let mut opened = FileDevice::open_to_read(rt, file);
             run_show(rt.alloc(), file, verbosity, &mut opened, out, errors)
@@ -66,6 +79,28 @@ fn run(
         Command::Check(file) => {
             let mut opened = FileDevice::open_to_read(rt, file);
             run_check(rt.alloc(), file, verbosity, &mut opened, out, errors)
+        }
+        Command::List(file) => {
+            let mut opened = FileDevice::open_to_read(rt, file);
+            run_list(rt.alloc(), file, verbosity, &mut opened, out, errors)
+        }
+        Command::Labels(file) => {
+            let mut opened = FileDevice::open_to_read(rt, file);
+            run_labels(rt.alloc(), file, verbosity, &mut opened, out, errors)
+        }
+        Command::Get(given) => {
+            let opened = FileDevice::open_to_read(rt, given.file);
+            let (status, _) = run_get(rt.alloc(), given, verbosity, opened, out, errors);
+            status
+        }
+        Command::Put(given, input) => {
+            let input = read_input(rt.alloc(), input.as_bytes());
+            let opened = FileDevice::open(rt, given.file);
+            run_put(rt, given, verbosity, input, opened, out, errors)
+        }
+        Command::Remove(given) => {
+            let opened = FileDevice::open(rt, given.file);
+            run_remove(rt, given, verbosity, opened, out, errors)
         }
     }
 }
@@ -77,29 +112,38 @@ fn is_outcome(status: u8, out: &[u8], errors: &[u8], outcome: Outcome<'_>) -> bo
 }
 
 // Whether a command has its answer.
-fn tells(
-    rt: &HostRuntime,
+fn tells<R: Files + Wait + AllocGlobal>(
+    rt: &R,
     command: Command<'_>,
     verbosity: Verbosity,
     outcome: Outcome<'_>,
-) -> bool {
+) -> bool
+where
+    R::File: FileExt + HeldFile,
+{
     let mut out = Vec::new(rt.alloc());
     let mut errors = Vec::new(rt.alloc());
     let status = run(rt, command, verbosity, &mut out, &mut errors);
     is_outcome(status, &out, &errors, outcome)
 }
 
-fn prints(rt: &HostRuntime, command: Command<'_>, outcome: Outcome<'_>) -> bool {
+fn prints<R: Files + Wait + AllocGlobal>(rt: &R, command: Command<'_>, outcome: Outcome<'_>) -> bool
+where
+    R::File: FileExt + HeldFile,
+{
     tells(rt, command, Verbosity::Brief, outcome)
 }
 
 // Whether it has, while a device has its file.
-fn prints_beside(
-    rt: &HostRuntime,
-    opened: Result<FileDevice, FileRefusal>,
+fn prints_beside<R: Files + Wait + AllocGlobal>(
+    rt: &R,
+    opened: Result<FileDevice<R::File>, FileRefusal>,
     command: Command<'_>,
     outcome: Outcome<'_>,
-) -> bool {
+) -> bool
+where
+    R::File: FileExt + HeldFile,
+{
     let Ok(device) = opened else {
         return false;
     };
@@ -109,13 +153,16 @@ fn prints_beside(
 }
 
 // Whether a command has its answer, while this device has the file.
-fn prints_held(
-    rt: &HostRuntime,
+fn prints_held<R: Files + Wait + AllocGlobal>(
+    rt: &R,
     file: &str,
     holder: Holder,
     command: Command<'_>,
     outcome: Outcome<'_>,
-) -> bool {
+) -> bool
+where
+    R::File: FileExt + HeldFile,
+{
     match holder {
         Holder::Nobody => prints(rt, command, outcome),
         Holder::Reader => prints_beside(rt, FileDevice::open_to_read(rt, file), command, outcome),
@@ -124,19 +171,27 @@ fn prints_held(
 }
 
 // Whether it has, and the file has the bytes after it that it had before.
-fn leaves(
-    rt: &HostRuntime,
+fn leaves<R: Files + Wait + AllocGlobal>(
+    rt: &R,
     file: &str,
     holder: Holder,
     command: Command<'_>,
     outcome: Outcome<'_>,
-) -> io::Result<bool> {
+) -> io::Result<bool>
+where
+    R::File: FileExt + HeldFile,
+{
     let before = fs::read(rt, file)?;
     let is_right = prints_held(rt, file, holder, command, outcome);
     Ok(fs::read(rt, file)? == before && is_right)
 }
 
-fn write_byte(rt: &HostRuntime, file: &str, place: usize, byte: u8) -> io::Result<()> {
+fn write_byte<R: Files + AllocGlobal>(
+    rt: &R,
+    file: &str,
+    place: usize,
+    byte: u8,
+) -> io::Result<()> {
     let mut image = fs::read(rt, file)?;
     if let Some(changed) = image.get_mut(place) {
         *changed = byte;
@@ -144,16 +199,19 @@ fn write_byte(rt: &HostRuntime, file: &str, place: usize, byte: u8) -> io::Resul
     fs::write(rt, file, image.as_slice())
 }
 
-fn write_zeros(rt: &HostRuntime, file: &str, size: u64) -> io::Result<()> {
+fn write_zeros<R: Files>(rt: &R, file: &str, size: u64) -> io::Result<()> {
     File::create(rt, file)?.set_len(size)
 }
 
-fn length(rt: &HostRuntime, file: &str) -> io::Result<u64> {
+fn length<R: Files>(rt: &R, file: &str) -> io::Result<u64> {
     Ok(fs::metadata(rt, file)?.len())
 }
 
 // Whether a command has its answer, or what is done to a file succeeds.
-fn holds(rt: &HostRuntime, row: Row<'_>) -> bool {
+fn holds<R: Files + Wait + AllocGlobal>(rt: &R, row: Row<'_>) -> bool
+where
+    R::File: FileExt + HeldFile,
+{
     match row {
         Row::Prints(command, outcome) => prints(rt, command, outcome),
         Row::Explains(command, outcome) => tells(rt, command, Verbosity::Verbose, outcome),
@@ -168,7 +226,10 @@ fn holds(rt: &HostRuntime, row: Row<'_>) -> bool {
 }
 
 // How many rows hold before the first that does not.
-fn count_held(rt: &HostRuntime, rows: &[Row<'_>]) -> usize {
+fn count_held<R: Files + Wait + AllocGlobal>(rt: &R, rows: &[Row<'_>]) -> usize
+where
+    R::File: FileExt + HeldFile,
+{
     for index in 0..rows.len() {
         if !holds(rt, rows[index]) {
             return index;
@@ -209,7 +270,11 @@ where
 {
     let mut out = Vec::new(rt.alloc());
     let mut errors = Vec::new(rt.alloc());
-    let status = run_opened(rt, given, Verbosity::Brief, opened, &mut out, &mut errors);
+    let options = Options {
+        verbosity: Verbosity::Brief,
+        wait: 0,
+    };
+    let status = run_opened(rt, given, options, opened, &mut out, &mut errors);
     is_outcome(status, &out, &errors, outcome)
 }
 
@@ -219,6 +284,8 @@ fn tells_of_a_script_that_is_not_opened(rt: HostRuntime) {
         device: ScriptDevice::Memory(8_388_608),
         script: "no/script",
         moment: 0,
+        stops: false,
+        syncs: false,
     };
     let opened = Err(io::Error::from(ErrorKind::NotFound));
     let outcome = (3, "", "ztxg: cannot use no/script\n");
@@ -287,7 +354,14 @@ fn a_file_that_a_device_holds_is_left(rt: HostRuntime) {
 }
 
 // How many of these sizes and names are refused on a file with these texts before the first that is not.
-fn count_refused(rt: &HostRuntime, file: &str, rows: &[(u64, &str, &str)]) -> usize {
+fn count_refused<R: Files + Wait + AllocGlobal>(
+    rt: &R,
+    file: &str,
+    rows: &[(u64, &str, &str)],
+) -> usize
+where
+    R::File: FileExt + HeldFile,
+{
     for index in 0..rows.len() {
         let (size, name, text) = rows[index];
         let given = CreateArguments {
@@ -396,7 +470,11 @@ where
     let mut out = Vec::new(rt.alloc());
     let mut errors = Vec::new(rt.alloc());
     let brief = Verbosity::Brief;
-    run_create(rt, tank(given.file), brief, &mut created, &mut errors);
+    let options = Options {
+        verbosity: brief,
+        wait: 0,
+    };
+    run_create(rt, tank(given.file), options, &mut created, &mut errors);
     let opened = FileDevice::open(rt, given.file);
     let status = run_load(rt, given, brief, opened, false, &mut out, &mut errors);
     is_outcome(status, &out, &errors, outcome)
@@ -481,6 +559,8 @@ fn a_check_finds_a_pool_whole_or_damaged(rt: HostRuntime) {
         device: ScriptDevice::File(file),
         script: "script",
         moment: 0,
+        stops: false,
+        syncs: false,
     };
     let check = Command::Check(file);
     let rows = [
@@ -515,4 +595,186 @@ fn a_check_tells_of_a_file_without_a_pool(rt: HostRuntime) {
         Row::Remove(file),
     ];
     assert_eq!(rt; count_held(&rt, &rows), 7);
+}
+
+// What an object's commands are given.
+fn put(file: &str, offset: Option<u64>) -> PutArguments<'_> {
+    PutArguments {
+        file,
+        object: 7,
+        offset,
+        moment: 0,
+    }
+}
+
+fn get(file: &str, offset: u64, length: Option<u64>) -> GetArguments<'_> {
+    GetArguments {
+        file,
+        object: 7,
+        offset,
+        length,
+    }
+}
+
+fn remove(file: &str) -> RemoveArguments<'_> {
+    RemoveArguments {
+        file,
+        object: 7,
+        moment: 0,
+    }
+}
+
+#[test]
+fn bytes_are_put_and_got(rt: HostRuntime) {
+    let file = "bytes.pool";
+    let all = Command::Get(get(file, 0, None));
+    let part = Command::Get(get(file, 3, Some(4)));
+    let rest = Command::Put(put(file, Some(5)), " there");
+    let again = Command::Put(put(file, None), "bye");
+    let gone = (1, "", "ztxg: refused 9 NoObject\n");
+    let rows = [
+        makes(file),
+        Row::Prints(all, gone),
+        Row::Prints(
+            Command::Put(put(file, None), "hello"),
+            (0, "put 5 bytes in 1 transactions\n", ""),
+        ),
+        Row::Prints(rest, (0, "put 6 bytes in 1 transactions\n", "")),
+        Row::Prints(all, (0, "hello there", "")),
+        Row::Prints(part, (0, "lo t", "")),
+        Row::Prints(again, (0, "put 3 bytes in 1 transactions\n", "")),
+        Row::Leaves(file, Holder::Nobody, Command::List(file), (0, "7 3\n", "")),
+        Row::Prints(Command::Remove(remove(file)), (0, "removed 7\n", "")),
+        Row::Prints(Command::Remove(remove(file)), gone),
+        Row::Remove(file),
+    ];
+    assert_eq!(rt; count_held(&rt, &rows), 11);
+}
+
+#[test]
+fn objects_of_a_file_that_cannot_be_used_are_left(rt: HostRuntime) {
+    let file = "other.pool";
+    let unusable = (3, "", "ztxg: cannot use other.pool\n");
+    let outside = Command::Put(put(file, Some(338_688)), "a");
+    let rows = [
+        Row::Prints(Command::Get(get(file, 0, None)), unusable),
+        Row::Prints(Command::Put(put(file, None), "a"), unusable),
+        makes(file),
+        Row::Leaves(
+            file,
+            Holder::Reader,
+            Command::Put(put(file, None), "a"),
+            unusable,
+        ),
+        Row::Leaves(
+            file,
+            Holder::Reader,
+            Command::Remove(remove(file)),
+            unusable,
+        ),
+        Row::Leaves(
+            file,
+            Holder::Writer,
+            Command::Get(get(file, 0, None)),
+            unusable,
+        ),
+        Row::Leaves(
+            file,
+            Holder::Nobody,
+            outside,
+            (1, "", "ztxg: refused 11 BadRange\n"),
+        ),
+        Row::Remove(file),
+    ];
+    assert_eq!(rt; count_held(&rt, &rows), 8);
+}
+
+#[test]
+fn labels_are_printed(rt: HostRuntime) {
+    let file = "labels.pool";
+    let made = "label 0 config tank 77 4 8388608\nlabel 0 uberblocks 1 highest 4\n\
+        label 1 config tank 77 4 8388608\nlabel 1 uberblocks 1 highest 4\n\
+        label 2 config tank 77 4 8388608\nlabel 2 uberblocks 1 highest 4\n\
+        label 3 config tank 77 4 8388608\nlabel 3 uberblocks 1 highest 4\nactive 4 of label 0\n";
+    let zeros = "label 0 config none zeros\nlabel 0 uberblocks 0\n\
+        label 1 config none zeros\nlabel 1 uberblocks 0\n\
+        label 2 config none zeros\nlabel 2 uberblocks 0\n\
+        label 3 config none zeros\nlabel 3 uberblocks 0\nactive none\n";
+    let labels = Command::Labels(file);
+    let rows = [
+        makes(file),
+        Row::Leaves(file, Holder::Reader, labels, (0, made, "")),
+        Row::Zeros(file, 6_291_456),
+        Row::Prints(labels, (0, zeros, "")),
+        Row::Zeros(file, 6_291_455),
+        Row::Prints(labels, (1, "", "ztxg: refused 8 BadGeometry\n")),
+        Row::Remove(file),
+    ];
+    assert_eq!(rt; count_held(&rt, &rows), 7);
+}
+
+// What a removal reports on a device that may not write its file.
+fn removes_unwritten<R: Files + Wait + AllocGlobal>(rt: &R, file: &str, text: &str) -> bool
+where
+    R::File: FileExt + HeldFile,
+{
+    let mut out = Vec::new(rt.alloc());
+    let mut errors = Vec::new(rt.alloc());
+    let opened = FileDevice::open_to_read(rt, file);
+    let verbose = Verbosity::Verbose;
+    let status = run_remove(rt, remove(file), verbose, opened, &mut out, &mut errors);
+    is_outcome(status, &out, &errors, (1, "", text))
+}
+
+#[test]
+fn explains_which_call_was_refused(rt: HostRuntime) {
+    let file = "calls.pool";
+    let text = "ztxg: refused 3 Write\n\
+        ztxg: cause: write at byte 16384: Bad file descriptor (os error 9)\n";
+    let missing = "ztxg: refused 9 NoObject\nztxg: cause: there is no such object\n";
+    let rows = [
+        Row::Explains(Command::Get(get(file, 0, None)), (1, "", missing)),
+        Row::Remove(file),
+    ];
+    let is_made = holds(&rt, makes(file));
+    let is_told = removes_unwritten(&rt, file, text);
+    assert_eq!(rt; (is_made, is_told, count_held(&rt, &rows)), (true, true, 2));
+}
+
+// A script on a new pool in a file, which ends in a refusal.
+const REFUSED: &str =
+    "import 1048576\nlock 1 1 w 0 338688\nbegin 1 c:1\ncommit 0\nlength 2\nname\n";
+
+#[test]
+fn a_script_stops_or_syncs(rt: HostRuntime) {
+    let file = "stops.pool";
+    let given = ScriptArguments {
+        device: ScriptDevice::File(file),
+        script: "script",
+        moment: 0,
+        stops: true,
+        syncs: false,
+    };
+    let synced = ScriptArguments {
+        stops: false,
+        syncs: true,
+        ..given
+    };
+    let stopped = "synced 8 open 9 records 0\nlock 0\ntx 0 group 9\nentry 0 group 9\n\
+        refused 9 NoObject\n";
+    let whole = "synced 12 open 13 records 0\nlock 0\ntx 0 group 13\nentry 0 group 13\n\
+        refused 9 NoObject\nname tank\n";
+    let lost = "ztxg: 1 commits are not durable\n";
+    let is_made = holds(&rt, makes(file));
+    let lines = REFUSED.as_bytes();
+    let stops = runs_script(&rt, given, Ok(lines), (1, stopped, lost));
+    let syncs = runs_script(&rt, synced, Ok(lines), (0, whole, ""));
+    let rows = [
+        Row::Prints(Command::List(file), (0, "1 0\n", "")),
+        Row::Remove(file),
+    ];
+    assert_eq!(rt;
+        (is_made, stops, syncs, count_held(&rt, &rows)),
+        (true, true, true, 2)
+    );
 }

@@ -4,7 +4,8 @@
 use crate::load_fixture::{new_device, order};
 use base::PoolError;
 use commands::{
-    CreateArguments, LoadArguments, Order, Verbosity, run_check, run_create, run_load, run_show,
+    CreateArguments, LoadArguments, Options, Order, Verbosity, run_check, run_create, run_labels,
+    run_list, run_load, run_show,
 };
 use device_model::{FileDevice, HeldFile};
 use std::fs;
@@ -16,6 +17,11 @@ use std::test::Fail;
 use std::thread::Threads;
 
 const BRIEF: Verbosity = Verbosity::Brief;
+
+const OPTIONS: Options = Options {
+    verbosity: BRIEF,
+    wait: 0,
+};
 
 /// What the command is given for a load of 17 writes a stream, from a seed that 32 bits don't hold.
 fn arguments<'a>() -> LoadArguments<'a> {
@@ -106,10 +112,10 @@ fn a_load_that_cannot_be_printed_has_status_3(rt: HostRuntime) {
     assert_eq!(rt; load_unprinted(&rt), Ok((3, false)));
 }
 
-// The statuses of a check, a show and a create that can't be printed, and whether they report an error.
+// The statuses of a check, a show, a list, labels and a create that can't be printed, and whether they report an error.
 fn others_unprinted<R: Files + Threads + Wait + Sync + Eprint + AllocGlobal>(
     rt: &R,
-) -> Result<([u8; 3], bool), PoolError>
+) -> Result<([u8; 5], bool), PoolError>
 where
     R::File: FileExt + HeldFile + Send,
 {
@@ -131,13 +137,32 @@ where
         &mut Full,
         &mut errors,
     );
-    let created = run_create(rt, tank("full.pool"), BRIEF, &mut Full, &mut errors);
-    Ok(([checked, shown, created], !errors.is_empty()))
+    let listed = run_list(
+        rt.alloc(),
+        "tank.pool",
+        BRIEF,
+        &mut device,
+        &mut Full,
+        &mut errors,
+    );
+    let labelled = run_labels(
+        rt.alloc(),
+        "tank.pool",
+        BRIEF,
+        &mut device,
+        &mut Full,
+        &mut errors,
+    );
+    let created = run_create(rt, tank("full.pool"), OPTIONS, &mut Full, &mut errors);
+    Ok((
+        [checked, shown, listed, labelled, created],
+        !errors.is_empty(),
+    ))
 }
 
 #[test]
 fn other_commands_that_cannot_print_have_status_3(rt: HostRuntime) -> Result<(), Fail> {
-    assert_eq!(rt; others_unprinted(&rt), Ok(([3; 3], false)));
+    assert_eq!(rt; others_unprinted(&rt), Ok(([3; 5], false)));
     fs::remove_file(&rt, "full.pool")?;
     Ok(())
 }
@@ -153,7 +178,7 @@ where
 {
     let mut out = Vec::new(rt.alloc());
     let mut errors = Vec::new(rt.alloc());
-    let created = run_create(rt, tank(file), BRIEF, &mut out, &mut errors);
+    let created = run_create(rt, tank(file), OPTIONS, &mut out, &mut errors);
     let given = LoadArguments {
         file,
         order: order(2, 0),

@@ -25,7 +25,7 @@ pub enum Answer {
 }
 
 impl Answer {
-    ghost use Rattle.script_lines.specs.Answers.{imported_answer};
+    ghost use Rattle.script_lines.specs.Answers.{imported_answer, is_refusal};
 
     /// The answer to an import that synced this group and replayed so many log records. The group after it is open.
     pub fn imported(synced: Group, records: u64) -> Answer
@@ -44,6 +44,13 @@ impl Answer {
         ensures { result ≡ Answer.Reply (Reply.Refused error) }
     {
         Answer::Reply(Reply::Refused(error))
+    }
+
+    /// Whether it is a refusal.
+    pub fn is_refusal(&self) -> bool
+        ensures { result ≡ is_refusal self.now }
+    {
+        matches!(self, Answer::Reply(Reply::Refused(_)))
     }
 }
 

@@ -1,6 +1,6 @@
 //! What callers rely on in a session on a given device: one function for each promise, proved from the contracts alone.
 
-ghost use Rattle.std.specs.Prelude.{◌≡◌, IsErr, IsOk};
+ghost use Rattle.std.specs.Prelude.{◌≡◌, IsErr, IsOk, Some};
 
 use crate::device_session::{DeviceSession, FileSession};
 use crate::mounted_pool::MountedPool;
@@ -73,4 +73,15 @@ fn a_file_can_be_imported<F: SectorFile + Drop>(
         dirty_max: 1_048_576,
         cache_blocks: 256,
     })
+}
+
+fn a_device_that_was_given_comes_back<R, D: SectorDevice + Drop, P: MountedPool<D, R>>(
+    rt: &R,
+    alloc: Global,
+    device: D,
+) -> Option<D>
+    ensures { result ≡ Some device }
+{
+    let session: DeviceSession<'_, R, D, P> = DeviceSession::new(rt, alloc, device, 77);
+    session.into_device()
 }

@@ -2,7 +2,7 @@
 //!
 //! Its commands are those of `Session`, without `crash` and `fail`: only a device in memory can do them.
 
-ghost use Rattle.std.specs.Prelude.{◌≡◌, is_ok};
+ghost use Rattle.std.specs.Prelude.{◌≡◌, is_ok, is_some};
 ghost use Rattle.scripts.specs.declared.place.Place.TheVariants.{Device};
 
 use crate::command_runner::CommandRunner;
@@ -23,7 +23,7 @@ pub struct DeviceSession<'r, R, D, P> {
 pub type FileSession<'r, F> = DeviceSession<'r, (), FileDevice<F>, PoolState<FileDevice<F>>>;
 
 impl<'r, R, D: SectorDevice + Drop, P: MountedPool<D, R>> DeviceSession<'r, R, D, P> {
-    ghost use Rattle.scripts.specs.Places.{has_on_device};
+    ghost use Rattle.scripts.specs.Places.{IsTakenFrom, has_device, has_on_device};
     ghost use Rattle.scripts.specs.Sessions.{DoesOnDevice, IsSameRun};
 
     /// A session on a device. Each uberblock that it writes has this moment, in seconds since 1970.
@@ -56,6 +56,15 @@ impl<'r, R, D: SectorDevice + Drop, P: MountedPool<D, R>> DeviceSession<'r, R, D
             Command::Crash(_) | Command::Fail { .. } => Err(BadCommand),
             Command::Pool(command) => self.session.run_on_pool(command),
         }
+    }
+
+    /// The device, if it is there. A pool on it is given up.
+    pub fn into_device(self) -> Option<D>
+        ensures device { IsTakenFrom P.MountedPool self.entry.session.place result }
+        ensures variant { is_some result ≡ has_device self.entry.session.place }
+    {
+        let mut session = self.session;
+        session.take_device()
     }
 }
 

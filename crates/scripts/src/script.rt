@@ -12,13 +12,26 @@ use script_lines::{Answer, LineError, parse_command};
 use std::alloc::Global;
 use std::io::{self, BufRead, BufReader, BufWriter, Read, Write};
 
+/// The exit status of a script that a refusal ended.
+const REFUSED: u8 = 1;
+
 /// The exit status if the script could not be read, or its answers could not be written.
 pub const FAILED: u8 = 3;
+
+/// What follows if the pool refuses a command of a script.
+#[derive(Clone, Copy, Debug, PartialEq, Eq)]
+pub enum AfterRefusal {
+    /// The script continues.
+    GoOn,
+    /// The script ends after the answer.
+    Stop,
+}
 
 /// How a script ended.
 #[derive(Clone, Copy, Debug, PartialEq, Eq)]
 enum Ending {
     Done,
+    Refused,
     BadLine,
     Failed,
 }
@@ -26,10 +39,10 @@ enum Ending {
 fn status_of(ending: Ending) -> u8
     ensures status { result ≡ status_number ending }
     ensures range { result ≤ 3 }
-    ensures no_refusal { result ≢ 1 }
 {
     match ending {
         Ending::Done => 0,
+        Ending::Refused => REFUSED,
         Ending::BadLine => 2,
         Ending::Failed => FAILED,
     }
@@ -67,13 +80,27 @@ pub fn run_script_on<S: CommandRunner, R: Read + Drop, W: Write + Drop>(
     ensures range { result ≤ 3 }
     ensures no_refusal { result ≢ 1 }
 {
+    run_script_with(alloc, session, AfterRefusal::GoOn, script, out)
+}
+
+/// Runs a script as `run_script_on` does. It may stop after the first refusal, and the status is 1 then.
+pub fn run_script_with<S: CommandRunner, R: Read + Drop, W: Write + Drop>(
+    alloc: Global,
+    session: &mut S,
+    after_refusal: AfterRefusal,
+    script: R,
+    out: W,
+) -> u8
+    ensures range { result ≤ 3 }
+    ensures no_refusal { after_refusal ≡ AfterRefusal.GoOn → result ≢ 1 }
+{
     let Ok(mut reader) = BufReader::new(alloc, script) else {
         return status_of(Ending::Failed);
     };
     let Ok(mut writer) = BufWriter::new(alloc, out) else {
         return status_of(Ending::Failed);
     };
-    let ending = match run_lines(alloc, session, &mut reader, &mut writer) {
+    let ending = match run_lines(alloc, session, after_refusal, &mut reader, &mut writer) {
         Ok(ending) => ending,
         Err(_) => Ending::Failed,
     };
@@ -85,9 +112,12 @@ pub fn run_script_on<S: CommandRunner, R: Read + Drop, W: Write + Drop>(
 fn run_lines<S: CommandRunner, R: BufRead, W: Write>(
     alloc: Global,
     session: &mut S,
+    after_refusal: AfterRefusal,
     script: &mut R,
     out: &mut W,
-) -> io::Result<Ending> {
+) -> io::Result<Ending>
+    ensures { after_refusal ≡ AfterRefusal.GoOn → IfOk result (λ ending. ending ≢ Ending.Refused) }
+{
     let mut line = Vec::new(alloc);
     for number in 1..u64::MAX {
         line.clear();
@@ -96,7 +126,13 @@ fn run_lines<S: CommandRunner, R: BufRead, W: Write>(
         }
         match run_line(alloc, session, without_newline(line.as_slice())) {
             Ok(None) => {}
-            Ok(Some(answer)) => writeln!(out, "{answer}")?,
+            Ok(Some(answer)) => {
+                writeln!(out, "{answer}")?;
+                if after_refusal == AfterRefusal::Stop && answer.is_refusal() {
+                    out.flush()?;
+                    return Ok(Ending::Refused);
+                }
+            }
             Err(BadCommand) => {
                 writeln!(out, "line {number}: bad command")?;
                 out.flush()?;

@@ -79,7 +79,7 @@ impl<'r, R, D: SectorDevice + Drop, P: MountedPool<D, R>> Session<'r, R, D, P> {
     }
 
     // The device, which then is no longer the session's. A pool on it is given up.
-    fn take_device(&mut self) -> Option<D>
+    pub(crate) fn take_device(&mut self) -> Option<D>
         ensures device { IsTakenFrom P.MountedPool self.old.place result }
         ensures variant { is_some result ≡ has_device self.old.place }
         ensures kept { IsTrue D.keeps_model → IfSome result (λ device. (past : Past)

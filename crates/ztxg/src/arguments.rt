@@ -3,8 +3,8 @@
 use crate::help;
 use clap::{Arg, ArgAction, ArgMatches, Command, Error, value_parser};
 use commands::{
-    Arguments, CreateArguments, LoadArguments, MAX_WORKERS, MAX_WRITES, Order, ScriptArguments,
-    ScriptDevice, Verbosity,
+    Arguments, CreateArguments, GetArguments, LoadArguments, MAX_WORKERS, MAX_WRITES, Options,
+    Order, PutArguments, RemoveArguments, ScriptArguments, ScriptDevice, Verbosity,
 };
 use std::alloc::{AllocError, Global};
 
@@ -31,6 +31,35 @@ fn moment<'a>(alloc: Global) -> Arg<'a> {
         .default_value("0")
 }
 
+fn flag<'a>(alloc: Global, name: &'a str, help: &'a str) -> Arg<'a> {
+    Arg::new(alloc, name)
+        .long(name)
+        .help(help)
+        .action(ArgAction::SetTrue)
+}
+
+// The file of a pool that the command only reads.
+fn read_file<'a>(alloc: Global) -> Arg<'a> {
+    word(
+        alloc,
+        "FILE",
+        "The path of the file, a regular file that no process has open as a pool to write",
+    )
+}
+
+// The file of a pool that the command changes.
+fn written_file<'a>(alloc: Global) -> Arg<'a> {
+    word(
+        alloc,
+        "FILE",
+        "The path of the file, a regular file that no process has open as a pool",
+    )
+}
+
+fn object<'a>(alloc: Global) -> Arg<'a> {
+    word(alloc, "OBJECT", "The object's number: 0 to 5291").value_parser(value_parser!(u32))
+}
+
 fn script_command<'a>(alloc: Global) -> Result<Command<'a>, AllocError> {
     let size = Arg::new(alloc, "SIZE")
         .help(SIZE_HELP)
@@ -51,14 +80,21 @@ fn script_command<'a>(alloc: Global) -> Result<Command<'a>, AllocError> {
             "The path of the script, or - for standard input",
         ))?
         .arg(file)?
+        .arg(flag(
+            alloc,
+            "stop",
+            "Ends the script after the first line that is refused, with status 1",
+        ))?
+        .arg(flag(alloc, "sync", "Syncs the pool in FILE at the end"))?
         .arg(moment(alloc))
 }
 
 fn create_command<'a>(alloc: Global) -> Result<Command<'a>, AllocError> {
-    let only_new = Arg::new(alloc, "new")
-        .long("new")
-        .help("Refuses a FILE that exists already, which is left as it is")
-        .action(ArgAction::SetTrue);
+    let only_new = flag(
+        alloc,
+        "new",
+        "Refuses a FILE that exists already, which is left as it is",
+    );
     Command::new(alloc, "create")
         .about("Makes a new pool in a file, over what the file held, and prints its blocks")
         .after_help(help::CREATE)
@@ -82,11 +118,7 @@ fn show_command<'a>(alloc: Global) -> Result<Command<'a>, AllocError> {
     Command::new(alloc, "show")
         .about("Reports what an import of the pool in a file would mount; it only reads the file")
         .after_help(help::SHOW)
-        .arg(word(
-            alloc,
-            "FILE",
-            "The path of the file, a regular file that no process has open as a pool to write",
-        ))
+        .arg(read_file(alloc))
 }
 
 fn load_command<'a>(alloc: Global) -> Result<Command<'a>, AllocError> {
@@ -113,11 +145,7 @@ fn load_command<'a>(alloc: Global) -> Result<Command<'a>, AllocError> {
     Command::new(alloc, "load")
         .about("Makes many small writes on the pool in a file, syncs it, and prints its digest")
         .after_help(help::LOAD)
-        .arg(word(
-            alloc,
-            "FILE",
-            "The path of the file, a regular file that no process has open as a pool",
-        ))?
+        .arg(written_file(alloc))?
         .arg(workers)?
         .arg(ops)?
         .arg(seed)?
@@ -130,20 +158,77 @@ fn check_command<'a>(alloc: Global) -> Result<Command<'a>, AllocError> {
     Command::new(alloc, "check")
         .about("Checks whether the pool in a file is whole; it only reads the file")
         .after_help(help::CHECK)
-        .arg(word(
-            alloc,
-            "FILE",
-            "The path of the file, a regular file that no process has open as a pool to write",
-        ))
+        .arg(read_file(alloc))
 }
 
-// A flag of each command, which may stand before its name or after it.
+fn list_command<'a>(alloc: Global) -> Result<Command<'a>, AllocError> {
+    Command::new(alloc, "ls")
+        .about("Lists the objects of the pool in a file; it only reads the file")
+        .after_help(help::LIST)
+        .arg(read_file(alloc))
+}
+
+fn get_command<'a>(alloc: Global) -> Result<Command<'a>, AllocError> {
+    let offset = option(alloc, "offset", "O")
+        .help("The first byte")
+        .value_parser(value_parser!(u64))
+        .default_value("0");
+    let length = option(alloc, "length", "L")
+        .help("The most bytes, if not all up to the object's end")
+        .value_parser(value_parser!(u64));
+    Command::new(alloc, "get")
+        .about("Writes the bytes of an object to standard output; it only reads the file")
+        .after_help(help::GET)
+        .arg(read_file(alloc))?
+        .arg(object(alloc))?
+        .arg(offset)?
+        .arg(length)
+}
+
+fn put_command<'a>(alloc: Global) -> Result<Command<'a>, AllocError> {
+    let offset = option(alloc, "offset", "O")
+        .help("Where the bytes go; without it they replace all that the object has")
+        .value_parser(value_parser!(u64));
+    Command::new(alloc, "put")
+        .about("Writes standard input into an object, which is made if it isn't there")
+        .after_help(help::PUT)
+        .arg(written_file(alloc))?
+        .arg(object(alloc))?
+        .arg(offset)?
+        .arg(moment(alloc))
+}
+
+fn remove_command<'a>(alloc: Global) -> Result<Command<'a>, AllocError> {
+    Command::new(alloc, "rm")
+        .about("Removes an object")
+        .after_help(help::REMOVE)
+        .arg(written_file(alloc))?
+        .arg(object(alloc))?
+        .arg(moment(alloc))
+}
+
+fn labels_command<'a>(alloc: Global) -> Result<Command<'a>, AllocError> {
+    Command::new(alloc, "labels")
+        .about("Reports what the four labels of a file hold; it only reads the file")
+        .after_help(help::LABELS)
+        .arg(read_file(alloc))
+}
+
+// Options of each command, which may stand before its name or after it.
 fn verbose<'a>(alloc: Global) -> Arg<'a> {
-    Arg::new(alloc, "verbose")
-        .short('v')
-        .long("verbose")
-        .help("If a file can't be used, reports the cause as well")
-        .action(ArgAction::SetTrue)
+    flag(
+        alloc,
+        "verbose",
+        "If the command is not done, reports the cause as well",
+    )
+    .short('v')
+    .global(true)
+}
+
+fn wait<'a>(alloc: Global) -> Arg<'a> {
+    option(alloc, "wait", "S")
+        .help("Waits up to S seconds for a FILE that another process has: 0 to 86400")
+        .value_parser(value_parser!(u32).range(0..=86_400))
         .global(true)
 }
 
@@ -154,9 +239,15 @@ fn command<'a>(alloc: Global) -> Result<Command<'a>, AllocError> {
         .after_help(help::PROGRAM)
         .subcommand_required(true)
         .arg(verbose(alloc))?
+        .arg(wait(alloc))?
         .subcommand(create_command(alloc)?)?
         .subcommand(show_command(alloc)?)?
         .subcommand(check_command(alloc)?)?
+        .subcommand(list_command(alloc)?)?
+        .subcommand(get_command(alloc)?)?
+        .subcommand(put_command(alloc)?)?
+        .subcommand(remove_command(alloc)?)?
+        .subcommand(labels_command(alloc)?)?
         .subcommand(load_command(alloc)?)?
         .subcommand(script_command(alloc)?)
 }
@@ -177,17 +268,26 @@ pub fn read_arguments<'a>(matches: &ArgMatches<'a>) -> Option<Arguments<'a>> {
         "create" => Some(Arguments::Create(read_create(given)?)),
         "show" => Some(Arguments::Show(given.get_str("FILE")?)),
         "check" => Some(Arguments::Check(given.get_str("FILE")?)),
+        "ls" => Some(Arguments::List(given.get_str("FILE")?)),
+        "labels" => Some(Arguments::Labels(given.get_str("FILE")?)),
+        "get" => Some(Arguments::Get(read_get(given)?)),
+        "put" => Some(Arguments::Put(read_put(given)?)),
+        "rm" => Some(Arguments::Remove(read_remove(given)?)),
         "load" => Some(Arguments::Load(read_load(given)?)),
         _ => None,
     }
 }
 
-/// How much the command reports of a file that it can't use.
-pub fn read_verbosity(matches: &ArgMatches<'_>) -> Verbosity {
-    if matches.get_flag("verbose") {
+/// What the command is given whichever it is.
+pub fn read_options(matches: &ArgMatches<'_>) -> Options {
+    let verbosity = if matches.get_flag("verbose") {
         Verbosity::Verbose
     } else {
         Verbosity::Brief
+    };
+    Options {
+        verbosity,
+        wait: matches.get_one::<u32>("wait").unwrap_or(0),
     }
 }
 
@@ -196,6 +296,8 @@ fn read_script<'a>(given: &ArgMatches<'a>) -> Option<ScriptArguments<'a>> {
         device: read_device(given)?,
         script: given.get_str("SCRIPT")?,
         moment: given.get_one::<u64>("moment")?,
+        stops: given.get_flag("stop"),
+        syncs: given.get_flag("sync"),
     })
 }
 
@@ -227,6 +329,32 @@ fn read_load<'a>(given: &ArgMatches<'a>) -> Option<LoadArguments<'a>> {
         },
         dirty_max: given.get_one::<u64>("dirty")?,
         cache_blocks: given.get_one::<u64>("cache")?,
+        moment: given.get_one::<u64>("moment")?,
+    })
+}
+
+fn read_get<'a>(given: &ArgMatches<'a>) -> Option<GetArguments<'a>> {
+    Some(GetArguments {
+        file: given.get_str("FILE")?,
+        object: given.get_one::<u32>("OBJECT")?,
+        offset: given.get_one::<u64>("offset")?,
+        length: given.get_one::<u64>("length"),
+    })
+}
+
+fn read_put<'a>(given: &ArgMatches<'a>) -> Option<PutArguments<'a>> {
+    Some(PutArguments {
+        file: given.get_str("FILE")?,
+        object: given.get_one::<u32>("OBJECT")?,
+        offset: given.get_one::<u64>("offset"),
+        moment: given.get_one::<u64>("moment")?,
+    })
+}
+
+fn read_remove<'a>(given: &ArgMatches<'a>) -> Option<RemoveArguments<'a>> {
+    Some(RemoveArguments {
+        file: given.get_str("FILE")?,
+        object: given.get_one::<u32>("OBJECT")?,
         moment: given.get_one::<u64>("moment")?,
     })
 }

@@ -6,22 +6,26 @@ pub const VERSION: &str = "0.2.0 (rattle-kit-13f logic dac8208d650f15bf)";
 
 /// What stands after the help of the program.
 pub const PROGRAM: &str = "\
-Example: ztxg create tank.pool tank 77 8388608
+Examples:
+  ztxg create tank.pool tank 77 8388608 --new
+  echo hello | ztxg put tank.pool 1
+  ztxg get tank.pool 1
 
 Exit status:
   0  the command was done
   1  the engine refused it: 'ztxg: refused N NAME' on standard error;
      or a check found no pool that is whole
   2  a fault of the command line, or a line of a script that is no command
-  3  a file that can't be used: 'ztxg: cannot use FILE' on standard error,
-     with -v also 'ztxg: cause: ' and the cause in a second line;
+  3  a file that can't be used: 'ztxg: cannot use FILE' on standard error;
      or a script that can't be read, or output that can't be written
+
+With -v a second line has the cause of 1 or 3: 'ztxg: cause: CAUSE'.
 
 docs/FORMATS.md lists every refusal with its meaning, and the bytes of a pool.";
 
 /// What stands after the help of `create`.
 pub const CREATE: &str = "\
-Example: ztxg create tank.pool tank 77 8388608
+Example: ztxg create tank.pool tank 77 8388608 --new
 
 Prints 'created NAME B blocks'. FILE has to be a regular file that no other
 process has open as a pool; else it can't be used, and is left as it was. Nor
@@ -46,6 +50,98 @@ Refusals, with status 1:
    6 NoPool                no label has a valid uberblock with a config
    7 Damaged KIND ADDRESS  a block is not what the pool's tree says of it
    8 BadGeometry           FILE's size is none that a pool may have";
+
+/// What stands after the help of `ls`.
+pub const LIST: &str = "\
+Example: ztxg ls tank.pool
+
+Prints a line for each object, rising: its number and its length.
+
+Refusals, with status 1:
+   1 NoMemory              there is no memory
+   2 Read                  the device refused a read
+   6 NoPool                no label has a valid uberblock with a config
+   7 Damaged KIND ADDRESS  a block is not what the pool's tree says of it
+   8 BadGeometry           FILE's size is none that a pool may have";
+
+/// What stands after the help of `get`.
+pub const GET: &str = "\
+Examples:
+  ztxg get tank.pool 1 > bytes
+  ztxg get tank.pool 1 --offset 4096 --length 512
+
+Writes the object's bytes from O on, L at most, and nothing else. Bytes that the
+log has are among them. An object has at most 338688 bytes.
+
+Refusals, with status 1, and then nothing is written:
+   1 NoMemory              there is no memory
+   2 Read                  the device refused a read
+   6 NoPool                no label has a valid uberblock with a config
+   7 Damaged KIND ADDRESS  a block is not what the pool's tree or log says
+   8 BadGeometry           FILE's size is none that a pool may have
+   9 NoObject              there is no such object
+  11 BadRange              OBJECT or O is outside its limits, or L is 0";
+
+/// What stands after the help of `put`.
+pub const PUT: &str = "\
+Examples:
+  ztxg put tank.pool 1 < bytes
+  echo more | ztxg put tank.pool 1 --offset 4096
+
+Reads standard input to its end, then opens FILE. Prints 'put B bytes in T
+transactions' once all is durable. A transaction has at most 64512 bytes: so up
+to 64512 bytes are put as a whole, or not at all. An object has at most 338688
+bytes. If bytes were committed before a refusal, a second line on standard error
+has their number: 'ztxg: committed B bytes in T transactions'.
+
+Refusals, with status 1:
+   1 NoMemory              there is no memory
+   2 Read                  the device refused a read
+   3 Write                 the device refused a write
+   4 Flush                 the device refused a flush
+   6 NoPool                no label has a valid uberblock with a config
+   7 Damaged KIND ADDRESS  a block is not what the pool's tree or log says
+   8 BadGeometry           FILE's size is none that a pool may have
+  11 BadRange              OBJECT, O or the input is outside its limits; FILE
+                           is left as it was
+  16 NoSpace               the pool has not enough blocks, also after a sync
+  22 TooMany               a group or an import is at its last number, 2^60";
+
+/// What stands after the help of `rm`.
+pub const REMOVE: &str = "\
+Example: ztxg rm tank.pool 1
+
+Prints 'removed OBJECT' once that is durable.
+
+Refusals, with status 1:
+   1 NoMemory              there is no memory
+   2 Read                  the device refused a read
+   3 Write                 the device refused a write
+   4 Flush                 the device refused a flush
+   6 NoPool                no label has a valid uberblock with a config
+   7 Damaged KIND ADDRESS  a block is not what the pool's tree or log says
+   8 BadGeometry           FILE's size is none that a pool may have
+   9 NoObject              there is no such object
+  11 BadRange              OBJECT is outside its limits
+  22 TooMany               a group or an import is at its last number, 2^60";
+
+/// What stands after the help of `labels`.
+pub const LABELS: &str = "\
+Example: ztxg labels tank.pool
+
+Prints two lines for each label, N from 0 to 3, and a last one:
+  label N config NAME GUID GROUP SIZE  a valid config, written in GROUP
+  label N config none REASON           'size S': a config of a file of S bytes;
+                                       'zeros'; or 'check': anything else
+  label N uberblocks K highest GROUP   K valid uberblocks; or only
+                                       'label N uberblocks 0'
+  active GROUP of label N              the uberblock that an import takes; or
+                                       'active none'
+
+Refusals, with status 1:
+   1 NoMemory     there is no memory
+   2 Read         the device refused a read
+   8 BadGeometry  FILE's size is none that a pool may have";
 
 /// What stands after the help of `load`.
 pub const LOAD: &str = "\
@@ -123,6 +219,8 @@ write, l:OBJECT:LENGTH to set a length, n:LENGTH to name the pool. A commit has
 BYTES for each write and each name: printable ASCII, or @COUNT:C for COUNT
 copies of C.
 
-A refused command prints 'refused N NAME', and the script goes on. A line that
-is no command prints 'line N: bad command' and ends it with status 2. With --file, crash
-and fail are no commands.";
+A refused command prints 'refused N NAME', and the script goes on, unless there
+is --stop. A line that is no command prints 'line N: bad command' and ends it
+with status 2. With --file, crash and fail are no commands. If commits in FILE
+are not durable at the end, standard error has their number. A sync at the end
+that is refused has status 1.";

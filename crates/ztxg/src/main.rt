@@ -1,12 +1,12 @@
-//! The command line of the pool's write engine. `ztxg script SIZE SCRIPT` runs a script on a device in memory, and
-//! `ztxg create FILE NAME GUID SIZE` makes a pool in a file. `ztxg show FILE` shows it, `ztxg check FILE` checks it,
-//! `ztxg load FILE` makes many writes on it, and `ztxg script --file FILE SCRIPT` runs a script.
+//! The command line of the pool's write engine. `ztxg create FILE NAME GUID SIZE` makes a pool in a file, whose objects
+//! `ls`, `get`, `put` and `rm` list, read, write and remove. `show`, `check` and `labels` report on it, `load` makes many
+//! writes on it, and `script` runs a script, on it or on a device in memory.
 #![tactic(auto)]
 
 mod arguments;
 mod help;
 
-use arguments::{parse_arguments, read_arguments, read_verbosity};
+use arguments::{parse_arguments, read_arguments, read_options};
 use commands::run;
 use std::io;
 use std::process::ExitCode;
@@ -26,8 +26,8 @@ fn main(rt: HostRuntime) -> ExitCode {
     match parse_arguments(rt.alloc(), words.as_slice()) {
         Ok(matches) => match read_arguments(&matches) {
             Some(arguments) => {
-                let verbosity = read_verbosity(&matches);
-                ExitCode::from(run(&rt, arguments, verbosity, &mut rt.stderr()))
+                let options = read_options(&matches);
+                ExitCode::from(run(&rt, arguments, options, &mut rt.stderr()))
             }
             None => ExitCode::from(BAD_ARGUMENTS),
         },

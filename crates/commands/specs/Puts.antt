@@ -1,0 +1,12 @@
+-- What a put is given.
+use Rattle.std.specs.Prelude.{ℕ, ◌+◌, ◌&&◌, Bool, List, Option, None, Some, length, nat_lt, nat_le}
+use Rattle.base.specs.formats.Limits.{max_length, object_count}
+
+-- the first byte that a put writes
+abbrev pub first_byte : Option ℕ → ℕ
+first_byte None = 0
+first_byte (Some offset) = offset
+
+-- these bytes of an object are within the limits
+abbrev pub is_target : ℕ → Option ℕ → List ℕ → Bool
+is_target object offset bytes = nat_lt object object_count && nat_le (first_byte offset + length bytes) max_length

@@ -1,0 +1,31 @@
+-- What `get` writes: bytes of an object in what the image mounts.
+use Rattle.std.specs.Prelude.{ℕ, ◌≡◌, ◌≢◌, ◌+◌, List, Option, None, Some, min}
+use Rattle.std.specs.Io.KnownBytes.{Appends}
+use Rattle.base.specs.crash.Mount.{MountsTo}
+use Rattle.base.specs.declared.error.PoolError.{PoolError}
+use Rattle.base.specs.declared.error.PoolError.TheVariants.{Flush, Write}
+use Rattle.base.specs.declared.range.Range.{Range}
+use Rattle.base.specs.formats.Limits.{max_length}
+use Rattle.base.specs.history.Contents.{Contents}
+use Rattle.object_maps.specs.Sources.{range_in}
+use Rattle.commands.specs.declared.arguments.GetArguments.{GetArguments}
+
+-- the range that is asked for, up to the greatest length
+abbrev pub high_of : ℕ → Option ℕ → ℕ
+high_of offset None = max_length
+high_of offset (Some length) = min (offset + length) max_length
+
+abbrev pub range_of : GetArguments → Range
+range_of given = record { low = given.offset; high = high_of given.offset given.length }
+
+-- these are the bytes of a range of an object in the contents that the image mounts
+abbrev pub IsMountedRange : List ℕ → ℕ → Range → List ℕ → Type 0
+IsMountedRange image object range bytes = (contents : Contents) × MountsTo image contents × (bytes ≡ range_in contents.objects (record { 0 = object }) range)
+
+-- they were written after what the writer had, if that is known
+abbrev pub WritesMounted : List ℕ → ℕ → Range → Option (List ℕ) → Option (List ℕ) → Type 0
+WritesMounted image object range old new = (bytes : List ℕ) × IsMountedRange image object range bytes × Appends old new bytes
+
+-- a refusal of what only reads: no write and no flush was refused
+abbrev pub IsReadersRefusal : PoolError → Type 0
+IsReadersRefusal e = (e ≢ Write) × (e ≢ Flush)

@@ -1,0 +1,371 @@
+//! The commands `put` and `rm`: an object of the pool in a file gets bytes, or is removed. What they commit is durable
+//! when they end.
+//!
+//! 1. A put commits its bytes in pieces, from the first to the last, a transaction each. The first transaction also
+//!    makes the object or empties it. So bytes of one piece are put as a whole, or not at all.
+//! 2. A piece has as many bytes as 16 records hold. So a log record has room for it, and a put from the object's start
+//!    writes whole records.
+//! 3. If a piece is refused, the pieces before it stay, and are synced as those of a whole put are.
+
+ghost use Rattle.std.specs.Prelude.{◌≡◌, ◌≢◌, ◌≤◌, false, Err, IfErr, IfOk, IsErr};
+ghost use Rattle.commands.specs.Puts.{is_target};
+
+use crate::arguments::{PutArguments, RemoveArguments};
+use crate::failure::{Failure, NotesRefusals, Verbosity, report_failure};
+use base::{
+    Bytes, DEFAULT_DIRTY_MAX, MAX_LENGTH, OBJECT_COUNT, ObjectId, Op, Ops, Owner, PoolError,
+    RECORD_SIZE, Receipt,
+};
+use device_model::{FileRefusal, SectorDevice};
+use pool_threads::{Handle, Pool};
+use std::alloc::{AllocError, Global};
+use std::fmt;
+use std::io::{self, Read, Write};
+use std::sync::Wait;
+
+/// The most bytes that one transaction of a put writes.
+const PIECE: usize = 16 * RECORD_SIZE;
+
+/// How often a transaction that finds no space syncs the pool and is made again.
+const SYNCS_FOR_SPACE: u32 = 2;
+
+/// The command has one owner.
+const OWNER: Owner = Owner(0);
+
+/// What is printed of standard input as a file.
+const STANDARD_INPUT: &str = "-";
+
+/// The bytes of an input up to its end, or one more than an object may have.
+///
+/// # Errors
+/// That of a read, or of a request for memory.
+pub fn read_input<R: Read + Drop>(alloc: Global, input: R) -> io::Result<Vec<u8>> {
+    let mut bytes = Vec::new(alloc);
+    let _ = input.take(MAX_LENGTH + 1).read_to_end(&mut bytes)?;
+    Ok(bytes)
+}
+
+/// What a put has committed.
+#[derive(Clone, Copy, Debug, PartialEq, Eq)]
+struct Put {
+    bytes: u64,
+    transactions: u64,
+    // whether the pool was synced after the last of them
+    is_synced: bool,
+}
+
+impl fmt::Display for Put {
+    fn fmt<W: fmt::Write>(&self, f: &mut fmt::Formatter<W>) -> fmt::Result {
+        write!(
+            f,
+            "{} bytes in {} transactions",
+            self.bytes, self.transactions
+        )
+    }
+}
+
+impl Put {
+    const NOTHING: Put = Put {
+        bytes: 0,
+        transactions: 0,
+        is_synced: true,
+    };
+
+    fn add(&mut self, bytes: usize) {
+        self.bytes = self.bytes.saturating_add(bytes as u64);
+        self.transactions = self.transactions.saturating_add(1);
+        self.is_synced = false;
+    }
+}
+
+/// Writes an input into an object of the pool on a device, syncs it, and returns the exit status. The object is made if
+/// it isn't there. Without an offset it then has these bytes alone.
+///
+/// The status is 0 if all is durable, and how many bytes it were is written to `out`. It is 1 if the engine refused it,
+/// and 3 if the input can't be read, the file was not opened as a device, or `out` can't be written. A failure is
+/// reported on `errors`, and so is how many bytes were committed before it. The object's number, the offset and the
+/// number of the bytes are tested before the device is called.
+pub fn run_put<R: Wait + AllocGlobal, D: SectorDevice + NotesRefusals + Drop, W: Write, E: Write>(
+    rt: &R,
+    arguments: PutArguments<'_>,
+    verbosity: Verbosity,
+    input: io::Result<Vec<u8>>,
+    opened: Result<D, FileRefusal>,
+    out: &mut W,
+    errors: &mut E,
+) -> u8
+    ensures unread { IsErr input → result ≡ 3 }
+    ensures unusable { IsErr opened → result ≡ 3 }
+    ensures target { IfOk input (λ bytes. IfOk opened (λ _. is_target arguments.entry.object
+        arguments.entry.offset bytes.items ≡ false → result ≡ 1)) }
+    ensures range { result ≤ 3 }
+    ensures no_usage { result ≢ 2 }
+{
+    let input = match input {
+        Ok(input) => input,
+        Err(error) => {
+            let failure = Failure::Unusable(FileRefusal::System(error));
+            return report_failure(failure, STANDARD_INPUT, verbosity, errors);
+        }
+    };
+    let (put, end) = put_bytes(rt, arguments, &input, opened);
+    match end {
+        Ok(()) => match writeln!(out, "put {put}") {
+            Ok(()) => 0,
+            Err(_) => report_failure(Failure::Unwritten, arguments.file, verbosity, errors),
+        },
+        Err(failure) => {
+            let status = report_failure(failure, arguments.file, verbosity, errors);
+            report_committed(&put, errors);
+            status
+        }
+    }
+}
+
+// Reports what was committed before a refusal.
+fn report_committed<E: Write>(put: &Put, errors: &mut E) {
+    if put.transactions == 0 {
+        return;
+    }
+    let fate = if put.is_synced { "" } else { ", not durable" };
+    let _ = writeln!(errors, "ztxg: committed {put}{fate}");
+}
+
+// Puts bytes into an object of the pool on a device, and syncs it.
+fn put_bytes<R: Wait + AllocGlobal, D: SectorDevice + NotesRefusals + Drop>(
+    rt: &R,
+    arguments: PutArguments<'_>,
+    bytes: &[u8],
+    opened: Result<D, FileRefusal>,
+) -> (Put, Result<(), Failure>)
+    ensures unusable { IfErr opened (λ cause. result.1 ≡ Err (Failure.Unusable cause)) }
+    ensures target { IfOk opened (λ _. is_target arguments.entry.object arguments.entry.offset
+        bytes.now ≡ false → result.1 ≡ Err (Failure.Refused PoolError.BadRange)) }
+{
+    let device = match opened {
+        Ok(device) => device,
+        Err(cause) => return (Put::NOTHING, Err(Failure::Unusable(cause))),
+    };
+    if !is_target(arguments.object, arguments.offset, bytes) {
+        return (Put::NOTHING, Err(Failure::Refused(PoolError::BadRange)));
+    }
+    let alloc = rt.alloc();
+    let pool = match Pool::open(alloc, device, DEFAULT_DIRTY_MAX, arguments.moment) {
+        Ok(pool) => pool,
+        Err((refusal, device)) => {
+            return (Put::NOTHING, Err(Failure::of_pool(refusal, &device)));
+        }
+    };
+    let target = Target {
+        object: ObjectId(arguments.object),
+        offset: arguments.offset,
+    };
+    let (put, end) = put_and_sync(rt, alloc, &pool, target, bytes);
+    match end {
+        Ok(()) => (put, Ok(())),
+        Err(refusal) => (put, Err(Failure::of_running(refusal, pool))),
+    }
+}
+
+// Whether these bytes of an object are within the limits.
+fn is_target(object: u32, offset: Option<u64>, bytes: &[u8]) -> bool
+    ensures { result ≡ is_target object offset bytes.now }
+{
+    let offset = match offset {
+        Some(offset) => offset,
+        None => 0,
+    };
+    object < OBJECT_COUNT && offset <= MAX_LENGTH && bytes.len() as u64 <= MAX_LENGTH - offset
+}
+
+// Where bytes go: to a place of an object, or in place of all that it has.
+#[derive(Clone, Copy)]
+struct Target {
+    object: ObjectId,
+    offset: Option<u64>,
+}
+
+// What the first transaction does to the object before it writes.
+#[derive(Clone, Copy)]
+enum Start {
+    Creates,
+    Empties,
+    Keeps,
+}
+
+// Puts bytes into an object, and syncs the pool, also after a refusal. It returns the first refusal.
+fn put_and_sync<R: Wait, D: SectorDevice>(
+    rt: &R,
+    alloc: Global,
+    pool: &Pool<D>,
+    target: Target,
+    bytes: &[u8],
+) -> (Put, Result<(), PoolError>) {
+    let mut handle = pool.handle();
+    let mut put = Put::NOTHING;
+    let ended = match find_start(rt, &mut handle, target) {
+        Ok(start) => put_pieces(rt, alloc, &mut handle, target, start, bytes, &mut put),
+        Err(refusal) => Err(refusal),
+    };
+    if put.transactions == 0 {
+        return (put, ended);
+    }
+    let synced = handle.sync_pool(rt);
+    put.is_synced = synced.is_ok();
+    match (ended, synced) {
+        (Ok(()), Err(refusal)) => (put, Err(refusal)),
+        (ended, _) => (put, ended),
+    }
+}
+
+// What has to be done to the object before its first bytes are written.
+fn find_start<R: Wait, D: SectorDevice>(
+    rt: &R,
+    handle: &mut Handle<'_, D>,
+    target: Target,
+) -> Result<Start, PoolError> {
+    match (handle.length(rt, target.object), target.offset) {
+        (Ok(_), Some(_)) => Ok(Start::Keeps),
+        (Ok(_), None) => Ok(Start::Empties),
+        (Err(PoolError::NoObject), _) => Ok(Start::Creates),
+        (Err(refusal), _) => Err(refusal),
+    }
+}
+
+// Commits the pieces of these bytes in order, up to the first that is refused.
+fn put_pieces<R: Wait, D: SectorDevice>(
+    rt: &R,
+    alloc: Global,
+    handle: &mut Handle<'_, D>,
+    target: Target,
+    start: Start,
+    bytes: &[u8],
+    put: &mut Put,
+) -> Result<(), PoolError> {
+    let offset = match target.offset {
+        Some(offset) => offset,
+        None => 0,
+    };
+    if bytes.is_empty() && !matches!(start, Start::Keeps) {
+        commit(rt, alloc, handle, start, target.object, offset, bytes)?;
+        put.add(0);
+    }
+    let mut start = start;
+    for piece in bytes.chunks(PIECE) {
+        let at = offset.saturating_add(put.bytes);
+        commit(rt, alloc, handle, start, target.object, at, piece)?;
+        put.add(piece.len());
+        start = Start::Keeps;
+    }
+    Ok(())
+}
+
+// Commits a piece as one transaction, with what comes before it. If it finds no space it syncs the pool, and makes it
+// again.
+fn commit<R: Wait, D: SectorDevice>(
+    rt: &R,
+    alloc: Global,
+    handle: &mut Handle<'_, D>,
+    start: Start,
+    object: ObjectId,
+    at: u64,
+    piece: &[u8],
+) -> Result<Receipt, PoolError> {
+    for _ in 0..SYNCS_FOR_SPACE {
+        let ops = ops_of(alloc, start, object, at, piece)?;
+        match handle.transact(rt, OWNER, ops) {
+            Err(PoolError::NoSpace) => {
+                handle.sync_pool(rt)?;
+            }
+            committed => return committed,
+        }
+    }
+    let ops = ops_of(alloc, start, object, at, piece)?;
+    handle.transact(rt, OWNER, ops)
+}
+
+// The operations that put a piece.
+fn ops_of(
+    alloc: Global,
+    start: Start,
+    object: ObjectId,
+    at: u64,
+    piece: &[u8],
+) -> Result<Ops, AllocError> {
+    let mut ops = Vec::with_capacity(alloc, 2)?;
+    match start {
+        Start::Creates => ops.push_reserved(Op::Create(object)),
+        Start::Empties => ops.push_reserved(Op::SetLength(object, 0)),
+        Start::Keeps => {}
+    }
+    if !piece.is_empty() {
+        ops.push_reserved(Op::Write(object, at, Bytes::from_slice(alloc, piece)?));
+    }
+    Ok(Ops::new(ops))
+}
+
+/// Removes an object of the pool on a device, syncs it, writes its number to `out`, and returns the exit status.
+///
+/// The status is 0 if that is durable, 1 if the engine refused it, and 3 if the file was not opened as a device or `out`
+/// can't be written. A failure is reported on `errors`.
+pub fn run_remove<
+    R: Wait + AllocGlobal,
+    D: SectorDevice + NotesRefusals + Drop,
+    W: Write,
+    E: Write,
+>(
+    rt: &R,
+    arguments: RemoveArguments<'_>,
+    verbosity: Verbosity,
+    opened: Result<D, FileRefusal>,
+    out: &mut W,
+    errors: &mut E,
+) -> u8
+    ensures unusable { IsErr opened → result ≡ 3 }
+    ensures range { result ≤ 3 }
+    ensures no_usage { result ≢ 2 }
+{
+    let written = match remove_object(rt, arguments, opened) {
+        Ok(()) => writeln!(out, "removed {}", arguments.object).map_err(|_| Failure::Unwritten),
+        Err(failure) => Err(failure),
+    };
+    match written {
+        Ok(()) => 0,
+        Err(failure) => report_failure(failure, arguments.file, verbosity, errors),
+    }
+}
+
+fn remove_object<R: Wait + AllocGlobal, D: SectorDevice + NotesRefusals + Drop>(
+    rt: &R,
+    arguments: RemoveArguments<'_>,
+    opened: Result<D, FileRefusal>,
+) -> Result<(), Failure>
+    ensures { IfErr opened (λ cause. result ≡ Err (Failure.Unusable cause)) }
+{
+    let device = match opened {
+        Ok(device) => device,
+        Err(cause) => return Err(Failure::Unusable(cause)),
+    };
+    let alloc = rt.alloc();
+    let pool = match Pool::open(alloc, device, DEFAULT_DIRTY_MAX, arguments.moment) {
+        Ok(pool) => pool,
+        Err((refusal, device)) => return Err(Failure::of_pool(refusal, &device)),
+    };
+    match remove_and_sync(rt, alloc, &pool, ObjectId(arguments.object)) {
+        Ok(()) => Ok(()),
+        Err(refusal) => Err(Failure::of_running(refusal, pool)),
+    }
+}
+
+fn remove_and_sync<R: Wait, D: SectorDevice>(
+    rt: &R,
+    alloc: Global,
+    pool: &Pool<D>,
+    object: ObjectId,
+) -> Result<(), PoolError> {
+    let mut handle = pool.handle();
+    let ops = Ops::new(vec![in alloc; Op::Remove(object)]?);
+    handle.transact(rt, OWNER, ops)?;
+    handle.sync_pool(rt)?;
+    Ok(())
+}

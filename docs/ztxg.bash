@@ -1,0 +1,28 @@
+# Completion of ztxg in bash: source this file.
+_ztxg() {
+    local word=${COMP_WORDS[COMP_CWORD]} command= index
+    for ((index = 1; index < COMP_CWORD; index++)); do
+        case ${COMP_WORDS[index]} in
+            create|put|get|ls|rm|show|check|labels|load|script) command=${COMP_WORDS[index]}; break ;;
+        esac
+    done
+    if [[ -z $command ]]; then
+        COMPREPLY=($(compgen -W "create put get ls rm show check labels load script help --verbose --wait --help --version" -- "$word"))
+        return
+    fi
+    local options="--verbose --wait --help"
+    case $command in
+        create) options+=" --new --moment" ;;
+        put) options+=" --offset --moment" ;;
+        get) options+=" --offset --length" ;;
+        rm) options+=" --moment" ;;
+        load) options+=" --workers --ops --seed --dirty --cache --moment" ;;
+        script) options+=" --file --moment --stop --sync" ;;
+    esac
+    if [[ $word == -* ]]; then
+        COMPREPLY=($(compgen -W "$options" -- "$word"))
+    else
+        COMPREPLY=($(compgen -f -- "$word"))
+    fi
+}
+complete -o filenames -F _ztxg ztxg
