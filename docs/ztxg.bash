@@ -3,11 +3,11 @@ _ztxg() {
     local word=${COMP_WORDS[COMP_CWORD]} command= index
     for ((index = 1; index < COMP_CWORD; index++)); do
         case ${COMP_WORDS[index]} in
-            create|put|get|ls|rm|show|check|labels|load|script) command=${COMP_WORDS[index]}; break ;;
+            create|put|get|ls|rm|show|check|labels|load|serve|script) command=${COMP_WORDS[index]}; break ;;
         esac
     done
     if [[ -z $command ]]; then
-        COMPREPLY=($(compgen -W "create put get ls rm show check labels load script help --verbose --wait --help --version" -- "$word"))
+        COMPREPLY=($(compgen -W "create put get ls rm show check labels load serve script help --verbose --wait --help --version" -- "$word"))
         return
     fi
     local options="--verbose --wait --help"
@@ -17,6 +17,7 @@ _ztxg() {
         get) options+=" --offset --length" ;;
         rm) options+=" --moment" ;;
         load) options+=" --workers --ops --seed --dirty --cache --moment" ;;
+        serve) options+=" --dirty --cache --moment" ;;
         script) options+=" --file --moment --stop --sync" ;;
     esac
     if [[ $word == -* ]]; then

@@ -35,6 +35,8 @@ pub enum Arguments<'a> {
     Put(PutArguments<'a>),
     /// `ztxg rm`.
     Remove(RemoveArguments<'a>),
+    /// `ztxg serve`.
+    Serve(ServeArguments<'a>),
 }
 
 /// The device that a script works on.
@@ -127,5 +129,18 @@ pub struct RemoveArguments<'a> {
     /// The object's number.
     pub object: u32,
     /// The moment, in seconds, of each uberblock that the run writes.
+    pub moment: u64,
+}
+
+/// The arguments of `ztxg serve`.
+#[derive(Clone, Copy, Debug, PartialEq, Eq)]
+pub struct ServeArguments<'a> {
+    /// The path of the pool's file.
+    pub file: &'a str,
+    /// The most bytes that unsynced transactions may be charged.
+    pub dirty_max: u64,
+    /// The most tree blocks that stay in memory once they were read.
+    pub cache_blocks: u64,
+    /// The moment, in seconds, of each uberblock that it writes.
     pub moment: u64,
 }

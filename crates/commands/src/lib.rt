@@ -1,5 +1,5 @@
-//! The commands of the program `ztxg`: a script on a pool, and a pool in a file, which is made, shown, checked or
-//! loaded, and whose objects are listed, read, written and removed.
+//! The commands of the program `ztxg`: a script on a pool, and a pool in a file, which is made, shown, checked, loaded
+//! or served, and whose objects are listed, read, written and removed.
 //!
 //! The crate knows no command line: `ztxg` reads its words into `Arguments`, and `run` does the command.
 #![tactic(auto)]
@@ -15,11 +15,12 @@ mod noted_session;
 mod pool_files;
 mod program;
 mod reads;
+mod serving;
 mod waiting;
 
 pub use arguments::{
     Arguments, CreateArguments, GetArguments, LoadArguments, Options, PutArguments,
-    RemoveArguments, ScriptArguments, ScriptDevice,
+    RemoveArguments, ScriptArguments, ScriptDevice, ServeArguments,
 };
 pub use changes::{read_input, run_put, run_remove};
 pub use checks::{Finding, check_pool, run_check};
@@ -30,3 +31,4 @@ pub use loads::{MAX_WORKERS, MAX_WRITES, Order};
 pub use pool_files::{run_create, run_list, run_show};
 pub use program::{run, run_opened};
 pub use reads::run_get;
+pub use serving::run_serve;

@@ -12,6 +12,7 @@ use crate::load::run_load;
 use crate::noted_session::NotedSession;
 use crate::pool_files::{run_create, run_list, run_show};
 use crate::reads::run_get;
+use crate::serving::run_serve;
 use crate::waiting::open_within;
 use device_model::{Access, FileDevice, FileRefusal, HeldFile, SectorFile};
 use scripts::{AfterRefusal, FileSession, SharedSession, run_script_with};
@@ -102,6 +103,15 @@ where
             arguments,
             verbosity,
             open_within(rt, arguments.file, Access::Write, wait),
+            &mut io::writer(rt),
+            errors,
+        ),
+        Arguments::Serve(arguments) => run_serve(
+            rt,
+            arguments,
+            verbosity,
+            open_within(rt, arguments.file, Access::Write, wait),
+            &mut rt.reader(),
             &mut io::writer(rt),
             errors,
         ),

@@ -4,7 +4,7 @@ use crate::help;
 use clap::{Arg, ArgAction, ArgMatches, Command, Error, value_parser};
 use commands::{
     Arguments, CreateArguments, GetArguments, LoadArguments, MAX_WORKERS, MAX_WRITES, Options,
-    Order, PutArguments, RemoveArguments, ScriptArguments, ScriptDevice, Verbosity,
+    Order, PutArguments, RemoveArguments, ScriptArguments, ScriptDevice, ServeArguments, Verbosity,
 };
 use std::alloc::{AllocError, Global};
 
@@ -121,6 +121,30 @@ fn show_command<'a>(alloc: Global) -> Result<Command<'a>, AllocError> {
         .arg(read_file(alloc))
 }
 
+fn dirty_limit<'a>(alloc: Global, default: &'a str) -> Arg<'a> {
+    option(alloc, "dirty", "D")
+        .help("The most bytes that unsynced transactions may be charged: 4096 to 2^40")
+        .value_parser(value_parser!(u64))
+        .default_value(default)
+}
+
+fn cache_blocks<'a>(alloc: Global) -> Arg<'a> {
+    option(alloc, "cache", "C")
+        .help("The most tree blocks of 4096 bytes that stay in memory: 1 to 4096")
+        .value_parser(value_parser!(u64))
+        .default_value("256")
+}
+
+fn serve_command<'a>(alloc: Global) -> Result<Command<'a>, AllocError> {
+    Command::new(alloc, "serve")
+        .about("Answers frames of requests to the pool in a file, for programs in other languages")
+        .after_help(help::SERVE)
+        .arg(written_file(alloc))?
+        .arg(dirty_limit(alloc, "4194304"))?
+        .arg(cache_blocks(alloc))?
+        .arg(moment(alloc))
+}
+
 fn load_command<'a>(alloc: Global) -> Result<Command<'a>, AllocError> {
     let workers = option(alloc, "workers", "W")
         .required(true)
@@ -134,14 +158,6 @@ fn load_command<'a>(alloc: Global) -> Result<Command<'a>, AllocError> {
         .required(true)
         .help("The number from which the writes are drawn: below 2^64")
         .value_parser(value_parser!(u64));
-    let dirty = option(alloc, "dirty", "D")
-        .help("The most bytes that unsynced transactions may be charged: 4096 to 2^40")
-        .value_parser(value_parser!(u64))
-        .default_value("1048576");
-    let cache = option(alloc, "cache", "C")
-        .help("The most tree blocks of 4096 bytes that stay in memory: 1 to 4096")
-        .value_parser(value_parser!(u64))
-        .default_value("256");
     Command::new(alloc, "load")
         .about("Makes many small writes on the pool in a file, syncs it, and prints its digest")
         .after_help(help::LOAD)
@@ -149,8 +165,8 @@ fn load_command<'a>(alloc: Global) -> Result<Command<'a>, AllocError> {
         .arg(workers)?
         .arg(ops)?
         .arg(seed)?
-        .arg(dirty)?
-        .arg(cache)?
+        .arg(dirty_limit(alloc, "1048576"))?
+        .arg(cache_blocks(alloc))?
         .arg(moment(alloc))
 }
 
@@ -249,6 +265,7 @@ fn command<'a>(alloc: Global) -> Result<Command<'a>, AllocError> {
         .subcommand(remove_command(alloc)?)?
         .subcommand(labels_command(alloc)?)?
         .subcommand(load_command(alloc)?)?
+        .subcommand(serve_command(alloc)?)?
         .subcommand(script_command(alloc)?)
 }
 
@@ -274,6 +291,7 @@ pub fn read_arguments<'a>(matches: &ArgMatches<'a>) -> Option<Arguments<'a>> {
         "put" => Some(Arguments::Put(read_put(given)?)),
         "rm" => Some(Arguments::Remove(read_remove(given)?)),
         "load" => Some(Arguments::Load(read_load(given)?)),
+        "serve" => Some(Arguments::Serve(read_serve(given)?)),
         _ => None,
     }
 }
@@ -355,6 +373,15 @@ fn read_remove<'a>(given: &ArgMatches<'a>) -> Option<RemoveArguments<'a>> {
     Some(RemoveArguments {
         file: given.get_str("FILE")?,
         object: given.get_one::<u32>("OBJECT")?,
+        moment: given.get_one::<u64>("moment")?,
+    })
+}
+
+fn read_serve<'a>(given: &ArgMatches<'a>) -> Option<ServeArguments<'a>> {
+    Some(ServeArguments {
+        file: given.get_str("FILE")?,
+        dirty_max: given.get_one::<u64>("dirty")?,
+        cache_blocks: given.get_one::<u64>("cache")?,
         moment: given.get_one::<u64>("moment")?,
     })
 }

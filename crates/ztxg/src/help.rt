@@ -167,6 +167,29 @@ Refusals, with status 1, and then nothing is printed on standard output:
   17 Throttled             D is below the charge of one transaction
   22 TooMany               a group or an import is at its last number, 2^60";
 
+/// What stands after the help of `serve`.
+pub const SERVE: &str = "\
+Example: ztxg serve tank.pool < requests > answers
+
+Reads frames of requests from standard input until it ends, answers each by a
+frame on standard output, and syncs the pool at the end. docs/FORMATS.md,
+\"Frames\", has their bytes. A frame that is none is answered by its refusal, and
+changes nothing. A commit that is answered as durable is not lost, whatever
+happens to the process or the power. Two threads beside it sync the pool.
+
+Status 3 if the input ends within a frame, or the output can't be written.
+
+Refusals, with status 1:
+   1 NoMemory              there is no memory, or no threads can be made
+   2 Read                  the device refused a read
+   3 Write                 the device refused a write
+   4 Flush                 the device refused a flush
+   6 NoPool                no label has a valid uberblock with a config
+   7 Damaged KIND ADDRESS  a block is not what the pool's tree or log says
+   8 BadGeometry           FILE's size is none that a pool may have
+  11 BadRange              D or C is outside its limits
+  22 TooMany               a group or an import is at its last number, 2^60";
+
 /// What stands after the help of `check`.
 pub const CHECK: &str = "\
 Example: ztxg check tank.pool
