@@ -1,4 +1,5 @@
-//! Loads by threads, the loops that run beside them, commands on a file, and scripts whose reader or writer fails.
+//! Loads by threads, the loops that run beside them, commands on a file, frames, and scripts whose reader or
+//! writer fails.
 //!
 //! The digests that are expected of loads are those of a reading of the rules in another language, as
 //! `bench/stream.h` has it.
@@ -22,3 +23,5 @@ mod refused_loads;
 mod refused_loops;
 #[cfg(test)]
 mod script_readers;
+#[cfg(test)]
+mod served_frames;
