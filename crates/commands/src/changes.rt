@@ -8,7 +8,7 @@
 //! 3. If a piece is refused, the pieces before it stay, and are synced as those of a whole put are.
 
 ghost use Rattle.std.specs.Prelude.{◌≡◌, ◌≢◌, ◌≤◌, false, Err, IfErr, IfOk, IsErr};
-ghost use Rattle.commands.specs.Puts.{is_target};
+ghost use Rattle.commands.specs.Puts.{first_byte, is_target};
 
 use crate::arguments::{PutArguments, RemoveArguments};
 use crate::failure::{Failure, NotesRefusals, Verbosity, report_failure};
@@ -171,11 +171,18 @@ fn put_bytes<R: Wait + AllocGlobal, D: SectorDevice + NotesRefusals + Drop>(
 fn is_target(object: u32, offset: Option<u64>, bytes: &[u8]) -> bool
     ensures { result ≡ is_target object offset bytes.now }
 {
-    let offset = match offset {
+    let at = first_byte(offset);
+    object < OBJECT_COUNT && at <= MAX_LENGTH && bytes.len() as u64 <= MAX_LENGTH - at
+}
+
+// The first byte that a put writes.
+fn first_byte(offset: Option<u64>) -> u64
+    ensures { result ≡ first_byte offset }
+{
+    match offset {
         Some(offset) => offset,
         None => 0,
-    };
-    object < OBJECT_COUNT && offset <= MAX_LENGTH && bytes.len() as u64 <= MAX_LENGTH - offset
+    }
 }
 
 // Where bytes go: to a place of an object, or in place of all that it has.
@@ -242,10 +249,7 @@ fn put_pieces<R: Wait, D: SectorDevice>(
     bytes: &[u8],
     put: &mut Put,
 ) -> Result<(), PoolError> {
-    let offset = match target.offset {
-        Some(offset) => offset,
-        None => 0,
-    };
+    let offset = first_byte(target.offset);
     if bytes.is_empty() && !matches!(start, Start::Keeps) {
         commit(rt, alloc, handle, start, target.object, offset, bytes)?;
         put.add(0);

@@ -32,29 +32,38 @@ impl<S: CommandRunner> NotedSession<S> {
     /// The first refusal of a step. It is `NotReady` if a transaction is open.
     pub fn sync(&mut self) -> Result<(), PoolError> {
         // What these are refused, the last one is refused too.
-        for command in [
-            PoolCommand::Finish,
-            PoolCommand::Step(Step::MarkQuiesced),
-            PoolCommand::Start,
-            PoolCommand::Finish,
-        ] {
-            match self.ask(command) {
-                None => return Ok(()),
-                Some(Reply::Refused(PoolError::NotReady)) => {}
-                Some(Reply::Refused(refusal)) => return Err(refusal),
-                Some(_) => {}
-            }
-        }
-        match self.ask(PoolCommand::Sync) {
-            Some(Reply::Refused(refusal)) => Err(refusal),
-            _ => Ok(()),
-        }
+        self.make_if_ready(PoolCommand::Finish)?;
+        self.make_if_ready(PoolCommand::Step(Step::MarkQuiesced))?;
+        self.make_if_ready(PoolCommand::Start)?;
+        self.make_if_ready(PoolCommand::Finish)?;
+        self.make(PoolCommand::Sync)
+    }
+
+    /// The session.
+    pub fn into_session(self) -> S {
+        self.session
     }
 
     /// How many of its commits aren't durable.
     pub fn count_lost(&mut self) -> u64 {
         self.forget_receipts();
         self.lost
+    }
+
+    // Does what a command asks for, unless the pool isn't ready for it.
+    fn make_if_ready(&mut self, command: PoolCommand) -> Result<(), PoolError> {
+        match self.make(command) {
+            Err(PoolError::NotReady) => Ok(()),
+            made => made,
+        }
+    }
+
+    // Does what a command asks for, if there is a pool.
+    fn make(&mut self, command: PoolCommand) -> Result<(), PoolError> {
+        match self.ask(command) {
+            Some(Reply::Refused(refusal)) => Err(refusal),
+            _ => Ok(()),
+        }
     }
 
     // What the pool replies, if there is one.

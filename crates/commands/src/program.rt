@@ -14,6 +14,7 @@ use crate::pool_files::{run_create, run_list, run_show};
 use crate::reads::run_get;
 use crate::serving::run_serve;
 use crate::waiting::open_within;
+use base::PoolError;
 use device_model::{Access, FileDevice, FileRefusal, HeldFile, SectorFile};
 use scripts::{AfterRefusal, FileSession, SharedSession, run_script_with};
 use std::alloc::Global;
@@ -176,14 +177,26 @@ where
             )
         }
         ScriptDevice::File(path) => match open_within(rt, path, Access::Write, options.wait) {
-            Ok(device) => run_on_file(rt.alloc(), device, arguments, script, out, errors),
+            Ok(device) => {
+                run_on_file(
+                    rt.alloc(),
+                    device,
+                    arguments,
+                    verbosity,
+                    script,
+                    out,
+                    errors,
+                )
+            }
             Err(cause) => report_failure(Failure::Unusable(cause), path, verbosity, errors),
         },
     }
 }
 
 impl ScriptArguments<'_> {
-    fn after_refusal(&self) -> AfterRefusal {
+    fn after_refusal(&self) -> AfterRefusal
+        ensures { IsTrue self.now.stops ⊎ (result ≡ AfterRefusal.GoOn) }
+    {
         if self.stops {
             AfterRefusal::Stop
         } else {
@@ -197,11 +210,14 @@ fn run_on_file<F: SectorFile + Drop, R: Read + Drop, W: Write + Drop, E: Write>(
     alloc: Global,
     device: FileDevice<F>,
     arguments: ScriptArguments<'_>,
+    verbosity: Verbosity,
     script: R,
     out: W,
     errors: &mut E,
 ) -> u8
     ensures range { result ≤ 3 }
+    ensures no_refusal { IsTrue arguments.entry.stops ⊎ IsTrue arguments.entry.syncs
+        ⊎ (result ≢ 1) }
 {
     let session: FileSession<'_, F> = FileSession::new(&(), alloc, device, arguments.moment);
     let mut session = NotedSession::new(alloc, session);
@@ -216,15 +232,25 @@ fn run_on_file<F: SectorFile + Drop, R: Read + Drop, W: Write + Drop, E: Write>(
     if lost != 0 {
         let _ = writeln!(errors, "ztxg: {lost} commits are not durable");
     }
-    match synced {
-        Err(refusal) if status == 0 => {
-            report_failure(
-                Failure::Refused(refusal),
-                arguments.script,
-                Verbosity::Brief,
-                errors,
-            )
-        }
-        _ => status,
-    }
+    let Err(refusal) = synced else {
+        return status;
+    };
+    let refused = report_refusal(refusal, session.into_session(), verbosity, errors);
+    if status == 0 { refused } else { status }
+}
+
+// Reports that the sync at a script's end was refused, with the call that its device refused, if it was for that.
+fn report_refusal<F: SectorFile + Drop, E: Write>(
+    refusal: PoolError,
+    session: FileSession<'_, F>,
+    verbosity: Verbosity,
+    errors: &mut E,
+) -> u8
+    ensures { result ≤ 3 }
+{
+    let failure = match session.into_device() {
+        Some(device) => Failure::of_pool(refusal, &device),
+        None => Failure::Refused(refusal),
+    };
+    report_failure(failure, "", verbosity, errors)
 }

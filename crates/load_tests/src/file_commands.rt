@@ -1,13 +1,15 @@
 //! What is printed where a script can't be opened, and the commands on a pool in a file, on a file of their own.
 
+use crate::load_fixture::new_device;
+use base::PoolError;
 use commands::{
     CreateArguments, GetArguments, LoadArguments, Options, Order, PutArguments, RemoveArguments,
     ScriptArguments, ScriptDevice, Verbosity, read_input, run_check, run_create, run_get,
     run_labels, run_list, run_load, run_opened, run_put, run_remove, run_show,
 };
-use device_model::{FileDevice, FileRefusal, HeldFile};
+use device_model::{Fault, FileDevice, FileRefusal, HeldFile};
 use std::fs::{self, File, OpenFile};
-use std::io::{self, Eprint, ErrorKind};
+use std::io::{self, Eprint, ErrorKind, Write};
 use std::os::unix::fs::FileExt;
 use std::rt::Files;
 use std::sync::Wait;
@@ -45,6 +47,8 @@ enum Row<'a> {
     Prints(Command<'a>, Outcome<'a>),
     // the same, with the cause of a file that can't be used
     Explains(Command<'a>, Outcome<'a>),
+    // the output takes no byte: the status is 3, and no error is printed
+    Unwritten(Command<'a>),
     // the same on a file that a device may have: it is left as it was
     Leaves(&'a str, Holder, Command<'a>, Outcome<'a>),
     // a new file of so many zeros
@@ -57,11 +61,11 @@ enum Row<'a> {
 }
 
 // Does a command, and returns its status.
-fn run<R: Files + Wait + AllocGlobal>(
+fn run<R: Files + Wait + AllocGlobal, W: Write>(
     rt: &R,
     command: Command<'_>,
     verbosity: Verbosity,
-    out: &mut Vec<u8>,
+    out: &mut W,
     errors: &mut Vec<u8>,
 ) -> u8
 where
@@ -132,6 +136,18 @@ where
     R::File: FileExt + HeldFile,
 {
     tells(rt, command, Verbosity::Brief, outcome)
+}
+
+// Whether a command has status 3 and prints no error, if its output takes no byte.
+fn ends_unwritten<R: Files + Wait + AllocGlobal>(rt: &R, command: Command<'_>) -> bool
+where
+    R::File: FileExt + HeldFile,
+{
+    let mut none = [0; 0];
+    let mut out = &mut none[..];
+    let mut errors = Vec::new(rt.alloc());
+    let status = run(rt, command, Verbosity::Verbose, &mut out, &mut errors);
+    status == 3 && errors.is_empty()
 }
 
 // Whether it has, while a device has its file.
@@ -215,6 +231,7 @@ where
     match row {
         Row::Prints(command, outcome) => prints(rt, command, outcome),
         Row::Explains(command, outcome) => tells(rt, command, Verbosity::Verbose, outcome),
+        Row::Unwritten(command) => ends_unwritten(rt, command),
         Row::Leaves(file, holder, command, outcome) => {
             matches!(leaves(rt, file, holder, command, outcome), Ok(true))
         }
@@ -659,6 +676,9 @@ fn objects_of_a_file_that_cannot_be_used_are_left(rt: HostRuntime) {
     let rows = [
         Row::Prints(Command::Get(get(file, 0, None)), unusable),
         Row::Prints(Command::Put(put(file, None), "a"), unusable),
+        Row::Prints(Command::Remove(remove(file)), unusable),
+        Row::Prints(Command::List(file), unusable),
+        Row::Prints(Command::Labels(file), unusable),
         makes(file),
         Row::Leaves(
             file,
@@ -678,12 +698,31 @@ fn objects_of_a_file_that_cannot_be_used_are_left(rt: HostRuntime) {
             Command::Get(get(file, 0, None)),
             unusable,
         ),
+        Row::Leaves(file, Holder::Writer, Command::List(file), unusable),
+        Row::Leaves(file, Holder::Writer, Command::Labels(file), unusable),
         Row::Leaves(
             file,
             Holder::Nobody,
             outside,
             (1, "", "ztxg: refused 11 BadRange\n"),
         ),
+        Row::Remove(file),
+    ];
+    assert_eq!(rt; count_held(&rt, &rows), 13);
+}
+
+#[test]
+fn an_output_that_takes_no_byte_has_status_3(rt: HostRuntime) {
+    let file = "closed.pool";
+    let all = Command::Get(get(file, 0, None));
+    let rows = [
+        makes(file),
+        Row::Unwritten(Command::Put(put(file, None), "hello")),
+        Row::Prints(all, (0, "hello", "")),
+        Row::Unwritten(all),
+        Row::Unwritten(Command::List(file)),
+        Row::Unwritten(Command::Remove(remove(file))),
+        Row::Prints(all, (1, "", "ztxg: refused 9 NoObject\n")),
         Row::Remove(file),
     ];
     assert_eq!(rt; count_held(&rt, &rows), 8);
@@ -739,6 +778,42 @@ fn explains_which_call_was_refused(rt: HostRuntime) {
     let is_made = holds(&rt, makes(file));
     let is_told = removes_unwritten(&rt, file, text);
     assert_eq!(rt; (is_made, is_told, count_held(&rt, &rows)), (true, true, 2));
+}
+
+// What a put of 100,000 bytes reports on a pool in memory, if this flush of its device is refused.
+fn puts_until_flush<R: Wait + AllocGlobal>(
+    rt: &R,
+    flush: u64,
+    outcome: Outcome<'_>,
+) -> Result<bool, PoolError> {
+    let mut device = new_device(rt.alloc())?;
+    device.fail(Fault::Flush, flush);
+    let input = vec![in rt.alloc(); b'a'; 100_000]?;
+    let mut out = Vec::new(rt.alloc());
+    let mut errors = Vec::new(rt.alloc());
+    let given = put("tank.pool", None);
+    let brief = Verbosity::Brief;
+    let status = run_put(
+        rt,
+        given,
+        brief,
+        Ok(input),
+        Ok(device),
+        &mut out,
+        &mut errors,
+    );
+    Ok(is_outcome(status, &out, &errors, outcome))
+}
+
+#[test]
+fn a_put_tells_what_it_has_committed(rt: HostRuntime) {
+    let none = (1, "", "ztxg: refused 4 Flush\n");
+    let lost = "ztxg: refused 4 Flush\n\
+        ztxg: committed 100000 bytes in 2 transactions, not durable\n";
+    let done = (0, "put 100000 bytes in 2 transactions\n", "");
+    let rows = [(1, none), (6, (1, "", lost)), (40, done)];
+    let found = rows.map(|(flush, outcome)| puts_until_flush(&rt, flush, outcome));
+    assert_eq!(rt; found, [Ok(true), Ok(true), Ok(true)]);
 }
 
 // A script on a new pool in a file, which ends in a refusal.

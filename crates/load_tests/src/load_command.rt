@@ -5,7 +5,7 @@ use crate::load_fixture::{new_device, order};
 use base::PoolError;
 use commands::{
     CreateArguments, LoadArguments, Options, Order, Verbosity, run_check, run_create, run_labels,
-    run_list, run_load, run_show,
+    run_load, run_show,
 };
 use device_model::{FileDevice, HeldFile};
 use std::fs;
@@ -112,10 +112,10 @@ fn a_load_that_cannot_be_printed_has_status_3(rt: HostRuntime) {
     assert_eq!(rt; load_unprinted(&rt), Ok((3, false)));
 }
 
-// The statuses of a check, a show, a list, labels and a create that can't be printed, and whether they report an error.
+// The statuses of a check, a show, labels and a create that can't be printed, and whether they report an error.
 fn others_unprinted<R: Files + Threads + Wait + Sync + Eprint + AllocGlobal>(
     rt: &R,
-) -> Result<([u8; 5], bool), PoolError>
+) -> Result<([u8; 4], bool), PoolError>
 where
     R::File: FileExt + HeldFile + Send,
 {
@@ -137,14 +137,6 @@ where
         &mut Full,
         &mut errors,
     );
-    let listed = run_list(
-        rt.alloc(),
-        "tank.pool",
-        BRIEF,
-        &mut device,
-        &mut Full,
-        &mut errors,
-    );
     let labelled = run_labels(
         rt.alloc(),
         "tank.pool",
@@ -154,15 +146,12 @@ where
         &mut errors,
     );
     let created = run_create(rt, tank("full.pool"), OPTIONS, &mut Full, &mut errors);
-    Ok((
-        [checked, shown, listed, labelled, created],
-        !errors.is_empty(),
-    ))
+    Ok(([checked, shown, labelled, created], !errors.is_empty()))
 }
 
 #[test]
 fn other_commands_that_cannot_print_have_status_3(rt: HostRuntime) -> Result<(), Fail> {
-    assert_eq!(rt; others_unprinted(&rt), Ok(([3; 5], false)));
+    assert_eq!(rt; others_unprinted(&rt), Ok(([3; 4], false)));
     fs::remove_file(&rt, "full.pool")?;
     Ok(())
 }

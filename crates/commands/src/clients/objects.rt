@@ -1,0 +1,171 @@
+//! What callers rely on of the commands on objects, on labels, and of scripts.
+
+ghost use Rattle.std.specs.Prelude.{◌≡◌, ◌≢◌, [], ◌∷◌, IfOk, IsOk, IsTrue, Some};
+ghost use Rattle.std.specs.FinMap as finite;
+ghost use Rattle.base.specs.crash.Mount.{MountsTo};
+ghost use Rattle.base.specs.disk.Disk.{bytes_of};
+ghost use Rattle.base.specs.history.Contents.{Contents};
+
+use super::{BRIEF, OPTIONS};
+use crate::arguments::{
+    GetArguments, PutArguments, RemoveArguments, ScriptArguments, ScriptDevice,
+};
+use crate::changes::{run_put, run_remove};
+use crate::failure::NotesRefusals;
+use crate::label_lines::run_labels;
+use crate::pool_files::run_list;
+use crate::program::run_opened;
+use crate::reads::run_get;
+use device_model::{FileRefusal, HeldFile, SectorDevice};
+use std::alloc::Global;
+use std::io::{self, ErrorKind, Read, Write};
+use std::os::unix::fs::FileExt;
+use std::rt::Files;
+use std::sync::Wait;
+
+// Two bytes of object 7, from byte 1 on.
+const TWO_BYTES: GetArguments<'static> = GetArguments {
+    file: "tank.pool",
+    object: 7,
+    offset: 1,
+    length: Some(2),
+};
+
+// The output had no bytes before.
+fn a_get_writes_the_bytes_that_the_image_mounts<
+    D: SectorDevice + NotesRefusals + Drop,
+    W: Write,
+    E: Write,
+>(alloc: Global, device: D, out: &mut W, errors: &mut E) -> u8
+    ensures { result ≡ 0 → IsTrue D.keeps_model → (contents : Contents)
+        → MountsTo (bytes_of (D.disk device).now) contents
+        → finite.get contents.objects 7 ≡ Some (10 ∷ 11 ∷ 12 ∷ 13 ∷ [])
+        → W.contents out.old ≡ Some [] → W.contents out.new ≡ Some (11 ∷ 12 ∷ []) }
+{
+    let (status, _) = run_get(alloc, TWO_BYTES, BRIEF, Ok(device), out, errors);
+    status
+}
+
+// Whatever a get finds, it leaves the disk as it was, and the device refused no write and no flush.
+fn a_get_writes_nothing_to_the_device<D: SectorDevice + NotesRefusals, W: Write, E: Write>(
+    alloc: Global,
+    device: D,
+    out: &mut W,
+    errors: &mut E,
+) -> Result<D, FileRefusal>
+    ensures there { IsOk result }
+    ensures disk { IsTrue D.keeps_model → IfOk result (λ after. D.disk after ≡ D.disk device) }
+    ensures writes { IfOk result (λ after. (D.refused after).writes ≡ (D.refused device).writes) }
+    ensures flushes { IfOk result
+        (λ after. (D.refused after).flushes ≡ (D.refused device).flushes) }
+{
+    let (_, opened) = run_get(alloc, TWO_BYTES, BRIEF, Ok(device), out, errors);
+    opened
+}
+
+fn a_list_writes_nothing_to_the_device<D: SectorDevice + NotesRefusals, W: Write, E: Write>(
+    alloc: Global,
+    device: D,
+    out: &mut W,
+    errors: &mut E,
+) -> Result<D, FileRefusal>
+    ensures there { IsOk result }
+    ensures disk { IsTrue D.keeps_model → IfOk result (λ after. D.disk after ≡ D.disk device) }
+    ensures writes { IfOk result (λ after. (D.refused after).writes ≡ (D.refused device).writes) }
+    ensures flushes { IfOk result
+        (λ after. (D.refused after).flushes ≡ (D.refused device).flushes) }
+{
+    let mut opened = Ok(device);
+    run_list(alloc, "tank.pool", BRIEF, &mut opened, out, errors);
+    opened
+}
+
+fn a_look_at_the_labels_writes_nothing_to_the_device<
+    D: SectorDevice + NotesRefusals,
+    W: Write,
+    E: Write,
+>(alloc: Global, device: D, out: &mut W, errors: &mut E) -> Result<D, FileRefusal>
+    ensures there { IsOk result }
+    ensures disk { IsTrue D.keeps_model → IfOk result (λ after. D.disk after ≡ D.disk device) }
+    ensures writes { IfOk result (λ after. (D.refused after).writes ≡ (D.refused device).writes) }
+    ensures flushes { IfOk result
+        (λ after. (D.refused after).flushes ≡ (D.refused device).flushes) }
+{
+    let mut opened = Ok(device);
+    run_labels(alloc, "tank.pool", BRIEF, &mut opened, out, errors);
+    opened
+}
+
+// There is no object 5,292.
+fn no_bytes_are_put_into_the_object_after_the_last<
+    R: Wait + AllocGlobal,
+    D: SectorDevice + NotesRefusals + Drop,
+    W: Write,
+    E: Write,
+>(rt: &R, input: Vec<u8>, device: D, out: &mut W, errors: &mut E) -> u8
+    ensures { result ≡ 1 }
+{
+    let arguments = PutArguments {
+        file: "tank.pool",
+        object: 5_292,
+        offset: None,
+        moment: 0,
+    };
+    run_put(rt, arguments, BRIEF, Ok(input), Ok(device), out, errors)
+}
+
+fn an_input_that_is_not_read_is_put_with_status_3<
+    R: Wait + AllocGlobal,
+    D: SectorDevice + NotesRefusals + Drop,
+    W: Write,
+    E: Write,
+>(rt: &R, opened: Result<D, FileRefusal>, out: &mut W, errors: &mut E) -> u8
+    ensures { result ≡ 3 }
+{
+    let arguments = PutArguments {
+        file: "tank.pool",
+        object: 7,
+        offset: None,
+        moment: 0,
+    };
+    let input = Err(io::Error::from(ErrorKind::NotFound));
+    run_put(rt, arguments, BRIEF, input, opened, out, errors)
+}
+
+fn an_object_of_a_pool_that_is_not_opened_is_removed_with_status_3<
+    R: Wait + AllocGlobal,
+    D: SectorDevice + NotesRefusals + Drop,
+    W: Write,
+    E: Write,
+>(rt: &R, out: &mut W, errors: &mut E) -> u8
+    ensures { result ≡ 3 }
+{
+    let arguments = RemoveArguments {
+        file: "tank.pool",
+        object: 7,
+        moment: 0,
+    };
+    let opened: Result<D, FileRefusal> = Err(FileRefusal::InUse);
+    run_remove(rt, arguments, BRIEF, opened, out, errors)
+}
+
+// Its refused lines are answers.
+fn a_script_that_neither_stops_nor_syncs_has_no_status_1<
+    H: Files + Wait + AllocGlobal,
+    R: Read + Drop,
+    W: Write + Drop,
+    E: Write,
+>(rt: &H, opened: io::Result<R>, out: W, errors: &mut E) -> u8
+where
+    H::File: FileExt + HeldFile,
+    ensures { result ≢ 1 }
+{
+    let arguments = ScriptArguments {
+        device: ScriptDevice::File("tank.pool"),
+        script: "script",
+        moment: 0,
+        stops: false,
+        syncs: false,
+    };
+    run_opened(rt, arguments, OPTIONS, opened, out, errors)
+}
