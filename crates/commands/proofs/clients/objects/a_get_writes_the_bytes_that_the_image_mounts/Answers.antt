@@ -3,4 +3,4 @@ use Rattle.commands.proofs.clients.objects.a_get_writes_the_bytes_that_the_image
 
 pub returns : goal.returns
 returns g c = λ zero keeps contents mounts there empty.
-    two_bytes_written _ _ _ contents mounts there empty (c.run_get.ensures.written zero keeps)
+    two_bytes_written _ _ _ contents mounts there empty (c.run_get-status.ensures.written zero keeps)
