@@ -36,6 +36,31 @@ static void *commit_many(void *of) {
     return NULL;
 }
 
+/* More than go in one frame, the second of them refused. */
+static void commit_many_at_once(void) {
+    enum { MANY = 100, ROOM = 64 };
+    static uint8_t rooms[MANY][ROOM];
+    topzerad_tx txs[MANY];
+    topzerad_outcome outcomes[MANY];
+    size_t count;
+    for (uint32_t i = 0; i < MANY; i++) {
+        topzerad_tx_start(&txs[i], rooms[i], ROOM);
+        if (i < 2) WANT(topzerad_tx_create(&txs[i], 50) == 0);
+        WANT(topzerad_tx_write(&txs[i], 50, 4 * i, &i, 4) == 0);
+    }
+    WANT(topzerad_transact_many(&pool, txs, MANY, 1, outcomes) == TOPZERAD_EXISTS);
+    for (size_t i = 0; i < MANY; i++) {
+        WANT(outcomes[i].refusal == (i == 1 ? TOPZERAD_EXISTS : 0) && outcomes[i].committed == (i != 1));
+        if (i > 1) WANT(outcomes[i].receipt.ordinal == outcomes[0].receipt.ordinal + i - 1);
+    }
+    WANT(topzerad_read(&pool, 50, 0, 4 * MANY, back, &count) == 0 && count == 4 * MANY);
+    for (uint32_t i = 0, number; i < MANY; i++) {
+        memcpy(&number, back + 4 * i, 4);
+        WANT(number == (i == 1 ? 0 : i));
+    }
+    WANT(topzerad_transact_many(&pool, txs, 0, 1, outcomes) == 0);
+}
+
 static void make_each_call(void) {
     topzerad_tx tx;
     topzerad_receipt receipt;
@@ -86,6 +111,7 @@ int main(int count, char **words) {
     if (count != 3) return 2;
     WANT(topzerad_open(&pool, words[1], words[2]) == 0);
     make_each_call();
+    commit_many_at_once();
     for (size_t i = 0; i < THREADS; i++) WANT(pthread_create(&threads[i], NULL, commit_many, (void *)i) == 0);
     for (size_t i = 0; i < THREADS; i++) WANT(pthread_join(threads[i], NULL) == 0);
     WANT(topzerad_close(&pool) == 0);

@@ -4,6 +4,7 @@
 #include "topzerad.h"
 
 #include <errno.h>
+#include <signal.h>
 #include <spawn.h>
 #include <string.h>
 #include <sys/socket.h>
@@ -13,7 +14,7 @@
 extern char **environ;
 
 enum { HEAD = 12, MAX_FRAME = 4194304, VERSION = 1, REQUESTS = 1, ANSWERS = 2, REFUSED_FRAME = 3 };
-enum { LEAST_ROOM = 80, LISTED = 12, RECORD_HEAD = 22 };
+enum { LEAST_ROOM = 80, LISTED = 12, RECORD_HEAD = 22, MOST_AT_ONCE = 64 };
 enum { TRANSACT = 1, TRANSACT_DURABLY, READ, LENGTH, OBJECTS, STATUS, DURABLE, FLUSH, SYNC, NAME, NOT_DURABLE };
 
 /* A call that waits for its answer, on its caller's stack. */
@@ -295,13 +296,14 @@ static call *take_calls(topzerad *pool) {
     return first;
 }
 
-/* Queues a call, and returns its refusal once it is answered. */
-static int make(topzerad *pool, call *c) {
-    c->next = NULL;
+/* Queues calls in their order, at least one, and returns once all are answered: the last is answered last. */
+static void make_all(topzerad *pool, call *made, size_t count) {
+    call *last = &made[count - 1];
+    for (size_t i = 0; i < count; i++) made[i].next = i + 1 < count ? &made[i + 1] : NULL;
     pthread_mutex_lock(&pool->lock);
-    *pool->last = c;
-    pool->last = &c->next;
-    while (!c->done) {
+    *pool->last = made;
+    pool->last = &last->next;
+    while (!last->done) {
         if (pool->led) {
             pthread_cond_wait(&pool->turn, &pool->lock);
             continue;
@@ -322,6 +324,11 @@ static int make(topzerad *pool, call *c) {
         pthread_cond_broadcast(&pool->turn);
     }
     pthread_mutex_unlock(&pool->lock);
+}
+
+/* Makes a call, and returns its refusal. */
+static int make(topzerad *pool, call *c) {
+    make_all(pool, c, 1);
     return c->refusal;
 }
 
@@ -338,14 +345,40 @@ static call new_call(uint8_t number) {
     return c;
 }
 
-int topzerad_transact(topzerad *pool, const topzerad_tx *tx, int durable, topzerad_receipt *receipt, int *committed) {
+static call new_transact(const topzerad_tx *tx, int durable) {
     call c = new_call(durable ? TRANSACT_DURABLY : TRANSACT);
     c.content = tx->bytes;
     c.content_count = tx->length;
+    return c;
+}
+
+static topzerad_receipt receipt_of(const call *c) { return (topzerad_receipt){c->values[0], c->values[1]}; }
+
+int topzerad_transact(topzerad *pool, const topzerad_tx *tx, int durable, topzerad_receipt *receipt, int *committed) {
+    call c = new_transact(tx, durable);
     int refusal = make(pool, &c);
-    if (receipt) *receipt = (topzerad_receipt){c.values[0], c.values[1]};
+    if (receipt) *receipt = receipt_of(&c);
     if (committed) *committed = c.committed;
     return refusal;
+}
+
+int topzerad_transact_many(topzerad *pool, const topzerad_tx *txs, size_t count, int durable,
+                           topzerad_outcome *outcomes) {
+    call calls[MOST_AT_ONCE];
+    int first = 0;
+    while (count) {
+        size_t now = count < MOST_AT_ONCE ? count : MOST_AT_ONCE;
+        for (size_t i = 0; i < now; i++) calls[i] = new_transact(&txs[i], durable);
+        make_all(pool, calls, now);
+        for (size_t i = 0; i < now; i++) {
+            outcomes[i] = (topzerad_outcome){calls[i].refusal, calls[i].committed, receipt_of(&calls[i])};
+            if (!first) first = calls[i].refusal;
+        }
+        txs += now;
+        outcomes += now;
+        count -= now;
+    }
+    return first;
 }
 
 int topzerad_read(topzerad *pool, uint32_t object, uint64_t low, uint64_t high, void *into, size_t *count) {
@@ -423,18 +456,33 @@ int topzerad_name(topzerad *pool, char name[TOPZERAD_MAX_NAME + 1]) {
 
 /* The process. */
 
-int topzerad_open(topzerad *pool, const char *program, const char *path) {
-    int ends[2];
-    char *words[] = {(char *)program, "serve", (char *)path, NULL};
+/* Starts the process with `end` as its input and its output. It has a process group of its own, and blocks no signal.
+ * Returns 0 or an error number. */
+static int start_process(pid_t *process, const char *const words[], int end) {
     posix_spawn_file_actions_t actions;
-    if (socketpair(AF_UNIX, SOCK_STREAM | SOCK_CLOEXEC, 0, ends)) return TOPZERAD_SYSTEM;
+    posix_spawnattr_t attributes;
+    sigset_t none;
+    sigemptyset(&none);
     int failed = posix_spawn_file_actions_init(&actions);
+    if (failed) return failed;
+    failed = posix_spawnattr_init(&attributes);
     if (!failed) {
-        failed = posix_spawn_file_actions_adddup2(&actions, ends[1], 0);
-        if (!failed) failed = posix_spawn_file_actions_adddup2(&actions, ends[1], 1);
-        if (!failed) failed = posix_spawnp(&pool->process, program, &actions, NULL, words, environ);
-        posix_spawn_file_actions_destroy(&actions);
+        failed = posix_spawn_file_actions_adddup2(&actions, end, 0);
+        if (!failed) failed = posix_spawn_file_actions_adddup2(&actions, end, 1);
+        if (!failed) failed = posix_spawnattr_setflags(&attributes, POSIX_SPAWN_SETPGROUP | POSIX_SPAWN_SETSIGMASK);
+        if (!failed) failed = posix_spawnattr_setpgroup(&attributes, 0);
+        if (!failed) failed = posix_spawnattr_setsigmask(&attributes, &none);
+        if (!failed) failed = posix_spawnp(process, words[0], &actions, &attributes, (char **)words, environ);
+        posix_spawnattr_destroy(&attributes);
     }
+    posix_spawn_file_actions_destroy(&actions);
+    return failed;
+}
+
+int topzerad_open_with(topzerad *pool, const char *const words[]) {
+    int ends[2];
+    if (socketpair(AF_UNIX, SOCK_STREAM | SOCK_CLOEXEC, 0, ends)) return TOPZERAD_SYSTEM;
+    int failed = start_process(&pool->process, words, ends[1]);
     close(ends[1]);
     if (failed) {
         close(ends[0]);
@@ -451,13 +499,21 @@ int topzerad_open(topzerad *pool, const char *program, const char *path) {
     return 0;
 }
 
+int topzerad_open(topzerad *pool, const char *program, const char *path) {
+    const char *const words[] = {program, "serve", path, NULL};
+    return topzerad_open_with(pool, words);
+}
+
 int topzerad_close(topzerad *pool) {
-    int status = 0;
-    shutdown(pool->socket, SHUT_WR);
-    while (waitpid(pool->process, &status, 0) < 0 && errno == EINTR) continue;
+    int status;
+    pid_t waited;
+    shutdown(pool->socket, SHUT_WR); /* it fails if the process is gone, as waitpid says */
+    do waited = waitpid(pool->process, &status, 0);
+    while (waited < 0 && errno == EINTR);
     close(pool->socket);
     pthread_mutex_destroy(&pool->lock);
     pthread_cond_destroy(&pool->turn);
+    if (waited < 0) return TOPZERAD_SYSTEM;
     return WIFEXITED(status) && WEXITSTATUS(status) == 0 ? 0 : TOPZERAD_ENDED;
 }
 

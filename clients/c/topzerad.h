@@ -76,6 +76,13 @@ typedef struct {
     uint64_t ordinal, group;
 } topzerad_receipt;
 
+/* What came of a transaction. `refusal` is 0 or why it was refused. `committed` says whether it took place: after a
+ * refusal it did if it could not be made durable. */
+typedef struct {
+    int refusal, committed;
+    topzerad_receipt receipt;
+} topzerad_outcome;
+
 /* The groups, 0 for one that isn't there; bytes charged to unsynced groups; blocks. */
 typedef struct {
     uint64_t synced, syncing, middle, open, dirty, free, available;
@@ -94,7 +101,8 @@ typedef struct {
 } topzerad_tx;
 
 /* Begins a transaction without operations, in memory of at least 22 bytes. An operation takes 5 bytes more for a create
- * or a remove, 13 for a length, 17 and its bytes for a write, 5 and its bytes for a name. */
+ * or a remove, 13 for a length, 17 and its bytes for a write, 5 and its bytes for a name. The memory is the
+ * transaction's until it is committed or given up. */
 void topzerad_tx_start(topzerad_tx *tx, void *memory, size_t size);
 /* Each adds an operation. TOPZERAD_TOO_LARGE if there is no room for it, or above 65,536 bytes: nothing is added. */
 int topzerad_tx_create(topzerad_tx *tx, uint32_t object);
@@ -103,9 +111,11 @@ int topzerad_tx_write(topzerad_tx *tx, uint32_t object, uint64_t offset, const v
 int topzerad_tx_set_length(topzerad_tx *tx, uint32_t object, uint64_t length);
 int topzerad_tx_set_name(topzerad_tx *tx, const void *name, size_t count);
 
-/* Starts `program serve path`. `ztxg create` makes a pool. What keeps the process from opening it is told by the first
- * call: TOPZERAD_ENDED. */
+/* Starts `program serve path`. `ztxg create` makes a pool. If the process can't open it, the first call returns
+ * TOPZERAD_ENDED. The process has a process group of its own: a Ctrl-C that ends the caller lets it sync the pool. */
 int topzerad_open(topzerad *pool, const char *program, const char *path);
+/* The same with a command line of the caller's, as {"ztxg", "serve", "tank.pool", "--wait", "10", NULL}. */
+int topzerad_open_with(topzerad *pool, const char *const words[]);
 /* Ends the process once it has synced the pool, and waits for its end. TOPZERAD_ENDED if it did not end well. No other
  * call may run. */
 int topzerad_close(topzerad *pool);
@@ -113,6 +123,11 @@ int topzerad_close(topzerad *pool);
 /* Commits a transaction. If `durable`, it returns once no power failure loses it. The receipt may be NULL. `committed`
  * may be NULL too; after a refusal it says whether the transaction took place but could not be made durable. */
 int topzerad_transact(topzerad *pool, const topzerad_tx *tx, int durable, topzerad_receipt *receipt, int *committed);
+/* Commits transactions in their order, each by itself: a refusal doesn't keep the next from being committed. They go in
+ * one frame, or in few if they are long; the durable ones of a frame share one flush. Returns 0, or the first refusal.
+ * `outcomes` has room for `count`. */
+int topzerad_transact_many(topzerad *pool, const topzerad_tx *txs, size_t count, int durable,
+                           topzerad_outcome *outcomes);
 /* Reads the bytes of [low, high) that lie below the object's length. `into` has room for high - low, `count` says how
  * many there were. */
 int topzerad_read(topzerad *pool, uint32_t object, uint64_t low, uint64_t high, void *into, size_t *count);
