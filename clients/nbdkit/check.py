@@ -1,0 +1,446 @@
+#!/usr/bin/env python3
+"""Tests the disk by programs that use disks: `check.py [--program PROGRAM] [--plugin FILE] [--kills N] [--install]`.
+
+The program is `ztxg`, or the stand-in for it, which is taken if none is given. `--kills` is the number of moments at which
+nbdkit is killed, and at which the program is, 20 if not given. `--install` installs what is missing, by apt-get. What
+needs a command that isn't there is skipped. Names of tests after the options choose these alone."""
+
+import argparse
+import contextlib
+import errno
+import json
+import os
+import pathlib
+import random
+import shutil
+import signal
+import subprocess
+import sys
+import tempfile
+import threading
+import time
+
+HERE = pathlib.Path(__file__).resolve().parent
+sys.path[:0] = [str(HERE), str(HERE.parent / "python")]
+
+import kills  # noqa: E402
+import nbd  # noqa: E402
+import topzerad  # noqa: E402
+
+PACKAGES = "nbdkit nbdkit-plugin-dev libnbd-bin qemu-utils fio e2fsprogs".split()
+KIB, MIB = 1 << 10, 1 << 20
+BLOCK, PART = 4 * KIB, 335_872
+STAND_IN = str(HERE.parent / "stand_in")
+
+os.environ["PATH"] += ":/usr/sbin:/sbin"  # mkfs and fsck
+
+
+def run(*words, status=0):
+    """Runs a command, and returns what it printed. Another exit status than this one is a fault."""
+    done = subprocess.run([str(word) for word in words], stdout=subprocess.PIPE, stderr=subprocess.STDOUT, timeout=300)
+    text = done.stdout.decode(errors="replace")
+    if done.returncode != status:
+        raise AssertionError(f"{' '.join(map(str, words))}: status {done.returncode}\n{text}")
+    return text
+
+
+class Tank:
+    """A pool in a file, and the disk in it."""
+
+    def __init__(self, options, folder):
+        self.options, self.folder = options, folder
+        self.pool, self.socket, self.log = folder / "tank.pool", folder / "socket", folder / "log"
+        self.uri = f"nbd+unix:///?socket={self.socket}"
+
+    def create(self, size=256 * MIB):
+        self.pool.unlink(missing_ok=True)
+        run(self.options.program, "create", self.pool, "tank", 77, size)
+
+    def start(self, *words):
+        """Starts nbdkit with the disk, and returns its process once it answers."""
+        self.socket.unlink(missing_ok=True)
+        words = [f"file={self.pool}", f"program={self.options.program}", *words]
+        with open(self.log, "ab") as log:
+            process = subprocess.Popen(["nbdkit", "-f", "-U", self.socket, self.options.plugin, *words], stderr=log)
+        end = time.monotonic() + 60
+        while process.poll() is None and time.monotonic() < end:
+            try:
+                nbd.Disk(self.socket).close()
+                return process
+            except OSError:
+                time.sleep(0.02)
+        process.kill()
+        process.wait()
+        raise AssertionError(f"nbdkit did not start\n{self.log.read_text(errors='replace')}")
+
+    def stop(self, process):
+        process.terminate()
+        if process.wait(timeout=60) != 0:
+            raise AssertionError(f"nbdkit ended with status {process.returncode}")
+
+    @contextlib.contextmanager
+    def served(self, *words):
+        """Serves the disk, and then closes it."""
+        process = self.start(*words)
+        try:
+            yield self
+            self.stop(process)
+        finally:
+            process.kill()
+            process.wait()
+
+    @contextlib.contextmanager
+    def disk(self):
+        """A connection to the disk."""
+        disk = nbd.Disk(self.socket)
+        try:
+            yield disk
+        finally:
+            disk.close()
+
+    def refusal(self, *words):
+        """What nbdkit says when it refuses these options."""
+        self.socket.unlink(missing_ok=True)
+        words = [f"file={self.pool}", f"program={self.options.program}", *words]
+        return run("nbdkit", "-f", "-U", self.socket, self.options.plugin, *words, status=1)
+
+
+def processes_of(parent):
+    """The numbers of the processes that a process has started."""
+    found = []
+    for stat in pathlib.Path("/proc").glob("[0-9]*/stat"):
+        with contextlib.suppress(OSError):
+            fields = stat.read_text().rpartition(")")[2].split()
+            if int(fields[1]) == parent:
+                found.append(int(stat.parent.name))
+    return found
+
+
+def is_refused(number, call, *words):
+    try:
+        call(*words)
+    except nbd.Refused as refused:
+        return refused.number == number
+    return False
+
+
+def content(size, seed):
+    return random.Random(seed).randbytes(size)
+
+
+# The tests. Each has a pool of its own, and says what it did. The commands that it needs follow its name.
+
+
+def options(tank):
+    wrong = {
+        "size=1777102848": "at most 1777098752 bytes",
+        "size=5000": "a multiple of 4096",
+        "size=0": "a multiple of 4096",
+        "colour=red": "no option colour",
+        "ro=true": "no disk yet",
+        "program=/": "can't be started",
+    }
+    for word, text in wrong.items():
+        assert text in tank.refusal(word), word
+    assert "no disk yet" in tank.refusal()
+    with tank.served("size=64M"), tank.disk() as disk:
+        assert disk.size == 64 * MIB
+    with tank.served(), tank.disk() as disk:
+        assert disk.size == 64 * MIB
+    assert "but not shrink" in tank.refusal("size=32M")
+    assert "only be read" in tank.refusal("size=65M", "ro=true")
+    tank.create()
+    with topzerad.Pool(tank.options.program, str(tank.pool)) as pool:
+        pool.transact([topzerad.create(5)])
+    assert "no disk" in tank.refusal("size=64M")
+    tank.pool.unlink()
+    assert "No such file" in tank.refusal("size=64M")
+    return "eleven refusals, and the size is kept"
+
+
+def the_greatest_disk(tank):
+    end = 1_777_098_752
+    with tank.served(f"size={end}"), tank.disk() as disk:
+        assert disk.size == end
+        disk.write(end - BLOCK, b"e" * BLOCK, fua=True)
+        disk.trim(0, end - BLOCK)
+    with tank.served(), tank.disk() as disk:
+        assert disk.read(end - 2 * BLOCK, 2 * BLOCK) == bytes(BLOCK) + b"e" * BLOCK
+        assert is_refused(errno.EINVAL, disk.read, end, 1)
+    return f"{end} bytes"
+
+
+def patterns(tank):
+    """qemu-io"""
+    with tank.served("size=64M"):
+        steps = [
+            "write -P 0xaa 0 64k", "write -P 0xbb 335000 10000", "write -f -P 0xcc 1M 4k", "flush",
+            "read -P 0xaa 0 64k", "read -P 0xbb 335000 10000", "read -P 0xcc 1M 4k", "read -P 0 2M 64k",
+            "discard 0 1M", "write -z 1M 4k", "read -P 0 1M 4k", "write -P 0x11 30M 2M", "read -P 0x11 30M 2M",
+            "write -z 31M 10000", "read -P 0 31M 10000", "write -P 0x22 61M 3M", "write -z 62M 2M", "discard 62M 1M",
+        ]  # fmt: skip
+        run("qemu-io", "-f", "raw", tank.uri, *[word for step in steps for word in ("-c", step)])
+    with tank.served():
+        steps = [
+            "read -P 0x11 30M 1M", "read -P 0 31M 10000", "read -P 0x11 32515856 1028336", "read -P 0 1M 4k",
+            "read -P 0x22 61M 1M", "read -P 0 62M 2M",
+        ]  # fmt: skip
+        run("qemu-io", "-f", "raw", tank.uri, *[word for step in steps for word in ("-c", step)])
+    return "patterns, discards and zeros, also after a restart"
+
+
+def random_steps(tank):
+    """Writes, zeros and trims of any size and place, beside a copy in memory."""
+    size, chosen = 2 * MIB, random.Random(4)
+    copy = bytearray(size)
+    for _ in range(3):
+        with tank.served("size=2M"), tank.disk() as disk:
+            assert disk.read(0, size) == copy
+            for _ in range(150):
+                low, high = sorted(chosen.choice((chosen.randrange(size), PART * chosen.randrange(7))) for _ in "12")
+                low = max(low, high - chosen.choice((500, 5_000, 70_000, 2_000_000)))
+                step = chosen.choice("wwwzf") if low < high else "f"
+                if step == "w":
+                    copy[low:high] = chosen.randbytes(high - low)
+                    disk.write(low, bytes(copy[low:high]), fua=chosen.random() < 0.1)
+                elif step == "z":
+                    copy[low:high] = bytes(high - low)
+                    disk.zero(low, high - low, fua=chosen.random() < 0.1)
+                else:
+                    disk.flush()
+                low, high = max(low - 50, 0), min(high + 50, size)
+                assert disk.read(low, high - low) == copy[low:high]
+            # A trim may leave bytes or make them zeros.
+            disk.trim(100_000, 1_000_000)
+            found = disk.read(0, size)
+            assert all(one in (0, other) for one, other in zip(found[100_000:1_100_000], copy[100_000:1_100_000]))
+            assert found[:100_000] == copy[:100_000] and found[1_100_000:] == copy[1_100_000:]
+            copy[:] = found
+    return "450 writes, zeros and flushes of any size"
+
+
+def copies(tank):
+    """nbdcopy"""
+    there, back = tank.folder / "there", tank.folder / "back"
+    there.write_bytes(content(40 * MIB, 1) + bytes(8 * MIB) + content(16 * MIB, 2))
+    with tank.served("size=64M"):
+        run("nbdcopy", "--flush", there, tank.uri)
+        run("nbdcopy", tank.uri, back)
+        run("cmp", there, back)
+    with tank.served():
+        back.unlink()
+        run("nbdcopy", tank.uri, back)
+        run("cmp", there, back)
+    return "64 MiB there and back, also after a restart"
+
+
+def fio_job(tank, *words):
+    common = ["--name=job", "--ioengine=nbd", f"--uri={tank.uri}", "--verify_fatal=1", "--do_verify=1"]
+    run("fio", *common, f"--aux-path={tank.folder}", *words)
+
+
+def verified(tank):
+    """fio"""
+    with tank.served("size=64M"):
+        fio_job(tank, "--rw=randwrite", "--bs=4k", "--size=16m", "--iodepth=16", "--verify=crc32c", "--fsync=64")
+        fio_job(
+            tank, "--rw=randrw", "--bsrange=512-64k", "--blockalign=512", "--size=16m", "--offset=32m", "--iodepth=8",
+            "--verify=sha256",
+        )  # fmt: skip
+    return "4 KiB with fsync, and 512 bytes to 64 KiB"
+
+
+def file_system(tank):
+    """nbdcopy mkfs.ext4 e2fsck debugfs"""
+    tree, image, back = tank.folder / "tree", tank.folder / "image", tank.folder / "back"
+    for number in range(40):
+        folder = tree / f"folder{number % 4}"
+        folder.mkdir(parents=True, exist_ok=True)
+        (folder / f"file{number}").write_bytes(content(number * 4_999, number))
+    run("mkfs.ext4", "-q", "-d", tree, image, "64M")
+    with tank.served("size=64M"):
+        run("nbdcopy", "--flush", image, tank.uri)
+    with tank.served():
+        run("nbdcopy", tank.uri, back)
+    run("cmp", image, back)
+    run("e2fsck", "-f", "-n", back)
+    run("debugfs", "-R", f"rdump / {tank.folder}", back)
+    run("diff", "-r", tree, tank.folder / "tree")
+    for number in range(40):
+        found = (tank.folder / f"folder{number % 4}" / f"file{number}").read_bytes()
+        assert found == content(number * 4_999, number)
+    return "ext4 with 40 files, checked after copies and a restart"
+
+
+def read_only(tank):
+    with tank.served("size=64M"), tank.disk() as disk:
+        disk.write(0, b"a" * BLOCK)
+    with tank.served("ro=true"), tank.disk() as disk:
+        assert disk.read(0, BLOCK) == b"a" * BLOCK
+        assert is_refused(errno.EPERM, disk.write, 0, b"b" * BLOCK)
+        assert is_refused(errno.EPERM, disk.zero, 0, BLOCK) and is_refused(errno.EPERM, disk.trim, 0, BLOCK)
+    with tank.served(), tank.disk() as disk:
+        assert disk.read(0, BLOCK) == b"a" * BLOCK
+    return "reads are answered, the rest is refused"
+
+
+def growth(tank):
+    with tank.served("size=8392704"), tank.disk() as disk:
+        disk.write(disk.size - BLOCK, b"a" * BLOCK)
+    with tank.served("size=200M"), tank.disk() as disk:
+        assert disk.size == 200 * MIB
+        assert disk.read(8392704 - BLOCK, 2 * BLOCK) == b"a" * BLOCK + bytes(BLOCK)
+        disk.write(200 * MIB - BLOCK, b"b" * BLOCK)
+    with tank.served("size=200M"), tank.disk() as disk:
+        assert disk.read(200 * MIB - BLOCK, BLOCK) == b"b" * BLOCK
+    return "8 MiB to 200 MiB"
+
+
+def extents(tank):
+    """nbdinfo"""
+    with tank.served("size=8M"), tank.disk() as disk:
+        disk.write(0, b"a" * 3 * BLOCK)
+        disk.write(5 * PART + BLOCK, b"b" * BLOCK)
+        disk.write(7 * PART, b"c" * PART)
+        disk.trim(7 * PART + 10 * BLOCK, PART)
+        rows = json.loads(run("nbdinfo", "--map", "--json", tank.uri))
+    found = [(row["offset"], row["length"], row["type"]) for row in rows]
+    expected = [(0, 3 * BLOCK, 0), (5 * PART, 2 * BLOCK, 0), (7 * PART, 10 * BLOCK, 0)]
+    assert [row for row in found if row[2] == 0] == expected, found
+    assert {row[2] for row in found} == {0, 3} and sum(row[1] for row in found) == 8 * MIB, found
+    return "three pieces with bytes, and holes"
+
+
+def whole_blocks(tank):
+    """Threads write one block each way while others read it."""
+    faults, end = [], time.monotonic() + 2
+
+    def write(letter):
+        with tank.disk() as disk:
+            while time.monotonic() < end:
+                disk.write(PART - BLOCK, letter * 2 * BLOCK)
+
+    def read():
+        with tank.disk() as disk:
+            while time.monotonic() < end:
+                found = disk.read(PART - BLOCK, 2 * BLOCK)
+                faults.extend(part for part in (found[:BLOCK], found[BLOCK:]) if len(set(part)) != 1)
+
+    with tank.served("size=8M"):
+        threads = [threading.Thread(target=write, args=(letter,)) for letter in (b"a", b"b", b"c")]
+        threads += [threading.Thread(target=read) for _ in range(2)]
+        for thread in threads:
+            thread.start()
+        for thread in threads:
+            thread.join()
+    assert not faults
+    return "three writers and two readers of the same blocks"
+
+
+def full_pool(tank):
+    """A disk that is larger than its pool."""
+    if tank.options.program == STAND_IN:
+        return None
+    tank.create(16 * MIB)
+    with tank.served("size=64M"), tank.disk() as disk:
+        written = 0
+        while not is_refused(errno.ENOSPC, disk.write, written, content(64 * KIB, written)):
+            written += 64 * KIB
+            assert written < disk.size
+        disk.flush()
+        assert disk.read(0, 64 * KIB) == content(64 * KIB, 0)
+        disk.trim(0, 4 * MIB)
+        disk.write(0, b"a" * MIB, fua=True)
+    with tank.served(), tank.disk() as disk:
+        assert disk.read(0, MIB) == b"a" * MIB
+        assert disk.read(written - 64 * KIB, 64 * KIB) == content(64 * KIB, written - 64 * KIB)
+    return f"no space after {written} bytes, and space again after a trim"
+
+
+def kill_and_compare(tank, kills_program):
+    """Kills nbdkit or the program at each moment, and compares the disk with what was acknowledged."""
+    ledger, moments = kills.Ledger(), random.Random(9)
+    for moment in range(tank.options.kills):
+        process = tank.start("size=32M")
+        writers = kills.start_writers(tank.socket, ledger, moment)
+        time.sleep(moments.uniform(0.02, 0.7))
+        if kills_program:
+            (program,) = processes_of(process.pid)
+            os.kill(program, signal.SIGKILL)
+        else:
+            process.kill()
+        for writer in writers:
+            writer.join()
+            if writer.fault:
+                raise writer.fault
+        process.terminate()
+        process.wait(timeout=60)
+        with tank.served(), tank.disk() as disk:
+            lost, torn = ledger.compare(disk)
+        assert not lost and not torn, f"moment {moment}: {lost} blocks are lost, {torn} are torn"
+    return f"{tank.options.kills} moments, {ledger.acknowledged} acknowledged blocks are there and whole"
+
+
+def killed_nbdkit(tank):
+    return kill_and_compare(tank, False)
+
+
+def killed_program(tank):
+    return kill_and_compare(tank, True)
+
+
+TESTS = (
+    options, the_greatest_disk, patterns, random_steps, copies, verified, file_system, read_only, growth, extents,
+    whole_blocks, full_pool, killed_nbdkit, killed_program,
+)  # fmt: skip
+
+
+def lacking(test):
+    """The commands that a test needs and that are not there."""
+    words = ["nbdkit"] + (test.__doc__ or "").split()
+    names = {"nbdkit", "qemu-io", "nbdcopy", "nbdinfo", "fio", "mkfs.ext4", "e2fsck", "debugfs"}
+    return [word for word in words if word in names and not shutil.which(word)]
+
+
+def check(test, chosen):
+    """Runs a test in a folder of its own, prints a line, and returns whether it passed, or None if it was skipped."""
+    name, missing = test.__name__, lacking(test)
+    if missing:
+        print(f"skipped {name}: {' '.join(missing)} not installed", flush=True)
+        return None
+    begin = time.monotonic()
+    with tempfile.TemporaryDirectory(dir=chosen.folder) as folder:
+        tank = Tank(chosen, pathlib.Path(folder))
+        try:
+            tank.create()
+            said = test(tank)
+        except Exception as fault:
+            log = tank.log.read_text(errors="replace")[-2000:] if tank.log.exists() else ""
+            print(f"FAILED {name}: {type(fault).__name__} {fault}\n{log}", flush=True)
+            return False
+    if said is None:
+        print(f"skipped {name}: not with the stand-in", flush=True)
+        return None
+    print(f"passed {name}: {said} ({time.monotonic() - begin:.1f} s)", flush=True)
+    return True
+
+
+def main():
+    parser = argparse.ArgumentParser(description=__doc__.splitlines()[0])
+    parser.add_argument("--program", default=STAND_IN)
+    parser.add_argument("--plugin", default=str(HERE / "out" / "topzerad-plugin.so"))
+    parser.add_argument("--kills", type=int, default=20)
+    parser.add_argument("--folder", help="where the files of the tests go")
+    parser.add_argument("--install", action="store_true")
+    parser.add_argument("tests", nargs="*", choices=[[], *(test.__name__ for test in TESTS)])
+    chosen = parser.parse_args()
+    chosen.program = os.path.realpath(shutil.which(chosen.program) or chosen.program)
+    if chosen.install:
+        subprocess.run(["apt-get", "install", "-y", "--no-install-recommends", *PACKAGES], check=True)
+    outcomes = [check(test, chosen) for test in TESTS if not chosen.tests or test.__name__ in chosen.tests]
+    print(f"{outcomes.count(True)} passed, {outcomes.count(False)} failed")
+    return 1 if False in outcomes else 0
+
+
+if __name__ == "__main__":
+    sys.exit(main())
