@@ -21,11 +21,12 @@ import threading
 import time
 
 HERE = pathlib.Path(__file__).resolve().parent
-sys.path[:0] = [str(HERE), str(HERE.parent / "python")]
+sys.path[:0] = [str(HERE), str(HERE.parent / "python"), str(HERE.parent.parent)]
 
 import kills  # noqa: E402
 import nbd  # noqa: E402
 import topzerad  # noqa: E402
+from tools.model.pool_bytes import read_records  # noqa: E402
 
 PACKAGES = "nbdkit nbdkit-plugin-dev libnbd-bin qemu-utils fio e2fsprogs".split()
 KIB, MIB = 1 << 10, 1 << 20
@@ -337,6 +338,25 @@ def whole_blocks(tank):
     return "three writers and two readers of the same blocks"
 
 
+def transactions(tank):
+    """What is written in each transaction: the stand-in's file has them as log records."""
+    if tank.options.program != STAND_IN:
+        return None
+    with tank.served("size=8M"), tank.disk() as disk:
+        for offset in (0, BLOCK, PART - BLOCK, PART - 10 * BLOCK):
+            for blocks in (1, 15, 16, 300):
+                disk.write(offset, b"a" * blocks * BLOCK)
+        disk.zero(BLOCK, 20 * BLOCK)
+        disk.write(BLOCK + 1, b"a" * 100_000)
+    records = read_records(tank.pool.read_bytes())
+    writes = [[op for op in record.ops if op[0] == "w" and op[1]] for record in records]
+    ends = {(place % BLOCK, (place + len(content)) % BLOCK) for some in writes for _, _, place, content in some}
+    assert ends == {(0, 0), (1, 0), (0, 100_001 % BLOCK)}, ends
+    sizes = [sum(len(op[3]) for op in some) for some in writes if some]
+    assert sizes[:4] == [BLOCK, 15 * BLOCK, 15 * BLOCK, BLOCK] and max(sizes) <= 65_480, sizes
+    return f"{len(sizes)} of them, each to the end of a block"
+
+
 def full_pool(tank):
     """A disk that is larger than its pool."""
     if tank.options.program == STAND_IN:
@@ -391,7 +411,7 @@ def killed_program(tank):
 
 TESTS = (
     options, the_greatest_disk, patterns, random_steps, copies, verified, file_system, read_only, growth, extents,
-    whole_blocks, full_pool, killed_nbdkit, killed_program,
+    transactions, whole_blocks, full_pool, killed_nbdkit, killed_program,
 )  # fmt: skip
 
 
@@ -419,7 +439,7 @@ def check(test, chosen):
             print(f"FAILED {name}: {type(fault).__name__} {fault}\n{log}", flush=True)
             return False
     if said is None:
-        print(f"skipped {name}: not with the stand-in", flush=True)
+        print(f"skipped {name}: not with this program", flush=True)
         return None
     print(f"passed {name}: {said} ({time.monotonic() - begin:.1f} s)", flush=True)
     return True

@@ -77,12 +77,13 @@ class Ledger:
 
 
 class Writer(threading.Thread):
-    """Writes blocks of its own, some with FUA and some before a flush, until the server is gone."""
+    """Writes blocks of its own until the server is gone: some with FUA, as many as that share says, and now and then it
+    flushes."""
 
-    def __init__(self, path, ledger, first, seed):
+    def __init__(self, path, ledger, first, seed, fua_share):
         super().__init__()
         self.disk, self.ledger, self.first, self.random = nbd.Disk(path), ledger, first, random.Random(seed)
-        self.fault = None
+        self.fua_share, self.fault = fua_share, None
 
     def run(self):
         try:
@@ -103,15 +104,17 @@ class Writer(threading.Thread):
         count = self.random.choice(COUNTS)
         first = self.first + self.random.randrange(BLOCKS - count + 1)
         blocks = range(first, first + count)
-        is_lasting = self.random.random() < 0.3
+        is_lasting = self.random.random() < self.fua_share
         number = self.ledger.begin(blocks)
         content = b"".join(content_of(block, number) for block in blocks)
         self.disk.write(first * BLOCK, content, fua=is_lasting)
         self.ledger.end(blocks, number, is_lasting)
 
 
-def start_writers(path, ledger, seed):
-    writers = [Writer(path, ledger, at * BLOCKS, f"{seed} {at}") for at in range(WRITERS)]
+def start_writers(path, ledger, moment):
+    """The writers for a moment. At every other one none uses FUA, which might make durable what others flush."""
+    fua_share = moment % 2 * 0.3
+    writers = [Writer(path, ledger, at * BLOCKS, f"{moment} {at}", fua_share) for at in range(WRITERS)]
     for writer in writers:
         writer.start()
     return writers

@@ -68,7 +68,10 @@ class Pool:
     """A pool that is open. Use it in a `with`, or close it. Several threads may call it; each call is one frame."""
 
     def __init__(self, program, path):
-        self.process = subprocess.Popen([program, "serve", path], stdin=subprocess.PIPE, stdout=subprocess.PIPE)
+        # In a session of its own, so that a Ctrl-C that ends the caller lets the process sync the pool.
+        self.process = subprocess.Popen(
+            [program, "serve", path], stdin=subprocess.PIPE, stdout=subprocess.PIPE, start_new_session=True
+        )
         self.lock = threading.Lock()
 
     def __enter__(self):
