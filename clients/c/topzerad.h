@@ -1,8 +1,8 @@
 /* topzerad.h: a pool of numbered objects in a file, changed by transactions that survive a power failure.
  *
  * topzerad_open starts `PROGRAM serve FILE`, a process that has the pool. Calls are sent to it as frames
- * (docs/FORMATS.md, "Frames"). Any thread may make any call at any time. What several threads ask at once is sent in one
- * frame, so their durable transactions share one flush.
+ * (docs/FORMATS.md, "Frames"). Any thread may make any call at any time. What several threads ask at once is sent in
+ * one frame, so their durable transactions share one flush.
  *
  * Each call returns 0 or a refusal; topzerad_text has its words. A refused transaction changes nothing. After
  * TOPZERAD_WRITE and TOPZERAD_FLUSH the pool is suspended: close it and open it again. All memory is the caller's: the

@@ -1,9 +1,9 @@
 #!/usr/bin/env python3
 """Tests the disk by programs that use disks: `check.py [--program PROGRAM] [--plugin FILE] [--kills N] [--install]`.
 
-The program is `ztxg`, or the stand-in for it, which is taken if none is given. `--kills` is the number of moments at which
-nbdkit is killed, and at which the program is, 20 if not given. `--install` installs what is missing, by apt-get. What
-needs a command that isn't there is skipped. Names of tests after the options choose these alone."""
+The program is `ztxg`, or the stand-in for it, which is taken if none is given. `--kills` is the number of moments at
+which nbdkit is killed, and at which the program is, 20 if not given. `--install` installs what is missing, by apt-get.
+What needs a command that isn't there is skipped. Names of tests after the options choose these alone."""
 
 import argparse
 import contextlib

@@ -177,7 +177,7 @@ int disk_read(disk *d, uint8_t *into, uint64_t offset, uint64_t count) {
     return 0;
 }
 
-/* The end of the transaction that begins at `offset`: the last end of a block up to which its content fits, or `end`. */
+/* The end of the transaction that begins at `offset`: the last end of a block whose bytes still fit, or `end`. */
 static uint64_t transaction_end(uint64_t offset, uint64_t end) {
     uint64_t past = offset + MOST_CONTENT;
     return past < end ? past - past % DISK_BLOCK : end;

@@ -1,10 +1,10 @@
 /* disk.h: a disk in a pool. Its blocks have 4,096 bytes, and each is written whole or not at all.
  *
  * Object 0 has the disk's header: `topzdisk`, then the size of the disk and DISK_PART, 8 bytes each, little-endian.
- * Object 1 + k has part k: the bytes of the disk from k * DISK_PART on, at most DISK_PART of them. Those past the length
- * of the object are zeros. So block b is at 4,096 * (b mod 82) in object 1 + b div 82.
+ * Object 1 + k has part k: the bytes of the disk from k * DISK_PART on, at most DISK_PART of them. Those past the
+ * length of the object are zeros. So block b is at 4,096 * (b mod 82) in object 1 + b div 82.
  *
- * Each call returns 0 or a refusal of topzerad.h. Once the disk is opened and has its size, any thread may make any call.
+ * Each call returns 0 or a refusal of topzerad.h. Once the disk is open and has its size, any thread may make any call.
  */
 #ifndef TOPZERAD_DISK_H
 #define TOPZERAD_DISK_H

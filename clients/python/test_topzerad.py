@@ -1,5 +1,5 @@
-"""Makes each call on a pool without objects that is named tank: `python3 test_topzerad.py [PROGRAM FILE]`. Without words
-it takes the stand-in."""
+"""Makes each call on a pool without objects that is named tank: `python3 test_topzerad.py [PROGRAM FILE]`. Without
+words it takes the stand-in."""
 
 import pathlib
 import sys

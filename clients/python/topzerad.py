@@ -1,5 +1,5 @@
-"""A pool of numbered objects in a file, from Python. A process `PROGRAM serve FILE` has the pool, and is asked by frames
-(docs/FORMATS.md, "Frames")."""
+"""A pool of numbered objects in a file, from Python. A process `PROGRAM serve FILE` has the pool, and is asked by
+frames (docs/FORMATS.md, "Frames")."""
 
 import collections
 import struct

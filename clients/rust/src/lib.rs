@@ -110,7 +110,8 @@ impl Pool {
     ///
     /// # Errors
     ///
-    /// `Refused`, and nothing took place. `NotDurable`, and all of them took place. `FrameRefused(7)` without operations.
+    /// `Refused`, and nothing took place. `NotDurable`, and all of them took place. `FrameRefused(7)` if there are no
+    /// operations.
     pub fn transact(&self, ops: &[Op<'_>]) -> Result<Receipt, Error> {
         self.ask(frames::TRANSACT_DURABLY, &frames::record(ops)?, Answer::receipt)
     }

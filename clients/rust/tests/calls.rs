@@ -1,5 +1,5 @@
-//! Makes each call on a pool without objects that is named tank: in TOPZERAD_FILE by TOPZERAD_PROGRAM, or by the stand-in
-//! in memory.
+//! Makes each call on a pool without objects that is named tank: in TOPZERAD_FILE by TOPZERAD_PROGRAM, or by the
+//! stand-in in memory.
 
 use topzerad::{Error, Listed, Op, Pool, Refusal, MAX_LENGTH, OBJECTS};
 
