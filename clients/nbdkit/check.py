@@ -26,6 +26,7 @@ sys.path[:0] = [str(HERE), str(HERE.parent / "python"), str(HERE.parent.parent)]
 import kills  # noqa: E402
 import nbd  # noqa: E402
 import topzerad  # noqa: E402
+from tools.harness.shims import compiled  # noqa: E402
 from tools.model.pool_bytes import read_records  # noqa: E402
 
 PACKAGES = "nbdkit nbdkit-plugin-dev libnbd-bin qemu-utils fio e2fsprogs".split()
@@ -377,6 +378,46 @@ def full_pool(tank):
     return f"no space after {written} bytes, and space again after a trim"
 
 
+def refusing_program(tank, library, kind, at):
+    """A program as the one that is tested, but the device refuses the call of this kind with this number."""
+    path = tank.folder / "refusing"
+    variables = f"LD_PRELOAD={library} FAIL_KIND={kind} FAIL_AT={at}"
+    path.write_text(f'#!/bin/sh\n{variables} exec {tank.options.program} "$@"\n')
+    path.chmod(0o700)
+    return path
+
+
+def compare(tank, ledger, what):
+    """Compares the disk with what was acknowledged, by a program that is started anew."""
+    with tank.served(), tank.disk() as disk:
+        lost, torn = ledger.compare(disk)
+    assert not lost and not torn, f"{what}: {lost} blocks are lost, {torn} are torn"
+
+
+def refused_device(tank):
+    """cc"""
+    if tank.options.program == STAND_IN:
+        return None
+    ledger, refused = kills.Ledger(), 0
+    with tank.served("size=32M"):
+        pass
+    with compiled("refusals") as shim:
+        for moment, (kind, at) in enumerate((kind, at) for kind in ("write", "flush") for at in (15, 40, 150)):
+            process = tank.start(f"program={refusing_program(tank, shim.library, kind, at)}")
+            writers = kills.start_writers(tank.socket, ledger, moment)
+            for writer in writers:
+                writer.join(timeout=20)
+            with tank.disk() as disk:
+                refused += is_refused(errno.EIO, disk.flush)
+            process.terminate()
+            process.wait(timeout=60)
+            for writer in writers:
+                writer.join()
+            compare(tank, ledger, f"{kind} {at}")
+    assert refused == 6, refused
+    return f"{refused} refused calls, {ledger.acknowledged} acknowledged blocks are there and whole"
+
+
 def kill_and_compare(tank, kills_program):
     """Kills nbdkit or the program at each moment, and compares the disk with what was acknowledged."""
     ledger, moments = kills.Ledger(), random.Random(9)
@@ -395,9 +436,7 @@ def kill_and_compare(tank, kills_program):
                 raise writer.fault
         process.terminate()
         process.wait(timeout=60)
-        with tank.served(), tank.disk() as disk:
-            lost, torn = ledger.compare(disk)
-        assert not lost and not torn, f"moment {moment}: {lost} blocks are lost, {torn} are torn"
+        compare(tank, ledger, f"moment {moment}")
     return f"{tank.options.kills} moments, {ledger.acknowledged} acknowledged blocks are there and whole"
 
 
@@ -411,14 +450,14 @@ def killed_program(tank):
 
 TESTS = (
     options, the_greatest_disk, patterns, random_steps, copies, verified, file_system, read_only, growth, extents,
-    transactions, whole_blocks, full_pool, killed_nbdkit, killed_program,
+    transactions, whole_blocks, full_pool, refused_device, killed_nbdkit, killed_program,
 )  # fmt: skip
 
 
 def lacking(test):
     """The commands that a test needs and that are not there."""
     words = ["nbdkit"] + (test.__doc__ or "").split()
-    names = {"nbdkit", "qemu-io", "nbdcopy", "nbdinfo", "fio", "mkfs.ext4", "e2fsck", "debugfs"}
+    names = {"nbdkit", "cc", "qemu-io", "nbdcopy", "nbdinfo", "fio", "mkfs.ext4", "e2fsck", "debugfs"}
     return [word for word in words if word in names and not shutil.which(word)]
 
 

@@ -232,25 +232,44 @@ static int write_zeros(disk *d, uint64_t offset, uint64_t end) {
     return refusal;
 }
 
+/* Cuts the objects of places, at most GROUP, at their low ends. */
+static int cut(disk *d, const place *cuts, size_t count) {
+    uint8_t memory[RECORD_HEAD + 13 * GROUP];
+    topzerad_tx tx;
+    int refusal = 0;
+    topzerad_tx_start(&tx, memory, sizeof memory);
+    for (size_t i = 0; i < count && !refusal; i++)
+        refusal = topzerad_tx_set_length(&tx, object_of(cuts[i].part), cuts[i].low);
+    return refusal ? refusal : commit(d, &tx, 0);
+}
+
+/* Does the same. In a pool that is almost full it cuts one object after another, so that each gives space to the next. */
+static int cut_all(disk *d, const place *cuts, size_t count) {
+    int refusal = cut(d, cuts, count);
+    if (refusal != TOPZERAD_NO_SPACE || count < 2) return refusal;
+    refusal = 0;
+    for (size_t i = 0; i < count && !refusal; i++) refusal = cut(d, &cuts[i], 1);
+    return refusal;
+}
+
 /* Clears a range in at most GROUP parts. An object is cut only if the range has its part to the end: another call may
  * write bytes above the range meanwhile. */
 static int clear_group(disk *d, uint64_t offset, uint64_t end, int may_write) {
-    uint8_t memory[RECORD_HEAD + 13 * GROUP];
     uint64_t lengths[GROUP];
+    place cuts[GROUP];
+    size_t count = 0;
     uint32_t first = part_of(offset);
-    topzerad_tx cuts;
-    topzerad_tx_start(&cuts, memory, sizeof memory);
     int refusal = get_lengths(d, first, parts_of(end), lengths);
     while (offset < end && !refusal) {
         place at = first_place(offset, end);
         uint64_t length = lengths[at.part - first], past = offset + (at.high - at.low);
         if (length > at.low && (at.high == DISK_PART || past == d->size))
-            refusal = topzerad_tx_set_length(&cuts, object_of(at.part), at.low);
+            cuts[count++] = at;
         else if (length > at.low && may_write)
             refusal = write_zeros(d, offset, offset + (least(at.high, length) - at.low));
         offset = past;
     }
-    return refusal ? refusal : commit(d, &cuts, 0);
+    return refusal ? refusal : cut_all(d, cuts, count);
 }
 
 /* The end of the first GROUP parts of a range, or of the range. */
