@@ -243,7 +243,7 @@ static int cut(disk *d, const place *cuts, size_t count) {
     return refusal ? refusal : commit(d, &tx, 0);
 }
 
-/* Does the same. In a pool that is almost full it cuts one object after another, so that each gives space to the next. */
+/* Does the same. In a pool that is almost full it cuts one object after the other: each gives space to the next. */
 static int cut_all(disk *d, const place *cuts, size_t count) {
     int refusal = cut(d, cuts, count);
     if (refusal != TOPZERAD_NO_SPACE || count < 2) return refusal;
