@@ -419,9 +419,13 @@ def refused_device(tank):
 
 
 def kill_and_compare(tank, kills_program):
-    """Kills nbdkit or the program at each moment, and compares the disk with what was acknowledged."""
-    ledger, moments = kills.Ledger(), random.Random(9)
+    """Kills nbdkit or the program at each moment, and compares the disk with what was acknowledged. Each tenth moment
+    has a new pool, since the stand-in's file keeps all transactions."""
+    acknowledged, moments = 0, random.Random(9)
     for moment in range(tank.options.kills):
+        if moment % 10 == 0:
+            tank.create()
+            ledger = kills.Ledger()
         process = tank.start("size=32M")
         writers = kills.start_writers(tank.socket, ledger, moment)
         time.sleep(moments.uniform(0.02, 0.7))
@@ -436,8 +440,10 @@ def kill_and_compare(tank, kills_program):
                 raise writer.fault
         process.terminate()
         process.wait(timeout=60)
+        acknowledged += ledger.acknowledged
+        ledger.acknowledged = 0
         compare(tank, ledger, f"moment {moment}")
-    return f"{tank.options.kills} moments, {ledger.acknowledged} acknowledged blocks are there and whole"
+    return f"{tank.options.kills} moments, {acknowledged} acknowledged blocks are there and whole"
 
 
 def killed_nbdkit(tank):
