@@ -54,7 +54,8 @@ fn holds<R: Threads + Wait + Sync + AllocGlobal>(
         cache_blocks: 256,
         moment: 0,
     };
-    let mut input = &ASKED[..asked];
+    let mut input = &ASKED[..asked.min(ASKED.len())];
+    let answers = &ANSWERED[..answered.min(ANSWERED.len())];
     let mut out = Vec::new(rt.alloc());
     let mut errors = Vec::new(rt.alloc());
     let device = Ok(new_device(rt.alloc())?);
@@ -67,11 +68,7 @@ fn holds<R: Threads + Wait + Sync + AllocGlobal>(
         &mut out,
         &mut errors,
     );
-    Ok(
-        status == wanted
-            && out.as_slice() == &ANSWERED[..answered]
-            && errors.is_empty() == (wanted == 0),
-    )
+    Ok(status == wanted && out.as_slice() == answers && errors.is_empty() == (wanted == 0))
 }
 
 // How many rows hold before the first that does not.

@@ -121,11 +121,11 @@ fn show_command<'a>(alloc: Global) -> Result<Command<'a>, AllocError> {
         .arg(read_file(alloc))
 }
 
-fn dirty_limit<'a>(alloc: Global, default: &'a str) -> Arg<'a> {
+fn dirty_limit<'a>(alloc: Global) -> Arg<'a> {
     option(alloc, "dirty", "D")
         .help("The most bytes that unsynced transactions may be charged: 4096 to 2^40")
         .value_parser(value_parser!(u64))
-        .default_value(default)
+        .default_value("1048576")
 }
 
 fn cache_blocks<'a>(alloc: Global) -> Arg<'a> {
@@ -140,7 +140,7 @@ fn serve_command<'a>(alloc: Global) -> Result<Command<'a>, AllocError> {
         .about("Answers frames of requests to the pool in a file, for programs in other languages")
         .after_help(help::SERVE)
         .arg(written_file(alloc))?
-        .arg(dirty_limit(alloc, "4194304"))?
+        .arg(dirty_limit(alloc))?
         .arg(cache_blocks(alloc))?
         .arg(moment(alloc))
 }
@@ -165,7 +165,7 @@ fn load_command<'a>(alloc: Global) -> Result<Command<'a>, AllocError> {
         .arg(workers)?
         .arg(ops)?
         .arg(seed)?
-        .arg(dirty_limit(alloc, "1048576"))?
+        .arg(dirty_limit(alloc))?
         .arg(cache_blocks(alloc))?
         .arg(moment(alloc))
 }
