@@ -19,7 +19,8 @@ const LINES: u64 = 80;
 const LINE: &[u8] = b"all right\n";
 
 fn main(rt: HostRuntime) -> Result<()> {
-    let device = MemDevice::new(rt.alloc(), 16_384)?;
+    // 64 MiB: room for more than the dirty limit.
+    let device = MemDevice::new(rt.alloc(), 131_072)?;
     let pool = start(
         &rt,
         create(device, b"tank", 77, 0).map_err(PoolError::from)?,

@@ -70,9 +70,9 @@ fn main(rt: HostRuntime) -> Result<()> {
     Ok(())
 }
 
-// A pool of 8 MiB, to be shared.
+// A pool of 64 MiB, to be shared: it has room for more than the dirty limit.
 fn new_pool(alloc: Global) -> Result<Pool<MemDevice>, PoolError> {
-    let disk = create(MemDevice::new(alloc, 16_384)?, b"tank", 77, 0)?;
+    let disk = create(MemDevice::new(alloc, 131_072)?, b"tank", 77, 0)?;
     mount(alloc, disk)
 }
 
