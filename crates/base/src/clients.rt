@@ -240,6 +240,17 @@ fn a_range_is_not_empty_and_ends_by_338688() {
     prove!(last && !empty && !past);
 }
 
+// As Rust's ranges: the end is the first byte that isn't in it.
+fn a_range_has_the_bytes_from_its_first_up_to_its_end() {
+    let range = Range::new(3, 10);
+    prove!(range.low == 3 && range.high == 10);
+    prove!(range.len() == 7 && !range.is_empty());
+    let backwards = Range::new(5, 4);
+    prove!(backwards.len() == 0 && backwards.is_empty());
+    let converted = Range::from(3..10);
+    prove!(converted.low == 3 && converted.high == 10);
+}
+
 fn the_whole_of_an_object_is_an_allowed_range() {
     let allowed = Range::WHOLE.is_allowed();
     prove!(allowed);

@@ -59,6 +59,9 @@ pub const GREATEST_DIRTY_MAX: u64 = 1_099_511_627_776;
 /// A create is charged 8,192 bytes, and a write 12,288 and 4,096 more for each piece of 4,032 bytes that it touches. So
 /// 170 transactions with a create and a short write are admitted. Further ones are refused `Throttled`, and those of a
 /// handle wait, until a group is synced.
+///
+/// A pool of less than some 16 MiB may have no free blocks left before this limit is reached. Then a `begin` is refused
+/// `NoSpace` until a group is synced.
 pub const DEFAULT_DIRTY_MAX: u64 = 4_194_304;
 
 /// The greatest number of tree blocks that an import lets a pool keep in memory. The least is one.

@@ -169,8 +169,8 @@ fn an_import_has_its_group<D: SectorDevice>(imported: &Imported<D>) -> Group
     imported.group()
 }
 
-// If no record of the chain is above the active group, and a block is neither in the tree nor in the chain, an import has
-// room.
+// If no record of the chain is above the active group, and a block is neither in the tree nor in the chain, an import
+// has room.
 fn one_spare_block_is_room_without_records<D: SectorDevice>(
     alloc: Global,
     device: D,
