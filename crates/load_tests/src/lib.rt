@@ -6,6 +6,8 @@
 #![tactic(auto)]
 
 #[cfg(test)]
+mod command_rows;
+#[cfg(test)]
 mod file_commands;
 #[cfg(test)]
 mod load_command;

@@ -22,19 +22,24 @@ use Rattle.base.specs.steps.Refusals.{Test, commit_tests, first_refusal, ops_tes
 use Rattle.base.specs.steps.Runs.{receipt_reply, reply_of}
 use Rattle.base.specs.steps.Shown.{Shown}
 use Rattle.base.specs.steps.Steps.{Answers, State, WantsMemory}
-use Rattle.pool_threads.specs.Transacts.{Ends, IsRetried}
+use Rattle.pool_threads.specs.Transacts.{Ends, IsRetried, IsWantOfRoom}
 use Rattle.pool_threads.specs.Views.{SeenPool, viewed_state}
 
 -- whether a transaction may be made again after a refusal
 abbrev is_again : PoolError → Bool
 is_again error.Busy = true
 is_again error.Throttled = true
+is_again error.NoSpace = true
 is_again _ = false
 
+room_again : (e : PoolError) → IsWantOfRoom e → is_again e ≡ true
+room_again e (inl is) = ap is_again is
+room_again e (inr is) = ap is_again is
+
 retried_again : (ranges : List ObjectRange) (e : PoolError) → IsRetried ranges e → is_again e ≡ true
-retried_again [] e is = ap is_again is
+retried_again [] e want = room_again e want
 retried_again (r ∷ rs) e (inl is) = ap is_again is
-retried_again (r ∷ rs) e (inr is) = ap is_again is
+retried_again (r ∷ rs) e (inr want) = room_again e want
 
 -- no operation is refused so
 abbrev IsFinal : {A : Type 0} → Result A PoolError → Type 0

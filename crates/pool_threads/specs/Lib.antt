@@ -10,3 +10,4 @@ pub mod Transacts
 pub mod Fetches
 pub mod Objects
 pub mod Loops
+pub mod Finishes

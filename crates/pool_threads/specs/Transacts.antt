@@ -19,7 +19,7 @@ use Rattle.base.specs.declared.step.Reply.TheVariants as reply
 use Rattle.base.specs.history.Plans.{shape_of}
 use Rattle.base.specs.steps.Runs.{reply_of}
 use Rattle.base.specs.steps.Seen.{IsCommitted}
-use Rattle.base.specs.steps.Shown.{Shown}
+use Rattle.base.specs.steps.Shown.{Shown, dirty_total}
 use Rattle.base.specs.steps.Steps.{State}
 use Rattle.device_model.specs.declared.device.SectorDevice.{Ghosts}
 use Rattle.pool_tables.specs.BeginTests.{is_above_limit}
@@ -104,14 +104,19 @@ module _ (keeps : Type 0) where
     pub ends : LocksAndEnds owner ranges plan ops ids result v ended
     pub unlocks : Unlocks owner ids ended w
 
--- a refusal after which a transaction is tried again: `Throttled`, and `Busy` if it locks ranges itself
-abbrev pub IsRetried : List ObjectRange → PoolError → Type 0
-IsRetried [] e = e ≡ error.Throttled
-IsRetried (r ∷ rs) e = (e ≡ error.Busy) ⊎ (e ≡ error.Throttled)
+-- a refusal of a begin for want of room: a sync may make some
+abbrev pub IsWantOfRoom : PoolError → Type 0
+IsWantOfRoom e = (e ≡ error.Throttled) ⊎ (e ≡ error.NoSpace)
 
--- it is not tried again after this one, unless it is `Throttled` and the plan's charge alone is above the dirty limit
+-- a refusal after which a transaction is tried again: for want of room, and `Busy` if it locks ranges itself
+abbrev pub IsRetried : List ObjectRange → PoolError → Type 0
+IsRetried [] e = IsWantOfRoom e
+IsRetried (r ∷ rs) e = (e ≡ error.Busy) ⊎ IsWantOfRoom e
+
+-- no sync makes room for this plan: its charge alone is above the dirty limit, or there is no space and no transaction
+-- is unsynced
 abbrev pub IsForGood : List ObjectRange → List Shape → PoolError → Shown → Type 0
-IsForGood ranges plan e s = IsRetried ranges e → (e ≡ error.Throttled) × (is_above_limit plan s ≡ true)
+IsForGood ranges plan e s = IsRetried ranges e → ((e ≡ error.Throttled) × (is_above_limit plan s ≡ true)) ⊎ ((e ≡ error.NoSpace) × (dirty_total s ≡ 0))
 
 -- what was due for a sync of the groups up to the one that was open as this turn began, with this moment, was done in
 -- it, the last step with this reply

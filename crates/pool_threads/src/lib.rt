@@ -8,7 +8,7 @@
 //! handle makes a whole transaction in one turn, and `transact_durably` returns once no crash loses it.
 //! `transact_locked` makes one under the caller's locks. `fetch` reads a range under a lock. Its other calls are single
 //! steps, as those of `PoolState` in `pool_core`; `lock` and `begin` wait for what others hold. When no handle is left,
-//! [`Pool::close`] gives the state back.
+//! [`Pool::finish`] syncs the pool and gives the device back.
 //!
 //! As each step is made under the pool's lock, other threads wait for a write or a flush.
 //!

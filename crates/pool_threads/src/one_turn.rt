@@ -55,8 +55,8 @@ pub(crate) fn transact_turn<'s, 'l, D: SectorDevice>(
     (result, if may_pass { unused } else { None })
 }
 
-// Whether a transaction with this answer may pass if it is made again: it was refused a range, or room below the dirty
-// limit. Without ranges of its own `Busy` is that of the begin, which another transaction of the owner blocks.
+// Whether a transaction with this answer may pass if it is made again: it was refused a range, or room that a sync may
+// make. Without ranges of its own `Busy` is that of the begin, which another transaction of the owner blocks.
 fn may_pass<D: SectorDevice>(
     answer: &Result<Receipt, PoolError>,
     ranges: &[ObjectRange],
@@ -70,6 +70,7 @@ fn may_pass<D: SectorDevice>(
     match answer {
         Err(PoolError::Busy) => !ranges.is_empty(),
         Err(PoolError::Throttled) => !state.is_above_limit(plan),
+        Err(PoolError::NoSpace) => state.status().dirty != 0,
         _ => false,
     }
 }

@@ -6,7 +6,7 @@ use crate::handle::{Handle, LastSeen};
 use crate::opened::Opened;
 use crate::rule::{PoolRule, PoolView};
 use crate::shared::{Shared, boxed};
-use base::{DEFAULT_CACHE_BLOCKS, PoolError, Told};
+use base::{DEFAULT_CACHE_BLOCKS, Group, PoolError, Told};
 use device_model::SectorDevice;
 use import_replay::{Imported, import_with};
 use pool_core::PoolState;
@@ -16,7 +16,7 @@ use word_lock::{SeatSource, WordLock};
 
 /// A pool that threads share by reference, each with a [`Handle`] of its own.
 ///
-/// [`Pool::open`] opens it, [`Pool::handle`] gives a handle, and [`Pool::close`] ends it.
+/// [`Pool::open`] opens it, [`Pool::handle`] gives a handle, and [`Pool::finish`] or [`Pool::close`] ends it.
 #[derive(Drop)]
 pub struct Pool<D: SectorDevice> {
     pub(crate) shared: Shared<D>,
@@ -32,6 +32,7 @@ impl<D: SectorDevice> Pool<D> {
     ghost use Rattle.import_replay.specs.ImportRefusals.{IsImportRefusal};
     ghost use Rattle.import_replay.specs.Mounts.{shown_of_import};
     ghost use Rattle.pool_core.specs.States.{device_of, shown};
+    ghost use Rattle.pool_threads.specs.Finishes.{Finishes};
     ghost use Rattle.pool_threads.specs.Handles.{IsLastState, IsLaterState, IsLeftByOpen, IsNewHandle, IsReadyBehind, LeavesSame, OpensBehind, ShowsImport, ShowsMounted, StartsBehind, WasOf, kin_left, moment_in, opened_in, opened_of, opening_view, shared_of};
     ghost use Rattle.pool_threads.specs.Views.{Explains, SeenPool};
 
@@ -138,9 +139,8 @@ impl<D: SectorDevice> Pool<D> {
         self.shared.stop();
     }
 
-    /// Takes the state out of the pool, for one thread: to sync it (`PoolState::sync_open_group`), or to get its
-    /// device back (`PoolState::into_device`). No handle lives any more then. `None` only if a thread was stopped while
-    /// it had the pool.
+    /// Takes the state out of the pool, for one thread, without a sync. `finish` syncs it and gives the device back. No
+    /// handle lives any more then. `None` only if a thread was stopped while it had the pool.
     ///
     /// For proofs: the state is reached by steps from the first one. If the crash rule was followed, each crash of its
     /// device leaves a cut of its history with every acknowledged entry.
@@ -155,6 +155,30 @@ impl<D: SectorDevice> Pool<D> {
             source: _,
         } = self;
         shared.close()
+    }
+
+    /// Syncs all that was committed, and gives the device back, with the group that is synced. No handle lives any more
+    /// then. The moment, in seconds, is stored in the uberblocks of this sync.
+    ///
+    /// # Errors
+    /// Those of `PoolState::sync_open_group`, with the device. What was acknowledged is on it: open the pool again. It
+    /// is `NotReady` if a transaction is open, since no handle is left to end it, or the open group is 2^60. `Suspended`
+    /// comes without a device if a thread was stopped while it had the pool.
+    pub fn finish(self, moment: u64) -> Result<(Group, D), (PoolError, Option<D>)>
+    where
+        D: Drop,
+        ensures { Finishes (shared_of self) moment result }
+    {
+        let mut state = match self.close() {
+            Some(state) => state,
+            None => return Err((PoolError::Suspended, None)),
+        };
+        let synced = state.sync_open_group(moment);
+        let device = state.into_device();
+        match synced {
+            Ok(group) => Ok((group, device)),
+            Err(error) => Err((error, Some(device))),
+        }
     }
 
     /// For proofs: a pool of a state, with a view that explains it. A program takes `open`.

@@ -1,9 +1,10 @@
 //! A whole transaction in one call, and in one turn: the locks of its plan, a begin, a commit, and the unlocks.
 //!
-//! 1. A transaction is made in one turn of the pool's lock (`one_turn.rt`). If it is refused `Busy` or `Throttled` it
-//!    releases in that turn what it has got, waits, and is made again. So it holds nothing while it waits.
-//! 2. At the dirty limit it waits for the loops of the pool. Without loops it makes the steps of a sync itself, as
-//!    `txg_wait_synced` of `txg.c` would have them made, and as `sync_pool` does.
+//! 1. A transaction is made in one turn of the pool's lock (`one_turn.rt`). If it is refused `Busy`, `Throttled` or
+//!    `NoSpace` it releases in that turn what it has got, waits, and is made again. So it holds nothing while it waits.
+//! 2. At the dirty limit, or without space, it waits for the loops of the pool. Without loops it makes the steps of a
+//!    sync itself, as `txg_wait_synced` of `txg.c` would have them made, and as `sync_pool` does. It gives up when a
+//!    sync can't make room (`dsl_dir_tempreserve_impl` of `dsl_dir.c` answers ERESTART, and ENOSPC at last, so too).
 ghost use Rattle.std.specs.Prelude.{◌≡◌, ◌≤◌, ◌⊎◌, IfErr, IfNone, IfOk, IfSome, IsErrAnd, IsTrue, None, Some, length, vec_capacity};
 ghost use Rattle.base.specs.declared.step.Reply.TheVariants as replied;
 ghost use Rattle.pool_core.specs.States.{shown};
@@ -41,13 +42,17 @@ impl<'p, D: SectorDevice> Handle<'p, D> {
     /// [`DEFAULT_DIRTY_MAX`](base::DEFAULT_DIRTY_MAX) the 171st object makes the first sync, if each transaction
     /// creates one and writes a few bytes to it.
     ///
+    /// **Without space** it does the same: a sync ends reservations, and frees what its transactions have replaced. It
+    /// is refused `NoSpace` when the charges of no transaction are left for a sync to end.
+    ///
     /// It holds no lock and has no open transaction while it waits, while it syncs, and after it, also after a refusal
     /// (`released`). A try that was refused has used up the names of the locks and of the transaction that it got.
     ///
     /// # Errors
     /// `NoMemory` if there is none for the plan, its ranges and the names of the locks; then no step was made. Else the
     /// first refusal of `lock`, `begin` or `commit`, in this order, except `Busy`; `Throttled` only if the plan's
-    /// charge alone is above the dirty limit. If it makes steps of a sync, also those of such a step, as `sync_pool`
+    /// charge alone is above the dirty limit, `NoSpace` only if no transaction is unsynced. If it makes steps of a sync,
+    /// also those of such a step, as `sync_pool`
     /// lists them: `Write` or `Flush`, after which the pool is suspended, `NoMemory`, `Read` or `Damaged` if a block
     /// that the sync needs can't be read, and `NotReady` only if the open group is 2^60. None of the operations takes
     /// place then.
@@ -81,9 +86,9 @@ impl<'p, D: SectorDevice> Handle<'p, D> {
     ///
     /// # Errors
     /// `NoMemory` if there is none for the plan; then no step was made. Else the first refusal of `begin` or `commit`,
-    /// in this order: `NotLocked` if the owner's locks don't cover the plan, and `Throttled` only if the plan's charge
-    /// alone is above the dirty limit. If it makes steps of a sync, also those of such a step, as for `transact`. None
-    /// of the operations takes place then.
+    /// in this order: `NotLocked` if the owner's locks don't cover the plan, `Throttled` only if the plan's charge alone
+    /// is above the dirty limit, and `NoSpace` only if no transaction is unsynced. If it makes steps of a sync, also
+    /// those of such a step, as for `transact`. None of the operations takes place then.
     pub fn transact_locked<'a, 'b, W: Wait>(
         &'a mut self,
         rt: &'b W,

@@ -28,11 +28,14 @@ fn main(rt: HostRuntime) -> Result<()> {
     let halt = Halt::new();
     // It returns once the threads have, and the loops have ended.
     run_beside_loops(&rt, &pool, &halt, || write_in_threads(&rt, &pool, &halt))?;
-    end(&rt, &pool)?;
+    acknowledge(&rt, &pool)?;
     let state = pool.close().context("a thread has the pool")?;
     // The power is lost: the device in memory keeps what was flushed.
     let pool = start(&rt, state.into_device().crash(&[]))?;
-    list(&rt, &pool)
+    list(&rt, &pool)?;
+    // The planned end of a pool: what is left is synced, and the device comes back.
+    let _ = pool.finish(0).map_err(PoolError::from)?;
+    Ok(())
 }
 
 // Opens the pool on a device, and says what was found. Records of the log are replayed if the last run left commits
@@ -85,9 +88,9 @@ fn write_lines<R: Wait + AllocGlobal>(
     Ok(())
 }
 
-// The planned end: syncs all that was committed. One more line comes after it: no sync reaches it any more, so it is
-// durable by the log alone. A server that acknowledges each line would add each of them so.
-fn end<R: Wait + AllocGlobal>(rt: &R, pool: &Pool<MemDevice>) -> Result<()> {
+// Syncs all that was committed. One more line comes after it: no sync reaches it any more, so it is durable by the log
+// alone. A server that acknowledges each line would add each of them so.
+fn acknowledge<R: Wait + AllocGlobal>(rt: &R, pool: &Pool<MemDevice>) -> Result<()> {
     let mut handle = pool.handle();
     handle.sync_pool(rt)?;
     let line = Bytes::from_slice(rt.alloc(), LINE)?;

@@ -268,3 +268,44 @@ fn one_thread_commits_on_at_the_dirty_limit(rt: HostRuntime) -> Result<(), Fail>
     assert_eq!(rt; last, Ok(Ordinal(10_000)));
     Ok(())
 }
+
+// The least pool, whose dirty limit is above what it has room for.
+const CRAMPED: Size = Size {
+    sectors: 12_288,
+    dirty_max: 16_777_216,
+};
+
+// Its blocks have room for some 240 of them. No loop syncs.
+#[test]
+fn one_thread_commits_on_without_space(rt: HostRuntime) -> Result<(), Fail> {
+    let pool = new_pool(rt.alloc(), CRAMPED)?;
+    let last = on_pool(pool, |handle| write_again(&rt, rt.alloc(), handle, 2_000));
+    assert_eq!(rt; last, Ok(Ordinal(2_000)));
+    Ok(())
+}
+
+// Makes objects of 60,000 bytes, each in a transaction, until one is refused: the refusal, and the bytes that are
+// charged then.
+fn fill<W: Wait>(
+    rt: &W,
+    alloc: Global,
+    handle: &mut Handle<'_, MemDevice>,
+) -> Result<(PoolError, u64), PoolError> {
+    for number in 0..1_000u32 {
+        let object = ObjectId(number);
+        let bytes = Bytes::new(vec![in alloc; 7; 60_000]?);
+        let ops = vec![in alloc; Op::Create(object), Op::Write(object, 0, bytes)]?;
+        if let Err(refusal) = handle.transact(rt, Owner(1), Ops::new(ops)) {
+            return Ok((refusal, handle.status(rt).dirty));
+        }
+    }
+    Err(PoolError::TooMany)
+}
+
+#[test]
+fn a_full_pool_is_synced_before_it_refuses(rt: HostRuntime) -> Result<(), Fail> {
+    let pool = new_pool(rt.alloc(), CRAMPED)?;
+    let refused = on_pool(pool, |handle| fill(&rt, rt.alloc(), handle));
+    assert_eq!(rt; refused, Ok((PoolError::NoSpace, 0)));
+    Ok(())
+}
