@@ -74,7 +74,7 @@ module _ (keeps : Type 0) (u w : SeenPool) where
       by (inl other) = let no_way : error.NotReady ≡ error.Suspended = sym is ∙ other in cc
       by (inr other) = let no_way : error.NotReady ≡ error.NoLogSpace = sym is ∙ other in cc
 
-  -- a sync up to a group is refused so at the last group alone, and for space of the log never
+  -- a sync up to a group is refused so at the last group alone, and for space never, of the log or of the pool
   module _ (group : Group) (moment : ℕ) (e : PoolError) (does : MakesDue keeps (duty.SyncUpTo group moment) (Some (reply.Refused e)) u w) where
     syncs_to_last : e ≡ error.NotReady → is_at_last (viewed_state w) ≡ true
     syncs_to_last is = ∥∥₁_elim (there d e seen_by does) (Bool-set _ _) (λ h. ap is_at_last h.1 ∙ by (refusals_up_to _ _ e group.0 moment (last d e seen_by does).due h.0))
@@ -89,21 +89,28 @@ module _ (keeps : Type 0) (u w : SeenPool) where
         by (inl other) = absurd (let no_way : error.NotReady ≡ error.Suspended = sym is ∙ other in cc)
         by (inr found) = le-leb last_number _ found.1
 
-    pub syncs_without_log : e ≡ error.NoLogSpace → ⊥
-    syncs_without_log is = ∥∥₁_elim (there d e seen_by does) ⊥_prop (λ h. by (refusals_up_to _ _ e group.0 moment (last d e seen_by does).due h.0))
+    -- by its tests alone as suspended or as not ready
+    syncs_without : (f : PoolError) → is_untested f ≡ false → (f ≡ error.Suspended → ⊥) → (f ≡ error.NotReady → ⊥) → e ≡ f → ⊥
+    syncs_without f own not_suspended not_unready is = ∥∥₁_elim (there d e seen_by does) ⊥_prop (λ h. by (refusals_up_to _ _ e group.0 moment (last d e seen_by does).due h.0))
       where
         d : Duty
         d = duty.SyncUpTo group moment
 
         seen_by : is_untested e ≡ false
-        seen_by = ap is_untested is
+        seen_by = ap is_untested is ∙ own
 
         ⊥_prop : (x y : ⊥) → x ≡ y
         ⊥_prop x y = absurd x
 
         by : (e ≡ error.Suspended) ⊎ ((e ≡ error.NotReady) × (last_number ≤ (viewed_state (last d e seen_by does).at).shown.line.open_group)) → ⊥
-        by (inl other) = let no_way : error.NoLogSpace ≡ error.Suspended = sym is ∙ other in cc
-        by (inr found) = let no_way : error.NoLogSpace ≡ error.NotReady = sym is ∙ found.0 in cc
+        by (inl other) = not_suspended (sym is ∙ other)
+        by (inr found) = not_unready (sym is ∙ found.0)
+
+    pub syncs_without_log : e ≡ error.NoLogSpace → ⊥
+    syncs_without_log is = syncs_without error.NoLogSpace refl (λ other. let no_way : error.NoLogSpace ≡ error.Suspended = other in cc) (λ other. let no_way : error.NoLogSpace ≡ error.NotReady = other in cc) is
+
+    pub syncs_without_space : e ≡ error.NoSpace → ⊥
+    syncs_without_space is = syncs_without error.NoSpace refl (λ other. let no_way : error.NoSpace ≡ error.Suspended = other in cc) (λ other. let no_way : error.NoSpace ≡ error.NotReady = other in cc) is
 
 -- what is known to be durable is shown so
 known-shown : (ordinal group : ℕ) (s : State) → IsExplainedNow s.shown s.past → IsKnownDurable ordinal group s → is_durable s.shown ordinal group ≡ true

@@ -7,6 +7,7 @@
 //!    sync can't make room (`dsl_dir_tempreserve_impl` of `dsl_dir.c` answers ERESTART, and ENOSPC at last, so too).
 ghost use Rattle.std.specs.Prelude.{◌≡◌, ◌≤◌, ◌⊎◌, IfErr, IfNone, IfOk, IfSome, IsErrAnd, IsTrue, None, Some, length, vec_capacity};
 ghost use Rattle.base.specs.declared.step.Reply.TheVariants as replied;
+ghost use Rattle.base.specs.steps.Shown.{dirty_total};
 ghost use Rattle.pool_core.specs.States.{shown};
 ghost use Rattle.pool_threads.specs.Answers.{Sees, TakesOne, state_seen};
 ghost use Rattle.pool_threads.specs.Handles.{StaysInPool, moment_of};
@@ -66,6 +67,8 @@ impl<'p, D: SectorDevice> Handle<'p, D> {
         ensures committed { IfOk result (λ r. Sees (IsTransacted ops r) self.old self.new) }
         ensures refused { IfErr result (λ e. (e ≡ PoolError.NoMemory)
             ⊎ Sees (IsTransactRefusal (moment_of self.old) owner ops e) self.old self.new) }
+        ensures short { IfErr result (λ e. e ≡ PoolError.NoSpace
+            → dirty_total (state_seen self.new).shown ≡ 0) }
         ensures same_pool { StaysInPool self.old self.new }
         ensures met_none { HasMetNone self.old.seat self.new.seat }
         ensures released { LeavesNothing self.old self.new }
@@ -99,6 +102,8 @@ impl<'p, D: SectorDevice> Handle<'p, D> {
         ensures committed { IfOk result (λ r. Sees (IsTransacted ops r) self.old self.new) }
         ensures refused { IfErr result (λ e. (e ≡ PoolError.NoMemory)
             ⊎ Sees (IsCommitRefusal (moment_of self.old) owner ops e) self.old self.new) }
+        ensures short { IfErr result (λ e. e ≡ PoolError.NoSpace
+            → dirty_total (state_seen self.new).shown ≡ 0) }
         ensures same_pool { StaysInPool self.old self.new }
         ensures met_none { HasMetNone self.old.seat self.new.seat }
         ensures released { LeavesNothing self.old self.new }

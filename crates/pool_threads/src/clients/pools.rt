@@ -1,5 +1,5 @@
 //! What callers rest on of the calls that make a pool and its handles.
-ghost use Rattle.std.specs.Prelude.{◌≡◌, ◌+◌, [], IfSome, IsTrue, List, length};
+ghost use Rattle.std.specs.Prelude.{◌≡◌, ◌+◌, [], IfSome, IsTrue, List, Ok, length};
 ghost use Rattle.base.specs.crash.LeftDisks.{IsLeft};
 ghost use Rattle.base.specs.crash.Mount.{IsChainOf, records_above};
 ghost use Rattle.base.specs.disk.Disk.{bytes_of};
@@ -8,11 +8,14 @@ ghost use Rattle.base.specs.formats.Uberblocks.{IsActive, Uberblock};
 ghost use Rattle.base.specs.history.Past.{Past};
 ghost use Rattle.base.specs.steps.Explains.{IsLeftBy};
 ghost use Rattle.import_replay.specs.Mounts.{shown_of_import};
+ghost use Rattle.pool_core.specs.GroupSyncs.{SyncsOpen};
+ghost use Rattle.pool_core.specs.States.{device_of};
 ghost use Rattle.pool_threads.specs.Handles.{StartsBehind, kin_of, moment_in, moment_of, opening_view, shared_of, taken_by, turns_of, view_seen};
 ghost use Rattle.pool_threads.specs.Views.{Explains, GrowsTo, SeenPool, viewed_state};
 ghost use Rattle.pool_threads.specs.Views.CrashRule.{Behind};
 
 use crate::{Handle, Opened, Pool};
+use base::{Group, PoolError};
 use device_model::SectorDevice;
 use import_replay::Imported;
 use pool_core::PoolState;
@@ -116,5 +119,35 @@ where
     match Pool::open(alloc, device, 1_048_576, 0) {
         Ok(pool) => Some(pool.opened()),
         Err(_) => None,
+    }
+}
+
+// It was synced with this moment, from a state that a later view explains, and its device is that of the end.
+fn a_finished_pool_gives_its_synced_device_back<D: SectorDevice>(
+    pool: Pool<D>,
+) -> Option<(Group, D)>
+where
+    D: Drop,
+    ensures { IfSome result (λ r. (v : SeenPool) × (ended : _) × (left : _) × Explains ended v
+        × GrowsTo (IsTrue D.keeps_model) (opening_view (shared_of pool)) v
+        × SyncsOpen 7 (Ok r.0) ended left × (r.1 ≡ device_of left)) }
+{
+    match pool.finish(7) {
+        Ok(finished) => Some(finished),
+        Err(_) => None,
+    }
+}
+
+// Only a pool that a stopped thread has keeps its device.
+fn a_pool_that_cannot_be_finished_gives_its_device_back<D: SectorDevice>(
+    pool: Pool<D>,
+) -> Option<PoolError>
+where
+    D: Drop,
+    ensures { IfSome result (λ e. e ≡ PoolError.Suspended) }
+{
+    match pool.finish(7) {
+        Err((error, None)) => Some(error),
+        _ => None,
     }
 }

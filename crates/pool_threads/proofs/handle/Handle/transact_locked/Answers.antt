@@ -2,6 +2,7 @@ use Rattle.std.proofs.Common.{[], ◌∙◌, ap, inl, refl}
 use Rattle.pool_threads.proofs.TransactLoops.{locked_of}
 use Rattle.pool_threads.proofs.TransactsRelease.{leaves_nothing, nothing_left}
 use Rattle.pool_threads.proofs.TransactsSeen.{locked_refusals_seen, at_last_along, at_last_seen}
+use Rattle.pool_threads.proofs.TransactsShort.{short_at_last}
 use Rattle.pool_threads.specs.Transacts.{plan_of}
 use Rattle.transactions.specs.LockRanges.{lock_ranges}
 use Rattle.pool_threads.proofs.handle.Handle.transact_locked.Goals as goal
@@ -23,6 +24,11 @@ pub returns-clause-refused : goal.returns-clause-refused
 returns-clause-refused g c =
     let u = locked_of c.args.owner c.args.ops c.transact_at_last.result c.args.self.now c.transact_at_last.new.self c.in_ok-plan.plan c.in_ok-plan.ensures c.transact_at_last.ensures in
     locked_refusals_seen c.args.owner c.args.ops c.transact_at_last.result c.args.self.now c.transact_at_last.new.self u
+
+pub returns-clause-short : goal.returns-clause-short
+returns-clause-short g c =
+    let u = locked_of c.args.owner c.args.ops c.transact_at_last.result c.args.self.now c.transact_at_last.new.self c.in_ok-plan.plan c.in_ok-plan.ensures c.transact_at_last.ensures in
+    short_at_last c.args.owner [] (plan_of c.args.ops) c.args.ops c.transact_at_last.result c.args.self.now c.transact_at_last.new.self u
 
 pub returns-clause-same_pool : goal.returns-clause-same_pool
 returns-clause-same_pool g c =
