@@ -23,31 +23,6 @@ appends_then (Some xs) None c x y p q = absurd p
 appends_then (Some xs) (Some ys) None x y p q = absurd q
 appends_then (Some xs) (Some ys) (Some zs) x y p q = q ∙ ap (λ (l : List ℕ). l ++ y) p ∙ append_assoc xs x y
 
--- nothing is added
-pub appends_kept : (a b c : Option (List ℕ)) (x : List ℕ) → Appends a b x → Keeps b c → Appends a c x
-appends_kept None b c x p q = tt
-appends_kept (Some xs) None c x p q = absurd p
-appends_kept (Some xs) (Some ys) None x p q = absurd q
-appends_kept (Some xs) (Some ys) (Some zs) x p q = q ∙ p
-
--- how an input ended, whatever was read
-pub ends_same : (e : Ending) (x y : List ℕ) (a b : Option (List ℕ)) → ReadsFrame (Err e) x a b → ReadsFrame (Err e) y a b
-ends_same ending.Done x y a b p = p
-ends_same ending.CutOff x y a b p = tt
-ends_same ending.Failed x y a b p = tt
-ends_same ending.NoMemory x y a b p = tt
-
-pub exchanges_none : (old : Streams) → Exchanges [] old old
-exchanges_none old = record { reads = none_read old.input; writes = none_written old.output }
-  where
-    none_read : (a : Option (List ℕ)) → Consumes a a []
-    none_read None = tt
-    none_read (Some xs) = refl
-
-    none_written : (a : Option (List ℕ)) → Appends a a []
-    none_written None = tt
-    none_written (Some xs) = sym (append-nil xs)
-
 pub exchanges_then : (xs ys : List Exchange) (a b c : Streams) → Exchanges xs a b → Exchanges ys b c → Exchanges (xs ++ ys) a c
 exchanges_then xs ys a b c p q = record {
   reads = subst (Consumes a.input c.input) (sym (flat_map-append (λ (x : Exchange). x.frame) xs ys)) (consumes_then a.input b.input c.input (frames_of xs) (frames_of ys) p.reads q.reads);

@@ -13,9 +13,9 @@ use std::thread::{Threads, join};
 /// Runs work beside the two loops of a pool, each of which has a thread of its own. When the work has returned, it
 /// stops the loops and waits for their ends.
 ///
-/// It serves once for a pool: a pool whose loops were stopped has none any more. It begins with the work once both loops
-/// have begun. A loop that is refused raises the flag `halt`: work that takes long looks at it and returns. The loop
-/// that syncs is called again when memory lacks, or a block that it needs can't be read.
+/// It serves once for a pool: a pool whose loops were stopped has none any more. It begins with the work once both
+/// loops have begun. A loop that is refused raises the flag `halt`: work that takes long looks at it and returns. The
+/// loop that syncs is called again when memory lacks, or a block that it needs can't be read.
 ///
 /// # Errors
 /// The first refusal of these that is not `Suspended`, or else `Suspended`: that of the loop that syncs, that of the

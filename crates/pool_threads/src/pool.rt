@@ -162,8 +162,8 @@ impl<D: SectorDevice> Pool<D> {
     ///
     /// # Errors
     /// Those of `PoolState::sync_open_group`, with the device. What was acknowledged is on it: open the pool again. It
-    /// is `NotReady` if a transaction is open, since no handle is left to end it, or the open group is 2^60. `Suspended`
-    /// comes without a device if a thread was stopped while it had the pool.
+    /// is `NotReady` if a transaction is open, since no handle is left to end it, or if the open group is 2^60.
+    /// `Suspended` comes without a device if a thread was stopped while it had the pool.
     pub fn finish(self, moment: u64) -> Result<(Group, D), (PoolError, Option<D>)>
     where
         D: Drop,

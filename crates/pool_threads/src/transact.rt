@@ -52,11 +52,10 @@ impl<'p, D: SectorDevice> Handle<'p, D> {
     /// # Errors
     /// `NoMemory` if there is none for the plan, its ranges and the names of the locks; then no step was made. Else the
     /// first refusal of `lock`, `begin` or `commit`, in this order, except `Busy`; `Throttled` only if the plan's
-    /// charge alone is above the dirty limit, `NoSpace` only if no transaction is unsynced. If it makes steps of a sync,
-    /// also those of such a step, as `sync_pool`
-    /// lists them: `Write` or `Flush`, after which the pool is suspended, `NoMemory`, `Read` or `Damaged` if a block
-    /// that the sync needs can't be read, and `NotReady` only if the open group is 2^60. None of the operations takes
-    /// place then.
+    /// charge alone is above the dirty limit, `NoSpace` only if no transaction is unsynced (`short`). If it makes steps
+    /// of a sync, also those of such a step, as `sync_pool` lists them: `Write` or `Flush`, after which the pool is
+    /// suspended, `NoMemory`, `Read` or `Damaged` if a block that the sync needs can't be read, and `NotReady` only if
+    /// the open group is 2^60. None of the operations takes place then.
     pub fn transact<'a, 'b, W: Wait>(
         &'a mut self,
         rt: &'b W,
@@ -89,9 +88,9 @@ impl<'p, D: SectorDevice> Handle<'p, D> {
     ///
     /// # Errors
     /// `NoMemory` if there is none for the plan; then no step was made. Else the first refusal of `begin` or `commit`,
-    /// in this order: `NotLocked` if the owner's locks don't cover the plan, `Throttled` only if the plan's charge alone
-    /// is above the dirty limit, and `NoSpace` only if no transaction is unsynced. If it makes steps of a sync, also
-    /// those of such a step, as for `transact`. None of the operations takes place then.
+    /// in this order: `NotLocked` if the owner's locks don't cover the plan; `Throttled` only if the plan's charge
+    /// alone is above the dirty limit; `NoSpace` only if no transaction is unsynced (`short`). If it makes steps of a
+    /// sync, also those of such a step, as for `transact`. None of the operations takes place then.
     pub fn transact_locked<'a, 'b, W: Wait>(
         &'a mut self,
         rt: &'b W,
