@@ -1,13 +1,13 @@
 -- Frames that are answered one after another, as a loop does, are all answered; and the bytes of all were moved.
 use Rattle.std.proofs.Common.{◌≡◌, ◌∷◌, ◌++◌, [], ℕ, List, append_assoc, append-nil, ap, refl, subst, sym, ◌∙◌}
-use Rattle.std.specs.Prelude.{None, Option, Some, Err}
-use Rattle.std.specs.Io.KnownBytes.{Appends, Consumes, Keeps}
+use Rattle.std.specs.Prelude.{None, Option, Some}
+use Rattle.std.specs.Io.KnownBytes.{Appends, Consumes}
 use Rattle.std.proofs.lemmas.Grind.{flat_map-append}
 use Rattle.base.specs.declared.names.Owner.{Owner}
 use Rattle.device_model.specs.declared.device.SectorDevice.{Ghosts}
 use Rattle.pool_threads.specs.declared.handle.Handle.{Handle}
 use Rattle.frame_answers.specs.Frames.{AnswersFrame}
-use Rattle.frame_answers.specs.Serving.{AnswersFrames, EndsWell, Exchange, Exchanges, ReadsFrame, Streams, answers_of, frames_of}
+use Rattle.frame_answers.specs.Serving.{AnswersFrames, EndsWell, Exchange, Exchanges, Streams, answers_of, frames_of}
 use Rattle.frame_answers.specs.declared.serving.Ending.{Ending}
 use Rattle.frame_answers.specs.declared.serving.Ending.TheVariants as ending
 
