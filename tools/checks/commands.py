@@ -319,6 +319,8 @@ class Commands(Judge):
             ["script", str(SIZE)],
             ["script", past, "-"],
             ["script", str(SIZE), "-", "--file", "fault.pool"],
+            ["script", str(SIZE), "-", "--sync"],
+            ["script", "--sync", str(SIZE), "-"],
             load,
             [*load, "--workers", "0", "--ops", "0", "--seed", "5"],
             [*load, "--workers", "17", "--ops", "0", "--seed", "5"],

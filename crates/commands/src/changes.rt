@@ -310,8 +310,8 @@ fn ops_of(
 
 /// Removes an object of the pool on a device, syncs it, writes its number to `out`, and returns the exit status.
 ///
-/// The status is 0 if that is durable, 1 if the engine refused it, and 3 if the file was not opened as a device or `out`
-/// can't be written. A failure is reported on `errors`.
+/// The status is 0 if that is durable, 1 if the engine refused it, and 3 if the file was not opened as a device or
+/// `out` can't be written. A failure is reported on `errors`.
 pub fn run_remove<
     R: Wait + AllocGlobal,
     D: SectorDevice + NotesRefusals + Drop,

@@ -22,9 +22,9 @@ const SIZE_AT: usize = 72;
 /// Writes to `out` what the labels of a device hold, and returns the exit status. It only reads the file: it makes no
 /// write and no flush, whatever it returns.
 ///
-/// The status is 0 if it was written, whatever the labels hold. It is 1 if the engine refused it: `NoMemory`, `Read`, or
-/// `BadGeometry` if no pool may have the file's size. It is 3 if the file was not opened as a device or `out` can't be
-/// written. A failure is reported on `errors`.
+/// The status is 0 if it was written, whatever the labels hold. It is 1 if the engine refused it: `NoMemory`, `Read`,
+/// or `BadGeometry` if no pool may have the file's size. It is 3 if the file was not opened as a device or `out` can't
+/// be written. A failure is reported on `errors`.
 pub fn run_labels<D: SectorDevice + NotesRefusals, W: Write, E: Write>(
     alloc: Global,
     file: &str,

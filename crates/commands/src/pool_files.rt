@@ -1,4 +1,5 @@
-//! The commands on a pool in a file: `create` makes one, `show` reports what an import would mount, and `ls` its objects.
+//! The commands on a pool in a file: `create` makes one, `show` reports what an import would mount, and `ls` its
+//! objects.
 //!
 //! The size is tested first, then the name, and only then the file is opened. So the file is unchanged if either is
 //! refused: a file is opened for a `NewPool`, which only these tests make. `show` and `ls` only read.

@@ -26,8 +26,8 @@ use std::sync::Wait;
 use std::thread::Threads;
 
 /// Does a command of the program, and returns the exit status. A file that another process has is waited for as long as
-/// the options say, and a script may wait for its pool. A load has threads, and shows its progress if `errors`, which is
-/// standard error, is a terminal. Failures are reported there.
+/// the options say, and a script may wait for its pool. A load has threads, and shows its progress if `errors`, which
+/// is standard error, is a terminal. Failures are reported there.
 pub fn run<
     R: Files + Input + Print + Eprint + AllocGlobal + Threads + Wait + Sync,
     E: Write + IsTerminal,

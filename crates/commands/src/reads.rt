@@ -17,11 +17,11 @@ use std::alloc::Global;
 use std::io::Write;
 use std::num::NonZeroUsize;
 
-/// Writes to `out` the bytes of an object of the pool in a file, and nothing else. Returns the exit status, and what was
-/// opened. It only reads the file: it makes no write and no flush, whatever it returns.
+/// Writes to `out` the bytes of an object of the pool in a file, and nothing else. Returns the exit status, and what
+/// was opened. It only reads the file: it makes no write and no flush, whatever it returns.
 ///
-/// The status is 0 if all was written. It is 1 if the engine refused it, and 3 if the file was not opened as a device or
-/// `out` can't be written. A failure is reported on `errors`. Nothing is written to `out` if a block can't be read.
+/// The status is 0 if all was written. It is 1 if the engine refused it, and 3 if the file was not opened as a device
+/// or `out` can't be written. A failure is reported on `errors`. Nothing is written to `out` if a block can't be read.
 pub fn run_get<D: SectorDevice + NotesRefusals, W: Write, E: Write>(
     alloc: Global,
     arguments: GetArguments<'_>,
@@ -111,8 +111,8 @@ fn read_range<B: BlockReader>(
 }
 
 impl GetArguments<'_> {
-    // The range that is asked for, up to the last byte that an object may have. It has no byte if the offset is there or
-    // above it.
+    // The range that is asked for, up to the last byte that an object may have. It has no byte if the offset is there
+    // or above it.
     fn range(&self) -> Range
         ensures { result ≡ range_of self.now }
     {

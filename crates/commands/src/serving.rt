@@ -19,10 +19,10 @@ use std::thread::Threads;
 /// Opens the pool on a device, answers the frames of the input until it ends, syncs the pool, and returns the exit
 /// status.
 ///
-/// The status is 0 if the input ended after a whole frame, or after none, and the pool was synced. It is 1 if the engine
-/// refused to open or to sync the pool, and 3 if the file was not opened as a device, if the input can't be read or ends
-/// within a frame, or if the output can't be written. A failure is reported on `errors`. What was answered is made,
-/// whatever the status.
+/// The status is 0 if the input ended after a whole frame, or after none, and the pool was synced. It is 1 if the
+/// engine refused to open or to sync the pool, and 3 if the file was not opened as a device, if the input can't be read
+/// or ends within a frame, or if the output can't be written. A failure is reported on `errors`. What was answered is
+/// made, whatever the status.
 pub fn run_serve<
     R: Threads + Wait + Sync + AllocGlobal,
     D: SectorDevice + NotesRefusals + Send + Drop,

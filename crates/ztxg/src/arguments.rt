@@ -69,6 +69,12 @@ fn script_command<'a>(alloc: Global) -> Result<Command<'a>, AllocError> {
     let file = Arg::new(alloc, "file").long("file").value_name("FILE").help(
         "The path of a file to work on, in place of a device in memory of SIZE bytes",
     );
+    let sync = flag(
+        alloc,
+        "sync",
+        "Syncs the pool in FILE at the end; refused with SIZE",
+    )
+    .conflicts_with("SIZE")?;
     Command::new(alloc, "script")
         .about("Runs a script on a pool, and prints a line for each of its commands")
         .after_help(help::SCRIPT)
@@ -85,7 +91,7 @@ fn script_command<'a>(alloc: Global) -> Result<Command<'a>, AllocError> {
             "stop",
             "Ends the script after the first line that is refused, with status 1",
         ))?
-        .arg(flag(alloc, "sync", "Syncs the pool in FILE at the end"))?
+        .arg(sync)?
         .arg(moment(alloc))
 }
 

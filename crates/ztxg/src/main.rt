@@ -1,6 +1,7 @@
 //! The command line of the pool's write engine. `ztxg create FILE NAME GUID SIZE` makes a pool in a file, whose objects
-//! `ls`, `get`, `put` and `rm` list, read, write and remove. `show`, `check` and `labels` report on it, `load` makes many
-//! writes on it, `serve` answers frames of requests to it, and `script` runs a script, on it or on a device in memory.
+//! `ls`, `get`, `put` and `rm` list, read, write and remove. `show`, `check` and `labels` report on it, `load` makes
+//! many writes on it, `serve` answers frames of requests to it, and `script` runs a script, on it or on a device in
+//! memory.
 #![tactic(auto)]
 
 mod arguments;
