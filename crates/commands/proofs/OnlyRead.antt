@@ -1,5 +1,5 @@
 -- A device that was only read refused no write and no flush, and stays where it was opened.
-use Rattle.std.proofs.Common.{◌≡◌, ◌⊎◌, inl, inr, ℕ, List, Result, Ok, Err, IsTrue, ap, refl, subst, sym, ◌∙◌}
+use Rattle.std.proofs.Common.{◌≡◌, ◌⊎◌, inl, inr, ℕ, List, Result, Ok, IsTrue, refl, subst, sym}
 use Rattle.std.specs.Prelude.{IfOk}
 use Rattle.base.specs.declared.error.PoolError.{PoolError}
 use Rattle.base.specs.declared.error.PoolError.TheVariants.{Flush, Read, Write}

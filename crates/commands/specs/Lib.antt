@@ -1,4 +1,5 @@
 pub mod Checks
+pub mod Committed
 pub mod Failures
 pub mod Puts
 pub mod Reads

@@ -7,13 +7,22 @@
 //!    writes whole records.
 //! 3. If a piece is refused, the pieces before it stay, and are synced as those of a whole put are.
 
-ghost use Rattle.std.specs.Prelude.{◌≡◌, ◌≢◌, ◌≤◌, false, Err, IfErr, IfOk, IsErr};
-ghost use Rattle.commands.specs.Puts.{first_byte, is_target};
+ghost use Rattle.std.specs.Io.KnownBytes.{Appends};
+ghost use Rattle.std.specs.Prelude.{ℕ, ◌≡◌, ◌≢◌, ◌≤◌, ◌<◌, ◌+◌, ◌*◌, ◌^◌, false, true, length, min, Err, IfErr, IfOk, IsErr, OnOk, Result};
+ghost use Rattle.base.specs.declared.error.PoolError as declared_error;
+ghost use Rattle.base.specs.declared.step.Reply.TheVariants as reply;
+ghost use Rattle.base.specs.declared.step.Step.TheVariants as step;
+ghost use Rattle.base.specs.steps.Runs.{reply_of};
+ghost use Rattle.commands.specs.Committed.{MakesFirst, PutsAndPrints, PutsInto, PutsOrFails, RemovesFrom, RemovesOn, command, result_after};
+ghost use Rattle.commands.specs.Puts.{first_byte, is_target, piece_ops, piece_size, put_transactions, removed_line, start_of};
+ghost use Rattle.pool_threads.specs.Answers.{Makes};
+ghost use Rattle.pool_threads.specs.Handles.{shared_of};
+ghost use Rattle.pool_threads.specs.Transacts.{TransactsOrLacks};
 
 use crate::arguments::{PutArguments, RemoveArguments};
 use crate::failure::{Failure, NotesRefusals, Verbosity, report_failure};
 use base::{
-    Bytes, DEFAULT_DIRTY_MAX, MAX_LENGTH, OBJECT_COUNT, ObjectId, Op, Ops, Owner, PoolError,
+    Bytes, DEFAULT_DIRTY_MAX, Group, MAX_LENGTH, OBJECT_COUNT, ObjectId, Op, Ops, Owner, PoolError,
     RECORD_SIZE, Receipt,
 };
 use device_model::{FileRefusal, SectorDevice};
@@ -25,9 +34,6 @@ use std::sync::Wait;
 
 /// The most bytes that one transaction of a put writes.
 const PIECE: usize = 16 * RECORD_SIZE;
-
-/// How often a transaction that finds no space syncs the pool and is made again.
-const SYNCS_FOR_SPACE: u32 = 2;
 
 /// The command has one owner.
 const OWNER: Owner = Owner(0);
@@ -55,6 +61,11 @@ struct Put {
 }
 
 impl fmt::Display for Put {
+    ghost use Rattle.std.specs.Prelude.{Some};
+    ghost use Rattle.commands.specs.Puts.{put_text};
+
+    ghost output = { λ p. Some (put_text p.bytes p.transactions) };
+
     fn fmt<W: fmt::Write>(&self, f: &mut fmt::Formatter<W>) -> fmt::Result {
         write!(
             f,
@@ -71,9 +82,15 @@ impl Put {
         is_synced: true,
     };
 
-    fn add(&mut self, bytes: usize) {
-        self.bytes = self.bytes.saturating_add(bytes as u64);
-        self.transactions = self.transactions.saturating_add(1);
+    // One transaction more, of so many bytes.
+    fn add(&mut self, bytes: usize)
+        requires bytes { self.old.bytes + bytes < 2 ^ 64 }
+        requires transactions { self.old.transactions + 1 < 2 ^ 64 }
+        ensures bytes { self.new.bytes ≡ self.old.bytes + bytes }
+        ensures transactions { self.new.transactions ≡ self.old.transactions + 1 }
+    {
+        self.bytes += bytes as u64;
+        self.transactions += 1;
         self.is_synced = false;
     }
 }
@@ -98,6 +115,9 @@ pub fn run_put<R: Wait + AllocGlobal, D: SectorDevice + NotesRefusals + Drop, W:
     ensures unusable { IsErr opened → result ≡ 3 }
     ensures target { IfOk input (λ bytes. IfOk opened (λ _. is_target arguments.entry.object
         arguments.entry.offset bytes.items ≡ false → result ≡ 1)) }
+    ensures put { result ≡ 0 → IfOk input (λ bytes. IfOk opened (λ device. PutsAndPrints
+        D.SectorDevice device (record { 0 = arguments.entry.object }) arguments.entry.offset
+        bytes.items (W.contents out.old) (W.contents out.new))) }
     ensures range { result ≤ 3 }
     ensures no_usage { result ≢ 2 }
 {
@@ -141,6 +161,9 @@ fn put_bytes<R: Wait + AllocGlobal, D: SectorDevice + NotesRefusals + Drop>(
     ensures unusable { IfErr opened (λ cause. result.1 ≡ Err (Failure.Unusable cause)) }
     ensures target { IfOk opened (λ _. is_target arguments.entry.object arguments.entry.offset
         bytes.now ≡ false → result.1 ≡ Err (Failure.Refused PoolError.BadRange)) }
+    ensures put { IfOk opened (λ device. PutsOrFails D.SectorDevice device
+        (record { 0 = arguments.entry.object }) arguments.entry.offset bytes.now
+        result.0 result.1) }
 {
     let device = match opened {
         Ok(device) => device,
@@ -200,6 +223,16 @@ enum Start {
     Keeps,
 }
 
+impl Start {
+    // Whether it leaves the object as it was.
+    fn keeps_all(self) -> bool
+        ensures keeps { result ≡ true → self ≡ Start.Keeps }
+        ensures changes { result ≡ false → self ≢ Start.Keeps }
+    {
+        matches!(self, Start::Keeps)
+    }
+}
+
 // Puts bytes into an object, and syncs the pool, also after a refusal. It returns the first refusal.
 fn put_and_sync<R: Wait, D: SectorDevice>(
     rt: &R,
@@ -207,21 +240,36 @@ fn put_and_sync<R: Wait, D: SectorDevice>(
     pool: &Pool<D>,
     target: Target,
     bytes: &[u8],
-) -> (Put, Result<(), PoolError>) {
+) -> (Put, Result<(), PoolError>)
+    requires { is_target target.object.0 target.offset bytes.now ≡ true }
+    ensures { PutsInto (shared_of pool.entry.now) target.object target.offset bytes.now
+        result.0 result.1 }
+{
     let mut handle = pool.handle();
-    let mut put = Put::NOTHING;
-    let ended = match find_start(rt, &mut handle, target) {
-        Ok(start) => put_pieces(rt, alloc, &mut handle, target, start, bytes, &mut put),
-        Err(refusal) => Err(refusal),
+    let start = match find_start(rt, &mut handle, target) {
+        Ok(start) => start,
+        Err(refusal) => return (Put::NOTHING, Err(refusal)),
     };
+    let mut put = Put::NOTHING;
+    let made = put_pieces(rt, alloc, &mut handle, target, start, bytes, &mut put);
     if put.transactions == 0 {
-        return (put, ended);
+        return (put, made);
     }
     let synced = handle.sync_pool(rt);
     put.is_synced = synced.is_ok();
-    match (ended, synced) {
-        (Ok(()), Err(refusal)) => (put, Err(refusal)),
-        (ended, _) => (put, ended),
+    (put, first_refusal(made, synced))
+}
+
+// The first refusal of a put's pieces and of the sync after them.
+fn first_refusal(
+    made: Result<(), PoolError>,
+    synced: Result<Group, PoolError>,
+) -> Result<(), PoolError>
+    ensures { result ≡ result_after made synced }
+{
+    match (made, synced) {
+        (Ok(()), Err(refusal)) => Err(refusal),
+        (made, _) => made,
     }
 }
 
@@ -230,7 +278,12 @@ fn find_start<R: Wait, D: SectorDevice>(
     rt: &R,
     handle: &mut Handle<'_, D>,
     target: Target,
-) -> Result<Start, PoolError> {
+) -> Result<Start, PoolError>
+    ensures { (found : Result ℕ declared_error.PoolError)
+        × Makes (step.Length target.object) (reply_of (λ count. reply.Length count) found)
+        handle.old handle.new
+        × (result ≡ start_of target.offset found) }
+{
     match (handle.length(rt, target.object), target.offset) {
         (Ok(_), Some(_)) => Ok(Start::Keeps),
         (Ok(_), None) => Ok(Start::Empties),
@@ -248,15 +301,23 @@ fn put_pieces<R: Wait, D: SectorDevice>(
     start: Start,
     bytes: &[u8],
     put: &mut Put,
-) -> Result<(), PoolError> {
+) -> Result<(), PoolError>
+    requires fits { is_target target.object.0 target.offset bytes.now ≡ true }
+    requires no_bytes { put.old.bytes ≡ 0 }
+    requires no_transactions { put.old.transactions ≡ 0 }
+    ensures made { MakesFirst (put_transactions start target.object target.offset bytes.now)
+        put.new.transactions result handle.old handle.new }
+    ensures size { put.new.bytes ≡ min (piece_size * put.new.transactions) (length bytes.now) }
+{
     let offset = first_byte(target.offset);
-    if bytes.is_empty() && !matches!(start, Start::Keeps) {
+    if bytes.is_empty() && !start.keeps_all() {
         commit(rt, alloc, handle, start, target.object, offset, bytes)?;
         put.add(0);
+        return Ok(());
     }
     let mut start = start;
     for piece in bytes.chunks(PIECE) {
-        let at = offset.saturating_add(put.bytes);
+        let at = offset + put.bytes;
         commit(rt, alloc, handle, start, target.object, at, piece)?;
         put.add(piece.len());
         start = Start::Keeps;
@@ -264,8 +325,7 @@ fn put_pieces<R: Wait, D: SectorDevice>(
     Ok(())
 }
 
-// Commits a piece as one transaction, with what comes before it. If it finds no space it syncs the pool, and makes it
-// again.
+// Commits a piece as one transaction, with what comes before it.
 fn commit<R: Wait, D: SectorDevice>(
     rt: &R,
     alloc: Global,
@@ -274,16 +334,10 @@ fn commit<R: Wait, D: SectorDevice>(
     object: ObjectId,
     at: u64,
     piece: &[u8],
-) -> Result<Receipt, PoolError> {
-    for _ in 0..SYNCS_FOR_SPACE {
-        let ops = ops_of(alloc, start, object, at, piece)?;
-        match handle.transact(rt, OWNER, ops) {
-            Err(PoolError::NoSpace) => {
-                handle.sync_pool(rt)?;
-            }
-            committed => return committed,
-        }
-    }
+) -> Result<Receipt, PoolError>
+    ensures { TransactsOrLacks command (piece_ops start object at piece.now) result
+        handle.old handle.new }
+{
     let ops = ops_of(alloc, start, object, at, piece)?;
     handle.transact(rt, OWNER, ops)
 }
@@ -295,7 +349,9 @@ fn ops_of(
     object: ObjectId,
     at: u64,
     piece: &[u8],
-) -> Result<Ops, AllocError> {
+) -> Result<Ops, AllocError>
+    ensures { IfOk result (λ ops. ops ≡ piece_ops start object at piece.now) }
+{
     let mut ops = Vec::with_capacity(alloc, 2)?;
     match start {
         Start::Creates => ops.push_reserved(Op::Create(object)),
@@ -326,6 +382,10 @@ pub fn run_remove<
     errors: &mut E,
 ) -> u8
     ensures unusable { IsErr opened → result ≡ 3 }
+    ensures removed { result ≡ 0 → IfOk opened (λ device.
+        RemovesOn D.SectorDevice device (record { 0 = arguments.entry.object })
+        × Appends (W.contents out.old) (W.contents out.new)
+        (removed_line arguments.entry.object)) }
     ensures range { result ≤ 3 }
     ensures no_usage { result ≢ 2 }
 {
@@ -344,7 +404,9 @@ fn remove_object<R: Wait + AllocGlobal, D: SectorDevice + NotesRefusals + Drop>(
     arguments: RemoveArguments<'_>,
     opened: Result<D, FileRefusal>,
 ) -> Result<(), Failure>
-    ensures { IfErr opened (λ cause. result ≡ Err (Failure.Unusable cause)) }
+    ensures unusable { IfErr opened (λ cause. result ≡ Err (Failure.Unusable cause)) }
+    ensures removed { OnOk result (IfOk opened (λ device. RemovesOn D.SectorDevice device
+        (record { 0 = arguments.entry.object }))) }
 {
     let device = match opened {
         Ok(device) => device,
@@ -366,7 +428,9 @@ fn remove_and_sync<R: Wait, D: SectorDevice>(
     alloc: Global,
     pool: &Pool<D>,
     object: ObjectId,
-) -> Result<(), PoolError> {
+) -> Result<(), PoolError>
+    ensures { OnOk result (RemovesFrom (shared_of pool.entry.now) object) }
+{
     let mut handle = pool.handle();
     let ops = Ops::new(vec![in alloc; Op::Remove(object)]?);
     handle.transact(rt, OWNER, ops)?;

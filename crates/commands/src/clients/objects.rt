@@ -1,10 +1,15 @@
 //! What callers rely on of the commands on objects, on labels, and of scripts.
 
-ghost use Rattle.std.specs.Prelude.{◌≡◌, ◌≢◌, [], ◌∷◌, IfOk, IsOk, IsTrue, Some};
+ghost use Rattle.std.specs.Prelude.{ℕ, ◌≡◌, ◌≢◌, ◌≤◌, ◌⊎◌, [], ◌∷◌, IfOk, IsOk, IsTrue, Some, codes, length, slice_get};
 ghost use Rattle.std.specs.FinMap as finite;
 ghost use Rattle.base.specs.crash.Mount.{MountsTo};
+ghost use Rattle.base.specs.declared.operation.Op.TheVariants.{Create, Remove, SetLength, Write};
 ghost use Rattle.base.specs.disk.Disk.{bytes_of};
 ghost use Rattle.base.specs.history.Contents.{Contents};
+ghost use Rattle.base.specs.history.History.{Entry};
+ghost use Rattle.base.specs.steps.Seen.{IsKnownDurable};
+ghost use Rattle.commands.specs.Committed.{HappensOn};
+ghost use Rattle.commands.specs.Puts.{PutsLeaveBytes};
 
 use super::{BRIEF, OPTIONS};
 use crate::arguments::{
@@ -29,6 +34,14 @@ const TWO_BYTES: GetArguments<'static> = GetArguments {
     object: 7,
     offset: 1,
     length: Some(2),
+};
+
+// All bytes of object 7.
+const ALL_OF_7: PutArguments<'static> = PutArguments {
+    file: "tank.pool",
+    object: 7,
+    offset: None,
+    moment: 0,
 };
 
 // The output had no bytes before.
@@ -96,6 +109,66 @@ fn a_look_at_the_labels_writes_nothing_to_the_device<
     opened
 }
 
+// Whatever contents they are applied to, the transactions of a put leave the object with its bytes.
+fn what_a_put_commits_leaves_its_bytes()
+    ensures { PutsLeaveBytes }
+{}
+
+// Object 7 is made or emptied, and gets both bytes, in one entry that was not there before and that no crash loses.
+fn a_put_of_two_bytes_is_one_durable_entry<
+    R: Wait + AllocGlobal,
+    D: SectorDevice + NotesRefusals + Drop,
+    W: Write,
+    E: Write,
+>(rt: &R, input: Vec<u8>, device: D, out: &mut W, errors: &mut E) -> u8
+    requires { input.items ≡ 1 ∷ 2 ∷ [] }
+    ensures { result ≡ 0 → HappensOn D.SectorDevice device
+        (λ before after. (ordinal : ℕ) × (e : Entry)
+        × (length before.past.entries ≤ ordinal)
+        × (slice_get after.past.entries ordinal ≡ Some e)
+        × ((e.ops ≡ Create (record { 0 = 7 }) ∷ Write (record { 0 = 7 }) 0 (1 ∷ 2 ∷ []) ∷ [])
+        ⊎ (e.ops ≡ SetLength (record { 0 = 7 }) 0 ∷ Write (record { 0 = 7 }) 0 (1 ∷ 2 ∷ []) ∷ []))
+        × IsKnownDurable ordinal e.group after) }
+{
+    run_put(rt, ALL_OF_7, BRIEF, Ok(input), Ok(device), out, errors)
+}
+
+// The output had no bytes before.
+fn a_put_prints_how_many_bytes_it_committed<
+    R: Wait + AllocGlobal,
+    D: SectorDevice + NotesRefusals + Drop,
+    W: Write,
+    E: Write,
+>(rt: &R, input: Vec<u8>, device: D, out: &mut W, errors: &mut E) -> u8
+    requires { input.items ≡ 1 ∷ 2 ∷ [] }
+    ensures { result ≡ 0 → W.contents out.old ≡ Some []
+        → W.contents out.new ≡ Some (codes "put 2 bytes in 1 transactions\n") }
+{
+    run_put(rt, ALL_OF_7, BRIEF, Ok(input), Ok(device), out, errors)
+}
+
+// Object 7 is removed in one entry that was not there before and that no crash loses.
+fn a_removed_object_is_one_durable_entry<
+    R: Wait + AllocGlobal,
+    D: SectorDevice + NotesRefusals + Drop,
+    W: Write,
+    E: Write,
+>(rt: &R, device: D, out: &mut W, errors: &mut E) -> u8
+    ensures { result ≡ 0 → HappensOn D.SectorDevice device
+        (λ before after. (ordinal : ℕ) × (e : Entry)
+        × (length before.past.entries ≤ ordinal)
+        × (slice_get after.past.entries ordinal ≡ Some e)
+        × (e.ops ≡ Remove (record { 0 = 7 }) ∷ [])
+        × IsKnownDurable ordinal e.group after) }
+{
+    let arguments = RemoveArguments {
+        file: "tank.pool",
+        object: 7,
+        moment: 0,
+    };
+    run_remove(rt, arguments, BRIEF, Ok(device), out, errors)
+}
+
 // There is no object 5,292.
 fn no_bytes_are_put_into_the_object_after_the_last<
     R: Wait + AllocGlobal,
@@ -122,14 +195,8 @@ fn an_input_that_is_not_read_is_put_with_status_3<
 >(rt: &R, opened: Result<D, FileRefusal>, out: &mut W, errors: &mut E) -> u8
     ensures { result ≡ 3 }
 {
-    let arguments = PutArguments {
-        file: "tank.pool",
-        object: 7,
-        offset: None,
-        moment: 0,
-    };
     let input = Err(io::Error::from(ErrorKind::NotFound));
-    run_put(rt, arguments, BRIEF, input, opened, out, errors)
+    run_put(rt, ALL_OF_7, BRIEF, input, opened, out, errors)
 }
 
 fn an_object_of_a_pool_that_is_not_opened_is_removed_with_status_3<

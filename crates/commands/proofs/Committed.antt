@@ -1,0 +1,289 @@
+-- What a command's handle has committed is in its history, in order, and once the pool is synced no crash loses it.
+use Rattle.std.proofs.Common.{◌≡◌, ◌≢◌, ◌+◌, ◌*◌, ◌<◌, ◌≤◌, ◌∷◌, [], ℕ, zero, suc, List, Ok, Err, ap, arith, inl, inr, length, length-append, min, refl, subst, sym, take, true, ◌∙◌}
+use Rattle.std.specs.Prelude.{Bool, IsTrue, None, Option, Result, Some, is_ok, slice_get}
+use Rattle.std.proofs.Math.Logic.{∥∥₁_elim, ∥∥₁_map, ∥∥₁_prop}
+use Rattle.std.proofs.Math.Seq.{take-length}
+use Rattle.std.proofs.lemmas.Bool.{false≢true}
+use Rattle.base.specs.declared.error.PoolError.{PoolError}
+use Rattle.base.specs.declared.error.PoolError.TheVariants.{NoMemory, NoObject}
+use Rattle.base.specs.declared.names.Group.{Group}
+use Rattle.base.specs.declared.names.LockId.{LockId}
+use Rattle.base.specs.declared.names.ObjectId.{ObjectId}
+use Rattle.base.specs.declared.names.Receipt.{Receipt}
+use Rattle.base.specs.declared.names.TxId.{TxId}
+use Rattle.base.specs.declared.operation.Op.{Op}
+use Rattle.base.specs.declared.operation.Op.TheVariants.{Remove}
+use Rattle.base.specs.declared.operation.Shape.{Shape}
+use Rattle.base.specs.declared.range.ObjectRange.{ObjectRange}
+use Rattle.base.specs.history.Past.{IsPrefixOf}
+use Rattle.base.specs.steps.ExactNow.{GoesOn, IsExplainedNow}
+use Rattle.base.specs.steps.Steps.{State}
+use Rattle.base.proofs.common.KeptLists.{none_at}
+use Rattle.base.proofs.steps.KeptTables.{runs_keep_tables}
+use Rattle.base.proofs.steps.SeenGroups.{groups_go_up}
+use Rattle.base.proofs.steps.SeenStates.{at-prefix, grown}
+use Rattle.device_model.specs.declared.device.SectorDevice.{Ghosts}
+use Rattle.pool_threads.specs.declared.handle.Handle.{Handle}
+use Rattle.pool_threads.specs.Answers.{state_seen}
+use Rattle.pool_threads.specs.Handles.{view_seen}
+use Rattle.pool_threads.specs.Transacts.{Locks, LocksAndBegins, MakesTransaction, TransactsOrLacks, plan_of}
+use Rattle.pool_threads.specs.Views.{GrowsTo, SeenPool, viewed_state}
+use Rattle.pool_threads.specs.Waits.{AreDurable, SyncsPool, SyncsUpTo, result_of}
+use Rattle.pool_threads.proofs.Along.{GoesAlong, along_made, along_on, along_same}
+use Rattle.pool_threads.proofs.TransactsSeen.{entered_by, transaction_grows}
+use Rattle.transactions.specs.LockRanges.{lock_ranges}
+use Rattle.frame_answers.proofs.Along.{along_syncs, along_transacts}
+use Rattle.commands.specs.Committed.{AreEntered, AreNewEntries, HappensOn, MakesFirst, PutsAsFound, PutsFrom, PutsOn, RemovesOn, SyncsAfter, command, result_after}
+use Rattle.commands.specs.Puts.{MayStart, put_transactions, start_of}
+use Rattle.commands.specs.declared.changes.Put.{Put}
+use Rattle.commands.specs.declared.changes.Start.{Start}
+use Rattle.commands.specs.declared.changes.Start.TheVariants.{Creates, Empties, Keeps}
+
+-- an entry that is there is below the number of entries
+below : {A : Type 0} (xs : List A) (i : ℕ) (x : A) → slice_get xs i ≡ Some x → i < length xs
+below [] i x at = absurd (none_at i x at)
+below (y ∷ ys) zero x at = omega arith
+below (y ∷ ys) (suc i) x at = let rest : i < length ys = below ys i x at in omega (arith, rest)
+
+no_shorter : {A : Type 0} (xs ys : List A) → IsPrefixOf xs ys → length xs ≤ length ys
+no_shorter xs ys (more, is) = let same : length ys ≡ length xs + length more = ap length is ∙ length-append xs more in omega (arith, same)
+
+-- entries stay where they are, and no crash loses them once none loses any of the earlier state
+entered_on : (durable later : Type 0) (all : List (List Op)) (from : ℕ) (s t : State) → GoesOn s t → (later → AreDurable s t) → AreEntered durable all from s → AreEntered later all from t
+entered_on durable later [] from s t onward known there = tt
+entered_on durable later (ops ∷ rest) from s t onward known (ordinal, e, high, at, are, is, more) = (
+  ordinal,
+  e,
+  high,
+  at-prefix s.past.entries t.past.entries ordinal e (grown s t onward).entries at,
+  are,
+  λ so. known so ordinal e at,
+  entered_on durable later rest (suc ordinal) s t onward known more,
+)
+
+entered_from : (durable : Type 0) (all : List (List Op)) (low from : ℕ) (s : State) → low ≤ from → AreEntered durable all from s → AreEntered durable all low s
+entered_from durable [] low from s lower there = tt
+entered_from durable (ops ∷ rest) low from s lower (ordinal, e, high, at, are, is, more) = (ordinal, e, (let least : low ≤ ordinal = omega (arith, lower, high) in least), at, are, is, more)
+
+-- a state that its past explains, and one that it leads to
+abbrev IsSound : SeenPool → Type 0
+IsSound v = ∥ IsExplainedNow (viewed_state v).shown (viewed_state v).past ∥₁
+
+sound_on : (keeps : Type 0) (v w : SeenPool) → GrowsTo keeps v w → IsSound v → IsSound w
+sound_on keeps v w onward sound =
+    ∥∥₁_elim onward.goes_on ∥∥₁_prop (λ run.
+    ∥∥₁_map {B = IsExplainedNow (viewed_state w).shown (viewed_state w).past} sound (λ x. runs_keep_tables ⊥ run.0 run.1 (viewed_state v) (viewed_state w) run.2 x))
+
+-- a transaction's first step is made from a state that its past explains
+module _ (keeps : Type 0) (ranges : List ObjectRange) (ids : List LockId) where
+  first_lock : (rs : List ObjectRange) (names : List LockId) (v w : SeenPool) → Locks keeps command rs names v w → IsSound w → IsSound v
+  first_lock [] [] v w same sound = subst IsSound same sound
+  first_lock (r ∷ rs) (id ∷ names) v w (next, one, rest) sound = one.explained
+  first_lock [] (id ∷ names) v w h sound = absurd h
+  first_lock (r ∷ rs) [] v w h sound = absurd h
+
+  first_step : (plan : List Shape) (tx : TxId) (v w : SeenPool) → LocksAndBegins keeps command ranges plan ids (Ok tx) v w → IsSound v
+  first_step plan tx v w (locked, locks, (group, one)) = first_lock ranges ids v locked locks one.explained
+
+sound_after : (keeps : Type 0) (ranges : List ObjectRange) (plan : List Shape) (ops : List Op) (r : Receipt) (v w : SeenPool) → MakesTransaction keeps command ranges plan ops (Ok r) v w → IsSound w
+sound_after keeps ranges plan ops r v w m = sound_on keeps v w (transaction_grows keeps command ranges plan ops (Ok r) v w m) (first_step keeps ranges m.ids plan m.ends.tx v m.ends.begun m.ends.begins)
+
+-- all that is there is durable once the group is synced that was open later
+durable_by_sync : (s looked after : State) → IsExplainedNow s.shown s.past → GoesOn s looked → looked.shown.line.open_group ≤ after.shown.line.synced → AreDurable s after
+durable_by_sync s looked after x onward synced = λ o e there.
+    let up = (groups_go_up s looked x onward).1 in
+    let a = x.exact.groups.members.committed o e there in
+    let known : a.0.group ≤ s.shown.line.open_group = x.exact.groups.members.known e.tx a.0 a.1 in
+    let same : a.0.group ≡ e.group = a.2 in
+    inl (let low : e.group ≤ after.shown.line.synced = omega (arith, up, known, same, synced) in low)
+
+module _ {Dev : Type 0} {G : Ghosts Dev} where
+  sound_transacted : (ops : List Op) (r : Receipt) (old new : Handle Dev G) → TransactsOrLacks command ops (Ok r) old new → IsSound (view_seen new)
+  sound_transacted ops r old new (inl u) = sound_after (IsTrue G.keeps_model) (lock_ranges (plan_of ops)) (plan_of ops) ops r u.made.took (view_seen new) u.made.made
+  sound_transacted ops r old new (inr (lacks, same)) = absurd (let no_way : Ok r ≡ Err NoMemory = lacks in cc)
+
+  pub along_first : (all : List (List Op)) (count : ℕ) (result : Result (Unit {0}) PoolError) (old new : Handle Dev G) → MakesFirst all count result old new → GoesAlong old new
+  along_first [] count result old new (none, is, same) = along_same old new same
+  along_first (ops ∷ rest) zero result old new (e, is, refused) = along_transacts command ops (Err e) old new refused
+  along_first (ops ∷ rest) (suc count) result old new (r, next, made, more) = along_on old next new (along_transacts command ops (Ok r) old next made) (along_first rest count result next new more)
+
+  -- after one that was committed the handle has seen a state that its past explains
+  sound_first : (all : List (List Op)) (count : ℕ) (result : Result (Unit {0}) PoolError) (old new : Handle Dev G) → count ≢ 0 → MakesFirst all count result old new → IsSound (view_seen new)
+  sound_first [] count result old new some (none, is, same) = absurd (some none)
+  sound_first (ops ∷ rest) zero result old new some makes = absurd (some refl)
+  sound_first (ops ∷ rest) (suc count) result old new some (r, next, made, more) =
+      sound_on (IsTrue G.keeps_model) (view_seen next) (view_seen new) (along_first rest count result next new more).onward (sound_transacted ops r old next made)
+
+  -- what was committed is in the history, in this order
+  pub entered_first : (all : List (List Op)) (count : ℕ) (result : Result (Unit {0}) PoolError) (old new : Handle Dev G) → MakesFirst all count result old new → ∥ AreNewEntries ⊥ (take count all) (state_seen old) (state_seen new) ∥₁
+  entered_first [] count result old new (none, is, same) = subst (λ (k : ℕ). ∥ AreNewEntries ⊥ (take k []) (state_seen old) (state_seen new) ∥₁) (sym none) ∣ tt ∣₁
+  entered_first (ops ∷ rest) zero result old new makes = ∣ tt ∣₁
+  entered_first (ops ∷ rest) (suc count) result old new (r, next, made, more) =
+      ∥∥₁_elim (entered_by command ops r old next new made (along_first rest count result next new more)) ∥∥₁_prop (λ here.
+      ∥∥₁_elim (entered_by command ops r old next next made (along_same next next refl)) ∥∥₁_prop (λ there.
+      ∥∥₁_map {B = AreNewEntries ⊥ (ops ∷ take count rest) (state_seen old) (state_seen new)} (entered_first rest count result next new more) (λ others. (
+        r.ordinal.0,
+        record { group = r.group.0; tx = here.0.0; ops = ops },
+        here.1.fresh,
+        here.1.entry,
+        refl,
+        λ never. absurd never,
+        entered_from ⊥ (take count rest) (suc r.ordinal.0) (length (state_seen next).past.entries) (state_seen new) (below (state_seen next).past.entries r.ordinal.0 (record { group = r.group.0; tx = there.0.0; ops = ops }) there.1.entry) others,
+      ))))
+
+  -- what was committed before a sync of the pool is durable after it
+  durable_after : (group : Group) (old new : Handle Dev G) → IsSound (view_seen old) → SyncsPool (Ok group) old new → ∥ AreDurable (state_seen old) (state_seen new) ∥₁
+  durable_after group old new sound s = go s.result s.answered s.syncs
+    where
+      go : (q : Result (Unit {0}) PoolError) → Ok group ≡ result_of s.group q → SyncsUpTo s.group q s.looked new → ∥ AreDurable (state_seen old) (state_seen new) ∥₁
+      go (Err e) is u = absurd (let no_way : Ok group ≡ Err e = is in cc)
+      go (Ok tt) is u =
+          ∥∥₁_elim s.looks.onward.goes_on ∥∥₁_prop (λ onward.
+          ∥∥₁_map {B = AreDurable (state_seen old) (state_seen new)} sound (λ x.
+          durable_by_sync (state_seen old) (state_seen s.looked) (state_seen new) x onward (let synced : (state_seen s.looked).shown.line.open_group ≤ (state_seen new).shown.line.synced = (let is_open = s.open_then in let up = u.made.made.1 in omega (arith, is_open, up)) in synced)))
+
+  -- some were committed, and then the pool was synced
+  module _ (all : List (List Op)) (count : ℕ) (made : Result (Unit {0}) PoolError) (old done new : Handle Dev G) (some : count ≢ 0) (makes : MakesFirst all count made old done) where
+    synced_after : (durable : Type 0) (synced : Result Group PoolError) → SyncsPool synced done new → (durable → ∥ AreDurable (state_seen done) (state_seen new) ∥₁) → durable → ∥ AreNewEntries durable (take count all) (state_seen old) (state_seen new) ∥₁
+    synced_after durable synced syncs known so =
+        ∥∥₁_elim (along_syncs synced done new syncs).onward.goes_on ∥∥₁_prop (λ onward.
+        ∥∥₁_elim (known so) ∥∥₁_prop (λ all_known.
+        ∥∥₁_map {B = AreNewEntries durable (take count all) (state_seen old) (state_seen new)} (entered_first all count made old done makes)
+        (λ there. entered_on ⊥ durable (take count all) (length (state_seen old).past.entries) (state_seen done) (state_seen new) onward (λ _. all_known) there)))
+
+    pub entered_and_synced : (group : Group) → SyncsPool (Ok group) done new → ∥ AreNewEntries (Unit {0}) (take count all) (state_seen old) (state_seen new) ∥₁
+    entered_and_synced group syncs = synced_after (Unit {0}) (Ok group) syncs (λ _. durable_after group done new (sound_first all count made old done some makes) syncs) tt
+
+    entered_unless : (durable : Type 0) (e : PoolError) → (durable → ⊥) → SyncsPool (Err e) done new → ∥ AreNewEntries durable (take count all) (state_seen old) (state_seen new) ∥₁
+    entered_unless durable e never syncs =
+        ∥∥₁_elim (along_syncs (Err e) done new syncs).onward.goes_on ∥∥₁_prop (λ onward.
+        ∥∥₁_map {B = AreNewEntries durable (take count all) (state_seen old) (state_seen new)} (entered_first all count made old done makes)
+        (λ there. entered_on ⊥ durable (take count all) (length (state_seen old).past.entries) (state_seen done) (state_seen new) onward (λ so. absurd (never so)) there))
+
+    entered_if : (is_synced : Bool) (synced : Result Group PoolError) → is_synced ≡ is_ok synced → SyncsPool synced done new → ∥ AreNewEntries (is_synced ≡ true) (take count all) (state_seen old) (state_seen new) ∥₁
+    entered_if is_synced (Ok group) is syncs =
+        synced_after (is_synced ≡ true) (Ok group) syncs (λ _. durable_after group done new (sound_first all count made old done some makes) syncs) is
+    entered_if is_synced (Err e) is syncs = entered_unless (is_synced ≡ true) e (λ so. false≢true (sym is ∙ so)) syncs
+
+  -- The pieces of a put are in the history, as many as it says. If it says that they are synced, no crash loses them.
+  put_entered : (start : Start) (n : ObjectId) (offset : Option ℕ) (bytes : List ℕ) (put : Put) (result : Result (Unit {0}) PoolError) (old new : Handle Dev G) → PutsFrom start n offset bytes put result old new
+      → ∥ AreNewEntries (put.is_synced ≡ true) (take put.transactions (put_transactions start n offset bytes)) (state_seen old) (state_seen new) ∥₁
+  put_entered start n offset bytes put result old new p = by p.syncs
+    where
+      by : SyncsAfter put p.made result p.done new → ∥ AreNewEntries (put.is_synced ≡ true) (take put.transactions (put_transactions start n offset bytes)) (state_seen old) (state_seen new) ∥₁
+      by (inl (none, is, same)) = subst (λ (k : ℕ). ∥ AreNewEntries (put.is_synced ≡ true) (take k (put_transactions start n offset bytes)) (state_seen old) (state_seen new) ∥₁) (sym none) ∣ tt ∣₁
+      by (inr (synced, some, syncs, is_synced, is)) = entered_if (put_transactions start n offset bytes) put.transactions p.made old p.done new some p.makes put.is_synced synced is_synced syncs
+
+  -- none of them was there when the handle had seen less
+  entered_since : (durable : Type 0) (all : List (List Op)) (first old : Handle Dev G) (s : State) → GoesAlong first old → ∥ AreEntered durable all (length (state_seen old).past.entries) s ∥₁ → ∥ AreEntered durable all (length (state_seen first).past.entries) s ∥₁
+  entered_since durable all first old s along there =
+      ∥∥₁_elim along.onward.goes_on ∥∥₁_prop (λ onward.
+      ∥∥₁_map {B = AreEntered durable all (length (state_seen first).past.entries) s} there (λ h.
+      entered_from durable all (length (state_seen first).past.entries) (length (state_seen old).past.entries) s
+      (no_shorter (state_seen first).past.entries (state_seen old).past.entries (grown (state_seen first) (state_seen old) onward).entries) h))
+
+  pub put_stands : (start : Start) (n : ObjectId) (offset : Option ℕ) (bytes : List ℕ) (put : Put) (result : Result (Unit {0}) PoolError) (first old new : Handle Dev G) → GoesAlong first old → PutsFrom start n offset bytes put result old new
+      → ∥ AreNewEntries (put.is_synced ≡ true) (take put.transactions (put_transactions start n offset bytes)) (state_seen first) (state_seen new) ∥₁
+  put_stands start n offset bytes put result first old new along p =
+      entered_since (put.is_synced ≡ true) (take put.transactions (put_transactions start n offset bytes)) first old (state_seen new) along (put_entered start n offset bytes put result old new p)
+
+  -- if all were committed, they are as many as there are
+  all_counted : (all : List (List Op)) (count : ℕ) (old new : Handle Dev G) → MakesFirst all count (Ok tt) old new → count ≡ length all
+  all_counted [] count old new (none, is, same) = none
+  all_counted (ops ∷ rest) zero old new (e, is, refused) = absurd (let no_way : Ok tt ≡ Err e = is in cc)
+  all_counted (ops ∷ rest) (suc count) old new (r, next, made, more) = let others : count ≡ length rest = all_counted rest count next new more in omega (arith, others)
+
+  -- A put that ends well is in the history as a whole, and no crash loses it.
+  module _ (start : Start) (n : ObjectId) (offset : Option ℕ) (bytes : List ℕ) (put : Put) (old new : Handle Dev G) (p : PutsFrom start n offset bytes put (Ok tt) old new) where
+    abbrev all : List (List Op)
+    all = put_transactions start n offset bytes
+
+    abbrev Stands : Type 0
+    Stands = (put.transactions ≡ length all) × ∥ AreNewEntries (Unit {0}) (take put.transactions all) (state_seen old) (state_seen new) ∥₁
+
+    both_well : (made : Result (Unit {0}) PoolError) (synced : Result Group PoolError) → Ok tt ≡ result_after made synced → MakesFirst all put.transactions made old p.done → put.transactions ≢ 0 → SyncsPool synced p.done new → Stands
+    both_well (Ok tt) (Ok group) is makes some syncs = (all_counted all put.transactions old p.done makes, entered_and_synced all put.transactions (Ok tt) old p.done new some makes group syncs)
+    both_well (Ok tt) (Err e) is makes some syncs = absurd (let no_way : Ok tt ≡ Err e = is in cc)
+    both_well (Err e) synced is makes some syncs = absurd (let no_way : Ok tt ≡ Err e = is in cc)
+
+    put_well : SyncsAfter put p.made (Ok tt) p.done new → Stands
+    put_well (inl (none, is, same)) = (
+      all_counted all put.transactions old p.done (subst (λ (r : Result (Unit {0}) PoolError). MakesFirst all put.transactions r old p.done) (sym is) p.makes),
+      subst (λ (k : ℕ). ∥ AreNewEntries (Unit {0}) (take k all) (state_seen old) (state_seen new) ∥₁) (sym none) ∣ tt ∣₁,
+    )
+    put_well (inr (synced, some, syncs, is_synced, is)) = both_well p.made synced is p.makes some syncs
+
+    pub whole_put_stands : (put.transactions ≡ length all) × ∥ AreNewEntries (Unit {0}) all (state_seen old) (state_seen new) ∥₁
+    whole_put_stands =
+        let s = put_well p.syncs in
+        (s.0, subst (λ (l : List (List Op)). ∥ AreNewEntries (Unit {0}) l (state_seen old) (state_seen new) ∥₁) (ap (λ (k : ℕ). take k all) s.0 ∙ take-length all) s.1)
+
+-- how a put starts that has found an object, or none
+module _ (offset : Option ℕ) (found : Result ℕ PoolError) where
+  may_start : (start : Start) → start_of offset found ≡ Ok start → MayStart offset start
+  may_start start is = by offset found is
+    where
+      empties : Empties ≢ Keeps
+      empties is = let no_way : Empties ≡ Keeps = is in cc
+
+      creates : Creates ≢ Keeps
+      creates is = let no_way : Creates ≡ Keeps = is in cc
+
+      keeps : Keeps ≢ Empties
+      keeps is = let no_way : Keeps ≡ Empties = is in cc
+
+      makes : Creates ≢ Empties
+      makes is = let no_way : Creates ≡ Empties = is in cc
+
+      by : (o : Option ℕ) (f : Result ℕ PoolError) → start_of o f ≡ Ok start → MayStart o start
+      by None (Ok count) is = let same : Empties ≡ start = cc in subst (MayStart None) same empties
+      by (Some at) (Ok count) is = let same : Keeps ≡ start = cc in subst (MayStart (Some at)) same keeps
+      by None (Err NoObject) is = let same : Creates ≡ start = cc in subst (MayStart None) same creates
+      by (Some at) (Err NoObject) is = let same : Creates ≡ start = cc in subst (MayStart (Some at)) same makes
+      by None (Err e) is = absurd (let no_way : Err e ≡ Ok start = is in cc)
+      by (Some at) (Err e) is = absurd (let no_way : Err e ≡ Ok start = is in cc)
+
+-- What a put says that ended well: all its transactions are in the history of its pool, none of them was there before,
+-- and no crash loses one.
+module _ {Dev : Type 0} (G : Ghosts Dev) (device : Dev) (n : ObjectId) (offset : Option ℕ) (bytes : List ℕ) (put : Put) where
+  abbrev pub PutHappens : Start → Type 0
+  PutHappens start = MayStart offset start × (put.transactions ≡ length (put_transactions start n offset bytes)) × (put.bytes ≡ min (64512 * put.transactions) (length bytes))
+      × HappensOn G device (AreNewEntries (Unit {0}) (put_transactions start n offset bytes))
+
+  pub put_happens : PutsOn G device n offset bytes put (Ok tt) → (start : Start) × PutHappens start
+  put_happens o = by (start_of offset o.does.found) refl o.does.puts
+    where
+      by : (s : Result Start PoolError) → start_of offset o.does.found ≡ s → PutsAsFound s n offset bytes put (Ok tt) o.does.looked o.does.last → (start : Start) × PutHappens start
+      by (Err e) is p = absurd (let no_way : Ok tt ≡ Err e = p.2 in cc)
+      by (Ok start) is p =
+          let w = whole_put_stands start n offset bytes put o.does.looked o.does.last p in
+          let all : List (List Op) = put_transactions start n offset bytes in (
+            start,
+            (
+              may_start offset o.does.found start is,
+              w.0,
+              p.size,
+              record {
+                pool = o.pool;
+                opens = o.opens;
+                first = o.does.first;
+                is_new = o.does.is_new;
+                last = o.does.last;
+                sees = entered_since (Unit {0}) all o.does.first o.does.looked (state_seen o.does.last) (along_made o.does.looks) w.1;
+              },
+            ),
+          )
+
+-- and so it is of an object that was removed
+pub removal_happens : {Dev : Type 0} (G : Ghosts Dev) (device : Dev) (n : ObjectId) → RemovesOn G device n → HappensOn G device (AreNewEntries (Unit {0}) ((Remove n ∷ []) ∷ []))
+removal_happens G device n o =
+    let r = o.does in
+    let some : 1 ≢ 0 = λ is. absurd (omega (arith, is)) in
+    record {
+      pool = o.pool;
+      opens = o.opens;
+      first = r.first;
+      is_new = r.is_new;
+      last = r.last;
+      sees = entered_and_synced ((Remove n ∷ []) ∷ []) 1 (Ok tt) r.first r.done r.last some r.makes r.group r.syncs;
+    }
