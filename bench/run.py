@@ -15,6 +15,7 @@ import argparse
 import contextlib
 import hashlib
 import itertools
+import math
 import os
 import pathlib
 import shutil
@@ -277,6 +278,10 @@ class Race:
     runs: dict = field(default_factory=dict)
     empty: dict = field(default_factory=dict)
 
+    @property
+    def rounds(self):
+        return len(self.runs[self.contestants[0]])
+
     def middle(self, contestant):
         return statistics.median(run.seconds for run in self.runs[contestant])
 
@@ -314,14 +319,18 @@ def in_turn(contestants, number):
     return contestants[first:] + contestants[:first]
 
 
-def race(contestants, load, rounds, folder, note):
-    """Runs all rounds. `note(round, contestant, measured)` is called after each run, with None for one of no writes."""
+def race(contestants, load, rounds, folder, note, seconds=math.inf):
+    """Runs all rounds, of which the second and later ones begin before so many seconds are over. `note(round,
+    contestant, measured)` is called after each run, with None for one of no writes."""
     result = Race(load, contestants)
+    end = time.monotonic() + seconds
     for contestant in contestants:
         result.runs[contestant] = []
         result.empty[contestant] = measure(contestant, replace(load, ops=0), folder)
         note(None, contestant, result.empty[contestant])
     for number in range(rounds):
+        if number and time.monotonic() >= end:
+            break
         for contestant in in_turn(contestants, number):
             measured = measure(contestant, load, folder)
             result.runs[contestant].append(measured)
@@ -494,10 +503,11 @@ RATIOS = "Ratios are the peer's time by ztxg's in the same round, middle (least-
 RATES = "Commits a second, in the middle of the rounds."
 
 
-def report(races, rounds, write):
+def report(races, write):
     for result in races:
         load = result.load
-        write(f"\nTIMES of {load.commits} {writes_name(load.length)}, W = {load.workers}, middle of {rounds} rounds")
+        writes = f"{load.commits} {writes_name(load.length)}"
+        write(f"\nTIMES of {writes}, W = {load.workers}, middle of {result.rounds} rounds")
         for line in table(list(times(result))):
             write(line)
     if not any(result.ztxgs(flush) or result.served(flush) for result in races for flush in (EACH, EIGHTH)):
@@ -605,6 +615,7 @@ def parse(words):
     parser.add_argument("--ops", type=int, default=500, metavar="N", help="writes of each of the 16 streams")
     parser.add_argument("--seed", type=int, default=5, metavar="S")
     parser.add_argument("--rounds", type=int, default=5, metavar="R")
+    parser.add_argument("--seconds", type=float, default=math.inf, metavar="T", help="begin no further round after")
     parser.add_argument("--dirty", type=numbers, default=[DEFAULT_DIRTY, 64 * MIB], metavar="D,..")
     parser.add_argument("--size", type=int, default=256 * MIB, metavar="SIZE", help="bytes of the pool")
     parser.add_argument("--flush", default=f"{EACH},{EIGHTH}", metavar="each,eighth", help="the peers' modes")
@@ -671,8 +682,8 @@ def main(words):
         for load in loads:
             contestants = chosen(options, load)
             if contestants:
-                races.append(race(contestants, load, options.rounds, folder, notes.of(load)))
-        report(races, options.rounds, print)
+                races.append(race(contestants, load, options.rounds, folder, notes.of(load), options.seconds))
+        report(races, print)
 
 
 if __name__ == "__main__":

@@ -105,8 +105,9 @@ class Ratios(unittest.TestCase):
         for other in run.TABLES:
             self.assertEqual(list(run.rate_rows([self.race], other)), [])
         printed = []
-        run.report([self.race], 3, printed.append)
+        run.report([self.race], printed.append)
         self.assertIn(run.RATES, printed)
+        self.assertTrue(any(it.endswith("middle of 3 rounds") for it in printed))
 
     def test_a_mode_that_did_not_run_has_no_rows(self):
         like, durable, _ = run.TABLES
@@ -176,6 +177,12 @@ class StandIn(unittest.TestCase):
         ratio = statistics.median(a / b for a, b in zip(runs["log grown each"], runs["ztxg 1 MiB"], strict=True))
         row = next(line for line in printed.splitlines() if line.startswith("1, 1 MiB"))
         self.assertEqual(row.split()[3], f"{ratio:.2f}")
+
+    def test_no_round_but_the_first_begins_late(self):
+        words = ["--ops", "8", "--rounds", "3", "--workers", "1", "--bytes", "small", "--only", "log grown each"]
+        printed, raw = self.run_with(*words, "--seconds", "0")
+        self.assertEqual([it[0] for it in raw], ["", "1"])
+        self.assertIn("middle of 1 rounds", printed)
 
     def test_large_writes_are_made_with_each_commit_durable(self):
         words = ["--ops", "8", "--rounds", "1", "--workers", "1,4", "--bytes", "4096,65000", "--only", "ztxg,log grown"]
