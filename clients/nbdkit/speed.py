@@ -132,7 +132,7 @@ def main():
                     for disk in disks[first:] + disks[:first]:
                         found[job[0], disk].append(measure(job, disk, folder, chosen.seconds))
                         print(f"round {number + 1}: {job[0]}, {disk}: {found[job[0], disk][-1]:,.0f}", file=sys.stderr)
-    print(f"{chosen.rounds} rounds of {chosen.seconds} seconds: the middle (least-most), and the ratio of the pool to it")
+    print(f"{chosen.rounds} rounds of {chosen.seconds} seconds: the middle (least-most), and the pool's ratio to it")
     for row in rows(disks, found):
         print(row)
 
