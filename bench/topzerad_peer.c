@@ -2,8 +2,8 @@
  * A pool, through the library of `clients/c`: the process `ztxg serve FILE` has it, and sessions share the connection.
  * A write is a transaction of one operation on an object that is there.
  *
- * A durable commit asks for that with its transaction. That makes all earlier commits durable too, since the log has
- * the records in the order of commits. What several sessions ask at once goes in one frame and shares a flush.
+ * A durable commit asks for that with its transaction. The server answers it once all earlier commits are durable too
+ * (`fsync_all`). What several sessions ask at once goes in one frame and shares a flush.
  *
  * The file is a pool without objects, as `ztxg create` makes it. The environment has the program in TOPZERAD_PROGRAM,
  * and in TOPZERAD_DIRTY its dirty limit, if it is to have another one than by default.
