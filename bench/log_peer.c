@@ -7,7 +7,6 @@
  * file was filled with zeros before, as a pool's file is, and is written from its start on.
  */
 #include "peer.h"
-#include "stream.h"
 
 #include <errno.h>
 #include <fcntl.h>
@@ -22,6 +21,7 @@ enum { HEAD = 22, OP = 17, LONGEST_RECORD = HEAD + OP + LONGEST, WRITE_TAG = 3, 
 
 const char *const variants[] = {"grown", "filled", NULL};
 const uint32_t most_workers = 1;
+const bool keeps_bytes = false;
 
 struct store {
     int file;
@@ -62,11 +62,11 @@ static uint64_t number_at(const uint8_t *from, int bytes) {
     return number;
 }
 
-void store_prepare(unsigned variant, const char *path, uint64_t commits, uint32_t longest) {
+void store_prepare(unsigned variant, const char *path, const struct load *load) {
     static const uint8_t zeros[4096];
     int file = open_file(path, O_WRONLY | O_CREAT | O_EXCL);
     if (variant == FILLED)
-        for (uint64_t done = 0; done < commits * (HEAD + OP + longest); done += sizeof zeros)
+        for (uint64_t done = 0; done < write_count(load) * (HEAD + OP + longest_of(load)); done += sizeof zeros)
             write_whole(file, zeros, sizeof zeros);
     sync_file(file);
     close(file);

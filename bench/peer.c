@@ -3,7 +3,6 @@
  * `bench/README.md` says what its commands do.
  */
 #include "peer.h"
-#include "stream.h"
 
 #include <errno.h>
 #include <inttypes.h>
@@ -96,53 +95,103 @@ static void run_command(unsigned variant, const char *path, struct run run) {
     run.store = store_open(variant, path);
     run_all(&run);
     store_close(run.store);
-    printf("committed %" PRIu64 "\nflushes %llu\n", (uint64_t)STREAMS * run.load.ops, atomic_load(&flushes));
+    printf("committed %" PRIu64 "\nflushes %llu\n", write_count(&run.load), atomic_load(&flushes));
 }
 
-/* --- What a store has to hold after a run --- */
+/* --- What a store of rows has to hold after a run --- */
 
-struct expected {
+struct rows {
     struct word last[OBJECTS][OBJECT_BYTES]; /* the last write at each offset, of length 0 if there is none */
     uint64_t left;                           /* how many of them were not read yet */
 };
 
 /* Each offset of each object is written by one stream alone, so the order between streams does not matter. */
-static void expect_stream(struct expected *expected, const struct load *load, uint32_t number) {
-    struct stream stream = stream_new(load, number);
-    for (uint32_t i = 0; i < load->ops; i++) {
-        struct word word = stream_word(&stream);
-        struct word *last = &expected->last[word.object][word.offset];
-        expected->left += last->length == 0;
-        *last = word;
+static void expect_rows(struct rows *rows, const struct load *load) {
+    for (uint32_t number = 0; number < STREAMS; number++) {
+        struct stream stream = stream_new(load, number);
+        for (uint32_t i = 0; i < load->ops; i++) {
+            struct word word = stream_word(&stream);
+            struct word *last = &rows->last[word.object][word.offset];
+            rows->left += last->length == 0;
+            *last = word;
+        }
     }
 }
 
-static void compare(void *context, uint32_t object, uint64_t offset, const uint8_t *bytes, size_t length) {
-    struct expected *expected = context;
+static void compare_row(void *context, uint32_t object, uint64_t offset, const uint8_t *bytes, size_t length) {
+    struct rows *rows = context;
     if (object >= OBJECTS || offset >= OBJECT_BYTES)
         die("a write to object %" PRIu32 " at %" PRIu64 " that no stream makes", object, offset);
-    struct word *last = &expected->last[object][offset];
+    struct word *last = &rows->last[object][offset];
     if (length == 0 || last->length != length)
         die("object %" PRIu32 " at %" PRIu64 ": %zu bytes, not %" PRIu32, object, offset, length, last->length);
     if (memcmp(bytes, last->bytes, length) != 0)
         die("object %" PRIu32 " at %" PRIu64 ": another byte", object, offset);
     last->length = 0;
-    expected->left--;
+    rows->left--;
+}
+
+static void check_rows(unsigned variant, const char *path, const struct load *load) {
+    struct rows *rows = need(sizeof *rows);
+    expect_rows(rows, load);
+    uint64_t all = rows->left;
+    store_read(variant, path, compare_row, rows);
+    if (rows->left != 0)
+        die("%" PRIu64 " of %" PRIu64 " offsets are not there", rows->left, all);
+    printf("checked %" PRIu64 "\n", all);
+    free(rows);
+}
+
+/* --- What the objects have to hold after a run --- */
+
+struct contents {
+    uint8_t bytes[OBJECTS][OBJECT_BYTES];
+    uint32_t lengths[OBJECTS];
+    uint32_t count;   /* of objects */
+    uint32_t checked; /* how many of them were read and compared */
+};
+
+static struct contents *contents_of(const struct load *load) {
+    struct contents *contents = need(sizeof *contents);
+    contents->count = object_count(load);
+    for (uint32_t number = 0; number < STREAMS; number++) {
+        struct stream stream = stream_new(load, number);
+        for (uint32_t i = 0; i < load->ops; i++) {
+            struct word word = stream_word(&stream);
+            uint32_t end = word.offset + word.length;
+            memcpy(contents->bytes[word.object] + word.offset, word.bytes, word.length);
+            if (contents->lengths[word.object] < end)
+                contents->lengths[word.object] = end;
+        }
+    }
+    return contents;
+}
+
+static void compare_object(void *context, uint32_t object, uint64_t offset, const uint8_t *bytes, size_t length) {
+    struct contents *contents = context;
+    if (object != contents->checked || object >= contents->count || offset != 0)
+        die("object %" PRIu32 " is not the next one", object);
+    if (length != contents->lengths[object])
+        die("object %" PRIu32 ": %zu bytes, not %" PRIu32, object, length, contents->lengths[object]);
+    if (memcmp(bytes, contents->bytes[object], length) != 0)
+        die("object %" PRIu32 ": another byte", object);
+    contents->checked++;
+}
+
+static void check_objects(unsigned variant, const char *path, const struct load *load) {
+    struct contents *contents = contents_of(load);
+    store_read(variant, path, compare_object, contents);
+    if (contents->checked != contents->count)
+        die("%" PRIu32 " of %" PRIu32 " objects are there", contents->checked, contents->count);
+    printf("checked %" PRIu32 "\n", contents->checked);
+    free(contents);
 }
 
 static void check_command(unsigned variant, const char *path, const struct load *load) {
-    struct expected *expected = need(sizeof *expected);
-    for (uint32_t number = 0; number < STREAMS; number++)
-        expect_stream(expected, load, number);
-    uint64_t all = expected->left;
-    store_read(variant, path, compare, expected);
-    if (expected->left != 0)
-        die("%" PRIu64 " of %" PRIu64 " offsets are not there", expected->left, all);
-    printf("checked %" PRIu64 "\n", all);
-    free(expected);
+    (keeps_bytes ? check_objects : check_rows)(variant, path, load);
 }
 
-/* --- What the pool has to hold after a load, in the form over which its digest is computed --- */
+/* --- The contents of a pool after a load, in the form over which its digest is computed --- */
 
 static void put_number(uint64_t number, unsigned bytes) {
     for (unsigned i = 0; i < bytes; i++)
@@ -150,26 +199,16 @@ static void put_number(uint64_t number, unsigned bytes) {
 }
 
 static void contents_command(const char *name, const struct load *load) {
-    static uint8_t bytes[OBJECTS][OBJECT_BYTES];
-    static uint32_t lengths[OBJECTS];
-    for (uint32_t number = 0; number < STREAMS; number++) {
-        struct stream stream = stream_new(load, number);
-        for (uint32_t i = 0; i < load->ops; i++) {
-            struct word word = stream_word(&stream);
-            uint32_t end = word.offset + word.length;
-            memcpy(bytes[word.object] + word.offset, word.bytes, word.length);
-            if (lengths[word.object] < end)
-                lengths[word.object] = end;
-        }
-    }
+    struct contents *contents = contents_of(load);
     put_number(strlen(name), 4);
     fputs(name, stdout);
-    put_number(object_count(load), 4);
-    for (uint32_t object = 0; object < object_count(load); object++) {
+    put_number(contents->count, 4);
+    for (uint32_t object = 0; object < contents->count; object++) {
         put_number(object, 4);
-        put_number(lengths[object], 8);
-        fwrite(bytes[object], 1, lengths[object], stdout);
+        put_number(contents->lengths[object], 8);
+        fwrite(contents->bytes[object], 1, contents->lengths[object], stdout);
     }
+    free(contents);
 }
 
 /* --- Command line --- */
@@ -234,7 +273,7 @@ int main(int count, char **words) {
             puts(variants[variant]);
     } else if (count == 7 && strcmp(command, "prepare") == 0) {
         struct load load = load_of(words + 4);
-        store_prepare(variant_of(words[2]), words[3], (uint64_t)STREAMS * load.ops, longest_of(&load));
+        store_prepare(variant_of(words[2]), words[3], &load);
     } else if (count == 9 && strcmp(command, "run") == 0) {
         struct run run = {
             .load = load_of(words + 4),

@@ -5,6 +5,8 @@
 #ifndef BENCH_PEER_H
 #define BENCH_PEER_H
 
+#include "stream.h"
+
 #include <stdbool.h>
 #include <stddef.h>
 #include <stdint.h>
@@ -18,8 +20,14 @@ extern const char *const variants[];
 /* The highest number of threads that a run may have. */
 extern const uint32_t most_workers;
 
-/* Makes an empty store for `commits` writes of at most `longest` bytes, at a path where there is nothing. */
-void store_prepare(unsigned variant, const char *path, uint64_t commits, uint32_t longest);
+/*
+ * Whether the store keeps the bytes of each object, so that a write replaces parts of earlier ones. Else it keeps rows:
+ * for each object and offset the last write.
+ */
+extern const bool keeps_bytes;
+
+/* Makes an empty store for the writes of a load, at a path where there is nothing. */
+void store_prepare(unsigned variant, const char *path, const struct load *load);
 
 struct store *store_open(unsigned variant, const char *path);
 
@@ -37,7 +45,7 @@ void session_put(struct session *session, uint32_t object, uint64_t offset, cons
 
 void session_close(struct session *session);
 
-/* Hands out what a closed store holds: for each object and offset the last write. */
+/* Hands out what a closed store holds: each row, or the bytes of each object, whose offset is 0. */
 typedef void (*write_reader)(void *context, uint32_t object, uint64_t offset, const uint8_t *bytes, size_t length);
 void store_read(unsigned variant, const char *path, write_reader reader, void *context);
 

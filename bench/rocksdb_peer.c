@@ -14,6 +14,7 @@ enum { KEY_BYTES = 12 };
 
 const char *const variants[] = {"default", NULL};
 const uint32_t most_workers = 16;
+const bool keeps_bytes = false;
 
 struct store {
     rocksdb_t *database;
@@ -45,8 +46,8 @@ static struct store *open_database(const char *path, bool is_new) {
     return store;
 }
 
-void store_prepare(unsigned variant, const char *path, uint64_t commits, uint32_t longest) {
-    (void)variant, (void)commits, (void)longest;
+void store_prepare(unsigned variant, const char *path, const struct load *load) {
+    (void)variant, (void)load;
     store_close(open_database(path, true));
 }
 

@@ -14,6 +14,8 @@ also for a program that `rt try` built, which is half as fast.
 import argparse
 import contextlib
 import hashlib
+import itertools
+import math
 import os
 import pathlib
 import shutil
@@ -104,9 +106,12 @@ def call(words):
     return done.stdout
 
 
-def numbers_of(output):
-    """The lines 'WORD NUMBER' of an output."""
-    return {word: int(number) for word, number in (line.split() for line in output.decode().splitlines())}
+def committed(contestant, output, load):
+    """The lines 'WORD NUMBER' that a peer printed. The number of its commits has to be that of the load."""
+    told = {word: int(number) for word, number in (line.split() for line in output.decode().splitlines())}
+    if told.get("committed") != load.commits:
+        raise Failure(f"{contestant.name} printed {output.decode()!r}")
+    return told
 
 
 @dataclass(frozen=True)
@@ -178,13 +183,44 @@ class Peer:
         return [self.program, "run", self.variant, path, *load.words, load.workers, self.flush]
 
     def flushes(self, output, load):
-        told = numbers_of(output)
-        if told.get("committed") != load.commits:
-            raise Failure(f"{self.name} printed {output.decode()!r}")
-        return told["flushes"]
+        return committed(self, output, load)["flushes"]
 
     def check(self, path, load):
         call([self.program, "check", self.variant, path, *load.words])
+
+
+@dataclass(frozen=True)
+class Served:
+    """A program in C that makes the writes through the library of `clients/c`, over `ztxg serve` at one dirty limit."""
+
+    program: pathlib.Path
+    dirty: int
+    size: int
+    flush: str
+    is_log = False
+
+    @property
+    def name(self):
+        return f"served {limit_name(self.dirty)} {self.flush}"
+
+    def words(self, command, path, load):
+        environment = ["env", f"TOPZERAD_PROGRAM={self.program}", f"TOPZERAD_DIRTY={self.dirty}"]
+        return [*environment, PEERS / "topzerad", command, "default", path, *load.words]
+
+    def prepare(self, path, load):
+        call([self.program, "create", path, POOL, GUID, self.size])
+        call(self.words("prepare", path, load))
+
+    def command(self, path, load):
+        return [*self.words("run", path, load), load.workers, self.flush]
+
+    def flushes(self, output, load):
+        """None: the process that has the pool makes them, and prints no such count."""
+        committed(self, output, load)
+        return None
+
+    def check(self, path, load):
+        call(self.words("check", path, load))
 
 
 _digests = {}
@@ -242,6 +278,10 @@ class Race:
     runs: dict = field(default_factory=dict)
     empty: dict = field(default_factory=dict)
 
+    @property
+    def rounds(self):
+        return len(self.runs[self.contestants[0]])
+
     def middle(self, contestant):
         return statistics.median(run.seconds for run in self.runs[contestant])
 
@@ -252,6 +292,13 @@ class Race:
 
     def ztxgs(self, flush):
         return [it for it in self.contestants if isinstance(it, Ztxg) and it.flush == flush and not it.is_before]
+
+    def served(self, flush):
+        return [it for it in self.contestants if isinstance(it, Served) and it.flush == flush]
+
+    def rate(self, contestant):
+        """Commits a second in the middle of the rounds."""
+        return self.load.commits / self.middle(contestant)
 
     def before(self, ztxg):
         """The earlier build at the same limit, if it ran."""
@@ -272,14 +319,18 @@ def in_turn(contestants, number):
     return contestants[first:] + contestants[:first]
 
 
-def race(contestants, load, rounds, folder, note):
-    """Runs all rounds. `note(round, contestant, measured)` is called after each run, with None for one of no writes."""
+def race(contestants, load, rounds, folder, note, seconds=math.inf):
+    """Runs all rounds, of which the second and later ones begin before so many seconds are over. `note(round,
+    contestant, measured)` is called after each run, with None for one of no writes."""
     result = Race(load, contestants)
+    end = time.monotonic() + seconds
     for contestant in contestants:
         result.runs[contestant] = []
         result.empty[contestant] = measure(contestant, replace(load, ops=0), folder)
         note(None, contestant, result.empty[contestant])
     for number in range(rounds):
+        if number and time.monotonic() >= end:
+            break
         for contestant in in_turn(contestants, number):
             measured = measure(contestant, load, folder)
             result.runs[contestant].append(measured)
@@ -310,7 +361,7 @@ def times(result):
             f"{result.middle(contestant):.3f}",
             f"{min(seconds):.3f}",
             f"{max(seconds):.3f}",
-            f"{result.load.commits / result.middle(contestant):.0f}",
+            f"{result.rate(contestant):.0f}",
             f"{statistics.median(counted):.3f}" if counted else "-",
             f"{result.empty[contestant].seconds:.3f}",
         ]
@@ -341,7 +392,7 @@ def ratio_rows(races, table):
     for result in races:
         by_store = {peer.store: peer for peer in result.peers(table.theirs, is_log=False)}
         better = result.better(table.theirs)
-        for ztxg in result.ztxgs(table.ours):
+        for ztxg in table.ours_in(result):
             cells = [ratio_cell(result.ratios(by_store[store], ztxg)) for store in stores]
             ratios = result.ratios(better, ztxg)
             goal = goal_of(table, result, ztxg)
@@ -362,13 +413,28 @@ def before_rows(races):
     return [["workers, limit", "earlier build"], *rows] if rows else []
 
 
+def rate_rows(races, table):
+    """For each race and each dirty limit the commits a second of a served pool and of the stores."""
+    races = [result for result in races if table.is_served and table.shows(result)]
+    stores = list(dict.fromkeys(peer.store for result in races for peer in result.peers(table.theirs, is_log=False)))
+    if not races:
+        return
+    yield ["workers, limit", "served", *stores]
+    for result in races:
+        by_store = {peer.store: peer for peer in result.peers(table.theirs, is_log=False)}
+        for served in table.ours_in(result):
+            contestants = [served, *(by_store[store] for store in stores)]
+            cells = [f"{result.rate(contestant):.0f}" for contestant in contestants]
+            yield [f"{result.load.workers}, {limit_name(served.dirty)}", *cells]
+
+
 def log_rows(result, table):
     """At one worker, the ratios to the plain logs."""
     logs = result.peers(table.theirs, is_log=True)
     if not logs or not table.shows(result):
         return
     yield ["workers, limit", *(log.store for log in logs)]
-    for ztxg in result.ztxgs(table.ours):
+    for ztxg in table.ours_in(result):
         yield [
             f"{result.load.workers}, {limit_name(ztxg.dirty)}",
             *(ratio_cell(result.ratios(log, ztxg)) for log in logs),
@@ -377,19 +443,24 @@ def log_rows(result, table):
 
 @dataclass(frozen=True)
 class Table:
-    """Ratios of the runs of `ztxg` that flush so, beside peers that flush so, with writes of this length."""
+    """Ratios of the runs of `ztxg` that flush so, beside peers that flush so, with writes of this length. With
+    `is_served` the runs are those from C over `ztxg serve`, and the table has commits a second, too."""
 
     ours: str
     theirs: str
     title: str
     length: int | None = SMALL
+    is_served: bool = False
 
     @property
     def has_goals(self):
-        return self.ours == self.theirs and self.length is SMALL
+        return self.ours == self.theirs and self.length is SMALL and not self.is_served
+
+    def ours_in(self, result):
+        return result.served(self.ours) if self.is_served else result.ztxgs(self.ours)
 
     def shows(self, result):
-        return result.load.length == self.length and bool(result.ztxgs(self.ours))
+        return result.load.length == self.length and bool(self.ours_in(result))
 
 
 FLUSHED = "ztxg and the peers flush before each commit returns."
@@ -415,22 +486,31 @@ TABLES = [
 
 
 def tables_of(races):
-    """Those of small writes, and one for each length of large ones that ran."""
+    """Those of small writes, one for each length of large ones that ran, and those of served pools that ran."""
     lengths = dict.fromkeys(result.load.length for result in races)
     large = [length for length in lengths if length is not SMALL]
-    return TABLES + [Table(EACH, EACH, f"EACH COMMIT DURABLE, {writes_name(it)}: {FLUSHED}", it) for it in large]
+    each = [Table(EACH, EACH, f"EACH COMMIT DURABLE, {writes_name(it)}: {FLUSHED}", it) for it in large]
+    served = [Table(it, it, served_title(it, length), length, True) for length in lengths for it in (EACH, EIGHTH)]
+    return [*TABLES, *each, *(it for it in served if any(map(it.shows, races)))]
+
+
+def served_title(flush, length):
+    when = "before each commit returns" if flush == EACH else "after each eighth commit of a stream"
+    return f"FROM C, {writes_name(length)}: a program over ztxg serve and the peers flush {when}."
 
 
 RATIOS = "Ratios are the peer's time by ztxg's in the same round, middle (least-most); above 1 ztxg is faster."
+RATES = "Commits a second, in the middle of the rounds."
 
 
-def report(races, rounds, write):
+def report(races, write):
     for result in races:
         load = result.load
-        write(f"\nTIMES of {load.commits} {writes_name(load.length)}, W = {load.workers}, middle of {rounds} rounds")
+        writes = f"{load.commits} {writes_name(load.length)}"
+        write(f"\nTIMES of {writes}, W = {load.workers}, middle of {result.rounds} rounds")
         for line in table(list(times(result))):
             write(line)
-    if not any(result.ztxgs(flush) for result in races for flush in (EACH, EIGHTH)):
+    if not any(result.ztxgs(flush) or result.served(flush) for result in races for flush in (EACH, EIGHTH)):
         write("\nNo ratios: there was no ztxg.")
         return
     rows = before_rows(races)
@@ -439,16 +519,23 @@ def report(races, rounds, write):
         for line in table(rows):
             write(line)
     for kind in tables_of(races):
-        tables = [list(ratio_rows(races, kind)), *(list(log_rows(result, kind)) for result in races)]
-        if any(tables):
+        ratios = [list(ratio_rows(races, kind)), *(list(log_rows(result, kind)) for result in races)]
+        parts = [(RATES, [list(rate_rows(races, kind))]), (RATIOS, ratios)]
+        parts = [(said, list(filter(None, tables))) for said, tables in parts if any(tables)]
+        if parts:
             write(f"\n{kind.title}")
-            write(RATIOS)
-        for rows in filter(None, tables):
-            for line in table(rows):
+        for said, tables in parts:
+            write(said)
+            for line in itertools.chain.from_iterable(map(table, tables)):
                 write(line)
 
 
 # --- Command line ---
+
+
+def modes_of(options, load):
+    """Those of a peer."""
+    return [flush for flush in options.flush if load.length is SMALL or flush == EACH]
 
 
 def contestants_of(options, load):
@@ -461,15 +548,18 @@ def contestants_of(options, load):
                     yield Ztxg(options.before, dirty, options.size, is_before=True)
         if options.durable is not None and EACH in options.flush:
             yield Ztxg(options.ztxg, max(options.dirty), options.size, options.durable)
+    if options.served is not None:
+        for dirty in options.dirty if load.length is SMALL else [max(options.dirty)]:
+            for flush in modes_of(options, load):
+                yield Served(options.served, dirty, options.size, flush)
     for name in ("sqlite", "rocksdb", "log"):
         program = PEERS / name
         is_log = name == "log"
         if not program.is_file() or (is_log and load.workers != 1):
             continue
         for variant in call([program, "variants"]).decode().split():
-            for flush in options.flush:
-                if load.length is SMALL or flush == EACH:
-                    yield Peer(program, variant, flush, is_log)
+            for flush in modes_of(options, load):
+                yield Peer(program, variant, flush, is_log)
 
 
 def chosen(options, load):
@@ -519,11 +609,13 @@ def parse(words):
     parser.add_argument("--ztxg", type=pathlib.Path, metavar="PROGRAM", help="a built ztxg; without it the peers alone")
     parser.add_argument("--before", type=pathlib.Path, metavar="PROGRAM", help="an earlier built ztxg, for a table of its own")
     parser.add_argument("--durable", type=pathlib.Path, metavar="PROGRAM", help="a built durable_load")
+    parser.add_argument("--served", type=pathlib.Path, metavar="PROGRAM", help="a built ztxg that serves a program in C")
     parser.add_argument("--bytes", type=lengths, default=[SMALL, *LARGE], metavar="B,..", help="of a write, or small")
     parser.add_argument("--workers", type=numbers, default=[1, 4, 16], metavar="W,..", help="each 1 to 16")
     parser.add_argument("--ops", type=int, default=500, metavar="N", help="writes of each of the 16 streams")
     parser.add_argument("--seed", type=int, default=5, metavar="S")
     parser.add_argument("--rounds", type=int, default=5, metavar="R")
+    parser.add_argument("--seconds", type=float, default=math.inf, metavar="T", help="begin no further round after")
     parser.add_argument("--dirty", type=numbers, default=[DEFAULT_DIRTY, 64 * MIB], metavar="D,..")
     parser.add_argument("--size", type=int, default=256 * MIB, metavar="SIZE", help="bytes of the pool")
     parser.add_argument("--flush", default=f"{EACH},{EIGHTH}", metavar="each,eighth", help="the peers' modes")
@@ -546,7 +638,7 @@ def parse(words):
     for name in ("before", "durable"):
         if getattr(options, name) is not None and options.ztxg is None:
             parser.error(f"--{name} needs --ztxg")
-    for name in ("ztxg", "before", "durable"):
+    for name in ("ztxg", "before", "durable", "served"):
         program = getattr(options, name)
         if program is not None:
             setattr(options, name, program.resolve())
@@ -590,8 +682,8 @@ def main(words):
         for load in loads:
             contestants = chosen(options, load)
             if contestants:
-                races.append(race(contestants, load, options.rounds, folder, notes.of(load)))
-        report(races, options.rounds, print)
+                races.append(race(contestants, load, options.rounds, folder, notes.of(load), options.seconds))
+        report(races, print)
 
 
 if __name__ == "__main__":

@@ -26,6 +26,7 @@ enum { PATIENCE = 600000 /* milliseconds */ };
 
 const char *const variants[] = {"busy", "queue", NULL};
 const uint32_t most_workers = 16;
+const bool keeps_bytes = false;
 
 struct store {
     const char *path;
@@ -69,8 +70,8 @@ static void disconnect(sqlite3 *database) {
         die("sqlite: %s", sqlite3_errmsg(database));
 }
 
-void store_prepare(unsigned variant, const char *path, uint64_t commits, uint32_t longest) {
-    (void)variant, (void)commits, (void)longest;
+void store_prepare(unsigned variant, const char *path, const struct load *load) {
+    (void)variant, (void)load;
     sqlite3 *database = connect(path);
     execute(database, "PRAGMA journal_mode=WAL");
     execute(database, "CREATE TABLE writes (place INTEGER PRIMARY KEY, bytes BLOB NOT NULL)");

@@ -73,6 +73,8 @@ bool is_eighth(uint32_t i) { return i % FLUSH_EVERY == FLUSH_EVERY - 1; }
 
 uint32_t object_count(const struct load *load) { return load->length == SMALL ? OBJECTS : STREAMS; }
 
+uint64_t write_count(const struct load *load) { return (uint64_t)STREAMS * load->ops; }
+
 uint32_t longest_of(const struct load *load) { return load->length == SMALL ? LONGEST_SMALL : load->length; }
 
 /* --- Self-test --- */

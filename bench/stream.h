@@ -66,6 +66,9 @@ bool is_eighth(uint32_t i);
 /* The objects that a load makes. */
 uint32_t object_count(const struct load *load);
 
+/* The writes of all streams. */
+uint64_t write_count(const struct load *load);
+
 /* The most bytes of a write. */
 uint32_t longest_of(const struct load *load);
 

@@ -1,5 +1,6 @@
 #!/usr/bin/env python3
 """Tests of the benchmark itself: the writes, the peers that are built, and run.py over stand_in.sh in place of ztxg.
+The program in C is served by clients/stand_in.
 
     make -C bench check
 """
@@ -19,6 +20,7 @@ from dataclasses import replace
 import run
 
 HERE = pathlib.Path(__file__).resolve().parent
+SERVES = HERE.parent / "clients/stand_in"
 MIB = run.MIB
 sys.path.insert(0, str(HERE.parent))
 
@@ -84,6 +86,28 @@ class Ratios(unittest.TestCase):
         self.assertEqual(row[1:], ["0.33 (0.17-0.33)"])
         for other in run.TABLES:
             self.assertEqual(list(run.ratio_rows([large], other)), [])
+
+    def test_served_pools_have_tables_of_their_own_with_rates(self):
+        served = run.Served(pathlib.Path("ztxg"), MIB, 0, run.EACH)
+        self.race.contestants.append(served)
+        self.race.runs[served] = invented([2.0, 8.0, 4.0])
+        self.race.empty[served] = run.Measured(0.1, None)
+        *others, table = run.tables_of([self.race])
+        self.assertEqual(others, run.TABLES)
+        self.assertIn("FROM C, small writes", table.title)
+        # 160 commits in 4 seconds each, and in 4.5.
+        head, row = run.rate_rows([self.race], table)
+        self.assertEqual(head, ["workers, limit", "served", "sqlite busy", "rocksdb"])
+        self.assertEqual(row, ["1, 1 MiB", "40", "40", "36"])
+        head, row = run.ratio_rows([self.race], table)
+        self.assertEqual(head, ["workers, limit", "sqlite busy", "rocksdb", "better of them"])
+        self.assertEqual(row[1:], ["1.50 (0.50-2.00)", "0.56 (0.25-2.50)", "1.50 (0.50-2.00) sqlite busy"])
+        for other in run.TABLES:
+            self.assertEqual(list(run.rate_rows([self.race], other)), [])
+        printed = []
+        run.report([self.race], printed.append)
+        self.assertIn(run.RATES, printed)
+        self.assertTrue(any(it.endswith("middle of 3 rounds") for it in printed))
 
     def test_a_mode_that_did_not_run_has_no_rows(self):
         like, durable, _ = run.TABLES
@@ -154,6 +178,12 @@ class StandIn(unittest.TestCase):
         row = next(line for line in printed.splitlines() if line.startswith("1, 1 MiB"))
         self.assertEqual(row.split()[3], f"{ratio:.2f}")
 
+    def test_no_round_but_the_first_begins_late(self):
+        words = ["--ops", "8", "--rounds", "3", "--workers", "1", "--bytes", "small", "--only", "log grown each"]
+        printed, raw = self.run_with(*words, "--seconds", "0")
+        self.assertEqual([it[0] for it in raw], ["", "1"])
+        self.assertIn("middle of 1 rounds", printed)
+
     def test_large_writes_are_made_with_each_commit_durable(self):
         words = ["--ops", "8", "--rounds", "1", "--workers", "1,4", "--bytes", "4096,65000", "--only", "ztxg,log grown"]
         printed, raw = self.run_with(*words, STAND_IN_SLOW="0.3", STAND_IN_FAST="0.1")
@@ -165,6 +195,17 @@ class StandIn(unittest.TestCase):
             _, _, shown = printed.partition(f"EACH COMMIT DURABLE, writes of {name} ({number} bytes)")
             row = next(line for line in shown.splitlines() if line.startswith("1, 64 MiB"))
             self.assertEqual(row.split()[3], f"{runs[name, '1', log] / runs[name, '1', ours]:.2f}")
+
+    def test_a_served_pool_runs_in_both_modes(self):
+        words = ["--ops", "8", "--rounds", "1", "--workers", "4", "--bytes", "small,4096", "--only", "served"]
+        words += ["--served", str(SERVES), "--dirty", "1048576"]
+        printed, raw = self.run_with(*words)
+        runs = {(it[5], it[2]): float(it[3]) for it in raw if it[0]}
+        each, eighth = "served 1 MiB each", "served 1 MiB eighth"
+        self.assertEqual(set(runs), {("small", each), ("small", eighth), ("4 KiB", each)})
+        _, _, shown = printed.partition("FROM C, writes of 4 KiB (4,096 bytes)")
+        row = next(line for line in shown.splitlines() if line.startswith("4, 1 MiB"))
+        self.assertAlmostEqual(float(row.split()[-1]), 128 / runs["4 KiB", each], delta=0.51)
 
     def test_an_earlier_build_has_a_table_of_its_own(self):
         words = ["--ops", "8", "--rounds", "1", "--workers", "1", "--bytes", "small", "--only", "ztxg"]
@@ -184,9 +225,9 @@ class StandIn(unittest.TestCase):
 class Peers(unittest.TestCase):
     """Each peer that is built, at each number of threads and with each length of writes."""
 
-    def each_run(self, ops):
+    def each_run(self, ops, *words):
         """Yields each peer with the path of its store after a run, the load, and the number of flushes."""
-        options = run.parse([])
+        options = run.parse(words)
         for workers, length in itertools.product([1, 3, 16], options.bytes):
             load = run.Load(workers, ops, 5, length)
             for peer in run.contestants_of(options, load):
@@ -196,7 +237,7 @@ class Peers(unittest.TestCase):
                     yield peer, path, load, peer.flushes(run.call(peer.command(path, load)), load)
 
     def test_a_store_holds_the_writes_and_no_others(self):
-        for peer, path, load, _ in self.each_run(10):
+        for peer, path, load, _ in self.each_run(10, "--served", str(SERVES), "--dirty", str(MIB)):
             peer.check(path, load)
             lengths = set(run.LARGE) - {load.length}
             others = [replace(load, ops=load.ops + 1), replace(load, ops=load.ops - 1), replace(load, seed=6)]

@@ -3,12 +3,17 @@
 
 The program is `ztxg`, or the stand-in for it, which is taken if none is given. `--kills` is the number of moments at
 which nbdkit is killed, and at which the program is, 20 if not given. `--install` installs what is missing, by apt-get.
-What needs a command that isn't there is skipped. Names of tests after the options choose these alone."""
+What needs a command that isn't there is skipped. Names of tests after the options choose these alone.
+
+`--sectors N` runs none of these tests: it kills nbdkit and the program until N sectors of 512 bytes were acknowledged,
+a million if N is not given, and counts the blocks that are lost or torn."""
 
 import argparse
 import contextlib
 import errno
+import itertools
 import json
+import math
 import os
 import pathlib
 import random
@@ -32,6 +37,8 @@ from tools.model.pool_bytes import read_records  # noqa: E402
 PACKAGES = "nbdkit nbdkit-plugin-dev libnbd-bin qemu-utils fio e2fsprogs".split()
 KIB, MIB = 1 << 10, 1 << 20
 BLOCK, PART = 4 * KIB, 335_872
+SECTOR = 512
+MOMENTS_OF_POOL = 10  # kills before a new pool is made
 STAND_IN = str(HERE.parent / "stand_in")
 
 os.environ["PATH"] += ":/usr/sbin:/sbin"  # mkfs and fsck
@@ -418,18 +425,27 @@ def refused_device(tank):
     return f"{refused} refused calls, {ledger.acknowledged} acknowledged blocks are there and whole"
 
 
-def kill_and_compare(tank, kills_program):
-    """Kills nbdkit or the program at each moment, and compares the disk with what was acknowledged. Each tenth moment
-    has a new pool, since the stand-in's file keeps all transactions."""
-    acknowledged, moments = 0, random.Random(9)
-    for moment in range(tank.options.kills):
-        if moment % 10 == 0:
+def wait(ledger, seconds, blocks):
+    """Waits for so many seconds, or until so many blocks were acknowledged, if that is earlier."""
+    end = time.monotonic() + seconds
+    while time.monotonic() < end and ledger.acknowledged < blocks:
+        time.sleep(0.005)
+
+
+def kill_at_moments(tank, kills_program, writers_count=4, longest=0.7, most_blocks=math.inf):
+    """Kills what serves the disk at one moment after the other, without end: the program where `kills_program` says so
+    of the moment's number, and else nbdkit. A moment comes by chance before `longest` seconds and `most_blocks` that
+    were acknowledged. After each it yields how many were, and how many of the disk are lost and torn then. Each tenth
+    moment has a new pool, since the stand-in's file keeps all transactions."""
+    moments = random.Random(9)
+    for moment in itertools.count():
+        if moment % MOMENTS_OF_POOL == 0:
             tank.create()
             ledger = kills.Ledger()
         process = tank.start("size=32M")
-        writers = kills.start_writers(tank.socket, ledger, moment)
-        time.sleep(moments.uniform(0.02, 0.7))
-        if kills_program:
+        writers = kills.start_writers(tank.socket, ledger, moment, writers_count)
+        wait(ledger, moments.uniform(0.02, longest), moments.random() * most_blocks)
+        if kills_program(moment):
             (program,) = processes_of(process.pid)
             os.kill(program, signal.SIGKILL)
         else:
@@ -440,10 +456,37 @@ def kill_and_compare(tank, kills_program):
                 raise writer.fault
         process.terminate()
         process.wait(timeout=60)
-        acknowledged += ledger.acknowledged
-        ledger.acknowledged = 0
-        compare(tank, ledger, f"moment {moment}")
+        acknowledged, ledger.acknowledged = ledger.acknowledged, 0
+        with tank.served(), tank.disk() as disk:
+            yield acknowledged, *ledger.compare(disk)
+
+
+def kill_and_compare(tank, kills_program):
+    """Kills nbdkit or the program at each moment, and compares the disk with what was acknowledged."""
+    acknowledged = 0
+    found = itertools.islice(kill_at_moments(tank, lambda _: kills_program), tank.options.kills)
+    for moment, (blocks, lost, torn) in enumerate(found):
+        assert not lost and not torn, f"moment {moment}: {lost} blocks are lost, {torn} are torn"
+        acknowledged += blocks
     return f"{tank.options.kills} moments, {acknowledged} acknowledged blocks are there and whole"
+
+
+def kills_until_sectors(tank):
+    """Kills nbdkit twice and then the program twice, again and again, until as many sectors were acknowledged as
+    `--sectors` says. Of both moments one has writes with FUA."""
+    sectors = lost = torn = 0
+    moments = kill_at_moments(tank, lambda moment: moment // 2 % 2, writers_count=16, longest=2, most_blocks=3000)
+    for number, found in enumerate(moments, 1):
+        sectors += found[0] * BLOCK // SECTOR
+        lost, torn = lost + found[1], torn + found[2]
+        rounds = (number - 1) // MOMENTS_OF_POOL + 1
+        said = f"rounds {rounds}, kills {number}, acknowledged sectors {sectors}, lost blocks {lost}, torn blocks {torn}"
+        if number % MOMENTS_OF_POOL == 0:
+            print(said, flush=True)
+        if sectors >= tank.options.sectors:
+            break
+    assert not lost and not torn, said
+    return said
 
 
 def killed_nbdkit(tank):
@@ -495,6 +538,7 @@ def main():
     parser.add_argument("--program", default=STAND_IN)
     parser.add_argument("--plugin", default=str(HERE / "out" / "topzerad-plugin.so"))
     parser.add_argument("--kills", type=int, default=20)
+    parser.add_argument("--sectors", type=int, nargs="?", const=1_000_000, metavar="N")
     parser.add_argument("--folder", help="where the files of the tests go")
     parser.add_argument("--install", action="store_true")
     parser.add_argument("tests", nargs="*", choices=[[], *(test.__name__ for test in TESTS)])
@@ -502,7 +546,10 @@ def main():
     chosen.program = os.path.realpath(shutil.which(chosen.program) or chosen.program)
     if chosen.install:
         subprocess.run(["apt-get", "install", "-y", "--no-install-recommends", *PACKAGES], check=True)
-    outcomes = [check(test, chosen) for test in TESTS if not chosen.tests or test.__name__ in chosen.tests]
+    tests = [test for test in TESTS if not chosen.tests or test.__name__ in chosen.tests]
+    if chosen.sectors is not None:
+        tests = [kills_until_sectors]
+    outcomes = [check(test, chosen) for test in tests]
     print(f"{outcomes.count(True)} passed, {outcomes.count(False)} failed")
     return 1 if False in outcomes else 0
 

@@ -7,7 +7,7 @@ import threading
 import nbd
 
 BLOCK = 4096
-WRITERS, BLOCKS = 4, 1024  # each writer has so many blocks of its own, beside those of the others
+BLOCKS = 4096  # those that are written; each writer has a share of its own, beside those of the others
 COUNTS = (1, 1, 1, 1, 2, 3, 15, 16, 17, 40)
 
 
@@ -20,7 +20,7 @@ class Ledger:
 
     def __init__(self):
         self.lock = threading.Lock()
-        self.lasting = [0] * (WRITERS * BLOCKS)
+        self.lasting = [0] * BLOCKS
         self.possible = [set() for _ in self.lasting]
         self.done = {}
         self.last_number, self.acknowledged = 0, 0
@@ -80,9 +80,9 @@ class Writer(threading.Thread):
     """Writes blocks of its own until the server is gone: some with FUA, as many as that share says, and now and then it
     flushes."""
 
-    def __init__(self, path, ledger, first, seed, fua_share):
+    def __init__(self, path, ledger, own, seed, fua_share):
         super().__init__()
-        self.disk, self.ledger, self.first, self.random = nbd.Disk(path), ledger, first, random.Random(seed)
+        self.disk, self.ledger, self.own, self.random = nbd.Disk(path), ledger, own, random.Random(seed)
         self.fua_share, self.fault = fua_share, None
 
     def run(self):
@@ -102,7 +102,7 @@ class Writer(threading.Thread):
 
     def write(self):
         count = self.random.choice(COUNTS)
-        first = self.first + self.random.randrange(BLOCKS - count + 1)
+        first = self.random.randrange(self.own.start, self.own.stop - count + 1)
         blocks = range(first, first + count)
         is_lasting = self.random.random() < self.fua_share
         number = self.ledger.begin(blocks)
@@ -111,10 +111,11 @@ class Writer(threading.Thread):
         self.ledger.end(blocks, number, is_lasting)
 
 
-def start_writers(path, ledger, moment):
-    """The writers for a moment. At every other one none uses FUA, which might make durable what others flush."""
-    fua_share = moment % 2 * 0.3
-    writers = [Writer(path, ledger, at * BLOCKS, f"{moment} {at}", fua_share) for at in range(WRITERS)]
+def start_writers(path, ledger, moment, count=4):
+    """So many writers for a moment. At every other one none uses FUA, which might make durable what others flush."""
+    fua_share, share = moment % 2 * 0.3, BLOCKS // count
+    owned = [range(first, first + share) for first in range(0, BLOCKS, share)]
+    writers = [Writer(path, ledger, own, f"{moment} {at}", fua_share) for at, own in enumerate(owned)]
     for writer in writers:
         writer.start()
     return writers

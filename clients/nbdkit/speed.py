@@ -2,13 +2,18 @@
 """Measures the disk by fio: `speed.py [--rounds N] [ZTXG]`. Beside it are a plain file by nbdkit and a qcow2 image by
 qemu-nbd.
 
-Each round runs each job on each disk in turn, since what a flush costs changes from minute to minute. Each job and disk
-has a row: requests a second, or MB a second for the sequential jobs, of each round."""
+Each round makes new disks. It runs each job on each of them, one after the other, since what a flush costs changes from
+minute to minute; the next round begins with the next disk. Each job and disk has a row: requests a second, or MB a
+second for the sequential jobs, the middle of the rounds with the least and the most. Then it has the ratio of the pool
+to that disk in the same round: above 1 the pool is faster."""
 
 import argparse
+import contextlib
 import json
+import os
 import pathlib
 import shutil
+import statistics
 import subprocess
 import sys
 import tempfile
@@ -24,12 +29,17 @@ JOBS = (
     ("random read 4 KiB, depth 16", "--rw=randread --bs=4k --iodepth=16", "read", False),
     ("read 64 KiB in order, depth 8", "--rw=read --bs=64k --iodepth=8", "read", True),
 )
-DISKS = ("topzerad", "nbdkit file", "qcow2")
+OURS = "topzerad"
+DISKS = (OURS, "nbdkit file", "qcow2")
 
 
-def serve(disk, folder, chosen):
+def socket_of(disk, folder):
+    return folder / f"{DISKS.index(disk)}.socket"
+
+
+def start(disk, folder, chosen):
     """Starts the server of a new disk."""
-    socket = folder / "socket"
+    socket = socket_of(disk, folder)
     socket.unlink(missing_ok=True)
     if disk == "qcow2":
         image = folder / "disk.qcow2"
@@ -47,10 +57,23 @@ def serve(disk, folder, chosen):
     return subprocess.Popen(["nbdkit", "-f", "-U", socket, chosen.plugin, *options])
 
 
-def measure(job, folder, seconds):
-    """Runs a job on the disk that is served."""
+@contextlib.contextmanager
+def served(disk, folder, chosen):
+    """Serves a new disk."""
+    server = start(disk, folder, chosen)
+    try:
+        wait_for(socket_of(disk, folder))
+        yield
+    finally:
+        server.terminate()
+        server.wait()
+
+
+def measure(job, disk, folder, seconds):
+    """Runs a job on a disk that is served, once what was written before is on the machine's disk."""
     _, words, half, in_bytes = job
-    uri = f"nbd+unix:///?socket={folder / 'socket'}"
+    os.sync()
+    uri = f"nbd+unix:///?socket={socket_of(disk, folder)}"
     common = ["fio", "--name=job", "--ioengine=nbd", f"--uri={uri}", f"--aux-path={folder}", "--size=200m"]
     common += ["--time_based", f"--runtime={seconds}", "--output-format=json", f"--output={folder / 'answer'}"]
     subprocess.run(common + words.split(), check=True)
@@ -70,6 +93,23 @@ def wait_for(socket):
         time.sleep(0.05)
 
 
+def middle(numbers, form):
+    """The middle of some numbers, with the least and the most."""
+    low, high = min(numbers), max(numbers)
+    return f"{statistics.median(numbers):{form}} ({low:{form}}-{high:{form}})"
+
+
+def rows(disks, found):
+    """For each job and disk what it reached, and the ratio of the pool to it."""
+    for name, _, _, in_bytes in JOBS:
+        for disk in disks:
+            row = f"{name:40}{disk:13}{middle(found[name, disk], ',.0f'):>26} {'MB/s' if in_bytes else 'a second':10}"
+            if disk != OURS:
+                ratios = [ours / theirs for ours, theirs in zip(found[name, OURS], found[name, disk])]
+                row += f"{middle(ratios, '.2f'):>20}"
+            yield row.rstrip()
+
+
 def main():
     parser = argparse.ArgumentParser(description=__doc__.splitlines()[0])
     parser.add_argument("program", nargs="?", default="ztxg")
@@ -83,20 +123,18 @@ def main():
     found = {(job[0], disk): [] for job in JOBS for disk in disks}
     with tempfile.TemporaryDirectory(dir=chosen.folder) as folder:
         folder = pathlib.Path(folder)
-        for _ in range(chosen.rounds):
-            for disk in disks:
-                server = serve(disk, folder, chosen)
-                try:
-                    wait_for(folder / "socket")
-                    for job in JOBS:
-                        found[job[0], disk].append(measure(job, folder, chosen.seconds))
-                finally:
-                    server.terminate()
-                    server.wait()
-    for job in JOBS:
-        for disk in disks:
-            unit = "MB/s" if job[3] else "a second"
-            print(f"{job[0]:40}{disk:14}", " / ".join(f"{one:,.0f}" for one in found[job[0], disk]), unit)
+        for number in range(chosen.rounds):
+            first = number % len(disks)
+            with contextlib.ExitStack() as servers:
+                for disk in disks:
+                    servers.enter_context(served(disk, folder, chosen))
+                for job in JOBS:
+                    for disk in disks[first:] + disks[:first]:
+                        found[job[0], disk].append(measure(job, disk, folder, chosen.seconds))
+                        print(f"round {number + 1}: {job[0]}, {disk}: {found[job[0], disk][-1]:,.0f}", file=sys.stderr)
+    print(f"{chosen.rounds} rounds of {chosen.seconds} seconds: the middle (least-most), and the pool's ratio to it")
+    for row in rows(disks, found):
+        print(row)
 
 
 if __name__ == "__main__":

@@ -16,45 +16,18 @@ The first difference ends it with status 1.
 import copy
 import random
 import struct
-import subprocess
 import time
 
 from tools import Failed
 from tools.harness.pool_files import create, pool_file
 from tools.harness.program import add_program
+from tools.harness.served import Served
 from tools.model.frames import HEAD, Request, Server, read_answers, read_requests, refused_frame, requests_frame
 
 OBJECTS = [0, 1, 2, 62, 63, 5_291]
 LENGTHS = [1, 100, 4_032, 4_033, 20_000]
 TRANSACTIONS = ("transact", "transact_durably")
 CALLS = [*TRANSACTIONS, "read", "length", "objects", "durable", "flush", "name", "sync", "status"]
-
-
-class Served:
-    """A process that serves a pool."""
-
-    def __init__(self, ztxg, file):
-        pipe = subprocess.PIPE
-        self.process = subprocess.Popen([ztxg, "serve", file], stdin=pipe, stdout=pipe, stderr=pipe)
-
-    def send(self, content):
-        self.process.stdin.write(content)
-        self.process.stdin.flush()
-
-    def answer(self):
-        head = self.process.stdout.read(4)
-        (length,) = struct.unpack("<I", head)
-        return head + self.process.stdout.read(length - 4)
-
-    def end(self):
-        self.process.stdin.close()
-        rest, errors = self.process.stdout.read(), self.process.stderr.read()
-        if self.process.wait() != 0 or rest or errors:
-            raise Failed(f"the end of the input: {self.process.returncode} {rest} {errors}")
-
-    def kill(self):
-        self.process.kill()
-        self.process.communicate()
 
 
 def operation(chance):

@@ -9,8 +9,11 @@ Then there are nine rounds, each of four processes, one after the other: `ztxg s
 that imports the pool, and HASH_BLOCKS, which reads the same blocks one by one and makes of each the digest that its
 check is compared with. So a ratio says what the walk of a tree costs beside the hashes that it can't do without. A
 time is user and system seconds of the process. The memory is the most that was resident: it has to be under 6 MiB.
-What they print has to be the pool's. At last a script imports the pool, reads, writes and syncs, and has the digest,
-for its memory alone: under 8 MiB.
+What they print has to be the pool's. Then a script imports the pool, reads, writes and syncs, and has the digest, for
+its memory alone: under 8 MiB.
+
+At last `ztxg serve FILE` answers a frame of each call, and one of reads from more objects than its cache has tree
+blocks for. Its memory is printed, what is resident then and the most that was. It isn't judged.
 
 A ratio is that of the least times, and that of the medians is printed beside it. On a busy machine a few rounds tell
 little: single ones differ by half. The status is 1 if a ratio is above its bound or the memory not under its own, and 2
@@ -22,7 +25,9 @@ import statistics
 
 from tools import Failed
 from tools.harness.pool_files import pool_file
-from tools.harness.program import add_program, measure
+from tools.harness.program import add_program, measure, memory_of
+from tools.harness.served import Served
+from tools.model.frames import CALLS, Request, read_answers, requests_frame
 from tools.model.layout import (
     AREA,
     BLOCK,
@@ -32,9 +37,11 @@ from tools.model.layout import (
     ENTRIES,
     INDIRECT,
     MIB,
+    OBJECTS,
     PAYLOAD,
     POINTERS,
     ROOT,
+    TOP,
     block_count,
     label_places,
     slot_places,
@@ -50,6 +57,8 @@ ROUNDS = 9
 # Of each process: the greatest ratio of its time to that of the hash, and the bytes that its memory stays under.
 BOUNDS = {"show": (1.2, 6 * MIB), "check": (1.2, 6 * MIB), "import": (1.1, 6 * MIB)}
 MEMORY_IN_USE = 8 * MIB
+# More objects than the cache of `serve` has tree blocks for.
+READS = 300
 
 
 class Blocks:
@@ -159,6 +168,32 @@ def use(ztxg, path, imported):
     return cost.memory
 
 
+def ask(served, *requests):
+    """Asks by one frame, none of whose requests is to be refused."""
+    served.send(requests_frame([Request(number, *request) for number, request in enumerate(requests)]))
+    answers = read_answers(served.answer())
+    tell(not isinstance(answers, int) and [it.came for it in answers] == [CALLS[call] for call, _ in requests], "serve")
+
+
+def serve(ztxg, path):
+    """The memory of a process that serves the pool, once it has answered a frame of each call: what is resident, and
+    the most that was. The calls remove an object, then write to another one and read a third."""
+    served = Served(ztxg, path)
+    ask(served, ("transact", [("d", 1, 0, b"")]))
+    ask(served, ("sync", ()))
+    ask(served, ("transact_durably", [("w", 2, PAYLOAD - 2, b"abcd")]))
+    ask(served, ("read", (3, 0, TOP)))
+    ask(served, ("length", (3,)))
+    ask(served, ("objects", (0, OBJECTS)))
+    ask(served, ("durable", (0, GROUP)))
+    for call in ("flush", "name", "status"):
+        ask(served, (call, ()))
+    ask(served, *(("read", (4 + number, 0, 1)) for number in range(READS)))
+    memory = memory_of(served.process.pid)
+    served.end()
+    return memory
+
+
 def judge(ztxg, hasher, path):
     """The status of the rounds on a pool that is written here."""
     wanted = write_pool(path)
@@ -184,6 +219,8 @@ def judge(ztxg, hasher, path):
         is_above = is_above or ratio > most_ratio or memory >= memory_bound
     in_use = use(ztxg, path, ROUNDS)
     print(f"a pool in use: memory {in_use / MIB:.1f} MiB, under {MEMORY_IN_USE // MIB}")
+    resident, most = serve(ztxg, path)
+    print(f"a served pool: memory {resident / MIB:.1f} MiB, at most {most / MIB:.1f} MiB")
     return int(is_above or in_use >= MEMORY_IN_USE)
 
 

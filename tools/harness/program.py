@@ -118,13 +118,19 @@ def status_of(process, thread=""):
     return {name: value.strip() for name, value in (line.split(":", 1) for line in path.read_text().splitlines())}
 
 
+def memory_of(process):
+    """The bytes that a process has in memory, and the most that it had, as the kernel says."""
+    said = status_of(process)
+    return tuple(int(said.get(name, "0 kB").split()[0]) * 1024 for name in ("VmRSS", "VmHWM"))
+
+
 def peak_memory(process):
     """The most bytes that a process had in memory, as the kernel says until it ends. `ru_maxrss` would count what this
     program had in memory when it began the process."""
     most = 0
     while process.poll() is None:
         try:
-            most = max(most, int(status_of(process.pid).get("VmHWM", "0 kB").split()[0]) * 1024)
+            most = max(most, memory_of(process.pid)[1])
         except OSError:
             break
         time.sleep(0.005)

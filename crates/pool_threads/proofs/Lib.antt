@@ -25,6 +25,8 @@ pub mod FetchClients
 pub mod AnswerClients
 mod Served
 pub mod TransactsSeen
+mod TransactsShort
+mod ForGood
 pub mod PaidSteps
 pub mod TransactsRelease
 pub mod OneTurn

@@ -8,8 +8,7 @@ ghost use Rattle.base.specs.formats.Uberblocks.{IsActive, Uberblock};
 ghost use Rattle.base.specs.history.Past.{Past};
 ghost use Rattle.base.specs.steps.Explains.{IsLeftBy};
 ghost use Rattle.import_replay.specs.Mounts.{shown_of_import};
-ghost use Rattle.pool_core.specs.GroupSyncs.{SyncsOpen};
-ghost use Rattle.pool_core.specs.States.{device_of};
+ghost use Rattle.pool_threads.specs.Finishes.{SyncsAtEnd};
 ghost use Rattle.pool_threads.specs.Handles.{StartsBehind, kin_of, moment_in, moment_of, opening_view, shared_of, taken_by, turns_of, view_seen};
 ghost use Rattle.pool_threads.specs.Views.{Explains, GrowsTo, SeenPool, viewed_state};
 ghost use Rattle.pool_threads.specs.Views.CrashRule.{Behind};
@@ -122,15 +121,13 @@ where
     }
 }
 
-// It was synced with this moment, from a state that a later view explains, and its device is that of the end.
+// Its group was synced with this moment at the end, and the device is as that sync left it.
 fn a_finished_pool_gives_its_synced_device_back<D: SectorDevice>(
     pool: Pool<D>,
 ) -> Option<(Group, D)>
 where
     D: Drop,
-    ensures { IfSome result (λ r. (v : SeenPool) × (ended : _) × (left : _) × Explains ended v
-        × GrowsTo (IsTrue D.keeps_model) (opening_view (shared_of pool)) v
-        × SyncsOpen 7 (Ok r.0) ended left × (r.1 ≡ device_of left)) }
+    ensures { IfSome result (λ r. SyncsAtEnd (shared_of pool) 7 (Ok r.0) r.1) }
 {
     match pool.finish(7) {
         Ok(finished) => Some(finished),
