@@ -16,7 +16,7 @@ SOURCES = TOP / "tools/programs"
 PROGRAMS = {
     "durable_load": "durable_load: anyhow topzerad loads rand_pcg",
     "flush_counts": "flush_counts may_wait=9: anyhow topzerad",
-    "hash_blocks": "hash_blocks: anyhow topzerad sha2",
+    "hash_blocks": "hash_blocks: anyhow sha2",
     "idle_loops": "idle_loops: anyhow topzerad",
     "load_receipts": "load_receipts: anyhow topzerad loads",
 }
