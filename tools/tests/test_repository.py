@@ -42,4 +42,4 @@ class Faults(unittest.TestCase):
 
     def test_crates_that_programs_use(self):
         self.assertEqual(program_crates.crates_of("one may_wait=9: two three # four"), ["two", "three"])
-        self.assertEqual(program_crates.used_crates("hash_blocks"), {"anyhow", "sha2", "topzerad"})
+        self.assertEqual(program_crates.used_crates("hash_blocks"), {"anyhow", "sha2"})
