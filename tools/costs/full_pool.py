@@ -220,8 +220,8 @@ def judge(ztxg, hasher, path):
     in_use = use(ztxg, path, ROUNDS)
     print(f"a pool in use: memory {in_use / MIB:.1f} MiB, under {MEMORY_IN_USE // MIB}")
     resident, most = serve(ztxg, path)
-    print(f"a served pool: memory {resident / MIB:.1f} MiB, at most {most / MIB:.1f} MiB")
-    return int(is_above or in_use >= MEMORY_IN_USE)
+    print(f"a served pool: memory {resident / MIB:.1f} MiB, at most {most / MIB:.1f} MiB, under {MEMORY_IN_USE // MIB}")
+    return int(is_above or in_use >= MEMORY_IN_USE or most >= MEMORY_IN_USE)
 
 
 def add_arguments(parser):
