@@ -13,7 +13,7 @@ What they print has to be the pool's. Then a script imports the pool, reads, wri
 its memory alone: under 8 MiB.
 
 At last `ztxg serve FILE` answers a frame of each call, and one of reads from more objects than its cache has tree
-blocks for. Its memory is printed, what is resident then and the most that was. It isn't judged.
+blocks for. Its memory is printed, what is resident then and the most that was: under 8 MiB.
 
 A ratio is that of the least times, and that of the medians is printed beside it. On a busy machine a few rounds tell
 little: single ones differ by half. The status is 1 if a ratio is above its bound or the memory not under its own, and 2
