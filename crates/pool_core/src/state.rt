@@ -2,14 +2,16 @@
 
 ghost use Rattle.std.specs.Prelude.{◌≡◌, ◌≢◌, ◌≤◌, IfErr, IfOk, IsTrue, OnErr, length, map, option_map};
 ghost use Rattle.base.specs.steps.Groups.{Admission};
-ghost use Rattle.base.specs.steps.Refusals.{transaction_of};
+ghost use Rattle.base.specs.declared.range.Mode.TheVariants.{Writer};
+ghost use Rattle.base.specs.history.Plans.{number_range};
+ghost use Rattle.base.specs.steps.Refusals.{append_range, transaction_of};
 ghost use Rattle.base.specs.steps.Shown.{is_durable, status_of};
 ghost use Rattle.object_maps.specs.CachedDevices.{device_in};
 ghost use Rattle.pool_tables.specs.Shows.{geometry_of};
 
 use base::{
-    Bytes, Group, LockId, Mode, ObjectId, Ops, Owner, Plan, PoolError, PoolName, Range, Receipt,
-    Status, Step, TxId,
+    Bytes, Group, LockId, Mode, ObjectId, ObjectRange, Ops, Owner, Plan, PoolError, PoolName,
+    Range, Receipt, Status, Step, TxId,
 };
 use device_model::{Fault, MemDevice, SectorDevice};
 use import_replay::Imported;
@@ -34,12 +36,13 @@ impl<D: SectorDevice> PoolState<D> {
     ghost use Rattle.std.specs.Map.Iter.{ShowsInOrder, deref_pair};
     ghost use Rattle.base.specs.formats.Limits.{max_locks};
     ghost use Rattle.base.specs.steps.Locks.{AreLocksSound};
-    ghost use Rattle.range_locks.specs.Locks.{grant_of};
+    ghost use Rattle.range_locks.specs.Locks.{grant_of, is_blocked_by_own};
     ghost use Rattle.range_locks.specs.Pieces.{pieces_of};
     ghost use Rattle.import_replay.specs.Mounts.{shown_of_import};
     ghost use Rattle.sync.specs.Calls.{plain_answer};
     ghost use Rattle.pool_tables.specs.BeginTests.{is_above_limit};
     ghost use Rattle.pool_tables.specs.Duties.{due_step};
+    ghost use Rattle.transactions.specs.Open.{has_one_open};
     ghost use Rattle.pool_tables.specs.Receipts.{ChecksReceipt};
     ghost use Rattle.pool_core.specs.Calls.{CallsNext};
     ghost use Rattle.pool_tables.specs.Told.{Leads, start_reply, sync_step_reply};
@@ -205,6 +208,30 @@ impl<D: SectorDevice> PoolState<D> {
         ensures { result ≡ is_above_limit plan.now (shown self.now) }
     {
         self.pool.is_above_limit(plan.as_slice())
+    }
+
+    /// Whether the owner has an open transaction. It takes no memory, and is no step.
+    pub fn has_one_open(&self, owner: Owner) -> bool
+        ensures { result ≡ has_one_open owner.0 (shown self.now).transactions }
+    {
+        self.pool.has_one_open(owner)
+    }
+
+    /// Whether a lock that the owner holds itself overlaps a range, and not both are of readers. Then only the owner can
+    /// make way for a lock of that range. It takes no memory, and is no step.
+    pub fn is_blocked_by_own(&self, owner: Owner, range: &ObjectRange, mode: Mode) -> bool
+        ensures { result ≡ is_blocked_by_own owner.0 (number_range range.now) mode
+            (shown self.now).locks }
+    {
+        self.pool.is_blocked_by_own(owner, range, mode)
+    }
+
+    /// Whether a lock that the owner holds itself overlaps an object's range from its end on, as `is_blocked_by_own`.
+    pub fn is_append_blocked_by_own(&self, owner: Owner, object: ObjectId) -> bool
+        ensures { result ≡ is_blocked_by_own owner.0 (append_range object.0 (shown self.now)) Writer
+            (shown self.now).locks }
+    {
+        self.pool.is_append_blocked_by_own(owner, object)
     }
 
     /// The plan of an open transaction. It takes no memory.

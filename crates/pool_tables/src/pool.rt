@@ -40,7 +40,9 @@ ghost use Rattle.base.specs.formats.Limits.{last_number, max_length, pointer_cou
 ghost use Rattle.base.specs.history.Contents.{length_of};
 ghost use Rattle.base.specs.tree.PlacedTrees.{ArePlaced};
 ghost use Rattle.base.specs.steps.Exact.{log_addresses};
-ghost use Rattle.base.specs.steps.Refusals.{is_lock_in_use};
+ghost use Rattle.base.specs.declared.range.Mode.TheVariants.{Writer};
+ghost use Rattle.base.specs.history.Plans.{number_range};
+ghost use Rattle.base.specs.steps.Refusals.{append_range, is_lock_in_use};
 ghost use Rattle.base.specs.steps.Shown as show;
 ghost use Rattle.extents.specs.Unsynced.{name_at};
 ghost use Rattle.object_maps.specs.ContentsShown.{contents_of};
@@ -64,8 +66,8 @@ mod logs;
 mod syncs;
 
 use base::{
-    Bytes, Group, LockId, Mode, OBJECT_COUNT, ObjectId, ObjectRange, Owner, Pointer, PoolError,
-    PoolName, Range, Receipt, Status, WRITTEN_VERSION,
+    Bytes, Group, LockId, MAX_LENGTH, Mode, OBJECT_COUNT, ObjectId, ObjectRange, Owner, Pointer,
+    PoolError, PoolName, Range, Receipt, Status, WRITTEN_VERSION,
 };
 use checked_blocks::Frame;
 use extents::{Laid, UnsyncedExtents};
@@ -189,7 +191,7 @@ impl PoolTables {
     ghost use Rattle.import_replay.specs.Mounts.{shown_of_import};
     ghost use Rattle.base.specs.formats.Limits.{max_locks};
     ghost use Rattle.base.specs.steps.Locks.{AreLocksSound};
-    ghost use Rattle.range_locks.specs.Locks.{grant_of};
+    ghost use Rattle.range_locks.specs.Locks.{grant_of, is_blocked_by_own};
     ghost use Rattle.range_locks.specs.Pieces.{pieces_of};
     ghost use Rattle.pool_tables.specs.Meets.{FindsLength, RefusesIf};
     ghost use Rattle.pool_tables.specs.Shows.{geometry_of, pool_shown, shown_objects, sync_of, tree_of};
@@ -411,6 +413,36 @@ impl PoolTables {
             return Err(PoolError::BadRange);
         }
         self.shown_length(object).ok_or(PoolError::NoObject)
+    }
+
+    /// Whether a lock that the owner holds itself overlaps a range, and not both are of readers.
+    pub fn is_blocked_by_own(&self, owner: Owner, range: &ObjectRange, mode: Mode) -> bool
+        ensures { result ≡ is_blocked_by_own owner.0 (number_range range.now) mode
+            (pool_shown self.now).locks }
+    {
+        self.locks.is_blocked_by_own(owner, range, mode)
+    }
+
+    /// Whether a lock that the owner holds itself overlaps an object's range from its end on.
+    pub fn is_append_blocked_by_own(&self, owner: Owner, object: ObjectId) -> bool
+        ensures { result ≡ is_blocked_by_own owner.0 (append_range object.0 (pool_shown self.now))
+            Writer (pool_shown self.now).locks }
+    {
+        let range = Range {
+            low: self.end_of(object),
+            high: MAX_LENGTH,
+        };
+        self.is_blocked_by_own(owner, &ObjectRange { object, range }, Mode::Writer)
+    }
+
+    // The length of an object, 0 if there is none of this number.
+    fn end_of(&self, object: ObjectId) -> u64
+        ensures { result ≡ (append_range object.0 (pool_shown self.now)).low }
+    {
+        match self.shown_length(object) {
+            Some(length) => length,
+            None => 0,
+        }
     }
 
     // The length of an object, `None` if there is none of this number.

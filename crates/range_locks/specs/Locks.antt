@@ -1,5 +1,6 @@
 -- LockTable range locks, which lock is refused, and what a grant and letting go make of them.
 use Rattle.std.specs.Prelude.{ℕ, ◌≡◌, ◌+◌, ◌<◌, ◌≤◌, ◌==◌, ◌&&◌, ◌||◌, ◌++◌, ◌∷◌, [], Bool, not, List, filter, length, slice_get, nat_lt, nat_le, Option, Some, None, is_none, Result, Err, IfErr}
+use Rattle.std.specs.List.{list_any}
 use Rattle.std.specs.Option.{option_map_or}
 use Rattle.base.specs.declared.error.PoolError.{PoolError}
 use Rattle.base.specs.declared.error.PoolError.TheVariants.{NoMemory, NoObject, BadRange, Busy, TooMany}
@@ -38,6 +39,14 @@ covers owner range g = (g.owner == owner) && lies_in range g.range
 
 abbrev pub covers_for_writing : ℕ → NumberRange → Grant → Bool
 covers_for_writing owner range g = not (is_reader g.mode) && covers owner range g
+
+-- whether it is one of the owner's that keeps a range from being locked
+abbrev pub blocks_own : ℕ → NumberRange → Mode → Grant → Bool
+blocks_own owner range mode g = (g.owner == owner) && blocks range mode g
+
+-- whether a lock that the owner holds itself keeps a range from being locked
+abbrev pub is_blocked_by_own : ℕ → NumberRange → Mode → List Grant → Bool
+is_blocked_by_own owner range mode locks = list_any (blocks_own owner range mode) locks
 
 -- what is true of held locks at each time: names rise in order of grant up to the next one, ranges are allowed ones
 pub record AreHeld (held : LockTable) : Type 0 where

@@ -6,7 +6,7 @@
 ghost use Rattle.std.specs.Prelude.{◌≡◌, [], IsOk, IfOk, IfErr, OnOk, OnErr, IsSome, ◌↔◌};
 ghost use Rattle.std.specs.List.{list_any};
 ghost use Rattle.base.specs.history.Plans.{lies_in, number_range};
-ghost use Rattle.range_locks.specs.Locks.{covers, covers_for_writing, grant_of};
+ghost use Rattle.range_locks.specs.Locks.{blocks_own, covers, covers_for_writing, grant_of};
 
 use crate::held::{HeldLock, HeldPiece};
 use crate::numbers::Numbers;
@@ -44,7 +44,7 @@ impl RangeLocks {
     ghost use Rattle.std.specs.Map.Iter.{ShowsInOrder, deref_pair};
     ghost use Rattle.base.specs.formats.Limits.{max_locks};
     ghost use Rattle.base.specs.steps.Locks.{AreLocksSound, is_blocked, is_covered, is_covered_for_writing};
-    ghost use Rattle.range_locks.specs.Locks.{AnswersBy, Appends, first_append_refusal, GrantsOne, grant_of, is_named, first_lock_refusal, without};
+    ghost use Rattle.range_locks.specs.Locks.{AnswersBy, Appends, first_append_refusal, GrantsOne, grant_of, is_blocked_by_own, is_named, first_lock_refusal, without};
     ghost use Rattle.range_locks.specs.Pieces.{pieces_of};
 
     /// No locks. It takes no memory.
@@ -195,6 +195,15 @@ impl RangeLocks {
         }
     }
 
+    /// Whether a lock that the owner holds itself overlaps a range, and not both are of readers. Then only the owner can
+    /// make way for a lock of that range.
+    pub fn is_blocked_by_own(&self, owner: Owner, range: &ObjectRange, mode: Mode) -> bool
+        ensures { result
+            ≡ is_blocked_by_own owner.0 (number_range range.now) mode self.now.locks }
+    {
+        any_own_blocks(&self.held, owner, range, mode)
+    }
+
     /// The held locks in order of grant, each with its name.
     pub fn held(&self) -> HeldLocks<'_>
         ensures locks { map grant_of result ≡ self.now.locks }
@@ -230,6 +239,15 @@ fn any_covers(held: &HeldTable, owner: Owner, range: &ObjectRange) -> bool
         ≡ list_any (λ e. covers owner.0 (number_range range.now) (grant_of e)) held.now.entries }
 {
     held.iter().any(|(_, lock)| lock.owner.0 == owner.0 && range.lies_in(&lock.range))
+}
+
+fn any_own_blocks(held: &HeldTable, owner: Owner, range: &ObjectRange, mode: Mode) -> bool
+    ensures { result
+        ≡ list_any (λ e. blocks_own owner.0 (number_range range.now) mode (grant_of e))
+        held.now.entries }
+{
+    held.iter().any(|(_, lock)| lock.owner.0 == owner.0
+        && (lock.range.overlaps(range) && !(lock.mode.is_reader() && mode.is_reader())))
 }
 
 fn any_covers_for_writing(held: &HeldTable, owner: Owner, range: &ObjectRange) -> bool

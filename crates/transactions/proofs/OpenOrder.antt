@@ -12,7 +12,7 @@ use Rattle.base.specs.history.Plans.{NumberRange, is_plan_allowed, plans_overlap
 use Rattle.base.specs.steps.Groups.{Admission, hold_count}
 use Rattle.base.specs.steps.Refusals.{is_plan_blocked}
 use Rattle.transactions.specs.declared.«open».OpenTransaction.{OpenTransaction}
-use Rattle.transactions.specs.Open.{admission_of, admissions_at, passes_at, is_of_name, is_of_group, overlaps_plan_of, has_plan_in, is_kept_blocked, is_range_in_use, admission_of_name}
+use Rattle.transactions.specs.Open.{admission_of, admissions_at, passes_at, is_of_name, is_of_group, is_of_owner, overlaps_plan_of, has_one_open, has_plan_in, is_kept_blocked, is_range_in_use, admission_of_name}
 use Rattle.transactions.specs.Ranges.{has_range_in, kept_ranges_overlap}
 use Rattle.transactions.proofs.KeptRanges.{overlap_same, lies_same}
 
@@ -45,6 +45,9 @@ module _ (slots : Slab OpenTransaction) (keys : List ℕ) (allowed : list_all ha
 
   pub in_use_at : (range : NumberRange) → list_any (passes_at (has_plan_in range) slots) keys ≡ is_range_in_use range (admissions_at slots keys)
   in_use_at range = any_at has_allowed_plan (λ (a : Admission). has_range_in range a.plan) (has_plan_in range) (λ t k. lies_same range t.plan k) slots keys allowed
+
+  pub owned_at : (owner : ℕ) → list_any (passes_at (is_of_owner owner) slots) keys ≡ has_one_open owner (admissions_at slots keys)
+  owned_at owner = any_at has_allowed_plan (λ (a : Admission). a.owner == owner) (is_of_owner owner) (λ t k. refl) slots keys allowed
 
 -- how many are of a group
 hold_step : (group : ℕ) (o : Option OpenTransaction) (rest : List Admission) (r : ℕ) → r ≡ hold_count group rest → cond (option_map_or (is_of_group group) o false) 1 0 + r ≡ hold_count group (before o rest)

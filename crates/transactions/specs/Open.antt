@@ -29,7 +29,7 @@ admissions_at slots keys = filter_map (λ key. option_map admission_of (get slot
 abbrev pub passes_at : (OpenTransaction → Bool) → Slab OpenTransaction → ℕ → Bool
 passes_at test slots key = option_map_or test (get slots key) false
 
--- tests of an open transaction: its name, its group, and what its plan touches
+-- tests of an open transaction: its name, its group, what its plan touches, and its owner
 abbrev pub is_of_name : ℕ → OpenTransaction → Bool
 is_of_name tx t = t.tx.0 == tx
 
@@ -41,6 +41,9 @@ overlaps_plan_of plan t = kept_ranges_overlap plan t.plan
 
 abbrev pub has_plan_in : NumberRange → OpenTransaction → Bool
 has_plan_in range t = has_kept_in range t.plan
+
+abbrev pub is_of_owner : ℕ → OpenTransaction → Bool
+is_of_owner owner t = t.owner.0 == owner
 
 -- the keys but those of transactions of this name
 abbrev pub keys_without : ℕ → Slab OpenTransaction → List ℕ → List ℕ
@@ -91,3 +94,7 @@ admission_of_name tx transactions = find (λ (a : Admission). a.tx == tx) transa
 -- whether a range of an open transaction lies in this one
 abbrev pub is_range_in_use : NumberRange → List Admission → Bool
 is_range_in_use range transactions = list_any (λ (a : Admission). list_any (λ x. lies_in (range_of x) range) a.plan) transactions
+
+-- whether the owner has an open transaction
+abbrev pub has_one_open : ℕ → List Admission → Bool
+has_one_open owner transactions = list_any (λ (a : Admission). a.owner == owner) transactions

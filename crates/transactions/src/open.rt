@@ -14,7 +14,7 @@ ghost use Rattle.base.specs.steps.Groups.{AreNamedApart, hold_count};
 ghost use Rattle.base.specs.steps.Refusals.{is_plan_blocked};
 ghost use Rattle.base.specs.steps.Steps.{transactions_without};
 ghost use Rattle.transactions.specs.Open as words;
-ghost use Rattle.transactions.specs.Open.{admission_of, admit_refusal, has_plan_in, are_too_many, is_kept_blocked, is_of_group, is_of_name, is_range_in_use, keys_without, next_to_open, overlaps_plan_of, passes_at, admission_of_name, with_admission};
+ghost use Rattle.transactions.specs.Open.{admission_of, admit_refusal, has_one_open, has_plan_in, are_too_many, is_kept_blocked, is_of_group, is_of_name, is_of_owner, is_range_in_use, keys_without, next_to_open, overlaps_plan_of, passes_at, admission_of_name, with_admission};
 ghost use Rattle.transactions.specs.Refusals.{Refuses};
 
 use crate::indexed::IndexedTransaction;
@@ -184,6 +184,13 @@ impl OpenTransactions {
         any_lies_in(&self.slots, &self.order, range)
     }
 
+    /// Whether the owner has an open transaction.
+    pub fn has_one_open(&self, owner: Owner) -> bool
+        ensures { result ≡ has_one_open owner.0 self.now.transactions }
+    {
+        any_of_owner(&self.slots, &self.order, owner)
+    }
+
     /// How many transactions of a group are open.
     pub fn holds(&self, group: Group) -> usize
         ensures { result ≡ hold_count group.0 self.now.transactions }
@@ -245,6 +252,22 @@ fn is_in_group(slots: &Slab<IndexedTransaction>, key: usize, group: Group) -> bo
 {
     match slots.get(key) {
         Some(opened) => opened.transaction().group.0 == group.0,
+        None => false,
+    }
+}
+
+/// Whether one of the transactions at these keys is an owner's.
+fn any_of_owner(slots: &Slab<IndexedTransaction>, order: &[usize], owner: Owner) -> bool
+    ensures { result ≡ list_any (passes_at (is_of_owner owner.0) slots.now) order.now }
+{
+    order.iter().any(|key| is_owned(slots, *key, owner))
+}
+
+fn is_owned(slots: &Slab<IndexedTransaction>, key: usize, owner: Owner) -> bool
+    ensures { result ≡ passes_at (is_of_owner owner.0) slots.now key }
+{
+    match slots.get(key) {
+        Some(opened) => opened.transaction().owner.0 == owner.0,
         None => false,
     }
 }

@@ -58,6 +58,7 @@ impl PoolTables {
     ghost use Rattle.pool_tables.specs.KeptTrees.{IsOfNoDevice, KeepsTree};
     ghost use Rattle.pool_tables.specs.StepAnswers.{Aborts, Begins, Commits};
     ghost use Rattle.pool_tables.specs.Targets.{is_kept_covered};
+    ghost use Rattle.transactions.specs.Open.{has_one_open};
 
     /// Opens a transaction of the open group: charges it 4,096 bytes for each block that the plan is estimated at, and
     /// reserves these blocks. Refused, in this order, `Suspended`, `BadRange`, `TooLarge`, `NotLocked`, `Busy`,
@@ -177,6 +178,13 @@ impl PoolTables {
     {
         let transaction = self.transactions.find(tx)?;
         Some(&transaction.plan)
+    }
+
+    /// Whether the owner has an open transaction.
+    pub fn has_one_open(&self, owner: Owner) -> bool
+        ensures { result ≡ has_one_open owner.0 (pool_shown self.now).transactions }
+    {
+        self.transactions.has_one_open(owner)
     }
 
     // The group of a transaction that may commit. Refused as a commit is, except for want of memory.
