@@ -1,6 +1,6 @@
 //! The frames of an input, one after another, each answered before the next is read.
 
-ghost use Rattle.std.specs.Prelude.{ℕ, ◌≡◌, ◌≤◌, ◌++◌, List, Result, Err, IfErr, IfOk, OnOk, length, take, true};
+ghost use Rattle.std.specs.Prelude.{ℕ, ◌≡◌, ◌≤◌, ◌++◌, List, Result, Err, IfErr, IfOk, IsOk, OnOk, length, take, true};
 ghost use Rattle.std.specs.Io.KnownBytes.{Appends, Consumes};
 ghost use Rattle.base.specs.declared.error.PoolError as declared_error;
 ghost use Rattle.base.specs.declared.names.Group as group;
@@ -54,7 +54,7 @@ pub fn serve<'b, D: SectorDevice, W: Wait, R: Read, O: Write>(
         × (synced : Result group.Group declared_error.PoolError)
         × ServesFrames program (shared_of pool.entry.now) exchanges synced
         × IfErr result (λ e. synced ≡ Err e)
-        × IfOk result (λ ending. EndsWell ending exchanges
+        × IfOk result (λ ending. IsOk synced × EndsWell ending exchanges
         (record { input = R.remaining input.old; output = O.contents output.old })
         (record { input = R.remaining input.new; output = O.contents output.new })) }
 {
