@@ -33,8 +33,8 @@ use Rattle.pool_threads.proofs.Along.{GoesAlong, along_made, along_on, along_sam
 use Rattle.pool_threads.proofs.TransactsSeen.{entered_by, transaction_grows}
 use Rattle.transactions.specs.LockRanges.{lock_ranges}
 use Rattle.frame_answers.proofs.Along.{along_syncs, along_transacts}
-use Rattle.commands.specs.Committed.{AreEntered, AreNewEntries, HappensOn, MakesFirst, PutsAsFound, PutsFrom, PutsOn, RemovesOn, SyncsAfter, command, result_after}
-use Rattle.commands.specs.Puts.{MayStart, put_transactions, start_of}
+use Rattle.commands.specs.Committed.{AreEntered, AreNewEntries, HappensOn, MakesFirst, PutsAsFound, PutsFrom, PutsOn, RemovesOn, SyncsAfter, command_owner, result_after}
+use Rattle.commands.specs.Puts.{IsStartFor, put_transactions, start_of}
 use Rattle.commands.specs.declared.changes.Put.{Put}
 use Rattle.commands.specs.declared.changes.Start.{Start}
 use Rattle.commands.specs.declared.changes.Start.TheVariants.{Creates, Empties, Keeps}
@@ -76,17 +76,17 @@ sound_on keeps v w onward sound =
 
 -- a transaction's first step is made from a state that its past explains
 module _ (keeps : Type 0) (ranges : List ObjectRange) (ids : List LockId) where
-  first_lock : (rs : List ObjectRange) (names : List LockId) (v w : SeenPool) → Locks keeps command rs names v w → IsSound w → IsSound v
+  first_lock : (rs : List ObjectRange) (names : List LockId) (v w : SeenPool) → Locks keeps command_owner rs names v w → IsSound w → IsSound v
   first_lock [] [] v w same sound = subst IsSound same sound
   first_lock (r ∷ rs) (id ∷ names) v w (next, one, rest) sound = one.explained
   first_lock [] (id ∷ names) v w h sound = absurd h
   first_lock (r ∷ rs) [] v w h sound = absurd h
 
-  first_step : (plan : List Shape) (tx : TxId) (v w : SeenPool) → LocksAndBegins keeps command ranges plan ids (Ok tx) v w → IsSound v
+  first_step : (plan : List Shape) (tx : TxId) (v w : SeenPool) → LocksAndBegins keeps command_owner ranges plan ids (Ok tx) v w → IsSound v
   first_step plan tx v w (locked, locks, (group, one)) = first_lock ranges ids v locked locks one.explained
 
-sound_after : (keeps : Type 0) (ranges : List ObjectRange) (plan : List Shape) (ops : List Op) (r : Receipt) (v w : SeenPool) → MakesTransaction keeps command ranges plan ops (Ok r) v w → IsSound w
-sound_after keeps ranges plan ops r v w m = sound_on keeps v w (transaction_grows keeps command ranges plan ops (Ok r) v w m) (first_step keeps ranges m.ids plan m.ends.tx v m.ends.begun m.ends.begins)
+sound_after : (keeps : Type 0) (ranges : List ObjectRange) (plan : List Shape) (ops : List Op) (r : Receipt) (v w : SeenPool) → MakesTransaction keeps command_owner ranges plan ops (Ok r) v w → IsSound w
+sound_after keeps ranges plan ops r v w m = sound_on keeps v w (transaction_grows keeps command_owner ranges plan ops (Ok r) v w m) (first_step keeps ranges m.ids plan m.ends.tx v m.ends.begun m.ends.begins)
 
 -- all that is there is durable once the group is synced that was open later
 durable_by_sync : (s looked after : State) → IsExplainedNow s.shown s.past → GoesOn s looked → looked.shown.line.open_group ≤ after.shown.line.synced → AreDurable s after
@@ -98,14 +98,14 @@ durable_by_sync s looked after x onward synced = λ o e there.
     inl (let low : e.group ≤ after.shown.line.synced = omega (arith, up, known, same, synced) in low)
 
 module _ {Dev : Type 0} {G : Ghosts Dev} where
-  sound_transacted : (ops : List Op) (r : Receipt) (old new : Handle Dev G) → TransactsOrLacks command ops (Ok r) old new → IsSound (view_seen new)
+  sound_transacted : (ops : List Op) (r : Receipt) (old new : Handle Dev G) → TransactsOrLacks command_owner ops (Ok r) old new → IsSound (view_seen new)
   sound_transacted ops r old new (inl u) = sound_after (IsTrue G.keeps_model) (lock_ranges (plan_of ops)) (plan_of ops) ops r u.made.took (view_seen new) u.made.made
   sound_transacted ops r old new (inr (lacks, same)) = absurd (let no_way : Ok r ≡ Err NoMemory = lacks in cc)
 
   pub along_first : (all : List (List Op)) (count : ℕ) (result : Result (Unit {0}) PoolError) (old new : Handle Dev G) → MakesFirst all count result old new → GoesAlong old new
   along_first [] count result old new (none, is, same) = along_same old new same
-  along_first (ops ∷ rest) zero result old new (e, is, refused) = along_transacts command ops (Err e) old new refused
-  along_first (ops ∷ rest) (suc count) result old new (r, next, made, more) = along_on old next new (along_transacts command ops (Ok r) old next made) (along_first rest count result next new more)
+  along_first (ops ∷ rest) zero result old new (e, is, refused) = along_transacts command_owner ops (Err e) old new refused
+  along_first (ops ∷ rest) (suc count) result old new (r, next, made, more) = along_on old next new (along_transacts command_owner ops (Ok r) old next made) (along_first rest count result next new more)
 
   -- after one that was committed the handle has seen a state that its past explains
   sound_first : (all : List (List Op)) (count : ℕ) (result : Result (Unit {0}) PoolError) (old new : Handle Dev G) → count ≢ 0 → MakesFirst all count result old new → IsSound (view_seen new)
@@ -119,8 +119,8 @@ module _ {Dev : Type 0} {G : Ghosts Dev} where
   entered_first [] count result old new (none, is, same) = subst (λ (k : ℕ). ∥ AreNewEntries ⊥ (take k []) (state_seen old) (state_seen new) ∥₁) (sym none) ∣ tt ∣₁
   entered_first (ops ∷ rest) zero result old new makes = ∣ tt ∣₁
   entered_first (ops ∷ rest) (suc count) result old new (r, next, made, more) =
-      ∥∥₁_elim (entered_by command ops r old next new made (along_first rest count result next new more)) ∥∥₁_prop (λ here.
-      ∥∥₁_elim (entered_by command ops r old next next made (along_same next next refl)) ∥∥₁_prop (λ there.
+      ∥∥₁_elim (entered_by command_owner ops r old next new made (along_first rest count result next new more)) ∥∥₁_prop (λ here.
+      ∥∥₁_elim (entered_by command_owner ops r old next next made (along_same next next refl)) ∥∥₁_prop (λ there.
       ∥∥₁_map {B = AreNewEntries ⊥ (ops ∷ take count rest) (state_seen old) (state_seen new)} (entered_first rest count result next new more) (λ others. (
         r.ordinal.0,
         record { group = r.group.0; tx = here.0.0; ops = ops },
@@ -220,7 +220,7 @@ module _ {Dev : Type 0} {G : Ghosts Dev} where
 
 -- how a put starts that has found an object, or none
 module _ (offset : Option ℕ) (found : Result ℕ PoolError) where
-  may_start : (start : Start) → start_of offset found ≡ Ok start → MayStart offset start
+  may_start : (start : Start) → start_of offset found ≡ Ok start → IsStartFor offset start
   may_start start is = by offset found is
     where
       empties : Empties ≢ Keeps
@@ -235,11 +235,11 @@ module _ (offset : Option ℕ) (found : Result ℕ PoolError) where
       makes : Creates ≢ Empties
       makes is = let no_way : Creates ≡ Empties = is in cc
 
-      by : (o : Option ℕ) (f : Result ℕ PoolError) → start_of o f ≡ Ok start → MayStart o start
-      by None (Ok count) is = let same : Empties ≡ start = cc in subst (MayStart None) same empties
-      by (Some at) (Ok count) is = let same : Keeps ≡ start = cc in subst (MayStart (Some at)) same keeps
-      by None (Err NoObject) is = let same : Creates ≡ start = cc in subst (MayStart None) same creates
-      by (Some at) (Err NoObject) is = let same : Creates ≡ start = cc in subst (MayStart (Some at)) same makes
+      by : (o : Option ℕ) (f : Result ℕ PoolError) → start_of o f ≡ Ok start → IsStartFor o start
+      by None (Ok count) is = let same : Empties ≡ start = cc in subst (IsStartFor None) same empties
+      by (Some at) (Ok count) is = let same : Keeps ≡ start = cc in subst (IsStartFor (Some at)) same keeps
+      by None (Err NoObject) is = let same : Creates ≡ start = cc in subst (IsStartFor None) same creates
+      by (Some at) (Err NoObject) is = let same : Creates ≡ start = cc in subst (IsStartFor (Some at)) same makes
       by None (Err e) is = absurd (let no_way : Err e ≡ Ok start = is in cc)
       by (Some at) (Err e) is = absurd (let no_way : Err e ≡ Ok start = is in cc)
 
@@ -247,7 +247,7 @@ module _ (offset : Option ℕ) (found : Result ℕ PoolError) where
 -- and no crash loses one.
 module _ {Dev : Type 0} (G : Ghosts Dev) (device : Dev) (n : ObjectId) (offset : Option ℕ) (bytes : List ℕ) (put : Put) where
   abbrev pub PutHappens : Start → Type 0
-  PutHappens start = MayStart offset start × (put.transactions ≡ length (put_transactions start n offset bytes)) × (put.bytes ≡ min (64512 * put.transactions) (length bytes))
+  PutHappens start = IsStartFor offset start × (put.transactions ≡ length (put_transactions start n offset bytes)) × (put.bytes ≡ min (64512 * put.transactions) (length bytes))
       × HappensOn G device (AreNewEntries (Unit {0}) (put_transactions start n offset bytes))
 
   pub put_happens : PutsOn G device n offset bytes put (Ok tt) → (start : Start) × PutHappens start

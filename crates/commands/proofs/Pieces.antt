@@ -9,7 +9,7 @@ use Rattle.base.specs.declared.names.ObjectId.{ObjectId}
 use Rattle.base.specs.declared.names.Receipt.{Receipt}
 use Rattle.base.specs.declared.operation.Op.{Op}
 use Rattle.base.specs.formats.Limits.{max_length, object_count}
-use Rattle.commands.specs.Committed.{MakesFirst, command}
+use Rattle.commands.specs.Committed.{MakesFirst, command_owner}
 use Rattle.device_model.specs.declared.device.SectorDevice.{Ghosts}
 use Rattle.pool_threads.specs.Transacts.{TransactsOrLacks}
 use Rattle.pool_threads.specs.declared.handle.Handle.{Handle}
@@ -93,13 +93,13 @@ module _ {Dev : Type 0} {G : Ghosts Dev} where
       (ap (λ (k : ℕ). left_of start n k bytes) (let here : first_byte offset ≡ at + put = omega (arith, is, nothing) in here) ∙ ap (λ (l : List ℕ). left_of start n (at + put) l) (sym whole))
       (goes_first (put_transactions start n offset bytes) so_far first none)
 
-  pub one_committed : (all left rest : List (List Op)) (ops : List Op) (so_far more : ℕ) (r : Receipt) (first now next : Handle Dev G) → left ≡ ops ∷ rest → more ≡ so_far + 1 → TransactsOrLacks command ops (Ok r) now next
+  pub one_committed : (all left rest : List (List Op)) (ops : List Op) (so_far more : ℕ) (r : Receipt) (first now next : Handle Dev G) → left ≡ ops ∷ rest → more ≡ so_far + 1 → TransactsOrLacks command_owner ops (Ok r) now next
       → GoesOn all left so_far first now → GoesOn all rest more first next
   one_committed all left rest ops so_far more r first now next is added made goes count result end onward =
       subst (λ (k : ℕ). MakesFirst all k result first end) (let same : so_far + suc count ≡ more + count = omega (arith, added) in same)
       (goes (suc count) result end (subst (λ (l : List (List Op)). MakesFirst l (suc count) result now end) (sym is) (r, next, made, onward)))
 
-  pub one_refused : (all left rest : List (List Op)) (ops : List Op) (so_far : ℕ) (e : PoolError) (first now next : Handle Dev G) → left ≡ ops ∷ rest → TransactsOrLacks command ops (Err e) now next
+  pub one_refused : (all left rest : List (List Op)) (ops : List Op) (so_far : ℕ) (e : PoolError) (first now next : Handle Dev G) → left ≡ ops ∷ rest → TransactsOrLacks command_owner ops (Err e) now next
       → GoesOn all left so_far first now → MakesFirst all so_far (Err e) first next
   one_refused all left rest ops so_far e first now next is refused goes =
       subst (λ (k : ℕ). MakesFirst all k (Err e) first next) (let same : so_far + 0 ≡ so_far = omega arith in same)

@@ -15,7 +15,7 @@ use Rattle.base.specs.history.Sequences.{in_turn}
 use Rattle.base.proofs.common.Sequences.{parted}
 use Rattle.base.proofs.history.Objects.{get-stored_other, get-stored_same, reached}
 use Rattle.base.proofs.history.Writes.{length-resize}
-use Rattle.commands.specs.Puts.{MayStart, bytes_put, overwritten, put_transactions, start_ops, transactions_from, write_ops}
+use Rattle.commands.specs.Puts.{IsStartFor, bytes_put, overwritten, put_transactions, start_ops, transactions_from, write_ops}
 use Rattle.commands.specs.declared.changes.Start.{Start}
 use Rattle.commands.specs.declared.changes.Start.TheVariants.{Creates, Empties, Keeps}
 
@@ -181,7 +181,7 @@ more size = ((size - 64512 + 64511) / 64512, at_least size, refl)
 abbrev Leaves : ObjectId → Option ℕ → List ℕ → Contents → Contents → Type 0
 Leaves n offset bytes c d = (object d n.0 ≡ Some (bytes_put offset bytes (object c n.0))) × LeavesOthers n.0 c d
 
-pub puts_leave_bytes : (start : Start) (n : ObjectId) (offset : Option ℕ) (bytes : List ℕ) (c d : Contents) → MayStart offset start → (start ≡ Keeps → IsSome (object c n.0))
+pub puts_leave_bytes : (start : Start) (n : ObjectId) (offset : Option ℕ) (bytes : List ℕ) (c d : Contents) → IsStartFor offset start → (start ≡ Keeps → IsSome (object c n.0))
     → in_turn apply_all (put_transactions start n offset bytes) c ≡ Ok d → Leaves n offset bytes c d
 puts_leave_bytes Creates n None bytes c d may there h =
     let m = more (length bytes) in

@@ -13,7 +13,7 @@ use Rattle.base.specs.steps.Steps.{State}
 use Rattle.device_model.specs.declared.device.SectorDevice.{Ghosts}
 use Rattle.pool_threads.specs.Answers.{state_seen}
 use Rattle.commands.specs.Committed.{AreNewEntries, HappensOn, PutsAndPrints, RemovesOn}
-use Rattle.commands.specs.Puts.{MayStart, put_line, put_transactions}
+use Rattle.commands.specs.Puts.{IsStartFor, put_line, put_transactions}
 use Rattle.commands.specs.declared.changes.Start.{Start}
 use Rattle.commands.specs.declared.changes.Start.TheVariants.{Creates, Empties, Keeps}
 use Rattle.commands.proofs.Committed.{put_happens, removal_happens}
@@ -47,7 +47,7 @@ module _ {Dev : Type 0} (G : Ghosts Dev) (device : Dev) (old new : Option (List 
   two_put : PutsAndPrints G device seven None (1 ∷ 2 ∷ []) old new → HappensOn G device (IsOneEntry PutsTwo)
   two_put w = let p = put_happens G device seven None (1 ∷ 2 ∷ []) w.put w.puts in by p.0 p.1.0 p.1.3
     where
-      by : (start : Start) → MayStart None start → HappensOn G device (AreNewEntries (Unit {0}) (put_transactions start seven None (1 ∷ 2 ∷ []))) → HappensOn G device (IsOneEntry PutsTwo)
+      by : (start : Start) → IsStartFor None start → HappensOn G device (AreNewEntries (Unit {0}) (put_transactions start seven None (1 ∷ 2 ∷ []))) → HappensOn G device (IsOneEntry PutsTwo)
       by Creates may h = one_entry G device (Create seven ∷ Write seven 0 (1 ∷ 2 ∷ []) ∷ []) PutsTwo (inl refl) h
       by Empties may h = one_entry G device (SetLength seven 0 ∷ Write seven 0 (1 ∷ 2 ∷ []) ∷ []) PutsTwo (inr refl) h
       by Keeps may h = absurd (may refl)
@@ -59,7 +59,7 @@ module _ {Dev : Type 0} (G : Ghosts Dev) (device : Dev) (old new : Option (List 
   appended None line grown = absurd grown
   appended (Some xs) line grown = ap Some grown
 
-  one_piece : (start : Start) → MayStart None start → length (put_transactions start seven None (1 ∷ 2 ∷ [])) ≡ 1
+  one_piece : (start : Start) → IsStartFor None start → length (put_transactions start seven None (1 ∷ 2 ∷ [])) ≡ 1
   one_piece Creates may = refl
   one_piece Empties may = refl
   one_piece Keeps may = absurd (may refl)

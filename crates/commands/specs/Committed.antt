@@ -27,12 +27,12 @@ use Rattle.commands.specs.declared.changes.Put.{Put}
 use Rattle.commands.specs.declared.changes.Start.{Start}
 
 -- the owner of a command's transactions
-abbrev pub command : Owner
-command = record { 0 = 0 }
+abbrev pub command_owner : Owner
+command_owner = record { 0 = 0 }
 
--- the dirty limit with which a command opens its pool
-abbrev pub dirty_limit : ℕ
-dirty_limit = 4194304
+-- `DEFAULT_DIRTY_MAX`, with which a command opens its pool
+abbrev pub default_dirty_max : ℕ
+default_dirty_max = 4194304
 
 -- These transactions are entries of the history, in this order, each with its operations alone. The first is at this
 -- ordinal or later. If so is `durable`, no crash loses them.
@@ -54,8 +54,8 @@ module _ {Dev : Type 0} {G : Ghosts Dev} where
   -- result. It did no more.
   abbrev pub MakesFirst : List (List Op) → ℕ → Result (Unit {0}) PoolError → Handle Dev G → Handle Dev G → Type 0
   MakesFirst [] count result old new = (count ≡ 0) × (result ≡ Ok tt) × (new ≡ old)
-  MakesFirst (ops ∷ rest) zero result old new = (e : PoolError) × (result ≡ Err e) × TransactsOrLacks command ops (Err e) old new
-  MakesFirst (ops ∷ rest) (suc count) result old new = (receipt : Receipt) × (next : Handle Dev G) × TransactsOrLacks command ops (Ok receipt) old next × MakesFirst rest count result next new
+  MakesFirst (ops ∷ rest) zero result old new = (e : PoolError) × (result ≡ Err e) × TransactsOrLacks command_owner ops (Err e) old new
+  MakesFirst (ops ∷ rest) (suc count) result old new = (receipt : Receipt) × (next : Handle Dev G) × TransactsOrLacks command_owner ops (Ok receipt) old next × MakesFirst rest count result next new
 
   -- If none was committed the handle did no more. Else it synced the pool.
   abbrev pub SyncsAfter : Put → Result (Unit {0}) PoolError → Result (Unit {0}) PoolError → Handle Dev G → Handle Dev G → Type 0
@@ -100,13 +100,13 @@ module _ {Dev : Type 0} (G : Ghosts Dev) where
   -- The pool was opened that this device holds, and this is so of it.
   pub record IsOpenedOn (device : Dev) (P : Shared Dev G → Type 0) : Type 0 where
     pub pool : Shared Dev G
-    pub opens : OpensBehind (IsTrue G.keeps_model) (G.disk device) dirty_limit (opening_view pool)
+    pub opens : OpensBehind (IsTrue G.keeps_model) (G.disk device) default_dirty_max (opening_view pool)
     pub does : P pool
 
   -- So it is of the states that a new handle of such a pool had seen first and has seen last.
   pub record HappensOn (device : Dev) (P : State → State → Type 0) : Type 0 where
     pub pool : Shared Dev G
-    pub opens : OpensBehind (IsTrue G.keeps_model) (G.disk device) dirty_limit (opening_view pool)
+    pub opens : OpensBehind (IsTrue G.keeps_model) (G.disk device) default_dirty_max (opening_view pool)
     pub first : Handle Dev G
     pub is_new : IsNewHandle pool first
     pub last : Handle Dev G

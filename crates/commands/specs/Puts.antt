@@ -66,9 +66,9 @@ abbrev pub put_transactions : Start → ObjectId → Option ℕ → List ℕ →
 put_transactions start n offset bytes = transactions_from start n (first_byte offset) bytes (piece_count start bytes)
 
 -- a put with an offset doesn't empty the object, and one without replaces what it has
-abbrev pub MayStart : Option ℕ → Start → Type 0
-MayStart None start = start ≢ Keeps
-MayStart (Some offset) start = start ≢ Empties
+abbrev pub IsStartFor : Option ℕ → Start → Type 0
+IsStartFor None start = start ≢ Keeps
+IsStartFor (Some offset) start = start ≢ Empties
 
 -- bytes with others written over them, unless there are none
 abbrev pub overwritten : ℕ → List ℕ → List ℕ → List ℕ
@@ -85,7 +85,7 @@ bytes_put (Some offset) bytes (Some before) = overwritten offset bytes before
 -- Whatever contents they are applied to in order, the transactions of a put leave the object with these bytes, and each
 -- other object as it was. If the put keeps what the object has, the object is there.
 abbrev pub PutsLeaveBytes : Type 0
-PutsLeaveBytes = (start : Start) (n : ObjectId) (offset : Option ℕ) (bytes : List ℕ) (before after : Contents) → MayStart offset start
+PutsLeaveBytes = (start : Start) (n : ObjectId) (offset : Option ℕ) (bytes : List ℕ) (before after : Contents) → IsStartFor offset start
     → (start ≡ Keeps → IsSome (map.get before.objects n.0)) → in_turn apply_all (put_transactions start n offset bytes) before ≡ Ok after
     → (map.get after.objects n.0 ≡ Some (bytes_put offset bytes (map.get before.objects n.0)))
     × ((other : ℕ) → other ≢ n.0 → map.get after.objects other ≡ map.get before.objects other)

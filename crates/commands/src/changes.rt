@@ -13,7 +13,7 @@ ghost use Rattle.base.specs.declared.error.PoolError as declared_error;
 ghost use Rattle.base.specs.declared.step.Reply.TheVariants as reply;
 ghost use Rattle.base.specs.declared.step.Step.TheVariants as step;
 ghost use Rattle.base.specs.steps.Runs.{reply_of};
-ghost use Rattle.commands.specs.Committed.{MakesFirst, PutsAndPrints, PutsInto, PutsOrFails, RemovesFrom, RemovesOn, command, result_after};
+ghost use Rattle.commands.specs.Committed.{MakesFirst, PutsAndPrints, PutsInto, PutsOrFails, RemovesFrom, RemovesOn, command_owner, result_after};
 ghost use Rattle.commands.specs.Puts.{first_byte, is_target, piece_ops, piece_size, put_transactions, removed_line, start_of};
 ghost use Rattle.pool_threads.specs.Answers.{Makes};
 ghost use Rattle.pool_threads.specs.Handles.{shared_of};
@@ -335,7 +335,7 @@ fn commit<R: Wait, D: SectorDevice>(
     at: u64,
     piece: &[u8],
 ) -> Result<Receipt, PoolError>
-    ensures { TransactsOrLacks command (piece_ops start object at piece.now) result
+    ensures { TransactsOrLacks command_owner (piece_ops start object at piece.now) result
         handle.old handle.new }
 {
     let ops = ops_of(alloc, start, object, at, piece)?;
