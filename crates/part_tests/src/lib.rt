@@ -23,6 +23,8 @@ mod label_configs;
 #[cfg(test)]
 mod limits;
 #[cfg(test)]
+mod names;
+#[cfg(test)]
 mod patches;
 #[cfg(test)]
 mod records;
