@@ -15,7 +15,7 @@ use std::sync::atomic::{AtomicU64, Ordering};
 use std::time::Duration;
 
 // The longest sleep of a thread that others wake for each change that it waits for, and of one that they may not.
-const LONG_TIME_IN_MICROSECONDS: u64 = 20_000;
+const LONG_TIME_IN_MICROSECONDS: u64 = 100_000;
 
 const SHORT_TIME_IN_MICROSECONDS: u64 = 500;
 

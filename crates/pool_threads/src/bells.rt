@@ -19,7 +19,7 @@ use std::sync::atomic::{AtomicU64, Ordering};
 
 // How long a quiescer rests that nobody calls. Each round of the log takes blocks until a group is synced, so a period
 // that is far longer would fill a small pool.
-const PERIOD_IN_MICROSECONDS: u64 = 20_000;
+const PERIOD_IN_MICROSECONDS: u64 = 25_000;
 
 /// What rings for the loops: a begin that is throttled, a group that may be quiesced or synced, and the end of the
 /// loops.
