@@ -1,5 +1,5 @@
 -- How often a call that waits for at most a time tries, and that the lock which it returns is held.
-use Rattle.std.proofs.Common.{◌≡◌, ◌≤◌, ◌+◌, ◌∙◌, ℕ, [], List, ap, arith, inl, inr, length, sym, subst}
+use Rattle.std.proofs.Common.{◌≡◌, ◌≤◌, ◌+◌, ◌∙◌, ℕ, [], List, ap, arith, length, sym, subst}
 use Rattle.std.specs.Prelude.{◌/◌, ◌⊎◌, IfErr, IfOk, Result, Ok, Err, Some, slice_get}
 use Rattle.std.proofs.Math.Logic.{∥∥₁_map}
 use Rattle.std.proofs.Math.Nat.{div-div-eq-div-mul}
@@ -58,9 +58,9 @@ module _ {Dev : Type 0} {G : Ghosts Dev} where
     pub most_of : TakesAtMost tries old new → TakesAtMost count old new
     most_of most = subst (λ (n : ℕ). TakesAtMost n old new) same most
 
-    pub patient_of : {A : Type 0} (result : Result A PoolError) → IfErr result (λ e. e ≡ Busy → TakesSoMany tries old new) → IfErr result (λ e. e ≡ Busy → TakesSoMany count old new)
-    patient_of (Ok a) had = tt
-    patient_of (Err e) had = λ busy. subst (λ (n : ℕ). TakesSoMany n old new) same (had busy)
+    pub patient_of : {A : Type 0} (Own : Type 0) (result : Result A PoolError) → IfErr result (λ e. e ≡ Busy → Own ⊎ TakesSoMany tries old new) → IfErr result (λ e. e ≡ Busy → Own ⊎ TakesSoMany count old new)
+    patient_of Own (Ok a) had = tt
+    patient_of Own (Err e) had = λ busy. subst (λ (n : ℕ). Own ⊎ TakesSoMany n old new) same (had busy)
 
   -- the naps that fit in a limit, by its microseconds
   module _ (micros nanos : ℕ) (same : micros ≡ nanos / 1_000) (old new : Handle Dev G) where
@@ -70,13 +70,9 @@ module _ {Dev : Type 0} {G : Ghosts Dev} where
     pub limited_by : TakesAtMost (micros / 500 + 1) old new → TakesAtMost (tries_within nanos) old new
     limited_by most = subst (λ (n : ℕ). TakesAtMost n old new) naps_are most
 
-    pub patient_for : {A : Type 0} (result : Result A PoolError) → IfErr result (λ e. e ≡ Busy → ⊥ ⊎ TakesSoMany (micros / 500 + 1) old new) → IfErr result (λ e. e ≡ Busy → TakesSoMany (tries_within nanos) old new)
-    patient_for (Ok a) ends = tt
-    patient_for (Err e) ends = λ busy. or_no (ends busy)
-      where
-        or_no : ⊥ ⊎ TakesSoMany (micros / 500 + 1) old new → TakesSoMany (tries_within nanos) old new
-        or_no (inl never) = absurd never
-        or_no (inr had) = subst (λ (n : ℕ). TakesSoMany n old new) naps_are had
+    pub patient_for : {A : Type 0} (Own : Type 0) (result : Result A PoolError) → IfErr result (λ e. e ≡ Busy → Own ⊎ TakesSoMany (micros / 500 + 1) old new) → IfErr result (λ e. e ≡ Busy → Own ⊎ TakesSoMany (tries_within nanos) old new)
+    patient_for Own (Ok a) ends = tt
+    patient_for Own (Err e) ends = λ busy. subst (λ (n : ℕ). Own ⊎ TakesSoMany n old new) naps_are (ends busy)
 
 -- a lock that was granted is held then
 locked_is_held : (now : List ℕ) (owner : Owner) (n : ObjectId) (range : Range) (mode : Mode) (id : LockId) (old new : State) → Step ⊥ now (step.Lock owner n range mode) (reply.Locked id) old new

@@ -1,5 +1,5 @@
 -- What a fetch says to its handle, and what the only handle leaves by it.
-use Rattle.std.proofs.Common.{◌≡◌, ◌≢◌, ◌||◌, Bool, true, false, not, List, ℕ, [], ◌∷◌, inl, inr, refl, sym, ap, subst, ◌∙◌}
+use Rattle.std.proofs.Common.{◌≡◌, ◌||◌, Bool, true, false, not, List, ℕ, [], ◌∷◌, inl, inr, refl, sym, ap, subst, ◌∙◌}
 use Rattle.std.specs.Prelude.{IfErr, IfOk, IsErrAnd, IsTrue, None, Result, Ok, Err, Some, is_none, nat_le}
 use Rattle.std.proofs.Math.Logic.{∥∥₁_map, ∥∥₁_elim, ∥∥₁_prop}
 use Rattle.base.specs.declared.error.PoolError.{PoolError}
@@ -53,9 +53,9 @@ lock_leaves : (owner : Owner) (n : ObjectId) (range : Range) → Leaves (reader_
 lock_leaves owner n range old new one = lock_refused [] owner n range Reader error.Busy old new one
 
 module _ {Dev : Type 0} {G : Ghosts Dev} (owner : Owner) (n : ObjectId) (range : Range) where
-  pub never_busy : {A : Type 0} (result : Result A PoolError) (old new : Handle Dev G) → IfErr result (λ e. Sees (IsRefusal (step.Read owner n range) e) old new) → IfErr result (λ e. e ≢ error.Busy)
-  never_busy (Ok a) old new refused = tt
-  never_busy (Err e) old new refused = λ is. ∥∥₁_elim refused (λ (x y : ⊥). absurd x) (λ r. busy_is_ruled owner n range e (state_seen old) (state_seen new) r is)
+  pub never_busy : {A : Type 0} (Own : Type 0) (result : Result A PoolError) (old new : Handle Dev G) → IfErr result (λ e. Sees (IsRefusal (step.Read owner n range) e) old new) → IfErr result (λ e. e ≡ error.Busy → Own)
+  never_busy Own (Ok a) old new refused = tt
+  never_busy Own (Err e) old new refused = λ is. absurd (∥∥₁_elim refused (λ (x y : ⊥). absurd x) (λ r. busy_is_ruled owner n range e (state_seen old) (state_seen new) r is))
 
   -- a fetch that was refused its lock, and one that got it
   pub lock_was_refused : (e : PoolError) (result : Result (List ℕ) PoolError) (old new : Handle Dev G) → IsErrAnd result (λ f. f ≡ e) → MakesAtLast (reader_step owner n range) error.Busy (reply.Refused e) old new → Fetches owner n range result old new

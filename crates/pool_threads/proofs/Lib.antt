@@ -8,6 +8,7 @@ pub mod AnswersSeen
 pub mod ListedObjects
 pub mod ObjectClients
 pub mod Tried
+pub mod InTime
 pub mod CountedTries
 pub mod Firsts
 pub mod Limits
@@ -40,4 +41,5 @@ mod TransactsDurably
 pub mod TransactClients
 mod Looped
 mod WaitClients
+mod OwnWays
 mod LoopClients

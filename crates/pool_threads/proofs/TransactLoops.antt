@@ -18,7 +18,7 @@ use Rattle.pool_threads.specs.declared.handle.Handle.{Handle}
 use Rattle.pool_threads.specs.Answers.{Takes, TakesOne, state_seen}
 use Rattle.pool_threads.specs.Handles.{moment_of}
 use Rattle.pool_threads.specs.Serves.{GoesOnAfter}
-use Rattle.pool_threads.specs.Transacts.{IsEarlierTurn, IsForGood, IsOpenGroupTurn, IsRetried, IsTransactionTurn, MakesRoom, Pays, Transacts, TransactsAtLast, TransactsLocked, plan_of}
+use Rattle.pool_threads.specs.Transacts.{IsEarlierTurn, IsForGood, IsOpenGroupTurn, IsTransactionTurn, MakesRoom, MayPass, Pays, Transacts, TransactsAtLast, TransactsLocked, plan_of}
 use Rattle.pool_threads.specs.Views.{Explains, SeenPool, viewed_state}
 use Rattle.pool_threads.proofs.TransactsSeen.{earlier_grows}
 use Rattle.pool_threads.proofs.Tried.{at_last, one_more_turn}
@@ -42,20 +42,26 @@ module _ {Dev : Type 0} {G : Ghosts Dev} (owner : Owner) (ranges : List ObjectRa
   tries_same given result now next same m = subst (λ (x : List Op). Tries x result now next) same m
 
   -- one more try
-  pub tried_again : (moment : ℕ) (given : List Op) (result : Result Receipt PoolError) (old now next : Handle Dev G) → given ≡ ops → IsErrAnd result (IsRetried ranges) → Before moment old now → Tries given result now next → Before moment old next
+  pub tried_again : (moment : ℕ) (given : List Op) (result : Result Receipt PoolError) (old now next : Handle Dev G) → given ≡ ops → IsErrAnd result (λ e. MayPass owner ranges plan e (state_seen next).shown) → Before moment old now → Tries given result now next → Before moment old next
   tried_again moment given (Ok r) old now next same again t m = absurd again
-  tried_again moment given (Err e) old now next same again t m = one_earlier moment old now next t (served_as (λ u made. inl (e, again, made)) (tries_same given (Err e) now next same m))
+  tried_again moment given (Err e) old now next same again t m = one_earlier moment old now next t (tried_so (tries_same given (Err e) now next same m))
+    where
+      tried_so : Tries ops (Err e) now next → TakesOne (IsEarlierTurn (IsTrue G.keeps_model) moment owner ranges plan ops) now next
+      tried_so one = record {
+        same_pool = one.same_pool;
+        made = record { took = one.made.took; onward = one.made.onward; made = inl (e, again, one.made.made); turn = one.made.turn; met_none = one.made.met_none; alone = one.made.alone };
+      }
 
   -- one more turn of a sync
   pub paid_more : (moment : ℕ) (old now next : Handle Dev G) → Before moment old now → Pays moment (Ok tt) now next → Before moment old next
   paid_more moment old now next t m = one_earlier moment old now next t (served_as (λ u made. inr made) m)
 
   -- the last try
-  pub ended_so : (given : List Op) (result : Result Receipt PoolError) (old now new : Handle Dev G) → given ≡ ops → IfErr result (λ e. IsForGood ranges plan e (state_seen new).shown) → Before (moment_of old) old now → Tries given result now new
+  pub ended_so : (given : List Op) (result : Result Receipt PoolError) (old now new : Handle Dev G) → given ≡ ops → IfErr result (λ e. IsForGood owner ranges plan e (state_seen new).shown) → Before (moment_of old) old now → Tries given result now new
       → TransactsAtLast owner ranges plan ops result old new
   ended_so given result old now new same for_good t m = by result for_good (tries_same given result now new same m)
     where
-      by : (x : Result Receipt PoolError) → IfErr x (λ e. IsForGood ranges plan e (state_seen new).shown) → Tries ops x now new → TransactsAtLast owner ranges plan ops x old new
+      by : (x : Result Receipt PoolError) → IfErr x (λ e. IsForGood owner ranges plan e (state_seen new).shown) → Tries ops x now new → TransactsAtLast owner ranges plan ops x old new
       by (Ok r) last one = at_last _ t (served_as (λ u made. made) one)
       by (Err e) last one = at_last _ t (record {
         same_pool = one.same_pool;
@@ -96,15 +102,15 @@ room_by_payment moment (Err e) now next m = m
 
 module _ {Dev : Type 0} {G : Ghosts Dev} (owner : Owner) (ranges : List ObjectRange) (plan : List Shape) (ops given : List Op) (result : Result Receipt PoolError) (o : Option (List Op)) (old now : Handle Dev G) where
   -- a try with its operations, which came back or did not
-  pub tried_on : (moment : ℕ) (back : List Op) (next : Handle Dev G) → o ≡ Some back → IfSome o (λ b. (b ≡ given) × IsErrAnd result (IsRetried ranges)) → given ≡ ops → Takes (IsEarlierTurn (IsTrue G.keeps_model) moment owner ranges plan ops) old now
+  pub tried_on : (moment : ℕ) (back : List Op) (next : Handle Dev G) → o ≡ Some back → IfSome o (λ b. (b ≡ given) × IsErrAnd result (λ e. MayPass owner ranges plan e (state_seen next).shown)) → given ≡ ops → Takes (IsEarlierTurn (IsTrue G.keeps_model) moment owner ranges plan ops) old now
       → TakesOne (IsTransactionTurn (IsTrue G.keeps_model) owner ranges plan given result) now next → Takes (IsEarlierTurn (IsTrue G.keeps_model) moment owner ranges plan ops) old next × (back ≡ ops)
   tried_on moment back next is again same t m =
-      let there = subst (λ x. IfSome x (λ b. (b ≡ given) × IsErrAnd result (IsRetried ranges))) is again in
+      let there = subst (λ x. IfSome x (λ b. (b ≡ given) × IsErrAnd result (λ e. MayPass owner ranges plan e (state_seen next).shown))) is again in
       (tried_again owner ranges plan ops moment given result old now next same there.1 t m, there.0 ∙ same)
 
-  pub tried_last : (new : Handle Dev G) → o ≡ None → IfNone o (IfErr result (λ e. IsForGood ranges plan e (state_seen new).shown)) → given ≡ ops → Takes (IsEarlierTurn (IsTrue G.keeps_model) (moment_of old) owner ranges plan ops) old now
+  pub tried_last : (new : Handle Dev G) → o ≡ None → IfNone o (IfErr result (λ e. IsForGood owner ranges plan e (state_seen new).shown)) → given ≡ ops → Takes (IsEarlierTurn (IsTrue G.keeps_model) (moment_of old) owner ranges plan ops) old now
       → TakesOne (IsTransactionTurn (IsTrue G.keeps_model) owner ranges plan given result) now new → TransactsAtLast owner ranges plan ops result old new
-  tried_last new is for_good same t m = ended_so owner ranges plan ops given result old now new same (subst (λ x. IfNone x (IfErr result (λ e. IsForGood ranges plan e (state_seen new).shown))) is for_good) t m
+  tried_last new is for_good same t m = ended_so owner ranges plan ops given result old now new same (subst (λ x. IfNone x (IfErr result (λ e. IsForGood owner ranges plan e (state_seen new).shown))) is for_good) t m
 
   -- and then room was made
   pub room_made : (moment : ℕ) (next : Handle Dev G) → Takes (IsEarlierTurn (IsTrue G.keeps_model) moment owner ranges plan ops) old now → MakesRoom moment (Ok tt) now next → Takes (IsEarlierTurn (IsTrue G.keeps_model) moment owner ranges plan ops) old next

@@ -13,7 +13,6 @@ use Rattle.base.specs.declared.names.TxId.{TxId}
 use Rattle.base.specs.declared.operation.Op.{Op}
 use Rattle.base.specs.declared.operation.Op.TheVariants.{Create, Remove, SetLength, SetName, Write}
 use Rattle.base.specs.declared.range.ObjectRange.{ObjectRange}
-use Rattle.base.specs.declared.step.Step.TheVariants as step
 use Rattle.base.specs.declared.step.Reply.TheVariants as reply
 use Rattle.base.specs.history.Contents.{Contents, apply, bytes_after_write, changed, created, removed, resize, with_object}
 use Rattle.base.specs.history.History.{apply_all}

@@ -1,5 +1,5 @@
 -- What the answer of a call says of the pool, by what its handle had seen before the call and has seen after it.
-use Rattle.std.specs.Prelude.{◌≡◌, true, false, IsTrue}
+use Rattle.std.specs.Prelude.{◌≡◌, ◌++◌, ◌∷◌, [], All, List, true, false, IsTrue}
 use Rattle.base.specs.declared.error.PoolError.{PoolError}
 use Rattle.base.specs.declared.step.Step as declared_step
 use Rattle.base.specs.declared.step.Reply as declared_reply
@@ -7,10 +7,11 @@ use Rattle.base.specs.declared.step.Reply.TheVariants as reply
 use Rattle.base.specs.steps.Runs.{refusal_of_step}
 use Rattle.base.specs.steps.Seen.{IsRefusedBetween}
 use Rattle.base.specs.steps.SeenLaws.{is_suspending, is_untested}
+use Rattle.base.specs.steps.Shown.{Shown}
 use Rattle.base.specs.steps.Steps.{State}
 use Rattle.device_model.specs.declared.device.SectorDevice.{Ghosts}
 use Rattle.pool_threads.specs.declared.handle.Handle.{Handle}
-use Rattle.pool_threads.specs.Handles.{StaysInPool}
+use Rattle.pool_threads.specs.Handles.{StaysInPool, turns_of}
 use Rattle.pool_threads.specs.Turns.{HasHad, HasHadAtLast, HasHadOne, IsStepTurn}
 use Rattle.pool_threads.specs.Views.{SeenPool, viewed_state}
 use Rattle.word_lock.specs.declared.rule.Turn.{Turn}
@@ -58,3 +59,10 @@ module _ {Dev : Type 0} {G : Ghosts Dev} where
   -- the handle made this step with this reply, after turns in which it was refused so, and in no other turn
   abbrev pub MakesAtLast : declared_step.Step → PoolError → declared_reply.Reply → Handle Dev G → Handle Dev G → Type 0
   MakesAtLast s e r = TakesAtLast (IsStepTurn (IsTrue G.keeps_model) s (reply.Refused e)) (IsStepTurn (IsTrue G.keeps_model) s r)
+
+  -- The handle had turns, each of which left a pool in which this was not so, and then one more.
+  pub record WaitsWhileNot (V : Shown → Type 0) (old new : Handle Dev G) : Type 0 where
+    pub had : List (Turn SeenPool)
+    pub each : All (λ (t : Turn SeenPool). V (viewed_state t.left).shown → ⊥) had
+    pub last : Turn SeenPool
+    pub turns : turns_of new ≡ (turns_of old ++ had) ++ last ∷ []

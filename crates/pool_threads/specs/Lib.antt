@@ -6,6 +6,7 @@ pub mod Answers
 pub mod Laws
 pub mod Serves
 pub mod Waits
+pub mod Vain
 pub mod Transacts
 pub mod Fetches
 pub mod Objects

@@ -1,6 +1,7 @@
 -- What a handle does for one transaction: in one turn it locks ranges, begins, commits or aborts, and unlocks. Before
 -- that it may have had turns in which it tried so, and turns in which it made steps of a sync.
-use Rattle.std.specs.Prelude.{ℕ, ◌≡◌, ◌⊎◌, ◌++◌, All, IsTrue, List, [], ◌∷◌, map, None, Ok, Err, Option, Result, Some, true}
+use Rattle.std.specs.Prelude.{ℕ, ◌≡◌, ◌==◌, ◌||◌, ◌⊎◌, ◌++◌, All, Bool, false, IsTrue, List, [], ◌∷◌, map, None, Ok, Err, Option, Result, Some, true}
+use Rattle.std.specs.List.{list_any}
 use Rattle.base.specs.declared.error.PoolError.{PoolError}
 use Rattle.base.specs.declared.error.PoolError.TheVariants as error
 use Rattle.base.specs.declared.names.Group.{Group}
@@ -16,7 +17,7 @@ use Rattle.base.specs.declared.step.Step as declared_step
 use Rattle.base.specs.declared.step.Step.TheVariants as step
 use Rattle.base.specs.declared.step.Reply as declared_reply
 use Rattle.base.specs.declared.step.Reply.TheVariants as reply
-use Rattle.base.specs.history.Plans.{shape_of}
+use Rattle.base.specs.history.Plans.{number_range, shape_of}
 use Rattle.base.specs.steps.Runs.{reply_of}
 use Rattle.base.specs.steps.Seen.{IsCommitted}
 use Rattle.base.specs.steps.Shown.{Shown, dirty_total}
@@ -25,12 +26,14 @@ use Rattle.device_model.specs.declared.device.SectorDevice.{Ghosts}
 use Rattle.pool_tables.specs.BeginTests.{is_above_limit}
 use Rattle.pool_tables.specs.declared.duty.Duty.TheVariants as duty
 use Rattle.pool_threads.specs.declared.handle.Handle.{Handle}
+use Rattle.range_locks.specs.Locks.{is_blocked_by_own}
 use Rattle.pool_threads.specs.Answers.{IsRefusal, Sees, TakesAtLast, TakesOne}
 use Rattle.pool_threads.specs.Handles.{kin_of, moment_of, turns_of}
 use Rattle.pool_threads.specs.Serves.{GoesOnAfter, IsServedTurn}
 use Rattle.pool_threads.specs.Views.{IsPoolStep, SeenPool, viewed_state}
 use Rattle.pool_threads.specs.Waits.{IsSyncingRefusal, WaitsUntil}
 use Rattle.transactions.specs.LockRanges.{lock_ranges}
+use Rattle.transactions.specs.Open.{has_one_open}
 use Rattle.word_lock.specs.declared.rule.Turn.{Turn}
 
 -- the step that locks a range for writing
@@ -108,15 +111,31 @@ module _ (keeps : Type 0) where
 abbrev pub IsWantOfRoom : PoolError → Type 0
 IsWantOfRoom e = (e ≡ error.Throttled) ⊎ (e ≡ error.NoSpace)
 
--- a refusal after which a transaction is tried again: for want of room, and `Busy` if it locks ranges itself
+-- a refusal after which a transaction may be tried again: for want of room, and `Busy` if it locks ranges itself
 abbrev pub IsRetried : List ObjectRange → PoolError → Type 0
 IsRetried [] e = IsWantOfRoom e
 IsRetried (r ∷ rs) e = (e ≡ error.Busy) ⊎ IsWantOfRoom e
 
--- no sync makes room for this plan: its charge alone is above the dirty limit, or there is no space and no transaction
--- is unsynced
-abbrev pub IsForGood : List ObjectRange → List Shape → PoolError → Shown → Type 0
-IsForGood ranges plan e s = IsRetried ranges e → ((e ≡ error.Throttled) × (is_above_limit plan s ≡ true)) ⊎ ((e ≡ error.NoSpace) × (dirty_total s ≡ 0))
+-- whether a lock that the owner holds itself overlaps one of these ranges
+abbrev pub is_in_own_way : Owner → List ObjectRange → Shown → Bool
+is_in_own_way owner ranges s = list_any (λ (r : ObjectRange). is_blocked_by_own owner.0 (number_range r) Writer s.locks) ranges
+
+-- Whether a transaction that was refused so waits in vain. Its owner holds a lock on a range of it, or has a transaction
+-- open, which only the owner itself ends. Or no sync makes room: the plan's charge alone is above the dirty limit, or
+-- there is no space and no transaction is unsynced.
+abbrev pub is_in_vain : Owner → List ObjectRange → List Shape → PoolError → Shown → Bool
+is_in_vain owner ranges plan error.Busy s = is_in_own_way owner ranges s
+is_in_vain owner ranges plan error.Throttled s = is_above_limit plan s || has_one_open owner.0 s.transactions
+is_in_vain owner ranges plan error.NoSpace s = (dirty_total s == 0) || has_one_open owner.0 s.transactions
+is_in_vain owner ranges plan _ s = false
+
+-- a refusal after which it is tried again, by what the pool shows after that turn
+abbrev pub MayPass : Owner → List ObjectRange → List Shape → PoolError → Shown → Type 0
+MayPass owner ranges plan e s = IsRetried ranges e × (is_in_vain owner ranges plan e s ≡ false)
+
+-- one after which it isn't
+abbrev pub IsForGood : Owner → List ObjectRange → List Shape → PoolError → Shown → Type 0
+IsForGood owner ranges plan e s = IsRetried ranges e → is_in_vain owner ranges plan e s ≡ true
 
 -- what was due for a sync of the groups up to the one that was open as this turn began, with this moment, was done in
 -- it, the last step with this reply
@@ -135,14 +154,14 @@ abbrev pub IsTransactionTurn : Type 0 → Owner → List ObjectRange → List Sh
 IsTransactionTurn keeps owner ranges plan ops result t = MakesTransaction keeps owner ranges plan ops result t.took t.left
 
 module _ (keeps : Type 0) (moment : ℕ) (owner : Owner) (ranges : List ObjectRange) (plan : List Shape) (ops : List Op) where
-  -- in this turn the transaction was tried, and was refused so that it is tried again; or steps of a sync were made
+  -- in this turn the transaction was tried, and was refused so that it may pass; or steps of a sync were made
   abbrev pub IsEarlierTurn : Turn SeenPool → Type 0
-  IsEarlierTurn t = ((e : PoolError) × IsRetried ranges e × IsTransactionTurn keeps owner ranges plan ops (Err e) t) ⊎ IsPayingTurn keeps moment t
+  IsEarlierTurn t = ((e : PoolError) × MayPass owner ranges plan e (viewed_state t.left).shown × IsTransactionTurn keeps owner ranges plan ops (Err e) t) ⊎ IsPayingTurn keeps moment t
 
   -- the last turn, with this result: that of the transaction, or the refusal of a step of a sync
   abbrev pub IsLastTurn : Result Receipt PoolError → Turn SeenPool → Type 0
   IsLastTurn (Ok receipt) t = IsTransactionTurn keeps owner ranges plan ops (Ok receipt) t
-  IsLastTurn (Err e) t = (IsTransactionTurn keeps owner ranges plan ops (Err e) t × IsForGood ranges plan e (viewed_state t.left).shown) ⊎ IsRefusedPayment keeps moment e t
+  IsLastTurn (Err e) t = (IsTransactionTurn keeps owner ranges plan ops (Err e) t × IsForGood owner ranges plan e (viewed_state t.left).shown) ⊎ IsRefusedPayment keeps moment e t
 
 module _ {Dev : Type 0} {G : Ghosts Dev} where
   -- The handle made the transaction in one turn, with this result, after turns in which it was tried or steps of a sync

@@ -1,16 +1,18 @@
 //! The calls of a handle. Each is one step of the pool, in one turn; those that are made again take a turn each time.
-ghost use Rattle.std.specs.Prelude.{◌≡◌, ◌≢◌, IfErr, IfNone, IfOk, IfSome, IsSome, IsTrue, false, true};
+ghost use Rattle.std.specs.Prelude.{◌≡◌, ◌⊎◌, IfErr, IfNone, IfOk, IfSome, IsSome, IsTrue, false, true};
 ghost use Rattle.base.specs.declared.error.PoolError.TheVariants as error;
 ghost use Rattle.base.specs.declared.range.Mode.TheVariants.{Writer};
 ghost use Rattle.base.specs.declared.step.Reply.TheVariants as reply;
 ghost use Rattle.base.specs.declared.step.Step.TheVariants as step;
-ghost use Rattle.base.specs.steps.Refusals.{object_range};
+ghost use Rattle.base.specs.steps.Refusals.{append_range, object_range};
 ghost use Rattle.base.specs.steps.Runs.{reply_of};
 ghost use Rattle.base.specs.steps.Seen.{IsAborted, IsAdmitted, IsCommitted, IsGranted, IsLengthBetween, IsLetGo, IsReadBetween, IsThrottledForGood};
 ghost use Rattle.base.specs.steps.SeenLaws.{is_untested};
-ghost use Rattle.pool_threads.specs.Answers.{IsRefusal, Makes, MakesAtLast, Sees, state_seen};
+ghost use Rattle.pool_threads.specs.Answers.{IsRefusal, Makes, MakesAtLast, Sees, WaitsWhileNot, state_seen};
 ghost use Rattle.pool_threads.specs.Handles.{IsUnchanged, kin_of, moment_of};
 ghost use Rattle.pool_threads.specs.Turns.{begin_reply, dated};
+ghost use Rattle.pool_threads.specs.Vain.{IsInOwnWay, IsThrottledInVain};
+ghost use Rattle.transactions.specs.Open.{has_one_open};
 
 use crate::handle::Handle;
 use crate::turn::{replied, try_turn, turn};
@@ -66,8 +68,13 @@ impl<'p, D: SectorDevice> Handle<'p, D> {
 
     /// Locks a range of an object, and tries again while it is refused `Busy`.
     ///
+    /// It doesn't wait for its own owner: if that holds a lock itself that is in the way, it is refused `Busy` at once
+    /// (`in_time`). So each thread takes an owner of its own. Two threads that each wait for a lock of the other still
+    /// wait for ever: [`lock_within`](Handle::lock_within) gives up.
+    ///
     /// # Errors
-    /// Those of `PoolState::lock`, except `Busy`.
+    /// Those of `PoolState::lock`; `Busy` only if the owner holds a lock itself that overlaps the range, and not both
+    /// are of readers (`busy`).
     pub fn lock<'a, 'b, W: Wait>(
         &'a mut self,
         rt: &'b W,
@@ -82,7 +89,10 @@ impl<'p, D: SectorDevice> Handle<'p, D> {
             (object_range object.0 range.low range.high) mode id.0) self.old self.new) }
         ensures refused { IfErr result (λ e. Sees
             (IsRefusal (step.Lock owner object range mode) e) self.old self.new) }
-        ensures not_busy { IfErr result (λ e. e ≢ PoolError.Busy) }
+        ensures in_time { WaitsWhileNot (IsInOwnWay owner
+            (object_range object.0 range.low range.high) mode) self.old self.new }
+        ensures busy { IfErr result (λ e. e ≡ PoolError.Busy → IsInOwnWay owner
+            (object_range object.0 range.low range.high) mode (state_seen self.new).shown) }
     {
         let lock = Lock {
             owner,
@@ -94,10 +104,10 @@ impl<'p, D: SectorDevice> Handle<'p, D> {
     }
 
     /// Locks an object as a writer from its end to the greatest length, and returns that range too. It tries again
-    /// while it is refused `Busy`.
+    /// while it is refused `Busy`, but doesn't wait for its own owner, as `lock`.
     ///
     /// # Errors
-    /// Those of `PoolState::lock_append`, except `Busy`.
+    /// Those of `PoolState::lock_append`; `Busy` only if the owner holds a lock itself that overlaps the range (`busy`).
     pub fn lock_append<'a, 'b, W: Wait>(
         &'a mut self,
         rt: &'b W,
@@ -110,7 +120,11 @@ impl<'p, D: SectorDevice> Handle<'p, D> {
             (object_range object.0 a.1.low a.1.high) Writer a.0.0) self.old self.new) }
         ensures refused { IfErr result (λ e. Sees
             (IsRefusal (step.LockAppend owner object) e) self.old self.new) }
-        ensures not_busy { IfErr result (λ e. e ≢ PoolError.Busy) }
+        ensures in_time { WaitsWhileNot (λ s. IsInOwnWay owner (append_range object.0 s) Writer s)
+            self.old self.new }
+        ensures busy { IfErr result (λ e. e ≡ PoolError.Busy → IsInOwnWay owner
+            (append_range object.0 (state_seen self.new).shown) Writer
+            (state_seen self.new).shown) }
     {
         self.retry(rt, LockAppend { owner, object })
     }
@@ -118,12 +132,14 @@ impl<'p, D: SectorDevice> Handle<'p, D> {
     /// Opens a transaction of the open group that keeps to a plan. The group is charged for what its sync writes, as
     /// `PoolState::begin` says, until it is synced.
     ///
-    /// At the dirty limit it waits: it tries again while it is refused `Throttled`, unless the plan's charge alone is
-    /// above the limit. So some thread has to sync a group (`sync_pool`, or the loops `quiescer` and `syncer`), or to
-    /// abort a transaction.
+    /// At the dirty limit it waits: it tries again while it is refused `Throttled`. So some thread has to sync a group
+    /// (`sync_pool`, or the loops `quiescer` and `syncer`), or to abort a transaction. It is refused at once if that
+    /// can't help (`in_time`): the plan's charge alone is above the limit, or the owner has a transaction open, which
+    /// keeps its group from being synced.
     ///
     /// # Errors
-    /// Those of `PoolState::begin`; `Throttled` only if the plan's charge alone is above the limit.
+    /// Those of `PoolState::begin`; `Throttled` only if the plan's charge alone is above the limit, or the owner has a
+    /// transaction open (`for_good`).
     pub fn begin<'a, 'b, W: Wait>(
         &'a mut self,
         rt: &'b W,
@@ -136,8 +152,10 @@ impl<'p, D: SectorDevice> Handle<'p, D> {
             self.old self.new) }
         ensures refused { IfErr result (λ e. Sees (IsRefusal (step.Begin owner plan) e)
             self.old self.new) }
+        ensures in_time { WaitsWhileNot (IsThrottledInVain owner plan) self.old self.new }
         ensures for_good { IfErr result (λ e. e ≡ PoolError.Throttled
-            → IsThrottledForGood plan (state_seen self.new)) }
+            → IsThrottledForGood plan (state_seen self.new)
+            ⊎ (has_one_open owner.0 (state_seen self.new).shown.transactions ≡ true)) }
     {
         self.retry(rt, Begin { owner, plan: &plan })
     }

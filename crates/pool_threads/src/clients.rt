@@ -3,6 +3,7 @@
 
 mod answers;
 mod fetches;
+mod in_time;
 mod pools;
 mod transacts;
 mod waits;
@@ -19,7 +20,7 @@ ghost use Rattle.base.specs.declared.step.Reply.TheVariants as reply;
 ghost use Rattle.base.specs.declared.step.Step.TheVariants as step;
 ghost use Rattle.base.specs.steps.Explains as every;
 ghost use Rattle.base.specs.steps.Refusals.{object_range};
-ghost use Rattle.base.specs.steps.Seen.{IsGranted, IsKnownDurable, IsReadBetween, IsThrottledForGood};
+ghost use Rattle.base.specs.steps.Seen.{IsGranted, IsKnownDurable, IsReadBetween};
 ghost use Rattle.import_replay.specs.ImportSyncs.{IsImportSynced};
 ghost use Rattle.import_replay.specs.Mounts.{shown_of_import};
 ghost use Rattle.import_replay.specs.declared.mounted.Mounted.{Mounted};
@@ -47,29 +48,6 @@ use pool_core::PoolState;
 use std::alloc::Global;
 use std::snapshot::Snapshot;
 use std::sync::Wait;
-
-fn a_lock_is_never_refused_busy<D: SectorDevice, W: Wait>(
-    rt: &W,
-    handle: &mut Handle<'_, D>,
-    owner: Owner,
-    range: Range,
-) -> bool
-    ensures { result ≡ false }
-{
-    let answer = handle.lock(rt, owner, ObjectId(5), range, Mode::Reader);
-    matches!(answer, Err(PoolError::Busy))
-}
-
-fn an_append_lock_is_never_refused_busy<D: SectorDevice, W: Wait>(
-    rt: &W,
-    handle: &mut Handle<'_, D>,
-    owner: Owner,
-) -> bool
-    ensures { result ≡ false }
-{
-    let answer = handle.lock_append(rt, owner, ObjectId(5));
-    matches!(answer, Err(PoolError::Busy))
-}
 
 fn an_append_lock_is_one_of_its_owner<D: SectorDevice, W: Wait>(
     rt: &W,
@@ -415,17 +393,6 @@ fn a_begin_takes_turns<D: SectorDevice, W: Wait>(
     ensures { TakesTurns handle.old handle.new }
 {
     handle.begin(rt, owner, plan)
-}
-
-fn a_begin_is_throttled_above_the_limit_alone<D: SectorDevice, W: Wait>(
-    rt: &W,
-    handle: &mut Handle<'_, D>,
-    plan: Plan,
-) -> bool
-    ensures { result ≡ true → IsThrottledForGood plan (state_seen handle.new) }
-{
-    let answer = handle.begin(rt, Owner(3), plan);
-    matches!(answer, Err(PoolError::Throttled))
 }
 
 // A wait that returns Ok has found the transaction durable. So the next one is not refused, also on a pool that is

@@ -9,6 +9,7 @@ ghost use Rattle.base.specs.steps.Runs.{reply_of};
 ghost use Rattle.base.specs.steps.Seen.{IsGranted};
 ghost use Rattle.pool_threads.specs.Answers.{IsRefusal, MakesAtLast, Sees, state_seen};
 ghost use Rattle.pool_threads.specs.Handles.{TakesAtMost, TakesSoMany, tries_within};
+ghost use Rattle.pool_threads.specs.Vain.{IsInOwnWay};
 
 use crate::bell::Bell;
 use crate::handle::Handle;
@@ -30,7 +31,8 @@ impl<'p, D: SectorDevice> Handle<'p, D> {
     /// for which other threads have the pool.
     ///
     /// # Errors
-    /// Those of `PoolState::lock`; `Busy` only after the last try.
+    /// Those of `PoolState::lock`; `Busy` only after the last try, or at once if the owner holds a lock itself that is in
+    /// the way (`patient`).
     pub fn lock_within<'a, 'b, W: Wait>(
         &'a mut self,
         rt: &'b W,
@@ -47,8 +49,9 @@ impl<'p, D: SectorDevice> Handle<'p, D> {
         ensures refused { IfErr result (λ e. Sees
             (IsRefusal (step.Lock owner object range mode) e) self.old self.new) }
         ensures limited { TakesAtMost (tries_within (as_nanos limit)) self.old self.new }
-        ensures patient { IfErr result (λ e. e ≡ error.Busy
-            → TakesSoMany (tries_within (as_nanos limit)) self.old self.new) }
+        ensures patient { IfErr result (λ e. e ≡ error.Busy → IsInOwnWay owner
+            (object_range object.0 range.low range.high) mode (state_seen self.new).shown
+            ⊎ TakesSoMany (tries_within (as_nanos limit)) self.old self.new) }
     {
         let lock = Lock {
             owner,

@@ -6,7 +6,8 @@
 //!    is held while it waits.
 ghost use Rattle.std.specs.Prelude.{◌≡◌, ◌≤◌, IfErr, IfNone, IfSome, IsErrAnd, IsTrue, [], false, length, true, vec_capacity};
 ghost use Rattle.pool_core.specs.States.{shown};
-ghost use Rattle.pool_threads.specs.Transacts.{Ends, IsForGood, IsRetried, LocksAll, LocksAndBegins, LocksAndEnds, MakesTransaction, Unlocks};
+ghost use Rattle.pool_threads.specs.Transacts as words;
+ghost use Rattle.pool_threads.specs.Transacts.{Ends, IsForGood, IsRetried, LocksAll, LocksAndBegins, LocksAndEnds, MakesTransaction, MayPass, Unlocks};
 ghost use Rattle.pool_threads.specs.Turns.{HasDone};
 ghost use Rattle.pool_threads.specs.Views.{Explains, viewed_state};
 ghost use Rattle.word_lock.specs.Seats.{IsHolding, IsIdle, IsSameSeat, lock_table, seat_table, seen};
@@ -41,38 +42,82 @@ pub(crate) fn transact_turn<'s, 'l, D: SectorDevice>(
         (MakesTransaction (IsTrue D.keeps_model) owner ranges.now plan.now ops result.0)
         guard.entry.seat.now guard.exit.0.now }
     ensures again { IfSome result.1
-        (λ back. (back ≡ ops) × IsErrAnd result.0 (IsRetried ranges.now)) }
-    ensures for_good { IfNone result.1 (IfErr result.0 (λ e. IsForGood ranges.now plan.now e
+        (λ back. (back ≡ ops) × IsErrAnd result.0 (λ e. MayPass owner ranges.now plan.now e
+        (viewed_state (seen guard.exit.0.now)).shown)) }
+    ensures for_good { IfNone result.1 (IfErr result.0 (λ e. IsForGood owner ranges.now plan.now e
         (viewed_state (seen guard.exit.0.now)).shown)) }
     ensures room { length ranges.now ≤ vec_capacity locks.new }
 {
     let Guard { seat, lock, held } = guard;
     let mut held = held;
     let (result, unused) = transact_noted(&mut held, owner, ranges, locks, plan, ops);
-    let may_pass = may_pass(&result, ranges, plan, &held.value);
+    let may_pass = may_pass(&result, owner, ranges, plan, &held.value);
     let Held { value, view } = held;
     seat.put_back(lock, value, &view);
     (result, if may_pass { unused } else { None })
 }
 
-// Whether a transaction with this answer may pass if it is made again: it was refused a range, or room that a sync may
-// make. Without ranges of its own `Busy` is that of the begin, which another transaction of the owner blocks.
+// Whether a transaction with this answer may pass if it is made again.
 fn may_pass<D: SectorDevice>(
     answer: &Result<Receipt, PoolError>,
+    owner: Owner,
     ranges: &[ObjectRange],
     plan: &Plan,
     state: &PoolState<D>,
 ) -> bool
-    ensures again { result ≡ true → IsErrAnd answer.now (IsRetried ranges.now) }
-    ensures for_good { result ≡ false → IfErr answer.now (λ e. IsForGood ranges.now plan.now e
+    ensures again { result ≡ true → IsErrAnd answer.now (λ e. MayPass owner ranges.now plan.now e
+        (shown state.now)) }
+    ensures for_good { result ≡ false → IfErr answer.now (λ e. IsForGood owner ranges.now plan.now e
         (shown state.now)) }
 {
     match answer {
-        Err(PoolError::Busy) => !ranges.is_empty(),
-        Err(PoolError::Throttled) => !state.is_above_limit(plan),
-        Err(PoolError::NoSpace) => state.status().dirty != 0,
+        Ok(_) => false,
+        Err(error) => {
+            is_retried(*error, ranges) && !is_in_vain(*error, owner, ranges, plan, state)
+        }
+    }
+}
+
+// Whether a transaction may be made again after this refusal: of a range, or of room that a sync may make. Without
+// ranges of its own `Busy` is that of the begin, which another transaction of the owner blocks.
+fn is_retried(error: PoolError, ranges: &[ObjectRange]) -> bool
+    ensures again { result ≡ true → IsRetried ranges.now error }
+    ensures never { result ≡ false → IsRetried ranges.now error → ⊥ }
+{
+    match error {
+        PoolError::Busy => !ranges.is_empty(),
+        PoolError::Throttled | PoolError::NoSpace => true,
         _ => false,
     }
+}
+
+// Whether it waits in vain then: its owner stands in its own way, or no sync makes room.
+fn is_in_vain<D: SectorDevice>(
+    error: PoolError,
+    owner: Owner,
+    ranges: &[ObjectRange],
+    plan: &Plan,
+    state: &PoolState<D>,
+) -> bool
+    ensures { result ≡ words.is_in_vain owner ranges.now plan.now error (shown state.now) }
+{
+    match error {
+        PoolError::Busy => is_in_own_way(owner, ranges, state),
+        PoolError::Throttled => state.is_above_limit(plan) || state.has_one_open(owner),
+        PoolError::NoSpace => state.status().dirty == 0 || state.has_one_open(owner),
+        _ => false,
+    }
+}
+
+// Whether a lock that the owner holds itself overlaps one of these ranges.
+fn is_in_own_way<D: SectorDevice>(
+    owner: Owner,
+    ranges: &[ObjectRange],
+    state: &PoolState<D>,
+) -> bool
+    ensures { result ≡ words.is_in_own_way owner ranges.now (shown state.now) }
+{
+    ranges.iter().any(|range| state.is_blocked_by_own(owner, range, Mode::Writer))
 }
 
 // Makes a transaction, and goes on to the view after it. It returns the operations too if they were not committed.

@@ -5,15 +5,16 @@
 //! 2. At the dirty limit, or without space, it waits for the loops of the pool. Without loops it makes the steps of a
 //!    sync itself, as `txg_wait_synced` of `txg.c` would have them made, and as `sync_pool` does. It gives up when a
 //!    sync can't make room (`dsl_dir_tempreserve_impl` of `dsl_dir.c` answers ERESTART, and ENOSPC at last, so too).
-ghost use Rattle.std.specs.Prelude.{◌≡◌, ◌≤◌, ◌⊎◌, IfErr, IfNone, IfOk, IfSome, IsErrAnd, IsTrue, None, Some, length, vec_capacity};
+ghost use Rattle.std.specs.Prelude.{◌≡◌, ◌≤◌, ◌⊎◌, IfErr, IfNone, IfOk, IfSome, IsErrAnd, IsTrue, None, Some, length, true, vec_capacity};
 ghost use Rattle.base.specs.declared.step.Reply.TheVariants as replied;
 ghost use Rattle.base.specs.steps.Shown.{dirty_total};
 ghost use Rattle.pool_core.specs.States.{shown};
 ghost use Rattle.pool_threads.specs.Answers.{Sees, TakesOne, state_seen};
 ghost use Rattle.pool_threads.specs.Handles.{StaysInPool, moment_of};
 ghost use Rattle.pool_threads.specs.Serves.{GoesOnAfter};
-ghost use Rattle.pool_threads.specs.Transacts.{IsCommitRefusal, IsForGood, IsOpenGroupTurn, IsRetried, IsTransacted, IsTransactionTurn, IsTransactRefusal, LeavesNothing, MakesRoom, Pays, TransactsAtLast, TransactsDurably, TransactsLockedOrLacks, TransactsOrLacks};
+ghost use Rattle.pool_threads.specs.Transacts.{IsCommitRefusal, IsForGood, IsOpenGroupTurn, IsTransacted, IsTransactionTurn, IsTransactRefusal, LeavesNothing, MakesRoom, MayPass, Pays, TransactsAtLast, TransactsDurably, TransactsLockedOrLacks, TransactsOrLacks};
 ghost use Rattle.pool_threads.specs.Waits.{LeavesDurable};
+ghost use Rattle.transactions.specs.Open.{has_one_open};
 ghost use Rattle.word_lock.specs.Seats.{HasMetNone};
 
 use crate::handle::Handle;
@@ -33,8 +34,8 @@ impl<'p, D: SectorDevice> Handle<'p, D> {
     /// unlocks all. The ranges are in rising order of object and low end, with those that overlap joined to one. After
     /// a refusal it aborts the transaction, if it was begun, and unlocks what it locked, in the same turn.
     ///
-    /// While another thread holds a lock that overlaps one of the ranges it waits, and then tries again. A caller that
-    /// holds such a lock itself waits for itself: it takes `transact_locked`.
+    /// While another thread holds a lock that overlaps one of the ranges it waits, and then tries again. A caller whose
+    /// owner holds such a lock itself is refused `Busy` at once: it takes `transact_locked`.
     ///
     /// **At the dirty limit** it waits while the loops `quiescer` and `syncer` run. If they don't, it makes the steps
     /// of a sync of the open group itself, as `sync_pool` does, and then tries again. While another thread's
@@ -46,13 +47,17 @@ impl<'p, D: SectorDevice> Handle<'p, D> {
     /// **Without space** it does the same: a sync ends reservations, and frees what its transactions have replaced. It
     /// is refused `NoSpace` when the charges of no transaction are left for a sync to end.
     ///
+    /// **If the owner has a transaction open**, by `begin`, it doesn't wait for room: that transaction keeps its group
+    /// from being synced. It is refused `Throttled` or `NoSpace` at once.
+    ///
     /// It holds no lock and has no open transaction while it waits, while it syncs, and after it, also after a refusal
     /// (`released`). A try that was refused has used up the names of the locks and of the transaction that it got.
     ///
     /// # Errors
     /// `NoMemory` if there is none for the plan, its ranges and the names of the locks; then no step was made. Else the
-    /// first refusal of `lock`, `begin` or `commit`, in this order, except `Busy`; `Throttled` only if the plan's
-    /// charge alone is above the dirty limit, `NoSpace` only if no transaction is unsynced (`short`). If it makes steps
+    /// first refusal of `lock`, `begin` or `commit`, in this order. `Busy` only if the owner holds a lock itself on one
+    /// of the ranges. `Throttled` only if the plan's charge alone is above the dirty limit, `NoSpace` only if no
+    /// transaction is unsynced, or either if the owner has a transaction open (`made`, `short`). If it makes steps
     /// of a sync, also those of such a step, as `sync_pool` lists them: `Write` or `Flush`, after which the pool is
     /// suspended, `NoMemory`, `Read` or `Damaged` if a block that the sync needs can't be read, and `NotReady` only if
     /// the open group is 2^60. None of the operations takes place then.
@@ -67,7 +72,8 @@ impl<'p, D: SectorDevice> Handle<'p, D> {
         ensures refused { IfErr result (λ e. (e ≡ PoolError.NoMemory)
             ⊎ Sees (IsTransactRefusal (moment_of self.old) owner ops e) self.old self.new) }
         ensures short { IfErr result (λ e. e ≡ PoolError.NoSpace
-            → dirty_total (state_seen self.new).shown ≡ 0) }
+            → (dirty_total (state_seen self.new).shown ≡ 0)
+            ⊎ (has_one_open owner.0 (state_seen self.new).shown.transactions ≡ true)) }
         ensures same_pool { StaysInPool self.old self.new }
         ensures met_none { HasMetNone self.old.seat self.new.seat }
         ensures released { LeavesNothing self.old self.new }
@@ -89,8 +95,9 @@ impl<'p, D: SectorDevice> Handle<'p, D> {
     /// # Errors
     /// `NoMemory` if there is none for the plan; then no step was made. Else the first refusal of `begin` or `commit`,
     /// in this order: `NotLocked` if the owner's locks don't cover the plan; `Throttled` only if the plan's charge
-    /// alone is above the dirty limit; `NoSpace` only if no transaction is unsynced (`short`). If it makes steps of a
-    /// sync, also those of such a step, as for `transact`. None of the operations takes place then.
+    /// alone is above the dirty limit; `NoSpace` only if no transaction is unsynced; or either if the owner has a
+    /// transaction open (`short`). If it makes steps of a sync, also those of such a step, as for `transact`. None of
+    /// the operations takes place then.
     pub fn transact_locked<'a, 'b, W: Wait>(
         &'a mut self,
         rt: &'b W,
@@ -102,7 +109,8 @@ impl<'p, D: SectorDevice> Handle<'p, D> {
         ensures refused { IfErr result (λ e. (e ≡ PoolError.NoMemory)
             ⊎ Sees (IsCommitRefusal (moment_of self.old) owner ops e) self.old self.new) }
         ensures short { IfErr result (λ e. e ≡ PoolError.NoSpace
-            → dirty_total (state_seen self.new).shown ≡ 0) }
+            → (dirty_total (state_seen self.new).shown ≡ 0)
+            ⊎ (has_one_open owner.0 (state_seen self.new).shown.transactions ≡ true)) }
         ensures same_pool { StaysInPool self.old self.new }
         ensures met_none { HasMetNone self.old.seat self.new.seat }
         ensures released { LeavesNothing self.old self.new }
@@ -189,9 +197,10 @@ impl<'p, D: SectorDevice> Handle<'p, D> {
         ensures made { TakesOne (IsTransactionTurn (IsTrue D.keeps_model) owner ranges.now plan.now
             ops result.0) self.old self.new }
         ensures again { IfSome result.1
-            (λ back. (back ≡ ops) × IsErrAnd result.0 (IsRetried ranges.now)) }
-        ensures for_good { IfNone result.1 (IfErr result.0 (λ e. IsForGood ranges.now plan.now e
+            (λ back. (back ≡ ops) × IsErrAnd result.0 (λ e. MayPass owner ranges.now plan.now e
             (state_seen self.new).shown)) }
+        ensures for_good { IfNone result.1 (IfErr result.0 (λ e. IsForGood owner ranges.now plan.now
+            e (state_seen self.new).shown)) }
         ensures room { length ranges.now ≤ vec_capacity locks.new }
     {
         let guard = self.seat.acquire(rt, &self.shared.lock);

@@ -83,6 +83,8 @@ pub(crate) fn retried_turn<'s, 'l, D: SectorDevice, C: RetriedCall<D> + Drop>(
     ensures stepped { HasStepped (IsTrue D.keeps_model) (C.step call) (reply_of C.reply result.0)
         guard.entry.seat.now guard.exit.0.now }
     ensures again { result.1 ≡ true → result.0 ≡ Err C.retried }
+    ensures in_time { result.1 ≡ true
+        → C.is_in_vain call (viewed_state (seen guard.exit.0.now)).shown → ⊥ }
     ensures for_good { result.1 ≡ false → IfErr result.0 (λ e. e ≡ C.retried
         → C.is_in_vain call (viewed_state (seen guard.exit.0.now)).shown) }
 {
@@ -102,6 +104,7 @@ fn may_pass<D: SectorDevice, C: RetriedCall<D> + Drop>(
     state: &PoolState<D>,
 ) -> bool
     ensures again { result ≡ true → answer.now ≡ Err C.retried }
+    ensures in_time { result ≡ true → C.is_in_vain call.now (shown state.now) → ⊥ }
     ensures for_good { result ≡ false → IfErr answer.now (λ e. e ≡ C.retried
         → C.is_in_vain call.now (shown state.now)) }
 {

@@ -13,6 +13,7 @@ ghost use Rattle.base.specs.steps.Shown.{available, dirty_total, free_count};
 ghost use Rattle.base.specs.steps.Steps.{State};
 ghost use Rattle.pool_threads.specs.Answers.{Sees, state_seen};
 ghost use Rattle.pool_threads.specs.Handles.{TakesOneTurn, TakesTurns, kin_of, turns_of};
+ghost use Rattle.pool_threads.specs.Vain.{IsInOwnWay};
 
 use crate::Handle;
 use base::{
@@ -200,7 +201,8 @@ fn a_lock_with_a_limit_takes_turns<D: SectorDevice, W: Wait>(
     handle.lock_within(rt, owner, ObjectId(5), range, Mode::Writer, limit)
 }
 
-// One at once, and one after each half millisecond. `Busy` is the answer after the last one alone.
+// One at once, and one after each half millisecond. `Busy` is the answer after the last one, or if its owner stands in
+// its own way.
 fn a_lock_with_a_limit_of_two_milliseconds_has_five_tries<D: SectorDevice, W: Wait>(
     rt: &W,
     handle: &mut Handle<'_, D>,
@@ -209,7 +211,9 @@ fn a_lock_with_a_limit_of_two_milliseconds_has_five_tries<D: SectorDevice, W: Wa
 ) -> Result<LockId, PoolError>
     ensures most { length (turns_of handle.new) ≤ length (turns_of handle.old) + 5 }
     ensures busy { IfErr result (λ e. e ≡ PoolError.Busy
-        → length (turns_of handle.new) ≡ length (turns_of handle.old) + 5) }
+        → IsInOwnWay owner (object_range 5 range.low range.high) Writer
+        (state_seen handle.new).shown
+        ⊎ (length (turns_of handle.new) ≡ length (turns_of handle.old) + 5)) }
 {
     let limit = Duration::from_millis(2);
     handle.lock_within(rt, owner, ObjectId(5), range, Mode::Writer, limit)

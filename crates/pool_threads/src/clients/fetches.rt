@@ -82,15 +82,3 @@ fn a_fetch_of_the_only_handle_leaves_no_lock<D: SectorDevice, W: Wait>(
 {
     handle.fetch(rt, Owner(3), ObjectId(5), range)
 }
-
-fn a_fetch_is_never_refused_busy<D: SectorDevice, W: Wait>(
-    rt: &W,
-    handle: &mut Handle<'_, D>,
-    owner: Owner,
-    range: Range,
-) -> bool
-    ensures { result ≡ false }
-{
-    let answer = handle.fetch(rt, owner, ObjectId(5), range);
-    matches!(answer, Err(PoolError::Busy))
-}

@@ -1,10 +1,11 @@
 //! What callers rest on of `transact` and `transact_locked`.
-ghost use Rattle.std.specs.Prelude.{◌≡◌, ◌++◌, [], ◌∷◌, All, IfOk, IsTrue, List, true};
+ghost use Rattle.std.specs.Prelude.{ℕ, ◌≡◌, ◌⊎◌, ◌++◌, [], ◌∷◌, All, IfErr, IfOk, IsTrue, List, Some, slice_get};
 ghost use Rattle.base.specs.declared.names.Group.{Group};
 ghost use Rattle.base.specs.declared.names.LockId.{LockId};
 ghost use Rattle.base.specs.declared.names.TxId.{TxId};
 ghost use Rattle.base.specs.declared.step.Reply.TheVariants as reply;
 ghost use Rattle.base.specs.declared.step.Step.TheVariants as step;
+ghost use Rattle.base.specs.steps.Groups.{Admission};
 ghost use Rattle.base.specs.steps.Shown.{dirty_total};
 ghost use Rattle.pool_threads.specs.Answers.{Sees, state_seen};
 ghost use Rattle.pool_threads.specs.Handles.{kin_of, turns_of, view_seen};
@@ -93,28 +94,29 @@ fn a_transact_of_the_only_handle_leaves_nothing_of_its_own<D: SectorDevice, W: W
     handle.transact(rt, Owner(3), ops)
 }
 
-// No transaction is left whose sync could make room.
+// No transaction is left whose sync could make room; or its own owner keeps the sync from being made.
 fn a_transact_without_space_has_nothing_left_to_sync<D: SectorDevice, W: Wait>(
     rt: &W,
     handle: &mut Handle<'_, D>,
     ops: Ops,
-) -> bool
-    ensures { result ≡ true → dirty_total (state_seen handle.new).shown ≡ 0 }
+) -> Result<Receipt, PoolError>
+    ensures { IfErr result (λ e. e ≡ PoolError.NoSpace
+        → (dirty_total (state_seen handle.new).shown ≡ 0) ⊎ ((i : ℕ) × (a : Admission)
+        × (slice_get (state_seen handle.new).shown.transactions i ≡ Some a) × (a.owner ≡ 3))) }
 {
-    matches!(handle.transact(rt, Owner(3), ops), Err(PoolError::NoSpace))
+    handle.transact(rt, Owner(3), ops)
 }
 
 fn nor_has_one_under_the_callers_locks<D: SectorDevice, W: Wait>(
     rt: &W,
     handle: &mut Handle<'_, D>,
     ops: Ops,
-) -> bool
-    ensures { result ≡ true → dirty_total (state_seen handle.new).shown ≡ 0 }
+) -> Result<Receipt, PoolError>
+    ensures { IfErr result (λ e. e ≡ PoolError.NoSpace
+        → (dirty_total (state_seen handle.new).shown ≡ 0) ⊎ ((i : ℕ) × (a : Admission)
+        × (slice_get (state_seen handle.new).shown.transactions i ≡ Some a) × (a.owner ≡ 3))) }
 {
-    matches!(
-        handle.transact_locked(rt, Owner(3), ops),
-        Err(PoolError::NoSpace)
-    )
+    handle.transact_locked(rt, Owner(3), ops)
 }
 
 fn a_transact_under_the_callers_locks_enters_its_operations<D: SectorDevice, W: Wait>(

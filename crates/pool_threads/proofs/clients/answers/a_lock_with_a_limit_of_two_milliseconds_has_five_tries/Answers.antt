@@ -7,4 +7,4 @@ pub returns-clause-most : goal.returns-clause-most
 returns-clause-most g c = most_of _ 5 (ap tries_within c.from_millis-limit.ensures) c.args.handle.now c.lock_within.new.self c.lock_within.ensures.limited
 
 pub returns-clause-busy : goal.returns-clause-busy
-returns-clause-busy g c = patient_of _ 5 (ap tries_within c.from_millis-limit.ensures) c.args.handle.now c.lock_within.new.self c.lock_within.result c.lock_within.ensures.patient
+returns-clause-busy g c = patient_of _ 5 (ap tries_within c.from_millis-limit.ensures) c.args.handle.now c.lock_within.new.self _ c.lock_within.result c.lock_within.ensures.patient

@@ -11,4 +11,4 @@ pub returns-clause-refused : goal.returns-clause-refused
 returns-clause-refused g c = sees_last_refusal _ _ _ c.retry.result c.retry.ensures.made
 
 pub returns-clause-for_good : goal.returns-clause-for_good
-returns-clause-for_good g c = ends_for_good c.args.plan (state_seen c.retry.new.self) c.retry.result c.retry.ensures.for_good
+returns-clause-for_good g c = ends_for_good c.args.owner c.args.plan (state_seen c.retry.new.self) c.retry.result c.retry.ensures.for_good

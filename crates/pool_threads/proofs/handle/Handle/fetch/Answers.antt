@@ -28,8 +28,8 @@ returns-clause-bytes g c = λ keeps. fetches_seen c.args.owner c.args.object c.a
 pub returns-clause-refused : goal.returns-clause-refused
 returns-clause-refused g c = refusals_seen c.args.owner c.args.object c.args.range c.read-bytes.result c.args.self.now c.unlock.new.self (returns-clause-made g c)
 
-pub returns-clause-not_busy : goal.returns-clause-not_busy
-returns-clause-not_busy g c = never_busy c.args.owner c.args.object c.args.range c.read-bytes.result c.lock.new.self c.read-bytes.new.self c.read-bytes.ensures.refused
+pub returns-clause-busy : goal.returns-clause-busy
+returns-clause-busy g c = never_busy c.args.owner c.args.object c.args.range _ c.read-bytes.result c.lock.new.self c.read-bytes.new.self c.read-bytes.ensures.refused
 
 pub returns-clause-same_pool : goal.returns-clause-same_pool
 returns-clause-same_pool g c = (fetches_along c.args.owner c.args.object c.args.range c.read-bytes.result c.args.self.now c.unlock.new.self (returns-clause-made g c)).same_pool

@@ -13,4 +13,4 @@ pub returns-clause-limited : goal.returns-clause-limited
 returns-clause-limited g c = limited_by _ _ c.as_micros.ensures c.args.self.now c.retry_within.new.self c.retry_within.ensures.limited
 
 pub returns-clause-patient : goal.returns-clause-patient
-returns-clause-patient g c = patient_for _ _ c.as_micros.ensures c.args.self.now c.retry_within.new.self c.retry_within.result c.retry_within.ensures.patient
+returns-clause-patient g c = patient_for _ _ c.as_micros.ensures c.args.self.now c.retry_within.new.self _ c.retry_within.result c.retry_within.ensures.patient

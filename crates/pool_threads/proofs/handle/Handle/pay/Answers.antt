@@ -1,4 +1,3 @@
-use Rattle.std.proofs.Common.{rules}
 use Rattle.pool_threads.proofs.TransactLoops.{payment_was_refused, was_paid}
 use Rattle.pool_threads.proofs.handle.Handle.pay.Goals as goal
 

@@ -1,4 +1,4 @@
-use Rattle.std.proofs.Common.{[], ◌∙◌, ap, inl, refl}
+use Rattle.std.proofs.Common.{◌∙◌, ap, inl, refl}
 use Rattle.pool_threads.proofs.TransactLoops.{made_of}
 use Rattle.pool_threads.proofs.TransactsRelease.{leaves_nothing, nothing_left}
 use Rattle.pool_threads.proofs.TransactsSeen.{refusals_seen, at_last_along, at_last_seen}

@@ -1,10 +1,9 @@
-use Rattle.std.proofs.Common.{[], ◌∙◌, ap, inl, refl}
+use Rattle.std.proofs.Common.{[], inl, refl}
 use Rattle.pool_threads.proofs.TransactLoops.{locked_of}
 use Rattle.pool_threads.proofs.TransactsRelease.{leaves_nothing, nothing_left}
 use Rattle.pool_threads.proofs.TransactsSeen.{locked_refusals_seen, at_last_along, at_last_seen}
 use Rattle.pool_threads.proofs.TransactsShort.{short_at_last}
 use Rattle.pool_threads.specs.Transacts.{plan_of}
-use Rattle.transactions.specs.LockRanges.{lock_ranges}
 use Rattle.pool_threads.proofs.handle.Handle.transact_locked.Goals as goal
 
 pub returns-in_err-plan-clause-released : goal.returns-in_err-plan-clause-released
