@@ -105,6 +105,12 @@ fn a_name_of_four_bytes_shows_four(name: &PoolName) -> usize
     copy.as_slice().len()
 }
 
+fn the_text_of_tank_is_its_four_letters() -> usize
+    ensures { result ≡ 4 }
+{
+    PoolName::new(b"tank").map_or(4, |name| name.as_str().len())
+}
+
 fn not_ready_has_number_20() -> u8
     ensures { result ≡ 20 }
 {

@@ -4,6 +4,8 @@ ghost use Rattle.std.specs.Prelude.{◌≡◌};
 ghost use Rattle.std.specs.List.{list_all};
 ghost use Rattle.base.specs.formats.Names as names;
 
+use arrayvec::ArrayString;
+use std::fmt;
 use std::marker::Model;
 
 /// The most bytes of a pool's name.
@@ -13,20 +15,18 @@ pub const MAX_NAME: usize = 64;
 /// Contracts see it as a list of bytes.
 #[derive(Clone, Debug, Drop)]
 pub struct PoolName {
-    bytes: [u8; MAX_NAME],
-    length: usize,
+    text: ArrayString<MAX_NAME>,
 }
 
 impl Model for PoolName {
-    ghost use Rattle.std.specs.Prelude.{List, ℕ, take, ◌≤◌};
-    ghost use Rattle.base.specs.formats.Limits.{max_name};
+    ghost use Rattle.std.specs.Prelude.{List, ℕ};
     ghost use Rattle.base.specs.formats.Names.{IsName};
 
     ghost Value = { List ℕ };
 
-    ghost view = { λ n. take n.length n.bytes };
+    ghost view = { λ n. n.text.bytes };
 
-    ghost invariant = { λ n. (n.length ≤ max_name) × IsName (take n.length n.bytes) };
+    ghost invariant = { λ n. IsName n.text.bytes };
 }
 
 impl PartialEq for PoolName {
@@ -39,7 +39,7 @@ impl PartialEq for PoolName {
     ghost laws = { partial_equiv_from_equiv nat_list_eq_equiv };
 
     fn eq(&self, other: &Self) -> bool {
-        self.as_slice() == other.as_slice()
+        self.as_str() == other.as_str()
     }
 }
 
@@ -47,6 +47,12 @@ impl Eq for PoolName {
     ghost use Rattle.std.specs.Cmp.Lexicographic.{nat_list_eq_equiv};
 
     ghost laws = { nat_list_eq_equiv };
+}
+
+impl fmt::Display for PoolName {
+    fn fmt<W: fmt::Write>(&self, f: &mut fmt::Formatter<W>) -> fmt::Result {
+        f.write_str(self.as_str())
+    }
 }
 
 impl PoolName {
@@ -62,22 +68,27 @@ impl PoolName {
         if !is_name(bytes) {
             return None;
         }
-        let mut name = [0; MAX_NAME];
-        name[..bytes.len()].copy_from_slice(bytes);
-        Some(PoolName {
-            bytes: name,
-            length: bytes.len(),
-        })
+        let Ok(text) = str::from_utf8(bytes) else {
+            return None;
+        };
+        let text = ArrayString::from(text).ok()?;
+        Some(PoolName { text })
     }
 
     /// A copy of the name. It takes no memory.
     pub fn copy(&self) -> Self
-        ensures { result ≡ self.now }
+        ensures copy { result ≡ self.now }
+        ensures name { IsName result }
     {
-        PoolName {
-            bytes: self.bytes,
-            length: self.length,
-        }
+        let text = self.text;
+        PoolName { text }
+    }
+
+    /// The name as text.
+    pub fn as_str(&self) -> &str
+        ensures bytes { result.now ≡ self.now }
+    {
+        self.text.as_str()
     }
 
     /// The bytes of the name.
@@ -86,7 +97,8 @@ impl PoolName {
         ensures name { IsName self.now }
         ensures length { length self.now ≤ max_name }
     {
-        &self.bytes[..self.length]
+        let text = &self.text;
+        text.as_str().as_bytes()
     }
 }
 

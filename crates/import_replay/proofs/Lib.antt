@@ -38,6 +38,7 @@ pub mod SpareRoom
 pub mod UsedBlocks
 pub mod ChainRecords
 pub mod Inspections
+pub mod PoolDamages
 pub mod Views
 pub mod TakenBlocks
 pub mod Promises

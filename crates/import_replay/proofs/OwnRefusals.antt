@@ -43,7 +43,7 @@ module _ (image : List ℕ) (u : Uberblock) (chain : List LogPiece) (contents : 
       let chosen = mounts.found.pool.chosen in
       subst (λ (w : Uberblock). HasNoConfig image w.guid w.group) same none chosen.label mounts.found.pool.config_group mounts.synced.name chosen.in_range chosen.not_above chosen.stands
 
-  is_sound : (kind address : ℕ) → IsTreeDamaged image kind address → ⊥
+  pub is_sound : (kind address : ℕ) → IsTreeDamaged image kind address → ⊥
   is_sound kind address damaged =
       let same : damaged.u ≡ u = one-active image damaged.u u damaged.pool.active mounts.found.pool.active in
       no_damage image (frame_of image u) u.root mounts.synced.objects mounts.found.tree kind address

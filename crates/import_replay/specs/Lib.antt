@@ -22,4 +22,5 @@ pub mod Mounts
 pub mod ShownMounts
 pub mod RunStarts
 pub mod Inspections
+pub mod PoolDamages
 pub mod Views

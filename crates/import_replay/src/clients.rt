@@ -1,26 +1,29 @@
 //! What callers rest on: one function for each promise of this crate's calls, proved from the contract of the call
 //! alone. So it is refused as soon as that contract says less.
 
-ghost use Rattle.std.specs.Prelude.{◌≡◌, ◌≢◌, ◌<◌, ◌≤◌, ◌∷◌, [], ℕ, IfErr, IfOk, IsErr, IsTrue, List, MatchResult, false, length, slice_index, true};
+ghost use Rattle.std.specs.Prelude.{◌≡◌, ◌≢◌, ◌<◌, ◌≤◌, ◌∷◌, [], ℕ, Contains, IfErr, IfOk, IfSome, IsErr, IsTrue, List, MatchResult, false, length, slice_index, true};
 ghost use Rattle.std.specs.FinSet as set;
 ghost use Rattle.std.specs.List.{list_any};
 ghost use Rattle.base.specs.disk.Disk.{bytes_of};
 ghost use Rattle.base.specs.formats.Uberblocks as image;
 ghost use Rattle.base.specs.formats.Uberblocks.{IsActive};
-ghost use Rattle.base.specs.crash.Mount.{IsChainDamaged, IsUsed, Mounts, records_above};
+ghost use Rattle.base.specs.crash.Mount.{IsChainDamaged, IsUsed, Mounts, MountsTo, frame_of, records_above};
 ghost use Rattle.base.specs.formats.Chain.{LogPiece};
 ghost use Rattle.base.specs.formats.Geometry.{IsBlockAddress, block_address, block_count};
 ghost use Rattle.base.specs.history.Contents.{Contents};
-ghost use Rattle.base.specs.tree.Places.{IsInTree, data_pointer, indirect_pointer};
+ghost use Rattle.base.specs.tree.Damages.{IsSoundAt};
+ghost use Rattle.base.specs.tree.Places.{IsInTree, Place, data_pointer, indirect_pointer, kind_of, pointer_of};
 ghost use Rattle.base.specs.tree.Syncs.{is_on};
 ghost use Rattle.group_plans.specs.Areas.{AreBlocksOf};
 ghost use Rattle.object_maps.specs.ContentsShown.{contents_of};
 ghost use Rattle.object_maps.specs.Surveys.{listed};
+ghost use Rattle.object_maps.specs.declared.damages.BlockDamage.{BlockDamage};
 ghost use Rattle.space.specs.FreeSets.{is_free};
 ghost use Rattle.import_replay.specs.PlacedRecords.{ops_of_placed};
 ghost use Rattle.import_replay.specs.TakenBlocks.{ChangesBlock, KeepsBlock};
 
 use crate::creation::create;
+use crate::damages::{Soundness, find_damages};
 use crate::free_blocks::give_all;
 use crate::imported::Imported;
 use crate::importing::{import, import_with};
@@ -28,6 +31,7 @@ use crate::inspection::{Inspected, inspect};
 use base::{Group, PoolError};
 use device_model::SectorDevice;
 use labels::Geometry;
+use object_maps::BlockDamage;
 use space::FreeSet;
 use std::alloc::Global;
 
@@ -342,6 +346,65 @@ fn a_record_that_cannot_take_place_is_refused<D: SectorDevice>(
         → IsChainDamaged (bytes_of (D.disk device.old).now) address) }
 {
     inspect(alloc, device)
+}
+
+// A damage that is found is of kind 6, and names the block of a log record that can't take place, or it is that of a
+// place in the tree of the active uberblock, which isn't sound.
+fn a_damage_that_is_found_is_one<D: SectorDevice>(
+    alloc: Global,
+    device: &mut D,
+) -> Result<Vec<BlockDamage>, PoolError>
+    ensures log { IsTrue D.keeps_model → IfOk result (λ l. (d : BlockDamage) → Contains l.items d
+        → d.kind ≡ 6 → IsChainDamaged (bytes_of (D.disk device.old).now) d.address) }
+    ensures tree { IsTrue D.keeps_model → IfOk result (λ l. (d : BlockDamage) → Contains l.items d
+        → d.kind ≢ 6 → (u : image.Uberblock) × IsActive (bytes_of (D.disk device.old).now) u
+        × (place : Place) × (kind_of place ≡ d.kind)
+        × ((pointer_of (bytes_of (D.disk device.old).now) u.root place).address ≡ d.address)
+        × (IsSoundAt (bytes_of (D.disk device.old).now)
+        (frame_of (bytes_of (D.disk device.old).now) u) u.root place → ⊥)) }
+{
+    match find_damages(alloc, device)? {
+        Soundness::Damaged(damages) => Ok(damages),
+        Soundness::Whole(_) => Ok(Vec::new(alloc)),
+    }
+}
+
+// A pool that is found whole is what the image mounts, by its name.
+fn a_pool_that_is_found_whole_is_mounted<D: SectorDevice>(
+    alloc: Global,
+    device: &mut D,
+) -> Result<Option<Inspected>, PoolError>
+    ensures { IsTrue D.keeps_model → IfOk result (λ o. IfSome o (λ i. (contents : Contents)
+        × MountsTo (bytes_of (D.disk device.old).now) contents × (i.name ≡ contents.name))) }
+{
+    match find_damages(alloc, device)? {
+        Soundness::Whole(inspected) => Ok(Some(inspected)),
+        Soundness::Damaged(_) => Ok(None),
+    }
+}
+
+// If an image mounts contents, its pool is found whole.
+fn a_mounted_pool_is_found_whole<D: SectorDevice>(
+    alloc: Global,
+    device: &mut D,
+) -> Result<bool, PoolError>
+    ensures { IsTrue D.keeps_model → (contents : Contents)
+        → MountsTo (bytes_of (D.disk device.old).now) contents → IfOk result IsTrue }
+{
+    match find_damages(alloc, device)? {
+        Soundness::Whole(_) => Ok(true),
+        Soundness::Damaged(_) => Ok(false),
+    }
+}
+
+// No search for damages is refused with one of them.
+fn no_damage_refuses_the_search<D: SectorDevice>(
+    alloc: Global,
+    device: &mut D,
+) -> Result<Soundness, PoolError>
+    ensures { IfErr result (λ e. e ≢ PoolError.Damaged 3 4194304) }
+{
+    find_damages(alloc, device)
 }
 
 // A device of 512 bytes is too small for a pool, and a refused inspection leaves it as it was.

@@ -158,15 +158,7 @@ fn choose_name(
     } else {
         Stage::Odd
     };
-    Ok((copy_name(chosen.name()), first))
-}
-
-// A copy of a name, in place as the name is: it takes no memory.
-pub(crate) fn copy_name(name: &PoolName) -> PoolName
-    ensures copy { result ≡ name.now }
-    ensures name { IsName result }
-{
-    PoolName::new(name.as_slice()).unwrap()
+    Ok((chosen.name().copy(), first))
 }
 
 // What the four labels hold.

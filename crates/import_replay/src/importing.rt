@@ -46,7 +46,7 @@ ghost use Rattle.import_replay.specs.NextPools.{IsReadyFor, parts_of};
 ghost use Rattle.import_replay.specs.Refused.{IsImportRefused, IsMountRefused, IsOpenRefused};
 ghost use Rattle.import_replay.specs.RunStarts.{StartsRun};
 
-use crate::finding::{Found, copy_name};
+use crate::finding::Found;
 use crate::imported::Imported;
 use crate::label_sync::sync_group;
 use crate::mounted::Mounted;
@@ -290,7 +290,7 @@ fn open_pool<D: SectorDevice>(
         uberblock.guid,
         uberblock.group,
         geometry.size(),
-        copy_name(&next.contents.name),
+        next.contents.name.copy(),
     );
     sync_group(
         device,

@@ -5,6 +5,7 @@
 
 mod clients;
 mod creation;
+mod damages;
 mod finding;
 mod free_blocks;
 mod imported;
@@ -17,6 +18,7 @@ mod reading;
 mod viewing;
 
 pub use creation::create;
+pub use damages::{Soundness, find_damages};
 pub use free_blocks::give_all;
 pub use imported::Imported;
 pub use importing::{import, import_with};

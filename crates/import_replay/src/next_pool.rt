@@ -25,7 +25,7 @@ ghost use Rattle.uberblocks.specs.Slots.{fields_of};
 ghost use Rattle.import_replay.specs.Devices.{IsSizedFor};
 ghost use Rattle.import_replay.specs.NextPools.{HoldsLoaded, HoldsNextObjects, IsNextRefused, IsPlannedFrom, IsReplayedPool, MakesReadNext, TellsShortPlan, TellsShortTree, synced_with};
 
-use crate::finding::{Found, copy_name};
+use crate::finding::Found;
 use crate::free_blocks::{give_all, lowest_left, take_logged, take_planned};
 use crate::reading::frame_of;
 use base::{Group, PoolError};
@@ -90,7 +90,7 @@ pub(crate) fn replay_pool(
 {
     let mut spare = loaded.free.copy(alloc)?;
     take_logged(&mut spare, geometry, &logged);
-    let synced = Contents::of(copy_name(&found.name), loaded.slots);
+    let synced = Contents::of(found.name.copy(), loaded.slots);
     let replayed = replay(alloc, found.uberblock.group, &synced, logged)?;
     Ok(ReplayedPool {
         tree: loaded.tree,

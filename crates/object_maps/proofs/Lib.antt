@@ -15,6 +15,7 @@ pub mod LoadedTrees
 pub mod WalkOrder
 pub mod WalkDamages
 pub mod WalkParts
+pub mod DamageLists
 pub mod HeldTrees
 pub mod JudgedLists
 pub mod ObjectReads

@@ -27,7 +27,7 @@ block_missing image frame kind number pointer e bytes named at not payload opens
 pub there : (image : List ℕ) (frame : Frame) (kind number : ℕ) (pointer : Pointer) (payload : List ℕ) → Opens image frame kind number pointer payload → (pointer.address ≡ 0) → ⊥
 there image frame kind number pointer payload opens zero = let a = opens.in_area in omega (arith, a.2, zero)
 
-same_payload : (image : List ℕ) (frame : Frame) (kind number : ℕ) (pointer : Pointer) (a b : List ℕ) → Opens image frame kind number pointer a → Opens image frame kind number pointer b → a ≡ b
+pub same_payload : (image : List ℕ) (frame : Frame) (kind number : ℕ) (pointer : Pointer) (a b : List ℕ) → Opens image frame kind number pointer a → Opens image frame kind number pointer b → a ≡ b
 same_payload image frame kind number pointer a b x y = sym x.block.payload_is ∙ y.block.payload_is
 
 -- what a block's pointer gives of the places below it
@@ -76,7 +76,7 @@ padded-at payload past count long is zeros = go (cases_lt past 4032)
         let none : record_size - past ≡ 0 = omega (arith, high) in
         drop_all past payload (omega (arith, long, high)) ∙ sym (ap (λ (k : ℕ). replicate k 0) none)
 
-padded-back : (payload : List ℕ) (past count : ℕ) → length payload ≡ 4032 → count ≡ min past 4032 → drop past payload ≡ replicate (record_size - past) 0
+pub padded-back : (payload : List ℕ) (past count : ℕ) → length payload ≡ 4032 → count ≡ min past 4032 → drop past payload ≡ replicate (record_size - past) 0
     → drop count payload ≡ replicate (length (drop count payload)) 0
 padded-back payload past count long is padded = go (cases_lt past 4032)
   where

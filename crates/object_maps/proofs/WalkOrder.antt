@@ -20,7 +20,7 @@ index_within d k low =
     let m : (entry_count * d + k) % entry_count ≡ k = omega arith in
     rw (q, m) refl
 
-same-object : (n m r s : ℕ) → r < 85 → s < 85 → walk_index_of_indirect n + r ≡ walk_index_of_indirect m + s → (n ≡ m) × (r ≡ s)
+pub same-object : (n m r s : ℕ) → r < 85 → s < 85 → walk_index_of_indirect n + r ≡ walk_index_of_indirect m + s → (n ≡ m) × (r ≡ s)
 same-object n m r s hr hs e =
     let t = parts-told (n / 63) (n % 63) (m / 63) (m % 63) r s (omega arith) (omega arith) hr hs (omega (arith, e)) in
     (omega (arith, t.0, t.1.0), t.1.1)

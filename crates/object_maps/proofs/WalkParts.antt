@@ -102,7 +102,7 @@ indirect_damage image frame root n size indirect payload e low i there opens not
     formless_damage image frame root (Indirect n) (walk_index_of_indirect n) indirect payload e low refl i.at there opens
     (λ formed. not (λ r within. subst (λ (k : ℕ). IsRecordPointerForm k (record_size * r) (pointer_in payload r)) i.size_is (formed r within))) told
 
-no_entry_pointer : entry_pointer (replicate 64 0) ≡ no_pointer
+pub no_entry_pointer : entry_pointer (replicate 64 0) ≡ no_pointer
 unfolding number_at
 no_entry_pointer = refl
 
@@ -153,7 +153,7 @@ entry_tells image frame root d k e low sound tells =
     tells_behind image frame root (2 + 5356 * d) (2 + 5356 * d + 85 * k) (walk_index_of_indirect (entry_count * d + k)) e (omega arith) (sym (index_within d k low)) sound tells
 
 -- so many objects of a directory that is not there
-objects_none : (image : List ℕ) (frame : Frame) (root : Pointer) (d : ℕ) → d < pointer_count → pointer_of image root (Directory d) ≡ no_pointer → (count : ℕ) → count ≤ entry_count
+pub objects_none : (image : List ℕ) (frame : Frame) (root : Pointer) (d : ℕ) → d < pointer_count → pointer_of image root (Directory d) ≡ no_pointer → (count : ℕ) → count ≤ entry_count
     → AreSound image frame root (2 + 5356 * d) (2 + 5356 * d + 85 * count)
 objects_none image frame root d low none zero most = sound_none image frame root (2 + 5356 * d) (2 + 5356 * d + 85 * 0) (omega arith)
 objects_none image frame root d low none (suc k) most =

@@ -2,6 +2,7 @@
 //! alone. So it is refused as soon as that contract says less.
 
 mod cached;
+mod damages;
 mod judged;
 mod loads;
 mod maps;

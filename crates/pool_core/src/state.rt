@@ -217,8 +217,8 @@ impl<D: SectorDevice> PoolState<D> {
         self.pool.has_one_open(owner)
     }
 
-    /// Whether a lock that the owner holds itself overlaps a range, and not both are of readers. Then only the owner can
-    /// make way for a lock of that range. It takes no memory, and is no step.
+    /// Whether a lock that the owner holds itself overlaps a range, and not both are of readers. Then only the owner
+    /// can make way for a lock of that range. It takes no memory, and is no step.
     pub fn is_blocked_by_own(&self, owner: Owner, range: &ObjectRange, mode: Mode) -> bool
         ensures { result ≡ is_blocked_by_own owner.0 (number_range range.now) mode
             (shown self.now).locks }

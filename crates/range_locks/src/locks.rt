@@ -195,8 +195,8 @@ impl RangeLocks {
         }
     }
 
-    /// Whether a lock that the owner holds itself overlaps a range, and not both are of readers. Then only the owner can
-    /// make way for a lock of that range.
+    /// Whether a lock that the owner holds itself overlaps a range, and not both are of readers. Then only the owner
+    /// can make way for a lock of that range.
     pub fn is_blocked_by_own(&self, owner: Owner, range: &ObjectRange, mode: Mode) -> bool
         ensures { result
             ≡ is_blocked_by_own owner.0 (number_range range.now) mode self.now.locks }

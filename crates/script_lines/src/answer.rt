@@ -3,7 +3,7 @@
 ghost use Rattle.std.specs.Prelude.{◌≡◌, ◌<◌};
 ghost use Rattle.base.specs.formats.Limits.{last_number};
 
-use base::{Bytes, Group, PoolError, PoolName, Reply, Status};
+use base::{Bytes, Group, PoolError, Reply, Status};
 use std::fmt;
 
 /// The answer to a command, one line of text.
@@ -83,7 +83,7 @@ fn write_reply<W: fmt::Write>(reply: &Reply, f: &mut fmt::Formatter<W>) -> fmt::
         Reply::Bytes(bytes) => write_bytes(bytes, f),
         Reply::Length(length) => write!(f, "length {length}"),
         Reply::Digest(digest) => write_digest(digest, f),
-        Reply::Name(name) => write_name(name, f),
+        Reply::Name(name) => write!(f, "name {name}"),
         Reply::Status(status) => write_status(status, f),
         Reply::Opened(group) => write!(f, "open {}", group.0),
         Reply::Quiesced(group) => write!(f, "quiesced {}", group.0),
@@ -124,15 +124,6 @@ fn write_digest<W: fmt::Write>(digest: &[u8; 32], f: &mut fmt::Formatter<W>) -> 
     write!(f, "digest ")?;
     for byte in digest {
         write!(f, "{byte:02x}")?;
-    }
-    Ok(())
-}
-
-// The name, all of whose bytes are ASCII.
-fn write_name<W: fmt::Write>(name: &PoolName, f: &mut fmt::Formatter<W>) -> fmt::Result {
-    write!(f, "name ")?;
-    for byte in name.as_slice() {
-        write!(f, "{}", *byte as char)?;
     }
     Ok(())
 }

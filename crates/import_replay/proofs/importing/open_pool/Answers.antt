@@ -29,16 +29,16 @@ pub returns-in_err-sync_group-clause-views : goal.returns-in_err-sync_group-clau
 returns-in_err-sync_group-clause-views g c = λ keeps.
     let w : ImportWrites = writes_of_next c.args.geometry (fields_of c.args.found.now.uberblock) c.args.moment c.args.next in
     subst (λ (x : Config). KeepsViews (record w { config = x }) c.args.found.now.first (g.D.SectorDevice.disk c.args.device.now) (g.D.SectorDevice.disk c.sync_group.new.device))
-    (c.new-config.ensures ∙ (λ i. record w.config { size = c.size.ensures.size i; name = c.copy_name.ensures.copy i })) (c.sync_group.ensures.views keeps)
+    (c.new-config.ensures ∙ (λ i. record w.config { size = c.size.ensures.size i; name = c.copy.ensures.copy i })) (c.sync_group.ensures.views keeps)
 
 pub returns-clause-views : goal.returns-clause-views
 returns-clause-views g c = λ keeps.
     let w : ImportWrites = writes_of_next c.args.geometry (fields_of c.args.found.now.uberblock) c.args.moment c.args.next in
     subst (λ (x : Config). KeepsViews (record w { config = x }) c.args.found.now.first (g.D.SectorDevice.disk c.args.device.now) (g.D.SectorDevice.disk c.sync_group.new.device))
-    (c.new-config.ensures ∙ (λ i. record w.config { size = c.size.ensures.size i; name = c.copy_name.ensures.copy i })) (c.sync_group.ensures.views keeps)
+    (c.new-config.ensures ∙ (λ i. record w.config { size = c.size.ensures.size i; name = c.copy.ensures.copy i })) (c.sync_group.ensures.views keeps)
 
 pub returns-clause-behind : goal.returns-clause-behind
 returns-clause-behind g c = λ keeps.
     let w : ImportWrites = writes_of_next c.args.geometry (fields_of c.args.found.now.uberblock) c.args.moment c.args.next in
     subst (λ (x : Config). EndsBehind (record w { config = x }) c.args.found.now.first (g.D.SectorDevice.disk c.args.device.now) (g.D.SectorDevice.disk c.sync_group.new.device))
-    (c.new-config.ensures ∙ (λ i. record w.config { size = c.size.ensures.size i; name = c.copy_name.ensures.copy i })) (c.in_ok-sync_group.ensures.behind keeps)
+    (c.new-config.ensures ∙ (λ i. record w.config { size = c.size.ensures.size i; name = c.copy.ensures.copy i })) (c.in_ok-sync_group.ensures.behind keeps)

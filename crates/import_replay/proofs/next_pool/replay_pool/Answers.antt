@@ -20,7 +20,7 @@ returns-clause-replayed c =
     (subst (λ (bs : List LogPiece). BlocksTaken (λ k. list_any (logs_block k) bs) c.in_ok-spare.spare left) c.deref.ensures.value c.take_logged.ensures.taken) in
     record {
       tree_is = refl;
-      name_is = c.of-synced.ensures.name ∙ c.copy_name.ensures.copy;
+      name_is = c.of-synced.ensures.name ∙ c.copy-2.ensures.copy;
       slots_are = ap (λ (v : Vec Slot). v.items) c.of-synced.ensures.slots;
       free = c.requires.free;
       spare = unused-from_taken c.args.loaded.tree chain blocks c.args.loaded.free left c.requires.free taken;

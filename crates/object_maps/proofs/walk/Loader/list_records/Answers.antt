@@ -1,0 +1,40 @@
+use Rattle.std.proofs.Common.{◌+◌, ◌∙◌, ℕ, ap, sym, refl, arith, inl}
+use Rattle.base.specs.disk.Disk.{Disk, bytes_of}
+use Rattle.base.specs.tree.Places.{walk_index_of_indirect}
+use Rattle.base.specs.tree.Places.Place.{Data}
+use Rattle.object_maps.proofs.WalkOrder.{sound_one}
+use Rattle.object_maps.proofs.DamageLists.{damages_then, data_in, no_damages}
+use Rattle.object_maps.proofs.walk.Loader.list_records.Goals as goal
+
+pub loop-index-preserved-then-is_none : goal.loop-index-preserved-then-is_none
+loop-index-preserved-then-is_none g c =
+    let i = c.loop-index.invariant in
+    let here : ℕ = walk_index_of_indirect c.args.number + 1 + c.loop-index.index in
+    record {
+      size = i.size;
+      disk = i.disk;
+      count = i.count;
+      listed = λ keeps image top shows all.
+          damages_then image c.args.self.now.frame.now top (walk_index_of_indirect c.args.number + 1) here here (here + 1) (walk_index_of_indirect c.args.number + 1 + (c.loop-index.index + 1))
+          c.args.damages.now.items c.loop-index.damages.items c.loop-index.damages.items refl (omega arith) (i.listed keeps image top shows all)
+          (no_damages image c.args.self.now.frame.now top here (here + 1) c.loop-index.damages.items (omega arith)
+          (sound_one image c.args.self.now.frame.now top (Data c.args.number c.loop-index.index) here (here + 1) (c.requires.in_range, c.loop-index-test.true) refl refl
+          (inl (all.at c.loop-index.index c.loop-index-test.true ∙ sym c.read_pointer-pointer.ensures ∙ c.if-is_none.ensures.0 refl))));
+    }
+
+pub loop-index-preserved : goal.loop-index-preserved
+loop-index-preserved g c =
+    let i = c.loop-index.invariant in
+    let call = c.in_ok-list_record.ensures in
+    let here : ℕ = walk_index_of_indirect c.args.number + 1 + c.loop-index.index in
+    record {
+      size = call.reads.size ∙ i.size;
+      disk = λ keeps. call.reads.disk keeps ∙ i.disk keeps;
+      count = call.reads.count ∙ i.count;
+      listed = λ keeps image top shows all.
+          damages_then image c.args.self.now.frame.now top (walk_index_of_indirect c.args.number + 1) here here (here + 1) (walk_index_of_indirect c.args.number + 1 + (c.loop-index.index + 1))
+          c.args.damages.now.items c.loop-index.damages.items c.list_record.new.damages.items refl (omega arith) (i.listed keeps image top shows all)
+          (call.listed keeps image top (ap (λ (d : Disk). bytes_of d.now) (i.disk keeps) ∙ shows)
+          (data_in image top c.args.number c.loop-index.index c.args.size c.args.payload.now c.read_pointer-pointer.result c.loop-index-test.true all c.read_pointer-pointer.ensures
+          (λ none. let no = c.if-is_none.ensures.1 none in cc)));
+    }

@@ -1,0 +1,314 @@
+//! All damages of a tree, in the order of its walk (`walk.rt`). What lies below a damaged block isn't read, everything
+//! else is.
+
+ghost use Rattle.std.specs.Prelude.{◌≡◌, ◌≢◌, ℕ, ◌+◌, ◌*◌, ◌<◌, ◌≤◌, List, IfOk, IfErr, OnOk, IsTrue, length};
+ghost use Rattle.base.specs.declared.refused.RefusedCalls.{RefusedCalls};
+ghost use Rattle.base.specs.disk.Calls.{counted, with_refusal};
+ghost use Rattle.base.specs.disk.Disk.{bytes_of};
+ghost use Rattle.base.specs.formats.Fields.{no_pointer, pointer_in};
+ghost use Rattle.base.specs.formats.Geometry.{block_address};
+ghost use Rattle.base.specs.formats.Limits.{max_length, object_count, object_stride, payload_size, pointer_count, record_size};
+ghost use Rattle.base.specs.tree.Damages.{IsPointerForm, IsRecordPointerForm};
+ghost use Rattle.base.specs.tree.Places.{IsPlace, pointer_of, walk_index_of, walk_index_of_indirect};
+ghost use Rattle.base.specs.tree.Places.Place.{Directory, Data};
+ghost use Rattle.device_model.specs.Reading.{OnlyReads};
+ghost use Rattle.object_maps.specs.DamageLists.{AddsDamages, AddsTold, HasDataOf, HasDirectories, IsListRefusal, ListsDamages};
+ghost use Rattle.object_maps.specs.Loaders.{IsEntryPayload, OnWalk};
+ghost use Rattle.object_maps.specs.Loading.{IsLoadRefusal};
+ghost use Rattle.object_maps.specs.Walking.{IsDataOf, IsIndirectOf, IsPayloadOf, directory_index, objects_index};
+
+use crate::tree::RECORD_COUNT;
+use crate::walk::{
+    BlockPlace, Entry, Loader, are_entries, are_records, damaged, have_form, new_buffer,
+    payload_of, read_entry,
+};
+use base::{
+    ENTRY_COUNT, POINTER_COUNT, POINTER_SIZE, Pointer, PoolError, RECORD_SIZE, are_zeros,
+    read_pointer,
+};
+use checked_blocks::{Frame, Kind};
+use device_model::SectorDevice;
+use std::alloc::Global;
+
+/// A block that is damaged, as `PoolError::Damaged` names it.
+#[derive(Clone, Copy, Debug, PartialEq, Eq)]
+pub struct BlockDamage {
+    /// The kind of the block: 2 root, 3 directory, 4 indirect, 5 data, 6 log.
+    pub kind: u64,
+    /// Its byte address on the device.
+    pub address: u64,
+}
+
+/// Lists each damage of the tree under a root pointer, in the order of the walk: the root, then each directory, and for
+/// its entries each indirect block and its records, all rising. What lies below a damaged block isn't read, everything
+/// else is. A tree of which nothing is listed is whole.
+///
+/// # Errors
+/// `Read` if the device refuses a read, `NoMemory`.
+pub fn list_damages<D: SectorDevice>(
+    alloc: Global,
+    device: &mut D,
+    frame: &Frame,
+    root: Pointer,
+) -> Result<Vec<BlockDamage>, PoolError>
+    requires fits { block_address frame.now.blocks ≤ D.size device.old }
+    ensures reads { OnlyReads D.SectorDevice result device.old device.new }
+    ensures cause { IfErr result IsListRefusal }
+
+    // It has those of damaged places, rising, and none below another. Each place is sound, or listed, or lies below one
+    // that is listed.
+    ensures listed { IsTrue D.keeps_model → IfOk result (λ l.
+        ListsDamages (bytes_of (D.disk device.old).now) frame.now root l.items) }
+{
+    let loader = Loader { alloc, frame };
+    let mut damages = Vec::new(alloc);
+    loader.list_tree(device, &root, &mut damages)?;
+    Ok(damages)
+}
+
+// Adds the damage that a refusal tells to a list. Any other refusal is handed on.
+fn add_damage(error: PoolError, damages: &mut Vec<BlockDamage>) -> Result<(), PoolError>
+    requires { IsLoadRefusal error }
+    ensures cause { IfErr result IsListRefusal }
+    ensures count { (calls : RefusedCalls) → counted result calls
+        ≡ with_refusal error calls }
+    ensures added { OnOk result (AddsTold error damages.old.items damages.new.items) }
+{
+    match error {
+        PoolError::Damaged { kind, address } => {
+            damages.push(BlockDamage { kind, address })?;
+            Ok(())
+        }
+        other => Err(other),
+    }
+}
+
+impl Loader<'_> {
+    // Lists the damages of a tree.
+    fn list_tree<D: SectorDevice>(
+        &self,
+        device: &mut D,
+        root: &Pointer,
+        damages: &mut Vec<BlockDamage>,
+    ) -> Result<(), PoolError>
+        requires fits { block_address self.now.frame.now.blocks ≤ D.size device.old }
+        ensures reads { OnlyReads D.SectorDevice result device.old device.new }
+        ensures cause { IfErr result IsListRefusal }
+        ensures listed { IsTrue D.keeps_model → (image : List ℕ)
+            → bytes_of (D.disk device.old).now ≡ image
+            → OnOk result (AddsDamages image self.now.frame.now root.now
+            0 (directory_index pointer_count) damages.old.items damages.new.items) }
+    {
+        if root.is_none() {
+            return Ok(());
+        }
+        let mut buffer = new_buffer();
+        let place = BlockPlace {
+            kind: Kind::Root,
+            number: 0,
+        };
+        if let Err(error) = self.read_block(device, place, root, None, &mut buffer) {
+            return add_damage(error, damages);
+        }
+        let payload = payload_of(&buffer);
+        if !have_form(payload) {
+            return add_damage(damaged(Kind::Root, root), damages);
+        }
+        self.list_directories(device, payload, damages)
+    }
+
+    // Lists the damages of the directories that the root's payload names, and of what lies below them.
+    fn list_directories<D: SectorDevice>(
+        &self,
+        device: &mut D,
+        payload: &[u8],
+        damages: &mut Vec<BlockDamage>,
+    ) -> Result<(), PoolError>
+        requires fits { block_address self.now.frame.now.blocks ≤ D.size device.old }
+        requires payload { length payload.now ≡ payload_size }
+        ensures reads { OnlyReads D.SectorDevice result device.old device.new }
+        ensures cause { IfErr result IsListRefusal }
+        ensures listed { OnWalk D.keeps_model (D.disk device.old) (λ image top.
+            HasDirectories image top payload.now
+            → OnOk result (AddsDamages image self.now.frame.now top
+            1 (directory_index pointer_count) damages.old.items damages.new.items)) }
+    {
+        for index in 0..POINTER_COUNT {
+            let pointer = read_pointer(payload, POINTER_SIZE * index);
+            if pointer.is_none() {
+                continue;
+            }
+            self.list_directory(device, index, &pointer, damages)?;
+        }
+        Ok(())
+    }
+
+    // Lists the damages of the directory of this number and of its objects.
+    fn list_directory<D: SectorDevice>(
+        &self,
+        device: &mut D,
+        directory: usize,
+        pointer: &Pointer,
+        damages: &mut Vec<BlockDamage>,
+    ) -> Result<(), PoolError>
+        requires fits { block_address self.now.frame.now.blocks ≤ D.size device.old }
+        requires in_range { directory < pointer_count }
+        ensures reads { OnlyReads D.SectorDevice result device.old device.new }
+        ensures cause { IfErr result IsListRefusal }
+        ensures listed { OnWalk D.keeps_model (D.disk device.old) (λ image top.
+            pointer_of image top (Directory directory) ≡ pointer.now → pointer.now ≢ no_pointer
+            → OnOk result (AddsDamages image self.now.frame.now top
+            (directory_index directory) (directory_index (directory + 1))
+            damages.old.items damages.new.items)) }
+    {
+        let mut buffer = new_buffer();
+        let place = BlockPlace {
+            kind: Kind::Directory,
+            number: directory as u64,
+        };
+        if let Err(error) = self.read_block(device, place, pointer, None, &mut buffer) {
+            return add_damage(error, damages);
+        }
+        let payload = payload_of(&buffer);
+        if !are_entries(self.frame, payload) {
+            return add_damage(damaged(Kind::Directory, pointer), damages);
+        }
+        self.list_entries(device, directory, payload, damages)
+    }
+
+    // Lists the damages of the objects that the entries of a directory name.
+    fn list_entries<D: SectorDevice>(
+        &self,
+        device: &mut D,
+        directory: usize,
+        payload: &[u8],
+        damages: &mut Vec<BlockDamage>,
+    ) -> Result<(), PoolError>
+        requires fits { block_address self.now.frame.now.blocks ≤ D.size device.old }
+        requires in_range { directory < pointer_count }
+        requires payload { IsEntryPayload self.now.frame.now payload.now }
+        ensures reads { OnlyReads D.SectorDevice result device.old device.new }
+        ensures cause { IfErr result IsListRefusal }
+        ensures listed { OnWalk D.keeps_model (D.disk device.old) (λ image top.
+            IsPayloadOf image self.now.frame.now top directory payload.now
+            → OnOk result (AddsDamages image self.now.frame.now top
+            (objects_index directory) (directory_index (directory + 1))
+            damages.old.items damages.new.items)) }
+    {
+        for index in 0..ENTRY_COUNT {
+            let entry = read_entry(payload, index);
+            if entry.present != 1 {
+                continue;
+            }
+            let number = ENTRY_COUNT * directory + index;
+            self.list_object(device, number, &entry, damages)?;
+        }
+        Ok(())
+    }
+
+    // Lists the damages of the object that an entry names: of its indirect block and of its records.
+    fn list_object<D: SectorDevice>(
+        &self,
+        device: &mut D,
+        number: usize,
+        entry: &Entry,
+        damages: &mut Vec<BlockDamage>,
+    ) -> Result<(), PoolError>
+        requires fits { block_address self.now.frame.now.blocks ≤ D.size device.old }
+        requires in_range { number < object_count }
+        ensures reads { OnlyReads D.SectorDevice result device.old device.new }
+        ensures cause { IfErr result IsListRefusal }
+        ensures listed { OnWalk D.keeps_model (D.disk device.old) (λ image top.
+            IsIndirectOf image top number entry.now.pointer entry.now.length
+            → OnOk result (AddsDamages image self.now.frame.now top
+            (walk_index_of_indirect number) (walk_index_of_indirect number + object_stride)
+            damages.old.items damages.new.items)) }
+    {
+        let pointer = entry.pointer;
+        if pointer.is_none() {
+            return Ok(());
+        }
+        let mut buffer = new_buffer();
+        let place = BlockPlace {
+            kind: Kind::Indirect,
+            number: number as u64,
+        };
+        if let Err(error) = self.read_block(device, place, &pointer, None, &mut buffer) {
+            return add_damage(error, damages);
+        }
+        let payload = payload_of(&buffer);
+        let size = entry.length as usize;
+        if !are_records(payload, size) {
+            return add_damage(damaged(Kind::Indirect, &pointer), damages);
+        }
+        self.list_records(device, number, size, payload, damages)
+    }
+
+    // Lists the damages of the records that an indirect block's payload names.
+    fn list_records<D: SectorDevice>(
+        &self,
+        device: &mut D,
+        number: usize,
+        size: usize,
+        payload: &[u8],
+        damages: &mut Vec<BlockDamage>,
+    ) -> Result<(), PoolError>
+        requires fits { block_address self.now.frame.now.blocks ≤ D.size device.old }
+        requires in_range { number < object_count }
+        requires payload { length payload.now ≡ payload_size }
+        requires records { (r : ℕ) → r < pointer_count
+            → IsRecordPointerForm size (record_size * r) (pointer_in payload.now r) }
+        ensures reads { OnlyReads D.SectorDevice result device.old device.new }
+        ensures cause { IfErr result IsListRefusal }
+        ensures listed { OnWalk D.keeps_model (D.disk device.old) (λ image top.
+            HasDataOf image top number size payload.now
+            → OnOk result (AddsDamages image self.now.frame.now top
+            (walk_index_of_indirect number + 1) (walk_index_of_indirect number + object_stride)
+            damages.old.items damages.new.items)) }
+    {
+        for index in 0..RECORD_COUNT {
+            let pointer = read_pointer(payload, POINTER_SIZE * index);
+            if pointer.is_none() {
+                continue;
+            }
+            self.list_record(device, number, index, &pointer, size, damages)?;
+        }
+        Ok(())
+    }
+
+    // Lists the damage of a record of an object of this length: its block, or a byte past the object's end.
+    fn list_record<D: SectorDevice>(
+        &self,
+        device: &mut D,
+        number: usize,
+        index: usize,
+        pointer: &Pointer,
+        size: usize,
+        damages: &mut Vec<BlockDamage>,
+    ) -> Result<(), PoolError>
+        requires fits { block_address self.now.frame.now.blocks ≤ D.size device.old }
+        requires place { IsPlace (Data number index) }
+        requires within { record_size * index < size }
+        ensures reads { OnlyReads D.SectorDevice result device.old device.new }
+        ensures cause { IfErr result IsListRefusal }
+        ensures listed { OnWalk D.keeps_model (D.disk device.old) (λ image top.
+            IsDataOf image top number index pointer.now size
+            → OnOk result (AddsDamages image self.now.frame.now top
+            (walk_index_of (Data number index)) (walk_index_of (Data number index) + 1)
+            damages.old.items damages.new.items)) }
+    {
+        let mut buffer = new_buffer();
+        let place = BlockPlace {
+            kind: Kind::Data,
+            number: (RECORD_COUNT * number + index) as u64,
+        };
+        if let Err(error) = self.read_block(device, place, pointer, None, &mut buffer) {
+            return add_damage(error, damages);
+        }
+        let count = (size - RECORD_SIZE * index).min(RECORD_SIZE);
+        if !are_zeros(&payload_of(&buffer)[count..]) {
+            return add_damage(damaged(Kind::Data, pointer), damages);
+        }
+        Ok(())
+    }
+}
