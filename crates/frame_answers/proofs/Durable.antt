@@ -91,7 +91,7 @@ module _ {Dev : Type 0} {G : Ghosts Dev} where
       → IfSome (durable_receipt o) (IsEnteredIn new)
   entered_result owner ops (Ok r) o old next new made later is =
       subst (λ (x : Outcome). IfSome (durable_receipt x) (IsEnteredIn new)) (sym is)
-      (∥∥₁_map {B = IsEntered r (state_seen new)} (entered_by owner ops r old next new made later) (λ t. (_, t.1.entry, refl)))
+      (∥∥₁_map {B = IsEntered r (state_seen new)} (entered_by owner ops r old old next new (along_same old old refl) made later) (λ t. (_, t.1.entry, refl)))
   entered_result owner ops (Err e) o old next new made later is = subst (λ (x : Outcome). IfSome (durable_receipt x) (IsEnteredIn new)) (sym is) tt
 
   entered_call : (owner : Owner) (c : Call) (o : Outcome) (old next new : Handle Dev G) → MakesCall owner c o old next → GoesAlong next new → IfSome (durable_receipt o) (IsEnteredIn new)

@@ -32,5 +32,5 @@ module _ {Dev : Type 0} {G : Ghosts Dev} (owner : Owner) (n : ObjectId) (range :
   pub unlocks_refused : (result : Result (List ℕ) PoolError) → Fetches owner n range result old new
       → IfErr result (λ e. MakesAtLast (step.Lock owner n range Reader) error.Busy (reply.Refused e) old new ⊎ AllSteps (Err e))
   unlocks_refused (Ok bytes) t = tt
-  unlocks_refused (Err e) (inl m) = inl m
+  unlocks_refused (Err e) (inl (m, in_time)) = inl m
   unlocks_refused (Err e) (inr t) = inr (all_steps (Err e) t)

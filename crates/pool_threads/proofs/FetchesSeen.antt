@@ -23,7 +23,7 @@ use Rattle.base.proofs.steps.SeenStates.{reads_are_seen}
 use Rattle.device_model.specs.declared.device.SectorDevice.{Ghosts}
 use Rattle.pool_threads.specs.declared.handle.Handle.{Handle}
 use Rattle.pool_threads.specs.Answers.{IsRefusal, MakesAtLast, Sees, state_seen}
-use Rattle.pool_threads.specs.Fetches.{Fetches, IsFetchRefusal, LeavesNoLock, ReadsUnderLock, ShowsSame, reader_step}
+use Rattle.pool_threads.specs.Fetches.{Fetches, IsFetchRefusal, LeavesNoLock, ReadsUnderLock, ShowsSame, WaitsToRead, reader_step}
 use Rattle.pool_threads.specs.Handles.{kin_of}
 use Rattle.pool_threads.proofs.AloneSteps.{Leaves, sound_before, step_at_last, step_at_once}
 use Rattle.pool_threads.proofs.Along.{GoesAlong, along_last, along_made, along_on, along_same, seen_last, seen_made, seen_made_on}
@@ -58,9 +58,10 @@ module _ {Dev : Type 0} {G : Ghosts Dev} (owner : Owner) (n : ObjectId) (range :
   never_busy Own (Err e) old new refused = λ is. absurd (∥∥₁_elim refused (λ (x y : ⊥). absurd x) (λ r. busy_is_ruled owner n range e (state_seen old) (state_seen new) r is))
 
   -- a fetch that was refused its lock, and one that got it
-  pub lock_was_refused : (e : PoolError) (result : Result (List ℕ) PoolError) (old new : Handle Dev G) → IsErrAnd result (λ f. f ≡ e) → MakesAtLast (reader_step owner n range) error.Busy (reply.Refused e) old new → Fetches owner n range result old new
-  lock_was_refused e (Ok bytes) old new is m = absurd is
-  lock_was_refused e (Err f) old new is m = inl (subst (λ (x : PoolError). MakesAtLast (reader_step owner n range) error.Busy (reply.Refused x) old new) (sym is) m)
+  pub lock_was_refused : (e : PoolError) (result : Result (List ℕ) PoolError) (old new : Handle Dev G) → IsErrAnd result (λ f. f ≡ e) → MakesAtLast (reader_step owner n range) error.Busy (reply.Refused e) old new
+      → WaitsToRead owner n range old new → Fetches owner n range result old new
+  lock_was_refused e (Ok bytes) old new is m in_time = absurd is
+  lock_was_refused e (Err f) old new is m in_time = inl (subst (λ (x : PoolError). MakesAtLast (reader_step owner n range) error.Busy (reply.Refused x) old new) (sym is) m, in_time)
 
   pub was_fetched : (result : Result (List ℕ) PoolError) (old new : Handle Dev G) → ReadsUnderLock owner n range result old new → Fetches owner n range result old new
   was_fetched (Ok bytes) old new t = t
@@ -74,7 +75,7 @@ module _ {Dev : Type 0} {G : Ghosts Dev} (owner : Owner) (n : ObjectId) (range :
 
   pub refusals_seen : (result : Result (List ℕ) PoolError) (old new : Handle Dev G) → Fetches owner n range result old new → IfErr result (λ e. Sees (IsFetchRefusal owner n range e) old new)
   refusals_seen (Ok bytes) old new t = tt
-  refusals_seen (Err e) old new (inl m) =
+  refusals_seen (Err e) old new (inl (m, in_time)) =
       ∥∥₁_map {B = IsFetchRefusal owner n range e (state_seen old) (state_seen new)} (seen_last old old new new (along_same old old refl) m (along_same new new refl))
       (λ b. inl (refused_between _ e (state_seen old) (state_seen new) b))
   refusals_seen (Err e) old new (inr t) =
@@ -86,7 +87,7 @@ module _ {Dev : Type 0} {G : Ghosts Dev} (owner : Owner) (n : ObjectId) (range :
 
   pub fetches_along : (result : Result (List ℕ) PoolError) (old new : Handle Dev G) → Fetches owner n range result old new → GoesAlong old new
   fetches_along (Ok bytes) old new t = under_along (Ok bytes) old new t
-  fetches_along (Err e) old new (inl m) = along_last m
+  fetches_along (Err e) old new (inl (m, in_time)) = along_last m
   fetches_along (Err e) old new (inr t) = under_along (Err e) old new t
 
   under_lock : (result : Result (List ℕ) PoolError) (old new : Handle Dev G) → kin_of old ≡ 0 → ReadsUnderLock owner n range result old new → Sees ShowsSame old new
@@ -99,7 +100,7 @@ module _ {Dev : Type 0} {G : Ghosts Dev} (owner : Owner) (n : ObjectId) (range :
 
   pub leaves_no_lock : (result : Result (List ℕ) PoolError) (old new : Handle Dev G) → Fetches owner n range result old new → LeavesNoLock old new
   leaves_no_lock (Ok bytes) old new t only = under_lock (Ok bytes) old new only t
-  leaves_no_lock (Err e) old new (inl m) only =
+  leaves_no_lock (Err e) old new (inl (m, in_time)) only =
       ∥∥₁_map {B = ShowsSame (state_seen old) (state_seen new)} (step_at_last old new (lock_leaves owner n range) only m)
       (λ one. subst (λ (s : State). ShowsSame (state_seen old) s) (sym (lock_refused [] owner n range Reader e (state_seen old) (state_seen new) one)) refl)
   leaves_no_lock (Err e) old new (inr t) only = under_lock (Err e) old new only t

@@ -30,6 +30,7 @@ mod TransactsShort
 mod ForGood
 pub mod PaidSteps
 pub mod TransactsRelease
+pub mod LongWrites
 pub mod OneTurn
 pub mod TransactTurns
 mod Waited
@@ -39,6 +40,7 @@ mod FsyncedAll
 mod TransactLoops
 mod TransactsDurably
 pub mod TransactClients
+pub mod LongWriteClients
 mod Looped
 mod WaitClients
 mod OwnWays

@@ -1,11 +1,12 @@
 -- What callers take from waits that are not in vain: which locks and transactions of their owner there are then.
-use Rattle.std.proofs.Common.{◌≡◌, ◌≢◌, ◌∷◌, [], ◌&&◌, ◌||◌, Bool, true, false, not, ℕ, List, inl, inr, ap, refl, sym, ◌++◌, ◌∙◌}
+use Rattle.std.proofs.Common.{◌≡◌, ◌≢◌, ◌∷◌, [], ◌&&◌, ◌||◌, Bool, true, false, not, ℕ, List, append_assoc, inl, inr, length, ap, refl, sym, ◌++◌, ◌∙◌}
 use Rattle.std.specs.Prelude.{◌==◌, ◌⊎◌, All, Err, IfErr, IfOk, IsTrue, Ok, Result, Some, slice_get}
 use Rattle.std.specs.List.{list_any}
 use Rattle.std.proofs.lemmas.Bool.{and_parts, eq-eqb, eqb-true, false≢true, or_parts}
 use Rattle.std.proofs.lemmas.List.Elements.{All-cons, All-nil, All-weaker}
 use Rattle.base.specs.declared.error.PoolError.{PoolError}
 use Rattle.base.specs.declared.error.PoolError.TheVariants as error
+use Rattle.base.specs.declared.names.ObjectId.{ObjectId}
 use Rattle.base.specs.declared.names.Owner.{Owner}
 use Rattle.base.specs.declared.names.Receipt.{Receipt}
 use Rattle.base.specs.declared.operation.Op.{Op}
@@ -13,15 +14,18 @@ use Rattle.base.specs.declared.operation.Shape.{Shape}
 use Rattle.base.specs.declared.range.Mode.{Mode}
 use Rattle.base.specs.declared.range.Mode.TheVariants.{Reader, Writer}
 use Rattle.base.specs.declared.range.ObjectRange.{ObjectRange}
+use Rattle.base.specs.declared.range.Range.{Range}
 use Rattle.base.specs.history.Plans.{NumberRange, number_range, overlaps}
 use Rattle.base.specs.steps.Groups.{Admission}
 use Rattle.base.specs.steps.Locks.{Grant, is_reader}
+use Rattle.base.specs.steps.Refusals.{object_range}
 use Rattle.base.specs.steps.Shown.{Shown, dirty_total}
 use Rattle.base.proofs.common.KeptLists.{any_found, none_any}
 use Rattle.device_model.specs.declared.device.SectorDevice.{Ghosts}
 use Rattle.pool_tables.specs.BeginTests.{is_above_limit}
 use Rattle.pool_threads.specs.declared.handle.Handle.{Handle}
 use Rattle.pool_threads.specs.Answers.{WaitsWhileNot}
+use Rattle.pool_threads.specs.Fetches.{Fetches, ReadsUnderLock, WaitsToRead}
 use Rattle.pool_threads.specs.Handles.{moment_of, turns_of, view_seen}
 use Rattle.pool_threads.specs.Transacts.{IsEarlierTurn, IsPayingTurn, IsRetried, TransactsOrLacks, is_in_vain, plan_of}
 use Rattle.pool_threads.specs.Vain.{IsInOwnWay, IsThrottledInVain}
@@ -42,14 +46,15 @@ no_share true true free = absurd (false≢true (sym free))
 no_share true false free = absurd (false≢true (sym free))
 no_share false reader free = refl
 
-over_too : (over : Bool) (shared : Bool) → over && shared ≡ true → over ≡ true
-over_too true shared is = refl
-over_too false shared is = absurd (false≢true is)
-
 -- and no reader keeps one from a reader
 writer_of : (mode : Mode) → not (is_reader mode && true) ≡ true → mode ≡ Writer
 writer_of Reader is = absurd (false≢true is)
 writer_of Writer is = refl
+
+-- which is a reader's, if it keeps none away
+reader_of : (mode : Mode) → not (is_reader mode && true) ≡ false → mode ≡ Reader
+reader_of Reader free = refl
+reader_of Writer free = absurd (false≢true (sym free))
 
 later_false : (own blocks : Bool) → own ≡ true → own && blocks ≡ false → blocks ≡ false
 later_false true blocks is free = free
@@ -61,6 +66,13 @@ module _ (owner : ℕ) (r : NumberRange) (locks : List Grant) where
   none_of_own free i g at own =
       no_share (overlaps g.range r) (is_reader g.mode)
       (later_false (g.owner == owner) (overlaps g.range r && not (is_reader g.mode && false)) (eq-eqb g.owner owner own) (none_any (blocks_own owner r Writer) locks i g free at))
+
+  -- none that is a writer's does
+  pub none_of_own_writer : is_blocked_by_own owner r Reader locks ≡ false → (i : ℕ) (g : Grant) → slice_get locks i ≡ Some g → g.owner ≡ owner → overlaps g.range r ≡ true → g.mode ≡ Reader
+  none_of_own_writer free i g at own over =
+      reader_of g.mode
+      (later_false (overlaps g.range r) (not (is_reader g.mode && true)) over
+      (later_false (g.owner == owner) (overlaps g.range r && not (is_reader g.mode && true)) (eq-eqb g.owner owner own) (none_any (blocks_own owner r Reader) locks i g free at)))
 
   -- or one does, which is a writer's if it keeps a reader away
   pub one_of_own : (mode : Mode) → is_blocked_by_own owner r mode locks ≡ true
@@ -101,9 +113,41 @@ module _ {Dev : Type 0} {G : Ghosts Dev} (owner : Owner) (old new : Handle Dev G
         (λ t never. none_of_own owner.0 r (viewed_state t.left).shown.locks (not_true (is_blocked_by_own owner.0 r Writer (viewed_state t.left).shown.locks) never)) w.had w.each,
   )
 
-  second_false : (above one : Bool) → (above || one ≡ true → ⊥) → one ≡ false
-  second_false true one never = absurd (never refl)
-  second_false false one never = not_true one never
+  -- a fetch waits so for its lock, and has three turns then, or one if the lock is refused
+  module _ (n : ObjectId) (range : Range) where
+    abbrev pub LeavesNoOwnWriter : Turn SeenPool → Type 0
+    LeavesNoOwnWriter t = (i : ℕ) (g : Grant) → slice_get (viewed_state t.left).shown.locks i ≡ Some g → g.owner ≡ owner.0 → overlaps g.range (object_range n.0 range.low range.high) ≡ true → g.mode ≡ Reader
+
+    abbrev pub WaitsFirst : Type 0
+    WaitsFirst = (had : List (Turn SeenPool)) × (rest : List (Turn SeenPool)) × (turns_of new ≡ (turns_of old ++ had) ++ rest) × ((length rest ≡ 1) ⊎ (length rest ≡ 3)) × All LeavesNoOwnWriter had
+
+    each_in_time : (at : Handle Dev G) (w : WaitsToRead owner n range old at) → All LeavesNoOwnWriter w.had
+    each_in_time at w =
+        let r : NumberRange = object_range n.0 range.low range.high in
+        All-weaker (λ (t : Turn SeenPool). IsInOwnWay owner r Reader (viewed_state t.left).shown → ⊥) LeavesNoOwnWriter
+        (λ t never. none_of_own_writer owner.0 r (viewed_state t.left).shown.locks (not_true (is_blocked_by_own owner.0 r Reader (viewed_state t.left).shown.locks) never)) w.had w.each
+
+    read_waits : (result : Result (List ℕ) PoolError) → ReadsUnderLock owner n range result old new → WaitsFirst
+    read_waits result t =
+        let w = t.in_time in
+        let before : List (Turn SeenPool) = turns_of old ++ w.had in
+        let reads : Turn SeenPool = turn t.reads.made.took (view_seen t.read) in
+        let unlocks : Turn SeenPool = turn t.unlocks.made.took (view_seen new) in (
+          w.had,
+          w.last ∷ reads ∷ unlocks ∷ [],
+          t.unlocks.made.turn ∙ ap (λ (ts : List (Turn SeenPool)). ts ++ unlocks ∷ []) (t.reads.made.turn ∙ ap (λ (ts : List (Turn SeenPool)). ts ++ reads ∷ []) w.turns ∙ append_assoc before (w.last ∷ []) (reads ∷ []))
+              ∙ append_assoc before (w.last ∷ reads ∷ []) (unlocks ∷ []),
+          inr refl,
+          each_in_time t.locked w,
+        )
+
+    pub fetch_waits : (result : Result (List ℕ) PoolError) → Fetches owner n range result old new → WaitsFirst
+    fetch_waits (Ok bytes) t = read_waits (Ok bytes) t
+    fetch_waits (Err e) (inl (m, w)) = (w.had, w.last ∷ [], w.turns, inl refl, each_in_time new w)
+    fetch_waits (Err e) (inr t) = read_waits (Err e) t
+
+  without_room : (plan : List Shape) (s : Shown) → (IsThrottledInVain owner plan s → ⊥) → has_one_open owner.0 s.transactions ≡ false
+  without_room plan s never = (or_parts (is_above_limit plan s) (has_one_open owner.0 s.transactions) (not_true (is_above_limit plan s || has_one_open owner.0 s.transactions) never)).1
 
   pub begin_waits : (plan : List Shape) → WaitsWhileNot (IsThrottledInVain owner plan) old new → Waits LeavesNoneOpen
   begin_waits plan w = (
@@ -111,7 +155,7 @@ module _ {Dev : Type 0} {G : Ghosts Dev} (owner : Owner) (old new : Handle Dev G
     w.last,
     w.turns,
     All-weaker (λ (t : Turn SeenPool). IsThrottledInVain owner plan (viewed_state t.left).shown → ⊥) LeavesNoneOpen
-        (λ t never. none_open owner.0 (viewed_state t.left).shown.transactions (second_false (is_above_limit plan (viewed_state t.left).shown) (has_one_open owner.0 (viewed_state t.left).shown.transactions) never)) w.had w.each,
+        (λ t never. none_open owner.0 (viewed_state t.left).shown.transactions (without_room plan (viewed_state t.left).shown never)) w.had w.each,
   )
 
   -- a turn of a transaction that is made again
@@ -138,15 +182,11 @@ module _ {Dev : Type 0} {G : Ghosts Dev} (owner : Owner) (old new : Handle Dev G
         is_so : (f : PoolError) → e ≡ f → is_in_vain owner (lock_ranges (plan_of ops)) (plan_of ops) f (viewed_state t.left).shown ≡ false
         is_so f is = ap (λ (x : PoolError). is_in_vain owner (lock_ranges (plan_of ops)) (plan_of ops) x (viewed_state t.left).shown) (sym is) ∙ may
 
-        none_in : (room one : Bool) → room || one ≡ false → one ≡ false
-        none_in true one free = absurd (false≢true (sym free))
-        none_in false one free = free
-
         by : (e ≡ error.Busy) ⊎ ((e ≡ error.Throttled) ⊎ (e ≡ error.NoSpace))
             → ((i : ℕ) (g : Grant) → slice_get (viewed_state t.left).shown.locks i ≡ Some g → g.owner ≡ owner.0 → All (λ (r : ObjectRange). overlaps g.range (number_range r) ≡ false) (lock_ranges (plan_of ops))) ⊎ LeavesNoneOpen t
         by (inl busy) = inl (none_in_way (viewed_state t.left).shown (lock_ranges (plan_of ops)) (is_so error.Busy busy))
-        by (inr (inl throttled)) = inr (none_open owner.0 (viewed_state t.left).shown.transactions (none_in (is_above_limit (plan_of ops) (viewed_state t.left).shown) (has_one_open owner.0 (viewed_state t.left).shown.transactions) (is_so error.Throttled throttled)))
-        by (inr (inr short)) = inr (none_open owner.0 (viewed_state t.left).shown.transactions (none_in (dirty_total (viewed_state t.left).shown == 0) (has_one_open owner.0 (viewed_state t.left).shown.transactions) (is_so error.NoSpace short)))
+        by (inr (inl throttled)) = inr (none_open owner.0 (viewed_state t.left).shown.transactions (or_parts (is_above_limit (plan_of ops) (viewed_state t.left).shown) (has_one_open owner.0 (viewed_state t.left).shown.transactions) (is_so error.Throttled throttled)).1)
+        by (inr (inr short)) = inr (none_open owner.0 (viewed_state t.left).shown.transactions (or_parts (dirty_total (viewed_state t.left).shown == 0) (has_one_open owner.0 (viewed_state t.left).shown.transactions) (is_so error.NoSpace short)).1)
 
     pub transact_waits : (result : Result Receipt PoolError) → TransactsOrLacks owner ops result old new
         → IfOk result (λ r. (tries : List (Turn SeenPool)) × (took : SeenPool) × (turns_of new ≡ (turns_of old ++ tries) ++ turn took (view_seen new) ∷ []) × All EndsNoOwnWait tries)

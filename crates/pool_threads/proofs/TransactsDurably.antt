@@ -1,5 +1,5 @@
 -- A transaction, and then the wait for it.
-use Rattle.std.proofs.Common.{List}
+use Rattle.std.proofs.Common.{List, refl}
 use Rattle.std.specs.Prelude.{IfOk, Ok, Err, Option, Result}
 use Rattle.base.specs.declared.error.PoolError.{PoolError}
 use Rattle.base.specs.declared.names.Owner.{Owner}
@@ -11,7 +11,7 @@ use Rattle.pool_threads.specs.Answers.{Sees}
 use Rattle.pool_threads.specs.Transacts.{IsTransacted, TransactsDurably}
 use Rattle.pool_threads.specs.Views.{grows_onward}
 use Rattle.pool_threads.specs.Waits.{WaitsUntil}
-use Rattle.pool_threads.proofs.Along.{GoesAlong}
+use Rattle.pool_threads.proofs.Along.{GoesAlong, along_same}
 use Rattle.pool_threads.proofs.TransactsSeen.{entered_by}
 use Rattle.pool_threads.proofs.Waited.{whole_wait}
 
@@ -23,5 +23,5 @@ module _ {Dev : Type 0} {G : Ghosts Dev} where
 
   module _ (owner : Owner) (ops : List Op) where
     pub durably_entered : (result : Result Receipt (PoolError × Option Receipt)) (old new : Handle Dev G) → TransactsDurably owner ops result old new → IfOk result (λ r. Sees (IsTransacted ops r) old new)
-    durably_entered (Ok r) old new t = entered_by owner ops r old t.done new t.transacts (along_waits r (Ok tt) t.done new t.waits)
+    durably_entered (Ok r) old new t = entered_by owner ops r old old t.done new (along_same old old refl) t.transacts (along_waits r (Ok tt) t.done new t.waits)
     durably_entered (Err e) old new t = tt

@@ -2,7 +2,7 @@
 use Rattle.std.proofs.Common.{◌≡◌, ℕ, ◌+◌, ◌++◌, ◌∷◌, [], List, append-nil, append_assoc, inl, inr, refl, sym, ap, subst, ◌∙◌}
 use Rattle.std.specs.Prelude.{◌⊎◌, false, IsTrue, Result, Ok, Err, Some}
 use Rattle.std.proofs.Math.Logic.{∥∥₁_map, ∥∥₁_elim, ∥∥₁_prop}
-use Rattle.std.proofs.lemmas.List.Elements.{All-head, All-nil, All-push, All-tail, All-weaker}
+use Rattle.std.proofs.lemmas.List.Elements.{All-append, All-head, All-nil, All-push, All-tail, All-weaker}
 use Rattle.base.specs.declared.error.PoolError.{PoolError}
 use Rattle.base.specs.declared.names.LockId.{LockId}
 use Rattle.base.specs.declared.names.Owner.{Owner}
@@ -26,7 +26,7 @@ use Rattle.pool_threads.specs.Views.{SeenPool, viewed_state}
 use Rattle.pool_threads.proofs.PaidSteps.{payment_releases, released_on, released_same}
 use Rattle.pool_threads.proofs.Released.{AreBelow, HasLocked, Holds, KeepsLocks, all_released, begin_refused, holds_then, keeps_committed, keeps_given_up, keeps_same, lock_refused, none_held, none_locked, one_locked, unlocked_once}
 use Rattle.word_lock.specs.declared.rule.Turn.{Turn}
-use Rattle.word_lock.specs.Seats.{seen, turns}
+use Rattle.word_lock.specs.Seats.{HasMetNone, seen, turns}
 use Rattle.word_lock.specs.Turns.{turn}
 
 -- a turn between these views leaves them
@@ -134,6 +134,17 @@ module _ {Dev : Type 0} {G : Ghosts Dev} where
     each = All-nil (λ (u : Turn SeenPool). Releases u.took u.left);
     alone = λ only. ∣ record { locks = refl; transactions = refl } ∣₁;
   })
+
+  -- nor is it by two calls, one after the other
+  pub nothing_left_on : (old now new : Handle Dev G) → HasMetNone old.seat now.seat → LeavesNothing old now → LeavesNothing now new → LeavesNothing old new
+  nothing_left_on old now new met first later = record {
+    had = first.had ++ later.had;
+    turns = later.turns ∙ ap (λ (ts : List (Turn SeenPool)). ts ++ later.had) first.turns ∙ append_assoc (turns old.seat) first.had later.had;
+    each = All-append (λ (u : Turn SeenPool). Releases u.took u.left) first.had later.had first.each later.each;
+    alone = λ only.
+        ∥∥₁_elim (first.alone only) ∥∥₁_prop (λ before.
+        ∥∥₁_map {B = AreReleased (state_seen old) (state_seen new)} (later.alone (met.0 ∙ only)) (λ after. released_on (state_seen old) (state_seen now) (state_seen new) before after));
+  }
 
   module _ (owner : Owner) (ranges : List ObjectRange) (plan : List Shape) (ops : List Op) (result : Result Receipt PoolError) (old new : Handle Dev G) (u : TransactsAtLast owner ranges plan ops result old new) where
     before : ReleasesInEach u.made.had

@@ -149,9 +149,10 @@ module _ {Dev : Type 0} {G : Ghosts Dev} (owner : Owner) (ranges : List ObjectRa
     met_none = u.made.met_none;
   }
 
-  -- an entry that is seen, also after what comes later
-  at_last_entered : (r : Receipt) (old done new : Handle Dev G) → TransactsAtLast owner ranges plan ops (Ok r) old done → GoesAlong done new → Sees (IsTransacted ops r) old new
-  at_last_entered r old done new u later = entered_in (IsTrue G.keeps_model) owner ranges plan ops r (seen old.seat) u.made.took (seen done.seat) (seen new.seat) u.made.onward u.made.made later.onward
+  -- an entry that is seen, also after what came before and after what comes later
+  at_last_entered : (r : Receipt) (old now done new : Handle Dev G) → GoesAlong old now → TransactsAtLast owner ranges plan ops (Ok r) now done → GoesAlong done new → Sees (IsTransacted ops r) old new
+  at_last_entered r old now done new earlier u later =
+      entered_in (IsTrue G.keeps_model) owner ranges plan ops r (seen old.seat) u.made.took (seen done.seat) (seen new.seat) (grows_onward (IsTrue G.keeps_model) (seen old.seat) (seen now.seat) u.made.took earlier.onward u.made.onward) u.made.made later.onward
 
   at_last_refused : (e : PoolError) (old new : Handle Dev G) → TransactsAtLast owner ranges plan ops (Err e) old new → Sees (IsRefusedAtLast owner ranges plan ops (moment_of old) e) old new
   at_last_refused e old new u = by u.made.made
@@ -165,13 +166,18 @@ module _ {Dev : Type 0} {G : Ghosts Dev} (owner : Owner) (ranges : List ObjectRa
           (λ refused. inr (inr (inr (group, refused))))
 
   pub at_last_seen : (result : Result Receipt PoolError) (old new : Handle Dev G) → TransactsAtLast owner ranges plan ops result old new → IfOk result (λ r. Sees (IsTransacted ops r) old new)
-  at_last_seen (Ok r) old new u = at_last_entered r old new new u (along_same new new refl)
+  at_last_seen (Ok r) old new u = at_last_entered r old old new new (along_same old old refl) u (along_same new new refl)
   at_last_seen (Err e) old new u = tt
 
 module _ {Dev : Type 0} {G : Ghosts Dev} (owner : Owner) (ops : List Op) where
-  pub entered_by : (r : Receipt) (old done new : Handle Dev G) → TransactsOrLacks owner ops (Ok r) old done → GoesAlong done new → Sees (IsTransacted ops r) old new
-  entered_by r old done new (inl u) later = at_last_entered owner (lock_ranges (plan_of ops)) (plan_of ops) ops r old done new u later
-  entered_by r old done new (inr (lacks, same)) later = absurd (let no_way : Ok r ≡ Err error.NoMemory = lacks in cc)
+  pub entered_by : (r : Receipt) (old now done new : Handle Dev G) → GoesAlong old now → TransactsOrLacks owner ops (Ok r) now done → GoesAlong done new → Sees (IsTransacted ops r) old new
+  entered_by r old now done new earlier (inl u) later = at_last_entered owner (lock_ranges (plan_of ops)) (plan_of ops) ops r old now done new earlier u later
+  entered_by r old now done new earlier (inr (lacks, same)) later = absurd (let no_way : Ok r ≡ Err error.NoMemory = lacks in cc)
+
+  -- a transaction goes along, whatever its result is
+  pub transact_along : (result : Result Receipt PoolError) (old new : Handle Dev G) → TransactsOrLacks owner ops result old new → GoesAlong old new
+  transact_along result old new (inl u) = at_last_along owner (lock_ranges (plan_of ops)) (plan_of ops) ops result old new u
+  transact_along result old new (inr (lacks, same)) = along_same old new same
 
   pub refusals_seen : (result : Result Receipt PoolError) (old new : Handle Dev G) → Transacts owner ops result old new → IfErr result (λ e. (e ≡ error.NoMemory) ⊎ Sees (IsTransactRefusal (moment_of old) owner ops e) old new)
   refusals_seen (Ok r) old new u = tt

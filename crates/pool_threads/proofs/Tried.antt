@@ -1,5 +1,5 @@
 -- Turns of a handle, one after another, and one at last: tries that are refused, and then a step.
-use Rattle.std.proofs.Common.{◌≡◌, ◌++◌, ◌∷◌, [], List, append_assoc, refl, sym, ap, subst, ◌∙◌}
+use Rattle.std.proofs.Common.{◌≡◌, ◌++◌, ◌∷◌, [], List, append_assoc, refl, sym, ap, ◌∙◌}
 use Rattle.std.proofs.lemmas.List.{append-nil}
 use Rattle.std.proofs.lemmas.List.Elements.{All-nil, All-push}
 use Rattle.std.specs.Prelude.{IsTrue, IfErr, IfOk, Result, Ok, Err}
@@ -7,18 +7,16 @@ use Rattle.std.proofs.Math.Logic.{∥∥₁_map}
 use Rattle.base.specs.declared.error.PoolError.{PoolError}
 use Rattle.base.specs.declared.step.Step as declared_step
 use Rattle.base.specs.declared.step.Reply as declared_reply
-use Rattle.base.specs.declared.step.Reply.TheVariants as reply
 use Rattle.base.specs.steps.Runs.{reply_of}
 use Rattle.base.specs.steps.Seen.{IsMadeBetween}
 use Rattle.base.specs.steps.Steps.{State}
 use Rattle.device_model.specs.declared.device.SectorDevice.{Ghosts}
 use Rattle.pool_threads.specs.declared.handle.Handle.{Handle}
-use Rattle.pool_threads.specs.Answers.{IsRefusal, Makes, MakesAtLast, Sees, Takes, TakesAtLast, TakesOne, Tries, state_seen}
+use Rattle.pool_threads.specs.Answers.{IsRefusal, MakesAtLast, Sees, Takes, TakesAtLast, TakesOne, state_seen}
 use Rattle.pool_threads.specs.Handles.{StaysInPool}
 use Rattle.pool_threads.specs.Views.{GrowsTo, SeenPool, grows_onward, grows_same}
 use Rattle.pool_threads.proofs.Answered.{between, refused_between}
 use Rattle.pool_threads.proofs.Made.{met_none_on}
-use Rattle.pool_threads.proofs.Turned.{grows_by_one}
 use Rattle.pool_threads.specs.Turns.{AreUnbroken}
 use Rattle.word_lock.specs.declared.rule.Turn.{Turn}
 use Rattle.word_lock.specs.Seats.{seen, turns}
@@ -74,14 +72,6 @@ module _ {Dev : Type 0} {G : Ghosts Dev} (P : Turn SeenPool → Type 0) where
     }
 
 module _ {Dev : Type 0} {G : Ghosts Dev} (s : declared_step.Step) (e : PoolError) where
-  one_more_try : {old now next : Handle Dev G} → Tries s e old now → Makes s (reply.Refused e) now next → Tries s e old next
-  one_more_try t m = one_more_turn _ t m (grows_by_one _ _ _ _ _ _ refl m.made.made)
-
-  -- a call whose answer is that refusal is one more try
-  pub refused_again : {A : Type 0} (make : A → declared_reply.Reply) {old now next : Handle Dev G} (x : Result A PoolError) → x ≡ Err e → Tries s e old now → Makes s (reply_of make x) now next
-      → Tries s e old next
-  refused_again {A} make {old} {now} {next} x is t m = one_more_try t (subst (λ (y : Result A PoolError). Makes s (reply_of make y) now next) is m)
-
   module _ {old new : Handle Dev G} where
     last_between : {r : declared_reply.Reply} → MakesAtLast s e r old new → Sees (IsMadeBetween ⊥ s r) old new
     last_between m = between _ _ _ _ _ _ m.made.onward m.made.made

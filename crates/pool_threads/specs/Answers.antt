@@ -52,10 +52,6 @@ module _ {Dev : Type 0} {G : Ghosts Dev} where
   abbrev pub Makes : declared_step.Step → declared_reply.Reply → Handle Dev G → Handle Dev G → Type 0
   Makes s r = TakesOne (IsStepTurn (IsTrue G.keeps_model) s r)
 
-  -- so far the handle only tried this step, and was refused so each time
-  abbrev pub Tries : declared_step.Step → PoolError → Handle Dev G → Handle Dev G → Type 0
-  Tries s e = Takes (IsStepTurn (IsTrue G.keeps_model) s (reply.Refused e))
-
   -- the handle made this step with this reply, after turns in which it was refused so, and in no other turn
   abbrev pub MakesAtLast : declared_step.Step → PoolError → declared_reply.Reply → Handle Dev G → Handle Dev G → Type 0
   MakesAtLast s e r = TakesAtLast (IsStepTurn (IsTrue G.keeps_model) s (reply.Refused e)) (IsStepTurn (IsTrue G.keeps_model) s r)

@@ -8,6 +8,7 @@ pub mod Serves
 pub mod Waits
 pub mod Vain
 pub mod Transacts
+pub mod LongWrites
 pub mod Fetches
 pub mod Objects
 pub mod Loops

@@ -118,11 +118,12 @@ IsRetried (r ∷ rs) e = (e ≡ error.Busy) ⊎ IsWantOfRoom e
 
 -- whether a lock that the owner holds itself overlaps one of these ranges
 abbrev pub is_in_own_way : Owner → List ObjectRange → Shown → Bool
-is_in_own_way owner ranges s = list_any (λ (r : ObjectRange). is_blocked_by_own owner.0 (number_range r) Writer s.locks) ranges
+is_in_own_way owner ranges s =
+    list_any (λ (r : ObjectRange). is_blocked_by_own owner.0 (number_range r) Writer s.locks) ranges
 
--- Whether a transaction that was refused so waits in vain. Its owner holds a lock on a range of it, or has a transaction
--- open, which only the owner itself ends. Or no sync makes room: the plan's charge alone is above the dirty limit, or
--- there is no space and no transaction is unsynced.
+-- Whether a transaction that was refused so waits in vain. Its owner holds a lock on a range of it, or has a
+-- transaction open, which only the owner itself ends. Or no sync makes room: the plan's charge alone is above the dirty
+-- limit, or there is no space and no transaction is unsynced.
 abbrev pub is_in_vain : Owner → List ObjectRange → List Shape → PoolError → Shown → Bool
 is_in_vain owner ranges plan error.Busy s = is_in_own_way owner ranges s
 is_in_vain owner ranges plan error.Throttled s = is_above_limit plan s || has_one_open owner.0 s.transactions

@@ -107,7 +107,8 @@ impl<'p, D: SectorDevice> Handle<'p, D> {
     /// while it is refused `Busy`, but doesn't wait for its own owner, as `lock`.
     ///
     /// # Errors
-    /// Those of `PoolState::lock_append`; `Busy` only if the owner holds a lock itself that overlaps the range (`busy`).
+    /// Those of `PoolState::lock_append`; `Busy` only if the owner holds a lock itself that overlaps the range
+    /// (`busy`).
     pub fn lock_append<'a, 'b, W: Wait>(
         &'a mut self,
         rt: &'b W,

@@ -4,6 +4,7 @@
 mod answers;
 mod fetches;
 mod in_time;
+mod long_writes;
 mod pools;
 mod transacts;
 mod waits;

@@ -29,7 +29,7 @@ impl<'p, D: SectorDevice> Handle<'p, D> {
     ///
     /// # Errors
     /// Those of `PoolState::lock`; `Busy` only if the owner holds a writer's lock itself that overlaps the range
-    /// (`busy`). Then those of `PoolState::read`.
+    /// (`busy`), and at once then (`made`). Then those of `PoolState::read`.
     pub fn fetch<'a, 'b, W: Wait>(
         &'a mut self,
         rt: &'b W,

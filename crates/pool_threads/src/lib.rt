@@ -6,9 +6,9 @@
 //!
 //! [`Pool::open`] opens the pool on a device, and [`Pool::handle`] gives each thread a [`Handle`]. `transact` of a
 //! handle makes a whole transaction in one turn, and `transact_durably` returns once no crash loses it.
-//! `transact_locked` makes one under the caller's locks. `fetch` reads a range under a lock. Its other calls are single
-//! steps, as those of `PoolState` in `pool_core`; `lock` and `begin` wait for what others hold. When no handle is left,
-//! [`Pool::finish`] syncs the pool and gives the device back.
+//! `transact_locked` makes one under the caller's locks, and `write_long` makes several for one write. `fetch` reads a
+//! range under a lock. Its other calls are single steps, as those of `PoolState` in `pool_core`; `lock` and `begin`
+//! wait for what others hold. When no handle is left, [`Pool::finish`] syncs the pool and gives the device back.
 //!
 //! As each step is made under the pool's lock, other threads wait for a write or a flush.
 //!
@@ -53,6 +53,7 @@ mod fsync_all;
 mod handle;
 mod laws;
 mod limited;
+mod long_writes;
 mod loops;
 mod objects;
 mod one_turn;
@@ -67,6 +68,7 @@ mod turn;
 mod waits;
 
 pub use handle::Handle;
+pub use long_writes::PIECE_SIZE;
 pub use opened::Opened;
 pub use pool::Pool;
 

@@ -7,7 +7,7 @@ ghost use Rattle.base.specs.declared.step.Step.TheVariants as step;
 ghost use Rattle.base.specs.steps.Refusals.{object_range};
 ghost use Rattle.base.specs.steps.Runs.{reply_of};
 ghost use Rattle.base.specs.steps.Seen.{IsGranted};
-ghost use Rattle.pool_threads.specs.Answers.{IsRefusal, MakesAtLast, Sees, state_seen};
+ghost use Rattle.pool_threads.specs.Answers.{IsRefusal, MakesAtLast, Sees, WaitsWhileNot, state_seen};
 ghost use Rattle.pool_threads.specs.Handles.{TakesAtMost, TakesSoMany, tries_within};
 ghost use Rattle.pool_threads.specs.Vain.{IsInOwnWay};
 
@@ -31,8 +31,8 @@ impl<'p, D: SectorDevice> Handle<'p, D> {
     /// for which other threads have the pool.
     ///
     /// # Errors
-    /// Those of `PoolState::lock`; `Busy` only after the last try, or at once if the owner holds a lock itself that is in
-    /// the way (`patient`).
+    /// Those of `PoolState::lock`; `Busy` only after the last try, or at once if the owner holds a lock itself that is
+    /// in the way (`patient`, `in_time`).
     pub fn lock_within<'a, 'b, W: Wait>(
         &'a mut self,
         rt: &'b W,
@@ -48,6 +48,8 @@ impl<'p, D: SectorDevice> Handle<'p, D> {
             (object_range object.0 range.low range.high) mode id.0) self.old self.new) }
         ensures refused { IfErr result (λ e. Sees
             (IsRefusal (step.Lock owner object range mode) e) self.old self.new) }
+        ensures in_time { WaitsWhileNot (IsInOwnWay owner
+            (object_range object.0 range.low range.high) mode) self.old self.new }
         ensures limited { TakesAtMost (tries_within (as_nanos limit)) self.old self.new }
         ensures patient { IfErr result (λ e. e ≡ error.Busy → IsInOwnWay owner
             (object_range object.0 range.low range.high) mode (state_seen self.new).shown
@@ -71,6 +73,7 @@ impl<'p, D: SectorDevice> Handle<'p, D> {
     ) -> Result<C::Answer, PoolError>
         ensures made { MakesAtLast (C.step call) C.retried (reply_of C.reply result)
             self.old self.new }
+        ensures in_time { WaitsWhileNot (C.is_in_vain call) self.old self.new }
         ensures limited { TakesAtMost (naps + 1) self.old self.new }
         ensures patient { IfErr result (λ e. e ≡ C.retried
             → C.is_in_vain call (state_seen self.new).shown

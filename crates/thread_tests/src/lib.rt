@@ -18,6 +18,8 @@ mod load;
 #[cfg(test)]
 mod lock_calls;
 #[cfg(test)]
+mod long_writes;
+#[cfg(test)]
 mod own_ways;
 #[cfg(test)]
 mod replay;

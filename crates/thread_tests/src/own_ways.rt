@@ -47,8 +47,8 @@ fn ask_for_a_range<W: Wait>(
     ])
 }
 
-// What a begin and two transactions return, one of them under a lock, whose owner has a transaction open that is charged
-// all that may be dirty.
+// What a begin and two transactions return, one of them under a lock, whose owner has a transaction open that is
+// charged all that may be dirty.
 fn ask_for_room<W: Wait>(
     rt: &W,
     alloc: Global,

@@ -1,7 +1,7 @@
 //! What callers rest on of calls that wait: none waits for its own owner.
-ghost use Rattle.std.specs.Prelude.{ℕ, ◌≡◌, ◌≢◌, ◌⊎◌, ◌++◌, ◌∷◌, [], All, IfErr, IfOk, IsTrue, List, Some, false, slice_get, true};
+ghost use Rattle.std.specs.Prelude.{ℕ, ◌≡◌, ◌≢◌, ◌⊎◌, ◌++◌, ◌∷◌, [], All, IfErr, IfOk, IsTrue, List, Some, false, length, slice_get, true};
 ghost use Rattle.base.specs.declared.error.PoolError.{PoolError};
-ghost use Rattle.base.specs.declared.range.Mode.TheVariants.{Writer};
+ghost use Rattle.base.specs.declared.range.Mode.TheVariants.{Reader, Writer};
 ghost use Rattle.base.specs.history.Plans.{number_range, overlaps};
 ghost use Rattle.base.specs.steps.Groups.{Admission};
 ghost use Rattle.base.specs.steps.Locks.{Grant};
@@ -21,6 +21,7 @@ use base::{
 };
 use device_model::SectorDevice;
 use std::sync::Wait;
+use std::time::Duration;
 
 // Each turn but the last left no lock of its owner that overlaps the range.
 fn a_lock_waits_for_other_owners_alone<D: SectorDevice, W: Wait>(
@@ -35,6 +36,22 @@ fn a_lock_waits_for_other_owners_alone<D: SectorDevice, W: Wait>(
         → overlaps g.range (object_range 5 range.low range.high) ≡ false) had }
 {
     handle.lock(rt, Owner(3), ObjectId(5), range, Mode::Writer)
+}
+
+// So does one with a limit: it doesn't use it up beside its own lock.
+fn a_lock_with_a_limit_waits_for_other_owners_alone<D: SectorDevice, W: Wait>(
+    rt: &W,
+    handle: &mut Handle<'_, D>,
+    range: Range,
+    limit: Duration,
+) -> Result<LockId, PoolError>
+    ensures { (had : List (Turn SeenPool)) × (last : Turn SeenPool)
+        × (turns_of handle.new ≡ (turns_of handle.old ++ had) ++ last ∷ [])
+        × All (λ t. (i : ℕ) (g : Grant)
+        → slice_get (viewed_state t.left).shown.locks i ≡ Some g → g.owner ≡ 3
+        → overlaps g.range (object_range 5 range.low range.high) ≡ false) had }
+{
+    handle.lock_within(rt, Owner(3), ObjectId(5), range, Mode::Writer, limit)
 }
 
 fn a_lock_is_refused_busy_by_its_own_owner_alone<D: SectorDevice, W: Wait>(
@@ -58,6 +75,23 @@ fn so_is_an_append_lock<D: SectorDevice, W: Wait>(
         × (overlaps g.range (append_range 5 (state_seen handle.new).shown) ≡ true)) }
 {
     handle.lock_append(rt, Owner(3), ObjectId(5))
+}
+
+// Each turn before the one that locks its range left no writer's lock of its owner that overlaps it. From that one on
+// it has three, or that one alone if the lock is refused.
+fn a_fetch_waits_for_other_owners_alone<D: SectorDevice, W: Wait>(
+    rt: &W,
+    handle: &mut Handle<'_, D>,
+    range: Range,
+) -> Result<Bytes, PoolError>
+    ensures { (had : List (Turn SeenPool)) × (rest : List (Turn SeenPool))
+        × (turns_of handle.new ≡ (turns_of handle.old ++ had) ++ rest)
+        × ((length rest ≡ 1) ⊎ (length rest ≡ 3))
+        × All (λ t. (i : ℕ) (g : Grant)
+        → slice_get (viewed_state t.left).shown.locks i ≡ Some g → g.owner ≡ 3
+        → overlaps g.range (object_range 5 range.low range.high) ≡ true → g.mode ≡ Reader) had }
+{
+    handle.fetch(rt, Owner(3), ObjectId(5), range)
 }
 
 // Its lock is a writer's: a reader's lock of its own is in no reader's way.

@@ -1,8 +1,8 @@
-use Rattle.std.proofs.Common.{◌≡◌, ◌<◌, ◌+◌, ◌∷◌, ℕ, [], List, ap, arith, length, subst, sym, ◌∙◌}
+use Rattle.std.proofs.Common.{◌≡◌, ◌<◌, ◌+◌, ℕ, List, ap, arith, length, subst, sym, ◌∙◌}
 use Rattle.std.proofs.lemmas.List.{length_push}
 use Rattle.base.specs.declared.names.ObjectId.{ObjectId}
 use Rattle.pool_core.specs.States.{shown}
-use Rattle.pool_threads.proofs.ListedObjects.{IsListedTo, below_most, length_told, listed_absent, listed_first, listed_full, listed_present, listed_whole, value_of}
+use Rattle.pool_threads.proofs.ListedObjects.{IsListedTo, below_most, length_told, listed_absent, listed_present, value_of}
 use Rattle.pool_threads.proofs.objects.list_objects.Goals as goal
 use Rattle.pool_threads.proofs.objects.list_objects.Goals.{in-Ok, in_default}
 

@@ -1,4 +1,3 @@
-use Rattle.std.proofs.Common.{List, ℕ}
 use Rattle.pool_threads.proofs.FetchClients.{takes_all_steps}
 use Rattle.pool_threads.proofs.clients.fetches.a_fetch_locks_reads_and_unlocks.Goals as goal
 

@@ -1,14 +1,17 @@
 use Rattle.pool_threads.proofs.FetchesSeen.{fetches_along, fetches_seen, leaves_no_lock, lock_was_refused, never_busy, refusals_seen, was_fetched}
 use Rattle.pool_threads.proofs.handle.Handle.fetch.Goals as goal
 
+pub returns-in_err-lock-clause-made : goal.returns-in_err-lock-clause-made
+returns-in_err-lock-clause-made g c = lock_was_refused c.args.owner c.args.object c.args.range c.in_err-lock.field-0.0 c.from_residual.result c.args.self.now c.lock.new.self c.from_residual.ensures.1 c.in_err-lock.ensures.made c.in_err-lock.ensures.in_time
+
 pub returns-in_err-lock-clause-refused : goal.returns-in_err-lock-clause-refused
 returns-in_err-lock-clause-refused g c =
-    let made = lock_was_refused c.args.owner c.args.object c.args.range c.in_err-lock.field-0.0 c.from_residual.result c.args.self.now c.lock.new.self c.from_residual.ensures.1 c.in_err-lock.ensures.made in
+    let made = lock_was_refused c.args.owner c.args.object c.args.range c.in_err-lock.field-0.0 c.from_residual.result c.args.self.now c.lock.new.self c.from_residual.ensures.1 c.in_err-lock.ensures.made c.in_err-lock.ensures.in_time in
     refusals_seen c.args.owner c.args.object c.args.range c.from_residual.result c.args.self.now c.lock.new.self made
 
 pub returns-in_err-lock-clause-released : goal.returns-in_err-lock-clause-released
 returns-in_err-lock-clause-released g c =
-    let made = lock_was_refused c.args.owner c.args.object c.args.range c.in_err-lock.field-0.0 c.from_residual.result c.args.self.now c.lock.new.self c.from_residual.ensures.1 c.in_err-lock.ensures.made in
+    let made = lock_was_refused c.args.owner c.args.object c.args.range c.in_err-lock.field-0.0 c.from_residual.result c.args.self.now c.lock.new.self c.from_residual.ensures.1 c.in_err-lock.ensures.made c.in_err-lock.ensures.in_time in
     leaves_no_lock c.args.owner c.args.object c.args.range c.from_residual.result c.args.self.now c.lock.new.self made
 
 pub returns-clause-made : goal.returns-clause-made
@@ -16,6 +19,7 @@ returns-clause-made g c = was_fetched c.args.owner c.args.object c.args.range c.
   id = c.in_ok-lock.lock;
   locked = c.lock.new.self;
   locks = c.in_ok-lock.ensures.made;
+  in_time = c.in_ok-lock.ensures.in_time;
   read = c.read-bytes.new.self;
   reads = c.read-bytes.ensures.made;
   answer = c.unlock.result;
