@@ -33,7 +33,7 @@ use Rattle.pool_threads.proofs.Along.{GoesAlong, along_made, along_on, along_sam
 use Rattle.pool_threads.proofs.TransactsSeen.{entered_by, transaction_grows}
 use Rattle.transactions.specs.LockRanges.{lock_ranges}
 use Rattle.frame_answers.proofs.Along.{along_syncs, along_transacts}
-use Rattle.commands.specs.Committed.{AreEntered, AreNewEntries, HappensOn, MakesFirst, PutsAsFound, PutsFrom, PutsOn, RemovesOn, SyncsAfter, command_owner, result_after}
+use Rattle.commands.specs.Committed.{AreEntered, AreNewEntries, HappensOn, MakesFirst, PutsAsFound, PutsFrom, PutsOn, RemovesOn, SyncsAfter, SyncsIfMade, command_owner, result_after}
 use Rattle.commands.specs.Puts.{IsStartFor, put_transactions, start_of}
 use Rattle.commands.specs.declared.changes.Put.{Put}
 use Rattle.commands.specs.declared.changes.Start.{Start}
@@ -119,8 +119,8 @@ module _ {Dev : Type 0} {G : Ghosts Dev} where
   entered_first [] count result old new (none, is, same) = subst (λ (k : ℕ). ∥ AreNewEntries ⊥ (take k []) (state_seen old) (state_seen new) ∥₁) (sym none) ∣ tt ∣₁
   entered_first (ops ∷ rest) zero result old new makes = ∣ tt ∣₁
   entered_first (ops ∷ rest) (suc count) result old new (r, next, made, more) =
-      ∥∥₁_elim (entered_by command_owner ops r old next new made (along_first rest count result next new more)) ∥∥₁_prop (λ here.
-      ∥∥₁_elim (entered_by command_owner ops r old next next made (along_same next next refl)) ∥∥₁_prop (λ there.
+      ∥∥₁_elim (entered_by command_owner ops r old old next new (along_same old old refl) made (along_first rest count result next new more)) ∥∥₁_prop (λ here.
+      ∥∥₁_elim (entered_by command_owner ops r old old next next (along_same old old refl) made (along_same next next refl)) ∥∥₁_prop (λ there.
       ∥∥₁_map {B = AreNewEntries ⊥ (ops ∷ take count rest) (state_seen old) (state_seen new)} (entered_first rest count result next new more) (λ others. (
         r.ordinal.0,
         record { group = r.group.0; tx = here.0.0; ops = ops },
@@ -188,7 +188,7 @@ module _ {Dev : Type 0} {G : Ghosts Dev} where
       entered_since (put.is_synced ≡ true) (take put.transactions (put_transactions start n offset bytes)) first old (state_seen new) along (put_entered start n offset bytes put result old new p)
 
   -- if all were committed, they are as many as there are
-  all_counted : (all : List (List Op)) (count : ℕ) (old new : Handle Dev G) → MakesFirst all count (Ok tt) old new → count ≡ length all
+  pub all_counted : (all : List (List Op)) (count : ℕ) (old new : Handle Dev G) → MakesFirst all count (Ok tt) old new → count ≡ length all
   all_counted [] count old new (none, is, same) = none
   all_counted (ops ∷ rest) zero old new (e, is, refused) = absurd (let no_way : Ok tt ≡ Err e = is in cc)
   all_counted (ops ∷ rest) (suc count) old new (r, next, made, more) = let others : count ≡ length rest = all_counted rest count next new more in omega (arith, others)
@@ -220,7 +220,7 @@ module _ {Dev : Type 0} {G : Ghosts Dev} where
 
 -- how a put starts that has found an object, or none
 module _ (offset : Option ℕ) (found : Result ℕ PoolError) where
-  may_start : (start : Start) → start_of offset found ≡ Ok start → IsStartFor offset start
+  pub may_start : (start : Start) → start_of offset found ≡ Ok start → IsStartFor offset start
   may_start start is = by offset found is
     where
       empties : Empties ≢ Keeps
@@ -275,15 +275,27 @@ module _ {Dev : Type 0} (G : Ghosts Dev) (device : Dev) (n : ObjectId) (offset :
           )
 
 -- and so it is of an object that was removed
-pub removal_happens : {Dev : Type 0} (G : Ghosts Dev) (device : Dev) (n : ObjectId) → RemovesOn G device n → HappensOn G device (AreNewEntries (Unit {0}) ((Remove n ∷ []) ∷ []))
-removal_happens G device n o =
-    let r = o.does in
-    let some : 1 ≢ 0 = λ is. absurd (omega (arith, is)) in
-    record {
-      pool = o.pool;
-      opens = o.opens;
-      first = r.first;
-      is_new = r.is_new;
-      last = r.last;
-      sees = entered_and_synced ((Remove n ∷ []) ∷ []) 1 (Ok tt) r.first r.done r.last some r.makes r.group r.syncs;
-    }
+module _ {Dev : Type 0} (G : Ghosts Dev) (device : Dev) (n : ObjectId) where
+  abbrev removal : List (List Op)
+  removal = (Remove n ∷ []) ∷ []
+
+  removed_and_synced : (count : ℕ) (made : Result (Unit {0}) PoolError) (first done last : Handle Dev G) → MakesFirst removal count made first done → SyncsIfMade made (Ok tt) done last
+      → ∥ AreNewEntries (Unit {0}) removal (state_seen first) (state_seen last) ∥₁
+  removed_and_synced count (Err e) first done last makes (is, same) = absurd (let no_way : Ok tt ≡ Err e = is in cc)
+  removed_and_synced zero (Ok ok) first done last (e, is, refused) syncs = absurd (let no_way : Ok tt ≡ Err e = is in cc)
+  removed_and_synced (suc zero) (Ok ok) first done last makes (Ok group, syncs, is) =
+      entered_and_synced removal 1 (Ok ok) first done last (λ none. absurd (omega (arith, none))) makes group syncs
+  removed_and_synced (suc zero) (Ok ok) first done last makes (Err e, syncs, is) = absurd (let no_way : Ok tt ≡ Err e = is in cc)
+  removed_and_synced (suc (suc count)) (Ok ok) first done last (r, next, made, (none, is, same)) syncs = absurd (let no_way : suc count ≡ 0 = none in omega (arith, no_way))
+
+  pub removal_happens : RemovesOn G device n → HappensOn G device (AreNewEntries (Unit {0}) removal)
+  removal_happens o =
+      let r = o.does in
+      record {
+        pool = o.pool;
+        opens = o.opens;
+        first = r.first;
+        is_new = r.is_new;
+        last = r.last;
+        sees = removed_and_synced r.count r.made r.first r.done r.last r.makes r.syncs;
+      }

@@ -1,3 +1,4 @@
+mod AllFindings
 mod Committed
 mod Findings
 mod MountedBytes
@@ -5,3 +6,5 @@ mod OnlyRead
 mod Pieces
 mod PutBytes
 mod PutClients
+mod RefusedClients
+mod ServedPools

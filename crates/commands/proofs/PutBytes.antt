@@ -15,9 +15,10 @@ use Rattle.base.specs.history.Sequences.{in_turn}
 use Rattle.base.proofs.common.Sequences.{parted}
 use Rattle.base.proofs.history.Objects.{get-stored_other, get-stored_same, reached}
 use Rattle.base.proofs.history.Writes.{length-resize}
-use Rattle.commands.specs.Puts.{IsStartFor, bytes_put, overwritten, put_transactions, start_ops, transactions_from, write_ops}
+use Rattle.commands.specs.Puts.{IsStartFor, bytes_put, first_byte, overwritten, put_transactions, start_ops, write_ops}
 use Rattle.commands.specs.declared.changes.Start.{Start}
 use Rattle.commands.specs.declared.changes.Start.TheVariants.{Creates, Empties, Keeps}
+use Rattle.commands.proofs.Pieces.{piece_count, same_put, transactions_from}
 
 -- a write after one that ends where it begins is one write of both
 module _ (at : ℕ) (p q old : List ℕ) where
@@ -181,23 +182,28 @@ more size = ((size - 64512 + 64511) / 64512, at_least size, refl)
 abbrev Leaves : ObjectId → Option ℕ → List ℕ → Contents → Contents → Type 0
 Leaves n offset bytes c d = (object d n.0 ≡ Some (bytes_put offset bytes (object c n.0))) × LeavesOthers n.0 c d
 
-pub puts_leave_bytes : (start : Start) (n : ObjectId) (offset : Option ℕ) (bytes : List ℕ) (c d : Contents) → IsStartFor offset start → (start ≡ Keeps → IsSome (object c n.0))
-    → in_turn apply_all (put_transactions start n offset bytes) c ≡ Ok d → Leaves n offset bytes c d
-puts_leave_bytes Creates n None bytes c d may there h =
+pieces_leave_bytes : (start : Start) (n : ObjectId) (offset : Option ℕ) (bytes : List ℕ) (c d : Contents) → IsStartFor offset start → (start ≡ Keeps → IsSome (object c n.0))
+    → in_turn apply_all (transactions_from start n (first_byte offset) bytes (piece_count start bytes)) c ≡ Ok d → Leaves n offset bytes c d
+pieces_leave_bytes Creates n None bytes c d may there h =
     let m = more (length bytes) in
     let l = put_leaves Creates n 0 bytes m.0 c d m.2 there (subst (λ (k : ℕ). in_turn apply_all (transactions_from Creates n 0 bytes k) c ≡ Ok d) m.1 h) in
     (l.2 ∙ ap (λ (old : List ℕ). Some (overwritten 0 bytes old)) l.1.1 ∙ ap Some (overwritten_none bytes), l.3)
-puts_leave_bytes Creates n (Some offset) bytes c d may there h =
+pieces_leave_bytes Creates n (Some offset) bytes c d may there h =
     let m = more (length bytes) in
     let l = put_leaves Creates n offset bytes m.0 c d m.2 there (subst (λ (k : ℕ). in_turn apply_all (transactions_from Creates n offset bytes k) c ≡ Ok d) m.1 h) in
     (l.2 ∙ ap (λ (old : List ℕ). Some (overwritten offset bytes old)) l.1.1 ∙ ap (λ (before : Option (List ℕ)). Some (bytes_put (Some offset) bytes before)) (sym l.1.0), l.3)
-puts_leave_bytes Empties n None bytes c d may there h =
+pieces_leave_bytes Empties n None bytes c d may there h =
     let m = more (length bytes) in
     let l = put_leaves Empties n 0 bytes m.0 c d m.2 there (subst (λ (k : ℕ). in_turn apply_all (transactions_from Empties n 0 bytes k) c ≡ Ok d) m.1 h) in
     (l.2 ∙ ap (λ (old : List ℕ). Some (overwritten 0 bytes old)) l.1 ∙ ap Some (overwritten_none bytes), l.3)
-puts_leave_bytes Empties n (Some offset) bytes c d may there h = absurd (may refl)
-puts_leave_bytes Keeps n None bytes c d may there h = absurd (may refl)
-puts_leave_bytes Keeps n (Some offset) bytes c d may there h =
+pieces_leave_bytes Empties n (Some offset) bytes c d may there h = absurd (may refl)
+pieces_leave_bytes Keeps n None bytes c d may there h = absurd (may refl)
+pieces_leave_bytes Keeps n (Some offset) bytes c d may there h =
     let f = found (object c n.0) (there refl) in
     let l = pieces_leave ((length bytes + 64511) / 64512) n offset bytes f.0 c d refl h f.1 in
     (l.0 ∙ ap (λ (before : Option (List ℕ)). Some (bytes_put (Some offset) bytes before)) (sym f.1), l.1)
+
+pub puts_leave_bytes : (start : Start) (n : ObjectId) (offset : Option ℕ) (bytes : List ℕ) (c d : Contents) → IsStartFor offset start → (start ≡ Keeps → IsSome (object c n.0))
+    → in_turn apply_all (put_transactions start n offset bytes) c ≡ Ok d → Leaves n offset bytes c d
+puts_leave_bytes start n offset bytes c d may there h =
+    pieces_leave_bytes start n offset bytes c d may there (subst (λ (all : List (List Op)). in_turn apply_all all c ≡ Ok d) (same_put start n offset bytes) h)

@@ -1,7 +1,9 @@
 -- What a command's handle commits, one transaction after another, and what its history then has of it.
-use Rattle.std.specs.Prelude.{ℕ, zero, suc, ◌≡◌, ◌≢◌, ◌≤◌, ◌⊎◌, ◌*◌, IsTrue, List, [], ◌∷◌, Ok, Option, Err, Result, Some, is_ok, length, min, slice_get}
+use Rattle.std.specs.Prelude.{ℕ, zero, suc, false, true, ◌≡◌, ◌≢◌, ◌≤◌, ◌⊎◌, ◌*◌, IsTrue, List, [], ◌∷◌, Ok, Option, Err, Result, Some, is_ok, length, min, slice_get}
 use Rattle.std.specs.Io.KnownBytes.{Appends}
+use Rattle.base.specs.crash.Imports.{is_dirty_max_allowed}
 use Rattle.base.specs.declared.error.PoolError.{PoolError}
+use Rattle.base.specs.declared.error.PoolError.TheVariants.{BadGeometry, BadRange}
 use Rattle.base.specs.declared.names.Group.{Group}
 use Rattle.base.specs.declared.names.ObjectId.{ObjectId}
 use Rattle.base.specs.declared.names.Owner.{Owner}
@@ -10,19 +12,24 @@ use Rattle.base.specs.declared.operation.Op.{Op}
 use Rattle.base.specs.declared.operation.Op.TheVariants.{Remove}
 use Rattle.base.specs.declared.step.Reply.TheVariants as reply
 use Rattle.base.specs.declared.step.Step.TheVariants as step
+use Rattle.base.specs.disk.Calls.{with_refusal}
 use Rattle.base.specs.history.History.{Entry}
 use Rattle.base.specs.steps.Runs.{reply_of}
 use Rattle.base.specs.steps.Seen.{IsKnownDurable}
 use Rattle.base.specs.steps.Steps.{State}
 use Rattle.device_model.specs.declared.device.SectorDevice.{Ghosts}
+use Rattle.import_replay.specs.ImportRefusals.{IsImportRefusal}
 use Rattle.pool_threads.specs.declared.handle.Handle.{Handle}
 use Rattle.pool_threads.specs.declared.shared.Shared.{Shared}
 use Rattle.pool_threads.specs.Answers.{Makes, Sees}
-use Rattle.pool_threads.specs.Handles.{IsNewHandle, OpensBehind, opening_view}
+use Rattle.pool_threads.specs.Handles.{IsLeftByOpen, IsNewHandle, LeavesSame, OpensBehind, opening_view}
+use Rattle.pool_threads.specs.LongWrites.{piece_size}
 use Rattle.pool_threads.specs.Transacts.{TransactsOrLacks}
 use Rattle.pool_threads.specs.Waits.{SyncsPool}
-use Rattle.commands.specs.Puts.{piece_size, put_line, put_transactions, start_of}
+use Rattle.commands.specs.Failures.{IsFailureFor}
+use Rattle.commands.specs.Puts.{is_target, put_line, put_transactions, start_of}
 use Rattle.commands.specs.declared.failure.Failure.{Failure}
+use Rattle.commands.specs.declared.failure.Failure.TheVariants as failure
 use Rattle.commands.specs.declared.changes.Put.{Put}
 use Rattle.commands.specs.declared.changes.Start.{Start}
 
@@ -43,6 +50,10 @@ AreEntered durable (ops ∷ rest) from s = (ordinal : ℕ) × (e : Entry) × (fr
 -- so it is of a later state, and none of them was there in the earlier one
 abbrev pub AreNewEntries : Type 0 → List (List Op) → State → State → Type 0
 AreNewEntries durable all before after = AreEntered durable all (length before.past.entries) after
+
+-- what is told of a put that was not made
+abbrev pub nothing_put : Put
+nothing_put = record { bytes = 0; transactions = 0; is_synced = true }
 
 -- the first refusal of some transactions and of the sync after them
 abbrev pub result_after : Result (Unit {0}) PoolError → Result Group PoolError → Result (Unit {0}) PoolError
@@ -86,15 +97,22 @@ module _ {Dev : Type 0} {G : Ghosts Dev} where
     pub last : Handle Dev G
     pub puts : PutsAsFound (start_of offset found) n offset bytes put result looked last
 
-  -- A new handle of this pool removed the object in one transaction, and synced the pool. It did no more.
-  pub record RemovesFrom (p : Shared Dev G) (n : ObjectId) : Type 0 where
+  -- If the transaction was committed the handle synced the pool. Else it did no more.
+  abbrev pub SyncsIfMade : Result (Unit {0}) PoolError → Result (Unit {0}) PoolError → Handle Dev G → Handle Dev G → Type 0
+  SyncsIfMade (Ok done) result old new = (synced : Result Group PoolError) × SyncsPool synced old new × (result ≡ result_after (Ok tt) synced)
+  SyncsIfMade (Err e) result old new = (result ≡ Err e) × (new ≡ old)
+
+  -- A new handle of this pool made one transaction that removes the object, and synced the pool after it. It did no
+  -- more, and the first refusal is the result.
+  pub record RemovesFrom (p : Shared Dev G) (n : ObjectId) (result : Result (Unit {0}) PoolError) : Type 0 where
     pub first : Handle Dev G
     pub is_new : IsNewHandle p first
+    pub count : ℕ
+    pub made : Result (Unit {0}) PoolError
     pub done : Handle Dev G
-    pub makes : MakesFirst ((Remove n ∷ []) ∷ []) 1 (Ok tt) first done
-    pub group : Group
+    pub makes : MakesFirst ((Remove n ∷ []) ∷ []) count made first done
     pub last : Handle Dev G
-    pub syncs : SyncsPool (Ok group) done last
+    pub syncs : SyncsIfMade made result done last
 
 module _ {Dev : Type 0} (G : Ghosts Dev) where
   -- The pool was opened that this device holds, and this is so of it.
@@ -112,14 +130,41 @@ module _ {Dev : Type 0} (G : Ghosts Dev) where
     pub last : Handle Dev G
     pub sees : Sees P first last
 
+  -- The pool of a device was not opened for this refusal, and the device came back so. If its disk is known it holds
+  -- what it held before.
+  pub record IsNotOpened (device : Dev) (moment : ℕ) (e : PoolError) : Type 0 where
+    pub after : Dev
+    pub refused : IsImportRefusal (G.size device) (is_dirty_max_allowed default_dirty_max) e
+    pub counted : G.refused after ≡ with_refusal e (G.refused device)
+    pub untouched : (e ≡ BadGeometry) ⊎ (e ≡ BadRange) → after ≡ device
+    pub given_back : IsTrue G.keeps_model → IsLeftByOpen moment (G.disk device) e (G.disk after)
+    pub still_left : IsTrue G.keeps_model → LeavesSame (G.disk device) (G.disk after)
+
+  -- for this failure the pool of a device was not opened
+  abbrev pub FailsToOpen : Dev → ℕ → Failure → Type 0
+  FailsToOpen device moment why = (e : PoolError) × IsNotOpened device moment e × IsFailureFor e why
+
   -- the bytes were put into the pool of a device, with this result
   abbrev pub PutsOn : Dev → ObjectId → Option ℕ → List ℕ → Put → Result (Unit {0}) PoolError → Type 0
   PutsOn device n offset bytes put result = IsOpenedOn device (λ (p : Shared Dev G). PutsInto p n offset bytes put result)
 
-  -- So it was, or there is no pool, or the bytes can't be put. What is told of a put that was not made is nothing.
-  abbrev pub PutsOrFails : Dev → ObjectId → Option ℕ → List ℕ → Put → Result (Unit {0}) Failure → Type 0
-  PutsOrFails device n offset bytes put (Ok done) = PutsOn device n offset bytes put (Ok tt)
-  PutsOrFails device n offset bytes put (Err failure) = (put.transactions ≡ 0) ⊎ ((e : PoolError) × PutsOn device n offset bytes put (Err e))
+  -- the bytes are none that the object may have, and nothing was done
+  abbrev pub HasNoTarget : ObjectId → Option ℕ → List ℕ → Failure → Type 0
+  HasNoTarget n offset bytes why = (is_target n.0 offset bytes ≡ false) × (why ≡ failure.Refused BadRange)
+
+  -- A put was made with this result, or for this failure none was made. Then it tells that nothing was put.
+  abbrev pub PutsOrFails : Dev → ℕ → ObjectId → Option ℕ → List ℕ → Put → Result (Unit {0}) Failure → Type 0
+  PutsOrFails device moment n offset bytes put (Ok done) = PutsOn device n offset bytes put (Ok tt)
+  PutsOrFails device moment n offset bytes put (Err why) = ((put ≡ nothing_put) × (HasNoTarget n offset bytes why ⊎ FailsToOpen device moment why))
+      ⊎ ((e : PoolError) × PutsOn device n offset bytes put (Err e) × IsFailureFor e why)
+
+  -- the engine refused it so
+  abbrev pub RefusesPut : Dev → ℕ → ObjectId → Option ℕ → List ℕ → Type 0
+  RefusesPut device moment n offset bytes = (put : Put) × (why : Failure) × PutsOrFails device moment n offset bytes put (Err why)
+
+  -- all was put, and the pool was synced
+  abbrev pub PutsAll : Dev → ObjectId → Option ℕ → List ℕ → Type 0
+  PutsAll device n offset bytes = (put : Put) × PutsOn device n offset bytes put (Ok tt)
 
   -- all was put, and this was written of it
   pub record PutsAndPrints (device : Dev) (n : ObjectId) (offset : Option ℕ) (bytes : List ℕ) (old new : Option (List ℕ)) : Type 0 where
@@ -127,6 +172,19 @@ module _ {Dev : Type 0} (G : Ghosts Dev) where
     pub puts : PutsOn device n offset bytes put (Ok tt)
     pub prints : Appends old new (put_line put.bytes put.transactions)
 
-  -- the object was removed from the pool of a device
+  -- the object was removed from the pool of a device, with this result
+  abbrev pub RemovesWith : Dev → ObjectId → Result (Unit {0}) PoolError → Type 0
+  RemovesWith device n result = IsOpenedOn device (λ (p : Shared Dev G). RemovesFrom p n result)
+
+  -- so it was, and the pool was synced
   abbrev pub RemovesOn : Dev → ObjectId → Type 0
-  RemovesOn device n = IsOpenedOn device (λ (p : Shared Dev G). RemovesFrom p n)
+  RemovesOn device n = RemovesWith device n (Ok tt)
+
+  -- it was, or for this failure it was not
+  abbrev pub RemovesOrFails : Dev → ℕ → ObjectId → Result (Unit {0}) Failure → Type 0
+  RemovesOrFails device moment n (Ok done) = RemovesOn device n
+  RemovesOrFails device moment n (Err why) = FailsToOpen device moment why ⊎ ((e : PoolError) × RemovesWith device n (Err e) × IsFailureFor e why)
+
+  -- the engine refused it so
+  abbrev pub RefusesRemoval : Dev → ℕ → ObjectId → Type 0
+  RefusesRemoval device moment n = (why : Failure) × RemovesOrFails device moment n (Err why)

@@ -1,5 +1,5 @@
 -- How a command on a pool in a file ends.
-use Rattle.std.specs.Prelude.{ℕ, ◌≡◌, ◌*◌, ◌/◌, Bool, true, false, List}
+use Rattle.std.specs.Prelude.{ℕ, ◌≡◌, ◌*◌, ◌/◌, Bool, IsTrue, true, false, List}
 use Rattle.base.specs.declared.error.PoolError.{PoolError}
 use Rattle.base.specs.declared.error.PoolError.TheVariants.{BadGeometry, BadRange, Flush, Read, Suspended, Write}
 use Rattle.base.specs.formats.Geometry.{IsGeometry, is_geometry}
@@ -21,6 +21,13 @@ is_of_device Write = true
 is_of_device Flush = true
 is_of_device Suspended = true
 is_of_device _ = false
+
+-- The failure of a command for a refusal: it is that, and it has a call that the device refused only if the refusal may
+-- follow from one.
+abbrev pub IsFailureFor : PoolError → Failure → Type 0
+IsFailureFor e (Refused refusal) = refusal ≡ e
+IsFailureFor e (RefusedCall refusal call) = (refusal ≡ e) × IsTrue (is_of_device e)
+IsFailureFor e _ = ⊥
 
 -- the bytes of the whole sectors of a file of so many bytes
 abbrev pub sector_bytes : ℕ → ℕ

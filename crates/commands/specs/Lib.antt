@@ -1,5 +1,7 @@
 pub mod Checks
 pub mod Committed
 pub mod Failures
+pub mod FoundDamages
 pub mod Puts
 pub mod Reads
+pub mod Serving

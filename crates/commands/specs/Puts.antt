@@ -1,5 +1,5 @@
 -- What a put is given, the transactions by which it puts its bytes, what they leave of the object, and what is printed.
-use Rattle.std.specs.Prelude.{ℕ, zero, suc, ◌≡◌, ◌≢◌, ◌+◌, ◌-◌, ◌/◌, ◌++◌, ◌&&◌, Bool, IsSome, codes, List, [], ◌∷◌, Option, None, Some, Result, Ok, Err, drop, length, max, nat_lt, nat_le, take}
+use Rattle.std.specs.Prelude.{ℕ, ◌≡◌, ◌≢◌, ◌+◌, ◌-◌, ◌++◌, ◌&&◌, Bool, IsSome, codes, List, [], ◌∷◌, Option, None, Some, Result, Ok, Err, drop, length, nat_lt, nat_le, take}
 use Rattle.std.specs.Fmt.{decimal}
 use Rattle.std.specs.FinMap as map
 use Rattle.base.specs.declared.error.PoolError.{PoolError}
@@ -11,6 +11,7 @@ use Rattle.base.specs.formats.Limits.{max_length, object_count}
 use Rattle.base.specs.history.Contents.{Contents, bytes_after_write}
 use Rattle.base.specs.history.History.{apply_all}
 use Rattle.base.specs.history.Sequences.{in_turn}
+use Rattle.pool_threads.specs.LongWrites.{piece_size, writes_of}
 use Rattle.commands.specs.declared.changes.Start.{Start}
 use Rattle.commands.specs.declared.changes.Start.TheVariants.{Creates, Empties, Keeps}
 
@@ -22,10 +23,6 @@ first_byte (Some offset) = offset
 -- an object of this number may have these bytes at this offset
 abbrev pub is_target : ℕ → Option ℕ → List ℕ → Bool
 is_target object offset bytes = nat_lt object object_count && (nat_le (first_byte offset) max_length && nat_le (length bytes) (max_length - first_byte offset))
-
--- the bytes of a piece: those of 16 records
-abbrev pub piece_size : ℕ
-piece_size = 64512
 
 -- How a put starts, by the length that the object was found to have. Without an offset the bytes replace all that it
 -- has.
@@ -50,20 +47,17 @@ write_ops n at (byte ∷ bytes) = Write n at (byte ∷ bytes) ∷ []
 abbrev pub piece_ops : Start → ObjectId → ℕ → List ℕ → List Op
 piece_ops start n at piece = start_ops start n ++ write_ops n at piece
 
--- the transactions of so many pieces of these bytes, one after another from this place on
-abbrev pub transactions_from : Start → ObjectId → ℕ → List ℕ → ℕ → List (List Op)
-transactions_from start n at bytes zero = []
-transactions_from start n at bytes (suc count) =
-    piece_ops start n at (take piece_size bytes) ∷ transactions_from Keeps n (at + length (take piece_size bytes)) (drop piece_size bytes) count
+-- the transactions that write these bytes from this place on: none if there are no bytes
+abbrev pub rest_transactions : ObjectId → ℕ → List ℕ → List (List Op)
+rest_transactions n at [] = []
+rest_transactions n at (byte ∷ bytes) = writes_of n at (byte ∷ bytes)
 
--- how many pieces a put has: one at least if it makes or empties the object
-abbrev pub piece_count : Start → List ℕ → ℕ
-piece_count Keeps bytes = (length bytes + 64511) / 64512
-piece_count start bytes = max 1 ((length bytes + 64511) / 64512)
-
--- the transactions of a put
+-- The transactions of a put. If it keeps what the object has, they write the bytes. Else the first one makes or empties
+-- the object and writes the first piece, and the others write the rest.
 abbrev pub put_transactions : Start → ObjectId → Option ℕ → List ℕ → List (List Op)
-put_transactions start n offset bytes = transactions_from start n (first_byte offset) bytes (piece_count start bytes)
+put_transactions Keeps n offset bytes = rest_transactions n (first_byte offset) bytes
+put_transactions start n offset bytes =
+    piece_ops start n (first_byte offset) (take piece_size bytes) ∷ rest_transactions n (first_byte offset + length (take piece_size bytes)) (drop piece_size bytes)
 
 -- a put with an offset doesn't empty the object, and one without replaces what it has
 abbrev pub IsStartFor : Option ℕ → Start → Type 0

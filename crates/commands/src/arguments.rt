@@ -23,8 +23,8 @@ pub enum Arguments<'a> {
     Create(CreateArguments<'a>),
     /// `ztxg show`, with the path of the pool's file.
     Show(&'a str),
-    /// `ztxg check`, with the path of the pool's file.
-    Check(&'a str),
+    /// `ztxg check`.
+    Check(CheckArguments<'a>),
     /// `ztxg ls`, with the path of the pool's file.
     List(&'a str),
     /// `ztxg labels`, with the path of the pool's file.
@@ -78,6 +78,15 @@ pub struct CreateArguments<'a> {
     pub only_new: bool,
     /// The moment, in seconds, of the new pool's uberblocks.
     pub moment: u64,
+}
+
+/// The arguments of `ztxg check`.
+#[derive(Clone, Copy, Debug, PartialEq, Eq)]
+pub struct CheckArguments<'a> {
+    /// The path of the pool's file.
+    pub file: &'a str,
+    /// Whether it goes on after a damage.
+    pub all: bool,
 }
 
 /// The arguments of `ztxg load`.

@@ -1,20 +1,21 @@
 //! The commands `put` and `rm`: an object of the pool in a file gets bytes, or is removed. What they commit is durable
 //! when they end.
 //!
-//! 1. A put commits its bytes in pieces, from the first to the last, a transaction each. The first transaction also
-//!    makes the object or empties it. So bytes of one piece are put as a whole, or not at all.
-//! 2. A piece has as many bytes as 16 records hold. So a log record has room for it, and a put from the object's start
-//!    writes whole records.
-//! 3. If a piece is refused, the pieces before it stay, and are synced as those of a whole put are.
+//! 1. A put commits its bytes in pieces, as `Handle::write_long` has them. The first transaction also makes the object
+//!    or empties it. So bytes of one piece are put as a whole, or not at all.
+//! 2. If a piece is refused, the pieces before it stay, and are synced as those of a whole put are.
 
 ghost use Rattle.std.specs.Io.KnownBytes.{Appends};
-ghost use Rattle.std.specs.Prelude.{ℕ, ◌≡◌, ◌≢◌, ◌≤◌, ◌<◌, ◌+◌, ◌*◌, ◌^◌, false, true, length, min, Err, IfErr, IfOk, IsErr, OnOk, Result};
+ghost use Rattle.std.specs.Prelude.{ℕ, ◌≡◌, ◌≢◌, ◌≤◌, ◌<◌, ◌+◌, ◌*◌, ◌/◌, ◌^◌, ◌∷◌, [], false, true, length, min, Err, IfErr, IfOk, IsErr, OnOk, Result};
 ghost use Rattle.base.specs.declared.error.PoolError as declared_error;
+ghost use Rattle.base.specs.declared.operation.Op.TheVariants.{Remove};
 ghost use Rattle.base.specs.declared.step.Reply.TheVariants as reply;
 ghost use Rattle.base.specs.declared.step.Step.TheVariants as step;
+ghost use Rattle.base.specs.formats.Limits.{max_length};
 ghost use Rattle.base.specs.steps.Runs.{reply_of};
-ghost use Rattle.commands.specs.Committed.{MakesFirst, PutsAndPrints, PutsInto, PutsOrFails, RemovesFrom, RemovesOn, command_owner, result_after};
-ghost use Rattle.commands.specs.Puts.{first_byte, is_target, piece_ops, piece_size, put_transactions, removed_line, start_of};
+ghost use Rattle.commands.specs.Committed.{MakesFirst, PutsAll, PutsAndPrints, PutsInto, PutsOrFails, RefusesPut, RefusesRemoval, RemovesFrom, RemovesOn, RemovesOrFails, command_owner, nothing_put, result_after};
+ghost use Rattle.commands.specs.Puts.{first_byte, is_target, piece_ops, put_transactions, removed_line, rest_transactions, start_of};
+ghost use Rattle.pool_threads.specs.LongWrites.{piece_size};
 ghost use Rattle.pool_threads.specs.Answers.{Makes};
 ghost use Rattle.pool_threads.specs.Handles.{shared_of};
 ghost use Rattle.pool_threads.specs.Transacts.{TransactsOrLacks};
@@ -23,17 +24,14 @@ use crate::arguments::{PutArguments, RemoveArguments};
 use crate::failure::{Failure, NotesRefusals, Verbosity, report_failure};
 use base::{
     Bytes, DEFAULT_DIRTY_MAX, Group, MAX_LENGTH, OBJECT_COUNT, ObjectId, Op, Ops, Owner, PoolError,
-    RECORD_SIZE, Receipt,
+    Receipt,
 };
 use device_model::{FileRefusal, SectorDevice};
-use pool_threads::{Handle, Pool};
+use pool_threads::{Handle, PIECE_SIZE, Pool};
 use std::alloc::{AllocError, Global};
 use std::fmt;
 use std::io::{self, Read, Write};
 use std::sync::Wait;
-
-/// The most bytes that one transaction of a put writes.
-const PIECE: usize = 16 * RECORD_SIZE;
 
 /// The command has one owner.
 const OWNER: Owner = Owner(0);
@@ -82,6 +80,18 @@ impl Put {
         is_synced: true,
     };
 
+    // So many bytes in pieces, not synced.
+    fn in_pieces(bytes: u64) -> Put
+        ensures bytes { result.bytes ≡ bytes }
+        ensures transactions { result.transactions ≡ (bytes + 64511) / 64512 }
+    {
+        Put {
+            bytes,
+            transactions: bytes.div_ceil(PIECE_SIZE as u64),
+            is_synced: false,
+        }
+    }
+
     // One transaction more, of so many bytes.
     fn add(&mut self, bytes: usize)
         requires bytes { self.old.bytes + bytes < 2 ^ 64 }
@@ -99,9 +109,9 @@ impl Put {
 /// it isn't there. Without an offset it then has these bytes alone.
 ///
 /// The status is 0 if all is durable, and how many bytes it were is written to `out`. It is 1 if the engine refused it,
-/// and 3 if the input can't be read, the file was not opened as a device, or `out` can't be written. A failure is
-/// reported on `errors`, and so is how many bytes were committed before it. The object's number, the offset and the
-/// number of the bytes are tested before the device is called.
+/// and 3 if the input can't be read, the file was not opened as a device, or `out` can't be written. If only the line
+/// was not written, all is durable even so. A failure is reported on `errors`, and so is how many bytes were committed
+/// before it. The object's number, the offset and the number of the bytes are tested before the device is called.
 pub fn run_put<R: Wait + AllocGlobal, D: SectorDevice + NotesRefusals + Drop, W: Write, E: Write>(
     rt: &R,
     arguments: PutArguments<'_>,
@@ -118,6 +128,12 @@ pub fn run_put<R: Wait + AllocGlobal, D: SectorDevice + NotesRefusals + Drop, W:
     ensures put { result ≡ 0 → IfOk input (λ bytes. IfOk opened (λ device. PutsAndPrints
         D.SectorDevice device (record { 0 = arguments.entry.object }) arguments.entry.offset
         bytes.items (W.contents out.old) (W.contents out.new))) }
+    ensures refused { result ≡ 1 → IfOk input (λ bytes. IfOk opened (λ device. RefusesPut
+        D.SectorDevice device arguments.entry.moment (record { 0 = arguments.entry.object })
+        arguments.entry.offset bytes.items)) }
+    ensures unwritten { result ≡ 3 → IfOk input (λ bytes. IfOk opened (λ device. PutsAll
+        D.SectorDevice device (record { 0 = arguments.entry.object }) arguments.entry.offset
+        bytes.items)) }
     ensures range { result ≤ 3 }
     ensures no_usage { result ≢ 2 }
 {
@@ -158,12 +174,13 @@ fn put_bytes<R: Wait + AllocGlobal, D: SectorDevice + NotesRefusals + Drop>(
     bytes: &[u8],
     opened: Result<D, FileRefusal>,
 ) -> (Put, Result<(), Failure>)
-    ensures unusable { IfErr opened (λ cause. result.1 ≡ Err (Failure.Unusable cause)) }
+    ensures unusable { IfErr opened (λ cause. (result.0 ≡ nothing_put)
+        × (result.1 ≡ Err (Failure.Unusable cause))) }
     ensures target { IfOk opened (λ _. is_target arguments.entry.object arguments.entry.offset
         bytes.now ≡ false → result.1 ≡ Err (Failure.Refused PoolError.BadRange)) }
     ensures put { IfOk opened (λ device. PutsOrFails D.SectorDevice device
-        (record { 0 = arguments.entry.object }) arguments.entry.offset bytes.now
-        result.0 result.1) }
+        arguments.entry.moment (record { 0 = arguments.entry.object }) arguments.entry.offset
+        bytes.now result.0 result.1) }
 {
     let device = match opened {
         Ok(device) => device,
@@ -250,8 +267,7 @@ fn put_and_sync<R: Wait, D: SectorDevice>(
         Ok(start) => start,
         Err(refusal) => return (Put::NOTHING, Err(refusal)),
     };
-    let mut put = Put::NOTHING;
-    let made = put_pieces(rt, alloc, &mut handle, target, start, bytes, &mut put);
+    let (mut put, made) = put_pieces(rt, alloc, &mut handle, target, start, bytes);
     if put.transactions == 0 {
         return (put, made);
     }
@@ -300,29 +316,48 @@ fn put_pieces<R: Wait, D: SectorDevice>(
     target: Target,
     start: Start,
     bytes: &[u8],
-    put: &mut Put,
-) -> Result<(), PoolError>
+) -> (Put, Result<(), PoolError>)
     requires fits { is_target target.object.0 target.offset bytes.now ≡ true }
-    requires no_bytes { put.old.bytes ≡ 0 }
-    requires no_transactions { put.old.transactions ≡ 0 }
     ensures made { MakesFirst (put_transactions start target.object target.offset bytes.now)
-        put.new.transactions result handle.old handle.new }
-    ensures size { put.new.bytes ≡ min (piece_size * put.new.transactions) (length bytes.now) }
+        result.0.transactions result.1 handle.old handle.new }
+    ensures size { result.0.bytes ≡ min (piece_size * result.0.transactions) (length bytes.now) }
 {
-    let offset = first_byte(target.offset);
-    if bytes.is_empty() && !start.keeps_all() {
-        commit(rt, alloc, handle, start, target.object, offset, bytes)?;
-        put.add(0);
-        return Ok(());
+    let at = first_byte(target.offset);
+    if start.keeps_all() {
+        return write_rest(rt, handle, target.object, at, bytes);
     }
-    let mut start = start;
-    for piece in bytes.chunks(PIECE) {
-        let at = offset + put.bytes;
-        commit(rt, alloc, handle, start, target.object, at, piece)?;
-        put.add(piece.len());
-        start = Start::Keeps;
+    let (first, rest) = bytes.split_at(PIECE_SIZE.min(bytes.len()));
+    match commit(rt, alloc, handle, start, target.object, at, first) {
+        Ok(_) => {}
+        Err(refusal) => return (Put::NOTHING, Err(refusal)),
     }
-    Ok(())
+    let after = at + first.len() as u64;
+    let (mut put, made) = write_rest(rt, handle, target.object, after, rest);
+    put.add(first.len());
+    (put, made)
+}
+
+// Writes bytes in pieces, if there are any.
+fn write_rest<R: Wait, D: SectorDevice>(
+    rt: &R,
+    handle: &mut Handle<'_, D>,
+    object: ObjectId,
+    at: u64,
+    bytes: &[u8],
+) -> (Put, Result<(), PoolError>)
+    requires { at + length bytes.now ≤ max_length }
+    ensures made { MakesFirst (rest_transactions object at bytes.now) result.0.transactions
+        result.1 handle.old handle.new }
+    ensures size { result.0.bytes ≡ min (piece_size * result.0.transactions) (length bytes.now) }
+    ensures few { result.0.transactions ≤ length bytes.now }
+{
+    if bytes.is_empty() {
+        return (Put::NOTHING, Ok(()));
+    }
+    match handle.write_long(rt, OWNER, object, at, bytes) {
+        Ok(_) => (Put::in_pieces(bytes.len() as u64), Ok(())),
+        Err((refusal, committed)) => (Put::in_pieces(committed), Err(refusal)),
+    }
 }
 
 // Commits a piece as one transaction, with what comes before it.
@@ -367,7 +402,7 @@ fn ops_of(
 /// Removes an object of the pool on a device, syncs it, writes its number to `out`, and returns the exit status.
 ///
 /// The status is 0 if that is durable, 1 if the engine refused it, and 3 if the file was not opened as a device or
-/// `out` can't be written. A failure is reported on `errors`.
+/// `out` can't be written. If only the line was not written, it is durable even so. A failure is reported on `errors`.
 pub fn run_remove<
     R: Wait + AllocGlobal,
     D: SectorDevice + NotesRefusals + Drop,
@@ -386,15 +421,18 @@ pub fn run_remove<
         RemovesOn D.SectorDevice device (record { 0 = arguments.entry.object })
         × Appends (W.contents out.old) (W.contents out.new)
         (removed_line arguments.entry.object)) }
+    ensures refused { result ≡ 1 → IfOk opened (λ device. RefusesRemoval D.SectorDevice device
+        arguments.entry.moment (record { 0 = arguments.entry.object })) }
+    ensures unwritten { result ≡ 3 → IfOk opened (λ device. RemovesOn D.SectorDevice device
+        (record { 0 = arguments.entry.object })) }
     ensures range { result ≤ 3 }
     ensures no_usage { result ≢ 2 }
 {
-    let written = match remove_object(rt, arguments, opened) {
-        Ok(()) => writeln!(out, "removed {}", arguments.object).map_err(|_| Failure::Unwritten),
-        Err(failure) => Err(failure),
-    };
-    match written {
-        Ok(()) => 0,
+    match remove_object(rt, arguments, opened) {
+        Ok(()) => match writeln!(out, "removed {}", arguments.object) {
+            Ok(()) => 0,
+            Err(_) => report_failure(Failure::Unwritten, arguments.file, verbosity, errors),
+        },
         Err(failure) => report_failure(failure, arguments.file, verbosity, errors),
     }
 }
@@ -405,8 +443,8 @@ fn remove_object<R: Wait + AllocGlobal, D: SectorDevice + NotesRefusals + Drop>(
     opened: Result<D, FileRefusal>,
 ) -> Result<(), Failure>
     ensures unusable { IfErr opened (λ cause. result ≡ Err (Failure.Unusable cause)) }
-    ensures removed { OnOk result (IfOk opened (λ device. RemovesOn D.SectorDevice device
-        (record { 0 = arguments.entry.object }))) }
+    ensures removed { IfOk opened (λ device. RemovesOrFails D.SectorDevice device
+        arguments.entry.moment (record { 0 = arguments.entry.object }) result) }
 {
     let device = match opened {
         Ok(device) => device,
@@ -423,17 +461,32 @@ fn remove_object<R: Wait + AllocGlobal, D: SectorDevice + NotesRefusals + Drop>(
     }
 }
 
+// Removes an object, and syncs the pool if that was committed. It returns the first refusal.
 fn remove_and_sync<R: Wait, D: SectorDevice>(
     rt: &R,
     alloc: Global,
     pool: &Pool<D>,
     object: ObjectId,
 ) -> Result<(), PoolError>
-    ensures { OnOk result (RemovesFrom (shared_of pool.entry.now) object) }
+    ensures { RemovesFrom (shared_of pool.entry.now) object result }
 {
     let mut handle = pool.handle();
+    match remove(rt, alloc, &mut handle, object) {
+        Ok(_) => {}
+        Err(refusal) => return Err(refusal),
+    }
+    first_refusal(Ok(()), handle.sync_pool(rt))
+}
+
+// Commits the removal of an object as one transaction.
+fn remove<R: Wait, D: SectorDevice>(
+    rt: &R,
+    alloc: Global,
+    handle: &mut Handle<'_, D>,
+    object: ObjectId,
+) -> Result<Receipt, PoolError>
+    ensures { TransactsOrLacks command_owner (Remove object ∷ []) result handle.old handle.new }
+{
     let ops = Ops::new(vec![in alloc; Op::Remove(object)]?);
-    handle.transact(rt, OWNER, ops)?;
-    handle.sync_pool(rt)?;
-    Ok(())
+    handle.transact(rt, OWNER, ops)
 }

@@ -48,6 +48,11 @@ impl Finding {
 }
 
 impl fmt::Display for Finding {
+    ghost use Rattle.std.specs.Prelude.{Some};
+    ghost use Rattle.commands.specs.FoundDamages.{finding_text};
+
+    ghost output = { λ f. Some (finding_text f) };
+
     fn fmt<W: fmt::Write>(&self, f: &mut fmt::Formatter<W>) -> fmt::Result {
         match self {
             Finding::Clean { group, records } => {

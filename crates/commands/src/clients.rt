@@ -1,7 +1,10 @@
 //! What callers rely on: one function for each promise of this crate's calls, proved from the contract of the call
 //! alone. So it is refused as soon as that contract promises less.
 
+mod all_checks;
 mod objects;
+mod refusals;
+mod served;
 
 ghost use Rattle.std.specs.Prelude.{◌≡◌, ◌≢◌, ℕ, IfOk, IsOk, IsTrue};
 ghost use Rattle.base.specs.crash.Mount.{IsTreeDamaged, MountsTo};

@@ -1,7 +1,7 @@
 //! Why a command on a pool in a file was not done, with its exit status and its text.
 
 ghost use Rattle.std.specs.Prelude.{◌≡◌, ◌≢◌, ◌≤◌, false};
-ghost use Rattle.commands.specs.Failures.{failure_status, is_of_device};
+ghost use Rattle.commands.specs.Failures.{IsFailureFor, failure_status, is_of_device};
 
 use base::PoolError;
 use device_model::{FileDevice, FileRefusal, MemDevice, RefusedCall, SectorDevice, SectorFile};
@@ -72,6 +72,7 @@ impl Failure {
     pub fn of_pool<D: NotesRefusals>(refusal: PoolError, device: &D) -> Failure
         ensures status { failure_status result ≡ 1 }
         ensures other { is_of_device refusal ≡ false → result ≡ failure.Refused refusal }
+        ensures cause { IsFailureFor refusal result }
     {
         match (refusal, device.last_refusal()) {
             (
@@ -87,7 +88,8 @@ impl Failure {
         refusal: PoolError,
         pool: Pool<D>,
     ) -> Failure
-        ensures { failure_status result ≡ 1 }
+        ensures status { failure_status result ≡ 1 }
+        ensures cause { IsFailureFor refusal result }
     {
         match pool.close() {
             Some(state) => Failure::of_pool(refusal, &state.into_device()),

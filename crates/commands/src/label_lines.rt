@@ -9,7 +9,7 @@ ghost use Rattle.commands.specs.Checks.{IsCheckRefusal, StaysOpened};
 ghost use Rattle.uberblocks.specs.Rings.{ring_size};
 
 use crate::failure::{Failure, NotesRefusals, Verbosity, report_failure};
-use base::{BLOCK_SIZE, Group, PoolError, PoolName, are_zeros, read_u64};
+use base::{BLOCK_SIZE, Group, PoolError, are_zeros, read_u64};
 use device_model::{FileRefusal, SectorDevice};
 use labels::{ARRAY_AT, Geometry, LabelConfig};
 use std::alloc::Global;
@@ -200,22 +200,13 @@ fn write_labels<W: Write>(labels: &Labels, out: &mut W) -> io::Result<()> {
 fn write_config<W: Write>(config: &ConfigFound, out: &mut W) -> io::Result<()> {
     match config {
         ConfigFound::Config(config) => {
-            write_name(config.name(), out)?;
-            let (guid, group, size) = (config.guid(), config.group(), config.size());
-            writeln!(out, " {guid} {} {size}", group.0)
+            let (name, group) = (config.name(), config.group());
+            writeln!(out, "{name} {} {group} {}", config.guid(), config.size())
         }
         ConfigFound::OfSize(size) => writeln!(out, "none size {size}"),
         ConfigFound::Zeros => writeln!(out, "none zeros"),
         ConfigFound::Unchecked => writeln!(out, "none check"),
     }
-}
-
-// All bytes of a name are ASCII.
-fn write_name<W: Write>(name: &PoolName, out: &mut W) -> io::Result<()> {
-    for byte in name.as_slice() {
-        write!(out, "{}", *byte as char)?;
-    }
-    Ok(())
 }
 
 // How many uberblocks a label has, and the highest group of these.

@@ -6,6 +6,7 @@
 
 mod arguments;
 mod changes;
+mod check_all;
 mod checks;
 mod clients;
 mod failure;
@@ -19,10 +20,11 @@ mod serving;
 mod waiting;
 
 pub use arguments::{
-    Arguments, CreateArguments, GetArguments, LoadArguments, Options, PutArguments,
+    Arguments, CheckArguments, CreateArguments, GetArguments, LoadArguments, Options, PutArguments,
     RemoveArguments, ScriptArguments, ScriptDevice, ServeArguments,
 };
 pub use changes::{read_input, run_put, run_remove};
+pub use check_all::{find_all, run_check_all};
 pub use checks::{Finding, check_pool, run_check};
 pub use failure::{NotesRefusals, Verbosity};
 pub use label_lines::run_labels;

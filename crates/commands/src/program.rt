@@ -3,8 +3,9 @@
 
 ghost use Rattle.std.specs.Prelude.{◌≡◌, ◌≢◌, ◌≤◌, ◌⊎◌, IsErr, IsTrue};
 
-use crate::arguments::{Arguments, Options, ScriptArguments, ScriptDevice};
+use crate::arguments::{Arguments, CheckArguments, Options, ScriptArguments, ScriptDevice};
 use crate::changes::{read_input, run_put, run_remove};
+use crate::check_all::run_check_all;
 use crate::checks::run_check;
 use crate::failure::{Failure, Verbosity, report_failure};
 use crate::label_lines::run_labels;
@@ -59,14 +60,15 @@ where
             &mut io::writer(rt),
             errors,
         ),
-        Arguments::Check(file) => run_check(
-            rt.alloc(),
-            file,
-            verbosity,
-            &mut open_within(rt, file, Access::Read, wait),
-            &mut io::writer(rt),
-            errors,
-        ),
+        Arguments::Check(CheckArguments { file, all }) => {
+            let mut opened = open_within(rt, file, Access::Read, wait);
+            let mut out = io::writer(rt);
+            if all {
+                run_check_all(rt.alloc(), file, verbosity, &mut opened, &mut out, errors)
+            } else {
+                run_check(rt.alloc(), file, verbosity, &mut opened, &mut out, errors)
+            }
+        }
         Arguments::List(file) => run_list(
             rt.alloc(),
             file,
@@ -107,15 +109,12 @@ where
             &mut io::writer(rt),
             errors,
         ),
-        Arguments::Serve(arguments) => run_serve(
-            rt,
-            arguments,
-            verbosity,
-            open_within(rt, arguments.file, Access::Write, wait),
-            &mut rt.reader(),
-            &mut io::writer(rt),
-            errors,
-        ),
+        Arguments::Serve(arguments) => {
+            let opened = open_within(rt, arguments.file, Access::Write, wait);
+            let (input, out) = (rt.reader(), io::writer(rt));
+            let (status, _) = run_serve(rt, arguments, verbosity, opened, input, out, errors);
+            status
+        }
     }
 }
 

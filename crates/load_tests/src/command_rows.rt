@@ -2,7 +2,8 @@
 
 use commands::{
     CreateArguments, GetArguments, Options, PutArguments, RemoveArguments, Verbosity, read_input,
-    run_check, run_create, run_get, run_labels, run_list, run_put, run_remove, run_show,
+    run_check, run_check_all, run_create, run_get, run_labels, run_list, run_put, run_remove,
+    run_show,
 };
 use device_model::{FileDevice, FileRefusal, HeldFile};
 use std::fs::{self, File, OpenFile};
@@ -20,6 +21,7 @@ pub(crate) enum Command<'a> {
     Create(CreateArguments<'a>),
     Show(&'a str),
     Check(&'a str),
+    CheckAll(&'a str),
     List(&'a str),
     Labels(&'a str),
     Get(GetArguments<'a>),
@@ -78,6 +80,10 @@ where
         Command::Check(file) => {
             let mut opened = FileDevice::open_to_read(rt, file);
             run_check(rt.alloc(), file, verbosity, &mut opened, out, errors)
+        }
+        Command::CheckAll(file) => {
+            let mut opened = FileDevice::open_to_read(rt, file);
+            run_check_all(rt.alloc(), file, verbosity, &mut opened, out, errors)
         }
         Command::List(file) => {
             let mut opened = FileDevice::open_to_read(rt, file);

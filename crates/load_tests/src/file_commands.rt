@@ -299,8 +299,8 @@ fn a_pool_in_a_file_is_loaded(rt: HostRuntime) -> Result<(), Fail> {
 const MAKES_AN_OBJECT: &str = "\
 import 1048576
 lock 1 1 w 0 338688
-begin 1 c:1 w:1:0:4
-commit 0 abcd
+begin 1 c:1 w:1:0:4 w:1:8064:4
+commit 0 abcd wxyz
 sync
 ";
 
@@ -334,12 +334,20 @@ fn a_check_finds_a_pool_whole_or_damaged(rt: HostRuntime) {
         ),
         Row::Byte(file, 4_198_464, b'b'),
         Row::Leaves(file, Holder::Nobody, check, (1, "damaged 5 4198400\n", "")),
+        Row::Byte(file, 4_202_560, b'v'),
+        Row::Leaves(file, Holder::Nobody, check, (1, "damaged 5 4198400\n", "")),
+        Row::Leaves(
+            file,
+            Holder::Nobody,
+            Command::CheckAll(file),
+            (1, "damaged 5 4198400\ndamaged 5 4202496\n", ""),
+        ),
         Row::Remove(file),
     ];
     let is_made = holds(&rt, makes(file));
     let lines = MAKES_AN_OBJECT.as_bytes();
     let is_run = runs_script(&rt, given, Ok(lines), (0, ANSWERS, ""));
-    assert_eq!(rt; (is_made, is_run, count_held(&rt, &rows)), (true, true, 5));
+    assert_eq!(rt; (is_made, is_run, count_held(&rt, &rows)), (true, true, 8));
 }
 
 #[test]

@@ -59,7 +59,7 @@ fn holds<R: Threads + Wait + Sync + AllocGlobal>(
     let mut out = Vec::new(rt.alloc());
     let mut errors = Vec::new(rt.alloc());
     let device = Ok(new_device(rt.alloc())?);
-    let status = run_serve(
+    let (status, _) = run_serve(
         rt,
         arguments,
         Verbosity::Brief,

@@ -97,11 +97,13 @@ pub use device_model::{
     SectorDevice, SectorFile,
 };
 pub use import_replay::{
-    Imported, Inspected, Mounted, View, create, import, import_with, inspect, view_pool,
+    Imported, Inspected, Mounted, Soundness, View, create, find_damages, import, import_with,
+    inspect, view_pool,
 };
+pub use object_maps::BlockDamage;
 pub use pool_core::{Duty, PoolState, Progress, run};
 pub use pool_loops::{Halt, run_beside_loops};
-pub use pool_threads::{Handle, Opened, Pool};
+pub use pool_threads::{Handle, Opened, PIECE_SIZE, Pool};
 pub use range_locks::{HeldLock, HeldLocks, HeldPiece};
 pub use transactions::{charge, is_plan_allowed, record_size};
 

@@ -3,8 +3,9 @@
 use crate::help;
 use clap::{Arg, ArgAction, ArgMatches, Command, Error, value_parser};
 use commands::{
-    Arguments, CreateArguments, GetArguments, LoadArguments, MAX_WORKERS, MAX_WRITES, Options,
-    Order, PutArguments, RemoveArguments, ScriptArguments, ScriptDevice, ServeArguments, Verbosity,
+    Arguments, CheckArguments, CreateArguments, GetArguments, LoadArguments, MAX_WORKERS,
+    MAX_WRITES, Options, Order, PutArguments, RemoveArguments, ScriptArguments, ScriptDevice,
+    ServeArguments, Verbosity,
 };
 use std::alloc::{AllocError, Global};
 
@@ -177,10 +178,12 @@ fn load_command<'a>(alloc: Global) -> Result<Command<'a>, AllocError> {
 }
 
 fn check_command<'a>(alloc: Global) -> Result<Command<'a>, AllocError> {
+    let all = flag(alloc, "all", "Goes on after a damage, and prints each");
     Command::new(alloc, "check")
         .about("Checks whether the pool in a file is whole; it only reads the file")
         .after_help(help::CHECK)
-        .arg(read_file(alloc))
+        .arg(read_file(alloc))?
+        .arg(all)
 }
 
 fn list_command<'a>(alloc: Global) -> Result<Command<'a>, AllocError> {
@@ -290,7 +293,7 @@ pub fn read_arguments<'a>(matches: &ArgMatches<'a>) -> Option<Arguments<'a>> {
         "script" => Some(Arguments::Script(read_script(given)?)),
         "create" => Some(Arguments::Create(read_create(given)?)),
         "show" => Some(Arguments::Show(given.get_str("FILE")?)),
-        "check" => Some(Arguments::Check(given.get_str("FILE")?)),
+        "check" => Some(Arguments::Check(read_check(given)?)),
         "ls" => Some(Arguments::List(given.get_str("FILE")?)),
         "labels" => Some(Arguments::Labels(given.get_str("FILE")?)),
         "get" => Some(Arguments::Get(read_get(given)?)),
@@ -380,6 +383,13 @@ fn read_remove<'a>(given: &ArgMatches<'a>) -> Option<RemoveArguments<'a>> {
         file: given.get_str("FILE")?,
         object: given.get_one::<u32>("OBJECT")?,
         moment: given.get_one::<u64>("moment")?,
+    })
+}
+
+fn read_check<'a>(given: &ArgMatches<'a>) -> Option<CheckArguments<'a>> {
+    Some(CheckArguments {
+        file: given.get_str("FILE")?,
+        all: given.get_flag("all"),
     })
 }
 

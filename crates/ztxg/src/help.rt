@@ -192,7 +192,9 @@ Refusals, with status 1:
 
 /// What stands after the help of `check`.
 pub const CHECK: &str = "\
-Example: ztxg check tank.pool
+Examples:
+  ztxg check tank.pool
+  ztxg check tank.pool --all
 
 Prints what an import of the pool would find, in one line:
   clean group U records R  with status 0: the pool is whole. U is its group, R
@@ -201,6 +203,10 @@ Prints what an import of the pool would find, in one line:
                            what the pool's tree or log says of it
   no pool                  with status 1: no label has a valid uberblock with
                            a config
+
+With --all there is a line 'damaged KIND ADDRESS' for each damaged block of the
+tree. What only a damaged block names is not read. If the tree is whole, a
+damage of the log has one line.
 
 KIND is 2 for the root, 3 for a directory, 4 for an indirect block, 5 for data
 and 6 for the log. ADDRESS is the block's byte in FILE.

@@ -1,12 +1,12 @@
 //! What callers rely on of the commands on objects, on labels, and of scripts.
 
-ghost use Rattle.std.specs.Prelude.{ℕ, ◌≡◌, ◌≢◌, ◌≤◌, ◌⊎◌, [], ◌∷◌, IfOk, IsOk, IsTrue, Some, codes, length, slice_get};
+ghost use Rattle.std.specs.Prelude.{ℕ, ◌≡◌, ◌≢◌, ◌≤◌, ◌⊎◌, [], ◌∷◌, IfOk, IsOk, IsTrue, Ok, Some, codes, length, slice_get};
 ghost use Rattle.std.specs.FinMap as finite;
 ghost use Rattle.base.specs.crash.Mount.{MountsTo};
 ghost use Rattle.base.specs.declared.operation.Op.TheVariants.{Create, Remove, SetLength, Write};
 ghost use Rattle.base.specs.disk.Disk.{bytes_of};
 ghost use Rattle.base.specs.history.Contents.{Contents};
-ghost use Rattle.base.specs.history.History.{Entry};
+ghost use Rattle.base.specs.history.History.{Entry, apply_all};
 ghost use Rattle.base.specs.steps.Seen.{IsKnownDurable};
 ghost use Rattle.commands.specs.Committed.{HappensOn};
 ghost use Rattle.commands.specs.Puts.{PutsLeaveBytes};
@@ -37,10 +37,16 @@ const TWO_BYTES: GetArguments<'static> = GetArguments {
 };
 
 // All bytes of object 7.
-const ALL_OF_7: PutArguments<'static> = PutArguments {
+pub(super) const ALL_OF_7: PutArguments<'static> = PutArguments {
     file: "tank.pool",
     object: 7,
     offset: None,
+    moment: 0,
+};
+
+pub(super) const OBJECT_7: RemoveArguments<'static> = RemoveArguments {
+    file: "tank.pool",
+    object: 7,
     moment: 0,
 };
 
@@ -133,6 +139,31 @@ fn a_put_of_two_bytes_is_one_durable_entry<
     run_put(rt, ALL_OF_7, BRIEF, Ok(input), Ok(device), out, errors)
 }
 
+// Where object 7 has three bytes, the one entry writes over the second alone.
+fn a_byte_that_is_put_at_an_offset_leaves_the_others<
+    R: Wait + AllocGlobal,
+    D: SectorDevice + NotesRefusals + Drop,
+    W: Write,
+    E: Write,
+>(rt: &R, input: Vec<u8>, device: D, out: &mut W, errors: &mut E) -> u8
+    requires { input.items ≡ 5 ∷ [] }
+    ensures { result ≡ 0 → HappensOn D.SectorDevice device
+        (λ before after. (ordinal : ℕ) × (e : Entry)
+        × (length before.past.entries ≤ ordinal)
+        × (slice_get after.past.entries ordinal ≡ Some e)
+        × ((c d : Contents) → finite.get c.objects 7 ≡ Some (10 ∷ 11 ∷ 12 ∷ [])
+        → apply_all e.ops c ≡ Ok d → finite.get d.objects 7 ≡ Some (10 ∷ 5 ∷ 12 ∷ []))
+        × IsKnownDurable ordinal e.group after) }
+{
+    let arguments = PutArguments {
+        file: "tank.pool",
+        object: 7,
+        offset: Some(1),
+        moment: 0,
+    };
+    run_put(rt, arguments, BRIEF, Ok(input), Ok(device), out, errors)
+}
+
 // The output had no bytes before.
 fn a_put_prints_how_many_bytes_it_committed<
     R: Wait + AllocGlobal,
@@ -161,12 +192,7 @@ fn a_removed_object_is_one_durable_entry<
         × (e.ops ≡ Remove (record { 0 = 7 }) ∷ [])
         × IsKnownDurable ordinal e.group after) }
 {
-    let arguments = RemoveArguments {
-        file: "tank.pool",
-        object: 7,
-        moment: 0,
-    };
-    run_remove(rt, arguments, BRIEF, Ok(device), out, errors)
+    run_remove(rt, OBJECT_7, BRIEF, Ok(device), out, errors)
 }
 
 // There is no object 5,292.
@@ -207,13 +233,8 @@ fn an_object_of_a_pool_that_is_not_opened_is_removed_with_status_3<
 >(rt: &R, out: &mut W, errors: &mut E) -> u8
     ensures { result ≡ 3 }
 {
-    let arguments = RemoveArguments {
-        file: "tank.pool",
-        object: 7,
-        moment: 0,
-    };
     let opened: Result<D, FileRefusal> = Err(FileRefusal::InUse);
-    run_remove(rt, arguments, BRIEF, opened, out, errors)
+    run_remove(rt, OBJECT_7, BRIEF, opened, out, errors)
 }
 
 // Its refused lines are answers.

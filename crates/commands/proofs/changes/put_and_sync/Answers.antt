@@ -28,8 +28,8 @@ returns-then-put-eq0 g c =
       looked = looked;
       looks = f.1;
       last = made.new.handle;
-      puts = subst (λ s. PutsAsFound s c.args.target.object c.args.target.offset c.args.bytes.now made.new.put made.result looked made.new.handle) f.2
-          (record { made = made.result; done = made.new.handle; makes = made.ensures.made; size = made.ensures.size; syncs = inl (c.if-put-eq0.true, refl, refl) });
+      puts = subst (λ s. PutsAsFound s c.args.target.object c.args.target.offset c.args.bytes.now made.result.0 made.result.1 looked made.new.handle) f.2
+          (record { made = made.result.1; done = made.new.handle; makes = made.ensures.made; size = made.ensures.size; syncs = inl (c.if-put-eq0.true, refl, refl) });
     }
 
 pub returns : goal.returns
@@ -45,6 +45,6 @@ returns g c =
       looked = looked;
       looks = f.1;
       last = synced.new.self;
-      puts = subst (λ s. PutsAsFound s c.args.target.object c.args.target.offset c.args.bytes.now (record { bytes = made.new.put.bytes; transactions = made.new.put.transactions; is_synced = c.is_ok.result }) c.first_refusal.result looked synced.new.self) f.2
-          (record { made = made.result; done = made.new.handle; makes = made.ensures.made; size = made.ensures.size; syncs = inr (synced.result, c.if-put-eq0.false, synced.ensures.synced, c.is_ok.ensures.value, c.first_refusal.ensures) });
+      puts = subst (λ s. PutsAsFound s c.args.target.object c.args.target.offset c.args.bytes.now (record { bytes = made.result.0.bytes; transactions = made.result.0.transactions; is_synced = c.is_ok.result }) c.first_refusal.result looked synced.new.self) f.2
+          (record { made = made.result.1; done = made.new.handle; makes = made.ensures.made; size = made.ensures.size; syncs = inr (synced.result, c.if-put-eq0.false, synced.ensures.synced, c.is_ok.ensures.value, c.first_refusal.ensures) });
     }
