@@ -177,6 +177,7 @@ class Commands(Judge):
         flawed("synced.pool", DATA + 64)
         refusal = f"refused 7 Damaged 5 {DATA}\n"
         self.ends(["check", "synced.pool"], 1, f"damaged 5 {DATA}\n")
+        self.ends(["check", "synced.pool", "--all"], 1, f"damaged 5 {DATA}\n")
         for name in ("show", "ls"):
             self.ends([name, "synced.pool"], 1, errors=f"ztxg: {refusal}")
         self.ends(["load", "synced.pool", *LOAD], 1, errors=f"ztxg: {refusal}")

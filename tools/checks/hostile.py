@@ -134,8 +134,10 @@ def fail(reason):
 class Refusal:
     """A refusal of an inspection or an import: its number, its name, and what is damaged."""
 
-    def __init__(self, number, *words):
+    def __init__(self, number, *words, later=()):
         self.text = " ".join([str(number), *words])
+        # What a check of all finds after it.
+        self.later = [f"damaged {damage.kind} {damage.address}" for damage in later]
         # What a check finds, if it isn't refused too; and how the end counts it.
         self.found = {6: "no pool", 7: " ".join(["damaged", *words[1:]])}.get(number)
         self.kind = " ".join(self.text.split()[:3])
@@ -143,8 +145,8 @@ class Refusal:
     def shown(self):
         return Lines(1, [], [f"ztxg: refused {self.text}"])
 
-    def checked(self):
-        return Lines(1, [self.found], []) if self.found else self.shown()
+    def checked(self, later=()):
+        return Lines(1, [self.found, *later], []) if self.found else self.shown()
 
 
 def outcome(image):
@@ -152,7 +154,7 @@ def outcome(image):
     try:
         return mount(read_pool(image))
     except Damaged as damage:
-        return Refusal(7, "Damaged", str(damage.kind), str(damage.address))
+        return Refusal(7, "Damaged", str(damage.kind), str(damage.address), later=damage.later)
     except NoPool:
         return Refusal(6, "NoPool")
     except BadGeometry:
@@ -171,6 +173,9 @@ class Expected:
         if not self.is_whole:
             return one.checked()
         return Lines(0, [f"clean group {one.uberblock.group} records {one.records}"], [])
+
+    def check_all(self):
+        return self.check() if self.is_whole else self.mount.checked(self.mount.later)
 
     def show(self):
         return Lines(0, show_lines(self.mount), []) if self.is_whole else self.mount.shown()
@@ -221,8 +226,12 @@ class Bench:
         return None if found == wanted else f"{words[0]}: wanted {wanted}, found {found}"
 
     def look(self, expected):
-        """How a check or a show differs, or None."""
-        return self.differs(expected.check(), "check", self.path) or self.differs(expected.show(), "show", self.path)
+        """How a check, a check of all or a show differs, or None."""
+        return (
+            self.differs(expected.check(), "check", self.path)
+            or self.differs(expected.check_all(), "check", "--all", self.path)
+            or self.differs(expected.show(), "show", self.path)
+        )
 
     def judge(self, image):
         """How a command differs on an image, or None."""

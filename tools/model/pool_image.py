@@ -5,6 +5,7 @@ is used, so nothing is taken from a program.
 """
 
 import collections
+import contextlib
 import struct
 
 from tools.model.charges import count_blocks
@@ -48,11 +49,11 @@ from tools.model.pool_bytes import (
 
 
 class Damaged(Exception):
-    """A block is not what the tree or the log says of it."""
+    """A block is not what the tree or the log says of it. `later` has the damages that a walk of the tree found after it."""
 
     def __init__(self, kind, address):
         super().__init__(kind, address)
-        self.kind, self.address = kind, address
+        self.kind, self.address, self.later = kind, address, []
 
 
 class NoPool(Exception):
@@ -126,16 +127,33 @@ class Image:
 
 
 class Walk:
-    """The walk of an image's tree: its nodes and its objects. It raises the first damage."""
+    """The walk of an image's tree: its nodes and its objects. It goes on after a damage, without what lies below it, and
+    raises the first one at its end."""
 
     def __init__(self, image, active):
         self.image, self.active = image, active
-        self.nodes, self.objects, self.records = [], {}, {}
-        if active.root.address == 0 and not active.root.is_none():
+        self.nodes, self.objects, self.records, self.damages = [], {}, {}, []
+        with self.noting():
+            self.walk_root(active.root)
+        if self.damages:
+            first, *first.later = self.damages
+            raise first
+
+    @contextlib.contextmanager
+    def noting(self):
+        """Notes the damage of a block, below which the walk doesn't go."""
+        try:
+            yield
+        except Damaged as damage:
+            self.damages.append(damage)
+
+    def walk_root(self, pointer):
+        if pointer.address == 0 and not pointer.is_none():
             raise Damaged(ROOT, 0)
-        root = self.visit(ROOT, 0, active.root, None, None)
-        for index, directory in self.pointers(root, ROOT, active.root.address):
-            self.walk_directory(index, directory, active.root.address)
+        root = self.visit(ROOT, 0, pointer, None, None)
+        for index, directory in self.pointers(root, ROOT, pointer.address):
+            with self.noting():
+                self.walk_directory(index, directory, pointer.address)
 
     def visit(self, kind, number, pointer, holder, at):
         """The payload of a block by its pointer, or None for a hole."""
@@ -171,7 +189,8 @@ class Walk:
             if present:
                 entries.append((ENTRIES * index + at // 64, length, indirect, at))
         for number, length, indirect, at in entries:
-            self.walk_object(number, length, indirect, pointer.address, 64 + at + 16)
+            with self.noting():
+                self.walk_object(number, length, indirect, pointer.address, 64 + at + 16)
 
     def walk_object(self, number, length, indirect, holder, at):
         payload = self.visit(INDIRECT, number, indirect, holder, at)
@@ -180,11 +199,12 @@ class Walk:
             raise Damaged(INDIRECT, indirect.address)
         content = bytearray(length)
         for index, pointer in found:
-            data = self.visit(DATA, POINTERS * number + index, pointer, indirect.address, 64 + 48 * index)
-            left = min(length - RECORD * index, RECORD)
-            if any(data[left:]):
-                raise Damaged(DATA, pointer.address)
-            content[RECORD * index : RECORD * index + left] = data[:left]
+            with self.noting():
+                data = self.visit(DATA, POINTERS * number + index, pointer, indirect.address, 64 + 48 * index)
+                left = min(length - RECORD * index, RECORD)
+                if any(data[left:]):
+                    raise Damaged(DATA, pointer.address)
+                content[RECORD * index : RECORD * index + left] = data[:left]
         self.objects[number] = bytes(content)
         self.records[number] = {index for index, _ in found}
 

@@ -19,6 +19,7 @@ PROGRAMS = {
     "hash_blocks": "hash_blocks: anyhow sha2",
     "idle_loops": "idle_loops: anyhow topzerad",
     "load_receipts": "load_receipts: anyhow topzerad loads",
+    "lone_transactions": "lone_transactions: anyhow topzerad",
 }
 
 
