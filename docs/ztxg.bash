@@ -15,6 +15,7 @@ _ztxg() {
         create) options+=" --new --moment" ;;
         put) options+=" --offset --moment" ;;
         get) options+=" --offset --length" ;;
+        check) options+=" --all" ;;
         rm) options+=" --moment" ;;
         load) options+=" --workers --ops --seed --dirty --cache --moment" ;;
         serve) options+=" --dirty --cache --moment" ;;
