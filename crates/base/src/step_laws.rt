@@ -3,7 +3,7 @@
 ghost use Rattle.base.specs.crash.CrashRule.{OwnDisksMount, SteadyImportsMount};
 ghost use Rattle.base.specs.steps.Additions.{PastsAreTold, PastsGrow};
 ghost use Rattle.base.specs.steps.Locks.{BusyIsUnsound};
-ghost use Rattle.base.specs.steps.ExactNow.{StepsKeepTables, RunsKeepTables, NewPoolsAreExplained};
+ghost use Rattle.base.specs.steps.Tables.{StepsKeepTables, RunsKeepTables, NewPoolsAreExplained};
 ghost use Rattle.base.specs.steps.Readers.{ReadersAreKept};
 ghost use Rattle.base.specs.stored.HeldMounts.{MountsAgree, HeldMounts, IdleMounts};
 ghost use Rattle.base.specs.steps.SyncEnds.{SuspendedPoolsRefuse, SuspendedPoolsStay, SyncsEndOnTime};

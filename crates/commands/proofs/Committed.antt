@@ -16,7 +16,7 @@ use Rattle.base.specs.declared.operation.Op.TheVariants.{Remove}
 use Rattle.base.specs.declared.operation.Shape.{Shape}
 use Rattle.base.specs.declared.range.ObjectRange.{ObjectRange}
 use Rattle.base.specs.history.Past.{IsPrefixOf}
-use Rattle.base.specs.steps.ExactNow.{GoesOn, IsExplainedNow}
+use Rattle.base.specs.steps.Tables.{GoesOn, AreTablesExplained}
 use Rattle.base.specs.steps.Steps.{State}
 use Rattle.base.proofs.common.KeptLists.{none_at}
 use Rattle.base.proofs.steps.KeptTables.{runs_keep_tables}
@@ -67,12 +67,12 @@ entered_from durable (ops ∷ rest) low from s lower (ordinal, e, high, at, are,
 
 -- a state that its past explains, and one that it leads to
 abbrev IsSound : SeenPool → Type 0
-IsSound v = ∥ IsExplainedNow (viewed_state v).shown (viewed_state v).past ∥₁
+IsSound v = ∥ AreTablesExplained (viewed_state v).shown (viewed_state v).past ∥₁
 
 sound_on : (keeps : Type 0) (v w : SeenPool) → GrowsTo keeps v w → IsSound v → IsSound w
 sound_on keeps v w onward sound =
     ∥∥₁_elim onward.goes_on ∥∥₁_prop (λ run.
-    ∥∥₁_map {B = IsExplainedNow (viewed_state w).shown (viewed_state w).past} sound (λ x. runs_keep_tables ⊥ run.0 run.1 (viewed_state v) (viewed_state w) run.2 x))
+    ∥∥₁_map {B = AreTablesExplained (viewed_state w).shown (viewed_state w).past} sound (λ x. runs_keep_tables ⊥ run.0 run.1 (viewed_state v) (viewed_state w) run.2 x))
 
 -- a transaction's first step is made from a state that its past explains
 module _ (keeps : Type 0) (ranges : List ObjectRange) (ids : List LockId) where
@@ -89,7 +89,7 @@ sound_after : (keeps : Type 0) (ranges : List ObjectRange) (plan : List Shape) (
 sound_after keeps ranges plan ops r v w m = sound_on keeps v w (transaction_grows keeps command_owner ranges plan ops (Ok r) v w m) (first_step keeps ranges m.ids plan m.ends.tx v m.ends.begun m.ends.begins)
 
 -- all that is there is durable once the group is synced that was open later
-durable_by_sync : (s looked after : State) → IsExplainedNow s.shown s.past → GoesOn s looked → looked.shown.line.open_group ≤ after.shown.line.synced → AreDurable s after
+durable_by_sync : (s looked after : State) → AreTablesExplained s.shown s.past → GoesOn s looked → looked.shown.line.open_group ≤ after.shown.line.synced → AreDurable s after
 durable_by_sync s looked after x onward synced = λ o e there.
     let up = (groups_go_up s looked x onward).1 in
     let a = x.exact.groups.members.committed o e there in

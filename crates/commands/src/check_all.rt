@@ -6,7 +6,7 @@ ghost use Rattle.base.specs.disk.Disk.{bytes_of};
 ghost use Rattle.base.specs.formats.Geometry.{IsGeometry};
 ghost use Rattle.device_model.specs.Reading.{OnlyReads};
 ghost use Rattle.commands.specs.FoundDamages.{AreFoundIn, ListsFindings, WritesFindings, all_status, damage_finding, finding_lines};
-ghost use Rattle.commands.specs.Checks.{IsCheckRefusal, MountsWhole, StaysOpened};
+ghost use Rattle.commands.specs.Checks.{IsCheckRefusal, StaysOpened};
 ghost use Rattle.commands.specs.declared.checks.Finding.{Finding as ShownFinding};
 
 use crate::checks::Finding;

@@ -19,7 +19,7 @@
 //! notes tell a disk on which nothing is unflushed; and from its image the other notes, each with what stood before
 //! it, lead to the bytes.
 
-ghost use Rattle.std.specs.Prelude.{◌≡◌, ◌+◌, ◌*◌, ◌-◌, ◌<◌, ◌≤◌, ◌↔◌, ◌⊎◌, ◌++◌, [], ◌∷◌, length, take, drop, true, refl, IsTrue, IfOk, IfErr, OnOk, OnErr, Ok, Err, All, IsErr};
+ghost use Rattle.std.specs.Prelude.{◌≡◌, ◌*◌, ◌-◌, ◌<◌, ◌⊎◌, length, true, refl, IfOk, IfErr, OnOk, OnErr, Ok, Err};
 ghost use Rattle.base.specs.formats.Fields.{part};
 ghost use Rattle.base.specs.formats.Geometry.{sector_size};
 ghost use Rattle.base.specs.disk.Disk.{bytes_of, disk_size, MayLeave};

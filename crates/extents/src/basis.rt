@@ -1,6 +1,6 @@
 //! What a group leaves of an object.
 
-ghost use Rattle.std.specs.Prelude.{ℕ, ◌≡◌, ◌<◌, ◌≤◌, ◌+◌, ◌*◌, nat_lt, option_map};
+ghost use Rattle.std.specs.Prelude.{ℕ, ◌≡◌, ◌<◌, ◌≤◌, ◌+◌, ◌*◌, nat_lt};
 ghost use Rattle.base.specs.formats.Limits.{record_count, record_size};
 
 use base::RECORD_SIZE;

@@ -3,7 +3,7 @@
 //! A patch takes the room for a whole record when it is made, so a write takes no memory. Its bytes and marks are laid
 //! out up to the last byte that was written and no further, so a short write costs no zeros for the rest of the record.
 
-ghost use Rattle.std.specs.Prelude.{ℕ, ◌≡◌, ◌<◌, ◌≤◌, ◌+◌, ◌↔◌, true, false, All, None, IfOk, IsTrue, OnOk, get_or, is_some, length, max, replicate, unwrap_or, vec_capacity, vec_len};
+ghost use Rattle.std.specs.Prelude.{ℕ, ◌≡◌, ◌<◌, ◌≤◌, ◌+◌, ◌↔◌, true, false, All, None, IfOk, IsTrue, get_or, is_some, length, max, replicate, unwrap_or, vec_capacity, vec_len};
 ghost use Rattle.base.specs.disk.Disk.{put};
 ghost use Rattle.base.specs.formats.Limits.{record_size};
 ghost use Rattle.extents.specs.Marks.{is_mark, laid_byte, with_zeros};

@@ -8,7 +8,7 @@ use Rattle.base.specs.declared.names.Owner.{Owner}
 use Rattle.base.specs.declared.names.Receipt.{Receipt}
 use Rattle.base.specs.declared.operation.Op.{Op}
 use Rattle.base.specs.history.History.{Entry}
-use Rattle.base.specs.steps.ExactNow.{GoesOn}
+use Rattle.base.specs.steps.Tables.{GoesOn}
 use Rattle.base.specs.steps.Seen.{IsKnownDurable}
 use Rattle.base.specs.steps.Steps.{State}
 use Rattle.base.proofs.steps.SeenStates.{at-prefix, grown}

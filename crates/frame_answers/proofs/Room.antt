@@ -18,7 +18,7 @@ use Rattle.base.specs.declared.step.Step.TheVariants as step
 use Rattle.base.specs.disk.Disk.{bytes_of}
 use Rattle.base.specs.formats.Limits.{max_length, max_name, object_count}
 use Rattle.base.specs.formats.Names.{IsName, is_letter, is_name_byte, is_name_length}
-use Rattle.base.specs.steps.ExactNow.{IsExplainedNow}
+use Rattle.base.specs.steps.Tables.{AreTablesExplained}
 use Rattle.base.specs.steps.Refusals as refusal
 use Rattle.base.specs.steps.Refusals.{object_range}
 use Rattle.base.specs.steps.Runs.{Step}
@@ -49,7 +49,7 @@ never_err P (Ok x) ok = tt
 never_err P (Err e) ok = absurd (false≢true ok)
 
 -- what is read of an object is no longer than it, and than the range
-read_short : (owner : Owner) (n : ObjectId) (range : Range) (bytes now : List ℕ) (s t : State) → IsExplainedNow s.shown s.past → Step (Unit {0}) now (step.Read owner n range) (reply.Bytes bytes) s t → length bytes ≤ min (range.high - range.low) max_length
+read_short : (owner : Owner) (n : ObjectId) (range : Range) (bytes now : List ℕ) (s t : State) → AreTablesExplained s.shown s.past → Step (Unit {0}) now (step.Read owner n range) (reply.Bytes bytes) s t → length bytes ≤ min (range.high - range.low) max_length
 read_short owner n range bytes now s t x (Err e, is, h) = absurd (let no_way : reply.Bytes bytes ≡ reply.Refused e = is in cc)
 read_short owner n range bytes now s t x (Ok bs, is, h) =
     let wanted = object_range n.0 range.low range.high in

@@ -1,6 +1,5 @@
 //! What is made for each request, and what it is answered.
 
-ghost use Rattle.std.specs.Prelude.{◌≡◌};
 ghost use Rattle.frame_answers.specs.Calls.{MakesCall};
 
 use crate::listing::list_objects;

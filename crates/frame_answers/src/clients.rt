@@ -1,13 +1,12 @@
 //! What callers rest on: one function for each promise of this crate's calls, proved from the contract of the call
 //! alone. So it is refused as soon as that contract says less.
 
-ghost use Rattle.std.specs.Prelude.{ℕ, ◌≡◌, ◌≢◌, ◌⊎◌, ◌++◌, ◌∷◌, [], All, Err, IfErr, IfOk, IfSome, IsTrue, List, Ok, OnErr, OnOk, Option, Result, Some};
+ghost use Rattle.std.specs.Prelude.{◌≡◌, ◌⊎◌, ◌++◌, ◌∷◌, [], All, IfSome, List, Ok, OnErr, OnOk, Result};
 ghost use Rattle.base.specs.declared.error.PoolError as error;
 ghost use Rattle.base.specs.declared.names.Group as group;
 ghost use Rattle.base.specs.declared.names.Receipt as receipt;
 ghost use Rattle.device_model.specs.declared.device.SectorDevice as device;
 ghost use Rattle.frame_answers.specs.Calls.{durable_receipt, outcome_of};
-ghost use Rattle.frame_answers.specs.Frames.{AnswersFrame};
 ghost use Rattle.frame_answers.specs.Serving.{AnswersFrames, Exchange, answers_of, frames_of, program};
 ghost use Rattle.frames.specs.Answers.{bytes_of_answers, bytes_of_refused};
 ghost use Rattle.frames.specs.Requests.{IsFrameOf};

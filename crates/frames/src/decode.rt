@@ -1,6 +1,6 @@
 //! A frame of requests as these.
 
-ghost use Rattle.std.specs.Prelude.{◌≡◌, ◌+◌, ◌<◌, ◌≤◌, ◌^◌, ◌-◌, List, ℕ, IfNone, IfOk, IfSome, min};
+ghost use Rattle.std.specs.Prelude.{◌≡◌, ◌+◌, ◌<◌, ◌≤◌, ◌-◌, List, IfNone, IfOk, IfSome};
 ghost use Rattle.frames.specs.Limits.{max_frame};
 ghost use Rattle.frames.specs.Reading.{DecodesTo, Gives, frame_in};
 ghost use Rattle.frames.specs.Requests as words;

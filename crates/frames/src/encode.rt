@@ -1,6 +1,6 @@
 //! Frames as bytes: those of answers, the refusal of a frame, and what a program does that asks.
 
-ghost use Rattle.std.specs.Prelude.{◌≡◌, ◌+◌, ◌*◌, ◌-◌, ◌^◌, ◌<◌, ◌≤◌, ◌⊎◌, ◌++◌, IfErr, IfNone, IfOk, IfSome, IsOk, OnErr, OnOk, All, ◌∷◌, length, min};
+ghost use Rattle.std.specs.Prelude.{◌≡◌, ◌+◌, ◌-◌, ◌^◌, ◌<◌, ◌≤◌, ◌⊎◌, ◌++◌, IfErr, IfNone, IfOk, IfSome, IsOk, OnErr, OnOk, All, ◌∷◌, length, min};
 ghost use Rattle.std.specs.Int.{to_le_bytes, w16, w32, w64};
 ghost use Rattle.frames.specs.Answers.{bytes_of_answer, bytes_of_answers, bytes_of_listing, bytes_of_outcome, bytes_of_refused, size_of_answers};
 ghost use Rattle.base.specs.declared.error.PoolError.TheVariants as lacking;

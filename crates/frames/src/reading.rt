@@ -1,6 +1,5 @@
 //! The bytes of a frame as its requests, from left to right. Each function gives what it read and the bytes after it.
 
-ghost use Rattle.std.specs.Prelude.{◌≡◌};
 ghost use Rattle.std.specs.Int.{w16, w32, w64};
 ghost use Rattle.frames.specs.declared.error.FrameError.TheVariants.{CutOff};
 ghost use Rattle.transactions.specs.Reading.{split_at};

@@ -1,7 +1,7 @@
 //! The maps of objects before a group. A tree in memory has the pointers down to the indirect blocks, so these blocks
 //! are read of each object that the group changes.
 
-ghost use Rattle.std.specs.Prelude.{◌≡◌, ◌<◌, ◌≤◌, ◌⊎◌, ℕ, List, IfErr, IfOk, IsTrue, OnOk, Some, false, is_some, length, true, vec_len};
+ghost use Rattle.std.specs.Prelude.{◌≡◌, ◌<◌, ◌≤◌, ◌⊎◌, ℕ, List, IfErr, IfOk, IsTrue, OnOk, false, is_some, length, true, vec_len};
 ghost use Rattle.base.specs.declared.error.PoolError.TheVariants as error;
 ghost use Rattle.base.specs.declared.pointer.Pointer.{Pointer};
 ghost use Rattle.base.specs.disk.Disk.{bytes_of};
@@ -10,7 +10,6 @@ ghost use Rattle.base.specs.formats.Geometry.{block_address};
 ghost use Rattle.base.specs.formats.Limits.{object_count, payload_size, record_count};
 ghost use Rattle.base.specs.tree.PlacedTrees.{HoldsTree, IsPlaced};
 ghost use Rattle.base.specs.tree.Places.{Place};
-ghost use Rattle.base.specs.tree.Places.Place.{Data};
 ghost use Rattle.device_model.specs.Reading.{OnlyReads};
 ghost use Rattle.object_maps.specs.Cached.{BeginsInside, HoldsObject, IsDamage, IsRecordPointer};
 ghost use Rattle.object_maps.specs.ContentsShown.{contents_of};

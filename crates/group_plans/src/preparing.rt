@@ -1,6 +1,6 @@
 //! The reads of a plan: each record that a group changes, as it is after the group. A plan itself reads nothing.
 
-ghost use Rattle.std.specs.Prelude.{◌≡◌, ◌<◌, ◌≤◌, ◌⊎◌, IfErr, IfOk, IsTrue, OnOk, is_some, length, true};
+ghost use Rattle.std.specs.Prelude.{◌≡◌, ◌<◌, ◌≤◌, IfErr, IfOk, IsTrue, OnOk, is_some, length, true};
 ghost use Rattle.base.specs.declared.error.PoolError.TheVariants as error;
 ghost use Rattle.base.specs.declared.record_state.RecordState.TheVariants.{Dirty};
 ghost use Rattle.base.specs.disk.Disk.{bytes_of};

@@ -7,7 +7,7 @@ use Rattle.base.specs.formats.Chain.{LogPiece}
 use Rattle.base.specs.formats.Fields.{number_at, part}
 use Rattle.base.specs.formats.Geometry.{IsBlockAddress, block_count, block_size}
 use Rattle.base.specs.steps.Exact.{AreFree, IsBounded}
-use Rattle.base.specs.steps.ExactNow.{IsExplainedNow}
+use Rattle.base.specs.steps.Tables.{AreTablesExplained}
 use Rattle.base.specs.crash.Imports.{IsImportOf, is_past_last}
 use Rattle.base.specs.crash.Mount.{IsChainOf, IsUsed}
 use Rattle.base.specs.history.Past.{new_past}
@@ -76,7 +76,7 @@ pub record StandsOn (now : List ℕ) (m : Mounted) : Type 0 where
 
 -- whenever its pool was created, a past in which nothing happened explains it
 abbrev pub IsExplainedAnew : Mounted → Type 0
-IsExplainedAnew m = (created : ℕ) → IsExplainedNow (shown_of_import m) (new_past (contents_of m.contents) created m.dirty_max)
+IsExplainedAnew m = (created : ℕ) → AreTablesExplained (shown_of_import m) (new_past (contents_of m.contents) created m.dirty_max)
 
 -- each block of the active tree and of its chain is as in the image
 abbrev pub KeepsUsedBlocks : List ℕ → List ℕ → Type 0
@@ -103,6 +103,6 @@ pub record IsMountedAnew (size dirty_max : ℕ) (m : Mounted) : Type 0 where
   pub geometry : m.geometry ≡ size
   pub limit : m.dirty_max ≡ dirty_max
   pub made : CanImport size dirty_max
-  pub explained : (created : ℕ) → IsExplainedNow (shown_of_import m) (new_past (contents_of m.contents) created dirty_max)
+  pub explained : (created : ℕ) → AreTablesExplained (shown_of_import m) (new_past (contents_of m.contents) created dirty_max)
   pub bounded : IsBounded (contents_of m.contents)
   pub group : (4 ≤ m.group.0) × (m.group.0 < 2 ^ 60)

@@ -1,6 +1,6 @@
 //! Whether the pool of a device is whole, and if it isn't, each damage of its tree. It is found by reads alone.
 
-ghost use Rattle.std.specs.Prelude.{◌≡◌, IfErr, IfOk, IsTrue, OnOk};
+ghost use Rattle.std.specs.Prelude.{IfErr, IfOk, IsTrue, OnOk};
 ghost use Rattle.base.specs.crash.Mount.{IsChainDamaged};
 ghost use Rattle.base.specs.disk.Disk.{bytes_of};
 ghost use Rattle.base.specs.formats.Geometry.{IsGeometry};
@@ -25,8 +25,8 @@ use std::alloc::Global;
 pub enum Soundness {
     /// It is: this is what an import would mount.
     Whole(Inspected),
-    /// It isn't: these are the damages of its tree, in the order of the walk. If the tree has none, it is the one damage
-    /// of the log, of kind 6, with the address of the block of the first record that can't take place.
+    /// It isn't: these are the damages of its tree, in the order of the walk. If the tree has none, it is the one
+    /// damage of the log, of kind 6, with the address of the block of the first record that can't take place.
     Damaged(Vec<BlockDamage>),
 }
 

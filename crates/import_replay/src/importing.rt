@@ -28,7 +28,7 @@
 //! has its tree and its chain still, and the new one a tree of what these mount. So the next import mounts the same
 //! contents. If the device refuses a call, the calls before it are made, and the import can be made again.
 
-ghost use Rattle.std.specs.Prelude.{◌≡◌, ◌<◌, ◌*◌, ℕ, [], false, true, IfErr, IfOk, IsTrue, MatchResult, OnOk};
+ghost use Rattle.std.specs.Prelude.{◌≡◌, ◌<◌, ◌*◌, [], false, true, IfErr, IfOk, IsTrue, MatchResult, OnOk};
 ghost use Rattle.base.specs.crash.CrashRule.{KeepsOwn};
 ghost use Rattle.base.specs.crash.Imports as numbers;
 ghost use Rattle.base.specs.disk.Calls.{with_refusal};

@@ -1,6 +1,6 @@
 //! A record that is begun: one that a log block can't hold, of which the first part is written and the last one is not.
 
-ghost use Rattle.std.specs.Prelude.{◌≡◌, ◌≤◌, ◌+◌, length, nat_le, take, drop};
+ghost use Rattle.std.specs.Prelude.{◌≡◌, ◌≤◌, length};
 ghost use Rattle.std.proofs.Props.{props};
 ghost use Rattle.base.specs.formats.Limits.{log_block_room};
 ghost use Rattle.base.specs.formats.Records.{bytes_of_record};

@@ -11,7 +11,7 @@
 //! A chain has no more blocks than the device has room for: each has a number of its own, and so an address of its own.
 //! Whatever the device holds, none is read after so many.
 
-ghost use Rattle.std.specs.Prelude.{◌≡◌, ◌≤◌, ◌<◌, ◌^◌, All, IfErr, IfOk, IfSome, IfNone, IsTrue, length, map, take};
+ghost use Rattle.std.specs.Prelude.{◌≡◌, ◌≤◌, ◌<◌, ◌^◌, All, IfErr, IfOk, IfSome, IfNone, IsTrue, length, map};
 ghost use Rattle.base.specs.disk.Disk.{bytes_of};
 ghost use Rattle.base.specs.formats.Geometry.{block_address};
 ghost use Rattle.device_model.specs.Reading.{OnlyReads};

@@ -5,7 +5,7 @@ ghost use Rattle.base.specs.disk.Disk.{bytes_of};
 ghost use Rattle.base.specs.formats.Geometry.{block_address};
 ghost use Rattle.base.specs.formats.Versions.{number_of_version};
 ghost use Rattle.device_model.specs.Reading.{OnlyReads};
-ghost use Rattle.intent_log.specs.Chains.{AreGathered, AreSoundParts, BeginsNone, IsBlockAt, IsChainRefusal, IsSoundBlock, MayBegin, NoneStand};
+ghost use Rattle.intent_log.specs.Chains.{AreGathered, AreSoundParts, BeginsNone, IsBlockAt, IsChainRefusal, MayBegin, NoneStand};
 
 use crate::chains::ChainHeader;
 use crate::log_blocks::{LogBlock, read_block};

@@ -20,7 +20,7 @@
 //! import that changes the configs writes and flushes those of two labels before the other two. So at each moment one
 //! pair at least is whole.
 
-ghost use Rattle.std.specs.Prelude.{◌≡◌, ◌+◌, ◌<◌, ◌≤◌, ◌^◌, ◌↔◌, ℕ, List, IsTrue, IfSome, IfNone, length, replicate, take};
+ghost use Rattle.std.specs.Prelude.{◌≡◌, ◌+◌, ◌<◌, ◌≤◌, ◌^◌, ◌↔◌, ℕ, List, IsTrue, IfSome, IfNone, length, take};
 ghost use Rattle.base.specs.formats.Labels.{IsConfigPayload};
 ghost use Rattle.base.specs.formats.Limits.{max_name, payload_size};
 ghost use Rattle.labels.specs.ConfigBytes.{config_bytes};

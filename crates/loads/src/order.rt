@@ -1,6 +1,6 @@
 //! What a load is asked for, and what it returns.
 
-ghost use Rattle.std.specs.Prelude.{◌≡◌, ◌+◌, ◌*◌, true};
+ghost use Rattle.std.specs.Prelude.{◌≡◌, ◌+◌, ◌*◌};
 ghost use Rattle.loads.specs.Orders.{committed_by, is_order};
 
 /// The streams of a load. Each has an owner of its number.

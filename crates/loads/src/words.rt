@@ -7,7 +7,7 @@
 //!
 //! So the streams write no byte in common: a write to object 16 stays in the 1,024 bytes of its stream.
 
-ghost use Rattle.std.specs.Prelude.{◌≡◌, ◌+◌, ◌<◌, ◌≤◌};
+ghost use Rattle.std.specs.Prelude.{◌≡◌, ◌+◌, ◌<◌};
 ghost use Rattle.loads.specs.Words.{IsOwnPlace, byte_drawn, length_drawn, low_drawn, object_drawn};
 
 use crate::order::STREAMS;

@@ -10,7 +10,7 @@ ghost use Rattle.base.specs.disk.Disk.{bytes_of};
 ghost use Rattle.base.specs.formats.Blocks.{Opens};
 ghost use Rattle.base.specs.formats.Fields.{no_pointer, pointer_in};
 ghost use Rattle.base.specs.formats.Geometry.{block_address};
-ghost use Rattle.base.specs.formats.Limits.{object_count, payload_size, pointer_count, record_count, record_size};
+ghost use Rattle.base.specs.formats.Limits.{object_count, payload_size, record_count, record_size};
 ghost use Rattle.base.specs.tree.PlacedTrees.{IsPlaced};
 ghost use Rattle.base.specs.tree.Places.{Place};
 ghost use Rattle.base.specs.tree.Places.Place.{Data};

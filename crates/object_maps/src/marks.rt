@@ -1,6 +1,5 @@
 //! The blocks that pointers name are taken from a set of free blocks.
 
-ghost use Rattle.std.specs.Prelude.{ℕ};
 ghost use Rattle.std.specs.List.{list_any};
 ghost use Rattle.object_maps.specs.FreeBlocks.{BlocksTaken, is_block_at, map_names, names_block};
 

@@ -5,7 +5,7 @@ use Rattle.base.specs.declared.refused.RefusedCalls.{RefusedCalls}
 use Rattle.base.specs.declared.step.Step.{Step}
 use Rattle.base.specs.declared.step.Reply.{Reply}
 use Rattle.base.specs.steps.Additions.{past_after}
-use Rattle.base.specs.steps.ExactNow.{IsExplainedNow}
+use Rattle.base.specs.steps.Tables.{AreTablesExplained}
 use Rattle.base.specs.steps.Runs.{Run}
 use Rattle.base.specs.stored.Stored.{IsHeld}
 use Rattle.device_model.specs.declared.device.SectorDevice.{Ghosts}
@@ -36,7 +36,7 @@ module _ {Dev : Type 0} {G : Ghosts Dev} where
   -- they are a run of the definitions, and keep what a past explains
   pub runs_on : (ss : List Step) (rs : List Reply) (old new : PoolState Dev G) → IsMade ss rs old new → RunsOn ss rs (shown old) (shown new)
   runs_on [] [] old new same past explained =
-      (past, ap (λ (p : PoolState Dev G). state_with (told p) past) same, subst (λ (p : PoolState Dev G). IsExplainedNow (shown p) past) (sym same) explained)
+      (past, ap (λ (p : PoolState Dev G). state_with (told p) past) same, subst (λ (p : PoolState Dev G). AreTablesExplained (shown p) past) (sym same) explained)
   runs_on (s ∷ ss) (r ∷ rs) old new (middle, one, rest) past explained =
       let turn = one.turns past in
       let later = turned_state s r (told old) (told middle) past in

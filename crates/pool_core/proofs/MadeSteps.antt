@@ -17,7 +17,7 @@ use Rattle.base.specs.declared.status.Status.{Status}
 use Rattle.base.specs.disk.Calls.{counted}
 use Rattle.base.specs.disk.Disk.{bytes_of}
 use Rattle.base.specs.history.Past.{Past}
-use Rattle.base.specs.steps.ExactNow.{IsExplainedNow}
+use Rattle.base.specs.steps.Tables.{AreTablesExplained}
 use Rattle.base.specs.steps.Runs.{Replies, Step, asks_device, is_log_step, progress_reply, reply_of}
 use Rattle.base.specs.steps.Shown.{Shown, is_durable, status_of}
 use Rattle.base.specs.steps.Steps as steps
@@ -75,7 +75,7 @@ module _ {Dev : Type 0} {G : Ghosts Dev} {old new : PoolState Dev G} where
   led_step : {A B : Type 0} {s : declared_step.Step} {Does : Result B PoolError → State → State → Type 0} {make : B → Reply} {answer : Result A PoolError} (f : A → B)
       → ((r : Reply) (x y : State) → Replies make r (λ a. Does a x y) → IsStep s r x y) → is_on_tables s ≡ true → ((b : B) → is_still (make b) ≡ true)
       → ((r : Reply) → device_of new ≡ device_of old → CallsDevice s r old new)
-      → ((past : Past) → (rests_on_past s ≡ true → IsExplainedNow (shown old) past) → (later : Past) × Does (result_map f answer) (record { shown = shown old; past = past }) (record { shown = shown new; past = later }))
+      → ((past : Past) → (rests_on_past s ≡ true → AreTablesExplained (shown old) past) → (later : Past) × Does (result_map f answer) (record { shown = shown old; past = past }) (record { shown = shown new; past = later }))
       → MovesNothing answer old new → MakesStep s (reply_of (λ (a : A). make (f a)) answer) old new
   led_step {A} {B} {s} {Does} {make} {answer} f same off quiet calls meets moves = record {
     replied = replies;

@@ -2,7 +2,7 @@
 use Rattle.std.proofs.Common.{◌≡◌, false, [], subst}
 use Rattle.base.specs.declared.step.Step as declared_step
 use Rattle.base.specs.declared.step.Reply as declared_reply
-use Rattle.base.specs.steps.ExactNow.{IsExplainedNow}
+use Rattle.base.specs.steps.Tables.{AreTablesExplained}
 use Rattle.base.specs.history.Past.{Past}
 use Rattle.base.specs.stored.Stored.{IsHeld}
 use Rattle.base.proofs.steps.Additions.{told_past}
@@ -25,7 +25,7 @@ module _ (keeps : Type 0) (s : declared_step.Step) (r : declared_reply.Reply) (o
     held = λ keep x. leads_keep s old new past (turned_state s r old new past).past x r (stepped_over keep x) (leads keep);
   }
     where
-      stepped : IsExplainedNow old.shown past → IsStep s r (state_with old past) (turned_state s r old new past)
+      stepped : AreTablesExplained old.shown past → IsStep s r (state_with old past) (turned_state s r old new past)
       stepped x =
           let one = replies past (λ starts. x) in
           let is = told_past ⊥ [] s r (state_with old past) (state_with new one.0) one.1 in

@@ -1,6 +1,6 @@
 -- The past of a pool that an import gave.
 use Rattle.std.specs.Prelude.{ℕ}
-use Rattle.base.specs.steps.ExactNow.{IsExplainedNow}
+use Rattle.base.specs.steps.Tables.{AreTablesExplained}
 use Rattle.base.specs.steps.Shown.{Shown}
 use Rattle.base.specs.history.Past.{Past, new_past}
 use Rattle.base.specs.stored.Stored.{IsHeld}
@@ -12,7 +12,7 @@ first_past shown created = new_past shown.contents created shown.dirty_max
 
 -- it explains what is shown, whenever the pool was created
 abbrev pub IsExplainedAtFirst : Shown → Type 0
-IsExplainedAtFirst shown = (created : ℕ) → IsExplainedNow shown (first_past shown created)
+IsExplainedAtFirst shown = (created : ℕ) → AreTablesExplained shown (first_past shown created)
 
 -- and with it the device holds what it should
 abbrev pub IsHeldAtFirst : ShownPool → Type 0

@@ -3,7 +3,7 @@ use Rattle.std.specs.Prelude.{◌≡◌, ◌&&◌, Bool, true, false, not, []}
 use Rattle.base.specs.declared.step.Step as declared_step
 use Rattle.base.specs.declared.step.Step.TheVariants as step
 use Rattle.base.specs.declared.step.Reply as declared_reply
-use Rattle.base.specs.steps.ExactNow.{IsExplainedNow}
+use Rattle.base.specs.steps.Tables.{AreTablesExplained}
 use Rattle.base.specs.history.Past.{Past}
 use Rattle.base.specs.steps.Runs as runs
 use Rattle.base.specs.steps.Runs.{asks_device, is_log_step}
@@ -29,5 +29,5 @@ rests_on_past _ = false
 -- whatever the past of a run, of these steps one that explains what was shown, the step leads with this reply from what
 -- was shown before to what is shown after
 abbrev pub StepReplies : declared_step.Step → declared_reply.Reply → Shown → Shown → Type 0
-StepReplies s r old new = (past : Past) → (rests_on_past s ≡ true → IsExplainedNow old past)
+StepReplies s r old new = (past : Past) → (rests_on_past s ≡ true → AreTablesExplained old past)
     → (later : Past) × IsStep s r (record { shown = old; past = past }) (record { shown = new; past = later })

@@ -3,7 +3,7 @@ use Rattle.std.specs.Prelude.{IsTrue}
 use Rattle.base.specs.declared.step.Step as declared_step
 use Rattle.base.specs.declared.step.Reply as declared_reply
 use Rattle.base.specs.steps.Additions.{past_after}
-use Rattle.base.specs.steps.ExactNow.{IsExplainedNow}
+use Rattle.base.specs.steps.Tables.{AreTablesExplained}
 use Rattle.base.specs.history.Past.{Past}
 use Rattle.base.specs.steps.Steps.{State}
 use Rattle.base.specs.stored.Stored.{Held, IsHeld}
@@ -28,8 +28,8 @@ held_after s r old new past = held_with new (past_after s r (state_with old past
 -- explains what is shown then. Over a device that keeps the disk model, if with this past the device also holds what it
 -- should, the step is one over its bytes, and it holds what it should then.
 pub record TurnsTo (keeps : Type 0) (s : declared_step.Step) (r : declared_reply.Reply) (old new : ShownPool) (past : Past) : Type 0 where
-  pub step : IsExplainedNow old.shown past → IsStep s r (state_with old past) (turned_state s r old new past)
-  pub explained : IsExplainedNow old.shown past → IsExplainedNow new.shown (past_after s r (state_with old past))
+  pub step : AreTablesExplained old.shown past → IsStep s r (state_with old past) (turned_state s r old new past)
+  pub explained : AreTablesExplained old.shown past → AreTablesExplained new.shown (past_after s r (state_with old past))
   pub over : keeps → IsHeld (held_with old past) → IsStepOver s r (held_with old past) (held_after s r old new past)
   pub held : keeps → IsHeld (held_with old past) → IsHeld (held_after s r old new past)
 

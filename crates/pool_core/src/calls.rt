@@ -4,7 +4,6 @@
 //! others, as a handle does under a lock, is written once for all calls. `Step` is a call too, for scripts and runs. A
 //! new step costs its call here, an arm of `Step`'s in `runs.rt`, and nothing above.
 
-ghost use Rattle.std.specs.Prelude.{ℕ};
 ghost use Rattle.base.specs.declared.step.Reply.{Reply};
 ghost use Rattle.base.specs.declared.step.Reply.TheVariants as reply;
 ghost use Rattle.base.specs.declared.step.Step.{Step};

@@ -3,7 +3,7 @@
 //! A group is open, then closed, then quiesced, then syncing (`txg.c`). One call here brings the group that is open
 //! through all four, after the groups before it: each group is synced after the one before.
 
-ghost use Rattle.std.specs.Prelude.{◌≡◌, is_some};
+ghost use Rattle.std.specs.Prelude.{is_some};
 ghost use Rattle.base.specs.declared.step.Reply.TheVariants as reply;
 ghost use Rattle.base.specs.declared.step.Step.TheVariants as step;
 ghost use Rattle.pool_core.specs.GroupSyncs.{EndsSync, If, SyncsClosed, SyncsOpen};

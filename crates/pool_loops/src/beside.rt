@@ -1,6 +1,6 @@
 //! Work beside the loops.
 
-ghost use Rattle.std.specs.Prelude.{◌≡◌, Err, IfErr, IfOk, Ok, OnOk};
+ghost use Rattle.std.specs.Prelude.{◌≡◌, Err, IfOk, Ok, OnOk};
 
 use crate::halt::Halt;
 use crate::loops::{quiesce, sync};

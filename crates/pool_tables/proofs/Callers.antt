@@ -25,7 +25,7 @@ use Rattle.base.specs.formats.Fields.{number_at}
 use Rattle.base.specs.history.Contents.{length_of}
 use Rattle.base.specs.history.Past.{Past}
 use Rattle.base.specs.history.Plans.{NumberRange}
-use Rattle.base.specs.steps.ExactNow.{IsExplainedNow}
+use Rattle.base.specs.steps.Tables.{AreTablesExplained}
 use Rattle.base.specs.steps.Groups.{Admission}
 use Rattle.base.specs.formats.Limits.{log_block_room}
 use Rattle.base.specs.formats.Records.{Record, size_of}
@@ -118,7 +118,7 @@ module _ (s new : Shown) where
 
   -- A sync that starts writes what its group left.
   pub started_contents : (moment : ℕ) (answer : Result Group PoolError) → StartsSync moment answer s new
-      → IfOk answer (λ group. (past : Past) → IsExplainedNow s past → (plan : SyncPlan) × (new.sync ≡ Some plan) × IsReplayUpTo group.0 past plan.contents)
+      → IfOk answer (λ group. (past : Past) → AreTablesExplained s past → (plan : SyncPlan) × (new.sync ≡ Some plan) × IsReplayUpTo group.0 past plan.contents)
   started_contents moment (Ok group) starts = λ past explained.
       let old : State = record { shown = s; past = past } in
       let later : State = after (starts past explained).0 in

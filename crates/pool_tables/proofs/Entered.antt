@@ -6,7 +6,7 @@ use Rattle.base.specs.declared.operation.Op.{Op}
 use Rattle.base.specs.declared.step.Step.TheVariants as step
 use Rattle.base.specs.formats.Records.{is_content_allowed}
 use Rattle.base.specs.history.Past.{Past}
-use Rattle.base.specs.steps.ExactNow.{IsExplainedNow}
+use Rattle.base.specs.steps.Tables.{AreTablesExplained}
 use Rattle.base.specs.steps.Runs.{receipt_reply}
 use Rattle.base.specs.steps.Logs.{log_after_commit}
 use Rattle.base.specs.steps.Shown.{Shown}
@@ -33,7 +33,7 @@ module _ (tx : ℕ) (ops : List Op) (group : ℕ) (s : Shown) (may : MayCommit t
   defined = rw may.passes (may.admission, may.after, may.found, may.applied, bytes, rw may.group_is refl, rw may.group_is refl)
 
   -- the history with its entry explains what is shown then
-  after_explained : IsExplainedNow s past → IsExplainedNow after.shown after.past
+  after_explained : AreTablesExplained s past → AreTablesExplained after.shown after.past
   after_explained explained = steps_keep_tables ⊥ [] (step.Commit (record { 0 = tx }) ops) (receipt_reply (s.next_ordinal, group)) before after (Ok (s.next_ordinal, group), refl, defined) explained
 
 -- So it is a step of the definitions, where the pool shows its changes laid over the synced contents.
@@ -41,7 +41,7 @@ pub entered : (tx : ℕ) (ops : List Op) (group : ℕ) (s : Shown) → MayCommit
     → pool_shown pool ≡ shown_after_entry tx group ops (shown_contents pool) s → MeetsExplained (Commit tx ops) (Ok (s.next_ordinal, group)) s (pool_shown pool)
 entered tx ops group s may bytes pool is past explained =
     let mid : State = after tx ops group s may bytes past in
-    let x : IsExplainedNow mid.shown mid.past = after_explained tx ops group s may bytes past explained in
+    let x : AreTablesExplained mid.shown mid.past = after_explained tx ops group s may bytes past explained in
     let log : mid.shown.log.unsynced ≡ map record_fields pool.log.records = sym (ap (λ (u : Shown). u.log.unsynced) is) in
     let synced = ap (λ (u : Shown). u.line.synced) is in
     let changes : AreChangesOfUnsynced mid.shown.line.synced pool.log.records pool.changes = subst (λ (g : ℕ). AreChangesOfUnsynced g pool.log.records pool.changes) synced pool.unsynced_kept.changed in

@@ -7,7 +7,7 @@ use Rattle.base.specs.declared.names.Group.{Group}
 use Rattle.base.specs.declared.refused.RefusedCalls.{RefusedCalls}
 use Rattle.base.specs.disk.Calls.{counted}
 use Rattle.base.specs.history.Past.{Past}
-use Rattle.base.specs.steps.ExactNow.{IsExplainedNow}
+use Rattle.base.specs.steps.Tables.{AreTablesExplained}
 use Rattle.base.specs.steps.Refusals.{close_refusal, log_flush_refusal, log_write_refusal, quiesce_refusal, quiesced_group, quiescing_group, start_refusal, sync_step_refusal}
 use Rattle.base.specs.steps.Shown.{Shown, SyncPlan}
 use Rattle.base.specs.steps.Steps as steps
@@ -76,7 +76,7 @@ module _ (s new : Shown) where
       go (Err e) later h = absurd (own_refusal (quiesce_refusal s) e before (after later) (Does later) steps.Never passes h)
 
   -- the sync of the quiesced group starts, or is refused what no test sees
-  pub started : (moment group : ℕ) (answer : Result Group PoolError) → start_refusal s ≡ None → quiesced_group s.line ≡ Some group → StartsSync moment answer s new → (past : Past) → IsExplainedNow s past
+  pub started : (moment group : ℕ) (answer : Result Group PoolError) → start_refusal s ≡ None → quiesced_group s.line ≡ Some group → StartsSync moment answer s new → (past : Past) → AreTablesExplained s past
       → IfOk answer (λ g. g.0 ≡ group) × IfErr answer (λ e. e ≢ error.NotReady)
   started moment group answer passes at starts past explained = go answer (starts past explained).0 (starts past explained).1
     where

@@ -10,7 +10,7 @@ use Rattle.base.specs.history.Contents.{Contents, apply}
 use Rattle.base.specs.history.History.{Entry, apply_all, entries_in, replay, run}
 use Rattle.base.specs.history.Past.{Past}
 use Rattle.base.specs.history.Sequences.{in_turn}
-use Rattle.base.specs.steps.ExactNow.{IsExplainedNow}
+use Rattle.base.specs.steps.Tables.{AreTablesExplained}
 use Rattle.base.specs.steps.Logs.{record_of_entry, unsynced_records}
 use Rattle.base.specs.steps.Shown.{Shown}
 use Rattle.base.specs.steps.Steps.{ops_of_group}
@@ -68,7 +68,7 @@ module _ (synced group : ℕ) (below : synced < group) where
       by false above false is rest = rest
 
 -- each group above the synced one has its operations among the unsynced records
-pub unsynced_are : (s : Shown) (p : Past) → IsExplainedNow s p → (unsynced : List code.Record) → s.log.unsynced ≡ map record_fields unsynced → (group : ℕ) → s.line.synced < group
+pub unsynced_are : (s : Shown) (p : Past) → AreTablesExplained s p → (unsynced : List code.Record) → s.log.unsynced ≡ map record_fields unsynced → (group : ℕ) → s.line.synced < group
     → ops_of_group group p.entries ≡ pending_ops group unsynced
 unsynced_are s p explained unsynced log group below =
     let told : map record_fields unsynced ≡ unsynced_records s.line.synced p.entries = sym log ∙ explained.exact.log.unsynced in

@@ -6,7 +6,7 @@ use Rattle.base.specs.declared.operation.Op.{Op}
 use Rattle.base.specs.history.Contents.{name_given_by_all}
 use Rattle.base.specs.history.History.{Entry}
 use Rattle.base.specs.history.Past.{Past}
-use Rattle.base.specs.steps.ExactNow.{IsExplainedNow}
+use Rattle.base.specs.steps.Tables.{AreTablesExplained}
 use Rattle.base.specs.steps.Shown.{Shown}
 use Rattle.base.specs.steps.Steps.{ops_of_group}
 use Rattle.base.proofs.common.KeptLists.{All-each}
@@ -21,7 +21,7 @@ use Rattle.pool_tables.specs.Unsynced.{AreChangesOfUnsynced, AreNamesOfUnsynced}
 use Rattle.transactions.specs.Records.{record_fields}
 use Rattle.pool_tables.proofs.PendingOps.{unsynced_are}
 
-module _ (s : Shown) (p : Past) (explained : IsExplainedNow s p) (unsynced : List Record) (log : s.log.unsynced ≡ map record_fields unsynced) (changes : UnsyncedExtents)
+module _ (s : Shown) (p : Past) (explained : AreTablesExplained s p) (unsynced : List Record) (log : s.log.unsynced ≡ map record_fields unsynced) (changes : UnsyncedExtents)
     (of_unsynced : AreChangesOfUnsynced s.line.synced unsynced changes) where
   -- each entry is of a group up to the third after the synced one
   all_within : All (λ (e : Entry). e.group ≤ s.line.synced + 3) p.entries

@@ -9,7 +9,7 @@ use Rattle.base.specs.declared.operation.Op.{Op}
 use Rattle.base.specs.declared.operation.Shape.{Shape}
 use Rattle.base.specs.formats.Limits.{object_count}
 use Rattle.base.specs.history.Contents.{Contents, length_of}
-use Rattle.base.specs.steps.ExactNow.{IsExplainedNow}
+use Rattle.base.specs.steps.Tables.{AreTablesExplained}
 use Rattle.base.specs.steps.Groups.{Admission}
 use Rattle.base.specs.history.History.{apply_all}
 use Rattle.base.specs.history.Past.{Past}
@@ -24,7 +24,7 @@ Meets Step answer old new = (past : Past) → (later : Past) × Step answer (rec
 
 -- and so it does for each past that explains what was shown
 abbrev pub MeetsExplained : {A : Type 0} → (Result A PoolError → State → State → Type 0) → Result A PoolError → Shown → Shown → Type 0
-MeetsExplained Step answer old new = (past : Past) → IsExplainedNow old past → (later : Past) × Step answer (record { shown = old; past = past }) (record { shown = new; past = later })
+MeetsExplained Step answer old new = (past : Past) → AreTablesExplained old past → (later : Past) × Step answer (record { shown = old; past = past }) (record { shown = new; past = later })
 
 -- a transaction may commit: no test of its commit applies, it is open in this group, and its operations take place
 pub record MayCommit (tx : ℕ) (ops : List Op) (group : ℕ) (s : Shown) : Type 0 where

@@ -15,7 +15,7 @@ ghost use Rattle.base.specs.history.Contents.{length_of};
 ghost use Rattle.base.specs.history.Past.{Past};
 ghost use Rattle.base.specs.history.Plans.{charge_of};
 ghost use Rattle.base.specs.steps.Exact.{log_addresses};
-ghost use Rattle.base.specs.steps.ExactNow.{IsExplainedNow};
+ghost use Rattle.base.specs.steps.Tables.{AreTablesExplained};
 ghost use Rattle.base.specs.steps.Groups.{hold_count};
 ghost use Rattle.base.specs.steps.Refusals.{first_refusal, log_write_refusal};
 ghost use Rattle.base.specs.steps.Shown.{SyncPlan, available, free_count, reserved_total};
@@ -243,7 +243,7 @@ fn a_sync_writes_what_its_group_left<B: BlockReader>(
     moment: u64,
 ) -> Result<Group, PoolError>
     requires sized { B.size reader.old ≡ geometry_of pool.old }
-    ensures { IfOk result (λ group. (past : Past) → IsExplainedNow (pool_shown pool.old) past
+    ensures { IfOk result (λ group. (past : Past) → AreTablesExplained (pool_shown pool.old) past
         → (plan : SyncPlan) × ((pool_shown pool.new).sync ≡ Some plan)
         × IsReplayUpTo group.0 past plan.contents) }
 {

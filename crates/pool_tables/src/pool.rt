@@ -51,7 +51,6 @@ ghost use Rattle.object_maps.specs.Pointers.{pointers_of};
 ghost use Rattle.intent_log.specs.Kept.{header_fields, log_shown};
 ghost use Rattle.intent_log.specs.RunLogs.{IsLogOf, KeepsHeader};
 ghost use Rattle.throttle.specs.DirtyBytes.{total_of};
-ghost use Rattle.transactions.specs.declared.record.Record.{Record};
 ghost use Rattle.group_plans.specs.Areas.{AreBlocksOf, is_block_of};
 ghost use Rattle.group_plans.specs.Pointers.{pointers_after};
 ghost use Rattle.pool_tables.specs.Accounts.{AreAccounted, IsFreeSetOf};

@@ -7,7 +7,7 @@ use Rattle.base.specs.declared.error.PoolError.{PoolError}
 use Rattle.base.specs.declared.step.Step as declared_step
 use Rattle.base.specs.declared.step.Reply as declared_reply
 use Rattle.base.specs.declared.step.Reply.TheVariants as reply
-use Rattle.base.specs.steps.ExactNow.{IsExplainedNow}
+use Rattle.base.specs.steps.Tables.{AreTablesExplained}
 use Rattle.base.specs.steps.Runs.{Step}
 use Rattle.base.specs.steps.Steps.{State}
 use Rattle.device_model.specs.declared.device.SectorDevice.{Ghosts}
@@ -21,7 +21,7 @@ use Rattle.word_lock.specs.Seats.{seen}
 
 -- a state that its past explains
 abbrev IsSound : State → Type 0
-IsSound s = IsExplainedNow s.shown s.past
+IsSound s = AreTablesExplained s.shown s.past
 
 -- a step over a device of which nothing is known
 abbrev pub Does : declared_step.Step → declared_reply.Reply → State → State → Type 0

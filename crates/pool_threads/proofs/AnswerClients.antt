@@ -5,7 +5,7 @@ use Rattle.base.specs.declared.names.Receipt.{Receipt}
 use Rattle.base.specs.declared.status.Status.{Status}
 use Rattle.base.specs.declared.step.Step.TheVariants as step
 use Rattle.base.specs.declared.step.Reply.TheVariants as reply
-use Rattle.base.specs.steps.ExactNow.{GoesOn}
+use Rattle.base.specs.steps.Tables.{GoesOn}
 use Rattle.base.specs.steps.Seen.{IsStatusBetween}
 use Rattle.base.specs.steps.Shown.{available, dirty_total, free_count}
 use Rattle.base.specs.steps.Steps.{State}

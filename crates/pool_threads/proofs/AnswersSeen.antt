@@ -9,7 +9,7 @@ use Rattle.base.specs.declared.status.Status.{Status}
 use Rattle.base.specs.declared.step.Step.TheVariants as step
 use Rattle.base.specs.declared.step.Reply as declared_reply
 use Rattle.base.specs.declared.step.Reply.TheVariants as reply
-use Rattle.base.specs.steps.ExactNow.{GoesOn}
+use Rattle.base.specs.steps.Tables.{GoesOn}
 use Rattle.base.specs.steps.Refusals as refusal
 use Rattle.base.specs.steps.Runs.{Replies, Step}
 use Rattle.base.specs.steps.Seen.{IsDigestBetween, IsKnownDurable, IsMadeBetween, IsNameBetween, IsStatusBetween}

@@ -10,7 +10,7 @@ use Rattle.base.specs.declared.step.Reply.TheVariants as reply
 use Rattle.base.specs.history.History.{Entry}
 use Rattle.base.specs.history.Past.{Past}
 use Rattle.base.specs.steps.Exact.{IsLogExact}
-use Rattle.base.specs.steps.ExactNow.{IsExplainedNow}
+use Rattle.base.specs.steps.Tables.{AreTablesExplained}
 use Rattle.base.specs.steps.Logs.{Begun, Committed, KeptBlock, Log, as_list, awaits_flush, begins_in, begun_committed, committed_above, committed_entries, committed_in, committed_of, ends_in, has_record, is_flushed_in, is_same, log_after_flush}
 use Rattle.base.specs.steps.Refusals.{log_flush_refusal}
 use Rattle.base.specs.steps.Shown.{Shown, is_durable}
@@ -135,7 +135,7 @@ in_flushed log c none is =
     both true h unlike holds = holds
     both false h unlike holds = absurd (false≢true (sym unlike))
 
-module _ (s : Shown) (past : Past) (x : IsExplainedNow s past) (log : IsSettled s.log) where
+module _ (s : Shown) (past : Past) (x : AreTablesExplained s past) (log : IsSettled s.log) where
   abbrev exact : IsLogExact s past
   exact = x.exact.log
 
@@ -164,5 +164,5 @@ module _ (s : Shown) (past : Past) (x : IsExplainedNow s past) (log : IsSettled 
           or_right (nat_le e.group s.line.synced) (is_flushed_in s.log (noted o e)) (in_flushed s.log (noted o e) log.flushed (in_block (noted o e) s.log.kept kept))
 
 -- so each entry is known to be durable
-pub all_durable : (s : State) → IsExplainedNow s.shown s.past → IsSettled s.shown.log → AreDurable s s
+pub all_durable : (s : State) → AreTablesExplained s.shown s.past → IsSettled s.shown.log → AreDurable s s
 all_durable s x log = λ o e at. durable_is_known o e.group s s x (shown_durable s.shown s.past x log o e at) ([], [], refl)

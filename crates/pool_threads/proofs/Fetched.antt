@@ -16,7 +16,7 @@ use Rattle.base.specs.declared.range.Range.{Range}
 use Rattle.base.specs.declared.step.Step.TheVariants as step
 use Rattle.base.specs.declared.step.Reply as declared_reply
 use Rattle.base.specs.declared.step.Reply.TheVariants as reply
-use Rattle.base.specs.steps.ExactNow.{IsExplainedNow}
+use Rattle.base.specs.steps.Tables.{AreTablesExplained}
 use Rattle.base.specs.steps.Locks.{Grant}
 use Rattle.base.specs.steps.Refusals.{is_lock_in_use, lock_of, lock_tests, object_range, unlock_refusal}
 use Rattle.base.specs.steps.Runs.{Step, reply_of}
@@ -41,7 +41,7 @@ leaves None (Err e) old new does own made refused holds = refused e holds
 read_leaves : (now : List ℕ) (owner : Owner) (n : ObjectId) (range : Range) (r : declared_reply.Reply) (old new : State) → Step ⊥ now (step.Read owner n range) r old new → new ≡ old
 read_leaves now owner n range r old new (answer, is, holds) = leaves _ answer old new _ _ (λ bytes does. does.1) (λ e own. own.1) holds
 
-module _ (now : List ℕ) (owner : Owner) (n : ObjectId) (range : Range) (id : LockId) (b m : State) (x : IsExplainedNow b.shown b.past) (locks : Step ⊥ now (reader_step owner n range) (reply.Locked id) b m) where
+module _ (now : List ℕ) (owner : Owner) (n : ObjectId) (range : Range) (id : LockId) (b m : State) (x : AreTablesExplained b.shown b.past) (locks : Step ⊥ now (reader_step owner n range) (reply.Locked id) b m) where
   abbrev granted : Grant
   granted = next_grant owner.0 (object_range n.0 range.low range.high) Reader b.shown
 

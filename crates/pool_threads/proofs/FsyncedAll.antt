@@ -7,7 +7,7 @@ use Rattle.base.specs.declared.error.PoolError.TheVariants as error
 use Rattle.base.specs.declared.names.Group.{Group}
 use Rattle.base.specs.declared.step.Reply as declared_reply
 use Rattle.base.specs.declared.step.Reply.TheVariants as reply
-use Rattle.base.specs.steps.ExactNow.{GoesOn, IsExplainedNow}
+use Rattle.base.specs.steps.Tables.{GoesOn, AreTablesExplained}
 use Rattle.base.specs.steps.Steps.{State}
 use Rattle.base.proofs.steps.SeenGroups.{groups_go_up}
 use Rattle.base.proofs.steps.SeenStates.{at-prefix, grown}
@@ -30,7 +30,7 @@ durable_before : (at s : State) → GoesOn at s → AreDurable s s → AreDurabl
 durable_before at s onward all = λ o e there. all o e (at-prefix at.past.entries s.past.entries o e (grown at s onward).entries there)
 
 -- each entry is of a group up to the open one, so it is durable once that is synced
-durable_by_sync : (at s after : State) → GoesOn at s → IsExplainedNow s.shown s.past → s.shown.line.open_group ≤ after.shown.line.synced → AreDurable at after
+durable_by_sync : (at s after : State) → GoesOn at s → AreTablesExplained s.shown s.past → s.shown.line.open_group ≤ after.shown.line.synced → AreDurable at after
 durable_by_sync at s after onward x synced = λ o e there.
     let here = at-prefix at.past.entries s.past.entries o e (grown at s onward).entries there in
     let a = x.exact.groups.members.committed o e here in
@@ -40,7 +40,7 @@ durable_by_sync at s after onward x synced = λ o e there.
 
 -- a view of a pool that its past explains
 abbrev pub IsSound : SeenPool → Type 0
-IsSound v = ∥ IsExplainedNow (viewed_state v).shown v.past ∥₁
+IsSound v = ∥ AreTablesExplained (viewed_state v).shown v.past ∥₁
 
 module _ (keeps : Type 0) (took left : SeenPool) (sound : IsSound left) where
   -- a turn after which nothing is due for the log

@@ -4,7 +4,7 @@ use Rattle.std.specs.Prelude.{Bool, IsTrue, Result}
 use Rattle.base.specs.declared.error.PoolError.{PoolError}
 use Rattle.base.specs.declared.names.Receipt.{Receipt}
 use Rattle.base.specs.history.Past.{Past}
-use Rattle.base.specs.steps.ExactNow.{IsExplainedNow}
+use Rattle.base.specs.steps.Tables.{AreTablesExplained}
 use Rattle.base.specs.steps.Steps.{State}
 use Rattle.base.specs.stored.Stored.{IsHeld}
 use Rattle.device_model.specs.declared.device.SectorDevice.{Ghosts}
@@ -27,7 +27,7 @@ module _ {Dev : Type 0} {G : Ghosts Dev} (old new : PoolState Dev G) (same : tol
   explained_still x = record {
     state = x.state ∙ ap (λ (t : ShownPool). state_with t v.past) (sym same);
     disk_is = x.disk_is ∙ ap (λ (d : Past → OnDisk). (d v.past).disk) (sym disk);
-    explained = subst (λ (t : ShownPool). ∥ IsExplainedNow t.shown v.past ∥₁) (sym same) x.explained;
+    explained = subst (λ (t : ShownPool). ∥ AreTablesExplained t.shown v.past ∥₁) (sym same) x.explained;
     held = λ keeps. subst (λ (t : ShownPool). ∥ IsHeld (held_with t v.past) ∥₁) (sym same) (x.held keeps);
     safe = λ keeps created follows. subst (λ (d : Past → OnDisk). ∥ IsKeptSafe (d (since created v.past)) ∥₁) (sym disk) (x.safe keeps created follows);
   }
@@ -56,5 +56,5 @@ pub found_by : {Dev : Type 0} {G : Ghosts Dev} (receipt : Receipt) (result : Res
 found_by receipt result p v x checked = record {
   looked = refl;
   checked = subst (λ (a : State). ChecksReceipt receipt result a.shown) (sym x.state) checked;
-  explained = subst (λ (a : State). ∥ IsExplainedNow a.shown a.past ∥₁) (sym x.state) x.explained;
+  explained = subst (λ (a : State). ∥ AreTablesExplained a.shown a.past ∥₁) (sym x.state) x.explained;
 }

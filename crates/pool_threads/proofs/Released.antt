@@ -22,7 +22,7 @@ use Rattle.base.specs.declared.range.Range.{Range}
 use Rattle.base.specs.declared.step.Step.TheVariants as step
 use Rattle.base.specs.declared.step.Reply as declared_reply
 use Rattle.base.specs.declared.step.Reply.TheVariants as reply
-use Rattle.base.specs.steps.ExactNow.{IsExplainedNow}
+use Rattle.base.specs.steps.Tables.{AreTablesExplained}
 use Rattle.base.specs.steps.Groups.{Admission}
 use Rattle.base.specs.steps.Locks.{Grant, is_blocked}
 use Rattle.base.specs.steps.Refusals.{Test, abort_refusal, begin_tests, first_refusal, is_lock_in_use, lock_of, lock_tests, object_range, refused_if, transaction_of, unlock_refusal}
@@ -104,7 +104,7 @@ pub record HasLocked (owner : ℕ) (ids : List LockId) (b s : State) : Type 0 wh
 pub none_locked : (owner : ℕ) (b : State) → HasLocked owner [] b b
 none_locked owner b = record { grants = []; next = tt; held = sym (append-nil b.shown.locks); unused = λ i g at. absurd (none_at i g at); transactions = refl; running = refl; ran = inl refl }
 
-pub one_locked : (now : List ℕ) (owner : Owner) (n : ObjectId) (range : Range) (id : LockId) (ids : List LockId) (b m s : State) → IsExplainedNow b.shown b.past → Step ⊥ now (step.Lock owner n range Writer) (reply.Locked id) b m
+pub one_locked : (now : List ℕ) (owner : Owner) (n : ObjectId) (range : Range) (id : LockId) (ids : List LockId) (b m s : State) → AreTablesExplained b.shown b.past → Step ⊥ now (step.Lock owner n range Writer) (reply.Locked id) b m
     → HasLocked owner.0 ids m s → HasLocked owner.0 (id ∷ ids) b s
 one_locked now owner n range id ids b m s x (answer, is, holds) rest =
     let wanted = object_range n.0 range.low range.high in
@@ -138,7 +138,7 @@ pub record KeepsLocks (l e : State) : Type 0 where
 pub keeps_same : (l e : State) → e ≡ l → KeepsLocks l e
 keeps_same l e same = subst (λ (s : State). KeepsLocks l s) (sym same) (record { locks = refl; transactions = refl; running = refl })
 
-module _ (now : List ℕ) (owner : Owner) (plan : List Shape) (tx : TxId) (group : Group) (l b : State) (x : IsExplainedNow l.shown l.past) (begins : Step ⊥ now (step.Begin owner plan) (reply.Began tx group) l b) where
+module _ (now : List ℕ) (owner : Owner) (plan : List Shape) (tx : TxId) (group : Group) (l b : State) (x : AreTablesExplained l.shown l.past) (begins : Step ⊥ now (step.Begin owner plan) (reply.Began tx group) l b) where
   abbrev admission : Admission
   admission = next_admission owner.0 plan l.shown
 

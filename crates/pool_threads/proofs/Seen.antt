@@ -17,7 +17,7 @@ use Rattle.base.specs.declared.step.Reply as declared_reply
 use Rattle.base.specs.declared.step.Reply.TheVariants as reply
 use Rattle.base.specs.history.Past.{Past, IsPrefixOf}
 use Rattle.base.specs.steps.Additions.{past_after}
-use Rattle.base.specs.steps.ExactNow.{GoesOn}
+use Rattle.base.specs.steps.Tables.{GoesOn}
 use Rattle.base.specs.steps.Groups.{Admission, is_committed}
 use Rattle.base.specs.steps.Locks.{Grant, is_in}
 use Rattle.base.specs.steps.Refusals as refusal

@@ -7,7 +7,7 @@ use Rattle.base.specs.declared.error.PoolError.{PoolError}
 use Rattle.base.specs.declared.step.Step as declared_step
 use Rattle.base.specs.declared.step.Reply as declared_reply
 use Rattle.base.specs.declared.step.Reply.TheVariants as reply
-use Rattle.base.specs.steps.ExactNow.{IsExplainedNow}
+use Rattle.base.specs.steps.Tables.{AreTablesExplained}
 use Rattle.base.specs.steps.Steps.{State}
 use Rattle.base.specs.steps.SyncEnds.{IsAnswer}
 use Rattle.device_model.specs.declared.device.SectorDevice.{Ghosts}
@@ -27,9 +27,9 @@ use Rattle.word_lock.specs.Seats.{HasMetNone, HasTurned, kin, seen, turns}
 use Rattle.word_lock.specs.Turns.{turn}
 
 -- a past that explains a pool explains its view
-pub explained_by : {Dev : Type 0} {G : Ghosts Dev} (p : PoolState Dev G) (v w : SeenPool) → Explains p v → w ≡ v → ∥ IsExplainedNow (viewed_state w).shown w.past ∥₁
+pub explained_by : {Dev : Type 0} {G : Ghosts Dev} (p : PoolState Dev G) (v w : SeenPool) → Explains p v → w ≡ v → ∥ AreTablesExplained (viewed_state w).shown w.past ∥₁
 explained_by p v w x same =
-    subst (λ (u : SeenPool). ∥ IsExplainedNow (viewed_state u).shown u.past ∥₁) (sym same) (subst (λ (a : State). ∥ IsExplainedNow a.shown a.past ∥₁) (sym x.state) x.explained)
+    subst (λ (u : SeenPool). ∥ AreTablesExplained (viewed_state u).shown u.past ∥₁) (sym same) (subst (λ (a : State). ∥ AreTablesExplained a.shown a.past ∥₁) (sym x.state) x.explained)
 
 -- what is due of a pool is due by a view that explains it
 pub due_seen : {Dev : Type 0} {G : Ghosts Dev} (d : Duty) (p : PoolState Dev G) (v : SeenPool) → Explains p v → due_step d (shown p) ≡ due_of d v

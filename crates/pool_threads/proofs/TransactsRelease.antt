@@ -13,7 +13,7 @@ use Rattle.base.specs.declared.range.Mode.TheVariants.{Writer}
 use Rattle.base.specs.declared.range.ObjectRange.{ObjectRange}
 use Rattle.base.specs.declared.step.Step.TheVariants as step
 use Rattle.base.specs.declared.step.Reply.TheVariants as reply
-use Rattle.base.specs.steps.ExactNow.{IsExplainedNow}
+use Rattle.base.specs.steps.Tables.{AreTablesExplained}
 use Rattle.base.specs.steps.Locks.{Grant}
 use Rattle.base.specs.steps.Runs.{Step}
 use Rattle.device_model.specs.declared.device.SectorDevice.{Ghosts}
@@ -80,7 +80,7 @@ module _ (keeps : Type 0) (owner : Owner) where
         ∥∥₁_elim b.begins.2.1.explained ∥∥₁_prop (λ x.
         ∥∥₁_elim b.begins.2.1.step ∥∥₁_prop (λ begins. by x begins result b.ends))
       where
-        by : IsExplainedNow (viewed_state b.begins.0).shown (viewed_state b.begins.0).past → Step ⊥ [] (step.Begin owner plan) (reply.Began b.tx b.begins.2.0) (viewed_state b.begins.0) (viewed_state b.begun)
+        by : AreTablesExplained (viewed_state b.begins.0).shown (viewed_state b.begins.0).past → Step ⊥ [] (step.Begin owner plan) (reply.Began b.tx b.begins.2.0) (viewed_state b.begins.0) (viewed_state b.begun)
             → (r : Result Receipt PoolError) → Ends keeps b.tx ops r b.begun w → ∥ KeepsLocks (viewed_state b.begins.0) (viewed_state w) ∥₁
         by x begins (Ok r) one =
             ∥∥₁_map {B = KeepsLocks (viewed_state b.begins.0) (viewed_state w)} one.step

@@ -9,7 +9,7 @@ use Rattle.base.specs.declared.step.Reply.TheVariants as reply
 use Rattle.base.specs.disk.Disk.{Disk}
 use Rattle.base.specs.history.Past.{Past}
 use Rattle.base.specs.steps.Additions.{past_after}
-use Rattle.base.specs.steps.ExactNow.{IsExplainedNow}
+use Rattle.base.specs.steps.Tables.{AreTablesExplained}
 use Rattle.base.specs.steps.Steps.{State}
 use Rattle.device_model.specs.declared.device.SectorDevice.{Ghosts}
 use Rattle.pool_core.specs.declared.state.PoolState.{PoolState}
@@ -102,7 +102,7 @@ module _ {Dev : Type 0} {G : Ghosts Dev} (s : declared_step.Step) (r : declared_
     next_stepped : IsPoolStep (IsTrue G.keeps_model) s r v next
     unfolding next
     next_stepped = record {
-      explained = subst (λ (a : State). ∥ IsExplainedNow a.shown a.past ∥₁) before_is x.explained;
+      explained = subst (λ (a : State). ∥ AreTablesExplained a.shown a.past ∥₁) before_is x.explained;
       step = both (λ a b. ∥ IsStep s r a b ∥₁) (∥∥₁_map x.explained (turns v.past).step);
       over = λ keeps. subst (λ (d : Disk). ∥ IsStepOn d s r (viewed_state v) (viewed_state (view_of new (later v.past) v.rule)) ∥₁) (sym x.disk_is)
           (both (λ a b. ∥ IsStepOn (disk_of old) s r a b ∥₁) (∥∥₁_map (x.held keeps) ((turns v.past).over keeps)));

@@ -11,7 +11,7 @@ use Rattle.base.specs.declared.names.Receipt.{Receipt}
 use Rattle.base.specs.declared.step.Step as declared_step
 use Rattle.base.specs.declared.step.Reply.TheVariants as reply
 use Rattle.base.specs.formats.Limits.{last_number}
-use Rattle.base.specs.steps.ExactNow.{GoesOn, IsExplainedNow}
+use Rattle.base.specs.steps.Tables.{GoesOn, AreTablesExplained}
 use Rattle.base.specs.steps.Logs.{is_flushed_in}
 use Rattle.base.specs.steps.Refusals.{fsync_refusal}
 use Rattle.base.specs.steps.Runs.{refusal_of_step}
@@ -113,12 +113,12 @@ module _ (keeps : Type 0) (u w : SeenPool) where
     syncs_without_space is = syncs_without error.NoSpace refl (λ other. let no_way : error.NoSpace ≡ error.Suspended = other in cc) (λ other. let no_way : error.NoSpace ≡ error.NotReady = other in cc) is
 
 -- what is known to be durable is shown so
-known-shown : (ordinal group : ℕ) (s : State) → IsExplainedNow s.shown s.past → IsKnownDurable ordinal group s → is_durable s.shown ordinal group ≡ true
+known-shown : (ordinal group : ℕ) (s : State) → AreTablesExplained s.shown s.past → IsKnownDurable ordinal group s → is_durable s.shown ordinal group ≡ true
 known-shown ordinal group s x (inl low) = ap (λ (b : Bool). b || is_flushed_in s.shown.log (record { ordinal = ordinal; group = group })) (le-leb group s.shown.line.synced low)
 known-shown ordinal group s x (inr (e, at, of_group, is)) = ap (λ (g : ℕ). is_durable s.shown ordinal g) (sym of_group) ∙ sym (x.exact.log.acknowledged ordinal e at) ∙ is
 
 -- a wait for what a pool shows as durable is not refused from then on
-never_refused : (moment : ℕ) (receipt : Receipt) (e : PoolError) (s after : State) → IsExplainedNow s.shown s.past → is_durable s.shown receipt.ordinal.0 receipt.group.0 ≡ true → IsWaitingRefusal moment receipt e s after → ⊥
+never_refused : (moment : ℕ) (receipt : Receipt) (e : PoolError) (s after : State) → AreTablesExplained s.shown s.past → is_durable s.shown receipt.ordinal.0 receipt.group.0 ≡ true → IsWaitingRefusal moment receipt e s after → ⊥
 never_refused moment receipt e s after x is r =
     let shown : is_durable r.looked.shown receipt.ordinal.0 receipt.group.0 ≡ true = known-shown receipt.ordinal.0 receipt.group.0 r.looked r.explained (durable_is_known receipt.ordinal.0 receipt.group.0 s r.looked x is r.no_earlier) in
     false≢true (sym r.not_durable ∙ shown)
@@ -145,12 +145,12 @@ LastTurn keeps receipt e t = FindsReceipt receipt (Err e) t
 module _ {Dev : Type 0} {G : Ghosts Dev} where
   module _ (receipt : Receipt) where
     -- a wait that returns Ok has found the transaction durable, in what the handle has seen then
-    found_last : (old new : Handle Dev G) → WaitsUntil receipt (Ok tt) old new → ∥ IsExplainedNow (state_seen new).shown (state_seen new).past ∥₁ × (is_durable (state_seen new).shown receipt.ordinal.0 receipt.group.0 ≡ true)
+    found_last : (old new : Handle Dev G) → WaitsUntil receipt (Ok tt) old new → ∥ AreTablesExplained (state_seen new).shown (state_seen new).past ∥₁ × (is_durable (state_seen new).shown receipt.ordinal.0 receipt.group.0 ≡ true)
     found_last old new w = by w.found w.looks w.ends
       where
-        by : (found : Result Bool PoolError) → LooksAt receipt found w.last w.looked → EndsAfter receipt found (Ok tt) w.looked new → ∥ IsExplainedNow (state_seen new).shown (state_seen new).past ∥₁ × (is_durable (state_seen new).shown receipt.ordinal.0 receipt.group.0 ≡ true)
+        by : (found : Result Bool PoolError) → LooksAt receipt found w.last w.looked → EndsAfter receipt found (Ok tt) w.looked new → ∥ AreTablesExplained (state_seen new).shown (state_seen new).past ∥₁ × (is_durable (state_seen new).shown receipt.ordinal.0 receipt.group.0 ≡ true)
         by (Ok true) look ends =
-            subst (λ (h : Handle Dev G). ∥ IsExplainedNow (state_seen h).shown (state_seen h).past ∥₁ × (is_durable (state_seen h).shown receipt.ordinal.0 receipt.group.0 ≡ true)) (sym ends.1) (look.made.made.explained, sym look.made.made.checked.0)
+            subst (λ (h : Handle Dev G). ∥ AreTablesExplained (state_seen h).shown (state_seen h).past ∥₁ × (is_durable (state_seen h).shown receipt.ordinal.0 receipt.group.0 ≡ true)) (sym ends.1) (look.made.made.explained, sym look.made.made.checked.0)
         by (Ok false) look ends = absurd (let no_way : Ok tt ≡ Err ends.0 = ends.1 in cc)
         by (Err e) look ends = absurd (let no_way : Ok tt ≡ Err e = ends.0 in cc)
 

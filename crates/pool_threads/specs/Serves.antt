@@ -4,7 +4,7 @@ use Rattle.base.specs.declared.error.PoolError.{PoolError}
 use Rattle.base.specs.declared.step.Step as declared_step
 use Rattle.base.specs.declared.step.Reply as declared_reply
 use Rattle.base.specs.declared.step.Reply.TheVariants as reply
-use Rattle.base.specs.steps.ExactNow.{GoesOn}
+use Rattle.base.specs.steps.Tables.{GoesOn}
 use Rattle.base.specs.steps.Steps.{State}
 use Rattle.base.specs.steps.SyncEnds.{IsAnswer}
 use Rattle.pool_tables.specs.declared.duty.Duty.{Duty}

@@ -9,7 +9,7 @@ use Rattle.base.specs.disk.Disk.{Disk, bytes_of}
 use Rattle.base.specs.history.Past.{Past, new_past}
 use Rattle.base.proofs.disk.Moments.{joins, starts}
 use Rattle.base.specs.steps.Additions.{past_after}
-use Rattle.base.specs.steps.ExactNow.{GoesOn, IsExplainedNow}
+use Rattle.base.specs.steps.Tables.{GoesOn, AreTablesExplained}
 use Rattle.base.specs.steps.Explains.{WereSafe}
 use Rattle.base.specs.steps.Runs.{Step, Run}
 use Rattle.base.specs.steps.Steps.{State}
@@ -71,7 +71,7 @@ module _ {Dev : Type 0} {G : Ghosts Dev} where
   pub record Explains (p : PoolState Dev G) (v : SeenPool) : Type 0 where
     pub state : viewed_state v ≡ state_with (told p) v.past
     pub disk_is : v.disk ≡ disk_of p
-    pub explained : ∥ IsExplainedNow (shown p) v.past ∥₁
+    pub explained : ∥ AreTablesExplained (shown p) v.past ∥₁
     pub held : IsTrue G.keeps_model → ∥ IsHeld (held_with (told p) v.past) ∥₁
     pub safe : IsTrue G.keeps_model → (created : ℕ) → IsFollowed v.rule created → ∥ IsKeptSafe (on_disk p (since created v.past)) ∥₁
 
@@ -114,7 +114,7 @@ past_between created v w = record (since created w.past) { acknowledged = v.past
 -- A step with its reply, from a view that is explained. If the device keeps the disk model it is one over the bytes of
 -- the view's disk, and if the crash rule is followed too, it is a safe one.
 pub record IsPoolStep (keeps : Type 0) (s : declared_step.Step) (r : declared_reply.Reply) (v w : SeenPool) : Type 0 where
-  pub explained : ∥ IsExplainedNow (viewed_state v).shown v.past ∥₁
+  pub explained : ∥ AreTablesExplained (viewed_state v).shown v.past ∥₁
   pub step : ∥ IsStep s r (viewed_state v) (viewed_state w) ∥₁
   pub over : keeps → ∥ IsStepOn v.disk s r (viewed_state v) (viewed_state w) ∥₁
   pub moves : keeps → MovesDisk s v.disk w.disk

@@ -7,7 +7,7 @@ use Rattle.base.specs.declared.names.Receipt.{Receipt}
 use Rattle.base.specs.declared.step.Reply as declared_reply
 use Rattle.base.specs.declared.step.Reply.TheVariants as reply
 use Rattle.base.specs.history.History.{Entry}
-use Rattle.base.specs.steps.ExactNow.{GoesOn, IsExplainedNow}
+use Rattle.base.specs.steps.Tables.{GoesOn, AreTablesExplained}
 use Rattle.base.specs.steps.Refusals.{fsync_refusal}
 use Rattle.base.specs.steps.Seen.{IsKnownDurable, IsRefusedBetween}
 use Rattle.base.specs.steps.Shown.{Shown, is_durable}
@@ -27,7 +27,7 @@ use Rattle.word_lock.specs.Turns.{turn}
 pub record FindsReceipt (receipt : Receipt) (result : Result Bool PoolError) (t : Turn SeenPool) : Type 0 where
   pub looked : t.left ≡ t.took
   pub checked : ChecksReceipt receipt result (viewed_state t.left).shown
-  pub explained : ∥ IsExplainedNow (viewed_state t.left).shown t.left.past ∥₁
+  pub explained : ∥ AreTablesExplained (viewed_state t.left).shown t.left.past ∥₁
 
 -- A turn of a sync up to a group, with this moment: what is due for it, and nothing is refused. In the last one the
 -- group is synced, or a step is refused.
@@ -60,7 +60,7 @@ IsRefusedAfter moment receipt e looked after = IsRefusedBetween (wait_refusal re
 pub record IsWaitingRefusal (moment : ℕ) (receipt : Receipt) (e : PoolError) (before after : State) : Type 0 where
   pub looked : State
   pub no_earlier : GoesOn before looked
-  pub explained : IsExplainedNow looked.shown looked.past
+  pub explained : AreTablesExplained looked.shown looked.past
   pub not_durable : is_durable looked.shown receipt.ordinal.0 receipt.group.0 ≡ false
   pub refused : IsRefusedAfter moment receipt e looked after
 

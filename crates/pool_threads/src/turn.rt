@@ -3,7 +3,7 @@
 //! Every call of a handle goes through `step_noted`, which makes it and goes on to the view after it. `turn` and
 //! `retried_turn` have it made while a seat has the lock, and free the lock. `one_turn.rt` makes a transaction so.
 ghost use Rattle.std.specs.Prelude.{◌≡◌, IsSome, IsTrue, MatchOption, IfErr, Err, false, true};
-ghost use Rattle.base.specs.steps.ExactNow.{IsExplainedNow};
+ghost use Rattle.base.specs.steps.Tables.{AreTablesExplained};
 ghost use Rattle.base.specs.steps.Runs.{reply_of};
 ghost use Rattle.base.specs.steps.SyncEnds.{IsAnswer};
 ghost use Rattle.word_lock.specs.Seats.{IsAsBefore, IsHolding, IsIdle, IsSameSeat, kin, lock_table, seat_table, seen};
@@ -131,7 +131,7 @@ pub(crate) fn serve_turn<'s, 'l, D: SectorDevice>(
     ensures served { HasServed (IsTrue D.keeps_model) duty result.0
         guard.entry.seat.now guard.exit.0.now }
     ensures synced { result.1.0 ≡ (viewed_state (seen guard.exit.0.now)).shown.line.synced }
-    ensures explained { ∥ IsExplainedNow (viewed_state (seen guard.exit.0.now)).shown
+    ensures explained { ∥ AreTablesExplained (viewed_state (seen guard.exit.0.now)).shown
         (seen guard.exit.0.now).past ∥₁ }
 {
     let Guard { seat, lock, held } = guard;

@@ -10,7 +10,7 @@
 ghost use Rattle.std.specs.Prelude.{◌≡◌, ◌≢◌, ◌≤◌, IfErr, IfOk, IsTrue};
 ghost use Rattle.base.specs.declared.names.Group.{Group};
 ghost use Rattle.base.specs.formats.Limits.{last_number};
-ghost use Rattle.base.specs.steps.ExactNow.{IsExplainedNow};
+ghost use Rattle.base.specs.steps.Tables.{AreTablesExplained};
 ghost use Rattle.pool_threads.specs.Answers.{Sees, TakesOne, state_seen};
 ghost use Rattle.pool_threads.specs.Handles.{HasLooked, moment_of};
 ghost use Rattle.pool_threads.specs.Serves.{IsServedTurn};
@@ -173,7 +173,7 @@ impl<'p, D: SectorDevice> Handle<'p, D> {
         ensures served { TakesOne (IsServedTurn (IsTrue D.keeps_model) duty result.0)
             self.old self.new }
         ensures synced { result.1.0 ≡ (state_seen self.new).shown.line.synced }
-        ensures explained { ∥ IsExplainedNow (state_seen self.new).shown
+        ensures explained { ∥ AreTablesExplained (state_seen self.new).shown
             (state_seen self.new).past ∥₁ }
     {
         let guard = self.seat.acquire(rt, &self.shared.lock);

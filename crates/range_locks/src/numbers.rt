@@ -1,6 +1,6 @@
 //! The parts of each number that held locks are of, so that a lock costs the same whatever other numbers have locks.
 
-ghost use Rattle.std.specs.Prelude.{ℕ, ◌≡◌, ◌≢◌, ◌≤◌, ◌<◌, true, false, None, Some, IfSome, IfOk, OnOk, OnErr, IfErr};
+ghost use Rattle.std.specs.Prelude.{ℕ, ◌≡◌, ◌≢◌, ◌≤◌, ◌<◌, false, None, Some, IfSome, IfOk, OnOk, OnErr, IfErr};
 ghost use Rattle.base.specs.history.Plans.{number_range};
 ghost use Rattle.base.specs.steps.Locks.{is_blocked};
 ghost use Rattle.range_locks.specs.declared.parts.Parts.{Parts};

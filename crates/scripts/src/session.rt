@@ -3,7 +3,7 @@
 //! A session has nothing, a device, or a pool that it imported from its device, and does with these what commands ask
 //! for. What kind of pool it mounts is a type parameter: one that the session steps itself, or one under a lock.
 
-ghost use Rattle.std.specs.Prelude.{◌≡◌, ◌*◌, ◌/◌, true, false, is_ok, is_some, IsTrue, IsOk, IsErr, IfErr, IfOk, IfSome, OnOk};
+ghost use Rattle.std.specs.Prelude.{◌≡◌, ◌*◌, ◌/◌, false, is_ok, is_some, IsTrue, IsOk, IsErr, IfErr, IfOk, IfSome, OnOk};
 ghost use Rattle.base.specs.formats.Geometry.{IsGeometry};
 ghost use Rattle.base.specs.history.Past.{Past};
 ghost use Rattle.device_model.specs.MemState.{new_state};

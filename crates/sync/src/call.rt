@@ -2,7 +2,6 @@
 //! chapter 1).
 
 ghost use Rattle.std.specs.Prelude.{◌≡◌, ◌<◌, Some, slice_get};
-ghost use Rattle.labels.specs.Stages.{labels_of};
 ghost use Rattle.sync.specs.CallOrder.{call_said, calls_behind_blocks, calls_behind_staged_blocks, stage_after};
 
 use labels::Stage;

@@ -3,10 +3,10 @@
 //! If each range of a plan has a byte, as in allowed plans, the order in which they are joined makes no difference. So
 //! many of them are sorted, and each is joined with the next ones. Else they are joined one by one in the plan's order.
 
-ghost use Rattle.std.specs.Prelude.{◌≡◌, ◌<◌, ◌+◌, ◌≤◌, IfOk, count_by, filter, length, max, min, not, vec_capacity, vec_len};
+ghost use Rattle.std.specs.Prelude.{◌≡◌, ◌<◌, ◌+◌, ◌≤◌, IfOk, count_by, filter, length, not, vec_capacity, vec_len};
 ghost use Rattle.std.specs.List.{list_all};
 ghost use Rattle.transactions.specs.LockRanges as words;
-ghost use Rattle.transactions.specs.LockRanges.{is_shared, joined, placed, shape_range, with_range, with_shared};
+ghost use Rattle.transactions.specs.LockRanges.{is_shared, joined, shape_range, with_range, with_shared};
 
 use crate::plan::range_of;
 use crate::range_index::sorted_ranges;

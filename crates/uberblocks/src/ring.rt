@@ -19,7 +19,7 @@
 //! 2. a slot that is not above the best changes nothing, so of equal groups the first label's stays;
 //! 3. two slots of one label never count with the same group, so the order within a label decides nothing.
 
-ghost use Rattle.std.specs.Prelude.{◌≡◌, ◌+◌, ◌*◌, ◌%◌, ◌≤◌, ◌<◌, IfNone, IfSome, length};
+ghost use Rattle.std.specs.Prelude.{◌≡◌, ◌+◌, ◌*◌, ◌%◌, ◌<◌, IfNone, IfSome, length};
 ghost use Rattle.base.specs.formats.Geometry.{slot_of};
 ghost use Rattle.uberblocks.specs.Slots.{fields_of};
 ghost use Rattle.uberblocks.specs.Rings as above;

@@ -1,5 +1,4 @@
 //! The rule of the value under a lock, and what the table below keeps of it.
-ghost use Rattle.std.specs.Prelude.{◌≡◌, ℕ, List};
 
 use atomic_table::TableRule;
 use base::Told;

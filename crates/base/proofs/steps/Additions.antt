@@ -13,7 +13,7 @@ use Rattle.base.specs.steps.Steps.{State, state_after_abort, state_after_charged
 use Rattle.base.specs.steps.Effects.{Effect, HasEffect, state_after}
 use Rattle.base.specs.steps.Effects.Effect.{AddsGrant, LetsGo, AddsAdmission, AddsEntry, EndsAdmission, EndsSync, FlushesLog}
 use Rattle.base.specs.steps.Runs.{Step}
-use Rattle.base.specs.steps.ExactNow.{IsRun}
+use Rattle.base.specs.steps.Tables.{IsRun}
 use Rattle.base.proofs.steps.StepEffects.{step_does}
 
 pub told_past : (keeps : Type 0) (now : List ℕ) (s : declared_step.Step) (r : declared_reply.Reply) (old new : State) → Step keeps now s r old new → new.past ≡ past_after s r old

@@ -12,7 +12,7 @@ use Rattle.base.specs.history.History.{Entry, IsHistory, entries_in, replay, run
 use Rattle.base.specs.history.Past.{Past, new_past}
 use Rattle.base.specs.history.Sequences.{in_turn}
 use Rattle.base.specs.steps.Exact.{IsBounded}
-use Rattle.base.specs.steps.ExactNow.{AreTreesExact, IsExplainedNow, IsTreeOf}
+use Rattle.base.specs.steps.Tables.{AreTreesExact, AreTablesExplained, IsTreeOf}
 use Rattle.base.specs.steps.Shown.{Shown, SyncPlan}
 use Rattle.base.specs.steps.Steps.{IsReplayUpTo}
 use Rattle.base.proofs.common.KeptLists.{Some-injective, at_filter}
@@ -57,7 +57,7 @@ bounded_replay (e ∷ entries) c d allowed h bounded =
     bounded_replay entries p.0 d (λ i f at. allowed (suc i) f at) p.2 (operations_keep e.ops c p.0 one.0 one.1 p.1 bounded)
 
 -- as those of a pool are
-pub explained-allowed : (s : Shown) (p : Past) → IsExplainedNow s p → AreAllowedEntries p.entries
+pub explained-allowed : (s : Shown) (p : Past) → AreTablesExplained s p → AreAllowedEntries p.entries
 explained-allowed s p x i e at =
     let allowed = x.exact.log.allowed i e at in
     ((and_parts (nat_lt 0 (length (map shape_of e.ops))) (list_all is_shape_allowed (map shape_of e.ops)) allowed.shapes).1, allowed.contents)

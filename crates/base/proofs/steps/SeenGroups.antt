@@ -13,7 +13,7 @@ use Rattle.base.specs.steps.Shown.{is_durable}
 use Rattle.base.specs.steps.Effects.{Effect, HasEffect, MayHave, state_after}
 use Rattle.base.specs.steps.Effects.Effect.{OpensNext, EndsSync}
 use Rattle.base.specs.steps.Steps.{State}
-use Rattle.base.specs.steps.ExactNow.{IsExplainedNow, IsRun, GoesOn}
+use Rattle.base.specs.steps.Tables.{AreTablesExplained, IsRun, GoesOn}
 use Rattle.base.specs.steps.Seen.{IsKnownDurable, IsPoolSynced}
 use Rattle.base.proofs.steps.KeptGroups.{held_above}
 use Rattle.base.proofs.steps.KeptTables.{steps_keep_tables}
@@ -28,20 +28,20 @@ same-up : (l : Line) → GoUp l l
 same-up l = (omega arith, omega arith)
 
 -- they go up with each effect
-effect-up : (e : Effect) (s : State) → IsExplainedNow s.shown s.past → MayHave e s → GoUp s.shown.line (state_after e s).shown.line
+effect-up : (e : Effect) (s : State) → AreTablesExplained s.shown s.past → MayHave e s → GoUp s.shown.line (state_after e s).shown.line
 effect-up OpensNext s x may = (omega arith, omega arith)
 effect-up (EndsSync group plan) s x may =
     let next : group ≡ s.shown.line.synced + 1 = subst (λ o. IfSome o (λ n. n ≡ s.shown.line.synced + 1)) may.0 x.exact.groups.line.syncing in
     (omega arith, omega arith)
 effect-up _ s x may = same-up s.shown.line
 
-has-up : (old new : State) → IsExplainedNow old.shown old.past → HasEffect old new → GoUp old.shown.line new.shown.line
+has-up : (old new : State) → AreTablesExplained old.shown old.past → HasEffect old new → GoUp old.shown.line new.shown.line
 has-up old new x has = elim (has.left) as (λ _. GoUp old.shown.line new.shown.line) [
   | inl is ↦ subst (λ (t : State). GoUp old.shown.line t.shown.line) (sym is) (effect-up has.effect old x has.may)
   | inr is ↦ subst (λ (t : State). GoUp old.shown.line t.shown.line) (sym is) (effect-up has.effect old x has.may)
 ]
 
-run-up : (ss : List declared_step.Step) (rs : List declared_reply.Reply) (old new : State) → IsExplainedNow old.shown old.past → IsRun ⊥ ss rs old new → GoUp old.shown.line new.shown.line
+run-up : (ss : List declared_step.Step) (rs : List declared_reply.Reply) (old new : State) → AreTablesExplained old.shown old.past → IsRun ⊥ ss rs old new → GoUp old.shown.line new.shown.line
 run-up [] [] old new x same = subst (λ (t : State). GoUp old.shown.line t.shown.line) (sym same) (same-up old.shown.line)
 run-up (s ∷ ss) (r ∷ rs) old new x (middle, (now, one), rest) =
     let first = has-up old middle x (step_does ⊥ now s r old middle one).has in
@@ -50,11 +50,11 @@ run-up (s ∷ ss) (r ∷ rs) old new x (middle, (now, one), rest) =
 run-up [] (r ∷ rs) old new x h = absurd h
 run-up (s ∷ ss) [] old new x h = absurd h
 
-pub groups_go_up : (before after : State) → IsExplainedNow before.shown before.past → GoesOn before after
+pub groups_go_up : (before after : State) → AreTablesExplained before.shown before.past → GoesOn before after
     → (before.shown.line.synced ≤ after.shown.line.synced) × (before.shown.line.open_group ≤ after.shown.line.open_group)
 groups_go_up before after x (ss, rs, run) = run-up ss rs before after x run
 
-pub pool_syncs_sync : (before after : State) → IsExplainedNow before.shown before.past → IsPoolSynced before after → before.shown.line.synced < after.shown.line.synced
+pub pool_syncs_sync : (before after : State) → AreTablesExplained before.shown before.past → IsPoolSynced before after → before.shown.line.synced < after.shown.line.synced
 pool_syncs_sync before after x synced = let above = held_above before.shown.line before.shown.line.open_group x.exact.groups.line (inl refl) in omega (arith, synced, above.0)
 
 -- there is an entry of this ordinal and group
@@ -70,7 +70,7 @@ flushed-known r entries (b ∷ bs) known is = elim (or_cases (b.flushed && has_r
   | inr later ↦ flushed-known r entries bs (λ i c at. known (suc i) c at) later
 ]
 
-shown-known : (ordinal group : ℕ) (s : State) → IsExplainedNow s.shown s.past → is_durable s.shown ordinal group ≡ true → IsKnownDurable ordinal group s
+shown-known : (ordinal group : ℕ) (s : State) → AreTablesExplained s.shown s.past → is_durable s.shown ordinal group ≡ true → IsKnownDurable ordinal group s
 shown-known ordinal group s x is = elim (or_cases (nat_le group s.shown.line.synced) (is_flushed_in s.shown.log (record { ordinal = ordinal; group = group })) is) as (λ _. IsKnownDurable ordinal group s) [
   | inl low ↦ inl (leb-true group s.shown.line.synced low)
   | inr flushed ↦
@@ -79,11 +79,11 @@ shown-known ordinal group s x is = elim (or_cases (nat_le group s.shown.line.syn
       inr (known.0, known.1, known.2, x.exact.log.acknowledged ordinal known.0 known.1 ∙ ap (λ g. is_durable s.shown ordinal g) known.2 ∙ is)
 ]
 
-known-stays : (ordinal group : ℕ) (s after : State) → IsExplainedNow s.shown s.past → GoesOn s after → IsKnownDurable ordinal group s → IsKnownDurable ordinal group after
+known-stays : (ordinal group : ℕ) (s after : State) → AreTablesExplained s.shown s.past → GoesOn s after → IsKnownDurable ordinal group s → IsKnownDurable ordinal group after
 known-stays ordinal group s after x onward (inl low) = inl (let up = (groups_go_up s after x onward).0 in omega (arith, low, up))
 known-stays ordinal group s after x onward (inr (e, at, of_group, is)) =
     let g : Grows s.past after.past = grown s after onward in
     inr (e, at-prefix s.past.entries after.past.entries ordinal e g.entries at, of_group, g.acknowledged ordinal is)
 
-pub durable_is_known : (ordinal group : ℕ) (s after : State) → IsExplainedNow s.shown s.past → is_durable s.shown ordinal group ≡ true → GoesOn s after → IsKnownDurable ordinal group after
+pub durable_is_known : (ordinal group : ℕ) (s after : State) → AreTablesExplained s.shown s.past → is_durable s.shown ordinal group ≡ true → GoesOn s after → IsKnownDurable ordinal group after
 durable_is_known ordinal group s after x is onward = known-stays ordinal group s after x onward (shown-known ordinal group s x is)

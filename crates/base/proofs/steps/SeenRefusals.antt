@@ -18,7 +18,7 @@ use Rattle.base.specs.steps.Shown.{Shown}
 use Rattle.base.specs.steps.Refusals.{Test, first_refusal, ops_tests}
 use Rattle.base.specs.steps.Steps.{State}
 use Rattle.base.specs.steps.Runs.{Step, refusal_of_step, tests_of_step}
-use Rattle.base.specs.steps.ExactNow.{GoesOn}
+use Rattle.base.specs.steps.Tables.{GoesOn}
 use Rattle.base.specs.steps.Seen.{IsMadeBetween, IsRefusedBetween}
 use Rattle.base.specs.steps.SeenLaws.{is_suspending, is_untested}
 use Rattle.base.proofs.steps.StepEffects.{Answered, step_does}

@@ -15,7 +15,7 @@ use Rattle.base.specs.steps.Shown.{SyncPlan, is_durable, status_of}
 use Rattle.base.specs.steps.Steps as steps
 use Rattle.base.specs.steps.Steps.{State, Answers, SyncProgress}
 use Rattle.base.specs.steps.Steps.SyncProgress.{More, Synced}
-use Rattle.base.specs.steps.ExactNow.{IsRun, GoesOn}
+use Rattle.base.specs.steps.Tables.{IsRun, GoesOn}
 use Rattle.base.specs.steps.SyncEnds.{IsAnswer, is_refusal, suspended_reply, sync_replies, reply_with_left}
 use Rattle.base.proofs.common.KeptLists.{Some-injective}
 use Rattle.base.proofs.steps.StepEffects.{Answered, step_does}

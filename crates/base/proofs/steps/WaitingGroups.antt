@@ -7,10 +7,10 @@ use Rattle.base.specs.history.Past.{Past}
 use Rattle.base.specs.steps.Groups.{Middle}
 use Rattle.base.specs.steps.Shown.{Shown}
 use Rattle.base.specs.steps.Steps.{IsReplayUpTo}
-use Rattle.base.specs.steps.ExactNow.{IsExplainedNow}
+use Rattle.base.specs.steps.Tables.{AreTablesExplained}
 use Rattle.base.proofs.history.Cuts.{trees_follow}
 
-module _ (s : Shown) (p : Past) (explained : IsExplainedNow s p) where
+module _ (s : Shown) (p : Past) (explained : AreTablesExplained s p) where
   module _ (group : ℕ) (idle : s.line.syncing ≡ None) (middle : s.line.middle ≡ Some (record { group = group; quiesced = true })) where
     -- the group is the one after the synced one
     pub next-group : group ≡ s.line.synced + 1

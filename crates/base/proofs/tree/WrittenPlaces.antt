@@ -15,7 +15,7 @@ use Rattle.base.specs.history.Contents.{Contents}
 use Rattle.base.specs.history.History.{Entry, IsWithin, apply_all, entries_in}
 use Rattle.base.specs.history.Past.{Past}
 use Rattle.base.specs.history.Plans.{IsRange, NumberRange, is_shape_allowed, ranges, shape_of, touched}
-use Rattle.base.specs.steps.ExactNow.{IsExplainedNow}
+use Rattle.base.specs.steps.Tables.{AreTablesExplained}
 use Rattle.base.specs.steps.Shown.{Shown}
 use Rattle.base.specs.steps.Steps.{ops_of_group}
 use Rattle.base.specs.tree.Places.{Place}
@@ -125,7 +125,7 @@ entries-ranges (e ∷ es) each = subst (λ (l : List NumberRange). All IsRange l
     (All-append IsRange (ranges e.ops) (ranges (flat_map (λ (x : Entry). x.ops) es)) (each zero e refl) (entries-ranges es (λ i x at. each (suc i) x at)))
 
 -- of a past that explains the pool, the operations of each group have ranges that may be locked
-pub group-ranges : (s : Shown) (p : Past) → IsExplainedNow s p → (group : ℕ) → All IsRange (ranges (ops_of_group group p.entries))
+pub group-ranges : (s : Shown) (p : Past) → AreTablesExplained s p → (group : ℕ) → All IsRange (ranges (ops_of_group group p.entries))
 group-ranges s p explained group = entries-ranges (entries_in group p.entries) (λ i e at.
     let one = at_filter (λ (x : Entry). x.group == group) p.entries i e at in
     All-at IsWithin p.entries one.0 e explained.history.within one.1)
@@ -156,7 +156,7 @@ entries_number n (e ∷ es) each any =
     ]
 
 -- and each object that they are on has such a number
-pub group-numbers : (s : Shown) (p : Past) → IsExplainedNow s p → (group n : ℕ) → list_any (is_on n) (ops_of_group group p.entries) ≡ true → n < object_count
+pub group-numbers : (s : Shown) (p : Past) → AreTablesExplained s p → (group n : ℕ) → list_any (is_on n) (ops_of_group group p.entries) ≡ true → n < object_count
 group-numbers s p explained group n any = entries_number n (entries_in group p.entries) (λ i e at.
     let one = at_filter (λ (x : Entry). x.group == group) p.entries i e at in
     let allowed = explained.exact.log.allowed one.0 e one.1 in

@@ -9,7 +9,7 @@ use Rattle.base.specs.history.Past.{Past, Grows, ordinals_of}
 use Rattle.base.specs.steps.Refusals.{object_range}
 use Rattle.base.specs.steps.Runs.{Step}
 use Rattle.base.specs.steps.Steps.{State, ordinals_awaiting}
-use Rattle.base.specs.steps.ExactNow.{IsRun}
+use Rattle.base.specs.steps.Tables.{IsRun}
 
 -- The past after a step. A commit adds its entry, a lock its grant, an unlock the name that is released, a begin its
 -- admission and an abort the name of its transaction. Two steps acknowledge entries: the one that answers that a group

@@ -44,7 +44,7 @@ WereSafe before after old new = LeavesFairSince before after new.created (λ ima
 
 -- the entries are a history that leads to the contents, all that is shown is exact, and the synced tree and the free
 -- blocks are what the device holds
-pub record ExplainsNow (keeps : Type 0) (now : List ℕ) (s : Shown) (past : Past) : Type 0 where
+pub record ExplainsBytes (keeps : Type 0) (now : List ℕ) (s : Shown) (past : Past) : Type 0 where
   pub exact : IsExact s past
   pub history : keeps → IsHistory past.entries past.base s.contents
   pub tree : keeps → IsSyncedTree now s past
@@ -53,5 +53,5 @@ pub record ExplainsNow (keeps : Type 0) (now : List ℕ) (s : Shown) (past : Pas
 
 -- and every fair image that a crash now may leave mounts to a cut with every acknowledged entry
 pub record Explains (keeps : Type 0) (disk : Disk) (s : Shown) (past : Past) : Type 0 where
-  pub present : ExplainsNow keeps (bytes_of disk.now) s past
+  pub present : ExplainsBytes keeps (bytes_of disk.now) s past
   pub safe : keeps → AreSafe disk past

@@ -7,7 +7,7 @@ use Rattle.base.specs.history.Contents.{Contents, resize}
 use Rattle.base.specs.history.Plans.{NumberRange}
 use Rattle.base.specs.declared.step.Step as declared_step
 use Rattle.base.specs.declared.step.Reply as declared_reply
-use Rattle.base.specs.steps.ExactNow.{IsExplainedNow}
+use Rattle.base.specs.steps.Tables.{AreTablesExplained}
 use Rattle.base.specs.steps.Locks.{Grant}
 use Rattle.base.specs.steps.Runs.{Step}
 use Rattle.base.specs.steps.Steps.{State, bytes_in}
@@ -28,4 +28,4 @@ KeepsReaders old new = (i : ℕ) (g : Grant) → slice_get old.shown.locks i ≡
 -- and each step of a pool that a past explains keeps them, over whichever device
 abbrev pub ReadersAreKept : Type 0
 ReadersAreKept = (now : List ℕ) (step : declared_step.Step) (reply : declared_reply.Reply) (old new : State) → Step ⊥ now step reply old new
-    → IsExplainedNow old.shown old.past → KeepsReaders old new
+    → AreTablesExplained old.shown old.past → KeepsReaders old new

@@ -18,7 +18,7 @@ use Rattle.base.specs.formats.Digest.{digest_of}
 use Rattle.base.specs.steps.Shown.{Shown, status_of}
 use Rattle.base.specs.steps.Steps.{State, bytes_in}
 use Rattle.base.specs.steps.Runs.{Step}
-use Rattle.base.specs.steps.ExactNow.{IsExplainedNow, GoesOn}
+use Rattle.base.specs.steps.Tables.{AreTablesExplained, GoesOn}
 
 -- a step with this reply was made between the two, from a state that its past explains, over some device
 pub record IsMadeBetween (keeps : Type 0) (step : declared_step.Step) (reply : declared_reply.Reply) (before after : State) : Type 0 where
@@ -26,7 +26,7 @@ pub record IsMadeBetween (keeps : Type 0) (step : declared_step.Step) (reply : d
   pub new : State
   pub no_earlier : GoesOn before old
   pub no_later : GoesOn new after
-  pub explained : IsExplainedNow old.shown old.past
+  pub explained : AreTablesExplained old.shown old.past
   pub now : List ℕ
   pub made : Step keeps now step reply old new
 
@@ -84,7 +84,7 @@ pub record IsStatusBetween (status : Status) (before after : State) : Type 0 whe
   pub state : State
   pub no_earlier : GoesOn before state
   pub no_later : GoesOn state after
-  pub explained : IsExplainedNow state.shown state.past
+  pub explained : AreTablesExplained state.shown state.past
   pub told : status ≡ status_of state.shown
 
 -- durable answered yes, or fsync Ok: the receipt's group is synced, or the entry at its ordinal is there, has its group
@@ -104,7 +104,7 @@ pub record IsRefusedBetween (refuses : Shown → Option PoolError) (given : Pool
   pub state : State
   pub no_earlier : GoesOn before state
   pub no_later : GoesOn state after
-  pub explained : IsExplainedNow state.shown state.past
+  pub explained : AreTablesExplained state.shown state.past
   pub refused : refuses state.shown ≡ Some given
   pub suspended : given ≡ error.Suspended → state.shown.suspended ≡ true
 

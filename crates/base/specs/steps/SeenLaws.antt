@@ -19,12 +19,12 @@ use Rattle.base.specs.steps.Refusals.{object_range}
 use Rattle.base.specs.steps.Shown.{Shown, is_durable}
 use Rattle.base.specs.steps.Steps.{State}
 use Rattle.base.specs.steps.Runs.{refusal_of_step}
-use Rattle.base.specs.steps.ExactNow.{IsExplainedNow, GoesOn}
+use Rattle.base.specs.steps.Tables.{AreTablesExplained, GoesOn}
 use Rattle.base.specs.steps.Seen.{IsMadeBetween, IsContentsBetween, IsCommitted, IsAdmitted, IsGranted, IsLetGo, IsReadBetween, IsKnownDurable, IsPoolSynced, IsRefusedBetween}
 
 -- the contents of a state between the two are replayed by a prefix between their histories
 abbrev pub ContentsAreBetween : Type 0
-ContentsAreBetween = (before s after : State) → IsExplainedNow s.shown s.past → GoesOn before s → GoesOn s after → IsContentsBetween before after s.shown.contents
+ContentsAreBetween = (before s after : State) → AreTablesExplained s.shown s.past → GoesOn before s → GoesOn s after → IsContentsBetween before after s.shown.contents
 
 -- a commit that was answered a receipt made that entry, and so of the admission of a begin, the grant of a lock and the
 -- end of a lock
@@ -50,16 +50,16 @@ ReadsAreSeen = (owner : Owner) (n : ObjectId) (range : Range) (bytes : List ℕ)
 
 -- what is shown as durable is known to be so, and stays so
 abbrev pub DurableIsKnown : Type 0
-DurableIsKnown = (ordinal group : ℕ) (s after : State) → IsExplainedNow s.shown s.past → is_durable s.shown ordinal group ≡ true → GoesOn s after → IsKnownDurable ordinal group after
+DurableIsKnown = (ordinal group : ℕ) (s after : State) → AreTablesExplained s.shown s.past → is_durable s.shown ordinal group ≡ true → GoesOn s after → IsKnownDurable ordinal group after
 
 -- the synced and the open group only go up, so a group that is synced in between is synced after
 abbrev pub GroupsGoUp : Type 0
-GroupsGoUp = (before after : State) → IsExplainedNow before.shown before.past → GoesOn before after
+GroupsGoUp = (before after : State) → AreTablesExplained before.shown before.past → GoesOn before after
     → (before.shown.line.synced ≤ after.shown.line.synced) × (before.shown.line.open_group ≤ after.shown.line.open_group)
 
 -- a sync of the whole pool syncs a group
 abbrev pub PoolSyncsSync : Type 0
-PoolSyncsSync = (before after : State) → IsExplainedNow before.shown before.past → IsPoolSynced before after → before.shown.line.synced < after.shown.line.synced
+PoolSyncsSync = (before after : State) → AreTablesExplained before.shown before.past → IsPoolSynced before after → before.shown.line.synced < after.shown.line.synced
 
 -- whether a pool that is refused this is suspended from then on
 abbrev pub is_suspending : PoolError → Bool

@@ -7,7 +7,7 @@ use Rattle.base.specs.declared.step.Reply.{Reply}
 use Rattle.base.specs.declared.step.Reply.TheVariants as reply
 use Rattle.base.specs.steps.Shown.{Shown, SyncPlan, is_durable, status_of}
 use Rattle.base.specs.steps.Steps.{State}
-use Rattle.base.specs.steps.ExactNow.{IsRun, GoesOn}
+use Rattle.base.specs.steps.Tables.{IsRun, GoesOn}
 
 abbrev pub is_refusal : Reply → Bool
 is_refusal (reply.Refused e) = true

@@ -1,10 +1,10 @@
 //! What callers rest on of objects with changes laid over them: written bytes, and bytes below as far as they show.
 
-ghost use Rattle.std.specs.Prelude.{ℕ, ◌≡◌, ◌∷◌, [], IsOk, None, OnOk, Some, false, get_or, is_some, length, true};
+ghost use Rattle.std.specs.Prelude.{ℕ, ◌≡◌, ◌∷◌, [], None, Some, false, get_or, length, true};
 ghost use Rattle.std.specs.FinMap as finite;
 ghost use Rattle.object_maps.specs.ContentsShown.{contents_of};
 ghost use Rattle.extents.specs.Objects.{written_in};
-ghost use Rattle.extents.specs.Patches.{laid_over, no_patch};
+ghost use Rattle.extents.specs.Patches.{no_patch};
 ghost use Rattle.extents.specs.Records.{bytes_written};
 ghost use Rattle.extents.specs.Tables.{patches_of};
 ghost use Rattle.extents.specs.Unsynced.{changes_at};

@@ -1,6 +1,6 @@
 //! What callers rest on of the log of a run.
 
-ghost use Rattle.std.specs.Prelude.{◌≡◌, ◌∷◌, [], IsOk, None, Some, false, length, map, true};
+ghost use Rattle.std.specs.Prelude.{◌≡◌, ◌∷◌, [], IsOk, None, Some, false, map, true};
 ghost use Rattle.base.specs.formats.Records.{IsAllowed, size_of};
 ghost use Rattle.base.specs.steps.Logs.{committed_of, log_after_sync};
 ghost use Rattle.transactions.specs.Records.{record_fields};

@@ -1,6 +1,6 @@
 -- A pool that keeps the crash rule with a past is explained by it.
 use Rattle.std.proofs.Common.{List, ℕ, subst}
-use Rattle.base.specs.steps.Explains.{Explains, ExplainsNow}
+use Rattle.base.specs.steps.Explains.{Explains, ExplainsBytes}
 use Rattle.base.specs.steps.Shown.{Shown}
 use Rattle.base.specs.history.Past.{Past}
 use Rattle.base.proofs.stored.StoredPlaces.{kept_distinct}
@@ -15,7 +15,7 @@ kept_explained x safe =
     let past : Past = x.held.state.past in
     let stored = safe.held.kept.stored in
     record {
-      present = subst (λ (bytes : List ℕ). ExplainsNow (Unit {0}) bytes s past) safe.same_bytes (record {
+      present = subst (λ (bytes : List ℕ). ExplainsBytes (Unit {0}) bytes s past) safe.same_bytes (record {
         exact = safe.held.explained.exact;
         history = λ _. safe.held.explained.history;
         tree = λ _. stored-synced_tree now s x.held.pointers past stored;

@@ -11,7 +11,7 @@ use Rattle.base.specs.disk.Calls.{Flushes, Writes}
 use Rattle.base.specs.disk.Disk.{Disk, EachMoment, Moment, Write, bytes_of, certain_with, disk_size, moments, settled}
 use Rattle.base.specs.history.History.{HasAcknowledged}
 use Rattle.base.specs.history.Past.{Past}
-use Rattle.base.specs.steps.ExactNow.{IsExplainedNow}
+use Rattle.base.specs.steps.Tables.{AreTablesExplained}
 use Rattle.base.specs.steps.Refusals as refusal
 use Rattle.base.specs.steps.Shown.{Shown}
 use Rattle.base.specs.steps.Runs.{reply_of}
@@ -33,10 +33,10 @@ use Rattle.pool_core.proofs.crash.SafeSteps.{disk_stays}
 use Rattle.pool_core.proofs.crash.ViewsKept.{suspended_stays}
 
 -- a log write and a log flush keep the tables exact
-write_explained : (answer : Result ℕ PoolError) (old new : State) → LogWrite answer old new → IsExplainedNow old.shown old.past → IsExplainedNow new.shown new.past
+write_explained : (answer : Result ℕ PoolError) (old new : State) → LogWrite answer old new → AreTablesExplained old.shown old.past → AreTablesExplained new.shown new.past
 write_explained answer old new h = steps_keep_tables ⊥ [] step.LogWrite (reply_of (λ (count : ℕ). reply.Logged count) answer) old new (answer, refl, h)
 
-flush_explained : (answer : Result (Unit {0}) PoolError) (old new : State) → LogFlush answer old new → IsExplainedNow old.shown old.past → IsExplainedNow new.shown new.past
+flush_explained : (answer : Result (Unit {0}) PoolError) (old new : State) → LogFlush answer old new → AreTablesExplained old.shown old.past → AreTablesExplained new.shown new.past
 flush_explained answer old new h = steps_keep_tables ⊥ [] step.LogFlush (reply_of (λ (u : Unit {0}). reply.Flushed) answer) old new (answer, refl, h)
 
 -- each moment from the one disk to the other is one of these two
@@ -142,8 +142,8 @@ module _ (answer : Result ℕ PoolError) (x y : OnDisk) (safe : IsKeptSafe x) (h
       run = h.same.run k;
     }
 
-    explained : IsExplainedNow t x.held.state.past
-    explained = subst (λ (u : State). IsExplainedNow u.shown u.past) (λ k. record { shown = puts.shown k; past = past k }) (write_explained (answer) x.held.state y.held.state h.step safe.held.explained)
+    explained : AreTablesExplained t x.held.state.past
+    explained = subst (λ (u : State). AreTablesExplained u.shown u.past) (λ k. record { shown = puts.shown k; past = past k }) (write_explained (answer) x.held.state y.held.state h.step safe.held.explained)
 
     joins : Joins x.disk y.disk
     joins = write_joins x.disk y.disk s.log.next.address puts.block.content r puts.writes
@@ -223,7 +223,7 @@ module _ (x y : OnDisk) (safe : IsKeptSafe x) where
     safe_flushed : IsKeptSafe w
     safe_flushed = record {
       held = record {
-        explained = subst (λ (v : State). IsExplainedNow v.shown v.past) done.1 (flush_explained (Ok tt) before y.held.state h.step safe.held.explained);
+        explained = subst (λ (v : State). AreTablesExplained v.shown v.past) done.1 (flush_explained (Ok tt) before y.held.state h.step safe.held.explained);
         kept = flushes.kept_then x safe y.disk h.flushed is_running;
       };
       same_bytes = refl;
@@ -254,7 +254,7 @@ module _ (x y : OnDisk) (safe : IsKeptSafe x) where
       go (Some f) d = subst (IsKeptSafely x) (sym (with_state before d.1)) (stood_safely x (pool_of before) refl refl safe)
       go None d = subst (IsKeptSafely x) (sym (with_state stopped d.1)) (stood_safely x (pool_of stopped) refl refl (record {
         held = record {
-          explained = subst (λ (v : State). IsExplainedNow v.shown v.past) d.1 (flush_explained (Err e) before y.held.state h.step safe.held.explained);
+          explained = subst (λ (v : State). AreTablesExplained v.shown v.past) d.1 (flush_explained (Err e) before y.held.state h.step safe.held.explained);
           kept = kept-state x.held.now before.shown stopped.shown x.held.pointers before.past stopped.past x.held.running (λ group is. refl) safe.held.kept;
         };
         same_bytes = safe.same_bytes;

@@ -21,7 +21,7 @@ use Rattle.base.specs.formats.Geometry.{IsBlockAddress, IsGeometry, block_addres
 use Rattle.base.specs.steps.Logs.{Taken}
 use Rattle.base.specs.history.Past.{Past}
 use Rattle.base.specs.steps.Exact.{AreDistinctPlaces}
-use Rattle.base.specs.steps.ExactNow.{IsExplainedNow}
+use Rattle.base.specs.steps.Tables.{AreTablesExplained}
 use Rattle.base.specs.steps.Locks.{is_in}
 use Rattle.base.specs.steps.Refusals as refusal
 use Rattle.base.specs.steps.Shown.{Shown, SyncPlan, taken_of}
@@ -117,7 +117,7 @@ module _ (x : OnDisk) (safe : IsKeptSafe x) (answer : Result (Unit {0}) PoolErro
   abbrev pub t : Shown
   t = shown_after_write puts.taken puts.address left done s
 
-  explained : IsExplainedNow s p
+  explained : AreTablesExplained s p
   explained = safe.held.explained
 
   kept : IsKept now s x.held.pointers x.held.running p
@@ -174,7 +174,7 @@ module _ (x : OnDisk) (safe : IsKeptSafe x) (answer : Result (Unit {0}) PoolErro
           (block-label_apart size 1 (config_place size 1) block_size place g (omega arith) (omega arith) (omega arith) (subst (λ (n : ℕ). IsBlockAddress n place) counted puts.packed.in_area))
 
   -- While a sync runs.
-  module _ (explained_then : IsExplainedNow t p) (run : SyncRun) (y : IsSyncOnDisk run x.disk s p) where
+  module _ (explained_then : AreTablesExplained t p) (run : SyncRun) (y : IsSyncOnDisk run x.disk s p) where
     long : size ≡ run.geometry
     long = y.bytes.size_is
 
@@ -292,7 +292,7 @@ module _ (x : OnDisk) (safe : IsKeptSafe x) (answer : Result (Unit {0}) PoolErro
     }
 
   -- so the disk is kept
-  pub disk_written : IsExplainedNow t p → (o : Option SyncRun) → IsDiskKept o x.disk s p → IsDiskKept o after t p
+  pub disk_written : AreTablesExplained t p → (o : Option SyncRun) → IsDiskKept o x.disk s p → IsDiskKept o after t p
   disk_written explained_then None (idle, pool, odd) =
       let then : IsPoolDisk (disk_size after) after.now t p = idle_written idle pool in
       (idle, then, odd_written odd)

@@ -15,7 +15,7 @@ use Rattle.base.specs.disk.Fairness.{HasFairBytes}
 use Rattle.base.specs.formats.Chain.{Header}
 use Rattle.base.specs.formats.Geometry.{block_count}
 use Rattle.base.specs.history.Past.{Past}
-use Rattle.base.specs.steps.ExactNow.{IsExplainedNow}
+use Rattle.base.specs.steps.Tables.{AreTablesExplained}
 use Rattle.base.specs.steps.Shown.{Shown, SyncPlan}
 use Rattle.base.proofs.crash.OwnDisks.{image_left}
 use Rattle.base.proofs.crash.PoolViews.{OfEachView}
@@ -147,7 +147,7 @@ module _ (size : ℕ) (m : Moment) (s : Shown) (past : Past) (x : HasSyncViews s
     }
 
     -- and what a crash leaves then is the pool's own
-    pub moment_left : IsExplainedNow s past → LeavesOwn size past s.guid m
+    pub moment_left : AreTablesExplained s past → LeavesOwn size past s.guid m
     unfolding moment_laid
     moment_left explained = record {
       bytes = bytes;

@@ -12,7 +12,7 @@ use Rattle.base.specs.disk.Disk.{Disk, EachMoment, Moment, disk_size, handed, mo
 use Rattle.base.specs.disk.Fairness.{HandsOnly, HasFairBytes}
 use Rattle.base.specs.formats.Geometry.{block_address, block_count, config_place}
 use Rattle.base.specs.history.Past.{Past}
-use Rattle.base.specs.steps.ExactNow.{IsExplainedNow}
+use Rattle.base.specs.steps.Tables.{AreTablesExplained}
 use Rattle.base.specs.steps.Locks.{is_in}
 use Rattle.base.specs.steps.Shown.{Shown, SyncPlan}
 use Rattle.base.specs.steps.Steps as steps
@@ -117,7 +117,7 @@ module _ (run next : SyncRun) (before after : Disk) (s : Shown) (p : Past) (bega
   views_at m (inr h) = (views_held run m s p x.group x.plan x.syncing x.running then_views then_are h.1, h.0)
 
   -- So each moment of the call is safe, and what a crash leaves then is the pool's own.
-  module _ (explained : IsExplainedNow s p) where
+  module _ (explained : AreTablesExplained s p) where
     abbrev Known : Moment → Type 0
     Known m = (HasFairBytes run.geometry p.created m × Hands m) × Logged m
 
@@ -165,7 +165,7 @@ module _ (run next : SyncRun) (before after : Disk) (s : Shown) (p : Past) (bega
       }
 
   -- After the last one it is at rest on the view of the sync's group.
-  module _ (header : IsHeaderIn x.plan.header s.log) (explained : IsExplainedNow s p) (all : next.done ≡ call_count next) where
+  module _ (header : IsHeaderIn x.plan.header s.log) (explained : AreTablesExplained s p) (all : next.done ≡ call_count next) where
     abbrev then : State
     then = steps.state_after_sync x.group x.plan (record { shown = s; past = p })
 
@@ -192,7 +192,7 @@ module _ (run next : SyncRun) (before after : Disk) (s : Shown) (p : Past) (bega
   pub last_odd : next.done ≡ call_count next → IsOddSettled (disk_size after) after.now
   last_odd all = odd_settled (disk_size after) after.now (tries.written.settled all)
 
-  pub last_call_kept : (group : ℕ) (plan : SyncPlan) → s.line.syncing ≡ Some group → s.sync ≡ Some plan → IsHeaderIn plan.header s.log → IsExplainedNow s p → next.done ≡ call_count next
+  pub last_call_kept : (group : ℕ) (plan : SyncPlan) → s.line.syncing ≡ Some group → s.sync ≡ Some plan → IsHeaderIn plan.header s.log → AreTablesExplained s p → next.done ≡ call_count next
       → IsPoolDisk (disk_size after) after.now (steps.state_after_sync group plan (record { shown = s; past = p })).shown (steps.state_after_sync group plan (record { shown = s; past = p })).past
   last_call_kept group plan syncing running header explained all =
       let st : State = record { shown = s; past = p } in

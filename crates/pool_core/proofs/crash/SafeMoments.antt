@@ -9,7 +9,7 @@ use Rattle.base.specs.disk.Disk.{Disk, EachMoment, IsTouched, Moment, Write, byt
 use Rattle.base.specs.disk.Fairness.{LeavesFair}
 use Rattle.base.specs.formats.Geometry.{block_count}
 use Rattle.base.specs.history.Past.{Past}
-use Rattle.base.specs.steps.ExactNow.{IsExplainedNow}
+use Rattle.base.specs.steps.Tables.{AreTablesExplained}
 use Rattle.base.specs.steps.Explains.{AreSafe, MountsToCut, WereSafe}
 use Rattle.base.specs.steps.Shown.{Shown}
 use Rattle.base.specs.stored.Stored.{IsKept, NewTree}
@@ -32,7 +32,7 @@ IsSafeMoment size past m = LeavesFair size past.created (λ image. MountsToCut i
 pub were_safe : (before after : Disk) (p q r : Past) → record q { acknowledged = p.acknowledged } ≡ r → EachMoment (IsSafeMoment (disk_size before) r) before after → WereSafe before after p q
 were_safe before after p q r same each = subst (λ (x : Past). EachMoment (IsSafeMoment (disk_size before) x) before after) (sym same) each
 
-module _ (s : Shown) (past : Past) (explained : IsExplainedNow s past) where
+module _ (s : Shown) (past : Past) (explained : AreTablesExplained s past) where
   -- a pool's disk is safe
   pub pool_safe : (disk : Disk) → IsPoolDisk (disk_size disk) disk.now s past → AreSafe disk past
   pool_safe disk kept = laid_out_safe disk s past s.contents explained.exact.log explained.exact.sync explained.exact.groups.line explained.history (pool_laid_out disk s past kept.bytes kept.laid)
@@ -54,7 +54,7 @@ module _ (run : SyncRun) (disk : Disk) (s : Shown) (past : Past) (x : IsSyncOnDi
   sync_laid = subst (λ (n : ℕ). IsPoolDisk n disk.now s past) (sym x.bytes.size_is) (moment_laid run.geometry disk.now s past views phase x.bytes x.configs)
 
   -- what a crash leaves of it is the pool's own
-  pub sync_left : IsExplainedNow s past → LeavesOwn (disk_size disk) past s.guid disk.now
+  pub sync_left : AreTablesExplained s past → LeavesOwn (disk_size disk) past s.guid disk.now
   sync_left explained = subst (λ (n : ℕ). LeavesOwn n past s.guid disk.now) (sym x.bytes.size_is) (moment_left run.geometry disk.now s past views phase x.bytes x.configs explained)
 
 -- where nothing is unflushed the config of label 1 is settled
@@ -75,13 +75,13 @@ module _ (m : Moment) (s : Shown) (past : Past) (idle : s.line.syncing ≡ None)
   idle_rest size (inr (inl between)) = absurd (not_syncing between.group between.syncing)
   idle_rest size (inr (inr switched)) = absurd (not_syncing switched.group switched.syncing)
 
-  idle_room : (pointers : Place → Pointer) (running : Option NewTree) → IsExplainedNow s past → IsKept (bytes_of m) s pointers running past → (laid : IsPoolLaid (length (bytes_of m)) m s past)
+  idle_room : (pointers : Place → Pointer) (running : Option NewTree) → AreTablesExplained s past → IsKept (bytes_of m) s pointers running past → (laid : IsPoolLaid (length (bytes_of m)) m s past)
       → OfEachView (length (bytes_of m)) m s past (λ v. HasImportRoom (block_count (length (bytes_of m))) v) laid
   idle_room pointers running explained kept (inl rest) = each_has_room (length (bytes_of m)) m s past pointers running explained kept refl (inl rest) tt
   idle_room pointers running explained kept (inr (inl between)) = absurd (not_syncing between.group between.syncing)
   idle_room pointers running explained kept (inr (inr switched)) = absurd (not_syncing switched.group switched.syncing)
 
-disk_left : (o : Option SyncRun) (disk : Disk) (s : Shown) (past : Past) (pointers : Place → Pointer) (running : Option NewTree) → past.created ≤ moments disk → IsExplainedNow s past
+disk_left : (o : Option SyncRun) (disk : Disk) (s : Shown) (past : Past) (pointers : Place → Pointer) (running : Option NewTree) → past.created ≤ moments disk → AreTablesExplained s past
     → IsKept (bytes_of disk.now) s pointers running past → IsDiskKept o disk s past → IsRunLeft disk past s.guid
 disk_left None disk s past pointers running began explained held (idle, kept, odd) =
     run_own (disk_size disk) disk s past s.contents began kept explained.exact.log explained.exact.sync explained.exact.groups.line explained.history (idle_room disk.now s past idle pointers running explained held kept.laid)

@@ -24,7 +24,7 @@ use Rattle.base.specs.history.Contents.{Contents}
 use Rattle.base.specs.history.History.{entries_up_to, replay}
 use Rattle.base.specs.history.Past.{Past}
 use Rattle.base.specs.steps.Exact.{AreDistinctPlaces, IsInLog}
-use Rattle.base.specs.steps.ExactNow.{IsExplainedNow}
+use Rattle.base.specs.steps.Tables.{AreTablesExplained}
 use Rattle.base.specs.steps.Locks.{is_in}
 use Rattle.base.specs.steps.Logs.{KeptBlock}
 use Rattle.base.specs.steps.Shown.{Shown, SyncPlan, taken_of, uberblock_of}
@@ -107,7 +107,7 @@ no_config (Indirect n) = λ same. omega (arith, same)
 no_config (Data n r) = λ same. omega (arith, same)
 
 -- A sync that was started, over what the device holds.
-module _ (now : List ℕ) (s : Shown) (p : Past) (pointers : Place → Pointer) (new : NewTree) (x : IsStored now s pointers p) (y : IsSyncing now s pointers new p) (explained : IsExplainedNow s p)
+module _ (now : List ℕ) (s : Shown) (p : Past) (pointers : Place → Pointer) (new : NewTree) (x : IsStored now s pointers p) (y : IsSyncing now s pointers new p) (explained : AreTablesExplained s p)
     (geometry : IsGeometry (length now)) where
   pub next_group : y.group ≡ s.line.synced + 1
   next_group = subst (λ (o : Option ℕ). IfSome o (λ g. g ≡ s.line.synced + 1)) y.syncing explained.exact.groups.line.syncing
@@ -217,7 +217,7 @@ known_for (Some stages) size t ws group old new same config of_group above low k
 
 -- A sync that has made no call yet, on a disk at rest on the view of the synced group, whose config label 1 has.
 module _ (disk : Disk) (s : Shown) (p : Past) (pointers tree : Place → Pointer) (run : SyncRun) (x : IsStored (bytes_of disk.now) s pointers p) (y : IsSyncing (bytes_of disk.now) s pointers (made_by tree run) p)
-    (explained : IsExplainedNow s p) (places : AreDistinctPlaces (bytes_of disk.now) s) (sized : IsGeometry run.geometry) (long : length (bytes_of disk.now) ≡ run.geometry) (slot : run.slot ≡ slot_of y.group) (staged : WritesConfig run.stages run.geometry s p y.group)
+    (explained : AreTablesExplained s p) (places : AreDistinctPlaces (bytes_of disk.now) s) (sized : IsGeometry run.geometry) (long : length (bytes_of disk.now) ≡ run.geometry) (slot : run.slot ≡ slot_of y.group) (staged : WritesConfig run.stages run.geometry s p y.group)
     (flushed : ℕ) (old : View) (rest : IsAtRest run.geometry p.created flushed disk.now old) (is : IsViewOf flushed old s p s.line.synced s.root (header_now s.log))
     (odd : IsFixed disk.now (config_place run.geometry 1) old.config) (held : IsLogHeld run.geometry p.created flushed s.suspended disk.now old)
     (configs : AreConfigsUpTo run.geometry p.created (handed disk.now) s.guid s.line.synced (λ above content. ⊥)) where

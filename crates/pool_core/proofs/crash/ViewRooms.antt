@@ -12,7 +12,7 @@ use Rattle.base.specs.formats.Chain.{Header}
 use Rattle.base.specs.formats.Fields.{no_pointer}
 use Rattle.base.specs.history.Past.{Past}
 use Rattle.base.specs.steps.Exact.{AreDistinctPlaces, AreFree}
-use Rattle.base.specs.steps.ExactNow.{IsExplainedNow}
+use Rattle.base.specs.steps.Tables.{AreTablesExplained}
 use Rattle.base.specs.steps.Locks.{is_in}
 use Rattle.base.specs.steps.Shown.{Shown, SyncPlan, taken_of}
 use Rattle.base.specs.tree.PlacedTrees.{HoldsTree}
@@ -24,7 +24,7 @@ use Rattle.base.proofs.crash.PoolRoom.{next_spare, open_above, synced_room, sync
 abbrev pub HasKeptBlocks : List ℕ → Shown → View → Type 0
 HasKeptBlocks now s v = (place : Place) → IsPlace place → v.pointers place ≢ no_pointer → IsInTree now s.root (v.pointers place).address ⊎ (is_in (v.pointers place).address (taken_of s.sync) ≡ true)
 
-module _ (s : Shown) (p : Past) (explained : IsExplainedNow s p) (now : List ℕ) (free : AreFree now s) (places : AreDistinctPlaces now s) where
+module _ (s : Shown) (p : Past) (explained : AreTablesExplained s p) (now : List ℕ) (free : AreFree now s) (places : AreDistinctPlaces now s) where
   pub next_apart : (flushed : ℕ) (v : View) (group : ℕ) (root : Pointer) (header : Header) → IsViewOf flushed v s p group root header → HasKeptBlocks now s v → IsSpareOf v s.log.next.address
   next_apart flushed v group root header is tree =
       (next_spare s p explained.exact.log explained.exact.sync explained.exact.charges explained.exact.blocks explained.exact.groups explained.exact.isolated now free places flushed v group root header is tree).1

@@ -19,7 +19,7 @@ use Rattle.base.specs.history.History.{Entry, replay, entries_in, entries_up_to}
 use Rattle.base.specs.history.Past.{Past}
 use Rattle.base.specs.steps.Effects.{Effect, MayAddEntry, MayHave, is_logging, is_turning, state_after}
 use Rattle.base.specs.steps.Effects.Effect.{AddsEntry, PlansSync, CountsStep, EndsSync, Suspends, WritesLog, FlushesLog}
-use Rattle.base.specs.steps.ExactNow.{IsExplainedNow}
+use Rattle.base.specs.steps.Tables.{AreTablesExplained}
 use Rattle.base.specs.steps.Groups.{Admission, open_transactions}
 use Rattle.base.specs.steps.Logs.{Begun, KeptBlock, Log, header_at}
 use Rattle.base.specs.steps.Runs.{Step, is_log_step}
@@ -198,7 +198,7 @@ counted plan s is = record {
 }
 
 -- an entry comes, above the synced group and the one that is syncing
-entered : (tx : ℕ) (a : Admission) (ops : List Op) (contents : Contents) (s : State) → IsExplainedNow s.shown s.past → MayAddEntry tx a ops contents s → Same s (steps.state_after_commit tx a.group ops contents s)
+entered : (tx : ℕ) (a : Admission) (ops : List Op) (contents : Contents) (s : State) → AreTablesExplained s.shown s.past → MayAddEntry tx a ops contents s → Same s (steps.state_after_commit tx a.group ops contents s)
 entered tx a ops contents s explained may =
     let found = found_at (λ (b : Admission). b.tx == tx) s.shown.transactions a may.found in
     let in_line : slice_get (open_transactions s.past.admissions s.past.entries s.past.aborted) found.0 ≡ Some a = subst (λ ts. slice_get ts found.0 ≡ Some a) explained.exact.groups.transactions found.1 in
@@ -263,7 +263,7 @@ pub suspended_stays : (s : State) → Same s (steps.suspended_state s)
 suspended_stays s = suspended s s (still s)
 
 -- an effect that neither starts nor ends a sync, and writes no log
-effect_leaves : (e : Effect) (s : State) → is_turning e ≡ false → is_logging e ≡ false → IsExplainedNow s.shown s.past → MayHave e s → Same s (state_after e s)
+effect_leaves : (e : Effect) (s : State) → is_turning e ≡ false → is_logging e ≡ false → AreTablesExplained s.shown s.past → MayHave e s → Same s (state_after e s)
 effect_leaves (AddsEntry tx a ops contents) s off no_log explained may = entered tx a ops contents s explained may
 effect_leaves (CountsStep plan) s off no_log explained may = counted plan s may.0
 effect_leaves (PlansSync group plan) s turning no_log explained may = absurd (false≢true (sym turning))
@@ -279,7 +279,7 @@ effect_leaves e s off no_log explained may = record {
 }
 
 -- Each step but the start of a sync, its end, and those of the log leaves what the views rest on.
-pub step_leaves : (keeps : Type 0) (bytes : List ℕ) (s : declared_step.Step) (r : declared_reply.Reply) (old new : State) → Step keeps bytes s r old new → is_turn r ≡ false → is_log_step s ≡ false → IsExplainedNow old.shown old.past
+pub step_leaves : (keeps : Type 0) (bytes : List ℕ) (s : declared_step.Step) (r : declared_reply.Reply) (old new : State) → Step keeps bytes s r old new → is_turn r ≡ false → is_log_step s ≡ false → AreTablesExplained old.shown old.past
     → SameSyncing old.shown new.shown old.past new.past
 step_leaves keeps bytes s r old new h off no_log explained =
     let d : StepDoes s r old new = step_does keeps bytes s r old new h in

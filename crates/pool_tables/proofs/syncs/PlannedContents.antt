@@ -7,7 +7,7 @@ use Rattle.base.specs.history.Contents.{Contents, name_given_by_all}
 use Rattle.base.specs.history.History.{apply_all, entries_in}
 use Rattle.base.specs.history.Past.{Past}
 use Rattle.base.specs.steps.Exact.{IsBounded}
-use Rattle.base.specs.steps.ExactNow.{IsExplainedNow}
+use Rattle.base.specs.steps.Tables.{AreTablesExplained}
 use Rattle.base.specs.steps.Shown.{Shown}
 use Rattle.base.specs.steps.Steps.{IsReplayUpTo}
 use Rattle.base.proofs.history.Names.{name-apply_all}
@@ -30,7 +30,7 @@ pub record LeadsTo (s : Shown) (p : Past) (group : ℕ) (unsynced : List Record)
   pub bounded : IsBounded after
 
 -- a group that waits for its sync
-module _ (s : Shown) (p : Past) (explained : IsExplainedNow s p) (group : ℕ) (idle : s.line.syncing ≡ None) (middle : s.line.middle ≡ Some (record { group = group; quiesced = true }))
+module _ (s : Shown) (p : Past) (explained : AreTablesExplained s p) (group : ℕ) (idle : s.line.syncing ≡ None) (middle : s.line.middle ≡ Some (record { group = group; quiesced = true }))
     (unsynced : List Record) (log : s.log.unsynced ≡ map record_fields unsynced) where
   pub next_above : s.line.synced < group
   next_above = let next : group ≡ s.line.synced + 1 = next-group s p explained group idle middle in omega (arith, next)

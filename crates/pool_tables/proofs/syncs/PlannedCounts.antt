@@ -8,7 +8,7 @@ use Rattle.base.specs.declared.pointer.Pointer.{Pointer}
 use Rattle.base.specs.history.Contents.{Contents}
 use Rattle.base.specs.history.Past.{Past}
 use Rattle.base.specs.history.Plans.{estimate_of, shape_of}
-use Rattle.base.specs.steps.ExactNow.{IsExplainedNow}
+use Rattle.base.specs.steps.Tables.{AreTablesExplained}
 use Rattle.base.specs.steps.Refusals.{quiesced_group}
 use Rattle.base.specs.steps.Shown.{Shown, SyncPlan, free_count}
 use Rattle.base.specs.steps.Steps.{TakesForEach, ops_of_group}
@@ -28,7 +28,7 @@ use Rattle.group_plans.proofs.GroupCounts.{blocks_fit, named_by, short_of_places
 use Rattle.pool_tables.proofs.syncs.PlannedGroups.{synced_tree}
 
 -- Whatever the device holds, and from whichever pointers it is planned.
-module _ (s : Shown) (p : Past) (explained : IsExplainedNow s p) (group : ℕ) (pending : List Record) (ops_are : ops_of_group group p.entries ≡ pending_ops group pending)
+module _ (s : Shown) (p : Past) (explained : AreTablesExplained s p) (group : ℕ) (pending : List Record) (ops_are : ops_of_group group p.entries ≡ pending_ops group pending)
     (after : Contents) (maps : List ObjectEntry) (place : TakesPlace (pending_ops group pending) maps s.synced_contents after) (pointers : Place → Pointer) where
   -- a plan takes no more blocks than the operations are estimated at
   pub taken_fit : (new : Place → Pointer) (bs : List NewBlock) (returned : List ℕ) → TakesGroupPlaces group pending maps pointers new bs returned after.objects
@@ -45,7 +45,7 @@ module _ (s : Shown) (p : Past) (explained : IsExplainedNow s p) (group : ℕ) (
       let fewer = short_of_places group pending maps s.synced_contents after place pointers free short in
       omega (arith, room, same, fewer, counted)
 
-module _ (now : List ℕ) (s : Shown) (p : Past) (pointers : Place → Pointer) (x : IsStored now s pointers p) (explained : IsExplainedNow s p) (group : ℕ) (pending : List Record)
+module _ (now : List ℕ) (s : Shown) (p : Past) (pointers : Place → Pointer) (x : IsStored now s pointers p) (explained : AreTablesExplained s p) (group : ℕ) (pending : List Record)
     (ops_are : ops_of_group group p.entries ≡ pending_ops group pending) (after : Contents) (maps : List ObjectEntry) (place : TakesPlace (pending_ops group pending) maps s.synced_contents after)
     (new : Place → Pointer) (bs : List NewBlock) (returned : List ℕ) (plan : SyncPlan) (from : TakesGroupPlaces group pending maps pointers new bs returned after.objects) (taken : map (λ (b : NewBlock). b.address) bs ≡ plan.taken) where
   -- the places that the sync of the group writes

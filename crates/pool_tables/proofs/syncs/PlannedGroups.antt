@@ -11,7 +11,7 @@ use Rattle.base.specs.history.History.{apply_all}
 use Rattle.base.specs.history.Past.{Past}
 use Rattle.base.specs.history.Plans.{IsRange, ranges}
 use Rattle.base.specs.steps.Exact.{IsBounded}
-use Rattle.base.specs.steps.ExactNow.{IsExplainedNow}
+use Rattle.base.specs.steps.Tables.{AreTablesExplained}
 use Rattle.base.specs.steps.Shown.{Shown, SyncPlan}
 use Rattle.base.specs.steps.Steps.{ops_of_group}
 use Rattle.base.specs.stored.Stored.{AreUsed, IsPlannedSync, IsStored, frame_at}
@@ -38,7 +38,7 @@ bounded_sizes None n h = tt
 bounded_sizes (Some x) n h = h.1
 
 -- What the unsynced records tell of a group above the synced one, whatever the device holds.
-module _ (s : Shown) (p : Past) (explained : IsExplainedNow s p) (group : ℕ) (above : s.line.synced < group) (unsynced : List Record) (log : s.log.unsynced ≡ map record_fields unsynced) where
+module _ (s : Shown) (p : Past) (explained : AreTablesExplained s p) (group : ℕ) (above : s.line.synced < group) (unsynced : List Record) (log : s.log.unsynced ≡ map record_fields unsynced) where
   pub ops_are : ops_of_group group p.entries ≡ pending_ops group unsynced
   ops_are = unsynced_are s p explained unsynced log group above
 
@@ -53,7 +53,7 @@ module _ (s : Shown) (p : Past) (explained : IsExplainedNow s p) (group : ℕ) (
   }
 
 -- what a device holds is the tree of the synced contents
-module _ (now : List ℕ) (s : Shown) (p : Past) (pointers : Place → Pointer) (x : IsStored now s pointers p) (explained : IsExplainedNow s p) where
+module _ (now : List ℕ) (s : Shown) (p : Past) (pointers : Place → Pointer) (x : IsStored now s pointers p) (explained : AreTablesExplained s p) where
   pub synced_stored : x.synced ≡ s.synced_contents
   synced_stored = let both : Ok x.synced ≡ Ok s.synced_contents = sym x.replayed ∙ explained.trees.synced.replayed in cc
 
@@ -61,7 +61,7 @@ module _ (now : List ℕ) (s : Shown) (p : Past) (pointers : Place → Pointer) 
   synced_tree = subst (λ (c : Contents). HoldsTree now (frame_at s s.line.synced) pointers c.objects) synced_stored x.tree
 
 -- and of the plan of a group that leads from them to others
-module _ (now : List ℕ) (s : Shown) (p : Past) (pointers : Place → Pointer) (x : IsStored now s pointers p) (explained : IsExplainedNow s p) (group : ℕ) (above : s.line.synced < group)
+module _ (now : List ℕ) (s : Shown) (p : Past) (pointers : Place → Pointer) (x : IsStored now s pointers p) (explained : AreTablesExplained s p) (group : ℕ) (above : s.line.synced < group)
     (unsynced : List Record) (after : Contents) (bounded : IsBounded after) (maps : List ObjectEntry) (place : TakesPlace (pending_ops group unsynced) maps s.synced_contents after) where
   born_before : AreBornBefore group pointers
   born_before p_at is = let birth = stored-births now s pointers p x p_at is in omega (arith, above, birth)

@@ -11,7 +11,7 @@ use Rattle.base.specs.formats.Geometry.{IsGeometry, block_count}
 use Rattle.base.specs.history.Contents.{Contents, name_given_by_all}
 use Rattle.base.specs.history.Past.{Past}
 use Rattle.base.specs.history.Plans.{estimate_of, shape_of}
-use Rattle.base.specs.steps.ExactNow.{IsExplainedNow}
+use Rattle.base.specs.steps.Tables.{AreTablesExplained}
 use Rattle.base.specs.tree.Places.{Place, has_block}
 use Rattle.base.specs.steps.Shown.{SyncPlan}
 use Rattle.base.specs.steps.Steps.{AreLengthsOf, TakesForEach, ops_of_group}
@@ -77,7 +77,7 @@ pub taken_anew : (pool : PoolTables) (blocks : List PlannedBlock) → is_some po
 taken_anew pool blocks idle = omega (arith, none_counted pool idle, length-map blocks address_of)
 
 -- What a past that explains a pool says of a group whose sync may start.
-module _ (past : Past) (pool : PoolTables) (group : ℕ) (may : MayStart group pool.groups.line) (explained : IsExplainedNow (pool_shown pool) past) where
+module _ (past : Past) (pool : PoolTables) (group : ℕ) (may : MayStart group pool.groups.line) (explained : AreTablesExplained (pool_shown pool) past) where
   idle : pool.groups.line.syncing ≡ None
   idle = none_there pool.groups.line.syncing may.1
 

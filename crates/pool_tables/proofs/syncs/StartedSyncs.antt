@@ -8,7 +8,7 @@ use Rattle.base.specs.declared.error.PoolError.TheVariants as error
 use Rattle.base.specs.declared.names.Group.{Group}
 use Rattle.base.specs.formats.Uberblocks.{IsUberblock}
 use Rattle.base.specs.history.Past.{Past}
-use Rattle.base.specs.steps.ExactNow.{IsExplainedNow}
+use Rattle.base.specs.steps.Tables.{AreTablesExplained}
 use Rattle.base.specs.steps.Shown.{Shown, SyncPlan, uberblock_of}
 use Rattle.base.specs.steps.Steps.{TakesForEach}
 use Rattle.base.specs.stored.LabelConfigs.{WritesName}
@@ -37,7 +37,7 @@ use Rattle.pool_tables.proofs.StillSteps.{still_pool}
 -- The start of a sync of a pool, on a device that keeps the disk model or not, whose bytes are these if it does.
 module _ (keeps : Type 0) (now : List ℕ) (moment : ℕ) (pool : PoolTables) where
   -- refused, it takes no step, and the bytes, the tree and the running sync stand
-  refused_by : (e : PoolError) → ((past : Past) → IsExplainedNow (pool_shown pool) past → StartsAt ⊥ [] moment (Err e) past (pool_shown pool) (pool_shown pool))
+  refused_by : (e : PoolError) → ((past : Past) → AreTablesExplained (pool_shown pool) past → StartsAt ⊥ [] moment (Err e) past (pool_shown pool) (pool_shown pool))
       → (keeps → (past : Past) → IsHeld (held_with (pool_told pool now) past) → StartsAt (Unit {0}) now moment (Err e) past (pool_shown pool) (pool_shown pool))
       → IsSyncStart keeps now moment (Err e) (pool_told pool) (pool_told pool)
   refused_by e at held = record {
@@ -62,7 +62,7 @@ module _ (keeps : Type 0) (now : List ℕ) (moment : ℕ) (pool : PoolTables) wh
       (λ past x. start_wants ⊥ [] past (pool_shown pool) moment group e stands may.0 may.1 (plan_wants ⊥ e (none_short past x) refused (λ never. absurd never)))
       (λ k past x. start_wants (Unit {0}) now past (pool_shown pool) moment group e stands may.0 may.1 (plan_wants (Unit {0}) e (none_short past x.explained) refused (λ _. sound k (tree_held now past pool x))))
     where
-      none_short : (past : Past) → IsExplainedNow (pool_shown pool) past → e ≡ error.NoSpace → ⊥
+      none_short : (past : Past) → AreTablesExplained (pool_shown pool) past → e ≡ error.NoSpace → ⊥
       none_short past x space = never_short past pool group may x (short space).0 (short space).1
 
   -- a sync of this group that starts by this plan
@@ -84,7 +84,7 @@ module _ (keeps : Type 0) (now : List ℕ) (moment : ℕ) (pool : PoolTables) wh
     }
 
     module _ (stands : pool.suspended ≡ false) (may : MayStart g.0 pool.groups.line) (lowest : TakesLowest pool.free.free planned) (makes : MakesOldestTree pool g.0 planned) where
-      starts_at : (model : Type 0) (bytes : List ℕ) (past : Past) (n : Shown) → n ≡ shown_started → IsExplainedNow (pool_shown pool) past
+      starts_at : (model : Type 0) (bytes : List ℕ) (past : Past) (n : Shown) → n ≡ shown_started → AreTablesExplained (pool_shown pool) past
           → (model → TakesForEach bytes (record { shown = pool_shown pool; past = past }) g.0 plan) → StartsAt model bytes moment (Ok g.0) past (pool_shown pool) n
       starts_at model bytes past n is x takes =
           start_done model bytes past (pool_shown pool) moment n g.0 plan x takes stands may.0 may.1 (group_fits past pool g.0 may x planned makes) (oldest_leads past pool g.0 may x).replayed

@@ -7,7 +7,7 @@ use Rattle.std.proofs.lemmas.Bool.{false≢true}
 use Rattle.std.proofs.lemmas.List.{length-map}
 use Rattle.base.specs.declared.error.PoolError.{PoolError}
 use Rattle.base.specs.declared.error.PoolError.TheVariants as error
-use Rattle.base.specs.steps.ExactNow.{IsExplainedNow}
+use Rattle.base.specs.steps.Tables.{AreTablesExplained}
 use Rattle.base.specs.history.Plans.{estimate_of, shape_of}
 use Rattle.base.specs.steps.Logs.{header_for}
 use Rattle.base.specs.history.Past.{Past}
@@ -79,7 +79,7 @@ module _ (keeps : Type 0) (now : List ℕ) (past : Past) (s : Shown) (moment : �
   start_wants group e h is none wants = rw (starts group h is none) (wants, refl)
 
   -- a sync that is planned starts, where the past explains what was shown
-  pub start_done : (n : Shown) (group : ℕ) (plan : SyncPlan) → IsExplainedNow s past → (keeps → TakesForEach now (record { shown = s; past = past }) group plan)
+  pub start_done : (n : Shown) (group : ℕ) (plan : SyncPlan) → AreTablesExplained s past → (keeps → TakesForEach now (record { shown = s; past = past }) group plan)
       → s.suspended ≡ false → quiesced_group s.line ≡ Some group → is_some s.line.syncing ≡ false
       → length plan.taken ≤ estimate_of (map shape_of (ops_of_group group past.entries)) → IsReplayUpTo group past plan.contents → AreLengthsOf plan.contents plan.lengths
       → plan.moment ≡ moment → plan.taken ≡ lowest_free (length plan.taken) s → plan.steps_left ≡ length plan.taken + other_step_count (ops_of_group group past.entries) → plan.header ≡ header_for group s.log

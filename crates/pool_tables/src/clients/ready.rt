@@ -3,7 +3,7 @@
 
 ghost use Rattle.std.specs.Prelude.{◌≡◌, ◌≢◌, ◌⊎◌, ◌∷◌, [], Err, IfErr, IfOk, None, Ok, Some, false, length, true};
 ghost use Rattle.base.specs.history.Past.{Past};
-ghost use Rattle.base.specs.steps.ExactNow.{IsExplainedNow};
+ghost use Rattle.base.specs.steps.Tables.{AreTablesExplained};
 ghost use Rattle.base.specs.steps.Groups.{hold_count};
 ghost use Rattle.base.specs.steps.Shown.{available};
 ghost use Rattle.pool_tables.specs.Shows.{geometry_of, pool_shown};
@@ -71,9 +71,9 @@ fn a_quiesced_group_is_ready_to_be_synced<B: BlockReader>(
     requires quiesced { (pool_shown pool.old).line.middle
         ≡ Some (record { group = 9; quiesced = true }) }
     requires none { (pool_shown pool.old).line.syncing ≡ None }
-    ensures started { (past : Past) → IsExplainedNow (pool_shown pool.old) past
+    ensures started { (past : Past) → AreTablesExplained (pool_shown pool.old) past
         → IfOk result (λ group. group.0 ≡ 9) }
-    ensures refused { (past : Past) → IsExplainedNow (pool_shown pool.old) past
+    ensures refused { (past : Past) → AreTablesExplained (pool_shown pool.old) past
         → IfErr result (λ e. e ≢ PoolError.NotReady) }
 {
     pool.start_sync(reader, moment)
@@ -90,9 +90,9 @@ fn no_sync_starts_beside_another<B: BlockReader>(
     requires quiesced { (pool_shown pool.old).line.middle
         ≡ Some (record { group = 10; quiesced = true }) }
     requires syncing { (pool_shown pool.old).line.syncing ≡ Some 9 }
-    ensures refused { (past : Past) → IsExplainedNow (pool_shown pool.old) past
+    ensures refused { (past : Past) → AreTablesExplained (pool_shown pool.old) past
         → result ≡ Err PoolError.NotReady }
-    ensures unchanged { (past : Past) → IsExplainedNow (pool_shown pool.old) past
+    ensures unchanged { (past : Past) → AreTablesExplained (pool_shown pool.old) past
         → pool_shown pool.new ≡ pool_shown pool.old }
 {
     pool.start_sync(reader, moment)
@@ -108,9 +108,9 @@ fn a_group_that_quiesces_is_not_synced_yet<B: BlockReader>(
     requires running { (pool_shown pool.old).suspended ≡ false }
     requires closed { (pool_shown pool.old).line.middle
         ≡ Some (record { group = 9; quiesced = false }) }
-    ensures refused { (past : Past) → IsExplainedNow (pool_shown pool.old) past
+    ensures refused { (past : Past) → AreTablesExplained (pool_shown pool.old) past
         → result ≡ Err PoolError.NotReady }
-    ensures unchanged { (past : Past) → IsExplainedNow (pool_shown pool.old) past
+    ensures unchanged { (past : Past) → AreTablesExplained (pool_shown pool.old) past
         → pool_shown pool.new ≡ pool_shown pool.old }
 {
     pool.start_sync(reader, moment)

@@ -1,6 +1,6 @@
 //! The transactions of a pool: they begin, commit and are given up. A call that is refused leaves the pool unchanged.
 
-ghost use Rattle.std.specs.Prelude.{◌≡◌, ◌<◌, ◌+◌, ◌≤◌, IfOk, OnOk, nat_lt, option_map, true, vec_capacity, vec_len};
+ghost use Rattle.std.specs.Prelude.{◌≡◌, ◌<◌, ◌+◌, ◌≤◌, IfOk, OnOk, nat_lt, option_map, true};
 ghost use Rattle.std.specs.List.{list_all, list_any};
 ghost use Rattle.base.specs.formats.Limits.{last_number, max_log_record};
 ghost use Rattle.base.specs.formats.Records.{is_content_allowed};

@@ -6,7 +6,7 @@ ghost use Rattle.base.specs.formats.Digest.{digest_of};
 ghost use Rattle.base.specs.formats.Limits.{object_count};
 ghost use Rattle.base.specs.history.Contents.{Contents, length_of};
 ghost use Rattle.base.specs.history.History.{replay};
-ghost use Rattle.base.specs.steps.ExactNow.{GoesOn};
+ghost use Rattle.base.specs.steps.Tables.{GoesOn};
 ghost use Rattle.base.specs.steps.Refusals.{object_range};
 ghost use Rattle.base.specs.steps.Seen.{IsGranted, IsKnownDurable};
 ghost use Rattle.base.specs.steps.Shown.{available, dirty_total, free_count};

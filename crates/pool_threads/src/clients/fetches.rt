@@ -1,5 +1,5 @@
 //! What callers rest on of `fetch`.
-ghost use Rattle.std.specs.Prelude.{◌≡◌, ◌⊎◌, IfErr, IfOk, IsTrue, Result, false};
+ghost use Rattle.std.specs.Prelude.{◌≡◌, ◌⊎◌, IfErr, IfOk, IsTrue, Result};
 ghost use Rattle.base.specs.declared.error.PoolError.{PoolError};
 ghost use Rattle.base.specs.declared.error.PoolError.TheVariants as error;
 ghost use Rattle.base.specs.declared.names.LockId.{LockId};

@@ -4,7 +4,7 @@ use Rattle.base.specs.crash.Imports.{are_limits_allowed}
 use Rattle.base.specs.disk.Disk.{bytes_of}
 use Rattle.base.specs.formats.Geometry.{IsGeometry}
 use Rattle.base.specs.history.Past.{new_past}
-use Rattle.base.specs.steps.ExactNow.{IsExplainedNow}
+use Rattle.base.specs.steps.Tables.{AreTablesExplained}
 use Rattle.object_maps.specs.CachedDevices.{device_in}
 use Rattle.object_maps.specs.ContentsShown.{contents_of}
 use Rattle.import_replay.specs.ImportRefusals.{IsImportRefusal}
@@ -38,7 +38,7 @@ pub invariant_of-result-clause-explained : goal.invariant_of-result-clause-expla
 invariant_of-result-clause-explained g c =
     let m = c.in-Ok-mount_pool.mounted in
     let told = c.in-Ok-mount_pool.ensures.mounted in
-    ∣ subst (λ (limit : ℕ). (created : ℕ) → IsExplainedNow (shown_of_import m) (new_past (contents_of m.contents) created limit)) (sym told.limit) told.explained ∣₁
+    ∣ subst (λ (limit : ℕ). (created : ℕ) → AreTablesExplained (shown_of_import m) (new_past (contents_of m.contents) created limit)) (sym told.limit) told.explained ∣₁
 
 pub returns-in-Ok-mount_pool-clause-imported : goal.returns-in-Ok-mount_pool-clause-imported
 returns-in-Ok-mount_pool-clause-imported g c = λ keeps.

@@ -26,7 +26,7 @@ pub record AreTreesExact (s : Shown) (past : Past) : Type 0 where
   pub planned : (group : ℕ) (plan : SyncPlan) → s.line.syncing ≡ Some group → s.sync ≡ Some plan → IsTreeOf group past plan.contents plan.lengths
 
 -- what is shown is exactly what the past of the run says, and the entries are a history that leads to the contents
-pub record IsExplainedNow (s : Shown) (past : Past) : Type 0 where
+pub record AreTablesExplained (s : Shown) (past : Past) : Type 0 where
   pub exact : IsExact s past
   pub history : IsHistory past.entries past.base s.contents
   pub trees : AreTreesExact s past
@@ -43,14 +43,14 @@ GoesOn before after = (steps : List declared_step.Step) × (replies : List decla
 -- among these
 abbrev pub StepsKeepTables : Type 0
 StepsKeepTables = (now : List ℕ) (step : declared_step.Step) (reply : declared_reply.Reply) (old new : State) → Step ⊥ now step reply old new
-    → IsExplainedNow old.shown old.past → IsExplainedNow new.shown new.past
+    → AreTablesExplained old.shown old.past → AreTablesExplained new.shown new.past
 
 -- and so do steps one after another
 abbrev pub RunsKeepTables : Type 0
 RunsKeepTables = (steps : List declared_step.Step) (replies : List declared_reply.Reply) (old new : State) → IsRun ⊥ steps replies old new
-    → IsExplainedNow old.shown old.past → IsExplainedNow new.shown new.past
+    → AreTablesExplained old.shown old.past → AreTablesExplained new.shown new.past
 
 -- a pool that was just imported is so, with the empty past
 abbrev pub NewPoolsAreExplained : Type 0
 NewPoolsAreExplained = (u : Uberblock) (blocks : ℕ) (contents : Contents) (created dirty_max : ℕ) (s : Shown) → IsImported u blocks contents dirty_max s → IsBounded contents
-    → u.group + 5 ≤ last_number → IsExplainedNow s (new_past contents created dirty_max)
+    → u.group + 5 ≤ last_number → AreTablesExplained s (new_past contents created dirty_max)
