@@ -1,7 +1,7 @@
 //! What callers rest on: one function for each promise of this crate's calls, proved from the contract of the call
 //! alone. So it is refused as soon as that contract says less.
 
-ghost use Rattle.std.specs.Prelude.{◌≡◌, ◌∷◌, [], IfOk, IfSome, IsErrOf, codes, length, vec_len};
+ghost use Rattle.std.specs.Prelude.{◌≡◌, ◌∷◌, [], IfOk, IfSome, IsErrOf, IsTrue, codes, length, vec_len};
 ghost use Rattle.base.specs.declared.operation.Op.TheVariants as op;
 ghost use Rattle.base.specs.declared.operation.Shape.TheVariants as shape;
 
@@ -105,10 +105,10 @@ fn a_name_of_four_bytes_shows_four(name: &PoolName) -> usize
     copy.as_slice().len()
 }
 
-fn the_text_of_tank_is_its_four_letters() -> usize
-    ensures { result ≡ 4 }
+fn the_text_of_tank_is_its_four_letters() -> bool
+    ensures { IsTrue result }
 {
-    PoolName::new(b"tank").map_or(4, |name| name.as_str().len())
+    PoolName::new(b"tank").map_or(true, |name| name.as_str() == "tank")
 }
 
 fn not_ready_has_number_20() -> u8

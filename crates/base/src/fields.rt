@@ -3,7 +3,7 @@
 
 ghost use Rattle.std.specs.Prelude.{◌≡◌, ◌+◌, ◌≤◌, ◌↔◌, IsTrue, length, replicate};
 ghost use Rattle.base.specs.disk.Disk.{put};
-ghost use Rattle.base.specs.formats.Fields.{number_at, number_bytes, pointer_at, pointer_bytes, part};
+ghost use Rattle.base.specs.formats.Fields.{number_at, number_bytes, pointer_at, pointer_bytes};
 ghost use Rattle.base.specs.formats.Limits.{pointer_size};
 
 use crate::pointer::Pointer;

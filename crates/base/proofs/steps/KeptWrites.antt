@@ -9,7 +9,7 @@ use Rattle.std.proofs.lemmas.Option.{slice_get-map, slice_get_within}
 use Rattle.base.specs.history.History.{Entry}
 use Rattle.base.specs.formats.Records.{Record}
 use Rattle.base.specs.history.Past.{Past}
-use Rattle.base.specs.steps.Logs.{Log, KeptBlock, Begun, AreBalanced, Committed, Taken, IsTaken, block_taken, begun_committed, committed_of, record_of_entry, has_record, begins_record, is_same, is_begun_in, is_flushed_in, reaches_above, ends_above, pending_records, log_after_write}
+use Rattle.base.specs.steps.Logs.{Log, KeptBlock, Begun, Committed, Taken, IsTaken, block_taken, committed_of, record_of_entry, has_record, begins_record, is_same, is_begun_in, is_flushed_in, reaches_above, ends_above, pending_records, log_after_write}
 use Rattle.base.specs.steps.Shown.{Shown, SyncPlan}
 use Rattle.base.specs.steps.Exact.{IsBegunRecord, IsLogExact, IsSyncExact}
 use Rattle.base.proofs.common.Sieves.{filter-filter, filter_all, filter_nothing}
