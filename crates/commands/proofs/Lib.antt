@@ -1,4 +1,4 @@
-mod AllFindings
+mod CheckedAll
 mod Committed
 mod Findings
 mod MountedBytes

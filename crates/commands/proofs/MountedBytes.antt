@@ -27,7 +27,8 @@ one_range image object range bytes (other, (w, pieces, found), is) contents (u, 
     let (same_u, same_chain, same) = mounts_agree image w u pieces chain other contents found mounts in
     is ∙ ap (λ (c : Contents). range_in c.objects object range) same
 
-appended : (new : Option (List ℕ)) (bytes : List ℕ) → Appends (Some []) new bytes → new ≡ Some bytes
+-- what is appended to nothing is all that is there
+pub appended : (new : Option (List ℕ)) (bytes : List ℕ) → Appends (Some []) new bytes → new ≡ Some bytes
 appended None bytes grown = absurd grown
 appended (Some ys) bytes grown = ap Some grown
 

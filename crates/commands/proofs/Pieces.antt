@@ -137,10 +137,6 @@ counted_back committed count are = omega (arith, are)
 pub few_enough : (count committed size : ℕ) → count ≡ (committed + 64511) / 64512 → committed ≡ min (64512 * ((committed + 64511) / 64512)) size → count ≤ size
 few_enough count committed size is within = omega (arith, is, within)
 
--- the number of bytes with those of a first piece
-pub one_more_sized : (first rest count size left : ℕ) → first ≡ min 64512 size → left ≡ size - 64512 → rest ≡ min (64512 * count) left → rest + first ≡ min (64512 * (count + 1)) size
-one_more_sized first rest count size left is are so = omega (arith, is, are, so)
-
 module _ {Dev : Type 0} {G : Ghosts Dev} where
   in_order : (all : List (List Op)) (receipts : List Receipt) (result : Result (Unit {0}) PoolError) (old new : Handle Dev G) → TransactsInOrder command_owner all receipts result old new → MakesFirst all (length receipts) result old new
   in_order [] receipts result old new (none, is, same) = (ap length none, is, same)

@@ -22,6 +22,7 @@ use Rattle.commands.specs.declared.changes.Put.{Put}
 use Rattle.commands.specs.declared.changes.Start.{Start}
 use Rattle.commands.specs.declared.changes.Start.TheVariants.{Creates, Empties, Keeps}
 use Rattle.commands.proofs.Committed.{put_happens, removal_happens}
+use Rattle.commands.proofs.MountedBytes.{appended}
 use Rattle.commands.proofs.PutBytes.{puts_leave_bytes}
 
 abbrev seven : ObjectId
@@ -81,10 +82,6 @@ one_byte_put {Dev} G device bytes are (put, puts) =
     by Empties may h = absurd (may refl)
 
 module _ {Dev : Type 0} (G : Ghosts Dev) (device : Dev) (old new : Option (List ℕ)) where
-  appended : (b : Option (List ℕ)) (line : List ℕ) → Appends (Some []) b line → b ≡ Some line
-  appended None line grown = absurd grown
-  appended (Some xs) line grown = ap Some grown
-
   one_piece : (start : Start) → IsStartFor None start → length (put_transactions start seven None (1 ∷ 2 ∷ [])) ≡ 1
   one_piece Creates may = refl
   one_piece Empties may = refl

@@ -24,7 +24,7 @@ use std::io::Write;
 ///
 /// # Errors
 /// `BadGeometry`, before any device call. `NoMemory` and `Read` when they happen.
-pub fn find_all<D: SectorDevice>(alloc: Global, device: &mut D) -> Result<Vec<Finding>, PoolError>
+pub fn check_all<D: SectorDevice>(alloc: Global, device: &mut D) -> Result<Vec<Finding>, PoolError>
     // The disk is as it was, and the device refused no call but a read.
     ensures reads { OnlyReads D.SectorDevice result device.old device.new }
 
@@ -50,13 +50,13 @@ fn list_findings(
                 records: inspected.records,
             },
         ]?),
-        Ok(Soundness::Damaged(damages)) => Ok(list_damages(alloc, &damages)?),
+        Ok(Soundness::Damaged(damages)) => Ok(damage_findings(alloc, &damages)?),
         Err(PoolError::NoPool) => Ok(vec![in alloc; Finding::NoPool]?),
         Err(refusal) => Err(refusal),
     }
 }
 
-fn list_damages(alloc: Global, damages: &[BlockDamage]) -> Result<Vec<Finding>, AllocError>
+fn damage_findings(alloc: Global, damages: &[BlockDamage]) -> Result<Vec<Finding>, AllocError>
     ensures { IfOk result (λ list. list.items ≡ map damage_finding damages.now) }
 {
     damages
@@ -120,7 +120,7 @@ fn find_opened<D: SectorDevice + NotesRefusals>(
         Ok(device) => device,
         Err(cause) => return Err(Failure::Unusable(*cause)),
     };
-    match find_all(alloc, device) {
+    match check_all(alloc, device) {
         Ok(findings) => Ok(findings),
         Err(refusal) => Err(Failure::of_pool(refusal, device)),
     }

@@ -14,14 +14,14 @@ use Rattle.base.specs.tree.Places.{Place, IsPlace, kind_of, number_of_place, wal
 use Rattle.base.specs.tree.Places.Place.{Root, Directory, Indirect, Data}
 use Rattle.base.specs.tree.Damages.{IsSoundAt, IsWellFormed, IsFirstDamage, length_in}
 use Rattle.object_maps.specs.declared.damages.BlockDamage.{BlockDamage}
-use Rattle.object_maps.specs.DamageLists.{LiesBelow, block_damage, StandRising, IsJudged, ListsDamages, walk_index_behind, AreDamaged, AddsDamages, AddsTold, HasDataOf}
+use Rattle.object_maps.specs.DamageLists.{LiesBelow, block_damage, StandRising, IsJudged, ListsDamages, walk_index_after, AreDamaged, AddsDamages, AddsTold, HasDataOf}
 use Rattle.object_maps.specs.Walking.{AreSound, TellsBlock, IsDataOf, IsPayloadOf, directory_index}
 use Rattle.object_maps.proofs.WalkOrder.{same_place, same-object, index_within}
 use Rattle.object_maps.proofs.WalkDamages.{same_payload, same-kind, same-address, padded-back}
 use Rattle.object_maps.proofs.WalkParts.{object_none, entry_linked, no_entry_pointer, directory_sound, objects_none}
 
 -- which is behind the place itself
-behind_itself : (place : Place) → walk_index_of place + 1 ≤ walk_index_behind place
+behind_itself : (place : Place) → walk_index_of place + 1 ≤ walk_index_after place
 behind_itself Root = omega arith
 behind_itself (Directory d) = omega arith
 behind_itself (Indirect n) = omega arith
@@ -32,7 +32,7 @@ object_part : (q k e : ℕ) → k < 63 → 2 + 5356 * q + 85 * k < 1 + 5356 * e 
 object_part q k e low after before = omega (arith, low, after, before)
 
 -- what stands in the walk after a place and before the index behind it lies below it
-pub below_place : (upper lower : Place) → IsPlace upper → IsPlace lower → walk_index_of upper < walk_index_of lower → walk_index_of lower < walk_index_behind upper → LiesBelow upper lower
+pub below_place : (upper lower : Place) → IsPlace upper → IsPlace lower → walk_index_of upper < walk_index_of lower → walk_index_of lower < walk_index_after upper → LiesBelow upper lower
 below_place Root Root hu hl after before = omega (arith, after)
 below_place Root (Directory d) hu hl after before = tt
 below_place Root (Indirect n) hu hl after before = tt
@@ -79,7 +79,7 @@ within_walk (Data n r) h = omega (arith, h.0, h.1)
 rising_more : (start middle end : ℕ) (xs ys : List Place) → StandRising start xs middle → StandRising middle ys end → StandRising start (xs ++ ys) end
 rising_more start middle end [] [] first second = omega (arith, first, second)
 rising_more start middle end [] (y ∷ ys) first second = (omega (arith, first, second.0), second.1)
-rising_more start middle end (x ∷ xs) ys first second = (first.0, rising_more (walk_index_behind x) middle end xs ys first.1 second)
+rising_more start middle end (x ∷ xs) ys first second = (first.0, rising_more (walk_index_after x) middle end xs ys first.1 second)
 
 judged_before : (image : List ℕ) (frame : Frame) (root : Pointer) (xs ys : List Place) (place : Place) → IsJudged image frame root xs place → IsJudged image frame root (xs ++ ys) place
 judged_before image frame root xs ys place (inl sound) = inl sound
@@ -133,7 +133,7 @@ no_damages image frame root start end list low sound = record {
 }
 
 -- a place that is damaged is the one damage of all that lies below it
-pub one_damage : (image : List ℕ) (frame : Frame) (root : Pointer) (place : Place) (start end : ℕ) (old new : List BlockDamage) → IsPlace place → start ≡ walk_index_of place → end ≡ walk_index_behind place
+pub one_damage : (image : List ℕ) (frame : Frame) (root : Pointer) (place : Place) (start end : ℕ) (old new : List BlockDamage) → IsPlace place → start ≡ walk_index_of place → end ≡ walk_index_after place
     → (IsSoundAt image frame root place → ⊥) → new ≡ old ++ block_damage image root place ∷ [] → AddsDamages image frame root start end old new
 one_damage image frame root place start end old new in_range from to bad is = record {
   places = place ∷ [];
@@ -167,7 +167,7 @@ told-entry image root place pointer kind address at is_kind is_address = rw (at,
 
 -- a block that is not there is the damage that is added
 pub missing_added : (image : List ℕ) (frame : Frame) (root : Pointer) (place : Place) (start end : ℕ) (pointer : Pointer) (e : PoolError) (old new : List BlockDamage) → IsPlace place
-    → start ≡ walk_index_of place → end ≡ walk_index_behind place → pointer_of image root place ≡ pointer → pointer ≢ no_pointer
+    → start ≡ walk_index_of place → end ≡ walk_index_after place → pointer_of image root place ≡ pointer → pointer ≢ no_pointer
     → TellsBlock image frame (kind_of place) (number_of_place place) pointer e → AddsTold e old new → AddsDamages image frame root start end old new
 missing_added image frame root place start end pointer e old new in_range from to at named tells told =
     let t = tells told.0 told.1 told.2 in
@@ -177,7 +177,7 @@ missing_added image frame root place start end pointer e old new in_range from t
 
 -- a block that is not well formed is the damage that is added
 pub formless_added : (image : List ℕ) (frame : Frame) (root : Pointer) (place : Place) (start end : ℕ) (pointer : Pointer) (payload : List ℕ) (e : PoolError) (old new : List BlockDamage) → IsPlace place
-    → start ≡ walk_index_of place → end ≡ walk_index_behind place → pointer_of image root place ≡ pointer → pointer ≢ no_pointer
+    → start ≡ walk_index_of place → end ≡ walk_index_after place → pointer_of image root place ≡ pointer → pointer ≢ no_pointer
     → Opens image frame (kind_of place) (number_of_place place) pointer payload → (IsWellFormed image frame root place payload → ⊥) → e ≡ Damaged (kind_of place) pointer.address
     → AddsTold e old new → AddsDamages image frame root start end old new
 formless_added image frame root place start end pointer payload e old new in_range from to at named opens not is told =
@@ -307,7 +307,7 @@ above_directory d (Data n r) below = absurd below
 risen : (start end : ℕ) (xs : List Place) (x : Place) → StandRising start xs end → Contains xs x → start ≤ walk_index_of x
 risen start end [] x rising (k, low, e) = absurd (omega (arith, low))
 risen start end (y ∷ ys) x rising (zero, low, e) = subst (λ (p : Place). start ≤ walk_index_of p) e rising.0
-risen start end (y ∷ ys) x rising (suc k, low, e) = let after = risen (walk_index_behind y) end ys x rising.1 (k, omega (arith, low), e) in omega (arith, after, rising.0, behind_itself y)
+risen start end (y ∷ ys) x rising (suc k, low, e) = let after = risen (walk_index_after y) end ys x rising.1 (k, omega (arith, low), e) in omega (arith, after, rising.0, behind_itself y)
 
 -- the first damage that is listed is the first of the walk
 pub first_listed : (image : List ℕ) (frame : Frame) (root : Pointer) (list : List BlockDamage) → ListsDamages image frame root list → (d : BlockDamage) (rest : List BlockDamage) → list ≡ d ∷ rest
@@ -361,10 +361,10 @@ root_alone image frame root list lists bad = go lists.places lists.damaged lists
     go (p ∷ []) damaged rising (zero, low, e) is = is ∙ ap (λ (q : Place). block_damage image root q ∷ []) e
     go (p ∷ q ∷ qs) damaged rising (zero, low, e) is =
         let last = within_walk q (damaged q (1, omega arith, refl)).0 in
-        let after : walk_index_behind Root ≤ walk_index_of q = subst (λ (r : Place). walk_index_behind r ≤ walk_index_of q) e rising.1.0 in
+        let after : walk_index_after Root ≤ walk_index_of q = subst (λ (r : Place). walk_index_after r ≤ walk_index_of q) e rising.1.0 in
         absurd (omega (arith, last, after))
     go (p ∷ ps) damaged rising (suc k, low, e) is =
-        let after = risen (walk_index_behind p) (directory_index pointer_count) ps Root rising.1 (k, omega (arith, low), e) in
+        let after = risen (walk_index_after p) (directory_index pointer_count) ps Root rising.1 (k, omega (arith, low), e) in
         let least = behind_itself p in
         absurd (omega (arith, after, least))
 

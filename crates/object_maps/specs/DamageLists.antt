@@ -38,16 +38,16 @@ abbrev pub block_damage : List ℕ → Pointer → Place → BlockDamage
 block_damage image root place = record { kind = kind_of place; address = (pointer_of image root place).address }
 
 -- the index in the walk behind a place and all that lies below it
-abbrev pub walk_index_behind : Place → ℕ
-walk_index_behind Root = directory_index pointer_count
-walk_index_behind (Directory d) = directory_index (d + 1)
-walk_index_behind (Indirect n) = walk_index_of_indirect n + object_stride
-walk_index_behind (Data n r) = walk_index_of_indirect n + 1 + r + 1
+abbrev pub walk_index_after : Place → ℕ
+walk_index_after Root = directory_index pointer_count
+walk_index_after (Directory d) = directory_index (d + 1)
+walk_index_after (Indirect n) = walk_index_of_indirect n + object_stride
+walk_index_after (Data n r) = walk_index_of_indirect n + 1 + r + 1
 
 -- the places stand in the walk from one index up to another, each behind the one before it and all that lies below that
 abbrev pub StandRising : ℕ → List Place → ℕ → Type 0
 StandRising start [] end = start ≤ end
-StandRising start (place ∷ others) end = (start ≤ walk_index_of place) × StandRising (walk_index_behind place) others end
+StandRising start (place ∷ others) end = (start ≤ walk_index_of place) × StandRising (walk_index_after place) others end
 
 -- a place is sound, or it is one of the damaged places, or lies below one of them
 abbrev pub IsJudged : List ℕ → Frame → Pointer → List Place → Place → Type 0

@@ -38,11 +38,6 @@ none_past n c past =
 abbrev pub IsListedTo : ℕ → ℕ → Contents → List (ObjectId × ℕ) → ℕ → Type 0
 IsListedTo from most c list n = take most (objects_from from c) ≡ list ++ take (most - length list) (objects_from n c)
 
-pub listed_first : (from most : ℕ) (c : Contents) (list : List (ObjectId × ℕ)) → list ≡ [] → IsListedTo from most c list from
-listed_first from most c list none =
-    let all : most ≡ most - 0 = omega arith in
-    subst (λ l. IsListedTo from most c l from) (sym none) (ap (λ k. take k (objects_from from c)) all)
-
 pub listed_absent : (from most : ℕ) (c : Contents) (list : List (ObjectId × ℕ)) (n : ℕ) → n < object_count → length_of c n ≡ None → IsListedTo from most c list n → IsListedTo from most c list (n + 1)
 listed_absent from most c list n low absent so_far =
     so_far ∙ ap (λ os. list ++ take (most - length list) os) (next_object n c low ∙ ap (λ o. object_at n o ++ objects_from (n + 1) c) absent)
@@ -58,19 +53,6 @@ listed_present from most c list n size low room present so_far =
     ∙ ap (λ k. list ++ take k (one ∷ objects_from (n + 1) c)) left
     ∙ sym (append_assoc list (one ∷ []) (take (most - suc (length list)) (objects_from (n + 1) c)))
     ∙ ap (λ k. (list ++ one ∷ []) ++ take (most - k) (objects_from (n + 1) c)) (sym longer)
-
-pub listed_whole : (from most : ℕ) (c : Contents) (list : List (ObjectId × ℕ)) (n : ℕ) → object_count ≤ n → IsListedTo from most c list n → list ≡ take most (objects_from from c)
-listed_whole from most c list n past so_far =
-    sym (so_far ∙ ap (λ os. list ++ take (most - length list) os) (none_past n c past) ∙ ap (λ l. list ++ l) (nothing (most - length list)) ∙ append-nil list)
-  where
-    nothing : (k : ℕ) → take k (let no : List (ObjectId × ℕ) = [] in no) ≡ []
-    nothing zero = refl
-    nothing (suc k) = refl
-
-pub listed_full : (from most : ℕ) (c : Contents) (list : List (ObjectId × ℕ)) (n : ℕ) → length list ≡ most → IsListedTo from most c list n → list ≡ take most (objects_from from c)
-listed_full from most c list n full so_far =
-    let none : most - length list ≡ 0 = omega arith in
-    sym (so_far ∙ ap (λ k. list ++ take k (objects_from n c)) none ∙ append-nil list)
 
 -- what the answer of a length says of a pool
 abbrev pub value_of : Result ℕ PoolError → Option ℕ

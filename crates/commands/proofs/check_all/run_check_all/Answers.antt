@@ -2,7 +2,7 @@ use Rattle.std.proofs.Common.{List, ap, subst, ◌∙◌}
 use Rattle.std.specs.Io.KnownBytes.{Appends}
 use Rattle.commands.specs.FoundDamages.{all_status, finding_lines}
 use Rattle.commands.specs.declared.checks.Finding.{Finding}
-use Rattle.commands.proofs.AllFindings.{all_written, written_or_same}
+use Rattle.commands.proofs.CheckedAll.{all_written, written_or_same}
 use Rattle.commands.proofs.check_all.run_check_all.Goals as goal
 
 pub returns-in-Ok-write_findings-clause-clean : goal.returns-in-Ok-write_findings-clause-clean

@@ -1,4 +1,4 @@
-use Rattle.commands.proofs.AllFindings.{next_line}
+use Rattle.commands.proofs.CheckedAll.{next_line}
 use Rattle.commands.specs.declared.checks.Finding.TheVariants.{Clean}
 use Rattle.commands.proofs.check_all.write_findings.Goals as goal
 

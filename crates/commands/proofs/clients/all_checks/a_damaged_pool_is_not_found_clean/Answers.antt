@@ -1,4 +1,4 @@
-use Rattle.commands.proofs.AllFindings.{all_mounted}
+use Rattle.commands.proofs.CheckedAll.{all_mounted}
 use Rattle.commands.proofs.Findings.{is_sound}
 use Rattle.commands.proofs.clients.all_checks.a_damaged_pool_is_not_found_clean.Goals as goal
 

@@ -1,6 +1,6 @@
 use Rattle.std.proofs.lemmas.Result.{IfOk-weaker}
-use Rattle.commands.proofs.AllFindings.{clean_alone}
+use Rattle.commands.proofs.CheckedAll.{clean_alone}
 use Rattle.commands.proofs.clients.all_checks.a_whole_pool_has_no_damage.Goals as goal
 
 pub returns-clause-clean : goal.returns-clause-clean
-returns-clause-clean g c = λ keeps. IfOk-weaker c.find_all.result _ _ (λ list found contents mounts. clean_alone _ list.items found contents mounts) (c.find_all.ensures.found keeps)
+returns-clause-clean g c = λ keeps. IfOk-weaker c.check_all.result _ _ (λ list found contents mounts. clean_alone _ list.items found contents mounts) (c.check_all.ensures.found keeps)

@@ -1,4 +1,4 @@
-use Rattle.commands.proofs.AllFindings.{one_line}
+use Rattle.commands.proofs.CheckedAll.{one_line}
 use Rattle.commands.proofs.clients.all_checks.a_whole_pool_has_one_line.Goals as goal
 
 pub returns : goal.returns

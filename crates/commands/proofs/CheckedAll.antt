@@ -29,11 +29,7 @@ use Rattle.commands.specs.declared.checks.Finding.{Finding}
 use Rattle.commands.specs.declared.checks.Finding.TheVariants as finding
 use Rattle.commands.specs.declared.checks.Finding.TheVariants.{Clean}
 use Rattle.commands.proofs.Findings.{found_clean}
-
--- a refusal but that there is no pool stays
-pub stays_refused : (e : PoolError) → (e ≡ NoPool → ⊥) → ListsFindings (Err e) (Err e)
-stays_refused NoPool other = absurd (other refl)
-stays_refused e other = refl
+use Rattle.commands.proofs.MountedBytes.{appended}
 
 module _ {Dev : Type 0} (D : Ghosts Dev) (old new : Dev) where
   pub all_read : (found : Result Soundness PoolError) (r : Result (Vec Finding) PoolError) → ListsFindings found r → OnlyReads D found old new → OnlyReads D r old new
@@ -105,10 +101,6 @@ next_line all i d before now after front within written left line =
       left ∙ ap (λ (l : List Finding). front ++ finding_lines l) (drop_more all i d within) ∙ sym (append_assoc front (finding_line f) (finding_lines (drop (i + 1) all))),
     )
 
-written_alone : (after : Option (List ℕ)) (bytes : List ℕ) → Appends (Some []) after bytes → after ≡ Some bytes
-written_alone None bytes writes = absurd writes
-written_alone (Some ys) bytes writes = ap Some writes
-
 -- the line of a clean pool, part by part
 flat : (group records : ℕ) → finding_lines (Clean (record { 0 = group }) records ∷ []) ≡ codes "clean group " ++ (decimal group ++ (codes " records " ++ (decimal records ++ codes "\n")))
 flat group records =
@@ -146,4 +138,4 @@ module _ (image : List ℕ) (list : List Finding) (found : AreFoundIn image list
   one_line zero before after empty writes =
       let (group, records, is, found) = all_clean zero in
       let line : Appends (Some []) after (finding_lines (Clean group records ∷ [])) = subst (λ (l : List Finding). Appends (Some []) after (finding_lines l)) is (subst (λ (b : Option (List ℕ)). Appends b after (finding_lines list)) empty writes) in
-      (group.0, records, written_alone after _ line ∙ ap Some (flat group.0 records))
+      (group.0, records, appended after _ line ∙ ap Some (flat group.0 records))
