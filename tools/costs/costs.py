@@ -17,7 +17,7 @@ minutes.
 
 The table of long plans has the longest of two kinds, each beside one of a sixteenth: creates and removes by turns, of
 200 objects, and one write. How many times as much the longer one takes is printed and not judged. What the session does
-for a commit grows with its plan, so the suspended pool has a transaction of that plan open.
+for a commit grows with its plan.
 """
 
 import collections
@@ -96,7 +96,19 @@ def count_kinds(ztxg, size, made, folder):
 def count(ztxg, size, made, folder):
     """The mean of the instructions of the counted lines, by their kinds."""
     kinds = count_kinds(ztxg, size, made, folder).items()
-    return {kind: cost - own_cost(ztxg, 8 * MIB, [], lines[-REFUSED:], folder) for kind, (cost, lines) in kinds}
+    return {kind: cost - session_cost(ztxg, made, kind, lines[-REFUSED:], folder) for kind, (cost, lines) in kinds}
+
+
+def session_cost(ztxg, made, kind, lines, folder):
+    """The mean of the instructions of the session for lines of a kind. Each commit is like the last one."""
+    if kind != "commit":
+        return own_cost(ztxg, 8 * MIB, [], lines, folder)
+    _, _, contents = lines[-1].split(" ", 2)
+    begin = made.lines[made.lines.index(lines[-1]) - 1]
+    owner, shape = begin.split()[1:]
+    lock = f"lock {owner} {shape.split(':')[1]} w 0 {TOP}"
+    # There the open transaction is the first one.
+    return own_cost(ztxg, 8 * MIB, [lock, begin], [f"commit 0 {contents}"] * REFUSED, folder)
 
 
 def own_cost(ztxg, size, begun, lines, folder):

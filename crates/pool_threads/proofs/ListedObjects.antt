@@ -29,11 +29,6 @@ next_object n c low =
     let same : object_count - n ≡ suc (object_count - (n + 1)) = omega arith in
     ap (λ k. objects_of c (range_with_len n k)) same
 
-pub none_past : (n : ℕ) (c : Contents) → object_count ≤ n → objects_from n c ≡ []
-none_past n c past =
-    let same : object_count - n ≡ 0 = omega arith in
-    ap (λ k. objects_of c (range_with_len n k)) same
-
 -- So far these are listed, and then the rest of the first ones.
 abbrev pub IsListedTo : ℕ → ℕ → Contents → List (ObjectId × ℕ) → ℕ → Type 0
 IsListedTo from most c list n = take most (objects_from from c) ≡ list ++ take (most - length list) (objects_from n c)

@@ -1,9 +1,11 @@
 //! What callers rest on of calls that make the steps that are due, told by turns and views.
-ghost use Rattle.std.specs.Prelude.{ℕ, ◌≡◌, ◌≢◌, ◌⊎◌, ◌++◌, ◌∷◌, [], All, IfErr, IfOk, IsTrue, List, None, Ok, Option, Some, false, slice_get, true};
+ghost use Rattle.std.specs.Prelude.{ℕ, ◌≡◌, ◌≢◌, ◌≤◌, ◌⊎◌, ◌++◌, ◌∷◌, [], All, IfErr, IfOk, IsTrue, List, None, Ok, Option, Some, false, slice_get, true};
 ghost use Rattle.base.specs.declared.error.PoolError.{PoolError};
 ghost use Rattle.base.specs.declared.error.PoolError.TheVariants as error;
+ghost use Rattle.base.specs.declared.names.Group.{Group as ShownGroup};
 ghost use Rattle.base.specs.declared.step.Reply as declared_reply;
 ghost use Rattle.base.specs.declared.step.Reply.TheVariants as reply;
+ghost use Rattle.base.specs.formats.Limits.{last_number};
 ghost use Rattle.base.specs.history.History.{Entry};
 ghost use Rattle.base.specs.steps.Seen.{IsKnownDurable};
 ghost use Rattle.base.specs.steps.Shown.{is_durable};
@@ -130,4 +132,55 @@ fn a_wait_for_all_is_never_refused_for_log_space<D: SectorDevice, W: Wait>(
 {
     let answer = handle.fsync_all(rt);
     matches!(answer, Err(PoolError::NoLogSpace))
+}
+
+// A step that is refused so is made again later.
+fn a_quiescer_does_not_end_because_a_group_is_not_ready<D: SectorDevice, W: Wait>(
+    rt: &W,
+    handle: &mut Handle<'_, D>,
+) -> bool
+    ensures { result ≡ false }
+{
+    let ended = handle.quiescer(rt);
+    matches!(ended, Err(PoolError::NotReady))
+}
+
+fn nor_does_a_syncer<D: SectorDevice, W: Wait>(rt: &W, handle: &mut Handle<'_, D>) -> bool
+    ensures { result ≡ false }
+{
+    let ended = handle.syncer(rt);
+    matches!(ended, Err(PoolError::NotReady))
+}
+
+// It looks which group is open, and then makes steps that are due for syncs up to that one. So it writes no log block.
+fn a_sync_of_the_pool_makes_steps_of_syncs_alone<D: SectorDevice, W: Wait>(
+    rt: &W,
+    handle: &mut Handle<'_, D>,
+) -> Result<Group, PoolError>
+    ensures { (group : ShownGroup) × IfOk result (λ g. g ≡ group)
+        × Takes (λ t. (t.left ≡ t.took) ⊎ ((r : Option declared_reply.Reply)
+        × IsServedTurn (IsTrue D.keeps_model) (duty.SyncUpTo group (moment_of handle.old)) r t))
+        handle.old handle.new }
+{
+    handle.sync_pool(rt)
+}
+
+fn a_sync_of_the_pool_leaves_its_group_synced<D: SectorDevice, W: Wait>(
+    rt: &W,
+    handle: &mut Handle<'_, D>,
+) -> Result<Group, PoolError>
+    ensures { IfOk result (λ g. g.0 ≤ (state_seen handle.new).shown.line.synced) }
+{
+    handle.sync_pool(rt)
+}
+
+// So a group that can't be synced yet is waited for.
+fn a_sync_of_the_pool_is_not_ready_only_at_the_last_group<D: SectorDevice, W: Wait>(
+    rt: &W,
+    handle: &mut Handle<'_, D>,
+) -> Result<Group, PoolError>
+    ensures { IfErr result (λ e. e ≡ error.NotReady
+        → last_number ≤ (state_seen handle.new).shown.line.open_group) }
+{
+    handle.sync_pool(rt)
 }
