@@ -15,14 +15,14 @@ use Rattle.device_model.specs.declared.device.SectorDevice.{Ghosts}
 use Rattle.pool_tables.specs.declared.duty.Duty.{Duty}
 use Rattle.pool_tables.specs.declared.duty.Duty.TheVariants as duty
 use Rattle.pool_threads.specs.declared.handle.Handle.{Handle}
-use Rattle.pool_threads.specs.Answers.{Takes}
+use Rattle.pool_threads.specs.Answers.{Takes, TakesOne}
 use Rattle.pool_threads.specs.Handles.{moment_of, turns_of, view_seen}
 use Rattle.pool_threads.specs.Serves.{AreDue, IsServedTurn}
 use Rattle.pool_threads.specs.Views.{GrowsTo, SeenPool, grows_same, viewed_state}
 use Rattle.pool_threads.specs.Waits.{EndsAfter, EndsSyncing, LooksAt, SyncsPool, SyncsUpTo, Waits, WaitsUntil, result_of}
 use Rattle.pool_threads.proofs.Looked.{looked_one}
 use Rattle.pool_threads.proofs.Served.{grows_by_due}
-use Rattle.pool_threads.proofs.Waited.{LeadsOn, LooksOrServes, TakesAnyAtLast, all_alike, ends_as, ends_on, lead_turns, more_leads_on, round_rest, sync_turns, takes_as, takes_on, whole_wait}
+use Rattle.pool_threads.proofs.Waited.{LeadsOn, LooksOrServes, TakesAnyAtLast, all_alike, ends_as, ends_on, lead_turns, more_leads_on, round_rest, served_as, sync_turns, takes_as, takes_on, whole_wait}
 use Rattle.pool_threads.proofs.Tried.{no_turns, one_more_turn}
 use Rattle.word_lock.specs.declared.rule.Turn.{Turn}
 use Rattle.word_lock.specs.Turns.{turn}
@@ -46,6 +46,14 @@ ends_with_refusal keeps t leads = by leads.1
     by (inl same) = inl same
     by (inr (d, r, made)) = served d r made
 
+-- in this turn nothing changed, or steps were made that were due for a sync up to the group
+abbrev pub IsTurnOfSync : Type 0 → ℕ → Group → Turn SeenPool → Type 0
+IsTurnOfSync keeps moment group t = (t.left ≡ t.took) ⊎ ((r : Option declared_reply.Reply) × IsServedTurn keeps (duty.SyncUpTo group moment) r t)
+
+turn_of_sync : (keeps : Type 0) (moment : ℕ) (group : Group) (r : Option declared_reply.Reply) (t : Turn SeenPool) → IsServedTurn keeps (duty.SyncUpTo group moment) r t
+    → IsTurnOfSync keeps moment group t × GrowsTo keeps t.took t.left
+turn_of_sync keeps moment group r t made = (inr (r, made), grows_by_due keeps (duty.SyncUpTo group moment) r t.took t.left made)
+
 module _ {Dev : Type 0} {G : Ghosts Dev} where
   each_ends : {old new : Handle Dev G} → TakesAnyAtLast old new → Takes (EndsWithRefusal (IsTrue G.keeps_model)) old new
   each_ends u = takes_as (ends_with_refusal (IsTrue G.keeps_model)) (all_alike (λ t leads. (leads, leads.0)) u)
@@ -58,34 +66,30 @@ module _ {Dev : Type 0} {G : Ghosts Dev} where
       let look = looked_one {P = LeadsOn (IsTrue G.keeps_model)} p.looks (grows_same (IsTrue G.keeps_model) (view_seen p.looked), inl refl) in
       each_ends (ends_on (more_leads_on (no_turns _ old) look) (sync_turns p.group p.result p.syncs))
 
-  -- in this turn nothing changed, or steps were made that were due for a sync up to the group
-  abbrev pub IsTurnOfSync : ℕ → Group → Turn SeenPool → Type 0
-  IsTurnOfSync moment group t = (t.left ≡ t.took) ⊎ ((r : Option declared_reply.Reply) × IsServedTurn (IsTrue G.keeps_model) (duty.SyncUpTo group moment) r t)
-
-  turn_of_sync : (moment : ℕ) (group : Group) (r : Option declared_reply.Reply) (t : Turn SeenPool) → IsServedTurn (IsTrue G.keeps_model) (duty.SyncUpTo group moment) r t
-      → IsTurnOfSync moment group t × GrowsTo (IsTrue G.keeps_model) t.took t.left
-  turn_of_sync moment group r t made = (inr (r, made), grows_by_due (IsTrue G.keeps_model) (duty.SyncUpTo group moment) r t.took t.left made)
-
-  turns_of_sync : (group : Group) (result : Result (Unit {0}) PoolError) {old new : Handle Dev G} → SyncsUpTo group result old new → Takes (IsTurnOfSync (moment_of old) group) old new
-  turns_of_sync group result {old} {new} u = all_alike (λ t x. x) (ends_as (λ t made. (turn_of_sync (moment_of old) group made.0 t made.2).0) (by result) u)
+  turns_of_sync : (group : Group) (result : Result (Unit {0}) PoolError) {old new : Handle Dev G} → SyncsUpTo group result old new → Takes (IsTurnOfSync (IsTrue G.keeps_model) (moment_of old) group) old new
+  turns_of_sync group result {old} {new} u = all_alike (λ t x. x) (ends_as (λ t made. (turn_of_sync (IsTrue G.keeps_model) (moment_of old) group made.0 t made.2).0) (by result) u)
     where
-      by : (x : Result (Unit {0}) PoolError) (t : Turn SeenPool) → EndsSyncing (IsTrue G.keeps_model) (moment_of old) group x t → IsTurnOfSync (moment_of old) group t × GrowsTo (IsTrue G.keeps_model) t.took t.left
-      by (Ok done) t made = turn_of_sync (moment_of old) group made.0.0 t made.0.2
-      by (Err e) t made = turn_of_sync (moment_of old) group (Some (reply.Refused e)) t made
+      by : (x : Result (Unit {0}) PoolError) (t : Turn SeenPool) → EndsSyncing (IsTrue G.keeps_model) (moment_of old) group x t → IsTurnOfSync (IsTrue G.keeps_model) (moment_of old) group t × GrowsTo (IsTrue G.keeps_model) t.took t.left
+      by (Ok done) t made = turn_of_sync (IsTrue G.keeps_model) (moment_of old) group made.0.0 t made.0.2
+      by (Err e) t made = turn_of_sync (IsTrue G.keeps_model) (moment_of old) group (Some (reply.Refused e)) t made
 
   pub syncs_alone : (answer : Result Group PoolError) {old new : Handle Dev G} → SyncsPool answer old new
-      → (group : Group) × IfOk answer (λ g. g ≡ group) × Takes (IsTurnOfSync (moment_of old) group) old new
+      → (group : Group) × IfOk answer (λ g. g ≡ group) × Takes (IsTurnOfSync (IsTrue G.keeps_model) (moment_of old) group) old new
   syncs_alone answer {old} {new} p = (p.group, subst (λ (r : Result Group PoolError). IfOk r (λ g. g ≡ p.group)) (sym p.answered) (same p.result), takes_on look rest)
     where
       same : (result : Result (Unit {0}) PoolError) → IfOk (result_of p.group result) (λ g. g ≡ p.group)
       same (Ok done) = refl
       same (Err e) = tt
 
-      look : Takes (IsTurnOfSync (moment_of old) p.group) old p.looked
-      look = one_more_turn _ (no_turns _ old) (looked_one {P = IsTurnOfSync (moment_of old) p.group} p.looks (inl refl)) (grows_same (IsTrue G.keeps_model) (view_seen p.looked))
+      first : TakesOne (λ t. IsTurnOfSync (IsTrue G.keeps_model) (moment_of old) p.group t × GrowsTo (IsTrue G.keeps_model) t.took t.left) old p.looked
+      first = looked_one {P = λ t. IsTurnOfSync (IsTrue G.keeps_model) (moment_of old) p.group t × GrowsTo (IsTrue G.keeps_model) t.took t.left} p.looks
+          (inl refl, grows_same (IsTrue G.keeps_model) (view_seen p.looked))
 
-      rest : Takes (IsTurnOfSync (moment_of old) p.group) p.looked new
-      rest = subst (λ (m : ℕ). Takes (IsTurnOfSync m p.group) p.looked new) p.looks.same_pool.1 (turns_of_sync p.group p.result p.syncs)
+      look : Takes (IsTurnOfSync (IsTrue G.keeps_model) (moment_of old) p.group) old p.looked
+      look = one_more_turn _ (no_turns _ old) (served_as (λ t x. x.0) first) first.made.made.1
+
+      rest : Takes (IsTurnOfSync (IsTrue G.keeps_model) (moment_of old) p.group) p.looked new
+      rest = subst (λ (m : ℕ). Takes (IsTurnOfSync (IsTrue G.keeps_model) m p.group) p.looked new) p.looks.same_pool.1 (turns_of_sync p.group p.result p.syncs)
 
   -- a wait that looks first, and makes no step if it finds the transaction durable
   module _ (receipt : Receipt) where
