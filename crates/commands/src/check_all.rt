@@ -24,7 +24,7 @@ use std::io::Write;
 ///
 /// # Errors
 /// `BadGeometry`, before any device call. `NoMemory` and `Read` when they happen.
-pub fn check_all<D: SectorDevice>(alloc: Global, device: &mut D) -> Result<Vec<Finding>, PoolError>
+pub fn check_to_end<D: SectorDevice>(alloc: Global, device: &mut D) -> Result<Vec<Finding>, PoolError>
     // The disk is as it was, and the device refused no call but a read.
     ensures reads { OnlyReads D.SectorDevice result device.old device.new }
 
@@ -120,7 +120,7 @@ fn find_opened<D: SectorDevice + NotesRefusals>(
         Ok(device) => device,
         Err(cause) => return Err(Failure::Unusable(*cause)),
     };
-    match check_all(alloc, device) {
+    match check_to_end(alloc, device) {
         Ok(findings) => Ok(findings),
         Err(refusal) => Err(Failure::of_pool(refusal, device)),
     }

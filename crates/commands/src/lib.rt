@@ -24,7 +24,7 @@ pub use arguments::{
     RemoveArguments, ScriptArguments, ScriptDevice, ServeArguments,
 };
 pub use changes::{read_input, run_put, run_remove};
-pub use check_all::{check_all, run_check_all};
+pub use check_all::{check_to_end, run_check_all};
 pub use checks::{Finding, check_pool, run_check};
 pub use failure::{NotesRefusals, Verbosity};
 pub use label_lines::run_labels;

@@ -9,7 +9,7 @@ ghost use Rattle.base.specs.history.Contents.{Contents};
 ghost use Rattle.commands.specs.declared.checks.Finding.TheVariants.{Clean};
 
 use super::BRIEF;
-use crate::check_all::{check_all, run_check_all};
+use crate::check_all::{check_to_end, run_check_all};
 use crate::checks::Finding;
 use crate::failure::NotesRefusals;
 use base::PoolError;
@@ -54,7 +54,7 @@ fn a_whole_pool_has_no_damage<D: SectorDevice>(
         → (group : Group) × (records : ℕ) × (found.items ≡ Clean group records ∷ [])) }
     ensures unchanged { IsTrue D.keeps_model → D.disk device.new ≡ D.disk device.old }
 {
-    check_all(alloc, device)
+    check_to_end(alloc, device)
 }
 
 // Whatever it finds, it leaves the disk as it was, and the device refused no write and no flush.

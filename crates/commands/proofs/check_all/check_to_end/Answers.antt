@@ -1,5 +1,5 @@
 use Rattle.commands.proofs.CheckedAll.{all_found, all_read, all_refused, all_sized}
-use Rattle.commands.proofs.check_all.check_all.Goals as goal
+use Rattle.commands.proofs.check_all.check_to_end.Goals as goal
 
 pub returns-clause-reads : goal.returns-clause-reads
 returns-clause-reads g c =
