@@ -24,7 +24,10 @@ use std::io::Write;
 ///
 /// # Errors
 /// `BadGeometry`, before any device call. `NoMemory` and `Read` when they happen.
-pub fn check_to_end<D: SectorDevice>(alloc: Global, device: &mut D) -> Result<Vec<Finding>, PoolError>
+pub fn check_to_end<D: SectorDevice>(
+    alloc: Global,
+    device: &mut D,
+) -> Result<Vec<Finding>, PoolError>
     // The disk is as it was, and the device refused no call but a read.
     ensures reads { OnlyReads D.SectorDevice result device.old device.new }
 
