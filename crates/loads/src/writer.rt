@@ -3,7 +3,6 @@
 //!
 //! A refused transaction holds no range, so no other thread waits for it, also while its stream syncs the pool.
 
-
 use crate::gate::Gate;
 use crate::order::{Order, STREAMS, WRITES_BETWEEN_WAITS};
 use crate::words::{PART, SHARED, Word, Words};
