@@ -10,4 +10,8 @@ pub mod Order
 pub mod Room
 pub mod Once
 mod Parts
+mod Strips
+mod Levels
+mod NewObjects
+mod DirtyStrips
 pub mod Promises

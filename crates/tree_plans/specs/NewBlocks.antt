@@ -16,13 +16,13 @@ use Rattle.tree_plans.specs.declared.planner.TreePlan.{TreePlan}
 use Rattle.tree_plans.specs.declared.plan_source.PlanSource.{PlanSource}
 use Rattle.tree_plans.specs.Changes.{AreChanges, AreTreePointers, IsCoveredBy}
 use Rattle.tree_plans.specs.Plans.{new_block}
-use Rattle.tree_plans.specs.Pointers.{planned_pointers, pointers_before}
+use Rattle.tree_plans.specs.Pointers.{entry_pointer_of, planned_pointers, pointers_before}
 
 -- the changes say all that differs from objects before, and fit the objects after and the pointers of the tree
 pub record IsScene (source : PlanSource) (after : FinMap nat_cmp (List ℕ)) (objects : List (ObjectId × ObjectChanges)) (before : FinMap nat_cmp (List ℕ)) : Type 0 where
   pub covered : IsCoveredBy objects (pointers_before source) before after
   pub changes : AreChanges objects after
-  pub pointers : AreTreePointers objects (pointers_before source) after
+  pub pointers : AreTreePointers objects (entry_pointer_of source.tree.now.entries.items) (pointers_before source) after
 
 -- the plan has another block at this place than the tree
 pub record IsNewPlace (source : PlanSource) (plan : TreePlan) (place : Place) : Type 0 where
@@ -41,7 +41,7 @@ abbrev pub HasNewRecord : PlanSource → FinMap nat_cmp (List ℕ) → List (Obj
 HasNewRecord source after objects plan = (before : FinMap nat_cmp (List ℕ)) (bytes : List ℕ) → IsScene source after objects before
     → finite.get after 7 ≡ Some bytes → IsNewPlace source plan (Data 7 2) → HasBlockOf source plan 5 590 (padded_record 2 bytes)
 
--- a new indirect block of object 7 has the pointers to its records
+-- a new indirect block of strip 7, the first one of object 7, has the pointers to its records
 abbrev pub HasNewIndirect : PlanSource → FinMap nat_cmp (List ℕ) → List (ObjectId × ObjectChanges) → TreePlan → Type 0
 HasNewIndirect source after objects plan = (before : FinMap nat_cmp (List ℕ)) → IsScene source after objects before
     → IsNewPlace source plan (Indirect 7)

@@ -1,11 +1,41 @@
-use Rattle.std.proofs.Common.{◌≡◌, ◌&&◌, false, rules}
+use Rattle.std.proofs.Common.{◌≡◌, ◌&&◌, ◌∙◌, Bool, true, false, ap, refl, rules}
 use Rattle.std.specs.List.{list_any}
+use Rattle.std.proofs.Math.Bool.{and-false}
 use Rattle.std.proofs.lemmas.Result.{IfOk-weaker}
-use Rattle.tree_plans.specs.Changes.{has_address}
-use Rattle.tree_plans.proofs.Parts.{indirect_cleared}
+use Rattle.base.specs.tree.Places.{strip_number}
+use Rattle.base.proofs.tree.Strips.{strip-low}
+use Rattle.tree_plans.specs.declared.place.BlockPlace.TheVariants.{Indirect}
+use Rattle.tree_plans.specs.Changes.{has_address, is_strip_touched, may_have_blocks}
+use Rattle.tree_plans.specs.Plans.{is_strip_replaced, state_over_records}
+use Rattle.tree_plans.proofs.Parts.{above_gone, above_kept, above_made, cleared, indirect_done, kept, taken}
+use Rattle.tree_plans.proofs.Payloads.{padded-full}
 use Rattle.tree_plans.proofs.planner.Planner.place_indirect.Goals as goal
 
-pub returns-then-not-is_indirect_written-clause-planned : goal.returns-then-not-is_indirect_written-clause-planned
-returns-then-not-is_indirect_written-clause-planned c =
-    let none : (c.args.is_changed && list_any has_address c.args.records.now) ≡ false = (let no = c.if-not-is_indirect_written.true in let is = c.is_indirect_written.ensures in search rules) in
-    IfOk-weaker c.clear.result _ _ (λ pointer done. indirect_cleared _ _ _ _ _ _ _ _ none done) c.clear.ensures.cleared
+-- it stays
+pub returns-then-keeps_strip-clause-planned : goal.returns-then-keeps_strip-clause-planned
+returns-then-keeps_strip-clause-planned c =
+    let object = c.args.object.now in
+    let stays : is_strip_replaced object.is_long object.changes.now c.args.strip ≡ false = (let yes = c.if-keeps_strip.true in let is = c.keeps_strip.ensures in search rules) in
+    let state = above_kept _ (may_have_blocks object.is_long object.changes.now.is_changed c.args.strip && list_any has_address c.args.records.now) stays in
+    indirect_done _ object c.args.strip (Indirect (strip_number object.id.0 c.args.strip)) c.args.records.now _ _ _ _ refl (kept _ _ _ _ _ state _)
+
+-- it is gone
+pub returns-then-not-may_have_blocks-or-not-has_block-clause-planned : goal.returns-then-not-may_have_blocks-or-not-has_block-clause-planned
+returns-then-not-may_have_blocks-or-not-has_block-clause-planned c =
+    let object = c.args.object.now in
+    let goes : is_strip_replaced object.is_long object.changes.now c.args.strip ≡ true = (let no = c.if-keeps_strip.false in let is = c.keeps_strip.ensures in search rules) in
+    let none : (may_have_blocks object.is_long object.changes.now.is_changed c.args.strip && list_any has_address c.args.records.now) ≡ false =
+    (let no = c.if-not-may_have_blocks-or-not-has_block.true in let may = c.may_have_blocks.ensures in let has = c.has_block.ensures in search rules) in
+    IfOk-weaker c.clear.result _ _ (λ pointer done. indirect_done _ object c.args.strip (Indirect (strip_number object.id.0 c.args.strip)) c.args.records.now _ _ _ _ refl
+    (cleared _ _ _ _ _ (above_gone _ _ goes none) _ _ _ done)) c.clear.ensures.cleared
+
+-- it is written
+pub returns-clause-planned : goal.returns-clause-planned
+returns-clause-planned c =
+    let object = c.args.object.now in
+    let goes : is_strip_replaced object.is_long object.changes.now c.args.strip ≡ true = (let no = c.if-keeps_strip.false in let is = c.keeps_strip.ensures in search rules) in
+    let some : (may_have_blocks object.is_long object.changes.now.is_changed c.args.strip && list_any has_address c.args.records.now) ≡ true =
+    (let no = c.if-not-may_have_blocks-or-not-has_block.false in let may = c.may_have_blocks.ensures in let has = c.has_block.ensures in search rules) in
+    let fits = rw (padded-full c.payload_of.result c.payload_of.ensures.size) c.payload_of.ensures.pointers in
+    IfOk-weaker c.place.result _ _ (λ pointer done. indirect_done _ object c.args.strip _ c.args.records.now _ _ _ _ (ap (λ m. Indirect m) c.strip_number.ensures.number)
+    (taken _ _ _ _ _ _ (above_made _ _ goes some) fits _ _ _ done)) c.place.ensures.taken
