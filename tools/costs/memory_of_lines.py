@@ -13,11 +13,12 @@ from tools import Failed
 from tools.harness import shims
 from tools.harness.pool_files import SIZE, create, pool_file
 from tools.harness.program import Conversation, add_program
+from tools.model import layout
 
 TAKE_NONE = "unlock abort length digest name status durable close quiesce step log-flush".split()
 SECONDS = 60
 # Two groups with writes to 40 objects each. The older one is synced step by step while the log has both.
-LOCKS = [f"lock 1 {number} w 0 338688" for number in range(40)]
+LOCKS = [f"lock 1 {number} w 0 {layout.MAX_LENGTH}" for number in range(40)]
 
 
 def writes(first):

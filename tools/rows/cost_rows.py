@@ -17,7 +17,8 @@
 
 import collections
 
-from tools.model.layout import DIRTY_MAX, MIB, TOP
+from tools.model import layout
+from tools.model.layout import DIRTY_MAX, MIB
 
 COMMITS = 1000
 GROUP = 50
@@ -61,7 +62,7 @@ class Script:
 
     def lock_other(self, other):
         """Another owner, numbered from 1 on, locks the object of that number, which may be there or not."""
-        self.others.append((other, self.lock(100 + other, other, TOP)))
+        self.others.append((other, self.lock(100 + other, other, layout.MAX_LENGTH)))
 
     def renew_oldest(self):
         other, lock = self.others.popleft()
@@ -77,7 +78,7 @@ class Script:
         """Creates the objects below a number, up to 200 in a group."""
         for first in range(0, count, 200):
             some = range(first, min(first + 200, count))
-            locks = [self.lock(1, number, TOP) for number in some]
+            locks = [self.lock(1, number, layout.MAX_LENGTH) for number in some]
             self.transact(1, " ".join(f"c:{number}" for number in some))
             for lock in locks:
                 self.unlock(1, lock)

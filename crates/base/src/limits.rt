@@ -11,6 +11,9 @@ pub const OBJECT_COUNT: u32 = 5292;
 /// The greatest length of an object in bytes, and the greatest end of a range.
 pub const MAX_LENGTH: u64 = 338_688;
 
+/// The greatest length of an object with one level of indirect blocks. The 84 records of one such block hold it.
+pub const ONE_LEVEL_LENGTH: u64 = 338_688;
+
 /// The bytes of a sector, the unit of each read and write of a device.
 pub const SECTOR_SIZE: u64 = 512;
 
@@ -20,7 +23,8 @@ pub const BLOCK_SIZE: usize = 4096;
 /// The bytes of an object that one data block holds.
 pub const RECORD_SIZE: usize = 4032;
 
-/// The pointers of a block of pointers: to the records of an object, or to the directories of a root.
+/// The pointers of a block of pointers: to the records of a strip, to the indirect blocks of an object, or to the
+/// directories of a root.
 pub const POINTER_COUNT: usize = 84;
 
 /// The objects of a directory.

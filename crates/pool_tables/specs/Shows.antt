@@ -43,7 +43,7 @@ plan_of tree contents r = record {
   root = r.root;
   header = header_fields r.header;
   contents = contents;
-  lengths = lengths_after r.maps tree;
+  lengths = lengths_after r.entries tree;
 }
 
 -- the plan of a sync that starts, of a group that gives this name, if it gives one, with this log header, the addresses
@@ -108,5 +108,5 @@ abbrev pub shown_after_tree : RunningSync → Tree → Shown → Shown
 shown_after_tree r tree s = record s {
   free = set.union s.free (set.from_list r.freed.items);
   root = r.root;
-  lengths = lengths_after r.maps tree;
+  lengths = lengths_after r.entries tree;
 }

@@ -10,7 +10,7 @@ use Rattle.base.specs.formats.Geometry.{is_geometry, block_count, block_address,
 use Rattle.base.specs.steps.Locks.{Grant, is_blocked}
 use Rattle.base.specs.steps.Refusals.{object_range, is_plan_blocked, is_plan_covered}
 use Rattle.base.specs.steps.Groups.{Admission}
-use Rattle.base.specs.formats.Limits.{log_block_room, max_log_record}
+use Rattle.base.specs.formats.Limits.{one_level_length, log_block_room, max_log_record}
 use Rattle.base.specs.formats.Records.{Record, bytes_of_record}
 use Rattle.base.specs.steps.Logs.{total_size}
 use Rattle.base.specs.steps.Charges.{available_of}
@@ -44,6 +44,7 @@ long_record = refl
 
 -- two writes of one record are charged 32,768; a third would pass 40,960, and a create reaches it
 third_write : nat_lt 40960 (32768 + charge_of (shape.Write (object 1) 0 4 ∷ [])) ≡ true
+unfolding one_level_length
 third_write = refl
 
 a_create : nat_lt 40960 (32768 + charge_of (shape.Create (object 1) ∷ [])) ≡ false
