@@ -232,16 +232,16 @@ fn ranges_that_meet_do_not_overlap() {
     prove!(inside && !outside);
 }
 
-fn a_range_is_not_empty_and_ends_by_338688() {
+fn a_range_is_not_empty_and_ends_by_28449792() {
     let empty = Range { low: 5, high: 5 }.is_allowed();
     let last = Range {
         low: 0,
-        high: 338_688,
+        high: 28_449_792,
     }
     .is_allowed();
     let past = Range {
         low: 0,
-        high: 338_689,
+        high: 28_449_793,
     }
     .is_allowed();
     prove!(last && !empty && !past);

@@ -21,8 +21,13 @@ use Rattle.base.proofs.history.Projections.{objects_replay}
 use Rattle.object_maps.specs.declared.judging.Presence.{Presence}
 use Rattle.object_maps.specs.declared.judging.Presence.TheVariants as noted
 use Rattle.object_maps.specs.Judging.{TellsAfter, with_name}
-use Rattle.object_maps.specs.Presence.{AreNoted, is_present_after, is_present_after_all, is_there_noted}
+use Rattle.object_maps.specs.Presence.{AreNoted, IsMade, IsMadeFor, is_present_after, is_present_after_all, is_there_noted}
 use Rattle.object_maps.specs.ContentsShown.{Apply}
+
+-- what operations make of an object, by what those before the last make of it
+after_one_more : (n : ℕ) (ops : List Op) (op : Op) (present : Bool) → is_present_after_all n (ops ++ op ∷ []) present ≡ is_present_after n op (is_present_after_all n ops present)
+after_one_more n [] op present = refl
+after_one_more n (first ∷ ops) op present = after_one_more n ops op (is_present_after n first present)
 
 -- a front that is refused refuses the whole
 err_front : {A B : Type 0} (r : Result A PoolError) (f g : A → Result B PoolError) (e : PoolError)
@@ -88,15 +93,23 @@ IfOk-at (Err x) P a e h = cc
 
 -- before any operation nothing is noted
 pub none_noted : (k : ℕ) → k ≡ object_count → AreNoted [] (replicate k noted.AsBefore)
-none_noted k is n present low = ap (λ p. is_there_noted p present) (get_or-replicate k n noted.AsBefore noted.AsBefore (subst (λ m. n < m) (sym is) low))
+none_noted k is n low present = ap (λ p. is_there_noted p present) (get_or-replicate k n noted.AsBefore noted.AsBefore (subst (λ m. n < m) (sym is) low))
 
--- what was noted of an object tells whether it is there after the operations
-pub tells_noted : (before : List Op) (all : List Presence) (objects : finite.FinMap nat_cmp (List ℕ)) (n : ℕ) (there : Bool) → n < object_count → AreNoted before all
-    → there ≡ is_there_noted (get_or all n noted.AsBefore) (is_some (finite.get objects n)) → TellsAfter before objects n there
-tells_noted before all objects n there low are is = λ name.
+-- what operations make of an object tells whether it is there after them
+pub tells_made : (before : List Op) (made : Presence) (objects : finite.FinMap nat_cmp (List ℕ)) (n : ℕ) (there : Bool) → IsMade before n made
+    → there ≡ is_there_noted made (is_some (finite.get objects n)) → TellsAfter before objects n there
+tells_made before made objects n there are is = λ name.
     let now : Contents = with_name objects name in
     IfOk-from (apply_all before now) (λ (d : Contents). there ≡ is_some (finite.get d.objects n))
-    (λ d h. is ∙ are n (is_some (finite.get objects n)) low ∙ sym (there_after before now d n h))
+    (λ d h. is ∙ are (is_some (finite.get objects n)) ∙ sym (there_after before now d n h))
+
+-- and one more operation
+pub made_more : (ops : List Op) (i n : ℕ) (op : Op) (made after : Presence) → i < length ops → op ≡ get_or ops i op → IsMade (take i ops) n made
+    → ((present : Bool) → is_there_noted after present ≡ is_present_after n op (is_there_noted made present)) → IsMade (take (i + 1) ops) n after
+made_more ops i n op made after low is are one = λ present.
+    one present ∙ ap (is_present_after n op) (are present)
+    ∙ sym (after_one_more n (take i ops) op present)
+    ∙ ap (λ (l : List Op). is_present_after_all n l present) (sym (take_more ops i op low ∙ ap (λ (x : Op). take i ops ++ x ∷ []) (sym is)))
 
 one_more : (before : List Op) (op : Op) (c d e : Contents) → apply_all before c ≡ Ok d → apply op d ≡ Ok e → Apply (before ++ op ∷ []) c
 one_more before op c d e h k = (e, apply-append before (op ∷ []) c d h ∙ joined (apply op d) (apply_all []) e e k refl)
@@ -117,6 +130,12 @@ changing n op f e = record { does = changed f; is = e; there = λ bytes. (Some (
 -- a remove, a write or a set length of this object
 abbrev pub NeedsObject : ObjectId → Op → Type 0
 NeedsObject id op = (op ≡ Remove id) ⊎ (((offset : ℕ) × (bytes : List ℕ) × (op ≡ Write id offset bytes)) ⊎ ((size : ℕ) × (op ≡ SetLength id size)))
+
+-- what operations make of the object of another is what they make of the object with its number
+pub made_of_needed : (before : List Op) (made : Presence) (id : ObjectId) (op : Op) → NeedsObject id op → IsMadeFor before op made → IsMade before id.0 made
+made_of_needed before made id op (inl e) h = subst (λ (o : Op). IsMadeFor before o made) e h
+made_of_needed before made id op (inr (inl w)) h = subst (λ (o : Op). IsMadeFor before o made) w.2 h
+made_of_needed before made id op (inr (inr w)) h = subst (λ (o : Op). IsMadeFor before o made) w.1 h
 
 acts : (id : ObjectId) (op : Op) → NeedsObject id op → ActsOnPresent id.0 op
 acts id op (inl e) = record { does = removed; is = λ d. rw e refl; there = λ bytes. (None, refl); absent = refl }

@@ -24,6 +24,18 @@ is_there_noted noted.AsBefore present = present
 is_there_noted noted.Created present = true
 is_there_noted noted.Removed present = false
 
+-- this is what operations make of the object of this number
+abbrev pub IsMade : List Op → ℕ → Presence → Type 0
+IsMade ops n made = (present : Bool) → is_there_noted made present ≡ is_present_after_all n ops present
+
+-- this is what operations make of the object of another, which may be none
+abbrev pub IsMadeFor : List Op → Op → Presence → Type 0
+IsMadeFor ops (Create id) made = IsMade ops id.0 made
+IsMadeFor ops (Remove id) made = IsMade ops id.0 made
+IsMadeFor ops (Write id offset bytes) made = IsMade ops id.0 made
+IsMadeFor ops (SetLength id size) made = IsMade ops id.0 made
+IsMadeFor ops (SetName bytes) made = Unit
+
 -- of each number it is noted what these operations make of its object
 abbrev pub AreNoted : List Op → List Presence → Type 0
-AreNoted ops all = (n : ℕ) (present : Bool) → n < object_count → is_there_noted (get_or all n noted.AsBefore) present ≡ is_present_after_all n ops present
+AreNoted ops all = (n : ℕ) → n < object_count → IsMade ops n (get_or all n noted.AsBefore)

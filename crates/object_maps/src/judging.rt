@@ -1,15 +1,15 @@
 //! Operations that are judged before they take place, each by whether its object is there. A name that is given, and is
 //! one, is never refused.
 //!
-//! What the operations before made of an object is noted in a table of all numbers, which stands on the stack. So each
-//! operation is judged by one look at it, and without memory.
+//! What the operations before made of an object is sought among these if there are few, and is noted in a table of all
+//! numbers if there are many. The table stands on the stack. So the cost grows with the operations, and none takes memory.
 
-ghost use Rattle.std.specs.Prelude.{◌≡◌, ◌<◌, ◌++◌, ◌∷◌, List, [], length};
+ghost use Rattle.std.specs.Prelude.{◌≡◌, ◌++◌, ◌∷◌, Bool, List, [], length};
 ghost use Rattle.base.specs.declared.operation.Op.{Op};
 ghost use Rattle.base.specs.formats.Limits.{object_count};
 ghost use Rattle.object_maps.specs.Judging.{ApplyTo, JudgesOver, TellsAfter};
 ghost use Rattle.object_maps.specs.Ops.{AreOpsAllowed, IsOpAllowed};
-ghost use Rattle.object_maps.specs.Presence.{AreNoted};
+ghost use Rattle.object_maps.specs.Presence.{AreNoted, IsMade, IsMadeFor, is_present_after, is_there_noted};
 
 use crate::source::ObjectSource;
 use base::{OBJECT_COUNT, ObjectId, Op, PoolError};
@@ -25,6 +25,9 @@ enum Presence {
     Removed,
 }
 
+// The most operations among which one seeks what those before it made of its object: with more, a table costs less.
+const SHORT_LIST: usize = 32;
+
 /// Judges operations in order, each on the objects after those before it, and gives the first refusal:
 /// `Exists` for an object that is created but is there, `NoObject` for one that is removed, written or set to
 /// a length but is not there. A new name is not refused: that it is one is the caller's to test. It takes no memory.
@@ -32,31 +35,49 @@ pub fn judge<O: ObjectSource>(objects: &O, ops: &[Op]) -> Result<(), PoolError>
     requires { AreOpsAllowed ops.now }
     ensures { JudgesOver ops.now (O.objects objects.now) result }
 {
+    if ops.len() <= SHORT_LIST {
+        judge_few(objects, ops)
+    } else {
+        judge_many(objects, ops)
+    }
+}
+
+fn judge_few<O: ObjectSource>(objects: &O, ops: &[Op]) -> Result<(), PoolError>
+    ensures { JudgesOver ops.now (O.objects objects.now) result }
+{
+    for (i, op) in ops.iter().enumerate() {
+        judge_after(objects, made_for(&ops[..i], op), op)?;
+    }
+    Ok(())
+}
+
+fn judge_many<O: ObjectSource>(objects: &O, ops: &[Op]) -> Result<(), PoolError>
+    requires { AreOpsAllowed ops.now }
+    ensures { JudgesOver ops.now (O.objects objects.now) result }
+{
     let mut noted = [Presence::AsBefore; OBJECT_COUNT as usize];
     for op in ops {
-        judge_after(objects, &noted, op)?;
+        judge_after(objects, noted_for(&noted, op), op)?;
         note(&mut noted, op);
     }
     Ok(())
 }
 
-// Judges an operation after others that apply, from what was noted of them.
-fn judge_after<O: ObjectSource>(objects: &O, noted: &[Presence], op: &Op) -> Result<(), PoolError>
-    requires allowed { IsOpAllowed op.now }
-    requires length { length noted.now ≡ object_count }
-    ensures { (before : List Op) → AreNoted before noted.now
+// Judges an operation after others that apply, from what these made of its object.
+fn judge_after<O: ObjectSource>(objects: &O, made: Presence, op: &Op) -> Result<(), PoolError>
+    ensures { (before : List Op) → IsMadeFor before op.now made
         → ApplyTo before (O.objects objects.now)
         → JudgesOver (before ++ (op.now ∷ [])) (O.objects objects.now) result }
 {
     match op {
         Op::Create(id) => {
-            if has_after(objects, noted, *id) {
+            if has_after(objects, made, *id) {
                 return Err(PoolError::Exists);
             }
             Ok(())
         }
         Op::Remove(id) | Op::Write(id, _, _) | Op::SetLength(id, _) => {
-            if !has_after(objects, noted, *id) {
+            if !has_after(objects, made, *id) {
                 return Err(PoolError::NoObject);
             }
             Ok(())
@@ -67,16 +88,60 @@ fn judge_after<O: ObjectSource>(objects: &O, noted: &[Presence], op: &Op) -> Res
 
 // Whether an object is there after operations that apply: as the last of them that creates or removes it says,
 // and if none does, as it is now.
-fn has_after<O: ObjectSource>(objects: &O, noted: &[Presence], id: ObjectId) -> bool
-    requires within { id.0 < object_count }
-    requires length { length noted.now ≡ object_count }
-    ensures { (before : List Op) → AreNoted before noted.now
+fn has_after<O: ObjectSource>(objects: &O, made: Presence, id: ObjectId) -> bool
+    ensures { (before : List Op) → IsMade before id.0 made
         → TellsAfter before (O.objects objects.now) id.0 result }
 {
-    match noted[id.0 as usize] {
+    match made {
         Presence::AsBefore => objects.has(id),
         Presence::Created => true,
         Presence::Removed => false,
+    }
+}
+
+// What operations make of the object of another, sought among them.
+fn made_for(before: &[Op], op: &Op) -> Presence
+    ensures { IsMadeFor before.now op.now result }
+{
+    match op {
+        Op::Create(id) | Op::Remove(id) | Op::Write(id, _, _) | Op::SetLength(id, _) => {
+            last_made(before, *id)
+        }
+        Op::SetName(_) => Presence::AsBefore,
+    }
+}
+
+fn last_made(ops: &[Op], id: ObjectId) -> Presence
+    ensures { IsMade ops.now id.0 result }
+{
+    let mut made = Presence::AsBefore;
+    for op in ops {
+        made = made_after(op, id, made);
+    }
+    made
+}
+
+fn made_after(op: &Op, id: ObjectId, made: Presence) -> Presence
+    ensures { (present : Bool) → is_there_noted result present ≡ is_present_after id.0 op.now (is_there_noted made present) }
+{
+    match op {
+        Op::Create(other) if other.0 == id.0 => Presence::Created,
+        Op::Remove(other) if other.0 == id.0 => Presence::Removed,
+        _ => made,
+    }
+}
+
+// What was noted of the object of an operation.
+fn noted_for(noted: &[Presence], op: &Op) -> Presence
+    requires allowed { IsOpAllowed op.now }
+    requires length { length noted.now ≡ object_count }
+    ensures { (before : List Op) → AreNoted before noted.now → IsMadeFor before op.now result }
+{
+    match op {
+        Op::Create(id) | Op::Remove(id) | Op::Write(id, _, _) | Op::SetLength(id, _) => {
+            noted[id.0 as usize]
+        }
+        Op::SetName(_) => Presence::AsBefore,
     }
 }
 

@@ -9,7 +9,7 @@ mod pools;
 mod transacts;
 mod waits;
 
-ghost use Rattle.std.specs.Prelude.{ℕ, ◌≡◌, ◌≢◌, ◌≤◌, [], ◌∷◌, ◌+◌, ◌++◌, IfErr, IfNone, IfOk, IfSome, IsSome, IsTrue, Option, Some, false, true};
+ghost use Rattle.std.specs.Prelude.{ℕ, ◌≡◌, ◌≢◌, ◌≤◌, [], ◌∷◌, ◌+◌, ◌++◌, IfErr, IfNone, IfOk, IfSome, IsSome, IsTrue, Option, Some, false, length, true};
 ghost use Rattle.base.specs.declared.error.PoolError.TheVariants as error;
 ghost use Rattle.base.specs.declared.names.Group.{Group};
 ghost use Rattle.base.specs.declared.names.LockId.{LockId};
@@ -317,6 +317,20 @@ fn a_commit_takes_one_turn<D: SectorDevice, W: Wait>(
     ops: Ops,
 ) -> Result<Receipt, PoolError>
     ensures { TakesOneTurn handle.old handle.new }
+{
+    handle.commit(rt, tx, ops)
+}
+
+// Nor is it told of another handle: none was split off it or joined to it, so its own turns are all that it did.
+fn a_commit_meets_no_other_handle<D: SectorDevice, W: Wait>(
+    rt: &W,
+    handle: &mut Handle<'_, D>,
+    tx: TxId,
+    ops: Ops,
+) -> Result<Receipt, PoolError>
+    ensures split { kin_of handle.new ≡ kin_of handle.old }
+    ensures joined { taken_by handle.new ≡ taken_by handle.old }
+    ensures turns { length (turns_of handle.new) ≡ length (turns_of handle.old) + 1 }
 {
     handle.commit(rt, tx, ops)
 }

@@ -36,8 +36,8 @@
 //!    place. In a function that returns a `PoolError`, `?` takes the refusal and drops the other. With `anyhow`, write
 //!    `.map_err(PoolError::from)?`.
 //!
-//! Numbers: an object has up to 338,688 bytes ([`MAX_LENGTH`]), a device 6 MiB to 1 GiB in sectors of 512 bytes. A guid
-//! is any number that distinguishes pools. A moment is a time in seconds that the uberblocks carry; 0 serves if no
+//! Numbers: an object has up to 28,449,792 bytes ([`MAX_LENGTH`]), a device 6 MiB to 1 GiB in sectors of 512 bytes. A
+//! guid is any number that distinguishes pools. A moment is a time in seconds that the uberblocks carry; 0 serves if no
 //! clock is read.
 //!
 //! The sharpest limit is that of one transaction: its log record has at most 65,536 bytes ([`MAX_LOG_RECORD`]), or it

@@ -1,18 +1,18 @@
 -- A sync writes at most as many blocks as its operations are estimated at: each block is one that some operation may
 -- change.
-use Rattle.std.proofs.Common.{◌≡◌, ℕ, ◌≢◌, ◌+◌, ◌*◌, ◌/◌, ◌<◌, ◌≤◌, Bool, true, false, not, ◌&&◌, List, [], ◌∷◌, ◌++◌, length, map, filter, refl, sym, ◌∙◌, ap, subst, arith, length-append}
+use Rattle.std.proofs.Common.{◌≡◌, ℕ, ◌≢◌, ◌+◌, ◌*◌, ◌/◌, ◌<◌, ◌≤◌, Bool, true, false, not, ◌&&◌, List, [], ◌∷◌, ◌++◌, length, map, filter, refl, sym, ◌∙◌, ap, arith, length-append}
 use Rattle.std.specs.Prelude.{◌==◌, nat_lt, nat_le, sum_by, Option, Some, None, if◌then◌else◌}
 use Rattle.std.specs.Option.{option_map_or}
 use Rattle.std.specs.FinMap as finite
 use Rattle.std.specs.List.{list_any, flat_map, range_with_len, count_by}
-use Rattle.std.proofs.lemmas.Bool.{and_parts, not-true, eqb-true, ne_eqb, lt-ltb, ltb-true, leb-true, leb-false, true≢false}
+use Rattle.std.proofs.lemmas.Bool.{and_parts, not-true, eqb-true, ne_eqb, ltb-true, leb-true, leb-false, true≢false}
 use Rattle.std.proofs.lemmas.List.{length-map}
 use Rattle.std.proofs.lemmas.List.Sums.{length-filter, sum_by-le-sum_by, sum_by-cons}
 use Rattle.std.proofs.lemmas.List.Folds.{fold-map}
 use Rattle.std.proofs.lemmas.List.Concat.{length-flat_map}
 use Rattle.base.specs.declared.operation.Op.{Op}
 use Rattle.base.specs.declared.operation.Op.TheVariants.{Create, Remove, Write, SetLength, SetName}
-use Rattle.base.specs.formats.Limits.{object_count, max_length, one_level_length, may_be_long, record_size, pointer_count, entry_count}
+use Rattle.base.specs.formats.Limits.{object_count, record_size, pointer_count, entry_count}
 use Rattle.base.specs.history.Contents.{Contents, length_of}
 use Rattle.base.specs.history.Plans.{shape_of, records_touched, strips_touched, estimate_of_shape, estimate_of}
 use Rattle.base.specs.tree.Places.{Place, record_of_strip, strip_number}
@@ -23,7 +23,6 @@ use Rattle.base.specs.tree.Syncs.{is_record_touched, state_after_cut, state_afte
 use Rattle.base.specs.tree.Syncs as syncs
 use Rattle.base.specs.steps.Space.{SyncsFit}
 use Rattle.base.proofs.common.KeptLists.{any_at, any_found}
-use Rattle.base.proofs.tree.Strips.{one_level-length}
 use Rattle.base.proofs.tree.StripCounts.{strips_of, strips_fit}
 use Rattle.base.proofs.tree.Sums.{as_one, sum_by-plus, sum_by-none, sum_by-sum_by, any_within_count, one_within, count_within, rows_within}
 
@@ -114,14 +113,10 @@ module _ {X O : Type 0} (places : ℕ → List X) (directory : ℕ → X) (is_wr
 abbrev records_part : List ℕ → Op → ℕ → ℕ
 records_part strips op n = sum_by (λ j. count_by (λ k. may_dirty n (record_of_strip j k) op) pointer_numbers) strips
 
--- what counts where objects may have two levels
-abbrev in_levels : Bool → ℕ → ℕ
-in_levels levels count = if levels then count else 0
-
--- how many blocks of an object an operation may change: records, and the top or the one indirect block; and of two levels
--- the indirect blocks
-abbrev object_part : Bool → List ℕ → Op → ℕ → ℕ
-object_part levels strips op n = records_part strips op n + as_one (is_change_of n op) + in_levels levels (strips_of n op)
+-- how many blocks of an object an operation may change: records, the top or the one indirect block, and the indirect
+-- blocks of two levels
+abbrev object_part : List ℕ → Op → ℕ → ℕ
+object_part strips op n = records_part strips op n + as_one (is_change_of n op) + strips_of n op
 
 -- The indirect blocks and the top of an object, by whether it has two levels: in one level there is one at most.
 upper_within : (long changed any : Bool) (is_strip has_after : ℕ → Bool) (c s : ℕ) → as_one changed ≤ c → (long ≡ true → count_by (λ j. is_strip j && has_after j) pointer_numbers ≤ s)
@@ -140,18 +135,6 @@ upper_within false changed any is_strip has_after c s one strips =
         let zero_is : j ≡ 0 = eqb-true j 0 first.0 in
         let one_is : as_one changed ≡ 1 = ap as_one first.1 in
         (from, omega (arith, zero_is, one_is))
-
--- no object has two levels where none may
-long_only : (o : Option (List ℕ)) → syncs.is_long_object o ≡ true → may_be_long ≡ true
-long_only None long = absurd (true≢false (sym long))
-long_only (Some bytes) long =
-    let parts = and_parts (nat_lt one_level_length (length bytes)) (nat_le (length bytes) max_length) long in
-    let above = ltb-true one_level_length (length bytes) parts.0 in
-    let within = leb-true (length bytes) max_length parts.1 in
-    lt-ltb (record_size * pointer_count) max_length (omega (arith, above, within, one_level-length))
-
-in_levels-all : (n : ℕ) (levels : Bool) (ops : List Op) → levels ≡ true → sum_by (strips_of n) ops ≡ sum_by (λ op. in_levels levels (strips_of n op)) ops
-in_levels-all n levels ops all = ap (λ (b : Bool). sum_by (λ op. in_levels b (strips_of n op)) ops) (sym all)
 
 -- in how many of a list's directories an operation's object is
 abbrev directory_part : (ℕ → List ℕ) → List ℕ → Op → ℕ
@@ -191,19 +174,17 @@ module _ (ops : List Op) (synced : Contents) (had : Place → Bool) where
       omega (arith, as_many, each, turned)
 
   upper_blocks : (n : ℕ) → count_by (syncs.is_indirect_written (syncs.group_changes ops synced had) n) pointer_numbers + as_one (syncs.is_top_written (syncs.group_changes ops synced had) n)
-      ≤ count_by (is_change_of n) ops + sum_by (λ op. in_levels may_be_long (strips_of n op)) ops
+      ≤ count_by (is_change_of n) ops + sum_by (strips_of n) ops
   upper_blocks n =
       upper_within (syncs.is_long_object object) (list_any (is_change_of n) ops) (list_any (syncs.is_strip_kept (syncs.group_changes ops synced had) n) pointer_numbers)
       (syncs.is_strip_changed (syncs.group_changes ops synced had) n) (syncs.has_strip_after (syncs.group_changes ops synced had) n)
-      (count_by (is_change_of n) ops) (sum_by (λ op. in_levels may_be_long (strips_of n op)) ops) (any_within_count (is_change_of n) ops)
-      (λ long.
-      subst (λ (w : ℕ). count_by (λ j. syncs.is_strip_changed (syncs.group_changes ops synced had) n j && syncs.has_strip_after (syncs.group_changes ops synced had) n j) pointer_numbers ≤ w)
-      (in_levels-all n may_be_long ops (long_only object long)) (strips_fit n ops synced (λ j k. had (Data (strip_number n j) k)) pointer_count))
+      (count_by (is_change_of n) ops) (sum_by (strips_of n) ops) (any_within_count (is_change_of n) ops)
+      (λ long. strips_fit n ops synced (λ j k. had (Data (strip_number n j) k)) pointer_count)
     where
       object : Option (List ℕ)
       object = finite.get (contents_after_all ops synced).objects n
 
-  object_within : (n : ℕ) → length (syncs.places_of_object (syncs.group_changes ops synced had) n) ≤ sum_by (λ op. object_part may_be_long pointer_numbers op n) ops
+  object_within : (n : ℕ) → length (syncs.places_of_object (syncs.group_changes ops synced had) n) ≤ sum_by (λ op. object_part pointer_numbers op n) ops
   object_within n =
       let records : List Place = flat_map (syncs.places_of_strip (syncs.group_changes ops synced had) n) pointer_numbers in
       let indirects : List Place = map (λ j. Indirect (strip_number n j)) (filter (syncs.is_indirect_written (syncs.group_changes ops synced had) n) pointer_numbers) in
@@ -215,16 +196,16 @@ module _ (ops : List Op) (synced : Contents) (had : Place → Bool) where
       length-map (filter (syncs.is_indirect_written (syncs.group_changes ops synced had) n) pointer_numbers) (λ j. Indirect (strip_number n j)) ∙ length-filter (syncs.is_indirect_written (syncs.group_changes ops synced had) n) pointer_numbers in
       let of_top : length top ≡ as_one (syncs.is_top_written (syncs.group_changes ops synced had) n) = length-one (syncs.is_top_written (syncs.group_changes ops synced had) n) (Top n) in
       let upper = upper_blocks n in
-      let outer = sum_by-plus (λ op. records_part pointer_numbers op n + as_one (is_change_of n op)) (λ op. in_levels may_be_long (strips_of n op)) ops in
+      let outer = sum_by-plus (λ op. records_part pointer_numbers op n + as_one (is_change_of n op)) (strips_of n) ops in
       let inner = sum_by-plus (λ op. records_part pointer_numbers op n) (λ op. as_one (is_change_of n op)) ops in
       omega (arith, both, first, few, of_indirects, of_top, upper, outer, inner)
 
-  objects_within : (objects : List ℕ) → sum_by (λ n. length (syncs.places_of_object (syncs.group_changes ops synced had) n)) objects ≤ sum_by (λ op. sum_by (object_part may_be_long pointer_numbers op) objects) ops
+  objects_within : (objects : List ℕ) → sum_by (λ n. length (syncs.places_of_object (syncs.group_changes ops synced had) n)) objects ≤ sum_by (λ op. sum_by (object_part pointer_numbers op) objects) ops
   objects_within objects =
-      let each : sum_by (λ n. length (syncs.places_of_object (syncs.group_changes ops synced had) n)) objects ≤ sum_by (λ n. sum_by (λ op. object_part may_be_long pointer_numbers op n) ops) objects =
-      sum_by-le-sum_by (λ n. length (syncs.places_of_object (syncs.group_changes ops synced had) n)) (λ n. sum_by (λ op. object_part may_be_long pointer_numbers op n) ops) objects object_within in
-      let turned : sum_by (λ n. sum_by (λ op. object_part may_be_long pointer_numbers op n) ops) objects ≡ sum_by (λ op. sum_by (object_part may_be_long pointer_numbers op) objects) ops =
-      sum_by-sum_by (λ n op. object_part may_be_long pointer_numbers op n) objects ops in
+      let each : sum_by (λ n. length (syncs.places_of_object (syncs.group_changes ops synced had) n)) objects ≤ sum_by (λ n. sum_by (λ op. object_part pointer_numbers op n) ops) objects =
+      sum_by-le-sum_by (λ n. length (syncs.places_of_object (syncs.group_changes ops synced had) n)) (λ n. sum_by (λ op. object_part pointer_numbers op n) ops) objects object_within in
+      let turned : sum_by (λ n. sum_by (λ op. object_part pointer_numbers op n) ops) objects ≡ sum_by (λ op. sum_by (object_part pointer_numbers op) objects) ops =
+      sum_by-sum_by (λ n op. object_part pointer_numbers op n) objects ops in
       omega (arith, each, turned)
 
   directories_within : (directories : List ℕ) → count_by (syncs.is_directory_written (syncs.group_changes ops synced had)) directories ≤ sum_by (directory_part object_numbers directories) ops
@@ -299,39 +280,26 @@ cut_records new a many =
 no_records : (strips : List ℕ) → sum_by (λ (j : ℕ). count_by (λ (k : ℕ). false) pointer_numbers) strips ≡ 0
 no_records strips = sum_by-none (λ (j : ℕ). count_by (λ (k : ℕ). false) pointer_numbers) strips (λ j. sum_by-none (λ (k : ℕ). 0) pointer_numbers (λ k. refl))
 
-no_levels : (levels : Bool) → in_levels levels 0 ≡ 0
-no_levels true = refl
-no_levels false = refl
+under-false : (b : Bool) (t : ℕ → ℕ → Bool) (strips : List ℕ) (s : ℕ) → b ≡ false
+    → sum_by (λ j. count_by (λ k. b && t j k) pointer_numbers) strips + as_one b + (if b then s else 0) ≡ 0
+under-false true t strips s is = absurd (true≢false is)
+under-false false t strips s is = omega (arith, no_records strips)
 
-under-false : (b levels : Bool) (t : ℕ → ℕ → Bool) (strips : List ℕ) (s : ℕ) → b ≡ false
-    → sum_by (λ j. count_by (λ k. b && t j k) pointer_numbers) strips + as_one b + in_levels levels (if b then s else 0) ≡ 0
-under-false true levels t strips s is = absurd (true≢false is)
-under-false false levels t strips s is = omega (arith, no_records strips, no_levels levels)
-
-under-any : (b levels : Bool) (t : ℕ → ℕ → Bool) (strips : List ℕ) (s w : ℕ) → sum_by (λ j. count_by (t j) pointer_numbers) strips ≤ w
-    → sum_by (λ j. count_by (λ k. b && t j k) pointer_numbers) strips + as_one b + in_levels levels (if b then s else 0) ≤ w + 1 + in_levels levels s
-under-any true levels t strips s w h = omega (arith, h)
-under-any false levels t strips s w h = omega (arith, no_records strips, no_levels levels)
+under-any : (b : Bool) (t : ℕ → ℕ → Bool) (strips : List ℕ) (s w : ℕ) → sum_by (λ j. count_by (t j) pointer_numbers) strips ≤ w
+    → sum_by (λ j. count_by (λ k. b && t j k) pointer_numbers) strips + as_one b + (if b then s else 0) ≤ w + 1 + s
+under-any true t strips s w h = omega (arith, h)
+under-any false t strips s w h = omega (arith, no_records strips)
 
 -- of all objects an operation on one changes only that one's records, indirect blocks and top
-one_object : (m : ℕ) (levels : Bool) (t : ℕ → ℕ → Bool) (strips : List ℕ) (s w a many : ℕ) → sum_by (λ j. count_by (t j) pointer_numbers) strips ≤ w
-    → sum_by (λ n. sum_by (λ j. count_by (λ k. (m == n) && t j k) pointer_numbers) strips + as_one (m == n) + in_levels levels (if m == n then s else 0)) (range_with_len a many) ≤ w + 1 + in_levels levels s
-one_object m levels t strips s w a many h =
-    one_within (λ n. sum_by (λ j. count_by (λ k. (m == n) && t j k) pointer_numbers) strips + as_one (m == n) + in_levels levels (if m == n then s else 0)) m (w + 1 + in_levels levels s) a many
-    (λ n from to other. under-false (m == n) levels t strips s (ne_eqb m n (λ e. other (sym e)))) (λ from. under-any (m == m) levels t strips s w h)
+one_object : (m : ℕ) (t : ℕ → ℕ → Bool) (strips : List ℕ) (s w a many : ℕ) → sum_by (λ j. count_by (t j) pointer_numbers) strips ≤ w
+    → sum_by (λ n. sum_by (λ j. count_by (λ k. (m == n) && t j k) pointer_numbers) strips + as_one (m == n) + (if m == n then s else 0)) (range_with_len a many) ≤ w + 1 + s
+one_object m t strips s w a many h =
+    one_within (λ n. sum_by (λ j. count_by (λ k. (m == n) && t j k) pointer_numbers) strips + as_one (m == n) + (if m == n then s else 0)) m (w + 1 + s) a many
+    (λ n from to other. under-false (m == n) t strips s (ne_eqb m n (λ e. other (sym e)))) (λ from. under-any (m == m) t strips s w h)
 
-no-object : (levels : Bool) (strips objects : List ℕ) → sum_by (λ (n : ℕ). sum_by (λ (j : ℕ). count_by (λ (k : ℕ). false) pointer_numbers) strips + as_one false + in_levels levels 0) objects ≡ 0
-no-object levels strips objects = sum_by-none (λ (n : ℕ). sum_by (λ (j : ℕ). count_by (λ (k : ℕ). false) pointer_numbers) strips + as_one false + in_levels levels 0) objects
-    (λ n. omega (arith, no_records strips, no_levels levels))
-
--- what a write and a new length are estimated at
-write_most : (levels : Bool) (a b c r s : ℕ) → a ≤ r + 1 + in_levels levels s → b ≤ 1 → c ≤ 1 → a + b + c ≤ (if levels then r + s + 3 else r + 3)
-write_most true a b c r s h k l = omega (arith, h, k, l)
-write_most false a b c r s h k l = omega (arith, h, k, l)
-
-length_most : (levels : Bool) (a b c : ℕ) → a ≤ 1 + 1 + in_levels levels 1 → b ≤ 1 → c ≤ 1 → a + b + c ≤ (if levels then 5 else 4)
-length_most true a b c h k l = omega (arith, h, k, l)
-length_most false a b c h k l = omega (arith, h, k, l)
+no-object : (strips objects : List ℕ) → sum_by (λ (n : ℕ). sum_by (λ (j : ℕ). count_by (λ (k : ℕ). false) pointer_numbers) strips + as_one false + 0) objects ≡ 0
+no-object strips objects = sum_by-none (λ (n : ℕ). sum_by (λ (j : ℕ). count_by (λ (k : ℕ). false) pointer_numbers) strips + as_one false + 0) objects
+    (λ n. omega (arith, no_records strips))
 
 -- what one operation may change, over records, objects and directories that are numbers in a row
 module _ (start : ℕ → ℕ) (size : ℕ) (own : (m d : ℕ) → start d ≤ m → m < start d + size → d ≡ m / entry_count) where
@@ -351,29 +319,28 @@ module _ (start : ℕ → ℕ) (size : ℕ) (own : (m d : ℕ) → start d ≤ m
 
   module _ (a strips b objects c directories : ℕ) where
     abbrev part_of : Op → ℕ
-    part_of op = sum_by (object_part may_be_long (range_with_len a strips) op) (range_with_len b objects) + directory_part (λ d. range_with_len (start d) size) (range_with_len c directories) op + root_part op
+    part_of op = sum_by (object_part (range_with_len a strips) op) (range_with_len b objects) + directory_part (λ d. range_with_len (start d) size) (range_with_len c directories) op + root_part op
 
     one_operation : (op : Op) → part_of op ≤ estimate_of_shape (shape_of op)
     one_operation (Create m) =
-        let none = no-object may_be_long (range_with_len a strips) (range_with_len b objects) in
+        let none = no-object (range_with_len a strips) (range_with_len b objects) in
         let one = one_directory m.0 c directories in
         omega (arith, none, one)
     one_operation (Remove m) =
-        let none = no-object may_be_long (range_with_len a strips) (range_with_len b objects) in
+        let none = no-object (range_with_len a strips) (range_with_len b objects) in
         let one = one_directory m.0 c directories in
         omega (arith, none, one)
     one_operation (Write m offset bytes) =
-        write_most may_be_long (sum_by (object_part may_be_long (range_with_len a strips) (Write m offset bytes)) (range_with_len b objects))
-        (directory_part (λ d. range_with_len (start d) size) (range_with_len c directories) (Write m offset bytes)) (root_part (Write m offset bytes)) (records_touched offset (length bytes)) (strips_touched offset (length bytes))
-        (one_object m.0 may_be_long (λ j k. is_record_touched (record_of_strip j k) offset (length bytes)) (range_with_len a strips) (strips_touched offset (length bytes)) (records_touched offset (length bytes)) b objects
-        (write_records offset (length bytes) a strips))
-        (one_directory m.0 c directories) (omega arith)
+        let below = one_object m.0 (λ j k. is_record_touched (record_of_strip j k) offset (length bytes)) (range_with_len a strips) (strips_touched offset (length bytes)) (records_touched offset (length bytes)) b objects
+        (write_records offset (length bytes) a strips) in
+        let one = one_directory m.0 c directories in
+        omega (arith, below, one)
     one_operation (SetLength m new) =
-        length_most may_be_long (sum_by (object_part may_be_long (range_with_len a strips) (SetLength m new)) (range_with_len b objects))
-        (directory_part (λ d. range_with_len (start d) size) (range_with_len c directories) (SetLength m new)) (root_part (SetLength m new))
-        (one_object m.0 may_be_long (λ j k. is_record_cut (record_of_strip j k) new) (range_with_len a strips) 1 1 b objects (cut_records new a strips)) (one_directory m.0 c directories) (omega arith)
+        let below = one_object m.0 (λ j k. is_record_cut (record_of_strip j k) new) (range_with_len a strips) 1 1 b objects (cut_records new a strips) in
+        let one = one_directory m.0 c directories in
+        omega (arith, below, one)
     one_operation (SetName bytes) =
-        let none = no-object may_be_long (range_with_len a strips) (range_with_len b objects) in
+        let none = no-object (range_with_len a strips) (range_with_len b objects) in
         let nothing = no-directory (range_with_len c directories) in
         omega (arith, none, nothing)
 
@@ -389,7 +356,7 @@ syncs_fit ops synced had =
     let part : Op → ℕ = part_of (λ d. entry_count * d) entry_count own_directory 0 pointer_count 0 object_count 0 pointer_count in
     let written = three_parts (syncs.places_of_object (syncs.group_changes ops synced had)) (λ d. Directory d) (syncs.is_directory_written (syncs.group_changes ops synced had)) (if syncs.is_root_written (syncs.group_changes ops synced had) then Root ∷ [] else [])
     (range_with_len 0 object_count) (range_with_len 0 pointer_count)
-    (λ op. sum_by (object_part may_be_long pointer_numbers op) (range_with_len 0 object_count)) (directory_part object_numbers (range_with_len 0 pointer_count)) root_part ops
+    (λ op. sum_by (object_part pointer_numbers op) (range_with_len 0 object_count)) (directory_part object_numbers (range_with_len 0 pointer_count)) root_part ops
     (objects_within ops synced had (range_with_len 0 object_count)) (directories_within ops synced had (range_with_len 0 pointer_count))
     (last_within ops synced had) in
     let each : sum_by part ops ≤ sum_by (λ op. estimate_of_shape (shape_of op)) ops = sum_by-le-sum_by part (λ op. estimate_of_shape (shape_of op)) ops (one_operation (λ d. entry_count * d) entry_count own_directory 0 pointer_count 0 object_count 0 pointer_count) in

@@ -2,7 +2,7 @@ use Rattle.std.proofs.Common.{◌≡◌, take, length}
 use Rattle.base.specs.formats.Limits.{object_count}
 use Rattle.object_maps.specs.Judging.{ApplyTo}
 use Rattle.object_maps.specs.Presence.{AreNoted}
-use Rattle.object_maps.proofs.judging.judge.Given as goal
+use Rattle.object_maps.proofs.judging.judge_many.Given as goal
 
 -- the operations so far can take place in order, and what they make of objects is noted
 abbrev pub invariant-loop-op : goal.invariant-loop-op
