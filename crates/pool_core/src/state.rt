@@ -114,7 +114,7 @@ impl<D: SectorDevice> PoolState<D> {
         self.pool.lock(owner, object, range, mode)
     }
 
-    /// Locks an object as a writer from its end to the greatest length, 338,688, and returns that range too.
+    /// Locks an object as a writer from its end to the greatest length, 28,449,792, and returns that range too.
     ///
     /// # Errors
     /// In this order:
