@@ -30,7 +30,7 @@ use Rattle.tree_plans.specs.declared.changes.ObjectChanges.{ObjectChanges}
 use Rattle.tree_plans.specs.declared.object_map.ObjectMap.{ObjectMap}
 use Rattle.tree_plans.specs.Pointers.{IsPut, entry_of, records_among}
 use Rattle.group_plans.specs.declared.old_maps.OldObject.{OldObject}
-use Rattle.group_plans.specs.OldMaps.{AreMapsReadFor, AreRecordsOf, AreStripsRead, HasReadMap, HoldsStripsOf, HoldsTreeOf, IsReadFor, IsStripRead}
+use Rattle.group_plans.specs.OldMaps.{AreMapsReadFor, AreMapRecords, AreStripsRead, HasReadMap, HoldsStripsOf, HoldsTreeOf, IsReadFor, IsStripRead}
 use Rattle.group_plans.specs.Prepared.{IsPlainRefusal}
 use Rattle.group_plans.proofs.ToldStrips.{long-top, short-strip}
 
@@ -202,7 +202,7 @@ module _ (blocks : ℕ) (object : OldObject) (m : ObjectMap) (strips : AreStrips
     only = λ j there. (strips.each j (strips.below j there)).only there;
   }
     where
-      named : (number k : ℕ) → k < pointer_count → (o : Option (Vec Pointer)) → IfSome o (λ (v : Vec Pointer). AreRecordsOf blocks object.size number v.items)
+      named : (number k : ℕ) → k < pointer_count → (o : Option (Vec Pointer)) → IfSome o (λ (v : Vec Pointer). AreMapRecords blocks object.size number v.items)
           → IfSome o (λ (v : Vec Pointer). (pointer_of_list v.items k).address ≡ 0 → pointer_of_list v.items k ≡ no_pointer)
       named number k k_low None are = tt
       named number k k_low (Some v) are = placed_none blocks (pointer_of_list v.items k) (are.placed k k_low)

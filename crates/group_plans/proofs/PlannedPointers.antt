@@ -25,7 +25,7 @@ use Rattle.tree_plans.specs.declared.planner.TreePlan.{TreePlan}
 use Rattle.tree_plans.specs.Pointers.{entry_of, entry_strips, maps_before, planned_lengths, planned_map, planned_pointers, pointers_before, pointers_in, records_among, told_strips}
 use Rattle.tree_plans.proofs.Levels.{entry-record}
 use Rattle.group_plans.specs.GroupPlans.{plan_pointers}
-use Rattle.group_plans.specs.OldMaps.{AreMapsOf, AreMapsOfObjects, AreRecordsAt, AreRecordsOf, IsStripOf, size_in}
+use Rattle.group_plans.specs.OldMaps.{AreMapsOf, AreMapsOfObjects, AreRecordsAt, AreMapRecords, IsStripOf, size_in}
 use Rattle.group_plans.specs.Pointers.{lengths_after}
 use Rattle.group_plans.proofs.RecordsAtHand.{same_test}
 use Rattle.group_plans.proofs.ToldStrips.{as_told, told_placed}
@@ -156,7 +156,7 @@ module _ (source : PlanSource) (objects : List (ObjectId × ObjectChanges))
           record-placed tree blocks told (object_of_indirect m) (strip_of m) k (number-object m) j_low is.1 (pointer_of_list map.indirects.items (strip_of m)) (records_among map.strips.entries (strip_of m))
           (at_record (records_among map.strips.entries (strip_of m)) ((of (object_of_indirect m) map at).records (strip_of m) j_low)) (placed (Data m k) is)
         where
-          at_record : (o : Option (Vec Pointer)) → IfSome o (λ (v : Vec Pointer). AreRecordsOf blocks (size_in below (object_of_indirect m)) (strip_number (object_of_indirect m) (strip_of m)) v.items)
+          at_record : (o : Option (Vec Pointer)) → IfSome o (λ (v : Vec Pointer). AreMapRecords blocks (size_in below (object_of_indirect m)) (strip_number (object_of_indirect m) (strip_of m)) v.items)
               → IfSome o (λ (v : Vec Pointer). IsPlaced blocks (pointer_of_list v.items k))
           at_record None are = tt
           at_record (Some v) are = are.placed k is.1

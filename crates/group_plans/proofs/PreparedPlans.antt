@@ -24,7 +24,7 @@ use Rattle.tree_plans.specs.declared.object_map.ObjectMap.{ObjectMap}
 use Rattle.tree_plans.specs.declared.plan_source.PlanSource.{PlanSource}
 use Rattle.tree_plans.specs.declared.planner.TreePlan.{TreePlan}
 use Rattle.tree_plans.specs.Changes.{AreInRange, changes_of_group, has_address, is_changed_in, is_long_size, may_have_blocks, state_in}
-use Rattle.tree_plans.specs.Parts.{AreMapsRead, IsRead}
+use Rattle.tree_plans.specs.Parts.{AreMapsRead, IsReadAsNeeded}
 use Rattle.tree_plans.specs.Plans.{IsWant}
 use Rattle.tree_plans.specs.Pointers.{entry_of}
 use Rattle.group_plans.specs.GroupPlans.{IsHeldRefusal, IsPlanRefusal, objects_with}
@@ -66,8 +66,8 @@ maps_as source objects a b same read id changes low at =
     let h = read id.0 changes low at in
     record {
       there = ap is_some h.map_is;
-      read = subst (λ (o : Option ObjectMap). IfSome o (IsRead (is_long_size (object_length a id.0)) changes)) (sym h.map_is)
-          (subst (λ (size : Option ℕ). IsRead (is_long_size size) changes h.map) (sym (same id.0)) h.read.read);
+      read = subst (λ (o : Option ObjectMap). IfSome o (IsReadAsNeeded (is_long_size (object_length a id.0)) changes)) (sym h.map_is)
+          (subst (λ (size : Option ℕ). IsReadAsNeeded (is_long_size size) changes h.map) (sym (same id.0)) h.read.read);
     }
 
 module _ (records : ℕ → ℕ → Option (List ℕ)) (extents : Extents) (contents : slots.Contents) where

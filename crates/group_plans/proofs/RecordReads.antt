@@ -28,7 +28,7 @@ use Rattle.tree_plans.specs.Parts.{AreReady}
 use Rattle.tree_plans.specs.Plans.{IsReady}
 use Rattle.tree_plans.specs.Pointers.{entry_of}
 use Rattle.tree_plans.specs.declared.place.RecordPlace.{RecordPlace}
-use Rattle.group_plans.specs.Prepared.{AreBelow, AreExact, HoldsRecord, IsCut, IsRecordOf, KeepsFront, PutsRecord, number_of}
+use Rattle.group_plans.specs.Prepared.{AreBelow, AreExact, HoldsRecord, IsCut, IsRecordOf, KeepsFront, PutsRecord, number_of_record}
 use Rattle.group_plans.proofs.OldMaps.{entry_pushed}
 
 -- an object that has a length is there
@@ -49,7 +49,7 @@ record_is image frame objects place pointer b low strip_low inside h is =
     (h.tree.each (Data m place.index) (strip-low place.id.0 place.strip low strip_low, inside)))
 
 -- where it begins in its object
-pub start_is : (place : RecordPlace) → place.id.0 < object_count → record_start (strip_number place.id.0 place.strip) place.index ≡ record_size * number_of place
+pub start_is : (place : RecordPlace) → place.id.0 < object_count → record_start (strip_number place.id.0 place.strip) place.index ≡ record_size * number_of_record place
 start_is place low = ap (λ (j : ℕ). record_size * record_of_strip j place.index) (strip-which place.id.0 place.strip low)
 
 pub on_ok : {A : Type 0} {P Q : Type 0} (r : Result A PoolError) → (P → Q) → OnOk r P → OnOk r Q

@@ -25,7 +25,7 @@ use Rattle.tree_plans.specs.declared.changes.ObjectChanges.{ObjectChanges}
 use Rattle.tree_plans.specs.declared.object_map.ObjectMap.{ObjectMap}
 use Rattle.tree_plans.specs.declared.plan_source.PlanSource.{PlanSource}
 use Rattle.tree_plans.specs.Changes.{has_two_levels, is_strip_dirty, is_strip_touched, state_at}
-use Rattle.tree_plans.specs.Parts.{IsRead}
+use Rattle.tree_plans.specs.Parts.{IsReadAsNeeded}
 use Rattle.tree_plans.specs.Plans.{is_strip_replaced, read_record}
 use Rattle.tree_plans.specs.Pointers.{entry_of, maps_before, pointers_before, pointers_in, records_among, told_strips}
 use Rattle.group_plans.specs.OldMaps.{HasReadMap}
@@ -65,7 +65,7 @@ module _ (source : PlanSource) (n j k : ℕ) (low : n < object_count) (m : Objec
   before_is = (λ x. (maps_before source (strip-object n j low x)).record_at (strip-which n j low x) k)
       ∙ ap (λ (o : Option ObjectMap). (option_map_or (pointers_in (told_strips source.tree.now.entries.items n)) o (object_pointers source.tree.now.entries.items n)).record_at j k) at
 
-  pub record_before : (is_long : Bool) (changes : ObjectChanges) → IsRead is_long changes m → j < pointer_count → is_strip_dirty changes j ≡ true → pointers_before source (Data (strip_number n j) k) ≡ read_record m j k
+  pub record_before : (is_long : Bool) (changes : ObjectChanges) → IsReadAsNeeded is_long changes m → j < pointer_count → is_strip_dirty changes j ≡ true → pointers_before source (Data (strip_number n j) k) ≡ read_record m j k
   record_before is_long changes read j_low dirty = before_is ∙ elim (read.strips j j_low (looked_at is_long changes j dirty)) [
     | inl there ↦ same (records_among m.strips.entries j) there
     | inr none ↦ told_nothing (pointer_of_list m.indirects.items j) _ k none ∙ sym (told_nothing (pointer_of_list m.indirects.items j) _ k none)
@@ -87,5 +87,5 @@ map_held source image frame objects tree n low m at after changes read =
     record {
       pointers = pointers_before source;
       tree = tree;
-      are = λ j k j_low k_low dirty. record_before source n j k low m at (has_two_levels (finite.get after n)) changes (subst (IsRead (has_two_levels (finite.get after n)) changes) same read.read.read) j_low dirty;
+      are = λ j k j_low k_low dirty. record_before source n j k low m at (has_two_levels (finite.get after n)) changes (subst (IsReadAsNeeded (has_two_levels (finite.get after n)) changes) same read.read.read) j_low dirty;
     }

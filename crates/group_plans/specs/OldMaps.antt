@@ -20,7 +20,7 @@ use Rattle.object_maps.specs.Sources.{object_length}
 use Rattle.tree_plans.specs.declared.changes.ObjectChanges.{ObjectChanges}
 use Rattle.tree_plans.specs.declared.object_map.ObjectMap.{ObjectMap}
 use Rattle.tree_plans.specs.Changes.{has_two_levels}
-use Rattle.tree_plans.specs.Parts.{IsRead}
+use Rattle.tree_plans.specs.Parts.{IsReadAsNeeded}
 use Rattle.tree_plans.specs.Plans.{is_strip_replaced}
 use Rattle.tree_plans.specs.Pointers.{entry_of, records_among}
 use Rattle.group_plans.specs.declared.old_maps.OldObject.{OldObject}
@@ -36,7 +36,7 @@ size_in objects n = unwrap_or (object_length objects n) 0
 
 -- the pointers to the records of strip m of an object of this length: each is to a block of the area, and to a record
 -- that begins before the end of the object
-pub record AreRecordsOf (blocks size m : ℕ) (records : List Pointer) : Type 0 where
+pub record AreMapRecords (blocks size m : ℕ) (records : List Pointer) : Type 0 where
   pub placed : (k : ℕ) → k < pointer_count → IsPlaced blocks (pointer_of_list records k)
   pub inside : (k : ℕ) → k < pointer_count → BeginsInside size (record_start m k) (pointer_of_list records k)
 
@@ -44,16 +44,16 @@ pub record AreRecordsOf (blocks size m : ℕ) (records : List Pointer) : Type 0 
 abbrev pub IsStripOf : ℕ → Tree → ℕ → ℕ → Pointer → Type 0
 IsStripOf blocks tree n j pointer = (pointer ≡ (object_pointers tree.entries.items n).strip j) ⊎ IsPlaced blocks pointer
 
-abbrev pub AreStripsOf : ℕ → Tree → ℕ → List Pointer → Type 0
-AreStripsOf blocks tree n indirects = (j : ℕ) → j < pointer_count → IsStripOf blocks tree n j (pointer_of_list indirects j)
+abbrev pub AreMapStrips : ℕ → Tree → ℕ → List Pointer → Type 0
+AreMapStrips blocks tree n indirects = (j : ℕ) → j < pointer_count → IsStripOf blocks tree n j (pointer_of_list indirects j)
 
 -- the map of object n of a tree, of so many bytes: it has the top that the tree has, and pointers to its indirect blocks
 -- and to the records of the strips that were read
 pub record IsMapBefore (blocks : ℕ) (tree : Tree) (size n : ℕ) (m : ObjectMap) : Type 0 where
   pub low : n < object_count
   pub top : m.top ≡ (object_pointers tree.entries.items n).top
-  pub strips : AreStripsOf blocks tree n m.indirects.items
-  pub records : (j : ℕ) → j < pointer_count → IfSome (records_among m.strips.entries j) (λ (v : Vec Pointer). AreRecordsOf blocks size (strip_number n j) v.items)
+  pub strips : AreMapStrips blocks tree n m.indirects.items
+  pub records : (j : ℕ) → j < pointer_count → IfSome (records_among m.strips.entries j) (λ (v : Vec Pointer). AreMapRecords blocks size (strip_number n j) v.items)
 
 -- each of these maps is one of the tree
 abbrev pub AreMapsOf : ℕ → Tree → FinMap nat_cmp (List ℕ) → List (ObjectId × ObjectMap) → Type 0
@@ -64,7 +64,7 @@ AreMapsOf blocks tree objects maps = (n : ℕ) (m : ObjectMap) → entry_of maps
 pub record IsStripRead (blocks : ℕ) (object : OldObject) (j : ℕ) (indirect : Pointer) (o : Option (Vec Pointer)) : Type 0 where
   pub there : is_strip_replaced object.is_long object.changes.now j ≡ true → (is_some o ≡ true) ⊎ (indirect ≡ no_pointer)
   pub only : is_some o ≡ true → is_strip_replaced object.is_long object.changes.now j ≡ true
-  pub records : IfSome o (λ (v : Vec Pointer). AreRecordsOf blocks object.size (strip_number object.id.0 j) v.items)
+  pub records : IfSome o (λ (v : Vec Pointer). AreMapRecords blocks object.size (strip_number object.id.0 j) v.items)
 
 -- and so of the first strips, and nothing of the others
 pub record AreStripsRead (blocks : ℕ) (object : OldObject) (count : ℕ) (indirects : List Pointer) (strips : List (ℕ × Vec Pointer)) : Type 0 where
@@ -85,7 +85,7 @@ pub record HoldsStripsOf (image : List ℕ) (frame : Frame) (object : OldObject)
 -- The indirect blocks were read that a plan looks at, and no others: those of strips of which a record changes, and all
 -- if the object has one level after the group.
 pub record IsReadFor (is_long : Bool) (changes : ObjectChanges) (m : ObjectMap) : Type 0 where
-  pub read : IsRead is_long changes m
+  pub read : IsReadAsNeeded is_long changes m
   pub only : (j : ℕ) → is_some (records_among m.strips.entries j) ≡ true → is_strip_replaced is_long changes j ≡ true
 
 -- a map was read of each of these objects that has a place in the tree, if these are the objects after the group

@@ -69,8 +69,8 @@ pub record HoldsRecord (image : List ℕ) (frame : Frame) (objects : FinMap nat_
   pub is : pointers (Data (strip_number place.id.0 place.strip) place.index) ≡ pointer
 
 -- the number of a record in its object
-abbrev pub number_of : RecordPlace → ℕ
-number_of place = record_of_strip place.strip place.index
+abbrev pub number_of_record : RecordPlace → ℕ
+number_of_record place = record_of_strip place.strip place.index
 
 -- Bytes of a record of the object below, which the patches hide, or which are its bytes if it is there.
 abbrev pub AreBelow : Patches → FinMap nat_cmp (List ℕ) → ℕ → ℕ → List ℕ → Type 0

@@ -20,7 +20,7 @@ ghost use Rattle.object_maps.specs.ContentsShown.{contents_of};
 ghost use Rattle.object_maps.specs.Pointers.{pointer_of_list, pointers_of};
 ghost use Rattle.tree_plans.specs.Pointers.{entry_of, records_among};
 ghost use Rattle.group_plans.specs.GroupPlans.{objects_with};
-ghost use Rattle.group_plans.specs.OldMaps.{AreMapsOf, AreMapsOfObjects, AreMapsReadFor, ArePointersOf, AreRecordsAt, AreRecordsOf, AreStripsOf, AreStripsRead, HasReadMap, HoldsStripsOf, HoldsTreeOf, IsMapBefore, IsReadFor, IsStripRead, size_in};
+ghost use Rattle.group_plans.specs.OldMaps.{AreMapsOf, AreMapsOfObjects, AreMapsReadFor, ArePointersOf, AreRecordsAt, AreMapRecords, AreMapStrips, AreStripsRead, HasReadMap, HoldsStripsOf, HoldsTreeOf, IsMapBefore, IsReadFor, IsStripRead, size_in};
 ghost use Rattle.group_plans.specs.Prepared.{IsPlainRefusal, IsPrepareRefusal};
 
 use crate::planning::GroupSource;
@@ -75,7 +75,7 @@ fn records_in(
     ensures count { IfOk result (λ l. vec_len l ≡ pointer_count) }
     ensures pointers { IfOk result (λ l. (k : ℕ) → k < pointer_count
         → pointer_of_list l.items k ≡ pointer_in payload.now k) }
-    ensures records { IfOk result (λ l. AreRecordsOf frame.now.blocks size number l.items) }
+    ensures records { IfOk result (λ l. AreMapRecords frame.now.blocks size number l.items) }
     ensures refused { IfErr result (λ e. (e ≡ error.NoMemory) ⊎ IsDamage e) }
     ensures sound { ((k : ℕ) → k < pointer_count → IsPointerInside frame.now.blocks size
         (record_start number k) (pointer_in payload.now k))
@@ -101,7 +101,7 @@ fn read_records<B: BlockReader>(
     requires fits { block_address frame.now.blocks ≤ B.size reader.old }
     requires number { number < indirect_count }
     ensures reads { OnlyReads B.SectorDevice result reader.old reader.new }
-    ensures records { IfOk result (λ l. AreRecordsOf frame.now.blocks size number l.items) }
+    ensures records { IfOk result (λ l. AreMapRecords frame.now.blocks size number l.items) }
     ensures refused { IfErr result IsPrepareRefusal }
     ensures exact { IsTrue B.keeps_model → (pointers : Place → Pointer) (bytes : List ℕ)
         → HoldsStrip (bytes_of (B.disk reader.old).now) frame.now number indirect.now pointers bytes
@@ -279,7 +279,7 @@ fn read_indirects<B: BlockReader>(
     ensures reads { OnlyReads B.SectorDevice result reader.old reader.new }
     ensures count { IfOk result (λ l. vec_len l ≡ pointer_count) }
     ensures strips { IfOk result (λ l.
-        AreStripsOf frame.now.blocks tree.now object.now.id.0 l.items) }
+        AreMapStrips frame.now.blocks tree.now object.now.id.0 l.items) }
     ensures refused { IfErr result IsPrepareRefusal }
     ensures exact { IsTrue B.keeps_model → (objects : FinMap nat_cmp (List ℕ))
         → HoldsTreeOf (bytes_of (B.disk reader.old).now) frame.now tree.now objects

@@ -87,7 +87,8 @@ pub fn plan_group<B: BlockReader>(
     ensures taken { IfOk result (TakesLowest source.now.free.now.free) }
     ensures tree { IfOk result (MakesReadTree (frame_of source.now) source.now.tree.now
         records.now (objects_with extents.now contents.now)) }
-    ensures objects { IsTrue B.keeps_model → HoldsTreeOf (bytes_of (B.disk reader.old).now) before.now
+    ensures objects { IsTrue B.keeps_model
+        → HoldsTreeOf (bytes_of (B.disk reader.old).now) before.now
         source.now.tree.now (contents_of contents.now).objects
         → IfOk result (HoldsGroupObjects (frame_of source.now) source.now.tree.now records.now
         (objects_with extents.now contents.now)) }
@@ -143,7 +144,8 @@ fn plan_read<B: BlockReader>(
     ensures tree { IfOk result (λ p. (old : Place → Pointer) × PlansTree
         (written_frame read.now.guid read.now.geometry read.now.group.0) old read.now.tree.now
         objects.now.entries (objects_with extents.now contents.now) p) }
-    ensures objects { IsTrue B.keeps_model → HoldsTreeOf (bytes_of (B.disk reader.old).now) before.now
+    ensures objects { IsTrue B.keeps_model
+        → HoldsTreeOf (bytes_of (B.disk reader.old).now) before.now
         read.now.tree.now (contents_of contents.now).objects
         → AreMapsOfObjects (pointers_of read.now.tree.now) read.now.old_maps.now.entries
         → IfOk result (HoldsPlanned

@@ -18,7 +18,7 @@ ghost use Rattle.tree_plans.specs.Plans.{IsReady};
 ghost use Rattle.tree_plans.specs.Pointers.{pointers_before};
 ghost use Rattle.group_plans.specs.GroupPlans.{objects_with};
 ghost use Rattle.group_plans.specs.OldMaps.{AreMapsReadFor, HasReadMap};
-ghost use Rattle.group_plans.specs.Prepared.{AreBelow, AreExact, HoldsMap, HoldsRecord, HoldsRecords, IsPlainRefusal, IsPrepareRefusal, IsRecordOf, KeepsHand, at_hand, number_of};
+ghost use Rattle.group_plans.specs.Prepared.{AreBelow, AreExact, HoldsMap, HoldsRecord, HoldsRecords, IsPlainRefusal, IsPrepareRefusal, IsRecordOf, KeepsHand, at_hand, number_of_record};
 
 use crate::prepared::PreparedObjects;
 use base::{OBJECT_COUNT, ObjectId, POINTER_COUNT, Pointer, PoolError, RECORD_SIZE, RecordState};
@@ -49,7 +49,7 @@ fn read_below<B: BlockReader>(
     ensures exact { IsTrue B.keeps_model → HoldsRecord (bytes_of (B.disk reader.old).now)
         frame.now (contents_of contents.now).objects place pointer.now
         → OnOk result (AreBelow (patches_of extents.now) (contents_of contents.now).objects
-        place.id.0 (number_of place) into.new) }
+        place.id.0 (number_of_record place) into.new) }
     ensures sound { IsTrue B.keeps_model → HoldsRecord (bytes_of (B.disk reader.old).now)
         frame.now (contents_of contents.now).objects place pointer.now
         → IfErr result (λ e. e ≡ error.Read) }
@@ -86,7 +86,7 @@ fn read_record<B: BlockReader>(
     ensures exact { IsTrue B.keeps_model → HoldsRecord (bytes_of (B.disk reader.old).now)
         frame.now (contents_of contents.now).objects place pointer.now
         → OnOk result (IsRecordOf (objects_with extents.now contents.now)
-        place.id.0 (number_of place) into.new) }
+        place.id.0 (number_of_record place) into.new) }
     ensures sound { IsTrue B.keeps_model → HoldsRecord (bytes_of (B.disk reader.old).now)
         frame.now (contents_of contents.now).objects place pointer.now
         → IfErr result (λ e. e ≡ error.Read) }
@@ -112,7 +112,7 @@ fn prepare_record<B: BlockReader>(
     ensures extents { prepared.new.extents.now ≡ prepared.old.extents.now }
     ensures contents { prepared.new.contents.now ≡ prepared.old.contents.now }
     ensures ready { OnOk result
-        (is_some (at_hand prepared.new.records place.id.0 (number_of place)) ≡ true) }
+        (is_some (at_hand prepared.new.records place.id.0 (number_of_record place)) ≡ true) }
     ensures kept { KeepsHand (at_hand prepared.old.records) (at_hand prepared.new.records) }
     ensures refused { IfErr result IsPrepareRefusal }
     ensures exact { IsTrue B.keeps_model → HoldsRecord (bytes_of (B.disk reader.old).now) frame.now
@@ -155,7 +155,7 @@ fn prepare_dirty<B: BlockReader>(
     ensures extents { prepared.new.extents.now ≡ prepared.old.extents.now }
     ensures contents { prepared.new.contents.now ≡ prepared.old.contents.now }
     ensures ready { OnOk result (state ≡ Dirty
-        → is_some (at_hand prepared.new.records place.id.0 (number_of place)) ≡ true) }
+        → is_some (at_hand prepared.new.records place.id.0 (number_of_record place)) ≡ true) }
     ensures kept { KeepsHand (at_hand prepared.old.records) (at_hand prepared.new.records) }
     ensures refused { IfErr result IsPrepareRefusal }
     ensures exact { IsTrue B.keeps_model → HoldsRecord (bytes_of (B.disk reader.old).now) frame.now

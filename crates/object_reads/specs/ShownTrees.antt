@@ -38,12 +38,12 @@ abbrev pub ArePointersTo : ShownTree → ℕ → List ℕ → Type 0
 ArePointersTo t m payload = (k : ℕ) → k < pointer_count → pointer_in payload k ≡ pointers_of t.tree.now (Data m k)
 
 -- and one has those to the indirect blocks of the strips of object n
-abbrev pub AreStripsOf : ShownTree → ℕ → List ℕ → Type 0
-AreStripsOf t n payload = (j : ℕ) → j < pointer_count → pointer_in payload j ≡ pointers_of t.tree.now (Indirect (strip_number n j))
+abbrev pub AreStripPointers : ShownTree → ℕ → List ℕ → Type 0
+AreStripPointers t n payload = (j : ℕ) → j < pointer_count → pointer_in payload j ≡ pointers_of t.tree.now (Indirect (strip_number n j))
 
 -- the blocks of object n that are read have the pointers below
-pub record AreBlocksOf (t : ShownTree) (n : ℕ) (blocks : PointerBlocks) : Type 0 where
-  pub top : blocks.is_top_read ≡ true → AreStripsOf t n blocks.top
+pub record ArePointerBlocksOf (t : ShownTree) (n : ℕ) (blocks : PointerBlocks) : Type 0 where
+  pub top : blocks.is_top_read ≡ true → AreStripPointers t n blocks.top
   pub strip : IfSome blocks.strip (λ j. ArePointersTo t (strip_number n j) blocks.indirect)
 
 -- why a read of a range is refused: no memory is left for its bytes, or a block is refused

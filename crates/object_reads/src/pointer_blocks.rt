@@ -48,7 +48,7 @@ impl PointerBlocks {
 }
 
 impl<'a> ShownTree<'a> {
-    ghost use Rattle.object_reads.specs.ShownTrees.{AreBlocksOf, ArePointersTo, AreStripsOf, StandsOn, synced_objects};
+    ghost use Rattle.object_reads.specs.ShownTrees.{ArePointerBlocksOf, ArePointersTo, AreStripPointers, StandsOn, synced_objects};
 
     // Reads the indirect block of a strip of an object of the synced tree, if it isn't the one that was read last. The
     // object has this length.
@@ -65,11 +65,11 @@ impl<'a> ShownTree<'a> {
         requires strip { strip < pointer_count }
         requires size { object_length (synced_objects self.now) id.0 ≡ Some size }
         requires blocks { StandsOn B.SectorDevice reader.old self.now
-            → AreBlocksOf self.now id.0 blocks.old }
+            → ArePointerBlocksOf self.now id.0 blocks.old }
         ensures reads { OnlyReads B.SectorDevice result reader.old reader.new }
         ensures refused { IfErr result IsReadRefusal }
         ensures blocks { StandsOn B.SectorDevice reader.old self.now
-            → OnOk result (AreBlocksOf self.now id.0 blocks.new) }
+            → OnOk result (ArePointerBlocksOf self.now id.0 blocks.new) }
         ensures pointers { StandsOn B.SectorDevice reader.old self.now
             → OnOk result (ArePointersTo self.now (strip_number id.0 strip) blocks.new.indirect) }
         ensures sound { StandsOn B.SectorDevice reader.old self.now
@@ -101,11 +101,11 @@ impl<'a> ShownTree<'a> {
         requires strip { strip < pointer_count }
         requires size { object_length (synced_objects self.now) id.0 ≡ Some size }
         requires blocks { StandsOn B.SectorDevice reader.old self.now
-            → AreBlocksOf self.now id.0 blocks.old }
+            → ArePointerBlocksOf self.now id.0 blocks.old }
         ensures reads { OnlyReads B.SectorDevice result reader.old reader.new }
         ensures refused { IfErr result IsReadRefusal }
         ensures blocks { StandsOn B.SectorDevice reader.old self.now
-            → OnOk result (AreBlocksOf self.now id.0 blocks.new) }
+            → OnOk result (ArePointerBlocksOf self.now id.0 blocks.new) }
         ensures pointer { StandsOn B.SectorDevice reader.old self.now → IfOk result
             (λ p. p ≡ pointers_of self.now.tree.now (Indirect (strip_number id.0 strip))) }
         ensures sound { StandsOn B.SectorDevice reader.old self.now
@@ -134,13 +134,13 @@ impl<'a> ShownTree<'a> {
         requires long { StandsOn B.SectorDevice reader.old self.now
             → IsLong (finite.get (synced_objects self.now) id.0) }
         requires blocks { StandsOn B.SectorDevice reader.old self.now
-            → AreBlocksOf self.now id.0 blocks.old }
+            → ArePointerBlocksOf self.now id.0 blocks.old }
         ensures reads { OnlyReads B.SectorDevice result reader.old reader.new }
         ensures refused { IfErr result IsReadRefusal }
         ensures blocks { StandsOn B.SectorDevice reader.old self.now
-            → OnOk result (AreBlocksOf self.now id.0 blocks.new) }
+            → OnOk result (ArePointerBlocksOf self.now id.0 blocks.new) }
         ensures strips { StandsOn B.SectorDevice reader.old self.now
-            → OnOk result (AreStripsOf self.now id.0 blocks.new.top) }
+            → OnOk result (AreStripPointers self.now id.0 blocks.new.top) }
         ensures sound { StandsOn B.SectorDevice reader.old self.now
             → IfErr result (λ e. e ≡ error.Read) }
     {

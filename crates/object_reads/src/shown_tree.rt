@@ -37,7 +37,7 @@ pub struct ShownTree<'a> {
 type Objects<'a> = Laid<'a, Laid<'a, Laid<'a, &'a Contents>>>;
 
 impl<'a> ShownTree<'a> {
-    ghost use Rattle.object_reads.specs.ShownTrees.{AreBlocksOf, StandsOn, shown_objects, synced_objects};
+    ghost use Rattle.object_reads.specs.ShownTrees.{ArePointerBlocksOf, StandsOn, shown_objects, synced_objects};
 
     // The objects that are shown, by their lengths.
     pub(crate) fn objects(&self) -> Objects<'a>
@@ -69,12 +69,12 @@ impl<'a> ShownTree<'a> {
         requires index { index < record_count }
         requires within { start + length into.old ≤ record_size }
         requires blocks { StandsOn B.SectorDevice reader.old self.now
-            → AreBlocksOf self.now id.0 blocks.old }
+            → ArePointerBlocksOf self.now id.0 blocks.old }
         ensures reads { OnlyReads B.SectorDevice result reader.old reader.new }
         ensures size { length into.new ≡ length into.old }
         ensures refused { IfErr result IsReadRefusal }
         ensures blocks { StandsOn B.SectorDevice reader.old self.now
-            → OnOk result (AreBlocksOf self.now id.0 blocks.new) }
+            → OnOk result (ArePointerBlocksOf self.now id.0 blocks.new) }
         ensures exact { StandsOn B.SectorDevice reader.old self.now
             → OnOk result (AreBytesFrom (record_size * index + start)
             (object_bytes (shown_objects self.now) id.0) into.new) }
@@ -103,12 +103,12 @@ impl<'a> ShownTree<'a> {
         requires index { index < record_count }
         requires within { start + length into.old ≤ record_size }
         requires blocks { StandsOn B.SectorDevice reader.old self.now
-            → AreBlocksOf self.now id.0 blocks.old }
+            → ArePointerBlocksOf self.now id.0 blocks.old }
         ensures reads { OnlyReads B.SectorDevice result reader.old reader.new }
         ensures size { length into.new ≡ length into.old }
         ensures refused { IfErr result IsReadRefusal }
         ensures blocks { StandsOn B.SectorDevice reader.old self.now
-            → OnOk result (AreBlocksOf self.now id.0 blocks.new) }
+            → OnOk result (ArePointerBlocksOf self.now id.0 blocks.new) }
         ensures exact { StandsOn B.SectorDevice reader.old self.now
             → OnOk result (AreBytesFrom (record_size * index + start)
             (object_bytes (synced_objects self.now) id.0) into.new) }

@@ -17,7 +17,7 @@ use Rattle.tree_plans.specs.declared.plan_source.PlanSource.{PlanSource}
 use Rattle.tree_plans.specs.declared.planner.Planner.{Planner}
 use Rattle.tree_plans.specs.Changes.{AreInRange, has_two_levels}
 use Rattle.tree_plans.specs.Order.{Adds, address_if, addresses_where, strip_addresses}
-use Rattle.tree_plans.specs.Parts.{GoesOver, IsMapReadOf, IsRead, PlansObject, blocks_of, group_in}
+use Rattle.tree_plans.specs.Parts.{GoesOver, IsMapReadOf, IsReadAsNeeded, PlansObject, blocks_of, group_in}
 use Rattle.tree_plans.specs.Plans.{FreesOnce, IsApart, IsObjectPlanned, IsOfMap, ObjectFrees, kept_state, progress_of, strip_state, top_state}
 use Rattle.tree_plans.specs.Pointers.{IsPut, entry_of, entry_strips, maps_before, old_tree, pointers_before, pointers_in, told_strips}
 use Rattle.tree_plans.specs.Room.{needed_blocks, object_blocks}
@@ -34,8 +34,8 @@ entry_tells entries n e low is = sym (ap (λ (o : Option ObjectEntry). option_ma
 
 -- the map of an object was read as its levels ask
 pub map_is_read : (source : PlanSource) (after : FinMap nat_cmp (List ℕ)) (id : ObjectId) (changes : ObjectChanges) (m : ObjectMap) (is_long : Bool) → IsMapReadOf source after id changes
-    → entry_of source.old_maps.now.entries id.0 ≡ Some m → is_long ≡ has_two_levels (finite.get after id.0) → IsRead is_long changes m
-map_is_read source after id changes m is_long of there levels = subst (λ (b : Bool). IsRead b changes m) (sym levels) (subst (λ (o : Option ObjectMap). IfSome o (IsRead (has_two_levels (finite.get after id.0)) changes)) there of.read)
+    → entry_of source.old_maps.now.entries id.0 ≡ Some m → is_long ≡ has_two_levels (finite.get after id.0) → IsReadAsNeeded is_long changes m
+map_is_read source after id changes m is_long of there levels = subst (λ (b : Bool). IsReadAsNeeded b changes m) (sym levels) (subst (λ (o : Option ObjectMap). IfSome o (IsReadAsNeeded (has_two_levels (finite.get after id.0)) changes)) there of.read)
 
 module _ (source : PlanSource) (after : FinMap nat_cmp (List ℕ)) (object : ChangedObject) (low : object.id.0 < object_count) (told : List (ℕ × (Pointer × List Pointer)))
     (told_is : told ≡ told_strips source.tree.now.entries.items object.id.0) (read : entry_of source.old_maps.now.entries object.id.0 ≡ Some object.old.now)

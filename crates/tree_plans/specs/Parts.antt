@@ -42,18 +42,18 @@ AreReady has objects = (n : ℕ) (changes : ObjectChanges) → n < object_count 
 
 -- The map of an object has the pointers in the indirect block of each strip that is looked at, or the strip has no such
 -- block. Those with address 0 are none.
-pub record IsRead (is_long : Bool) (changes : ObjectChanges) (m : ObjectMap) : Type 0 where
+pub record IsReadAsNeeded (is_long : Bool) (changes : ObjectChanges) (m : ObjectMap) : Type 0 where
   pub strips : (j : ℕ) → j < pointer_count → is_strip_replaced is_long changes j ≡ true → (is_some (records_among m.strips.entries j) ≡ true) ⊎ (pointer_of_list m.indirects.items j ≡ no_pointer)
   pub named : (j k : ℕ) → j < pointer_count → k < pointer_count
       → IfSome (records_among m.strips.entries j) (λ (v : Vec Pointer). (pointer_of_list v.items k).address ≡ 0 → pointer_of_list v.items k ≡ no_pointer)
 
 abbrev pub IsMapRead : ChangedObject → Type 0
-IsMapRead object = IsRead object.is_long object.changes.now object.old.now
+IsMapRead object = IsReadAsNeeded object.is_long object.changes.now object.old.now
 
 -- so of an object of a source, and of each of these objects that is in the tree
 pub record IsMapReadOf (source : PlanSource) (after : FinMap nat_cmp (List ℕ)) (id : ObjectId) (changes : ObjectChanges) : Type 0 where
   pub there : is_some (entry_of source.old_maps.now.entries id.0) ≡ true
-  pub read : IfSome (entry_of source.old_maps.now.entries id.0) (IsRead (has_two_levels (finite.get after id.0)) changes)
+  pub read : IfSome (entry_of source.old_maps.now.entries id.0) (IsReadAsNeeded (has_two_levels (finite.get after id.0)) changes)
 
 abbrev pub AreMapsRead : PlanSource → FinMap nat_cmp (List ℕ) → List (ObjectId × ObjectChanges) → Type 0
 AreMapsRead source after objects = (id : ObjectId) (changes : ObjectChanges) → id.0 < object_count → entry_of objects id.0 ≡ Some changes → IsMapReadOf source after id changes

@@ -6,7 +6,7 @@ use Rattle.base.proofs.tree.Strips.{record-low}
 use Rattle.object_maps.specs.ContentsShown.{contents_of}
 use Rattle.object_maps.specs.Sources.{AreBytesFrom, object_length}
 use Rattle.extents.specs.Tables.{patches_of}
-use Rattle.group_plans.specs.Prepared.{number_of}
+use Rattle.group_plans.specs.Prepared.{number_of_record}
 use Rattle.group_plans.proofs.RecordReads.{on_ok, read_is_below, record_is, start_is, there_of}
 use Rattle.group_plans.proofs.preparing.read_below.Goals as goal
 
@@ -22,9 +22,9 @@ returns-clause-exact g c = λ keeps holds.
     let at = there_of objects place.id.0 c.in-Some.size told in
     let is = record_is image c.args.frame.now objects place c.args.pointer.now at.0 c.requires.number c.requires.strip c.requires.index holds at.1 in
     let number : c.strip_number-number.result ≡ strip_number place.id.0 place.strip = c.strip_number-number.ensures.number in
-    let start : record_start c.strip_number-number.result place.index + 0 ≡ 4032 * number_of place + 0 = ap (λ (m : ℕ). record_start m place.index + 0) number ∙ ap (λ (s : ℕ). s + 0) (start_is place c.requires.number) in
+    let start : record_start c.strip_number-number.result place.index + 0 ≡ 4032 * number_of_record place + 0 = ap (λ (m : ℕ). record_start m place.index + 0) number ∙ ap (λ (s : ℕ). s + 0) (start_is place c.requires.number) in
     on_ok c.read_part.result
-    (λ reads. read_is_below (patches_of c.args.extents.now) objects place.id.0 (number_of place) at.0 c.read_part.new.into at.1 (subst (λ (s : ℕ). AreBytesFrom s at.0 c.read_part.new.into) start reads))
+    (λ reads. read_is_below (patches_of c.args.extents.now) objects place.id.0 (number_of_record place) at.0 c.read_part.new.into at.1 (subst (λ (s : ℕ). AreBytesFrom s at.0 c.read_part.new.into) start reads))
     (c.read_part.ensures.exact keeps at.0 (subst (λ (m : ℕ). IsRecord image c.args.frame.now m place.index c.args.pointer.now at.0) (sym number) is))
 
 pub returns-clause-sound : goal.returns-clause-sound
