@@ -17,9 +17,8 @@ POINTERS, ENTRIES, OBJECTS = 84, 63, 5_292
 RECORD = PAYLOAD
 STRIP = POINTERS * RECORD
 # The greatest length of an object, and the top of each range. An object of one level of indirect blocks has at most a
-# strip. With two levels objects have up to POINTERS * STRIP bytes, which is this number once the program writes them.
-# Tests set it, so it is read as `layout.MAX_LENGTH` where it is used.
-MAX_LENGTH = STRIP
+# strip, and one of two levels at most this. Tests set it, so it is read as `layout.MAX_LENGTH` where it is used.
+MAX_LENGTH = POINTERS * STRIP
 # The greatest count of a word `@COUNT:C` of a script.
 MAX_COPIES = STRIP
 # The number that stands for the pool's name, as an object's does for the object.
