@@ -73,7 +73,7 @@ class Calls(unittest.TestCase):
             self.refused(11, pool.read, 200, 0, MAX_LENGTH + 1)
             self.refused(9, pool.read, 201)
 
-    def test_a_read_is_of_one_moment(self):
+    def test_reads_at_one_moment(self):
         length = 3 * PIECE
         with topzerad.Pool(*WORDS) as pool:
             pool.transact([create(300), set_length(300, length)])
