@@ -57,8 +57,7 @@ class Calls(Judge):
         ran = run([self.ztxg, *words], script, SECONDS, env=environment)
         if ran.status != 0:
             self.differ(words, "ends with", ran.status, ran.error_text())
-        lines = [line.split() for line in self.noted.read_text().splitlines()]
-        calls = [(name, int(place), int(size)) for name, place, size in lines]
+        calls = shims.noted_calls(self.noted)
         known = {"write", "fsync", "size", "folder"} if words[0] == "create" else {"write", "fsync", "size"}
         if strange := {name for name, _, _ in calls} - known:
             self.differ(words, "makes", strange)

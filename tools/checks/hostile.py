@@ -1,8 +1,9 @@
 """Judges images of a hostile writer by chance, by `check`, `show` and an import.
 
-The program makes a few pools in files. COUNT times the image of one of them gets one to three edits by chance, with the
-checks above them made right (`tools/rows/hostile_edits.py`). What the image mounts is worked out by Python alone
-(`tools/model/pool_image.py`). Then these have to print exactly that, without a crash or a hang:
+The program makes a few pools in files, and some are taken for pools of version 1, too. COUNT times the image of one of
+them gets one to three edits by chance, with the checks above them made right (`tools/rows/hostile_edits.py`). What the
+image mounts is worked out by Python alone (`tools/model/pool_image.py`). Then these have to print exactly that, without
+a crash or a hang:
 
 - `check FILE` and `show FILE`, which leave the file as it is;
 - a script on the file, which imports the pool and prints its name, its digest and the lengths of objects. A refused
@@ -24,7 +25,7 @@ from tools.harness.pool_files import IN_MEMORY, pool_file
 from tools.harness.program import Lines, add_program, run
 from tools.model.contents import digest
 from tools.model import layout
-from tools.model.layout import DIRTY_MAX, NAMED, RECORD, STRIP, VERSION, may_be_long
+from tools.model.layout import DIRTY_MAX, NAMED, RECORD, STRIP, VERSION
 from tools.model.pool_bytes import Config
 from tools.model.pool_image import (
     BadGeometry,
@@ -122,13 +123,14 @@ def tall():
     return [lines + ["log-write", "log-flush"]]
 
 
-def pools():
-    """The pools, each with its share of the images."""
-    return {several: 4, long_ones: 3, small: 2, empty: 1, full: 1, **({tall: 4} if may_be_long() else {})}
+# The pools, each with its share of the images, as they are made and with version 1.
+NEW = {several: 4, long_ones: 3, small: 2, empty: 1, full: 1, tall: 4}
+OLD = {several: 3, small: 1, full: 1}
+POOLS = [*((pool, VERSION, share) for pool, share in NEW.items()), *((pool, 1, share) for pool, share in OLD.items())]
 
 
-def make_pool(ztxg, pool):
-    """The image of a pool, and what it mounts."""
+def make_pool(ztxg, pool, version):
+    """The image of a pool of a version, and what it mounts."""
     with pool_file(IN_MEMORY) as path:
         file = pathlib.Path(path)
         file.write_bytes(bytes(LEAST))
@@ -136,8 +138,10 @@ def make_pool(ztxg, pool):
             ran = run([ztxg, "script", "--file", path, "-"], lines, SECONDS).in_lines()
             if ran.status != 0 or any(line.startswith("refused") for line in ran.out):
                 fail(f"the pool `{pool.__name__}` isn't made: {ran}")
-        base = file.read_bytes()
-    return base, mount(read_pool(Image(bytearray(base))))
+        image = Image(bytearray(file.read_bytes()))
+    if version == 1:
+        image.age()
+    return bytes(image.content), mount(read_pool(image))
 
 
 def fail(reason):
@@ -280,21 +284,23 @@ class Bench:
 
 def judge_images(ztxg, bases, seed, images):
     """Judges images: their counts, and the first that differs."""
-    made_by, shares = list(pools()), list(pools().values())
+    shares = [share for *_, share in POOLS]
     with pool_file(IN_MEMORY) as path:
         bench = Bench(ztxg, path)
         for at in images:
             chance = random.Random(f"{seed}/{at}")
-            pool = chance.choices(range(len(made_by)), shares)[0]
-            edits = Edits(chance, *bases[pool])
+            at_pool = chance.choices(range(len(POOLS)), shares)[0]
+            edits = Edits(chance, *bases[at_pool])
             for _ in range(chance.choice([1, 1, 1, 2, 3])):
                 edits.edit()
             if chance.random() < 0.01:
                 edits.resize()
             difference = bench.judge(edits.image)
             if difference:
-                made = f"{made_by[pool].__name__}, {', '.join(edits.names)}"
+                pool, version, _ = POOLS[at_pool]
+                made = f"{pool.__name__}, version {version}, {', '.join(edits.names)}"
                 return bench.counts, f"image {at} of seed {seed} ({made}): {difference}"
+            bench.counts[f"version {POOLS[at_pool][1]}"] += 1
             bench.counts.update(f"edit: {name}" for name in edits.names)
     return bench.counts, None
 
@@ -314,7 +320,7 @@ def add_arguments(parser):
 
 
 def main(ztxg, images, seed, jobs):
-    bases = [make_pool(ztxg, pool) for pool in pools()]
+    bases = [make_pool(ztxg, pool, version) for pool, version, _ in POOLS]
     parts = [(ztxg, bases, seed, images[first::jobs]) for first in range(jobs)]
     counts = collections.Counter()
     with multiprocessing.Pool(jobs) as workers:

@@ -168,12 +168,12 @@ def judge(name, one, other):
 def run_table(ztxg, table, folder):
     """Prints a table and its verdicts, and tells whether a pair is too far apart."""
     rows = list(dict.fromkeys([*(row for pair in table.pairs.values() for row in pair), *table.rows]))
-    print(f"{table.name}\n{head(rows[0], table.kinds + ['all', 'sync'])}")
+    print(f"{table.name}\n{head(rows[0], [*table.kinds, 'all', *table.more])}")
     sums = {}
     for row in rows:
         costs = count(ztxg, table.size or row.MiB * MIB, table.script(row), folder)
         sums[row] = sum(costs[kind] for kind in table.kinds)
-        numbers = [*(costs[kind] for kind in table.kinds), sums[row], costs.get("sync", 0)]
+        numbers = [*(costs[kind] for kind in table.kinds), sums[row], *(costs.get(kind, 0) for kind in table.more)]
         print("".join(f"{number:10.0f}" for number in [*row, *numbers]), flush=True)
     return any([judge(name, sums[one], sums[other]) for name, (one, other) in table.pairs.items()])
 

@@ -1,8 +1,8 @@
 """Times `show`, `check` and an import of a full pool of 1 GiB beside the hashes of its blocks.
 
 The pool is written here, after docs/FORMATS.md and with no code of the program. Each of its 260,992 blocks except 64 is
-one of the tree, which has about 3,000 objects. The first has the greatest length, and all others but the last one have
-the bytes of one indirect block. Each block's bytes are its own. The last 64 blocks are left for the log and for a sync.
+one of the tree, which has about 5,200 objects. The first 30 have the greatest length, and all others but the last one
+have eight records. Each block's bytes are its own. The last 64 blocks are left for the log and for a sync.
 FILE is made, or made anew, and stays; without one the pool lies in a temporary file.
 
 Then there are nine rounds, each of four processes, one after the other: `ztxg show FILE`, `ztxg check FILE`, a script
@@ -56,6 +56,8 @@ from tools.model.pool_bytes import Pointer, check_of, config, numbers, seal, ube
 
 SIZE = 2**30
 BLOCKS = block_count(SIZE)
+# So many objects have the greatest length, and the others so many records.
+LONG, FEW = 30, 8
 USED = BLOCKS - 64
 NAME, GUID, CREATED, GROUP, IMPORT = b"tank", 77, 4, 9, 1
 
@@ -116,7 +118,7 @@ def records_of_objects():
     while left > 0:
         if len(counts) % ENTRIES == 0:
             left -= 1
-        records = min(POINTERS, left - 1) if counts else layout.MAX_LENGTH // RECORD
+        records = layout.MAX_LENGTH // RECORD if len(counts) < LONG else min(FEW, left - 1)
         counts.append(records)
         left -= blocks_of(records)
     return counts

@@ -105,6 +105,13 @@ class Image:
         for place in slot_places(self.size, new.group):
             self.put(place, new.bytes())
 
+    def age(self):
+        """Gives each uberblock version 1, as an older program wrote it."""
+        for label in label_places(self.size):
+            for place in range(label + ARRAY_AT, label + ARRAY_AT + SLOT * SLOTS, SLOT):
+                if self.content[place : place + 8] == MAGIC:
+                    self.put(place, Uberblock.at(self.slot(place))._replace(version=1).bytes())
+
     def active(self):
         """The active uberblock."""
         found = []

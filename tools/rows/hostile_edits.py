@@ -36,7 +36,6 @@ from tools.model.layout import (
     slot_places,
 )
 from tools.model.pool_bytes import (
-    MAGIC,
     NONE,
     Pointer,
     Uberblock,
@@ -319,10 +318,7 @@ class Edits:
 
     def age(self):
         """Each uberblock has version 1, as that of an older program."""
-        for label in label_places(self.size):
-            for place in range(label + ARRAY_AT, label + ARRAY_AT + SLOT * SLOTS, SLOT):
-                if self.image.content[place : place + 8] == MAGIC:
-                    self.image.put(place, Uberblock.at(self.image.slot(place))._replace(version=1).bytes())
+        self.image.age()
 
     def slot(self):
         """A byte of an uberblock, with or without its check, or an uberblock in any slot."""
