@@ -199,8 +199,8 @@ class Commands(Judge):
     def objects(self):
         """Bytes that are put are those that are got, also in pieces and in the log, and a refused put says how far it came."""
         name = self.make("objects.pool")
-        # An object of two levels of indirect blocks, if there are any.
-        size = min(layout.MAX_LENGTH, layout.STRIP + 5_000)
+        # An object of two levels of indirect blocks, and one of the greatest length.
+        size, most = layout.STRIP + 5_000, layout.MAX_LENGTH
         big = "".join(chr(33 + at % 90) for at in range(size))
         for words, script, out in [
             (["put", name, "7"], "hello", "put 5 bytes in 1 transactions\n"),
@@ -212,19 +212,23 @@ class Commands(Judge):
             (["put", name, "8"], "", "put 0 bytes in 1 transactions\n"),
             (["ls", name], "", f"7 {size}\n8 0\n"),
             (["rm", name, "7"], "", "removed 7\n"),
+            (["put", name, "9", "--offset", str(most - 4)], "last", "put 4 bytes in 1 transactions\n"),
+            (["ls", name], "", f"8 0\n9 {most}\n"),
+            (["get", name, "9"], "", "\0" * (most - 4) + "last"),
+            (["rm", name, "9"], "", "removed 9\n"),
             (["ls", name], "", "8 0\n"),
         ]:
             found = self.put(words, script)
             if found != (0, out, ""):
-                self.differ(words, "ends with", found[0], found[1][:80], found[2])
+                self.differ(words, "ends with", found[0], found[1][-80:], found[2])
         made = pathlib.Path(name).read_bytes()
         for words, refusal in [
             (["get", name, "7"], "9 NoObject"),
             (["get", name, "5292"], "11 BadRange"),
             (["get", name, "8", "--length", "0"], "11 BadRange"),
-            (["get", name, "8", "--offset", str(layout.MAX_LENGTH)], "11 BadRange"),
+            (["get", name, "8", "--offset", str(most)], "11 BadRange"),
             (["put", name, "5292"], "11 BadRange"),
-            (["put", name, "8", "--offset", str(layout.MAX_LENGTH)], "11 BadRange"),
+            (["put", name, "8", "--offset", str(most)], "11 BadRange"),
         ]:
             found = self.put(words, "x")
             if found != (1, "", f"ztxg: refused {refusal}\n"):

@@ -6,9 +6,9 @@ that it worked out before. The answers come from a list of entries, a map of obj
 
 - A pool of 6 MiB gets rounds, one upon the other. A round is an import, transactions in up to three groups at once, of
   which one may be committed after entries of a newer group, and a sync. Some transactions give the pool a name, and
-  some have a record that is longer than a log block. If objects may have two levels of indirect blocks, some go from
-  one level to two and back. Log writes, log flushes and the question whether a commit is durable come between all of
-  them, also between the device calls of a sync and between the parts of a record.
+  some have a record that is longer than a log block. Objects go from one level of indirect blocks to two and back. Log
+  writes, log flushes and the question whether a commit is durable come between all of them, also between the device
+  calls of a sync and between the parts of a record.
 - The run is stopped after any of the device calls: by a crash, or by a call that fails and then a crash or an import.
   The failing call is one of the sync, a log write or a log flush.
 - A crash has a string of letters, which keep, lose or tear each unflushed write.
@@ -31,7 +31,7 @@ from tools.harness.program import add_program, run
 from tools.model.charges import estimate, record_size
 from tools.model.contents import Entry, apply, digest
 from tools.model import layout
-from tools.model.layout import DIRTY_MAX, LOG_AVAILABLE, LOG_RECORD_MAX, LOG_ROOM, NAMED, STRIP, may_be_long
+from tools.model.layout import DIRTY_MAX, LOG_AVAILABLE, LOG_RECORD_MAX, LOG_ROOM, NAMED, STRIP
 from tools.model.serial_pool import LEAST, REFUSALS, Image, LogBlock, Run, Tree
 from tools.rows.script_row import shape_of, word_of
 
@@ -39,7 +39,7 @@ OBJECTS = [0, 1, 2, 62, 63, 5_291]
 NAMES = [b"tank", b"pond", b"a", b"Z.9", b"lake-" * 12 + b"_end"]
 # Bytes of a write whose record fills one, two or three log blocks, or has a byte more, or is the longest one.
 LONG = [3_969, 3_970, 7_977, 7_978, 11_985, 11_986, 65_497]
-# Places of writes and lengths about the ends of strips, for objects that may have two levels of indirect blocks.
+# Places of writes and lengths about the ends of strips.
 LONG_PLACES = [STRIP - 4_032, STRIP - 1, STRIP, STRIP + 4_030, 2 * STRIP - 7]
 LONG_LENGTHS = [STRIP - 1, STRIP, STRIP + 1, STRIP + 4_032, 2 * STRIP, 2 * STRIP + 5]
 FEW = 6
@@ -90,7 +90,7 @@ class Pool:
         kind = self.chance.choice("wwwwlld")
         if kind == "d":
             return ("d", number, 0, b"")
-        is_long = may_be_long() and self.chance.random() < 0.3
+        is_long = self.chance.random() < 0.3
         if kind == "l":
             lengths = LONG_LENGTHS if is_long else [0, 5, 4_031, 4_032, 4_033, 9_000]
             return ("l", number, self.chance.choice(lengths), b"")

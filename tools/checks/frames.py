@@ -23,7 +23,7 @@ from tools.harness.pool_files import create, pool_file
 from tools.harness.program import add_program
 from tools.harness.served import Served
 from tools.model.frames import HEAD, Request, Server, read_answers, read_requests, refused_frame, requests_frame
-from tools.model.layout import STRIP, may_be_long
+from tools.model.layout import STRIP
 
 OBJECTS = [0, 1, 2, 62, 63, 5_291]
 LENGTHS = [1, 100, 4_032, 4_033, 20_000]
@@ -33,7 +33,7 @@ CALLS = [*TRANSACTIONS, "read", "length", "objects", "durable", "flush", "name",
 
 def some_place(chance, count):
     """One of so many places at the front of an object, or sometimes about its first strip's end if it may be longer."""
-    return chance.randrange(count) + (STRIP - count // 2 if may_be_long() and chance.random() < 0.2 else 0)
+    return chance.randrange(count) + (STRIP - count // 2 if chance.random() < 0.2 else 0)
 
 
 def operation(chance):

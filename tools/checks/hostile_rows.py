@@ -14,7 +14,7 @@ import pathlib
 from tools import Failed
 from tools.harness.pool_files import create, pool_file
 from tools.harness.program import add_program, run
-from tools.model.layout import VERSION, may_be_long
+from tools.model.layout import VERSION
 from tools.model.pool_bytes import Config
 from tools.model.pool_image import Image
 from tools.rows import hostile_images, hostile_levels, hostile_logs
@@ -35,7 +35,7 @@ def refusal(line):
 
 
 def all_rows():
-    return hostile_images.ROWS + hostile_logs.ROWS + hostile_levels.rows()
+    return hostile_images.ROWS + hostile_logs.ROWS + hostile_levels.ROWS
 
 
 def make_pool(ztxg, file, script, synced, wanted):
@@ -99,8 +99,7 @@ def main(ztxg):
     rows = all_rows()
     with pool_file() as file:
         make_pool(ztxg, file, hostile_images.script(), 9, Tank())
-        if may_be_long():
-            make_pool(ztxg, file, hostile_levels.script(), 10, Tall())
+        make_pool(ztxg, file, hostile_levels.script(), 10, Tall())
         for title, make, line, *names in rows:
             difference = judge_row(ztxg, file, make(), line, *names)
             if difference:

@@ -2,7 +2,7 @@
 
 import math
 
-from tools.model.layout import ENTRIES, POINTERS, RECORD, STRIP, count_touched, levels_of, may_be_long
+from tools.model.layout import ENTRIES, POINTERS, RECORD, STRIP, count_touched, levels_of
 
 
 def record_size(entry):
@@ -12,15 +12,14 @@ def record_size(entry):
 
 
 def estimate(entry):
-    """The blocks that an entry is charged. If objects may have two levels of indirect blocks, more of these may be
-    written."""
-    blocks, is_long = 0, may_be_long()
+    """The blocks that an entry is charged. Of a write these are its records, their indirect blocks, the top, the
+    directory and the root."""
+    blocks = 0
     for kind, _, place, content in entry.ops:
         if kind == "w":
-            blocks += count_touched(RECORD, place, len(content)) + 3
-            blocks += count_touched(STRIP, place, len(content)) if is_long else 0
+            blocks += count_touched(RECORD, place, len(content)) + count_touched(STRIP, place, len(content)) + 3
         else:
-            blocks += {"c": 2, "d": 2, "l": 5 if is_long else 4, "n": 1}[kind]
+            blocks += {"c": 2, "d": 2, "l": 5, "n": 1}[kind]
     return blocks
 
 

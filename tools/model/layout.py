@@ -17,7 +17,7 @@ POINTERS, ENTRIES, OBJECTS = 84, 63, 5_292
 RECORD = PAYLOAD
 STRIP = POINTERS * RECORD
 # The greatest length of an object, and the top of each range. An object of one level of indirect blocks has at most a
-# strip, and one of two levels at most this. Tests set it, so it is read as `layout.MAX_LENGTH` where it is used.
+# strip, and one of two levels at most this. A test sets it, so it is read as `layout.MAX_LENGTH` where it is used.
 MAX_LENGTH = POINTERS * STRIP
 # The greatest count of a word `@COUNT:C` of a script.
 MAX_COPIES = STRIP
@@ -58,11 +58,6 @@ def slot_places(size, group):
 
 
 # The tree by its numbers
-
-
-def may_be_long():
-    """Whether objects may have two levels of indirect blocks."""
-    return MAX_LENGTH > STRIP
 
 
 def levels_of(length):

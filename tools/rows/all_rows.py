@@ -6,7 +6,7 @@
 - Crashes of whole pools (`crash_rows.py`): rounds of transactions, a sync, the log or an import that is stopped after
   each of its device calls, each string of kept, lost and torn writes, and the next import. The same of syncs that give
   the pool a name, and of imports after them (`name_rows.py`).
-- The same of objects that go from one level of indirect blocks to two and back, if they may (`level_rows.py`).
+- The same of objects that go from one level of indirect blocks to two and back (`level_rows.py`).
 - Rounds of worked rows and of those of the log, whose calls are refused, which are stopped, and whose imports are
   stopped; and of creates that are stopped (`stop_rows.py`).
 

@@ -2,8 +2,8 @@
 each.
 
 Object 1 gets four bytes at the end of its first strip in group 9, and four more in group 10, which are in its second
-strip. Each row makes one edit of the image after that, with every other check made right. A program whose objects have
-one level alone finds in most of them that the directory is damaged. Other rows are of version 1, which knows one level.
+strip. Each row makes one edit of the image after that, with every other check made right. Some rows are of version 1,
+which knows one level.
 """
 
 from tools.model import layout
@@ -19,7 +19,6 @@ from tools.model.layout import (
     TOP,
     VERSION,
     data_number,
-    may_be_long,
     strip_number,
 )
 from tools.model.pool_bytes import NONE, Pointer, numbers, record, uberblock
@@ -126,8 +125,8 @@ def logged(version, *op):
     return lambda: Tank(version).log_blocks(record(10, 0, [op]))
 
 
-# What `check` prints of a pool if objects may have two levels. If they may not, each entry is a bad one.
-TALL = [
+# What `check` prints of the images.
+ROWS = [
     ("an object of two levels", Tall, SOUND),
     ("an object of no level", lambda: tall(levels=0), BAD_ENTRY),
     ("an object of one level with more than a strip", lambda: tall(levels=1), BAD_ENTRY),
@@ -184,10 +183,6 @@ TALL = [
     ("a length within the bytes of the last record", of_length(STRIP + 3), "damaged 5 4214784"),
     ("a byte past the length in the second strip", lambda: tall(second_data=b"wxyz\1"), "damaged 5 4214784"),
     ("a record with the number of one of the first strip", lambda: tall(second_record=84), "damaged 5 4214784"),
-]
-
-# The same if they may not: no entry has two levels, or the version knows one.
-ALL = [
     ("an object of one level that names a top", of_length(STRIP, levels=1), "damaged 4 4222976"),
     (
         "an object of one level that names its strip",
@@ -201,17 +196,6 @@ ALL = [
     ("the same with a byte more", logged(1, "l", 1, STRIP + 1, b""), "clean group 9 records 0"),
     ("a write to a strip's end in a log of version 1", logged(1, "w", 1, STRIP - 1, b"x"), "clean group 9 records 1"),
     ("a write past a strip's end in a log of version 1", logged(1, "w", 1, STRIP, b"x"), "clean group 9 records 0"),
+    ("a length of more than a strip in a log", logged(2, "l", 1, STRIP + 1, b""), "clean group 9 records 1"),
+    ("a write past a strip's end in a log", logged(2, "w", 1, STRIP, b"x"), "clean group 9 records 1"),
 ]
-
-# In a log of version 2 an operation that ends past a strip is one if objects may have two levels.
-LOGGED = [
-    ("a length of more than a strip in a log", logged(2, "l", 1, STRIP + 1, b"")),
-    ("a write past a strip's end in a log", logged(2, "w", 1, STRIP, b"x")),
-]
-
-
-def rows():
-    """The rows for the greatest length that objects have."""
-    is_long = may_be_long()
-    some = [(title, make, line if is_long else BAD_ENTRY) for title, make, line in TALL]
-    return some + ALL + [(title, make, f"clean group 9 records {int(is_long)}") for title, make in LOGGED]

@@ -1,10 +1,10 @@
 """Rows of syncs and imports that take an object from one level of indirect blocks to two or back, and are stopped.
 
-There are none if objects have one level alone. Some of the strings of kept, lost and torn writes come after each call.
+Some of the strings of kept, lost and torn writes come after each call.
 All answers are those of a plain serial pool (`tools/model/serial_pool.py`).
 """
 
-from tools.model.layout import STRIP, may_be_long
+from tools.model.layout import STRIP
 from tools.rows.crash_rows import LongBook, crashed_beside, some_strings, stopped_replays_of
 
 
@@ -44,7 +44,7 @@ SYNCS = [
 def stopped_levels():
     """A sync that changes the levels of an object is stopped after each of its calls: the writes of its blocks, a
     flush, four uberblocks and a flush."""
-    for title, before, blocks in SYNCS if may_be_long() else []:
+    for title, before, blocks in SYNCS:
         yield crashed_beside(LevelBook(f"crashes: {title}"), before, "." * (blocks + 6), some_strings)
 
 
@@ -56,5 +56,5 @@ REPLAYS = [
 
 def stopped_replays_of_levels():
     """An import that replays a record which changes the levels of an object is stopped at each of its calls."""
-    for what, moves in REPLAYS if may_be_long() else []:
+    for what, moves in REPLAYS:
         yield from stopped_replays_of(LevelBook, what, moves, some_strings)

@@ -2,7 +2,7 @@
 
 from tools.model.contents import digest
 from tools.model import layout
-from tools.model.layout import LABEL, MAX_COPIES, MIB, NAMED, STRIP, may_be_long
+from tools.model.layout import LABEL, MAX_COPIES, MIB, NAMED, STRIP
 from tools.rows.script_row import Row
 
 
@@ -54,23 +54,24 @@ length 150 -> refused 9 NoObject
     yield row
 
 
-# What follows 91 writes of four blocks, and 73 of five.
-FULL_LOG = """
-status -> synced 8 syncing - middle - open 9 dirty 1499136 free 383 available 17
-begin 1 w:0:0:4 -> refused 16 NoSpace
-log-write -> logged 92
-status -> synced 8 syncing - middle - open 9 dirty 1499136 free 382 available 16
-begin 1 c:1 -> refused 16 NoSpace
-begin 1 d:0 -> tx 92 group 9
-commit 92 -> entry 92 group 9
-status -> synced 8 syncing - middle - open 9 dirty 1507328 free 382 available 14
-log-write -> refused 23 NoLogSpace
-log-flush -> flushed
-crash -> crashed 0
-import 4194304 -> synced 12 open 13 records 92
-length 0 -> length 4
-"""
-FULL_POOL = """
+def full_log():
+    """On 6 MiB 383 blocks are free. A creation is charged two blocks, a write five. So 73 writes leave 16 blocks. A log
+    write takes a block, and needs 17 that are available; a plan that only removes needs no more than its own."""
+    row = Row("a log write and a plan need blocks that stay available, and a plan that only removes does not", 6 * MIB)
+    row.say_all("""
+create tank 77 -> ok
+import 4194304 -> synced 8 open 9 records 0
+status -> synced 8 syncing - middle - open 9 dirty 0 free 383 available 383
+lock 1 0 w 0 MAX_LENGTH -> lock 0
+lock 1 1 w 0 MAX_LENGTH -> lock 1
+begin 1 c:0 -> tx 0 group 9
+commit 0 -> entry 0 group 9
+status -> synced 8 syncing - middle - open 9 dirty 8192 free 383 available 381
+""")
+    for number in range(1, 74):
+        row.say("begin 1 w:0:0:4", f"tx {number} group 9")
+        row.say(f"commit {number} abcd", f"entry {number} group 9")
+    row.say_all("""
 status -> synced 8 syncing - middle - open 9 dirty 1503232 free 383 available 16
 begin 1 w:0:0:4 -> refused 16 NoSpace
 begin 1 c:1 -> refused 16 NoSpace
@@ -82,30 +83,7 @@ log-write -> refused 23 NoLogSpace
 crash -> crashed 0
 import 4194304 -> synced 12 open 13 records 0
 length 0 -> refused 9 NoObject
-"""
-
-
-def full_log():
-    """On 6 MiB 383 blocks are free. A creation is charged two blocks, a write four. A log write takes a block, and
-    needs 17 that are available; a plan that only removes needs no more than its own.
-
-    If objects may have two levels of indirect blocks, a write is charged five. Then 73 writes leave 16 blocks."""
-    row = Row("a log write and a plan need blocks that stay available, and a plan that only removes does not", 6 * MIB)
-    writes = 73 if may_be_long() else 91
-    row.say_all("""
-create tank 77 -> ok
-import 4194304 -> synced 8 open 9 records 0
-status -> synced 8 syncing - middle - open 9 dirty 0 free 383 available 383
-lock 1 0 w 0 MAX_LENGTH -> lock 0
-lock 1 1 w 0 MAX_LENGTH -> lock 1
-begin 1 c:0 -> tx 0 group 9
-commit 0 -> entry 0 group 9
-status -> synced 8 syncing - middle - open 9 dirty 8192 free 383 available 381
 """)
-    for number in range(1, writes + 1):
-        row.say("begin 1 w:0:0:4", f"tx {number} group 9")
-        row.say(f"commit {number} abcd", f"entry {number} group 9")
-    row.say_all(FULL_POOL if may_be_long() else FULL_LOG)
     yield row
 
 
@@ -206,13 +184,10 @@ name -> name {"c" * 64}
 
 
 def long_record_without_space():
-    """On 6 MiB 383 blocks are free. A creation and a write of 40,000 bytes are charged 15 blocks, and 87 writes four
-    each. The record of 40,039 bytes has ten parts. Its fourth one is written with 17 blocks that are available, and the
-    fifth one is refused. After a sync it is written.
-
-    If objects may have two levels of indirect blocks, these are charged 16 blocks, and as many as the writes 67 writes
-    of five and two of six, which are across two records."""
-    writes = [0] * 67 + [4_030] * 2 if may_be_long() else [0] * 87
+    """On 6 MiB 383 blocks are free. A creation and a write of 40,000 bytes are charged 16 blocks, 67 writes five each,
+    and two writes, which are across two records, six each. The record of 40,039 bytes has ten parts. Its fourth one is
+    written with 17 blocks that are available, and the fifth one is refused. After a sync it is written."""
+    writes = [0] * 67 + [4_030] * 2
     row = Row("a log write of the next part needs blocks that are available, and goes on after a sync", 6 * MIB)
     row.say_all("""
 create tank 77 -> ok

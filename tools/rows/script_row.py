@@ -5,11 +5,9 @@ import pathlib
 import re
 
 from tools.model import layout
-from tools.model.layout import MIB, may_be_long
+from tools.model.layout import MIB
 
 FOLDER = pathlib.Path(__file__).parent
-# The rows of objects with two levels of indirect blocks.
-LEVELS = "levels.rows"
 BAD_COMMAND = "bad command"
 
 
@@ -63,15 +61,13 @@ def all_strings(count):
 
 
 def told(text):
-    """The text of a row for the greatest length that objects have.
+    """The text of a row with its numbers.
 
-    - `MAX_LENGTH` stands for it, also with a number behind it that is added or taken off, as in `MAX_LENGTH+1`.
-    - Of two numbers or words `A|B` the first is taken if objects have one level of indirect blocks, and the second if
-      they may have two.
+    - `MAX_LENGTH` stands for the greatest length of an object, also with a number behind it that is added or taken off,
+      as in `MAX_LENGTH+1`.
     - `SHAPE*COUNT ` stands for so many of the same shapes, each with a space behind it.
     """
     text = re.sub(r"MAX_LENGTH([+-]\d+)?", lambda found: str(layout.MAX_LENGTH + int(found[1] or 0)), text)
-    text = re.sub(r"\b(\w+)\|(\w+)", lambda found: found[1 + may_be_long()], text)
     return re.sub(r"\b(\w:[\w:]+)\*(\d+) ", lambda found: f"{found[1]} " * int(found[2]), text)
 
 
@@ -102,8 +98,8 @@ def read_rows(path):
 
 
 def row_files():
-    """The files of the rows that are written by hand, for the greatest length that objects have."""
-    return sorted(path for path in FOLDER.glob("*.rows") if may_be_long() or path.name != LEVELS)
+    """The files of the rows that are written by hand."""
+    return sorted(FOLDER.glob("*.rows"))
 
 
 def rows_with(word):

@@ -15,13 +15,11 @@ from tools.model.layout import (
     DATA,
     DIRECTORY,
     INDIRECT,
-    POINTERS,
     ROOT,
     STRIP,
     TOP,
     data_number,
     levels_of,
-    may_be_long,
     record_of,
     strip_number,
 )
@@ -32,9 +30,8 @@ from tools.rows.bad_rows import BAD_LINES
 from tools.rows.hostile_edits import Edits
 from tools.rows.hostile_images import Tank
 from tools.rows.hostile_levels import Tall, of_a_strip, tall
-from tools.rows.level_rows import SYNCS, LevelBook, stopped_levels, stopped_replays_of_levels
-from tools.rows.script_row import row_files, told
-from tools.tests.limits import BOTH, ONE_LEVEL, TWO_LEVELS, longest
+from tools.rows.level_rows import SYNCS, LevelBook
+from tools.rows.script_row import told
 
 
 def entry(*ops):
@@ -53,19 +50,15 @@ CREATE, REMOVE = ("c", 1, 0, b""), ("d", 1, 0, b"")
 
 
 class Numbers(unittest.TestCase):
-    def test_the_greatest_length_is_one_of_both(self):
-        self.assertIn(layout.MAX_LENGTH, BOTH)
-        self.assertEqual((STRIP, POINTERS * STRIP), BOTH)
+    def test_the_greatest_lengths_of_one_level_and_of_two(self):
+        self.assertEqual((STRIP, layout.MAX_LENGTH), (338_688, 28_449_792))
 
     def test_the_document_has_it_and_the_kinds_of_its_blocks(self):
         self.assertTrue(f"{layout.MAX_LENGTH:,}" in TEXT, layout.MAX_LENGTH)
         kinds = [int(kind) for kind, *_ in table("| kind | what | group | number |")]
-        self.assertEqual(kinds, [*range(1, 8 if may_be_long() else 7)])
+        self.assertEqual(kinds, [*range(1, 8)])
 
-    def test_whether_objects_may_be_long(self):
-        for most in BOTH:
-            with longest(most):
-                self.assertEqual(may_be_long(), most == TWO_LEVELS)
+    def test_levels_of_lengths(self):
         self.assertEqual([levels_of(size) for size in (0, 338_688, 338_689, 28_449_792)], [1, 1, 2, 2])
 
     def test_numbers_of_strips_and_records(self):
@@ -77,36 +70,31 @@ class Numbers(unittest.TestCase):
             self.assertEqual(record_of(data_number(number, at)), (number, at))
 
     def test_numbers_of_rows(self):
-        for most, wanted in {ONE_LEVEL: "l:1:338689 4 c:2", TWO_LEVELS: "l:1:28449793 5 l:1:7 l:1:7 c:2"}.items():
-            with longest(most):
-                self.assertEqual(told("l:1:MAX_LENGTH+1 4|5 l:1:7*0|2 c:2"), wanted)
+        self.assertEqual(told("l:1:MAX_LENGTH+1 l:1:7*2 d:1*0 c:2"), "l:1:28449793 l:1:7 l:1:7 c:2")
 
     def test_copies_of_a_word_stay_at_a_strip(self):
         self.assertIn(b"commit 0 @338689:a", BAD_LINES)
 
 
 class Charges(unittest.TestCase):
-    # The operations of a transaction, its blocks with one level, and with two.
+    # The operations of a transaction, and its blocks.
     ROWS = [
-        ([CREATE], 2, 2),
-        ([REMOVE], 2, 2),
-        ([length(0)], 4, 5),
-        ([write(0)], 4, 5),
-        ([write(4_030)], 5, 6),
-        ([write(0, 65_497)], 20, 21),
-        ([CREATE, write(338_684)], 6, 7),
-        ([write(338_687, 2)], 5, 7),
-        ([CREATE, write(0), write(338_688), write(677_376)], 14, 17),
-        ([("n", 5_292, 0, b"pond")], 1, 1),
+        ([CREATE], 2),
+        ([REMOVE], 2),
+        ([length(0)], 5),
+        ([write(0)], 5),
+        ([write(4_030)], 6),
+        ([write(0, 65_497)], 21),
+        ([CREATE, write(338_684)], 7),
+        ([write(338_687, 2)], 7),
+        ([CREATE, write(0), write(338_688), write(677_376)], 17),
+        ([("n", 5_292, 0, b"pond")], 1),
     ]
 
     def test_estimates(self):
-        for ops, one, two in self.ROWS:
-            for most, blocks in zip(BOTH, (one, two)):
-                with longest(most):
-                    self.assertEqual(estimate(entry(*ops)), blocks, (most, ops))
+        for ops, blocks in self.ROWS:
+            self.assertEqual(estimate(entry(*ops)), blocks, ops)
 
-    @longest(TWO_LEVELS)
     def test_the_charge_of_a_write_at_the_end_of_a_strip(self):
         self.assertEqual(CHARGE * estimate(entry(CREATE, write(338_684))), 28_672)
 
@@ -115,7 +103,6 @@ class Charges(unittest.TestCase):
 LAST, NEXT = 83, 84
 
 
-@longest(TWO_LEVELS)
 class Syncs(unittest.TestCase):
     """The blocks of syncs. Beside object 1 there is an object 2 without a block, in the same directory."""
 
@@ -193,12 +180,9 @@ class Syncs(unittest.TestCase):
 
 class Images(unittest.TestCase):
     def test_worked_images_are_judged_as_they_say(self):
-        for most in BOTH:
-            with longest(most):
-                for title, make, line, *_ in hostile_images.ROWS + hostile_logs.ROWS + hostile_levels.rows():
-                    self.assertEqual(Expected(make()).check().out, [line], (most, title))
+        for title, make, line, *_ in hostile_images.ROWS + hostile_logs.ROWS + hostile_levels.ROWS:
+            self.assertEqual(Expected(make()).check().out, [line], title)
 
-    @longest(TWO_LEVELS)
     def test_the_places_of_the_second_strip(self):
         nodes = [(node.kind, node.number, node.address) for node in mount(read_pool(Tall())).nodes]
         wanted = [(ROOT, 0, 4_231_168), (DIRECTORY, 0, 4_227_072), (TOP, 1, 4_222_976)]
@@ -206,7 +190,6 @@ class Images(unittest.TestCase):
         wanted += [(INDIRECT, 5_293, 4_218_880), (DATA, 444_612, 4_214_784)]
         self.assertEqual(nodes, wanted)
 
-    @longest(TWO_LEVELS)
     def test_what_is_mounted(self):
         mounted = mount(read_pool(Tall()))
         self.assertEqual(mounted.objects, {1: bytes(338_684) + b"abcdwxyz"})
@@ -214,7 +197,6 @@ class Images(unittest.TestCase):
         self.assertEqual(show_lines(mounted), [*wanted, "1 338692"])
         self.assertEqual(import_line(mounted), "synced 14 open 15 records 0")
 
-    @longest(TWO_LEVELS)
     def test_all_damages_in_the_order_of_the_walk(self):
         """Of the first strip, then of the second one's record; and of a top without what lies below it."""
         image = tall(second_data=b"wxyz\1")
@@ -224,47 +206,38 @@ class Images(unittest.TestCase):
         image.put(4_222_976, bytes(512))
         self.assertEqual(Expected(image).check_all().out, ["damaged 7 4222976"])
 
-    @longest(TWO_LEVELS)
     def test_strips_with_a_block(self):
         image = tall(second=lambda data: b"")
         walk = Walk(image, image.active())
         self.assertEqual((walk.records, walk.strips), ({1: {83}}, {1: {0, 1}}))
 
     def test_a_pool_of_version_1_is_imported(self):
-        for most in BOTH:
-            with longest(most):
-                mounted = mount(read_pool(of_a_strip(Tank(version=1))))
-                self.assertEqual(import_line(mounted), "synced 13 open 14 records 0")
-                self.assertEqual(show_lines(mounted)[-1], "1 338688")
+        mounted = mount(read_pool(of_a_strip(Tank(version=1))))
+        self.assertEqual(import_line(mounted), "synced 13 open 14 records 0")
+        self.assertEqual(show_lines(mounted)[-1], "1 338688")
 
     def test_a_top_in_version_1_is_damaged(self):
-        for most in BOTH:
-            with longest(most), self.assertRaises(Damaged) as caught:
-                image = Tall(version=1)
-                Walk(image, image.active())
-            self.assertEqual((caught.exception.kind, caught.exception.address), (DIRECTORY, 4_227_072))
+        image = Tall(version=1)
+        with self.assertRaises(Damaged) as caught:
+            Walk(image, image.active())
+        self.assertEqual((caught.exception.kind, caught.exception.address), (DIRECTORY, 4_227_072))
 
     def test_limits_of_records_by_version(self):
         """In a log of version 1 each operation ends within a strip."""
         ops = {write(338_684): True, length(338_688): True, write(338_685): False, length(338_689): False}
         for op, is_old in ops.items():
             content = record(9, 0, [op])[4:]
-            for most in BOTH:
-                with longest(most):
-                    self.assertEqual(read_record(content, 1) is not None, is_old, op)
-                    self.assertEqual(read_record(content, 2) is not None, is_old or most == TWO_LEVELS, op)
-        with longest(TWO_LEVELS):
-            self.assertIsNotNone(read_record(record(9, 0, [write(28_449_788)])[4:]))
-            self.assertIsNone(read_record(record(9, 0, [write(28_449_789)])[4:]))
+            self.assertEqual(read_record(content, 1) is not None, is_old, op)
+            self.assertIsNotNone(read_record(content, 2), op)
+        self.assertIsNotNone(read_record(record(9, 0, [write(28_449_788)])[4:]))
+        self.assertIsNone(read_record(record(9, 0, [write(28_449_789)])[4:]))
 
-    @longest(TWO_LEVELS)
     def test_blocks_that_an_import_needs(self):
         """A record, its indirect block, the top, the directory and the root, and the next log block."""
         image = Tall()
         image.put(4_194_304, log_block(77, 11, 0, 1, 4_194_304, record(11, 0, [write(STRIP)])))
         self.assertEqual(mount(read_pool(image)).needed, 5 + 1)
 
-    @longest(TWO_LEVELS)
     def test_edits_by_chance_are_judged(self):
         pool = Tall()
         before, kinds, raised = mount(read_pool(pool)), set(), set()
@@ -279,7 +252,6 @@ class Images(unittest.TestCase):
         self.assertLessEqual({"clean", *wanted}, kinds)
         self.assertLessEqual({("raise_object", "7 Damaged 4"), ("lower_object", "clean")}, raised)
 
-    @longest(TWO_LEVELS)
     def test_objects_that_are_raised_are_judged(self):
         pool, kinds = of_a_strip(Tank()), set()
         before = mount(read_pool(pool))
@@ -300,14 +272,7 @@ class Digests(unittest.TestCase):
 
 
 class Rows(unittest.TestCase):
-    def test_no_row_of_two_levels_is_made_for_one(self):
-        with longest(ONE_LEVEL):
-            self.assertEqual([*stopped_levels(), *stopped_replays_of_levels()], [])
-            self.assertNotIn("levels.rows", [path.name for path in row_files()])
-
-    @longest(TWO_LEVELS)
     def test_the_blocks_of_syncs_that_change_levels(self):
-        self.assertIn("levels.rows", [path.name for path in row_files()])
         for title, before, blocks in SYNCS:
             book = LevelBook(title)
             book.play(before)

@@ -10,7 +10,6 @@ from tools.rows.followed_pool import Pool, ops_of
 from tools.rows.limit_rows import full_log, long_record_without_space, many_objects
 from tools.rows.script_row import Row, all_strings, rows_with
 from tools.rows.stopped_rows import Script, is_whole
-from tools.tests.limits import BOTH, longest
 
 ASKED = {"status", "name", "digest", "length", "durable", "read"}
 
@@ -84,16 +83,12 @@ class Rows(unittest.TestCase):
         return asked
 
     def test_rows_by_hand(self):
-        for most in BOTH:
-            with longest(most):
-                rows = [row for row in rows_with("") if is_whole(row)]
-                self.assertGreater(sum(map(self.follow, rows)), 500)
+        rows = [row for row in rows_with("") if is_whole(row)]
+        self.assertGreater(sum(map(self.follow, rows)), 500)
 
     def test_rows_at_a_limit(self):
-        for most in BOTH:
-            with longest(most):
-                rows = [row for make in (many_objects, full_log, long_record_without_space) for row in make()]
-                self.assertGreater(sum(map(self.follow, rows)), 100)
+        rows = [row for make in (many_objects, full_log, long_record_without_space) for row in make()]
+        self.assertGreater(sum(map(self.follow, rows)), 100)
 
     def test_the_first_path(self):
         row = Row("the first path")
@@ -186,9 +181,7 @@ class Charges(unittest.TestCase):
     def test_charges_that_the_load_names(self):
         """docs/FORMATS.md, 13: 8,192 bytes of a create, and those of a write within a record or over two."""
         ops = [("c", 1, 0, b""), ("w", 1, 0, b"x" * 64), ("w", 1, 4_000, b"x" * 64)]
-        for most, charges in zip(BOTH, ([8_192, 16_384, 20_480], [8_192, 20_480, 24_576])):
-            with longest(most):
-                self.assertEqual([CHARGE * estimate(Entry(9, [op])) for op in ops], charges)
+        self.assertEqual([CHARGE * estimate(Entry(9, [op])) for op in ops], [8_192, 20_480, 24_576])
 
 
 class Conflicts(unittest.TestCase):
