@@ -6,9 +6,9 @@ the writes (`tools/harness/shims/calls.c`).
 
 From these calls the image of each crash is made: after each call, with strings of kept, lost and torn writes over those
 that no flush came after. These are all strings over up to four writes. Over more they keep, lose or tear all, or all
-but one. An image has to mount the same. Without an uberblock of the import it is a pool of version 1 as before, and with
-one a pool of version 2, four groups later. `check`, `show` and the next import have to say so, as for the images of
-`hostile`.
+but one. An image has to mount the same. Without an uberblock of the import it is a pool of version 1 as before. With
+one it is a pool of version 2, four groups later. `check`, `show` and the next import have to say so, as for the images
+of `hostile`.
 
 Each difference is printed, and then the status is 1. The end prints how many images were judged.
 """
@@ -77,8 +77,8 @@ class OldPools(Judge):
     def judge_import(self, title, before, name, records, objects):
         """An import of a pool, and the calls that it makes: each None for a flush, or a write."""
         group = before.active().group
-        lines = {"import 1048576": f"synced {group + 4} open {group + 5} records {records}", "name": f"name {name.decode()}"}
-        lines["digest"] = f"digest {digest(name, objects)}"
+        lines = {"import 1048576": f"synced {group + 4} open {group + 5} records {records}"}
+        lines.update({"name": f"name {name.decode()}", "digest": f"digest {digest(name, objects)}"})
         lines.update({f"length {number}": f"length {len(content)}" for number, content in objects.items()})
         pathlib.Path(self.path).write_bytes(before.content)
         noted, copied = f"{self.path}.calls", f"{self.path}.bytes"
