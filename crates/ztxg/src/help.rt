@@ -208,8 +208,9 @@ With --all there is a line 'damaged KIND ADDRESS' for each damaged block of the
 tree. What only a damaged block names is not read. If the tree is whole, a
 damage of the log has one line.
 
-KIND is 2 for the root, 3 for a directory, 4 for an indirect block, 5 for data
-and 6 for the log. ADDRESS is the block's byte in FILE.
+KIND is 2 for the root, 3 for a directory, 4 for an indirect block, 5 for data,
+6 for the log and 7 for the top of an object above 338688 bytes. ADDRESS is the
+block's byte in FILE.
 
 Refusals, with status 1:
    1 NoMemory     there is no memory
