@@ -178,10 +178,10 @@ impl<D: SectorDevice> PoolState<D> {
 
     /// Opens a transaction of the open group that keeps to a plan, of which it takes a copy.
     ///
-    /// The plan is estimated in blocks: 2 for a create or a remove, 5 for a new length. A write is estimated at 3, and
-    /// one more for each piece of 4,032 bytes, and of 338,688, that it touches. The group is charged 4,096 bytes for
-    /// each of these blocks, and as many blocks are reserved. Both last until the group is synced, or the transaction
-    /// is aborted. At the dirty limit `begin` is refused `Throttled` until a group is synced or a transaction aborted.
+    /// The plan is estimated in blocks: 2 for a create or a remove, 4 for a new length. A write is estimated at 3, and
+    /// one more for each piece of 4,032 bytes that it touches. The group is charged 4,096 bytes for each of these
+    /// blocks, and as many blocks are reserved. Both last until the group is synced, or the transaction is aborted. At
+    /// the dirty limit `begin` is refused `Throttled` until a group is synced, or a transaction is aborted.
     ///
     /// # Errors
     /// In this order:
@@ -277,8 +277,8 @@ impl<D: SectorDevice> PoolState<D> {
 
     /// The bytes of a range that lie below the object's length.
     ///
-    /// Of the synced tree the blocks are read in which a byte of the range shows: a long object's top, and then each
-    /// indirect block before its records. A block that was read stays in a cache, and one that it has is not read.
+    /// Of the synced tree the blocks are read in which a byte of the range shows: the indirect block of the object, and
+    /// then its records, rising. A block that was read stays in a cache, and a block that the cache has is not read.
     ///
     /// # Errors
     /// In this order:
