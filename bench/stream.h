@@ -24,7 +24,7 @@
 enum {
     STREAMS = 16,
     OBJECTS = 17,          /* of small writes; large ones go to the first 16 */
-    OBJECT_BYTES = 338688, /* the most bytes of an object; each write ends within them */
+    OBJECT_BYTES = 338688, /* each write to an object ends within them */
     SMALL = 0,             /* stands for the length of small writes */
     LONGEST_SMALL = 64,
     LONGEST = 65497 /* bytes of the longest write that a transaction of a pool can have */

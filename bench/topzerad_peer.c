@@ -80,15 +80,15 @@ void session_put(struct session *session, uint32_t object, uint64_t offset, cons
     expect_done(topzerad_transact(&session->store->pool, &tx, is_durable, NULL, NULL));
 }
 
-/* The bytes of each object. */
+/* The bytes of each object. One that is longer than a load's writes are has another length than its bytes here. */
 void store_read(unsigned variant, const char *path, write_reader reader, void *context) {
     struct store *store = store_open(variant, path);
     topzerad_listed *listed = need(TOPZERAD_OBJECTS * sizeof *listed);
-    uint8_t *bytes = need(TOPZERAD_MAX_LENGTH);
+    uint8_t *bytes = need(OBJECT_BYTES);
     size_t count, length;
     expect_done(topzerad_objects(&store->pool, 0, TOPZERAD_OBJECTS, listed, &count));
     for (size_t i = 0; i < count; i++) {
-        expect_done(topzerad_read(&store->pool, listed[i].object, 0, TOPZERAD_MAX_LENGTH, bytes, &length));
+        expect_done(topzerad_read(&store->pool, listed[i].object, 0, OBJECT_BYTES, bytes, &length));
         if (length != listed[i].length)
             die("topzerad: object %" PRIu32 " has %zu bytes, not %" PRIu64, listed[i].object, length, listed[i].length);
         reader(context, listed[i].object, 0, bytes, length);

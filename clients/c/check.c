@@ -5,10 +5,10 @@
 #include <stdlib.h>
 #include <string.h>
 
-enum { THREADS = 8, COMMITS = 200, BIG = 60000 };
+enum { THREADS = 8, COMMITS = 200, BIG = 60000, LONG = 5000000, PIECE = 1048576, READ_LONG = 3 * PIECE };
 
 static topzerad pool;
-static uint8_t memory[TOPZERAD_MAX_RECORD], big[BIG], back[TOPZERAD_MAX_LENGTH];
+static uint8_t memory[TOPZERAD_MAX_RECORD], big[BIG], content[LONG], back[TOPZERAD_MAX_LENGTH];
 
 static void want(int is, const char *what, int line) {
     if (is) return;
@@ -59,6 +59,77 @@ static void commit_many_at_once(void) {
         WANT(number == (i == 1 ? 0 : i));
     }
     WANT(topzerad_transact_many(&pool, txs, 0, 1, outcomes) == 0);
+}
+
+static void want_range(uint64_t low, uint64_t high, size_t expected) {
+    size_t count;
+    memset(back, 255, expected + 1);
+    WANT(topzerad_read(&pool, 200, low, high, back, &count) == 0);
+    WANT(count == expected && memcmp(back, content + low, expected) == 0 && back[expected] == 255);
+}
+
+/* An object of five million bytes, whose reads take several frames. */
+static void read_long_object(void) {
+    topzerad_tx tx;
+    size_t count;
+    for (uint64_t i = 0; i < LONG; i++) content[i] = (uint8_t)(i * i % 251);
+    topzerad_tx_start(&tx, memory, sizeof memory);
+    WANT(topzerad_tx_create(&tx, 200) == 0 && topzerad_transact(&pool, &tx, 0, NULL, NULL) == 0);
+    for (size_t at = 0; at < LONG; at += BIG) {
+        topzerad_tx_start(&tx, memory, sizeof memory);
+        WANT(topzerad_tx_write(&tx, 200, at, content + at, LONG - at < BIG ? LONG - at : BIG) == 0);
+        WANT(topzerad_transact(&pool, &tx, 0, NULL, NULL) == 0);
+    }
+    WANT(topzerad_flush(&pool) == 0);
+    want_range(0, TOPZERAD_MAX_LENGTH, LONG);
+    want_range(3, LONG - 2, LONG - 5);
+    want_range(PIECE - 1, PIECE + 1, 2);
+    want_range(PIECE, 2 * PIECE, PIECE);
+    want_range(1, 2 * PIECE + 2, 2 * PIECE + 1);
+    WANT(topzerad_read(&pool, 200, LONG, TOPZERAD_MAX_LENGTH, back, &count) == 0 && count == 0);
+    topzerad_tx_start(&tx, memory, sizeof memory);
+    WANT(topzerad_tx_set_length(&tx, 200, 2 * PIECE) == 0 && topzerad_transact(&pool, &tx, 0, NULL, NULL) == 0);
+    want_range(0, TOPZERAD_MAX_LENGTH, 2 * PIECE);
+    WANT(topzerad_read(&pool, 200, 0, TOPZERAD_MAX_LENGTH + 1, back, &count) == TOPZERAD_BAD_RANGE && count == 0);
+    WANT(topzerad_read(&pool, 201, 0, TOPZERAD_MAX_LENGTH, back, &count) == TOPZERAD_NO_OBJECT && count == 0);
+}
+
+static void *write_both_ends(void *of) {
+    uint8_t room[128];
+    topzerad_tx tx;
+    (void)of;
+    for (uint32_t i = 0; i < COMMITS; i++) {
+        topzerad_tx_start(&tx, room, sizeof room);
+        WANT(topzerad_tx_write(&tx, 300, 0, &i, 4) == 0);
+        WANT(topzerad_tx_write(&tx, 300, READ_LONG - 4, &i, 4) == 0);
+        WANT(topzerad_transact(&pool, &tx, 0, NULL, NULL) == 0);
+    }
+    return NULL;
+}
+
+/* Reads all of an object while threads write its ends, each both of them at once. */
+static void *read_both_ends(void *of) {
+    uint8_t *bytes = of;
+    size_t count;
+    for (uint32_t i = 0; i < COMMITS / 10; i++) {
+        WANT(topzerad_read(&pool, 300, 0, READ_LONG, bytes, &count) == 0 && count == READ_LONG);
+        WANT(memcmp(bytes, bytes + READ_LONG - 4, 4) == 0);
+    }
+    return NULL;
+}
+
+static void read_at_one_moment(void) {
+    static uint8_t bytes[2][READ_LONG];
+    pthread_t threads[4];
+    topzerad_tx tx;
+    topzerad_tx_start(&tx, memory, sizeof memory);
+    WANT(topzerad_tx_create(&tx, 300) == 0 && topzerad_tx_set_length(&tx, 300, READ_LONG) == 0);
+    WANT(topzerad_transact(&pool, &tx, 0, NULL, NULL) == 0);
+    for (size_t i = 0; i < 4; i++) {
+        void *(*run)(void *) = i < 2 ? read_both_ends : write_both_ends;
+        WANT(pthread_create(&threads[i], NULL, run, i < 2 ? bytes[i] : NULL) == 0);
+    }
+    for (size_t i = 0; i < 4; i++) WANT(pthread_join(threads[i], NULL) == 0);
 }
 
 static void make_each_call(void) {
@@ -114,6 +185,8 @@ int main(int count, char **words) {
     commit_many_at_once();
     for (size_t i = 0; i < THREADS; i++) WANT(pthread_create(&threads[i], NULL, commit_many, (void *)i) == 0);
     for (size_t i = 0; i < THREADS; i++) WANT(pthread_join(threads[i], NULL) == 0);
+    read_long_object();
+    read_at_one_moment();
     WANT(topzerad_close(&pool) == 0);
     WANT(topzerad_open(&pool, "/", "/") == TOPZERAD_SYSTEM);
     WANT(topzerad_open(&pool, "false", "/") == 0);

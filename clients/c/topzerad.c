@@ -1,5 +1,8 @@
 /* Calls of all threads are queued. The first thread that finds no leader sends all that are queued as one frame, reads
- * the answers into the memory of their callers, and wakes them. While it waits, the next ones gather. */
+ * the answers into the memory of their callers, and wakes them. While it waits, the next ones gather.
+ *
+ * A long read is made in pieces, each in a frame of its own. It is the last call of such a frame, and goes back to the
+ * front of the queue, so no call comes between its pieces. */
 #define _GNU_SOURCE
 #include "topzerad.h"
 
@@ -15,6 +18,7 @@ extern char **environ;
 
 enum { HEAD = 12, MAX_FRAME = 4194304, VERSION = 1, REQUESTS = 1, ANSWERS = 2, REFUSED_FRAME = 3 };
 enum { LEAST_ROOM = 80, LISTED = 12, RECORD_HEAD = 22, MOST_AT_ONCE = 64 };
+enum { PIECE = 1048576 }; /* the most bytes that one request reads */
 enum { TRANSACT = 1, TRANSACT_DURABLY, READ, LENGTH, OBJECTS, STATUS, DURABLE, FLUSH, SYNC, NAME, NOT_DURABLE };
 
 /* A call that waits for its answer, on its caller's stack. */
@@ -27,6 +31,7 @@ typedef struct topzerad_call {
     size_t room;              /* the bytes that are kept for its answer */
     void *into;               /* where the bytes or the objects of its answer go, and how many fit */
     size_t most, count;
+    uint64_t low, high;       /* of a read: where its piece begins, and where its range ends */
     uint64_t values[7];       /* the numbers of its answer */
     int refusal, committed, done;
     struct topzerad_call *next;
@@ -280,11 +285,14 @@ static int read_frame(topzerad *pool, call *calls) {
 
 /* Calls. */
 
+/* Whether a read's range goes on after its piece. */
+static int goes_on(const call *c) { return c->low + c->most < c->high; }
+
 /* Takes the calls that fit one frame off the queue. */
 static call *take_calls(topzerad *pool) {
     call *first = pool->first, *last = first;
     size_t size = HEAD + size_of(first), room = HEAD + first->room;
-    while (last->next) {
+    while (last->next && !goes_on(last)) {
         size += size_of(last->next);
         room += last->next->room;
         if (size > MAX_FRAME || room > MAX_FRAME) break;
@@ -294,6 +302,27 @@ static call *take_calls(topzerad *pool) {
     if (!pool->first) pool->last = &pool->first;
     last->next = NULL;
     return first;
+}
+
+/* Makes a read ask for the piece of its range that begins at `low`. */
+static void ask_piece(call *c) {
+    c->most = c->high > c->low ? c->high - c->low : 0;
+    if (c->most > PIECE) c->most = PIECE;
+    c->room = LEAST_ROOM + c->most;
+    put(c->fields + 4, c->low, 8);
+    put(c->fields + 12, goes_on(c) ? c->low + c->most : c->high, 8);
+}
+
+/* After the answer to a piece: puts the read back to the front of the queue for the next one, if there is one. */
+static int put_back(topzerad *pool, call *c) {
+    if (c->refusal || c->count < c->most || !goes_on(c)) return 0;
+    c->into = (uint8_t *)c->into + c->most;
+    c->low += c->most;
+    ask_piece(c);
+    c->next = pool->first;
+    if (!c->next) pool->last = &c->next;
+    pool->first = c;
+    return 1;
 }
 
 /* Queues calls in their order, at least one, and returns once all are answered: the last is answered last. */
@@ -318,7 +347,7 @@ static void make_all(topzerad *pool, call *made, size_t count) {
         for (call *next; calls; calls = next) {
             next = calls->next;
             if (failed) calls->refusal = TOPZERAD_ENDED;
-            calls->done = 1;
+            calls->done = !put_back(pool, calls);
         }
         pool->led = 0;
         pthread_cond_broadcast(&pool->turn);
@@ -383,15 +412,16 @@ int topzerad_transact_many(topzerad *pool, const topzerad_tx *txs, size_t count,
 
 int topzerad_read(topzerad *pool, uint32_t object, uint64_t low, uint64_t high, void *into, size_t *count) {
     call c = new_call(READ);
+    /* The pool has to refuse a range above the limit, however short the object is. */
+    if (low < high && high > TOPZERAD_MAX_LENGTH) low = high - 1;
     add_field(&c, object, 4);
-    add_field(&c, low, 8);
-    add_field(&c, high, 8);
+    c.field_count += 16;
     c.into = into;
-    c.most = high > low ? high - low : 0;
-    if (c.most > TOPZERAD_MAX_LENGTH) c.most = TOPZERAD_MAX_LENGTH;
-    c.room += c.most;
+    c.low = low;
+    c.high = high;
+    ask_piece(&c);
     int refusal = make(pool, &c);
-    *count = refusal ? 0 : c.count;
+    *count = refusal ? 0 : c.low - low + c.count;
     return refusal;
 }
 

@@ -54,10 +54,10 @@ enum {
     TOPZERAD_ENDED = 201
 };
 
-#define TOPZERAD_OBJECTS 5292u       /* objects have the numbers below this */
-#define TOPZERAD_MAX_LENGTH 338688u  /* the most bytes of an object */
-#define TOPZERAD_MAX_RECORD 65536u   /* the most bytes of a transaction */
-#define TOPZERAD_MAX_NAME 64u        /* the most bytes of a name */
+#define TOPZERAD_OBJECTS 5292u         /* objects have the numbers below this */
+#define TOPZERAD_MAX_LENGTH 28449792u  /* the most bytes of an object */
+#define TOPZERAD_MAX_RECORD 65536u     /* the most bytes of a transaction */
+#define TOPZERAD_MAX_NAME 64u          /* the most bytes of a name */
 
 /* A pool that is open, in the caller's memory. Its fields are the library's. */
 typedef struct topzerad {
@@ -128,8 +128,8 @@ int topzerad_transact(topzerad *pool, const topzerad_tx *tx, int durable, topzer
  * `outcomes` has room for `count`. */
 int topzerad_transact_many(topzerad *pool, const topzerad_tx *txs, size_t count, int durable,
                            topzerad_outcome *outcomes);
-/* Reads the bytes of [low, high) that lie below the object's length. `into` has room for high - low, `count` says how
- * many there were. */
+/* Reads the bytes of [low, high) that lie below the object's length, at one moment. `into` has room for high - low,
+ * `count` says how many there were. More than 1 MiB are read in several frames, and other calls wait for the last. */
 int topzerad_read(topzerad *pool, uint32_t object, uint64_t low, uint64_t high, void *into, size_t *count);
 int topzerad_length(topzerad *pool, uint32_t object, uint64_t *length);
 /* Which objects are there from `first` on, below `past`, by rising number. `into` has room for past - first. */

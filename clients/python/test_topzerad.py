@@ -7,7 +7,7 @@ import threading
 import unittest
 
 import topzerad
-from topzerad import create, remove, set_length, set_name, write
+from topzerad import MAX_LENGTH, PIECE, create, remove, set_length, set_name, write
 
 WORDS = [str(pathlib.Path(__file__).resolve().parent.parent / "stand_in"), "-"]
 
@@ -54,6 +54,41 @@ class Calls(unittest.TestCase):
                 thread.join()
             for at in range(4):
                 self.assertEqual(pool.read(100 + at), bytes(range(50)))
+
+    def test_long_object(self):
+        content = bytes(at * at % 251 for at in range(5_000_000))
+        with topzerad.Pool(*WORDS) as pool:
+            pool.transact([create(200)])
+            for at in range(0, len(content), 65_000):
+                pool.transact([write(200, at, content[at : at + 65_000])], durable=False)
+            pool.flush()
+            self.assertEqual(pool.length(200), len(content))
+            self.assertTrue(pool.read(200) == content)
+            for low, high in [(3, 4_999_998), (PIECE - 1, PIECE + 1), (PIECE, 2 * PIECE), (1, 2 * PIECE + 2)]:
+                self.assertTrue(pool.read(200, low, high) == content[low:high])
+            self.assertEqual(pool.read(200, len(content)), b"")
+            pool.transact([set_length(200, 2 * PIECE)])
+            self.assertTrue(pool.read(200) == content[: 2 * PIECE])
+            self.refused(11, pool.read, 200, 5, 5)
+            self.refused(11, pool.read, 200, 0, MAX_LENGTH + 1)
+            self.refused(9, pool.read, 201)
+
+    def test_reads_at_one_moment(self):
+        length = 3 * PIECE
+        with topzerad.Pool(*WORDS) as pool:
+            pool.transact([create(300), set_length(300, length)])
+
+            def commit():
+                for at in range(1, 100):
+                    pool.transact([write(300, 0, bytes([at])), write(300, length - 1, bytes([at]))], durable=False)
+
+            thread = threading.Thread(target=commit)
+            thread.start()
+            while thread.is_alive():
+                content = pool.read(300)
+                self.assertEqual(content[0], content[-1])
+            thread.join()
+            self.assertEqual(pool.read(300)[0], 99)
 
 
 if __name__ == "__main__":

@@ -9,7 +9,9 @@ import threading
 HEAD = struct.Struct("<IHHI")
 VERSION, REQUESTS, ANSWERS, REFUSED_FRAME = 1, 1, 2, 3
 TRANSACT, TRANSACT_DURABLY, READ, LENGTH, OBJECTS, STATUS, DURABLE, FLUSH, SYNC, NAME, NOT_DURABLE = range(1, 12)
-MAX_LENGTH, OBJECT_COUNT = 338_688, 5_292
+MAX_LENGTH, OBJECT_COUNT = 28_449_792, 5_292
+# The most bytes that one request reads. The answers of a frame have at most four times as many.
+PIECE = 1_048_576
 
 Receipt = collections.namedtuple("Receipt", "ordinal group")
 Status = collections.namedtuple("Status", "synced syncing middle open dirty free available")
@@ -72,7 +74,7 @@ class Pool:
         self.process = subprocess.Popen(
             [program, "serve", path], stdin=subprocess.PIPE, stdout=subprocess.PIPE, start_new_session=True
         )
-        self.lock = threading.Lock()
+        self.lock = threading.RLock()
 
     def __enter__(self):
         return self
@@ -99,8 +101,18 @@ class Pool:
         return self._ask([(call, record(ops)) for ops in transactions])
 
     def read(self, number, low=0, high=MAX_LENGTH):
-        """The bytes of the range that lie below the object's length."""
-        return self._one(READ, struct.pack("<IQQ", number, low, high))
+        """The bytes of the range that lie below the object's length, at one moment. More than `PIECE` are read in
+        several frames, and the calls of other threads wait for the last one."""
+        if low < high and high > MAX_LENGTH:
+            low = high - 1  # so that the pool refuses the range, however short the object is
+        pieces = []
+        with self.lock:
+            while True:
+                end = min(high, low + PIECE)
+                pieces.append(self._one(READ, struct.pack("<IQQ", number, low, end)))
+                low += PIECE
+                if low >= high or len(pieces[-1]) < PIECE:
+                    return b"".join(pieces)
 
     def length(self, number):
         return self._one(LENGTH, struct.pack("<I", number))

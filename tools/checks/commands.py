@@ -30,6 +30,7 @@ from tools import TOP
 from tools.harness import program
 from tools.harness.judge import Judge
 from tools.harness.program import Conversation, add_program
+from tools.model import layout
 from tools.model.formats import table
 from tools.model.layout import AREA, BLOCK, CONFIG_AT, LABEL, MIB, block_count, slot_places
 from tools.model.pool_bytes import number_at
@@ -42,9 +43,9 @@ NEW = "name tank\nguid 77\ngroup 4\nimport 0\nblocks 896 used 0\nrecords 0\nobje
 # Object 1 has four bytes, in one block of each of the four kinds. The data block is the second of the area.
 SYNCED = "name tank\nguid 77\ngroup 9\nimport 1\nblocks 896 used 4\nrecords 0\nobjects 1\n1 4\n"
 DATA = AREA + BLOCK
-SYNC = """\
+SYNC = f"""\
 import 1048576
-lock 1 1 w 0 338688
+lock 1 1 w 0 {layout.MAX_LENGTH}
 begin 1 c:1 w:1:0:4
 commit 0 abcd
 sync
@@ -52,9 +53,9 @@ sync
 SYNC_ANSWERS = "synced 8 open 9 records 0\nlock 0\ntx 0 group 9\nentry 0 group 9\nsynced 9\n"
 # Two records in one log block, and nothing is synced.
 LOGGED = "name tank\nguid 77\ngroup 8\nimport 1\nblocks 896 used 1\nrecords 2\nobjects 1\n1 104\n"
-LOG = """\
+LOG = f"""\
 import 1048576
-lock 1 1 w 0 338688
+lock 1 1 w 0 {layout.MAX_LENGTH}
 begin 1 c:1
 commit 0
 begin 1 w:1:100:4
@@ -198,30 +199,36 @@ class Commands(Judge):
     def objects(self):
         """Bytes that are put are those that are got, also in pieces and in the log, and a refused put says how far it came."""
         name = self.make("objects.pool")
-        big = "".join(chr(33 + at % 90) for at in range(338_688))
+        # An object of two levels of indirect blocks, and one of the greatest length.
+        size, most = layout.STRIP + 5_000, layout.MAX_LENGTH
+        big = "".join(chr(33 + at % 90) for at in range(size))
         for words, script, out in [
             (["put", name, "7"], "hello", "put 5 bytes in 1 transactions\n"),
             (["put", name, "7", "--offset", "5"], " there", "put 6 bytes in 1 transactions\n"),
             (["get", name, "7"], "", "hello there"),
             (["get", name, "7", "--offset", "3", "--length", "4"], "", "lo t"),
-            (["put", name, "7"], big, "put 338688 bytes in 6 transactions\n"),
+            (["put", name, "7"], big, f"put {size} bytes in 6 transactions\n"),
             (["get", name, "7"], "", big),
             (["put", name, "8"], "", "put 0 bytes in 1 transactions\n"),
-            (["ls", name], "", "7 338688\n8 0\n"),
+            (["ls", name], "", f"7 {size}\n8 0\n"),
             (["rm", name, "7"], "", "removed 7\n"),
+            (["put", name, "9", "--offset", str(most - 4)], "last", "put 4 bytes in 1 transactions\n"),
+            (["ls", name], "", f"8 0\n9 {most}\n"),
+            (["get", name, "9"], "", "\0" * (most - 4) + "last"),
+            (["rm", name, "9"], "", "removed 9\n"),
             (["ls", name], "", "8 0\n"),
         ]:
             found = self.put(words, script)
             if found != (0, out, ""):
-                self.differ(words, "ends with", found[0], found[1][:80], found[2])
+                self.differ(words, "ends with", found[0], found[1][-80:], found[2])
         made = pathlib.Path(name).read_bytes()
         for words, refusal in [
             (["get", name, "7"], "9 NoObject"),
             (["get", name, "5292"], "11 BadRange"),
             (["get", name, "8", "--length", "0"], "11 BadRange"),
-            (["get", name, "8", "--offset", "338688"], "11 BadRange"),
+            (["get", name, "8", "--offset", str(most)], "11 BadRange"),
             (["put", name, "5292"], "11 BadRange"),
-            (["put", name, "8", "--offset", "338688"], "11 BadRange"),
+            (["put", name, "8", "--offset", str(most)], "11 BadRange"),
         ]:
             found = self.put(words, "x")
             if found != (1, "", f"ztxg: refused {refusal}\n"):
@@ -261,7 +268,7 @@ class Commands(Judge):
 
     def endings(self):
         """A script that stops at a refusal, one that syncs, and commits that aren't durable."""
-        script = "import 1048576\nlock 1 1 w 0 338688\nbegin 1 c:1\ncommit 0\nlength 2\nname\n"
+        script = f"import 1048576\nlock 1 1 w 0 {layout.MAX_LENGTH}\nbegin 1 c:1\ncommit 0\nlength 2\nname\n"
         answers = "lock 0\ntx 0 group {0}\nentry 0 group {0}\nrefused 9 NoObject\n"
         words = ["script", "--file", self.make("ends.pool"), "-"]
         lost = "ztxg: 1 commits are not durable\n"

@@ -6,8 +6,9 @@ that it worked out before. The answers come from a list of entries, a map of obj
 
 - A pool of 6 MiB gets rounds, one upon the other. A round is an import, transactions in up to three groups at once, of
   which one may be committed after entries of a newer group, and a sync. Some transactions give the pool a name, and
-  some have a record that is longer than a log block. Log writes, log flushes and the question whether a commit is
-  durable come between all of them, also between the device calls of a sync and between the parts of a record.
+  some have a record that is longer than a log block. Objects go from one level of indirect blocks to two and back. Log
+  writes, log flushes and the question whether a commit is durable come between all of them, also between the device
+  calls of a sync and between the parts of a record.
 - The run is stopped after any of the device calls: by a crash, or by a call that fails and then a crash or an import.
   The failing call is one of the sync, a log write or a log flush.
 - A crash has a string of letters, which keep, lose or tear each unflushed write.
@@ -29,7 +30,8 @@ from tools import Failed
 from tools.harness.program import add_program, run
 from tools.model.charges import estimate, record_size
 from tools.model.contents import Entry, apply, digest
-from tools.model.layout import DIRTY_MAX, LOG_AVAILABLE, LOG_RECORD_MAX, LOG_ROOM, NAMED, TOP
+from tools.model import layout
+from tools.model.layout import DIRTY_MAX, LOG_AVAILABLE, LOG_RECORD_MAX, LOG_ROOM, NAMED, STRIP
 from tools.model.serial_pool import LEAST, REFUSALS, Image, LogBlock, Run, Tree
 from tools.rows.script_row import shape_of, word_of
 
@@ -37,6 +39,9 @@ OBJECTS = [0, 1, 2, 62, 63, 5_291]
 NAMES = [b"tank", b"pond", b"a", b"Z.9", b"lake-" * 12 + b"_end"]
 # Bytes of a write whose record fills one, two or three log blocks, or has a byte more, or is the longest one.
 LONG = [3_969, 3_970, 7_977, 7_978, 11_985, 11_986, 65_497]
+# Places of writes and lengths about the ends of strips.
+LONG_PLACES = [STRIP - 4_032, STRIP - 1, STRIP, STRIP + 4_030, 2 * STRIP - 7]
+LONG_LENGTHS = [STRIP - 1, STRIP, STRIP + 1, STRIP + 4_032, 2 * STRIP, 2 * STRIP + 5]
 FEW = 6
 ROUNDS = 40
 
@@ -65,7 +70,7 @@ class Pool:
         self.counts["long records"] += sum(record_size(entry) > LOG_ROOM for entry in self.image.entries)
         self.show()
         for at, number in enumerate([*OBJECTS, NAMED]):
-            self.say(f"lock 1 {number} w 0 {TOP}", f"lock {at}")
+            self.say(f"lock 1 {number} w 0 {layout.MAX_LENGTH}", f"lock {at}")
 
     def show(self):
         name, objects = self.run.name(), self.run.contents()
@@ -85,9 +90,11 @@ class Pool:
         kind = self.chance.choice("wwwwlld")
         if kind == "d":
             return ("d", number, 0, b"")
-        place = self.chance.choice([0, 1, 7, 4_030, 4_032, 8_060, 12_096])
+        is_long = self.chance.random() < 0.3
         if kind == "l":
-            return ("l", number, self.chance.choice([0, 5, 4_031, 4_032, 4_033, 9_000]), b"")
+            lengths = LONG_LENGTHS if is_long else [0, 5, 4_031, 4_032, 4_033, 9_000]
+            return ("l", number, self.chance.choice(lengths), b"")
+        place = self.chance.choice(LONG_PLACES if is_long else [0, 1, 7, 4_030, 4_032, 8_060, 12_096])
         letter = self.chance.choice("abcdefghijklmnopqrstuvwxyz")
         return ("w", number, place, letter.encode() * self.some_length())
 

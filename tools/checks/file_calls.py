@@ -19,13 +19,14 @@ from tools.harness import shims
 from tools.harness.judge import Judge
 from tools.harness.pool_files import SIZE, pool_file
 from tools.harness.program import add_program, run
+from tools.model import layout
 from tools.model.layout import AREA, BLOCK, CONFIG_AT, SLOT, label_places, slot_places
 
 SECONDS = 300
 FSYNC, FOLDER = ("fsync", 0, 0), ("folder", 0, 0)
 SCRIPT = [
     "import 1048576",
-    "lock 1 1 w 0 338688",
+    f"lock 1 1 w 0 {layout.MAX_LENGTH}",
     "begin 1 c:1 w:1:0:4",
     "commit 0 abcd",
     "log-write",
@@ -56,8 +57,7 @@ class Calls(Judge):
         ran = run([self.ztxg, *words], script, SECONDS, env=environment)
         if ran.status != 0:
             self.differ(words, "ends with", ran.status, ran.error_text())
-        lines = [line.split() for line in self.noted.read_text().splitlines()]
-        calls = [(name, int(place), int(size)) for name, place, size in lines]
+        calls = shims.noted_calls(self.noted)
         known = {"write", "fsync", "size", "folder"} if words[0] == "create" else {"write", "fsync", "size"}
         if strange := {name for name, _, _ in calls} - known:
             self.differ(words, "makes", strange)

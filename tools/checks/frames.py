@@ -23,6 +23,7 @@ from tools.harness.pool_files import create, pool_file
 from tools.harness.program import add_program
 from tools.harness.served import Served
 from tools.model.frames import HEAD, Request, Server, read_answers, read_requests, refused_frame, requests_frame
+from tools.model.layout import STRIP
 
 OBJECTS = [0, 1, 2, 62, 63, 5_291]
 LENGTHS = [1, 100, 4_032, 4_033, 20_000]
@@ -30,11 +31,16 @@ TRANSACTIONS = ("transact", "transact_durably")
 CALLS = [*TRANSACTIONS, "read", "length", "objects", "durable", "flush", "name", "sync", "status"]
 
 
+def some_place(chance, count):
+    """One of so many places at the front of an object, or sometimes about its first strip's end if it may be longer."""
+    return chance.randrange(count) + (STRIP - count // 2 if chance.random() < 0.2 else 0)
+
+
 def operation(chance):
     at, kind = chance.choice(OBJECTS), chance.choice("cdlwwww")
     if kind == "w":
-        return kind, at, chance.randrange(30_000), chance.randbytes(chance.choice(LENGTHS))
-    return kind, at, chance.randrange(40_000) if kind == "l" else 0, b""
+        return kind, at, some_place(chance, 30_000), chance.randbytes(chance.choice(LENGTHS))
+    return kind, at, some_place(chance, 40_000) if kind == "l" else 0, b""
 
 
 def request(chance, number, calls):
@@ -42,7 +48,7 @@ def request(chance, number, calls):
     if call in TRANSACTIONS:
         needs = [operation(chance) for _ in range(chance.randint(1, 3))]
     elif call == "read":
-        low = chance.randrange(40_000)
+        low = some_place(chance, 40_000)
         needs = (chance.choice(OBJECTS), low, low + chance.choice(LENGTHS))
     elif call == "objects":
         needs = (chance.choice(OBJECTS), chance.choice(OBJECTS) + 1)

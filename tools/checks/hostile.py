@@ -1,8 +1,9 @@
 """Judges images of a hostile writer by chance, by `check`, `show` and an import.
 
-The program makes a few pools in files. COUNT times the image of one of them gets one to three edits by chance, with the
-checks above them made right (`tools/rows/hostile_edits.py`). What the image mounts is worked out by Python alone
-(`tools/model/pool_image.py`). Then these have to print exactly that, without a crash or a hang:
+The program makes a few pools in files, and some are taken for pools of version 1, too. COUNT times the image of one of
+them gets one to three edits by chance, with the checks above them made right (`tools/rows/hostile_edits.py`). What the
+image mounts is worked out by Python alone (`tools/model/pool_image.py`). Then these have to print exactly that, without
+a crash or a hang:
 
 - `check FILE` and `show FILE`, which leave the file as it is;
 - a script on the file, which imports the pool and prints its name, its digest and the lengths of objects. A refused
@@ -23,7 +24,8 @@ from tools import Failed
 from tools.harness.pool_files import IN_MEMORY, pool_file
 from tools.harness.program import Lines, add_program, run
 from tools.model.contents import digest
-from tools.model.layout import DIRTY_MAX, NAMED, RECORD, TOP, VERSION
+from tools.model import layout
+from tools.model.layout import DIRTY_MAX, NAMED, RECORD, STRIP, VERSION
 from tools.model.pool_bytes import Config
 from tools.model.pool_image import (
     BadGeometry,
@@ -51,7 +53,7 @@ def transact(tx, shapes, *words):
 
 def start(objects):
     """An import, and locks of objects and of the name."""
-    return [f"import {DIRTY_MAX}", *(f"lock 1 {number} w 0 {TOP}" for number in [*objects, NAMED])]
+    return [f"import {DIRTY_MAX}", *(f"lock 1 {number} w 0 {layout.MAX_LENGTH}" for number in [*objects, NAMED])]
 
 
 def several():
@@ -102,17 +104,33 @@ def full():
     for tx in range(1, 73):
         number, first = divmod(4 * (tx - 1), 72)
         shapes = (f"w:{number}:{RECORD * record}:900" for record in range(first, first + 4))
-        lines += transact(tx, " ".join(shapes), *["@900:e"] * 4) + ["sync"] * (tx % 6 == 0)
+        lines += transact(tx, " ".join(shapes), *["@900:e"] * 4) + ["sync"] * (tx % 3 == 0)
     lines += transact(73, "w:4:0:1", "f") + ["log-write", "log-flush"]
     return [lines]
 
 
-# Each with its share of the images.
-POOLS = {several: 4, long_ones: 3, small: 2, empty: 1, full: 1}
+def tall():
+    """Objects of two levels of indirect blocks: one with records about the ends of its strips, one of the greatest
+    length, one without a block, and one that was cut to one level. Then a log of two blocks, whose records take objects
+    from one level to two and back."""
+    top, lines = layout.MAX_LENGTH, ["create tank 77", *start(range(4))]
+    lines += transact(0, f"c:0 w:0:{STRIP - 4}:8 w:0:{2 * STRIP - 2}:4", "abcdefgh", "ijkl")
+    lines += transact(1, f"c:1 w:1:{top - 5}:5 w:1:0:1", "hello", "m") + transact(2, f"c:2 l:2:{STRIP + 1}")
+    lines += transact(3, f"c:3 w:3:{STRIP - 1}:2 l:3:{STRIP}", "no") + ["sync"]
+    lines += transact(4, f"w:0:{5 * STRIP}:3 l:1:{top - 3}", "pqr") + ["sync"]
+    lines += transact(5, f"l:0:{STRIP}") + transact(6, f"w:3:{STRIP + 9}:3", "stu") + ["log-write"]
+    lines += transact(7, f"l:1:{2 * STRIP} w:2:0:3", "vwx") + transact(8, f"w:0:{STRIP}:1", "y")
+    return [lines + ["log-write", "log-flush"]]
 
 
-def make_pool(ztxg, pool):
-    """The image of a pool, and what it mounts."""
+# The pools, each with its share of the images, as they are made and with version 1.
+NEW = {several: 4, long_ones: 3, small: 2, empty: 1, full: 1, tall: 4}
+OLD = {several: 3, small: 1, full: 1}
+POOLS = [*((pool, VERSION, share) for pool, share in NEW.items()), *((pool, 1, share) for pool, share in OLD.items())]
+
+
+def make_pool(ztxg, pool, version):
+    """The image of a pool of a version, and what it mounts."""
     with pool_file(IN_MEMORY) as path:
         file = pathlib.Path(path)
         file.write_bytes(bytes(LEAST))
@@ -120,8 +138,10 @@ def make_pool(ztxg, pool):
             ran = run([ztxg, "script", "--file", path, "-"], lines, SECONDS).in_lines()
             if ran.status != 0 or any(line.startswith("refused") for line in ran.out):
                 fail(f"the pool `{pool.__name__}` isn't made: {ran}")
-        base = file.read_bytes()
-    return base, mount(read_pool(Image(bytearray(base))))
+        image = Image(bytearray(file.read_bytes()))
+    if version == 1:
+        image.age()
+    return bytes(image.content), mount(read_pool(image))
 
 
 def fail(reason):
@@ -264,21 +284,23 @@ class Bench:
 
 def judge_images(ztxg, bases, seed, images):
     """Judges images: their counts, and the first that differs."""
-    pools, shares = list(POOLS), list(POOLS.values())
+    shares = [share for *_, share in POOLS]
     with pool_file(IN_MEMORY) as path:
         bench = Bench(ztxg, path)
         for at in images:
             chance = random.Random(f"{seed}/{at}")
-            pool = chance.choices(range(len(pools)), shares)[0]
-            edits = Edits(chance, *bases[pool])
+            at_pool = chance.choices(range(len(POOLS)), shares)[0]
+            edits = Edits(chance, *bases[at_pool])
             for _ in range(chance.choice([1, 1, 1, 2, 3])):
                 edits.edit()
             if chance.random() < 0.01:
                 edits.resize()
             difference = bench.judge(edits.image)
             if difference:
-                made = f"{pools[pool].__name__}, {', '.join(edits.names)}"
+                pool, version, _ = POOLS[at_pool]
+                made = f"{pool.__name__}, version {version}, {', '.join(edits.names)}"
                 return bench.counts, f"image {at} of seed {seed} ({made}): {difference}"
+            bench.counts[f"version {POOLS[at_pool][1]}"] += 1
             bench.counts.update(f"edit: {name}" for name in edits.names)
     return bench.counts, None
 
@@ -298,7 +320,7 @@ def add_arguments(parser):
 
 
 def main(ztxg, images, seed, jobs):
-    bases = [make_pool(ztxg, pool) for pool in POOLS]
+    bases = [make_pool(ztxg, pool, version) for pool, version, _ in POOLS]
     parts = [(ztxg, bases, seed, images[first::jobs]) for first in range(jobs)]
     counts = collections.Counter()
     with multiprocessing.Pool(jobs) as workers:

@@ -1,10 +1,10 @@
 """Judges worked images of a hostile writer by `check`, `show` and an import.
 
-The images are those of `tools/rows/hostile_images.py` and `tools/rows/hostile_logs.py`, each with what `check` has to
-print, and the name. `show` and an import have to agree: they mount the same group, name and records, or are refused
-with the same kind and address. A refused import leaves the file as it was. Another one leaves the name in the configs
-of all four labels, and an uberblock of the version that is written. The file before the edits is also made without the
-program, byte for byte.
+The images are those of `tools/rows/hostile_images.py`, `hostile_logs.py` and `hostile_levels.py`, each with what
+`check` has to print, and the name. `show` and an import have to agree: they mount the same group, name and records, or
+are refused with the same kind and address. A refused import leaves the file as it was. Another one leaves the name in
+the configs of all four labels, and an uberblock of the version that is written. The file before the edits is also made
+without the program, byte for byte.
 
 The first difference ends it with status 1. The end prints how many images were judged.
 """
@@ -17,12 +17,11 @@ from tools.harness.program import add_program, run
 from tools.model.layout import VERSION
 from tools.model.pool_bytes import Config
 from tools.model.pool_image import Image
-from tools.rows import hostile_images, hostile_logs
-from tools.rows.hostile_images import GUID, SCRIPT, SIZE, Tank
+from tools.rows import hostile_images, hostile_levels, hostile_logs
+from tools.rows.hostile_images import GUID, SIZE, Tank
+from tools.rows.hostile_levels import Tall
 
 SECONDS = 60
-ROWS = hostile_images.ROWS + hostile_logs.ROWS
-
 
 def fail(reason):
     raise Failed(f"hostile_rows.py: {reason}")
@@ -35,13 +34,17 @@ def refusal(line):
     return line.replace("damaged", "refused 7 Damaged") if line.startswith("damaged") else None
 
 
-def make_tank(ztxg, file):
+def all_rows():
+    return hostile_images.ROWS + hostile_logs.ROWS + hostile_levels.ROWS
+
+
+def make_pool(ztxg, file, script, synced, wanted):
     """The pool as the program makes it, which has to be the same bytes."""
     create(ztxg, file, SIZE)
-    status, lines, _ = run([ztxg, "script", "--file", file, "-"], SCRIPT, SECONDS).in_lines()
-    if status or lines[-1:] != ["synced 9"]:
+    status, lines, _ = run([ztxg, "script", "--file", file, "-"], script, SECONDS).in_lines()
+    if status or lines[-1:] != [f"synced {synced}"]:
         fail(f"the pool isn't made: {lines}")
-    if pathlib.Path(file).read_bytes() != bytes(Tank().content):
+    if pathlib.Path(file).read_bytes() != bytes(wanted.content):
         fail("the program makes another pool")
 
 
@@ -93,10 +96,12 @@ def add_arguments(parser):
 
 
 def main(ztxg):
+    rows = all_rows()
     with pool_file() as file:
-        make_tank(ztxg, file)
-        for title, make, line, *names in ROWS:
+        make_pool(ztxg, file, hostile_images.script(), 9, Tank())
+        make_pool(ztxg, file, hostile_levels.script(), 10, Tall())
+        for title, make, line, *names in rows:
             difference = judge_row(ztxg, file, make(), line, *names)
             if difference:
                 fail(f"{title}: wanted `{' '.join([line, *names])}`, found {difference}")
-    print(f"{len(ROWS)} images: check, show and import agree")
+    print(f"{len(rows)} images: check, show and import agree")

@@ -27,7 +27,8 @@ import tempfile
 
 from tools import Failed
 from tools.harness.program import add_program, run
-from tools.model.layout import DIRTY_MAX, MIB, TOP
+from tools.model import layout
+from tools.model.layout import DIRTY_MAX, MIB
 from tools.rows.cost_rows import ROUNDS, TABLES, Script
 
 # A line's command was read where the one function returns. One of the others prints its answer.
@@ -106,7 +107,7 @@ def session_cost(ztxg, made, kind, lines, folder):
     _, _, contents = lines[-1].split(" ", 2)
     begin = made.lines[made.lines.index(lines[-1]) - 1]
     owner, shape = begin.split()[1:]
-    lock = f"lock {owner} {shape.split(':')[1]} w 0 {TOP}"
+    lock = f"lock {owner} {shape.split(':')[1]} w 0 {layout.MAX_LENGTH}"
     # There the open transaction is the first one.
     return own_cost(ztxg, 8 * MIB, [lock, begin], [f"commit 0 {contents}"] * REFUSED, folder)
 
@@ -135,13 +136,13 @@ def count_plan(ztxg, plan, folder):
     if plan.bytes:
         made.create(1)
     for number in objects:
-        made.lock(PLANNER, number, TOP)
+        made.lock(PLANNER, number, layout.MAX_LENGTH)
     for _ in range(ROUNDS):
         made.transact(PLANNER, shapes, contents)
         made.count("begin", "commit")
         made.finish()
     begin = f"begin {PLANNER} {shapes}"
-    begun = [*(f"lock {PLANNER} {number} w 0 {TOP}" for number in objects), begin]
+    begun = [*(f"lock {PLANNER} {number} w 0 {layout.MAX_LENGTH}" for number in objects), begin]
     # There the open transaction is the first one.
     refused = {"begin": begin, "commit": f"commit 0 {contents}".rstrip()}
     kinds = count_kinds(ztxg, PLANS_SIZE, made, folder).items()
@@ -167,12 +168,12 @@ def judge(name, one, other):
 def run_table(ztxg, table, folder):
     """Prints a table and its verdicts, and tells whether a pair is too far apart."""
     rows = list(dict.fromkeys([*(row for pair in table.pairs.values() for row in pair), *table.rows]))
-    print(f"{table.name}\n{head(rows[0], table.kinds + ['all', 'sync'])}")
+    print(f"{table.name}\n{head(rows[0], [*table.kinds, 'all', *table.more])}")
     sums = {}
     for row in rows:
         costs = count(ztxg, table.size or row.MiB * MIB, table.script(row), folder)
         sums[row] = sum(costs[kind] for kind in table.kinds)
-        numbers = [*(costs[kind] for kind in table.kinds), sums[row], costs.get("sync", 0)]
+        numbers = [*(costs[kind] for kind in table.kinds), sums[row], *(costs.get(kind, 0) for kind in table.more)]
         print("".join(f"{number:10.0f}" for number in [*row, *numbers]), flush=True)
     return any([judge(name, sums[one], sums[other]) for name, (one, other) in table.pairs.items()])
 

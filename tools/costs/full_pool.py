@@ -1,9 +1,9 @@
 """Times `show`, `check` and an import of a full pool of 1 GiB beside the hashes of its blocks.
 
 The pool is written here, after docs/FORMATS.md and with no code of the program. Each of its 260,992 blocks except 64 is
-one of the tree, which has 3,070 objects, all but the last of 338,688 bytes. Each block's bytes are its own. The last 64
-blocks are left for the log and for a sync. FILE is made, or made anew, and stays; without one the pool lies in a
-temporary file.
+one of the tree, which has about 5,200 objects. The first 30 have the greatest length, and all others but the last one
+have eight records. Each block's bytes are its own. The last 64 blocks are left for the log and for a sync.
+FILE is made, or made anew, and stays; without one the pool lies in a temporary file.
 
 Then there are nine rounds, each of four processes, one after the other: `ztxg show FILE`, `ztxg check FILE`, a script
 that imports the pool, and HASH_BLOCKS, which reads the same blocks one by one and makes of each the digest that its
@@ -28,6 +28,7 @@ from tools.harness.pool_files import pool_file
 from tools.harness.program import add_program, measure, memory_of
 from tools.harness.served import Served
 from tools.model.frames import CALLS, Request, read_answers, requests_frame
+from tools.model import layout
 from tools.model.layout import (
     AREA,
     BLOCK,
@@ -40,16 +41,23 @@ from tools.model.layout import (
     OBJECTS,
     PAYLOAD,
     POINTERS,
+    RECORD,
     ROOT,
+    STRIP,
     TOP,
     block_count,
+    data_number,
     label_places,
+    levels_of,
     slot_places,
+    strip_number,
 )
 from tools.model.pool_bytes import Pointer, check_of, config, numbers, seal, uberblock
 
 SIZE = 2**30
 BLOCKS = block_count(SIZE)
+# So many objects have the greatest length, and the others so many records.
+LONG, FEW = 30, 8
 USED = BLOCKS - 64
 NAME, GUID, CREATED, GROUP, IMPORT = b"tank", 77, 4, 9, 1
 
@@ -83,11 +91,24 @@ def record(index):
     return numbers(index) * (PAYLOAD // 8)
 
 
+def write_strip(blocks, index, strip, records):
+    """The pointer to the indirect block of so many records of an object's strip."""
+    places = [data_number(index, POINTERS * strip + at) for at in range(records)]
+    pointers = [blocks.add(DATA, place, record(place)) for place in places]
+    return blocks.add(INDIRECT, strip_number(index, strip), b"".join(pointers))
+
+
 def write_object(blocks, index, records):
     """The directory's entry of an object of so many records."""
-    places = range(POINTERS * index, POINTERS * index + records)
-    pointers = [blocks.add(DATA, place, record(place)) for place in places]
-    return numbers(1, PAYLOAD * records) + blocks.add(INDIRECT, index, b"".join(pointers))
+    firsts = range(0, records, POINTERS)
+    strips = [write_strip(blocks, index, at, min(POINTERS, records - first)) for at, first in enumerate(firsts)]
+    levels = levels_of(RECORD * records)
+    return numbers(levels, RECORD * records) + (strips[0] if levels == 1 else blocks.add(TOP, index, b"".join(strips)))
+
+
+def blocks_of(records):
+    """The blocks of an object of so many records."""
+    return records + len(range(0, records, POINTERS)) + levels_of(RECORD * records) - 1
 
 
 def records_of_objects():
@@ -97,9 +118,9 @@ def records_of_objects():
     while left > 0:
         if len(counts) % ENTRIES == 0:
             left -= 1
-        records = min(POINTERS, left - 1)
+        records = layout.MAX_LENGTH // RECORD if len(counts) < LONG else min(FEW, left - 1)
         counts.append(records)
-        left -= 1 + records
+        left -= blocks_of(records)
     return counts
 
 
@@ -135,7 +156,7 @@ def write_pool(path):
         file.flush()
         os.fsync(file.fileno())
     lines = [f"blocks {BLOCKS} used {USED}", "records 0", f"objects {len(counts)}"]
-    lines += [f"{index} {PAYLOAD * records}" for index, records in enumerate(counts)]
+    lines += [f"{index} {RECORD * records}" for index, records in enumerate(counts)]
     return "".join(line + "\n" for line in lines)
 
 
@@ -161,7 +182,8 @@ def script(ztxg, path, imported, lines=()):
 
 def use(ztxg, path, imported):
     """The most memory of a script that uses the pool: it removes an object, writes to another one, and syncs."""
-    lines = ["lock 1 0 w 0 338688", "begin 1 d:0", "commit 0", "sync", "lock 1 1 w 0 338688", "begin 1 w:1:4030:4"]
+    lines = [f"lock 1 {number} w 0 {layout.MAX_LENGTH}" for number in (0, 1)]
+    lines += ["begin 1 d:0", "commit 0", "sync", "begin 1 w:1:4030:4"]
     lines += ["commit 1 abcd", "read 1 1 4029 4035", "sync", "digest"]
     printed, cost = script(ztxg, path, imported, lines)
     tell("\ndigest " in printed and "refused" not in printed, "a script")
@@ -182,7 +204,7 @@ def serve(ztxg, path):
     ask(served, ("transact", [("d", 1, 0, b"")]))
     ask(served, ("sync", ()))
     ask(served, ("transact_durably", [("w", 2, PAYLOAD - 2, b"abcd")]))
-    ask(served, ("read", (3, 0, TOP)))
+    ask(served, ("read", (3, 0, STRIP)))
     ask(served, ("length", (3,)))
     ask(served, ("objects", (0, OBJECTS)))
     ask(served, ("durable", (0, GROUP)))

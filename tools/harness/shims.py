@@ -31,6 +31,12 @@ def compiled(name):
         yield Shim(name, folder)
 
 
+def noted_calls(path):
+    """The calls that the shim `calls` noted in a file, each with its name, its place and its size."""
+    lines = [line.split() for line in pathlib.Path(path).read_text().splitlines()]
+    return [(name, int(place), int(size)) for name, place, size in lines]
+
+
 class Counts:
     """A file of numbers that a shim counts in, one for each of these names."""
 

@@ -5,7 +5,7 @@ import hashlib
 import itertools
 import struct
 
-from tools.model.layout import TOP
+from tools.model import layout
 
 # An entry is a committed transaction: its group, and its operations as (kind, object, place or length, bytes). The
 # kinds are the letters of a script: `c` creates the object, `d` removes it, `w` writes bytes at a place, `l` sets the
@@ -57,9 +57,9 @@ def digest(name, objects):
 def conflict(one, other):
     """Whether two transactions conflict: they touch a common byte of a number."""
     for kind, number, place, content in one.ops:
-        low, high = (place, place + len(content)) if kind == "w" else (0, TOP)
+        low, high = (place, place + len(content)) if kind == "w" else (0, layout.MAX_LENGTH)
         for kind2, number2, place2, content2 in other.ops:
-            low2, high2 = (place2, place2 + len(content2)) if kind2 == "w" else (0, TOP)
+            low2, high2 = (place2, place2 + len(content2)) if kind2 == "w" else (0, layout.MAX_LENGTH)
             if number == number2 and low < high2 and low2 < high:
                 return True
     return False

@@ -4,7 +4,8 @@
 import collections
 import struct
 
-from tools.model.layout import LAST, LOG_RECORD_MAX, OBJECTS, TOP
+from tools.model import layout
+from tools.model.layout import LAST, LOG_RECORD_MAX, OBJECTS
 from tools.model.pool_bytes import read_record, record
 
 VERSION, HEAD, MAX_FRAME = 1, 12, 4_194_304
@@ -108,7 +109,7 @@ def room_of(request):
     """The bytes that are kept for an answer."""
     if request.call == "read":
         _, low, high = request.needs
-        return 80 + min(max(high - low, 0), TOP)
+        return 80 + min(max(high - low, 0), layout.MAX_LENGTH)
     if request.call == "objects":
         first, past = request.needs
         return 80 + 12 * min(max(past - first, 0), OBJECTS)
@@ -239,7 +240,7 @@ class Server:
         return Answer(number, 10, string(self.name))
 
     def read(self, number, at, low, high):
-        if at >= OBJECTS or not low < high <= TOP:
+        if at >= OBJECTS or not low < high <= layout.MAX_LENGTH:
             return refused(number, 11)
         if at not in self.objects:
             return refused(number, 9)

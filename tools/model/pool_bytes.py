@@ -5,6 +5,7 @@ import hashlib
 import re
 import struct
 
+from tools.model import layout
 from tools.model.contents import Entry
 from tools.model.layout import (
     CONFIG,
@@ -16,7 +17,7 @@ from tools.model.layout import (
     OBJECTS,
     PAYLOAD,
     SLOT,
-    TOP,
+    STRIP,
     VERSION,
 )
 
@@ -188,8 +189,13 @@ class Reader:
         return self.at == len(self.content)
 
 
-def read_op(reader):
-    """The next operation within its limits, or None."""
+def longest(version):
+    """The greatest length of an object in a tree or a log of this version."""
+    return STRIP if version == 1 else layout.MAX_LENGTH
+
+
+def read_op(reader, longest):
+    """The next operation within its limits, or None. No object is longer than this."""
     tag = reader.number(1)
     if tag == 5:
         name = reader.take(reader.number(4))
@@ -201,16 +207,16 @@ def read_op(reader):
         place = reader.number(8)
     if kind == "w":
         content = reader.take(reader.number(4))
-    is_long = place + len(content) > TOP or (kind == "w" and not content)
+    is_long = place + len(content) > longest or (kind == "w" and not content)
     return None if number >= OBJECTS or is_long else (kind, number, place, content)
 
 
-def read_record(content):
-    """The record that these bytes are, as an entry, or None."""
+def read_record(content, version=VERSION):
+    """The record that these bytes are in a log of this version, as an entry, or None."""
     reader = Reader(content)
     try:
         group, ordinal, count = reader.number(8), reader.number(8), reader.number(2)
-        ops = [read_op(reader) for _ in range(count)]
+        ops = [read_op(reader, longest(version)) for _ in range(count)]
     except IndexError:
         return None
     if group > LAST or ordinal > LAST or not ops or None in ops or not reader.is_done():
@@ -235,14 +241,14 @@ def length_field(content):
     return int.from_bytes(content[:4], "little")
 
 
-def read_records(content):
-    """The records that these bytes are, one after another, as entries, or None."""
+def read_records(content, version=VERSION):
+    """The records that these bytes are in a log of this version, one after another, as entries, or None."""
     entries, at = [], 0
     while at < len(content):
         length = length_field(content[at:])
         if not 22 <= length <= len(content) - at:
             return None
-        entries.append(read_record(content[at + 4 : at + length]))
+        entries.append(read_record(content[at + 4 : at + length], version))
         if entries[-1] is None:
             return None
         at += length

@@ -26,12 +26,16 @@ from tools.model.layout import (
     ROOT,
     SLOT,
     SLOTS,
+    STRIP,
     TOP,
     block_count,
+    data_number,
     is_block_address,
     is_geometry,
     label_places,
+    levels_of,
     slot_places,
+    strip_number,
 )
 from tools.model.pool_bytes import (
     MAGIC,
@@ -39,6 +43,7 @@ from tools.model.pool_bytes import (
     Uberblock,
     check_of,
     long_length,
+    longest,
     number_at,
     opens,
     read_config,
@@ -100,6 +105,13 @@ class Image:
         for place in slot_places(self.size, new.group):
             self.put(place, new.bytes())
 
+    def age(self):
+        """Gives each uberblock version 1, as an older program wrote it."""
+        for label in label_places(self.size):
+            for place in range(label + ARRAY_AT, label + ARRAY_AT + SLOT * SLOTS, SLOT):
+                if self.content[place : place + 8] == MAGIC:
+                    self.put(place, Uberblock.at(self.slot(place))._replace(version=1).bytes())
+
     def active(self):
         """The active uberblock."""
         found = []
@@ -126,13 +138,21 @@ class Image:
         return max(fitting, key=lambda one: one.group).name
 
 
+# What the directory says of an object: its number, how many levels of indirect blocks it has, its length, and the
+# pointer to its top or its only indirect block, with the place of that pointer.
+Listed = collections.namedtuple("Listed", "number levels length pointer holder at")
+
+
 class Walk:
-    """The walk of an image's tree: its nodes and its objects. It goes on after a damage, without what lies below it, and
-    raises the first one at its end."""
+    """The walk of an image's tree: its nodes and its objects, and of each the records and the strips that have a block.
+    It goes on after a damage, without what lies below it, and raises the first one at its end.
+
+    The tree is one of its uberblock's version: one of version 1 has one level of indirect blocks.
+    """
 
     def __init__(self, image, active):
         self.image, self.active = image, active
-        self.nodes, self.objects, self.records, self.damages = [], {}, {}, []
+        self.nodes, self.objects, self.records, self.strips, self.damages = [], {}, {}, {}, []
         with self.noting():
             self.walk_root(active.root)
         if self.damages:
@@ -168,7 +188,7 @@ class Walk:
         return block[64:]
 
     def pointers(self, payload, kind, address):
-        """The pointers of a root or an indirect block that are not none, each with its index."""
+        """The pointers of a root, a top or an indirect block that are not none, each with its index."""
         if payload is None:
             return []
         found = [(index, Pointer.at(payload, 48 * index)) for index in range(POINTERS)]
@@ -177,36 +197,60 @@ class Walk:
             raise Damaged(kind, address)
         return found
 
+    def pointers_within(self, length, size, payload, kind, address):
+        """Those of a block whose pointers are each to so many bytes of an object. None of them is to bytes from this
+        length on."""
+        found = self.pointers(payload, kind, address)
+        if any(size * index >= length for index, _ in found):
+            raise Damaged(kind, address)
+        return found
+
     def walk_directory(self, index, pointer, root):
         payload = self.visit(DIRECTORY, index, pointer, root, 64 + 48 * index)
         entries = []
         for at in range(0, 64 * ENTRIES, 64):
-            (present, length), indirect = struct.unpack_from("<QQ", payload, at), Pointer.at(payload, at + 16)
-            is_absent = not any(payload[at : at + 64])
-            is_odd = indirect.address == 0 and not indirect.is_none()
-            if not is_absent and (present != 1 or length > TOP or is_odd):
+            (present, length), below = struct.unpack_from("<QQ", payload, at), Pointer.at(payload, at + 16)
+            if not any(payload[at : at + 64]):
+                continue
+            is_odd = below.address == 0 and not below.is_none()
+            if length > longest(self.active.version) or present != levels_of(length) or is_odd:
                 raise Damaged(DIRECTORY, pointer.address)
-            if present:
-                entries.append((ENTRIES * index + at // 64, length, indirect, at))
-        for number, length, indirect, at in entries:
+            number = ENTRIES * index + at // 64
+            entries.append(Listed(number, present, length, below, pointer.address, 64 + at + 16))
+        for listed in entries:
             with self.noting():
-                self.walk_object(number, length, indirect, pointer.address, 64 + at + 16)
+                self.walk_object(listed)
 
-    def walk_object(self, number, length, indirect, holder, at):
-        payload = self.visit(INDIRECT, number, indirect, holder, at)
-        found = self.pointers(payload, INDIRECT, indirect.address)
-        if any(RECORD * index >= length for index, _ in found):
-            raise Damaged(INDIRECT, indirect.address)
-        content = bytearray(length)
-        for index, pointer in found:
+    def walk_object(self, listed):
+        """The blocks of an object: its only indirect block, or its top and its indirect blocks, rising."""
+        number, levels, length, pointer, holder, at = listed
+        content, records, strips = bytearray(length), set(), set()
+        if levels == 1:
+            self.walk_strip(number, 0, pointer, (holder, at), content, records)
+            strips = set() if pointer.is_none() else {0}
+        else:
+            top = self.visit(TOP, number, pointer, holder, at)
+            for strip, below in self.pointers_within(length, STRIP, top, TOP, pointer.address):
+                strips.add(strip)
+                with self.noting():
+                    self.walk_strip(number, strip, below, (pointer.address, 64 + 48 * strip), content, records)
+        self.objects[number], self.records[number], self.strips[number] = bytes(content), records, strips
+
+    def walk_strip(self, number, strip, pointer, place, content, records):
+        """An indirect block of an object and its records, whose bytes go into the content of the object."""
+        payload, left = self.visit(INDIRECT, strip_number(number, strip), pointer, *place), len(content) - STRIP * strip
+        for index, below in self.pointers_within(left, RECORD, payload, INDIRECT, pointer.address):
             with self.noting():
-                data = self.visit(DATA, POINTERS * number + index, pointer, indirect.address, 64 + 48 * index)
-                left = min(length - RECORD * index, RECORD)
-                if any(data[left:]):
-                    raise Damaged(DATA, pointer.address)
-                content[RECORD * index : RECORD * index + left] = data[:left]
-        self.objects[number] = bytes(content)
-        self.records[number] = {index for index, _ in found}
+                self.walk_record(number, POINTERS * strip + index, below, (pointer.address, 64 + 48 * index), content)
+            records.add(POINTERS * strip + index)
+
+    def walk_record(self, number, record, pointer, place, content):
+        """A record of an object, whose bytes go into its content."""
+        data, begin = self.visit(DATA, data_number(number, record), pointer, *place), RECORD * record
+        end = min(len(content), begin + RECORD)
+        if any(data[end - begin :]):
+            raise Damaged(DATA, pointer.address)
+        content[begin:end] = data[: end - begin]
 
 
 # A piece of a log chain: the nodes of its blocks, its entries, and the address of the block after it. It is a block of
@@ -232,7 +276,7 @@ def read_piece(image, active, number, address):
     first = read_log_block(image, active, number, address)
     if first is None:
         return None
-    entries = read_records(first.used)
+    entries = read_records(first.used, active.version)
     if entries is not None:
         return Piece([log_node(number, address)], entries, first.follower)
     length = long_length(first.used) if active.version > 1 else None
@@ -285,7 +329,7 @@ def mount(found):
         if objects is None:
             raise Damaged(LOG, first.address)
     name = rename(found.name, entries)
-    needed, _ = count_blocks(walk.objects, walk.records, entries)
+    needed, _ = count_blocks(walk.objects, walk.records, entries, walk.strips)
     nodes = walk.nodes + [node for piece in chain for node in piece.nodes]
     return Mount(name, active, block_count(found.image.size), nodes, len(above), objects, needed + 1)
 

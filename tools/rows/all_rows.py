@@ -6,6 +6,7 @@
 - Crashes of whole pools (`crash_rows.py`): rounds of transactions, a sync, the log or an import that is stopped after
   each of its device calls, each string of kept, lost and torn writes, and the next import. The same of syncs that give
   the pool a name, and of imports after them (`name_rows.py`).
+- The same of objects that go from one level of indirect blocks to two and back (`level_rows.py`).
 - Rounds of worked rows and of those of the log, whose calls are refused, which are stopped, and whose imports are
   stopped; and of creates that are stopped (`stop_rows.py`).
 
@@ -24,6 +25,7 @@ from tools.rows.crash_rows import (
     syncs_beside_log,
     syncs_beside_long_records,
 )
+from tools.rows.level_rows import stopped_levels, stopped_replays_of_levels
 from tools.rows.limit_rows import (
     full_log,
     long_record_without_space,
@@ -41,7 +43,7 @@ from tools.rows.limit_rows import (
     printable_words,
 )
 from tools.rows.name_rows import stopped_imports_of_names, stopped_names
-from tools.rows.script_row import FILES, read_rows
+from tools.rows.script_row import read_rows, row_files
 from tools.rows.stop_rows import stopped_scripts
 from tools.rows.sync_rows import eighth_steps, lost_imports, many_groups, ten_crashes, whole_uberblocks
 
@@ -77,11 +79,13 @@ MADE = [
     stopped_imports_of_names,
     ten_crashes,
     lost_imports,
+    stopped_levels,
+    stopped_replays_of_levels,
 ]
 
 
 def all_rows():
-    written = {path.name: read_rows(path) for path in FILES}
+    written = {path.name: read_rows(path) for path in row_files()}
     rows = [row for rows in written.values() for row in rows]
     yield from rows
     for make in MADE:

@@ -1,5 +1,6 @@
 """Rows of lines that are no commands, and of comments, which some bytes make hard to write in a file."""
 
+from tools.model.layout import MAX_COPIES
 from tools.rows.script_row import BAD_COMMAND, Row
 
 # Lines that are no commands. Each follows lines after which a line of the right form would be answered: there is a
@@ -38,7 +39,7 @@ BAD_LINES = [
     b"abort 0 1",
     b"abort 18446744073709551616",
     b"commit 0 @0:a",
-    b"commit 0 @338689:a",
+    f"commit 0 @{MAX_COPIES + 1}:a".encode(),
     b"commit 0 @4",
     b"crash x",
     b"fail sync 1",

@@ -13,11 +13,14 @@
 - Log writes of ten records, with so many records pending. Log flushes of one block, and the question whether a commit
   is durable, with so many log blocks kept.
 - The last step of a sync, with so many log blocks that come back and so many that stay.
+- Writes to a filled object of so many records, whose sync takes one record and what is above it. They fill its middle
+  record anew, or append one; an append is locked by `append`.
 """
 
 import collections
 
-from tools.model.layout import DIRTY_MAX, MIB, TOP
+from tools.model import layout
+from tools.model.layout import DIRTY_MAX, MIB, RECORD, levels_of
 
 COMMITS = 1000
 GROUP = 50
@@ -28,6 +31,11 @@ ROUND = 20
 LOG_RECORDS = 10
 LOG_BYTES = 361
 LOGGED_WRITES = 100
+# So many writes of so many bytes fill a record.
+PIECES, PIECE = 42, 96
+assert PIECES * PIECE == RECORD
+# The records of one transaction that fills an object, and how many of these are in a group.
+FILLED, FILLS = 16, 20
 
 
 class Script:
@@ -51,8 +59,12 @@ class Script:
         for at, kind in enumerate(kinds, len(self.lines) - len(kinds)):
             self.counted[at] = kind
 
-    def lock(self, owner, number, high):
-        self.lines.append(f"lock {owner} {number} w 0 {high}")
+    def lock(self, owner, number, high, low=0):
+        return self.locked(f"lock {owner} {number} w {low} {high}")
+
+    def locked(self, line):
+        """The name of the lock that a line is granted."""
+        self.lines.append(line)
         self.next_lock += 1
         return self.next_lock - 1
 
@@ -61,7 +73,7 @@ class Script:
 
     def lock_other(self, other):
         """Another owner, numbered from 1 on, locks the object of that number, which may be there or not."""
-        self.others.append((other, self.lock(100 + other, other, TOP)))
+        self.others.append((other, self.lock(100 + other, other, layout.MAX_LENGTH)))
 
     def renew_oldest(self):
         other, lock = self.others.popleft()
@@ -77,7 +89,7 @@ class Script:
         """Creates the objects below a number, up to 200 in a group."""
         for first in range(0, count, 200):
             some = range(first, min(first + 200, count))
-            locks = [self.lock(1, number, TOP) for number in some]
+            locks = [self.lock(1, number, layout.MAX_LENGTH) for number in some]
             self.transact(1, " ".join(f"c:{number}" for number in some))
             for lock in locks:
                 self.unlock(1, lock)
@@ -88,6 +100,32 @@ class Script:
         lock = self.lock(2, number, 100)
         self.transact(2, f"w:{number}:0:100", "@100:x")
         self.unlock(2, lock)
+
+    def fill(self, number, records):
+        """So many records of an object get bytes, and all groups are synced."""
+        lock = self.lock(2, number, layout.MAX_LENGTH)
+        for at, first in enumerate(range(0, records, FILLED), 1):
+            size = RECORD * min(FILLED, records - first)
+            self.transact(2, f"w:{number}:{RECORD * first}:{size}", f"@{size}:x")
+            if at % FILLS == 0:
+                self.finish()
+        self.unlock(2, lock)
+        self.finish()
+
+    def fill_record(self, number, record, is_append):
+        """The record of an object is filled by transactions that count."""
+        for place in range(RECORD * record, RECORD * (record + 1), PIECE):
+            line = f"append 2 {number}" if is_append else f"lock 2 {number} w {place} {place + PIECE}"
+            lock = self.locked(line)
+            self.transact(2, f"w:{number}:{place}:{PIECE}", f"@{PIECE}:y")
+            self.unlock(2, lock)
+            self.count("lock", "begin", "commit", "unlock")
+
+    def start_counted(self, blocks):
+        """A sync starts that takes so many blocks, as the lines before and after it tell."""
+        self.lines += ["status", "start", "status"]
+        self.counted[len(self.lines) - 2] = "start"
+        self.takes[len(self.lines) - 2] = blocks
 
     def write_logged(self, count, blocks):
         """So many writes to object 0. A log write comes after each of the first ones, as many as there are to be
@@ -128,6 +166,7 @@ Blocks = collections.namedtuple("Blocks", "objects blocks")
 LogWrites = collections.namedtuple("LogWrites", "pending")
 LogFlushes = collections.namedtuple("LogFlushes", "kept")
 LogEnds = collections.namedtuple("LogEnds", "back kept")
+Records = collections.namedtuple("Records", "records append")
 
 
 def commits(row):
@@ -220,9 +259,7 @@ def blocks(row):
     for _ in range(ROUNDS):
         script.write_many(row.objects)
         script.close()
-        script.lines += ["status", "start", "status"]
-        script.counted[len(script.lines) - 2] = "start"
-        script.takes[len(script.lines) - 2] = row.blocks
+        script.start_counted(row.blocks)
         script.lines.append("finish")
         script.count("finish")
     return script
@@ -276,11 +313,28 @@ def log_ends(row):
     return script
 
 
+def record_writes(row):
+    """Each sync takes a record, its indirect block, the top if there is one, the directory and the root."""
+    script = Script()
+    script.create(1)
+    script.fill(0, row.records)
+    for at in range(ROUNDS):
+        record = row.records + at if row.append else row.records // 2
+        script.fill_record(0, record, row.append)
+        script.close()
+        script.start_counted(3 + levels_of(RECORD * row.records))
+        script.lines.append("finish")
+        script.count("finish")
+    return script
+
+
 # A table has its name, what makes the script of a row, the bytes of its pools, its kinds of lines, its pairs of rows,
-# and rows that are no pair.
-Table = collections.namedtuple("Table", "name script size kinds pairs rows", defaults=[()])
+# rows that are no pair, and kinds of lines that aren't judged.
+Table = collections.namedtuple("Table", "name script size kinds pairs rows more", defaults=[(), ("sync",)])
 SMALL = Commits(MiB=8, locks=1, objects=1)
 LINES = ["lock", "begin", "commit", "unlock"]
+# The records of an object that has room for one more in each round.
+LONG = layout.MAX_LENGTH // RECORD - ROUNDS
 TABLES = [
     Table(
         "Commits",
@@ -348,5 +402,17 @@ TABLES = [
         ["end"],
         {"none or 100 that stay": (LogEnds(100, 0), LogEnds(100, 100))},
         [LogEnds(1, 0), LogEnds(10, 0)],
+    ),
+    Table(
+        "Writes to a long object",
+        record_writes,
+        64 * MIB,
+        LINES,
+        {
+            f"{kind}, 10 or {LONG} records": (Records(10, append), Records(LONG, append))
+            for kind, append in (("in the middle", 0), ("at the end", 1))
+        },
+        (),
+        ("start", "finish"),
     ),
 ]

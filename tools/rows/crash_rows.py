@@ -5,7 +5,8 @@ shows what it mounts. All answers are those of a plain serial pool (`tools/model
 """
 
 from tools.model.contents import digest
-from tools.model.layout import MIB, TOP
+from tools.model import layout
+from tools.model.layout import MIB
 from tools.model.serial_pool import LEAST, Image, Run, Tree
 from tools.rows.script_row import Row, all_strings, shape_of, word_of
 
@@ -40,15 +41,15 @@ class Book(Row):
     def look(self):
         """Owner 1 locks all objects, and reads what the serial pool has of them."""
         for number in OBJECTS:
-            self.say(f"lock 1 {number} w 0 {TOP}", f"lock {number}")
+            self.say(f"lock 1 {number} w 0 {layout.MAX_LENGTH}", f"lock {number}")
             self.read(number)
 
     def read(self, number):
         if number in self.run.mounted:
             content = self.run.mounted[number]
-            self.say(f"read 1 {number} 0 {TOP}", f"bytes {len(content)} {content.hex()}".rstrip())
+            self.say(f"read 1 {number} 0 {layout.MAX_LENGTH}", f"bytes {len(content)} {content.hex()}".rstrip())
         else:
-            self.say(f"read 1 {number} 0 {TOP}", "refused 9 NoObject")
+            self.say(f"read 1 {number} 0 {layout.MAX_LENGTH}", "refused 9 NoObject")
 
     def begin(self, kind, number, place=0, content=b""):
         """A transaction of one operation begins in the open group."""
@@ -235,7 +236,7 @@ class LogBook(Book):
         1, 2, 3    a transaction that writes to object 1, sets the length of object 2, or makes object 3 or removes it
         h, H       one as `3` begins, and is committed
         c, q       the open group is closed, and is quiesced
-        s, .       a sync starts, and makes a step
+        s, ., e    a sync starts, makes a step, and goes on to its end
         w, f       a log write, and a log flush
         d          the questions whether the first commit and the last one are durable
         i          the status
@@ -263,13 +264,14 @@ class LogBook(Book):
             "q": self.quiesce,
             "s": self.start,
             ".": lambda: self.step(1),
+            "e": self.finish,
             "w": self.log_write,
             "f": self.log_flush,
             "i": self.status,
         }
         for move in moves:
             self.played += 1
-            if move in "12345":
+            if move.isdigit():
                 self.transact(*self.operation(move))
             elif move == "h":
                 self.held = self.begin(*self.operation(move))

@@ -57,14 +57,9 @@ class Pool:
             return [one.run.sync.calls[one.run.sync.made]]
         return {"logged": ["write"], "flushed": ["flush"]}.get(answer.split()[0], [])
 
-    def begin(self, words, answer):
+    def begin(self, shapes, answer):
         """A transaction that begins, whose bytes come with its commit."""
-        ops = []
-        for shape in words:
-            kind, *words = shape.split(":")
-            number, place, length = [NAMED, 0, *words] if kind == "n" else [*words, "0", "0"][:3]
-            ops.append((kind, int(number), int(place), b"\0" * int(length)))
-        self.open_ones[answer.split()[1]] = self.run.begin(ops)
+        self.open_ones[answer.split()[1]] = self.run.begin(ops_of(shapes))
 
     def commit(self, words, answer):
         contents, entry = iter(words[1:]), self.open_ones.pop(words[0])
@@ -158,6 +153,16 @@ class Pool:
         if word == "durable":
             return "durable yes" if self.run.is_durable(*map(int, words)) else "durable no"
         return "refused 5 Suspended"
+
+
+def ops_of(shapes):
+    """The operations of these shapes, with zeros for their bytes."""
+    ops = []
+    for shape in shapes:
+        kind, *words = shape.split(":")
+        number, place, length = [NAMED, 0, *words] if kind == "n" else [*words, "0", "0"][:3]
+        ops.append((kind, int(number), int(place), b"\0" * int(length)))
+    return ops
 
 
 def content_of(word):

@@ -5,6 +5,7 @@ long record. Then the checks from there up to the uberblock are made right, so t
 a check that fails.
 """
 
+from tools.model import layout
 from tools.model.layout import (
     AREA,
     ARRAY_AT,
@@ -26,14 +27,17 @@ from tools.model.layout import (
     ROOT,
     SLOT,
     SLOTS,
+    STRIP,
     TOP,
     block_count,
     label_places,
+    levels_of,
+    record_of,
     slot_places,
 )
 from tools.model.pool_bytes import (
-    MAGIC,
     NONE,
+    Pointer,
     Uberblock,
     check_of,
     config,
@@ -42,6 +46,7 @@ from tools.model.pool_bytes import (
     numbers,
     parts_of,
     record,
+    seal,
     sealed_again,
     sha,
 )
@@ -49,9 +54,17 @@ from tools.model.pool_image import Image
 
 # Where the fields of a log block lie in it: the chain number, the next address, the used length, the records.
 CHAIN_AT, NEXT_AT, USED_AT, RECORDS_AT = 64, 72, 80, 88
-LIMITS = [0, 1, 2, 22, LOG_ROOM, LOG_ROOM + 1, RECORD - 1, RECORD, RECORD + 1, TOP - 1, TOP, TOP + 1, OBJECTS, 2**32]
+LIMITS = [0, 1, 2, 22, LOG_ROOM, LOG_ROOM + 1, RECORD - 1, RECORD, RECORD + 1, OBJECTS, 2**32]
+# The blocks of a tree, and those that name other ones.
+TREE = (ROOT, DIRECTORY, TOP, INDIRECT, DATA)
+HOLDERS = TREE[:-1]
 # Lengths of long records, of which the last one is no record's.
 LONG = [LOG_ROOM + 1, 2 * LOG_ROOM, 2 * LOG_ROOM + 1, LOG_RECORD_MAX, LOG_RECORD_MAX + 1]
+
+
+def some_lengths():
+    """Lengths about those at which the levels of an object change, and about the greatest one."""
+    return [limit + more for limit in (STRIP, layout.MAX_LENGTH) for more in (-1, 0, 1)]
 
 
 def replaced(content, at, new):
@@ -74,7 +87,8 @@ class Edits:
         """One edit, of a kind that the pool has blocks for."""
         kinds = [self.uberblock, self.slot, self.age, self.config, self.configs, self.tear]
         if self.some(ROOT):
-            kinds += [self.pointer, self.entry, self.byte, self.head, self.data, self.swap] * 2 + [self.move]
+            kinds += [self.pointer, self.entry, self.byte, self.head, self.data, self.swap] * 2
+            kinds += [self.move, self.raise_object, self.lower_object]
         if self.some(LOG):
             kinds += [self.log, self.records, self.records, self.records, self.long_record, self.long_record]
         kind = self.chance.choice(kinds)
@@ -101,7 +115,8 @@ class Edits:
         group = self.active.group
         near = [old + 1, old - 1, old ^ (1 << self.chance.randrange(64))]
         groups = [group - 1, group, group + 1, 3, 4, LAST - 5, LAST - 4, LAST - 1, LAST, LAST + 1, 2**64 - 1]
-        others = [self.chance.choice(groups), self.chance.choice(LIMITS), self.address(), self.chance.getrandbits(64)]
+        limits = [*LIMITS, *some_lengths()]
+        others = [self.chance.choice(groups), self.chance.choice(limits), self.address(), self.chance.getrandbits(64)]
         return self.chance.choice(near + others) % 2**64
 
     def set_number(self, content, at):
@@ -143,8 +158,8 @@ class Edits:
     # The tree
 
     def pointer(self):
-        """A field of a pointer in a root, a directory or an indirect block, or of one that was none."""
-        node = self.chance.choice(self.some(ROOT, DIRECTORY, INDIRECT))
+        """A field of a pointer in a block of the tree, or of one that was none."""
+        node = self.chance.choice(self.some(*HOLDERS))
         block = self.image.block(node.address)
         places = range(64, 64 + 48 * POINTERS, 48) if node.kind != DIRECTORY else range(80, 64 + 64 * ENTRIES, 64)
         held = [at for at in places if any(block[at : at + 48])]
@@ -161,34 +176,64 @@ class Edits:
         elif kind == "no address":
             block = replaced(block, at, numbers(0))
         else:
-            other = self.chance.choice(self.some(ROOT, DIRECTORY, INDIRECT, DATA))
+            other = self.chance.choice(self.some(*TREE))
             block = replaced(block, at, other.pointer.bytes())
         self.put_block(node.address, block)
 
     def entry(self):
-        """Whether an entry is present, its length, or all of it."""
-        node = self.chance.choice(self.some(DIRECTORY))
+        """How many levels an entry has, its length, both, or all of it."""
+        node, at, present = self.some_entry()
         block = self.image.block(node.address)
-        places = range(64, 64 + 64 * ENTRIES, 64)
-        present = [at for at in places if any(block[at : at + 64])]
-        at = self.chance.choice(present if present and self.chance.random() < 0.8 else places)
-        kind = self.chance.choice(["present", "length", "length", "absent", "another"])
-        if kind == "present":
-            block = self.set_number(block, at)
-        elif kind == "length":
-            old = number_at(block, at + 8)
-            length = self.chance.choice([0, 1, old + 1, abs(old - 1), TOP, TOP + 1, self.chance.randrange(TOP)])
-            block = replaced(block, at + 8, numbers(length % 2**64))
+        kind = self.chance.choice(["levels", "length", "length", "both", "absent", "another"])
+        if kind == "levels":
+            levels = self.chance.choice([0, 1, 2, 3, self.number(number_at(block, at))])
+            block = replaced(block, at, numbers(levels))
+        elif kind in ("length", "both"):
+            length = self.some_length(number_at(block, at + 8))
+            block = replaced(block, at + 8, numbers(length))
+            block = replaced(block, at, numbers(levels_of(length))) if kind == "both" else block
         elif kind == "absent":
             block = replaced(block, at, bytes(64))
         else:
-            other = self.chance.choice(present or places)
+            other = self.chance.choice(present or [at])
             block = replaced(block, at, block[other : other + 64])
         self.put_block(node.address, block)
 
+    def some_entry(self):
+        """A directory, where an entry of it lies, mostly one that is present, and where those lie."""
+        node = self.chance.choice(self.some(DIRECTORY))
+        block, places = self.image.block(node.address), range(64, 64 + 64 * ENTRIES, 64)
+        present = [at for at in places if any(block[at : at + 64])]
+        return node, self.chance.choice(present if present and self.chance.random() < 0.8 else places), present
+
+    def raise_object(self):
+        """A top above what an entry names, which is mostly the object's first strip, and an entry of two levels."""
+        node, at, _ = self.some_entry()
+        block, strip = self.image.block(node.address), self.chance.choice([0, 0, 0, 0, 1, POINTERS - 1])
+        payload = bytes(48 * strip) + block[at + 16 : at + 64]
+        top = seal(TOP, self.active.guid, self.active.group, ENTRIES * node.number + at // 64 - 1, payload)
+        place, length = AREA + BLOCK * self.some_block(), self.chance.choice([STRIP + 1, *some_lengths()])
+        self.image.put(place, top)
+        pointer = Pointer(place, self.active.group, check_of(top))
+        self.put_block(node.address, replaced(block, at, numbers(2, length) + pointer.bytes()))
+
+    def lower_object(self):
+        """An entry of one level that names a strip of an object of two, mostly the first one."""
+        if not self.some(TOP):
+            return
+        top, strip = self.chance.choice(self.some(TOP)), self.chance.choice([0, 0, 0, 1])
+        at, length = 64 + 48 * strip, self.chance.choice([STRIP, STRIP, STRIP - 1, RECORD, 0])
+        entry = numbers(1, length) + self.image.block(top.address)[at : at + 48]
+        self.put_block(top.holder, replaced(self.image.block(top.holder), top.at - 16, entry))
+
+    def some_length(self, old):
+        """A length in place of this one."""
+        least = [0, 1, old + 1, abs(old - 1), self.chance.randrange(RECORD)]
+        return self.chance.choice([*least, *some_lengths(), self.chance.randrange(layout.MAX_LENGTH)]) % 2**64
+
     def byte(self):
         """Any byte of a block of the tree."""
-        node = self.chance.choice(self.some(ROOT, DIRECTORY, INDIRECT, DATA))
+        node = self.chance.choice(self.some(*TREE))
         self.put_block(node.address, self.set_byte(self.image.block(node.address), self.chance.randrange(BLOCK)))
 
     def head(self):
@@ -202,8 +247,8 @@ class Edits:
     def data(self):
         """A byte of a record, often about the end of its object."""
         node = self.chance.choice(self.some(DATA) or self.mount.nodes)
-        content = self.mount.objects.get(node.number // POINTERS, b"")
-        end = min(max(0, len(content) - RECORD * (node.number % POINTERS)), RECORD)
+        number, index = record_of(node.number)
+        end = min(max(0, len(self.mount.objects.get(number, b"")) - RECORD * index), RECORD)
         at = self.chance.choice([self.chance.randrange(RECORD), min(end, RECORD - 1), max(end - 1, 0), RECORD - 1])
         self.put_block(node.address, self.set_byte(self.image.block(node.address), 64 + at))
 
@@ -250,7 +295,7 @@ class Edits:
         root = self.active.root
         odd = [root._replace(address=0), root._replace(address=self.address()), NONE, NONE._replace(check=root.check)]
         odd += [root._replace(birth=self.number(root.birth))]
-        return self.chance.choice(odd + [node.pointer for node in self.some(ROOT, DIRECTORY, INDIRECT, DATA)])
+        return self.chance.choice(odd + [node.pointer for node in self.some(*TREE)])
 
     def uberblock(self):
         """A field of the active uberblock, in all labels or in some."""
@@ -273,10 +318,7 @@ class Edits:
 
     def age(self):
         """Each uberblock has version 1, as that of an older program."""
-        for label in label_places(self.size):
-            for place in range(label + ARRAY_AT, label + ARRAY_AT + SLOT * SLOTS, SLOT):
-                if self.image.content[place : place + 8] == MAGIC:
-                    self.image.put(place, Uberblock.at(self.image.slot(place))._replace(version=1).bytes())
+        self.image.age()
 
     def slot(self):
         """A byte of an uberblock, with or without its check, or an uberblock in any slot."""
@@ -411,9 +453,9 @@ class Edits:
             names = [b"tank", b"pond", b"a", b"a" * 64, b"a" * 65, b"4tank", b""]
             return (kind, NAMED, 0, self.chance.choice(names))
         if kind == "l":
-            return (kind, number, self.chance.choice([0, 3, RECORD, 9_000, TOP, TOP + 1]), b"")
+            return (kind, number, self.chance.choice([0, 3, RECORD, 9_000, *some_lengths()]), b"")
         if kind == "w":
             content = self.chance.choice([b"a", b"bc", b"defgh"]) * self.chance.choice([1, 1, 20, 300])
-            top = TOP - len(content)
-            return (kind, number, self.chance.choice([0, 1, 4_030, RECORD, 12_000, top, top + 1]), content)
+            ends = [end - len(content) for end in some_lengths()]
+            return (kind, number, self.chance.choice([0, 1, 4_030, RECORD, 12_000, STRIP, *ends]), content)
         return (kind, number, 0, b"")

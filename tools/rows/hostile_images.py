@@ -1,9 +1,11 @@
 """Worked images of a hostile writer, with what `check` has to print of each.
 
 A pool gets two transactions in two groups at once; the older one is synced. Each row makes one edit of its image, with
-every other check made right. Those of a log with long records are in `hostile_logs.py`.
+every other check made right. Those of a log with long records are in `hostile_logs.py`, and those of an object with two
+levels of indirect blocks in `hostile_levels.py`.
 """
 
+from tools.model import layout
 from tools.model.layout import (
     AREA,
     BLOCK,
@@ -15,7 +17,9 @@ from tools.model.layout import (
     NAMED,
     ROOT,
     SLOT,
+    STRIP,
     VERSION,
+    data_number,
     label_places,
     slot_places,
 )
@@ -27,24 +31,26 @@ LOG_AT, DATA_AT, INDIRECT_AT, DIRECTORY_AT, ROOT_AT = range(AREA, AREA + 5 * BLO
 # Where the blocks of a longer log lie: the first one before the tree, the others behind it.
 CHAIN_AT = [LOG_AT, *range(ROOT_AT + BLOCK, ROOT_AT + 20 * BLOCK, BLOCK)]
 
-# The lines by which a program makes it, after its create.
-SCRIPT = [
-    "import 1048576",
-    "lock 1 1 w 0 338688",
-    "begin 1 c:1",
-    "commit 0",
-    "unlock 1 0",
-    "lock 1 1 w 0 4",
-    "begin 1 w:1:0:4",
-    "close",
-    "lock 2 1 w 100 104",
-    "begin 2 w:1:100:4",
-    "commit 2 wxyz",
-    "commit 1 abcd",
-    "quiesce",
-    "start",
-    "finish",
-]
+
+def script():
+    """The lines by which a program makes it, after its create."""
+    return [
+        "import 1048576",
+        f"lock 1 1 w 0 {layout.MAX_LENGTH}",
+        "begin 1 c:1",
+        "commit 0",
+        "unlock 1 0",
+        "lock 1 1 w 0 4",
+        "begin 1 w:1:0:4",
+        "close",
+        "lock 2 1 w 100 104",
+        "begin 2 w:1:100:4",
+        "commit 2 wxyz",
+        "commit 1 abcd",
+        "quiesce",
+        "start",
+        "finish",
+    ]
 
 
 class Tank(Image):
@@ -57,6 +63,7 @@ class Tank(Image):
         self.put_uberblock(uberblock(4, GUID, version=version))
         self.put_uberblock(uberblock(8, GUID, import_number=1, log_address=LOG_AT, version=version))
         self.version = version
+        self.record = 0
         self.data = b"abcd"
         self.indirect = lambda data: data.bytes()
         self.length = 4
@@ -64,19 +71,19 @@ class Tank(Image):
         self.root = lambda directory: directory.bytes()
         self.write()
 
-    def put_block(self, kind, number, address, payload):
-        block = seal(kind, GUID, GROUP, number, payload)
+    def put_block(self, kind, number, address, payload, group=GROUP):
+        block = seal(kind, GUID, group, number, payload)
         self.put(address, block)
-        return Pointer(address, GROUP, check_of(block))
+        return Pointer(address, group, check_of(block))
 
     def write(self, root=None):
         """Writes the tree, each block with its check, and the uberblock of group 9 with the pointer to its root."""
-        data = self.put_block(DATA, 84, DATA_AT, self.data)
+        data = self.put_block(DATA, data_number(1, self.record), DATA_AT, self.data)
         indirect = self.put_block(INDIRECT, 1, INDIRECT_AT, self.indirect(data))
         entry = numbers(1, self.length) + self.entry(indirect).bytes()
         directory = self.put_block(DIRECTORY, 0, DIRECTORY_AT, bytes(64) + entry)
-        top = self.put_block(ROOT, 0, ROOT_AT, self.root(directory))
-        self.put_uberblock(uberblock(GROUP, GUID, root or top, 1, LOG_AT, version=self.version))
+        written = self.put_block(ROOT, 0, ROOT_AT, self.root(directory))
+        self.put_uberblock(uberblock(GROUP, GUID, root or written, 1, LOG_AT, version=self.version))
         return self
 
     def log(self, group=10, length=None, used=None, op=("c", 2, 0, b"")):
@@ -92,9 +99,9 @@ class Tank(Image):
             self.put(CHAIN_AT[number], log_block(**{**said, "content": content, **odd_ones}))
         return self
 
-    def versions(self, *versions):
+    def versions(self, *versions, group=GROUP):
         """The versions of the active uberblock in labels 0 to 3, the last one in all that follow."""
-        for label, place in enumerate(slot_places(SIZE, GROUP)):
+        for label, place in enumerate(slot_places(SIZE, group)):
             read = Uberblock.at(self.slot(place))
             self.put(place, read._replace(version=versions[min(label, len(versions) - 1)]).bytes())
         return self
@@ -140,7 +147,8 @@ ROWS = [
         lambda: edited(root=lambda directory: directory._replace(address=ROOT_AT).bytes()),
         "damaged 3 4210688",
     ),
-    ("entry 1 has length 338,689", lambda: edited(length=338_689), "damaged 3 4206592"),
+    ("entry 1 has one level and a byte more than a strip", lambda: edited(length=STRIP + 1), "damaged 3 4206592"),
+    ("entry 1 has the length of a strip", lambda: edited(length=STRIP), "clean group 9 records 0"),
     ("entry 1 has length 0, and its record's pointer is kept", lambda: edited(length=0), "damaged 4 4202496"),
     (
         "entry 1's pointer has the address 4,202,497",

@@ -4,7 +4,8 @@ The pool is that of `hostile_images.py`. Its log gets a record of three parts an
 field of the record wrong, or of one of its blocks, with every check made right. Then neither record is replayed.
 """
 
-from tools.model.layout import AREA, BLOCK, DATA, LAST, LOG_ROOM, MIB, NAMED, OBJECTS, TOP
+from tools.model import layout
+from tools.model.layout import AREA, BLOCK, DATA, LAST, LOG_ROOM, MIB, NAMED, OBJECTS
 from tools.model.pool_bytes import numbers, parts_of, record
 from tools.rows.hostile_images import CHAIN_AT, LOG_AT, Tank
 
@@ -85,7 +86,11 @@ RIGHT = [
     ("a record of 8,016 bytes", whole(written(7_977)), CLEAN[1]),
     ("a record of 8,017 bytes", whole(written(7_978)), CLEAN[1]),
     ("a record of 65,536 bytes", whole(written(65_497)), CLEAN[1]),
-    ("a long record up to the end of the longest object", whole(written(9_000, place=TOP - 9_000)), CLEAN[1]),
+    (
+        "a long record up to the end of the longest object",
+        lambda: whole(written(9_000, place=layout.MAX_LENGTH - 9_000))(),
+        CLEAN[1],
+    ),
     ("a long record of 1,000 operations", whole(creates_and_removes("dc" * 500)), CLEAN[1]),
     (
         "a long record that gives a name",
@@ -143,7 +148,11 @@ ENDED = [
     ("a long record with an operation less than it says", odd_field(20, b"\2\0"), CLEAN[0]),
     ("a long record with an operation that none has", odd_field(22, b"\6"), CLEAN[0]),
     ("a long record of object 5,292", odd_field(23, numbers(OBJECTS)[:4]), CLEAN[0]),
-    ("a long record past the longest object", odd_field(27, numbers(TOP - 8_999)), CLEAN[0]),
+    (
+        "a long record past the longest object",
+        lambda: odd_field(27, numbers(layout.MAX_LENGTH - 8_999))(),
+        CLEAN[0],
+    ),
     ("a long record whose write has a byte less", odd_field(35, numbers(8_999)[:4]), CLEAN[0]),
     ("a long record whose write has a byte more", odd_field(35, numbers(9_001)[:4]), CLEAN[0]),
     (

@@ -1,7 +1,8 @@
 """Rows with many lines of one kind, and rows at a limit."""
 
 from tools.model.contents import digest
-from tools.model.layout import LABEL, MIB, NAMED, TOP
+from tools.model import layout
+from tools.model.layout import LABEL, MAX_COPIES, MIB, NAMED, STRIP
 from tools.rows.script_row import Row
 
 
@@ -12,7 +13,7 @@ def many_objects():
     row.say(f"import {MIB}", "synced 8 open 9 records 0")
     for number in range(100):
         owner = number // 25
-        row.say(f"lock {owner} {number} w 0 {TOP}", f"lock {number}")
+        row.say(f"lock {owner} {number} w 0 {layout.MAX_LENGTH}", f"lock {number}")
         row.say(f"begin {owner} c:{number}", f"tx {number} group 9")
         row.say(f"commit {number}", f"entry {number} group 9")
         row.say(f"unlock {owner} {number}", "ok")
@@ -35,7 +36,7 @@ def many_records():
     row.say("create tank 77", "ok")
     row.say(f"import {4 * MIB}", "synced 8 open 9 records 0")
     for number in range(150):
-        row.say(f"lock 1 {number} w 0 {TOP}", f"lock {number}")
+        row.say(f"lock 1 {number} w 0 {layout.MAX_LENGTH}", f"lock {number}")
         row.say(f"begin 1 c:{number}", f"tx {number} group 9")
         row.say(f"commit {number}", f"entry {number} group 9")
         row.say(f"unlock 1 {number}", "ok")
@@ -54,36 +55,34 @@ length 150 -> refused 9 NoObject
 
 
 def full_log():
-    """On 6 MiB 383 blocks are free. A creation is charged two blocks, a write four. A log write takes a block, and
-    needs 17 that are available; a plan that only removes needs no more than its own."""
+    """On 6 MiB 383 blocks are free. A creation is charged two blocks, a write five. So 73 writes leave 16 blocks. A log
+    write takes a block, and needs 17 that are available; a plan that only removes needs no more than its own."""
     row = Row("a log write and a plan need blocks that stay available, and a plan that only removes does not", 6 * MIB)
     row.say_all("""
 create tank 77 -> ok
 import 4194304 -> synced 8 open 9 records 0
 status -> synced 8 syncing - middle - open 9 dirty 0 free 383 available 383
-lock 1 0 w 0 338688 -> lock 0
-lock 1 1 w 0 338688 -> lock 1
+lock 1 0 w 0 MAX_LENGTH -> lock 0
+lock 1 1 w 0 MAX_LENGTH -> lock 1
 begin 1 c:0 -> tx 0 group 9
 commit 0 -> entry 0 group 9
 status -> synced 8 syncing - middle - open 9 dirty 8192 free 383 available 381
 """)
-    for number in range(1, 92):
+    for number in range(1, 74):
         row.say("begin 1 w:0:0:4", f"tx {number} group 9")
         row.say(f"commit {number} abcd", f"entry {number} group 9")
     row.say_all("""
-status -> synced 8 syncing - middle - open 9 dirty 1499136 free 383 available 17
+status -> synced 8 syncing - middle - open 9 dirty 1503232 free 383 available 16
 begin 1 w:0:0:4 -> refused 16 NoSpace
-log-write -> logged 92
-status -> synced 8 syncing - middle - open 9 dirty 1499136 free 382 available 16
 begin 1 c:1 -> refused 16 NoSpace
-begin 1 d:0 -> tx 92 group 9
-commit 92 -> entry 92 group 9
-status -> synced 8 syncing - middle - open 9 dirty 1507328 free 382 available 14
 log-write -> refused 23 NoLogSpace
-log-flush -> flushed
+begin 1 d:0 -> tx 74 group 9
+commit 74 -> entry 74 group 9
+status -> synced 8 syncing - middle - open 9 dirty 1511424 free 383 available 14
+log-write -> refused 23 NoLogSpace
 crash -> crashed 0
-import 4194304 -> synced 12 open 13 records 92
-length 0 -> length 4
+import 4194304 -> synced 12 open 13 records 0
+length 0 -> refused 9 NoObject
 """)
     yield row
 
@@ -127,7 +126,7 @@ def many_shapes():
         row = Row(f"a plan of {shapes} shapes and a limit of {limit} dirty bytes: {refusal}")
         row.say("create tank 77", "ok")
         row.say(f"import {limit}", "synced 8 open 9 records 0")
-        row.say(f"lock 1 1 w 0 {TOP}", "lock 0")
+        row.say(f"lock 1 1 w 0 {layout.MAX_LENGTH}", "lock 0")
         row.say(f"begin 1 {creates_and_removes(shapes)}", refusal)
         yield row
 
@@ -144,7 +143,7 @@ def most_shapes():
     row = Row("the most creations and removals of a transaction", 428 * LABEL)
     row.say("create tank 77", "ok")
     row.say(f"import {128 * MIB}", "synced 8 open 9 records 0")
-    row.say(f"lock 1 1 w 0 {TOP}", "lock 0")
+    row.say(f"lock 1 1 w 0 {layout.MAX_LENGTH}", "lock 0")
     row.say(f"begin 1 {creates_and_removes(13_102)}", "tx 0 group 9")
     row.say("status", "synced 8 syncing - middle - open 9 dirty 107331584 free 26239 available 35")
     row.say("commit 0", "entry 0 group 9")
@@ -169,7 +168,7 @@ def many_names():
     words = [letter * 64 for letter in "ab" * 474 + "c"]
     row.say("create tank 77", "ok")
     row.say(f"import {16 * MIB}", "synced 8 open 9 records 0")
-    row.say(f"lock 1 {NAMED} w 0 {TOP}", "lock 0")
+    row.say(f"lock 1 {NAMED} w 0 {layout.MAX_LENGTH}", "lock 0")
     row.say("begin 1" + " n:64" * 950, "refused 18 TooLarge")
     row.say("begin 1" + " n:64" * 949, "tx 0 group 9")
     row.say("status", "synced 8 syncing - middle - open 9 dirty 3887104 free 2943 available 1994")
@@ -185,14 +184,15 @@ name -> name {"c" * 64}
 
 
 def long_record_without_space():
-    """On 6 MiB 383 blocks are free. A creation and a write of 40,000 bytes are charged 15 blocks, and 87 writes four
-    each. The record of 40,039 bytes has ten parts. Its fourth one is written with 17 blocks that are available, and the
-    fifth one is refused. After a sync it is written."""
+    """On 6 MiB 383 blocks are free. A creation and a write of 40,000 bytes are charged 16 blocks, 67 writes five each,
+    and two writes, which are across two records, six each. The record of 40,039 bytes has ten parts. Its fourth one is
+    written with 17 blocks that are available, and the fifth one is refused. After a sync it is written."""
+    writes = [0] * 67 + [4_030] * 2
     row = Row("a log write of the next part needs blocks that are available, and goes on after a sync", 6 * MIB)
     row.say_all("""
 create tank 77 -> ok
 import 4194304 -> synced 8 open 9 records 0
-lock 1 1 w 0 338688 -> lock 0
+lock 1 1 w 0 MAX_LENGTH -> lock 0
 begin 1 c:1 -> tx 0 group 9
 commit 0 -> entry 0 group 9
 begin 1 w:1:0:40000 -> tx 1 group 9
@@ -200,8 +200,8 @@ commit 1 @40000:a -> entry 1 group 9
 log-write -> logged 1
 log-write -> logged 0
 """)
-    for number in range(2, 89):
-        row.say("begin 1 w:1:0:4", f"tx {number} group 9")
+    for number, place in enumerate(writes, 2):
+        row.say(f"begin 1 w:1:{place}:4", f"tx {number} group 9")
         row.say(f"commit {number} bbbb", f"entry {number} group 9")
     row.say_all("""
 status -> synced 8 syncing - middle - open 9 dirty 1486848 free 381 available 18
@@ -229,19 +229,19 @@ length 1 -> length 40000
 
 def printable_words():
     """A word of a commit has any printable ASCII but no space, from ! to ~. One that begins with @ stands for copies of
-    a character, which may be @ or : too, and at most 338,688 of them."""
+    a character, which may be @ or : too, and at most `MAX_COPIES` of them."""
     graphic = "".join(map(chr, range(33, 127)))
     content = graphic + ":::" + "@@" + "~"
     row = Row("words of each printable character, and copies of them")
     row.say_all(f"""
 create tank 77 -> ok
 import 1048576 -> synced 8 open 9 records 0
-lock 1 1 w 0 338688 -> lock 0
+lock 1 1 w 0 MAX_LENGTH -> lock 0
 begin 1 c:1 w:1:0:94 w:1:94:3 w:1:97:2 w:1:99:1 -> tx 0 group 9
 commit 0 {graphic} @3:: @2:@ @1:~ -> entry 0 group 9
 read 1 1 0 100 -> bytes 100 {content.encode().hex()}
 begin 1 w:1:0:4 -> tx 1 group 9
-commit 1 @338688:~ -> refused 12 OutOfPlan
+commit 1 @{MAX_COPIES}:~ -> refused 12 OutOfPlan
 commit 1 @00000000000000000000004:@ -> entry 1 group 9
 read 1 1 0 5 -> bytes 5 4040404025
 """)
@@ -256,10 +256,10 @@ def many_words():
         row = Row(f"a commit of {count} words", 16 * MIB)
         row.say("create tank 77", "ok")
         row.say(f"import {16 * MIB}", "synced 8 open 9 records 0")
-        row.say(f"lock 1 1 w 0 {TOP}", "lock 0")
+        row.say(f"lock 1 1 w 0 {layout.MAX_LENGTH}", "lock 0")
         row.say("begin 1 c:1 " + " ".join(f"w:1:{number}:1" for number in range(count)), "tx 0 group 9")
         row.say("commit 0 " + " ".join(content), "entry 0 group 9")
-        row.say(f"read 1 1 0 {TOP}", f"bytes {count} {content.encode().hex()}")
+        row.say(f"read 1 1 0 {layout.MAX_LENGTH}", f"bytes {count} {content.encode().hex()}")
         many_parts(row, parts)
         yield row
 
@@ -270,10 +270,10 @@ def most_transactions():
     row.say("create tank 77", "ok")
     row.say(f"import {MIB}", "synced 8 open 9 records 0")
     for number in range(64):
-        row.say(f"lock 1 {number} w 0 {TOP}", f"lock {number}")
+        row.say(f"lock 1 {number} w 0 {layout.MAX_LENGTH}", f"lock {number}")
         row.say(f"begin 1 c:{number}", f"tx {number} group 9")
     row.say_all("""
-lock 1 64 w 0 338688 -> lock 64
+lock 1 64 w 0 MAX_LENGTH -> lock 64
 begin 1 c:64 -> refused 22 TooMany
 begin 1 c:65 -> refused 13 NotLocked
 commit 63 -> entry 0 group 9
@@ -292,7 +292,7 @@ def most_objects():
     for group in range(21):
         numbers = range(252 * group, 252 * (group + 1))
         for number in numbers:
-            row.say(f"lock 1 {number} w 0 {TOP}", f"lock {number}")
+            row.say(f"lock 1 {number} w 0 {layout.MAX_LENGTH}", f"lock {number}")
         row.say("begin 1 " + " ".join(f"c:{number}" for number in numbers), f"tx {group} group {9 + group}")
         row.say(f"commit {group}", f"entry {group} group {9 + group}")
         for number in numbers:
@@ -311,20 +311,20 @@ length 5292 -> refused 11 BadRange
 
 
 def longest_object():
-    """An object of 338,688 bytes is read whole, after a crash and an import too."""
-    content = bytes(TOP - 4) + b"wxyz"
+    """The last strip of the longest object is read whole, after a crash and an import too."""
+    content, begin = bytes(STRIP - 4) + b"wxyz", layout.MAX_LENGTH - STRIP
     row = Row("the longest object")
     row.say_all(f"""
 create tank 77 -> ok
 import 1048576 -> synced 8 open 9 records 0
-lock 1 1 w 0 {TOP} -> lock 0
-begin 1 c:1 w:1:{TOP - 4}:4 -> tx 0 group 9
+lock 1 1 w 0 {layout.MAX_LENGTH} -> lock 0
+begin 1 c:1 w:1:{layout.MAX_LENGTH - 4}:4 -> tx 0 group 9
 commit 0 wxyz -> entry 0 group 9
 sync -> synced 9
 crash -> crashed 0
 import 1048576 -> synced 13 open 14 records 0
-lock 1 1 r 0 {TOP} -> lock 0
-read 1 1 0 {TOP} -> bytes {TOP} {content.hex()}
+lock 1 1 r 0 {layout.MAX_LENGTH} -> lock 0
+read 1 1 {begin} {layout.MAX_LENGTH} -> bytes {STRIP} {content.hex()}
 """)
     yield row
 
@@ -335,7 +335,7 @@ def many_log_blocks():
     row.say("create tank 77", "ok")
     row.say(f"import {4 * MIB}", "synced 8 open 9 records 0")
     for number in range(150):
-        row.say(f"lock 1 {number} w 0 {TOP}", f"lock {number}")
+        row.say(f"lock 1 {number} w 0 {layout.MAX_LENGTH}", f"lock {number}")
         row.say(f"begin 1 c:{number}", f"tx {number} group 9")
         row.say(f"commit {number}", f"entry {number} group 9")
         row.say("log-write", "logged 1")
@@ -351,7 +351,7 @@ length 150 -> refused 9 NoObject
     row = Row("1,100 records that wait for the log", 16 * MIB)
     row.say("create tank 77", "ok")
     row.say(f"import {16 * MIB}", "synced 8 open 9 records 0")
-    row.say(f"lock 1 1 w 0 {TOP}", "lock 0")
+    row.say(f"lock 1 1 w 0 {layout.MAX_LENGTH}", "lock 0")
     for number in range(1_100):
         row.say(f"begin 1 {'cd'[number % 2]}:1", f"tx {number} group 9")
         row.say(f"commit {number}", f"entry {number} group 9")

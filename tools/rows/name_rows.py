@@ -6,7 +6,8 @@ uberblocks, a flush; the configs of labels 1 and 3, a flush. The group and its n
 uberblocks stands. All answers are those of a plain serial pool (`tools/model/serial_pool.py`).
 """
 
-from tools.model.layout import NAMED, TOP
+from tools.model import layout
+from tools.model.layout import NAMED
 from tools.rows.crash_rows import Book
 from tools.rows.script_row import all_strings
 
@@ -17,8 +18,8 @@ class NameBook(Book):
     """A row in which the pool gets names. After each import owner 1 locks the name and object 1."""
 
     def look(self):
-        self.say(f"lock 1 {NAMED} w 0 {TOP}", "lock 0")
-        self.say(f"lock 1 1 w 0 {TOP}", "lock 1")
+        self.say(f"lock 1 {NAMED} w 0 {layout.MAX_LENGTH}", "lock 0")
+        self.say(f"lock 1 1 w 0 {layout.MAX_LENGTH}", "lock 1")
         self.say_name()
 
     def say_name(self):

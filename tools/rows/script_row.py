@@ -2,10 +2,12 @@
 
 import itertools
 import pathlib
+import re
 
+from tools.model import layout
 from tools.model.layout import MIB
 
-FILES = sorted(pathlib.Path(__file__).parent.glob("*.rows"))
+FOLDER = pathlib.Path(__file__).parent
 BAD_COMMAND = "bad command"
 
 
@@ -58,10 +60,21 @@ def all_strings(count):
     return ["".join(letters) for letters in itertools.product("klt", repeat=count)]
 
 
+def told(text):
+    """The text of a row with its numbers.
+
+    - `MAX_LENGTH` stands for the greatest length of an object, also with a number behind it that is added or taken off,
+      as in `MAX_LENGTH+1`.
+    - `SHAPE*COUNT ` stands for so many of the same shapes, each with a space behind it.
+    """
+    text = re.sub(r"MAX_LENGTH([+-]\d+)?", lambda found: str(layout.MAX_LENGTH + int(found[1] or 0)), text)
+    return re.sub(r"\b(\w:[\w:]+)\*(\d+) ", lambda found: f"{found[1]} " * int(found[2]), text)
+
+
 def split_line(text):
-    """The line and the answer of `LINE -> ANSWER`, or a line without an answer."""
-    line, arrow, answer = text.partition(" -> ")
-    return (line.rstrip(), answer) if arrow else (text, None)
+    """The line and the answer of `LINE -> ANSWER`, or a line without an answer, with its numbers told."""
+    line, arrow, answer = told(text).partition(" -> ")
+    return (line.rstrip(), answer) if arrow else (line, None)
 
 
 def read_rows(path):
@@ -72,18 +85,23 @@ def read_rows(path):
         LINE -> ANSWER             a line of the script, and what it prints
         LINE                       a line of the script that prints nothing
 
-    and empty ones, which are no lines of the script.
+    and empty ones, which are no lines of the script. Titles and lines have numbers as `told` says.
     """
     rows = []
     for text in path.read_text().splitlines():
         if text.startswith("== "):
             _, size, moment, title = text.split(" ", 3)
-            rows.append(Row(title, int(size), int(moment)))
+            rows.append(Row(told(title), int(size), int(moment)))
         elif text and not text.startswith("##"):
             rows[-1].say(*split_line(text))
     return rows
 
 
+def row_files():
+    """The files of the rows that are written by hand."""
+    return sorted(FOLDER.glob("*.rows"))
+
+
 def rows_with(word):
     """The rows of the files that are written by hand whose file or title has a word."""
-    return [row for path in FILES for row in read_rows(path) if word in path.name or word in row.head]
+    return [row for path in row_files() for row in read_rows(path) if word in path.name or word in row.head]

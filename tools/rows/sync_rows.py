@@ -10,7 +10,7 @@ from tools.rows.script_row import Row
 SEVEN_CALLS = """
 create tank 77 -> ok
 import 1048576 -> synced 8 open 9 records 0
-lock 1 1 w 0 338688 -> lock 0
+lock 1 1 w 0 MAX_LENGTH -> lock 0
 begin 1 c:1 -> tx 0 group 9
 commit 0 -> entry 0 group 9
 close -> open 10
@@ -111,7 +111,7 @@ def many_groups():
 TEN_CALLS = """
 create tank 77 -> ok
 import 1048576 -> synced 8 open 9 records 0
-lock 1 1 w 0 338688 -> lock 0
+lock 1 1 w 0 MAX_LENGTH -> lock 0
 begin 1 c:1 w:1:0:4 -> tx 0 group 9
 commit 0 abcd -> entry 0 group 9
 unlock 1 0 -> ok

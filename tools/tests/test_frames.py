@@ -92,9 +92,18 @@ class Frames(unittest.TestCase):
         """docs/FORMATS.md, 14: 52,428 requests, and 12 reads of whole objects."""
         self.assertEqual(len(read_requests(requests_frame([Request(1, "name", ())] * 52_428))), 52_428)
         self.refuses(ANSWERS_TOO_LONG, requests_frame([Request(1, "name", ())] * 52_429))
-        whole = Request(1, "read", (1, 0, 338_688))
-        self.assertEqual(len(read_requests(requests_frame([whole] * 12))), 12)
-        self.refuses(ANSWERS_TOO_LONG, requests_frame([whole] * 13))
+        strip = Request(1, "read", (1, 0, 338_688))
+        self.assertEqual(len(read_requests(requests_frame([strip] * 12))), 12)
+        self.refuses(ANSWERS_TOO_LONG, requests_frame([strip] * 13))
+
+    def test_the_longest_read(self):
+        """A frame has 4,194,304 bytes, of which 92 are no bytes of the object. No answer is longer than an object."""
+        for high, is_long in [(4_194_212, False), (4_194_213, True), (28_449_792, True), (2**64 - 1, True)]:
+            one = requests_frame([Request(1, "read", (1, 0, high))])
+            if is_long:
+                self.refuses(ANSWERS_TOO_LONG, one)
+            else:
+                self.assertEqual(len(read_requests(one)), 1)
 
 
 class Serving(unittest.TestCase):

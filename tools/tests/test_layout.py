@@ -1,6 +1,6 @@
 import unittest
 
-from tools.model.layout import AREA, ARRAY_AT, BLOCK, MIB, TOP, block_count, is_block_address, is_geometry
+from tools.model.layout import AREA, ARRAY_AT, BLOCK, MIB, block_count, is_block_address, is_geometry
 from tools.model.layout import label_places, slot_places
 
 
@@ -27,6 +27,3 @@ class Geometry(unittest.TestCase):
         self.assertEqual(slot_places(8 * MIB, 8)[0], 139_264)
         self.assertEqual(slot_places(8 * MIB, 128 + 8)[0], 139_264)
         self.assertEqual(slot_places(8 * MIB, 127)[3] - 8_126_464, ARRAY_AT + 127 * 1_024)
-
-    def test_the_longest_object(self):
-        self.assertEqual(TOP, 338_688)

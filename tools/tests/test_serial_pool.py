@@ -3,9 +3,11 @@ import unittest
 from tools.model.charges import estimate
 from tools.model.contents import Entry, conflict, digest, is_cut
 from tools.model.formats import table
-from tools.model.layout import CHARGE, TOP
-from tools.model.serial_pool import REFUSALS, Run, Tree
-from tools.rows.followed_pool import Pool
+from tools.model import layout
+from tools.model.layout import CHARGE, block_count
+from tools.model.serial_pool import BLOCKS, REFUSALS, Run, Tree
+from tools.rows.followed_pool import Pool, ops_of
+from tools.rows.limit_rows import full_log, long_record_without_space, many_objects
 from tools.rows.script_row import Row, all_strings, rows_with
 from tools.rows.stopped_rows import Script, is_whole
 
@@ -34,6 +36,20 @@ def answer_of(pool, line):
     return f"bytes {len(content)} {content.hex()}".rstrip()
 
 
+def is_shrinking(objects, ops):
+    """Whether a plan only removes objects, or sets lengths that aren't above those that are there."""
+    return all(op[0] == "d" or (op[0] == "l" and op[1] in objects and op[2] <= len(objects[op[1]])) for op in ops)
+
+
+def admission(run, ops, limit, more):
+    """Whether a plan passes the limit of dirty bytes, or lacks blocks of a device that has so many more, or neither."""
+    blocks = estimate(Entry(0, ops))
+    if CHARGE * (run.reserved() + blocks) > limit:
+        return "refused 17 Throttled"
+    kept = 0 if is_shrinking(run.contents(), ops) else 16
+    return "refused 16 NoSpace" if blocks + kept > run.available() + more else "tx"
+
+
 def refused_or_word(answer):
     """A refusal, or the first word of another answer."""
     return answer if answer.startswith("refused") else answer.split()[0]
@@ -45,8 +61,14 @@ class Rows(unittest.TestCase):
 
     def follow(self, row):
         """Follows a row: how many questions it had."""
-        pool, asked = Pool(), 0
+        pool, asked, limit = Pool(), 0, 0
+        more = block_count(int(row.head.split()[1])) - BLOCKS
         for line, answer in Script(row, share=0).lines:
+            if line.startswith("import"):
+                limit = int(line.split()[1])
+            if line.startswith("begin") and answer.startswith(("tx", "refused 16", "refused 17")):
+                told = admission(pool.run, ops_of(line.split()[2:]), limit, more)
+                self.assertEqual(told, refused_or_word(answer), (row.head, line))
             is_told = answer == "refused 9 NoObject" or not answer.startswith("refused")
             if line.split()[0] in ASKED and is_told:
                 asked += 1
@@ -63,6 +85,10 @@ class Rows(unittest.TestCase):
     def test_rows_by_hand(self):
         rows = [row for row in rows_with("") if is_whole(row)]
         self.assertGreater(sum(map(self.follow, rows)), 500)
+
+    def test_rows_at_a_limit(self):
+        rows = [row for make in (many_objects, full_log, long_record_without_space) for row in make()]
+        self.assertGreater(sum(map(self.follow, rows)), 100)
 
     def test_the_first_path(self):
         row = Row("the first path")
@@ -153,10 +179,9 @@ class LongRecords(unittest.TestCase):
 
 class Charges(unittest.TestCase):
     def test_charges_that_the_load_names(self):
-        """docs/FORMATS.md, 13: 8,192 bytes of a create, 16,384 or 20,480 of a write."""
-        ops = {("c", 1, 0, b""): 8_192, ("w", 1, 0, b"x" * 64): 16_384, ("w", 1, 4_000, b"x" * 64): 20_480}
-        for op, charge in ops.items():
-            self.assertEqual(CHARGE * estimate(Entry(9, [op])), charge)
+        """docs/FORMATS.md, 13: 8,192 bytes of a create, and those of a write within a record or over two."""
+        ops = [("c", 1, 0, b""), ("w", 1, 0, b"x" * 64), ("w", 1, 4_000, b"x" * 64)]
+        self.assertEqual([CHARGE * estimate(Entry(9, [op])) for op in ops], [8_192, 20_480, 24_576])
 
 
 class Conflicts(unittest.TestCase):
@@ -165,7 +190,7 @@ class Conflicts(unittest.TestCase):
 
     def test_writes_conflict_if_they_touch_a_common_byte(self):
         one, next_one, far = self.entries(("w", 1, 0, b"abcd"), ("w", 1, 3, b"x"), ("w", 1, 4, b"x"))
-        other_object, whole = self.entries(("w", 2, 0, b"abcd"), ("l", 1, TOP, b""))
+        other_object, whole = self.entries(("w", 2, 0, b"abcd"), ("l", 1, layout.MAX_LENGTH, b""))
         self.assertTrue(conflict(one, next_one) and conflict(one, whole) and conflict(whole, far))
         self.assertFalse(conflict(one, far) or conflict(one, other_object))
 

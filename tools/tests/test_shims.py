@@ -41,8 +41,10 @@ class Shims(unittest.TestCase):
         return ran.lines()
 
     def test_calls_are_noted(self):
-        noted = os.path.join(self.folder, "noted")
-        self.assertEqual(self.calls(shims.Shim("calls", self.folder), CALLS_FILE=noted), ["0"])
+        noted, copied = os.path.join(self.folder, "noted"), os.path.join(self.folder, "copied")
+        shim = shims.Shim("calls", self.folder)
+        self.assertEqual(self.calls(shim, CALLS_FILE=noted, BYTES_FILE=copied), ["0"])
+        self.assertEqual(pathlib.Path(copied).read_bytes(), b"abcde")
         lines = ["write 5 3", "write 0 2", "fsync 0 0", "fdatasync 0 0", "size 0 100"]
         self.assertEqual(pathlib.Path(noted).read_text().splitlines(), lines)
 

@@ -28,7 +28,10 @@ use std::sync::{Mutex, MutexGuard, PoisonError};
 pub const OBJECTS: u32 = 5_292;
 
 /// The most bytes of an object.
-pub const MAX_LENGTH: u64 = 338_688;
+pub const MAX_LENGTH: u64 = 28_449_792;
+
+/// The most bytes that one request reads. The answers of a frame have at most four times as many.
+const PIECE: u64 = 1_048_576;
 
 /// An operation of a transaction.
 #[derive(Clone, Copy, Debug, PartialEq, Eq)]
@@ -79,6 +82,22 @@ struct Pipes {
     is_broken: bool,
 }
 
+impl Pipes {
+    fn ask<T>(&mut self, call: u8, needs: &[u8], read: fn(&mut Answer) -> Result<T, Error>) -> Result<T, Error> {
+        if self.is_broken {
+            return Err(Error::Ended);
+        }
+        let came = frames::ask(&mut self.input, &mut self.output, call, needs).and_then(|mut answer| {
+            let value = read(&mut answer)?;
+            answer.end()?;
+            Ok(value)
+        });
+        // Where the next answer begins is not known then.
+        self.is_broken = matches!(came, Err(Error::Ended));
+        came
+    }
+}
+
 /// A pool that is open. Any thread may call it; the calls take turns.
 pub struct Pool {
     process: Child,
@@ -126,14 +145,29 @@ impl Pool {
         self.ask(frames::TRANSACT, &frames::record(ops)?, Answer::receipt)
     }
 
-    /// The bytes of an object from `low` on, below `high` and below its length.
+    /// The bytes of an object from `low` on, below `high` and below its length, at one moment. More than 1 MiB are read
+    /// in several frames, and the calls of other threads wait for the last one.
     ///
     /// # Errors
     ///
     /// `NoObject`; `BadRange` unless `low < high` and `high` is at most [`MAX_LENGTH`].
     pub fn read(&self, object: u32, low: u64, high: u64) -> Result<Vec<u8>, Error> {
-        let needs = [&object.to_le_bytes()[..], &low.to_le_bytes(), &high.to_le_bytes()].concat();
-        self.ask(frames::READ, &needs, Answer::string)
+        let mut pipes = self.pipes()?;
+        let mut low = low;
+        if low < high && high > MAX_LENGTH {
+            low = high - 1; // so that the pool refuses the range, however short the object is
+        }
+        let mut bytes = Vec::new();
+        loop {
+            let end = high.min(low.saturating_add(PIECE));
+            let needs = [&object.to_le_bytes()[..], &low.to_le_bytes(), &end.to_le_bytes()].concat();
+            let piece = pipes.ask(frames::READ, &needs, Answer::string)?;
+            bytes.extend_from_slice(&piece);
+            if end == high || (piece.len() as u64) < PIECE {
+                return Ok(bytes);
+            }
+            low = end;
+        }
     }
 
     /// The length of an object in bytes.
@@ -196,19 +230,7 @@ impl Pool {
     }
 
     fn ask<T>(&self, call: u8, needs: &[u8], read: fn(&mut Answer) -> Result<T, Error>) -> Result<T, Error> {
-        let mut pipes = self.pipes()?;
-        if pipes.is_broken {
-            return Err(Error::Ended);
-        }
-        let Pipes { input, output, .. } = &mut *pipes;
-        let came = frames::ask(input, output, call, needs).and_then(|mut answer| {
-            let value = read(&mut answer)?;
-            answer.end()?;
-            Ok(value)
-        });
-        // Where the next answer begins is not known then.
-        pipes.is_broken = matches!(came, Err(Error::Ended));
-        came
+        self.pipes()?.ask(call, needs, read)
     }
 
     fn pipes(&self) -> Result<MutexGuard<'_, Pipes>, Error> {

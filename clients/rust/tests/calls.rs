@@ -35,6 +35,47 @@ fn commit_by_threads(pool: &Pool) {
     }
 }
 
+/// An object of five million bytes, whose reads take several frames.
+fn read_long_object(pool: &Pool) {
+    const PIECE: usize = 1 << 20;
+    let content: Vec<u8> = (0..5_000_000_u64).map(|at| (at * at % 251) as u8).collect();
+    pool.transact(&[Op::Create(200)]).unwrap();
+    for (at, bytes) in content.chunks(65_000).enumerate() {
+        pool.transact_later(&[Op::Write { object: 200, offset: 65_000 * at as u64, bytes }]).unwrap();
+    }
+    pool.flush().unwrap();
+    assert_eq!(pool.length(200).unwrap(), 5_000_000);
+    let read = |low: usize, high: usize| pool.read(200, low as u64, high as u64).unwrap();
+    assert!(read(0, MAX_LENGTH as usize) == content);
+    for (low, high) in [(3, 4_999_998), (PIECE - 1, PIECE + 1), (PIECE, 2 * PIECE), (1, 2 * PIECE + 2)] {
+        assert!(read(low, high) == content[low..high]);
+    }
+    assert!(read(5_000_000, MAX_LENGTH as usize).is_empty());
+    pool.transact(&[Op::SetLength { object: 200, length: 2 * PIECE as u64 }]).unwrap();
+    assert!(read(0, MAX_LENGTH as usize) == content[..2 * PIECE]);
+    assert_eq!(refusal(pool.read(200, 0, MAX_LENGTH + 1)), Some(Refusal::BadRange));
+    assert_eq!(refusal(pool.read(201, 0, MAX_LENGTH)), Some(Refusal::NoObject));
+}
+
+/// A thread writes the first and the last byte of an object at once, while another reads all of it.
+fn read_at_one_moment(pool: &Pool) {
+    let length = 3 << 20;
+    pool.transact(&[Op::Create(300), Op::SetLength { object: 300, length }]).unwrap();
+    std::thread::scope(|scope| {
+        let writer = scope.spawn(move || {
+            for at in 1..100_u8 {
+                let write = |offset| Op::Write { object: 300, offset, bytes: std::slice::from_ref(&at) };
+                pool.transact_later(&[write(0), write(length - 1)]).unwrap();
+            }
+        });
+        while !writer.is_finished() {
+            let bytes = pool.read(300, 0, MAX_LENGTH).unwrap();
+            assert_eq!(bytes.first(), bytes.last());
+        }
+    });
+    assert_eq!(pool.read(300, length - 1, length).unwrap(), [99]);
+}
+
 #[test]
 fn each_call_is_answered() {
     let pool = open();
@@ -61,6 +102,8 @@ fn each_call_is_answered() {
     pool.transact(&write(&long[1..])).unwrap();
     assert_eq!(pool.read(3, 0, MAX_LENGTH).unwrap(), long[1..]);
     commit_by_threads(&pool);
+    read_long_object(&pool);
+    read_at_one_moment(&pool);
     pool.close().unwrap();
 }
 

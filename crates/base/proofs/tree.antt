@@ -1,3 +1,6 @@
+pub mod Strips
+pub mod WalkIndexes
+pub mod LevelPointers
 pub mod SoundTrees
 pub mod PlacedTrees
 pub mod PlannedTrees
@@ -6,5 +9,6 @@ pub mod FreedBlocks
 pub mod WrittenPlaces
 pub mod OneTree
 pub mod Sums
+pub mod StripCounts
 pub mod Estimates
 pub mod SamePlaces

@@ -9,6 +9,7 @@ use crate::bytes::Bytes;
 use crate::error::PoolError;
 use crate::field_laws::pointers_read_back;
 use crate::fields::{are_zeros, read_pointer, read_u64, write_bytes, write_pointer, write_u64};
+use crate::levels::has_two_levels;
 use crate::limits::{
     DEFAULT_CACHE_BLOCKS, DEFAULT_DIRTY_MAX, GREATEST_CACHE_BLOCKS, GREATEST_DIRTY_MAX,
     LEAST_DIRTY_MAX,
@@ -231,19 +232,26 @@ fn ranges_that_meet_do_not_overlap() {
     prove!(inside && !outside);
 }
 
-fn a_range_is_not_empty_and_ends_by_338688() {
+fn a_range_is_not_empty_and_ends_by_28449792() {
     let empty = Range { low: 5, high: 5 }.is_allowed();
     let last = Range {
         low: 0,
-        high: 338_688,
+        high: 28_449_792,
     }
     .is_allowed();
     let past = Range {
         low: 0,
-        high: 338_689,
+        high: 28_449_793,
     }
     .is_allowed();
     prove!(last && !empty && !past);
+}
+
+#[tactic(auto, unfolding(crate::specs::formats::Limits::one_level_length))]
+fn an_object_of_338689_bytes_has_two_levels() {
+    let longest = has_two_levels(338_688);
+    let longer = has_two_levels(338_689);
+    prove!(longer && !longest);
 }
 
 // As Rust's ranges: the end is the first byte that isn't in it.

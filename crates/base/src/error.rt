@@ -34,7 +34,7 @@ pub enum PoolError {
     /// A block is not what the pool's tree or log says of it.
     #[error("the block of kind {kind} at byte {address} is damaged")]
     Damaged {
-        /// The kind of the block: 2 root, 3 directory, 4 indirect, 5 data, 6 log.
+        /// The kind of the block: 2 root, 3 directory, 4 indirect, 5 data, 6 log, 7 top.
         kind: u64,
         /// Its byte address on the device.
         address: u64,

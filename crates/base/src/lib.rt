@@ -8,6 +8,7 @@ mod error;
 pub mod field_laws;
 mod fields;
 pub mod laws;
+mod levels;
 mod limits;
 mod lists;
 mod names;
@@ -31,11 +32,12 @@ pub use error::PoolError;
 pub use fields::{
     POINTER_SIZE, are_zeros, read_pointer, read_u64, write_bytes, write_pointer, write_u64,
 };
+pub use levels::has_two_levels;
 pub use limits::{
     BLOCK_SIZE, DEFAULT_CACHE_BLOCKS, DEFAULT_DIRTY_MAX, ENTRY_COUNT, ENTRY_SIZE, FIRST_GROUP,
     GREATEST_CACHE_BLOCKS, GREATEST_DIRTY_MAX, KEPT_BACK, LAST_NUMBER, LEAST_DIRTY_MAX, MAX_LENGTH,
-    MAX_LOCKS, MAX_LOG_RECORD, MAX_TRANSACTIONS, OBJECT_COUNT, POINTER_COUNT, RECORD_SIZE,
-    SECTOR_SIZE, WRITTEN_VERSION,
+    MAX_LOCKS, MAX_LOG_RECORD, MAX_TRANSACTIONS, OBJECT_COUNT, ONE_LEVEL_LENGTH, POINTER_COUNT,
+    RECORD_SIZE, SECTOR_SIZE, WRITTEN_VERSION,
 };
 pub use lists::{Ops, Plan};
 pub use names::{Group, LockId, ObjectId, Ordinal, Owner, Receipt, TxId};

@@ -9,7 +9,10 @@ pub const WRITTEN_VERSION: Version = Version::Two;
 pub const OBJECT_COUNT: u32 = 5292;
 
 /// The greatest length of an object in bytes, and the greatest end of a range.
-pub const MAX_LENGTH: u64 = 338_688;
+pub const MAX_LENGTH: u64 = 28_449_792;
+
+/// The greatest length of an object with one level of indirect blocks. The 84 records of one such block hold it.
+pub const ONE_LEVEL_LENGTH: u64 = 338_688;
 
 /// The bytes of a sector, the unit of each read and write of a device.
 pub const SECTOR_SIZE: u64 = 512;
@@ -20,7 +23,8 @@ pub const BLOCK_SIZE: usize = 4096;
 /// The bytes of an object that one data block holds.
 pub const RECORD_SIZE: usize = 4032;
 
-/// The pointers of a block of pointers: to the records of an object, or to the directories of a root.
+/// The pointers of a block of pointers: to the records of a strip, to the indirect blocks of an object, or to the
+/// directories of a root.
 pub const POINTER_COUNT: usize = 84;
 
 /// The objects of a directory.
@@ -56,9 +60,9 @@ pub const GREATEST_DIRTY_MAX: u64 = 1_099_511_627_776;
 
 /// A dirty limit that serves most pools: the most bytes that the transactions of unsynced groups may be charged, 4 MiB.
 ///
-/// A create is charged 8,192 bytes, and a write 12,288 and 4,096 more for each piece of 4,032 bytes that it touches. So
-/// 170 transactions with a create and a short write are admitted. Further ones are refused `Throttled`, and those of a
-/// handle wait, until a group is synced.
+/// A create is charged 8,192 bytes. A write is charged 12,288, and 4,096 more for each piece of 4,032 bytes, and of
+/// 338,688 bytes, that it touches. So 146 transactions with a create and a short write are admitted. Further ones are
+/// refused `Throttled`, and those of a handle wait, until a group is synced.
 ///
 /// A pool of less than some 16 MiB may have no free blocks left before this limit is reached. Then a `begin` is refused
 /// `NoSpace` until a group is synced.

@@ -4,7 +4,7 @@ use Rattle.base.specs.formats.Limits.{payload_size}
 
 -- the kinds that a block may have
 abbrev pub IsKind : ℕ → Type 0
-IsKind kind = (1 ≤ kind) × (kind ≤ 6)
+IsKind kind = (1 ≤ kind) × (kind ≤ 7)
 
 -- a payload, with zeros after it
 abbrev pub padded : List ℕ → List ℕ

@@ -68,7 +68,7 @@ impl Block {
 /// A block of this kind, pool, group and number. A payload of less than 4,032 bytes is filled with zeros.
 ///
 /// # Errors
-/// `BadRange` exactly if the kind is none of 1 to 6 or the payload has more than 4,032 bytes.
+/// `BadRange` exactly if the kind is none of 1 to 7 or the payload has more than 4,032 bytes.
 pub fn seal(
     kind: u64,
     guid: u64,
@@ -83,7 +83,7 @@ pub fn seal(
     ensures ok { IsOk result ↔ (IsKind kind × (length payload.now ≤ payload_size)) }
     ensures refused { IfErr result (λ e. e ≡ PoolError.BadRange) }
 {
-    if !(1..=6).contains(&kind) || payload.len() > PAYLOAD_SIZE {
+    if !(1..=7).contains(&kind) || payload.len() > PAYLOAD_SIZE {
         return Err(PoolError::BadRange);
     }
     let mut bytes = zero_block();

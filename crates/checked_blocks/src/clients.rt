@@ -66,10 +66,10 @@ fn a_sealed_block_of_another_group_does_not_open_itself(
     })
 }
 
-fn no_block_has_kind_7() -> Result<Block, PoolError>
+fn no_block_has_kind_8() -> Result<Block, PoolError>
     ensures { IsErrOf result PoolError.BadRange }
 {
-    seal(7, 77, Group(9), 3, &[])
+    seal(8, 77, Group(9), 3, &[])
 }
 
 fn no_payload_has_4033_bytes(payload: &[u8]) -> Result<Block, PoolError>

@@ -7,12 +7,14 @@ pub enum Kind {
     Config = 1,
     /// The root of the pool's tree: pointers to the directories.
     Root = 2,
-    /// Entries of objects, each with a pointer to the object's indirect block.
+    /// Entries of objects, each with a pointer to the object's top or to its one indirect block.
     Directory = 3,
-    /// Pointers to the records of one object (On-Disk Specification, chapter 2).
+    /// Pointers to 84 records of one object (On-Disk Specification, chapter 2).
     Indirect = 4,
     /// A record of an object.
     Data = 5,
     /// A block of the intent log (On-Disk Specification, chapter 7).
     Log = 6,
+    /// The top of an object of two levels: pointers to its indirect blocks.
+    Top = 7,
 }

@@ -26,7 +26,7 @@ ends_within object offset bytes is =
     let both = and_parts (nat_le (first_byte offset) max_length) (nat_le (length bytes) (max_length - first_byte offset)) inner.1 in
     within (first_byte offset) (length bytes) (leb-true (first_byte offset) max_length both.0) (leb-true (length bytes) (max_length - first_byte offset) both.1)
   where
-    within : (at size : ℕ) → at ≤ 338688 → size ≤ 338688 - at → at + size ≤ 338688
+    within : (at size : ℕ) → at ≤ 28449792 → size ≤ 28449792 - at → at + size ≤ 28449792
     within at size low high = omega (arith, low, high)
 
 -- the transactions of so many pieces of these bytes, one after another from this place on

@@ -26,7 +26,7 @@ pub enum Finding {
     },
     /// A pool of which a block is damaged, so no import mounts it.
     Damaged {
-        /// The kind of the block: 2 root, 3 directory, 4 indirect, 5 data, 6 log.
+        /// The kind of the block: 2 root, 3 directory, 4 indirect, 5 data, 6 log, 7 top.
         kind: u64,
         /// Its byte address on the device.
         address: u64,

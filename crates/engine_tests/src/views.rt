@@ -76,7 +76,7 @@ fn a_view_of_a_file_reads_what_is_synced_and_what_is_logged(rt: HostRuntime) -> 
     let rows = [
         bytes_row(0, 6, b"abwxyz"),
         bytes_row(1, 3, b"bw"),
-        bytes_row(4, 338_688, b"yz"),
+        bytes_row(4, 28_449_792, b"yz"),
         bytes_row(6, 7, b""),
         Row {
             object: ObjectId(2),

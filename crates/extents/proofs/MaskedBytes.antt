@@ -2,10 +2,10 @@
 use Rattle.std.proofs.Common.{◌≡◌, ℕ, zero, suc, cond, [], ◌∷◌, ◌&&◌, ◌<◌, ◌≤◌, ◌+◌, ◌-◌, ◌==◌, true, refl, ap, ◌∙◌, arith, ◌⊎◌, inl, inr, bit_and, bit_or, List, ◌++◌, length, get_or, take, drop, replicate, Some}
 use Rattle.std.specs.Prelude.{All, nat_le, nat_lt}
 use Rattle.std.proofs.lemmas.Bool.{or_cases, eqb-true, cases_lt, lt-leb, le-leb, lt-ltb, le-ltb}
-use Rattle.std.proofs.lemmas.List.{get_or-append_right, get_or_append_left, length-append, length-take-le, length-replicate, get_or-replicate, get_or_past}
+use Rattle.std.proofs.lemmas.List.{get_or-append_right, get_or_append_left, length-append, length-take, length-take-le, length-replicate, get_or-replicate, get_or-take, get_or_past}
 use Rattle.std.proofs.lemmas.List.Elements.{All-append, All-take, All-drop, All-replicate}
 use Rattle.base.specs.disk.Disk.{put}
-use Rattle.base.proofs.disk.Put.{get_or-put_other, length-put}
+use Rattle.base.proofs.disk.Put.{get_or-put_other}
 use Rattle.std.specs.Int.Bits.{and_zero_r, or_zero_l, or_zero_r}
 use Rattle.std.proofs.lemmas.Grind.{and_numeral}
 use Rattle.extents.specs.Marks.{is_mark, laid_byte, byte_in, marked_byte, with_zeros}
@@ -61,28 +61,19 @@ put_marks offset count mark mask is all =
     (All-append (λ m. is_mark m ≡ true) (replicate count mark) (drop (offset + length (replicate count mark)) mask) (All-replicate (λ m. is_mark m ≡ true) count mark is)
     (All-drop (λ m. is_mark m ≡ true) (offset + length (replicate count mark)) mask all))
 
--- the bytes that were written before an offset are left where those from it on are forgotten
-pub cleared_bytes : (offset : ℕ) (bytes mask : List ℕ) → offset ≤ length mask
-    → (k : ℕ) → byte_in bytes (put offset (replicate (length mask - offset) 0) mask) k ≡ written_below offset (byte_in bytes mask) k
-cleared_bytes offset bytes mask fits k = go (cases_lt k offset) (cases_lt k (length mask))
+-- the bytes that were written before an offset are left if those from it on are cut off
+pub cut_bytes : (offset : ℕ) (bytes mask : List ℕ) (k : ℕ) → byte_in (take offset bytes) (take offset mask) k ≡ written_below offset (byte_in bytes mask) k
+cut_bytes offset bytes mask k = go (cases_lt k offset)
   where
-    zeros : List ℕ
-    zeros = replicate (length mask - offset) 0
+    short : length (take offset mask) ≤ offset
+    short = let long = length-take offset mask in omega (arith, long)
 
-    long : length zeros ≡ length mask - offset
-    long = length-replicate (length mask - offset) 0
-
-    all : offset + length zeros ≤ length mask
-    all = rw long (omega arith)
-
-    none : get_or (put offset zeros mask) k 0 ≡ 0 → offset ≤ k → byte_in bytes (put offset zeros mask) k ≡ written_below offset (byte_in bytes mask) k
-    none e from = rw (e, le-ltb k offset from) refl
-
-    go : (k < offset) ⊎ (offset ≤ k) → (k < length mask) ⊎ (length mask ≤ k) → byte_in bytes (put offset zeros mask) k ≡ written_below offset (byte_in bytes mask) k
-    go (inl before) _ = rw (lt-ltb k offset before) (ap (λ m. marked_byte m (get_or bytes k 0)) (get_or-put_other offset zeros mask k all (inl before)))
-    go (inr from) (inl within) =
-        none (get_or-put_in offset zeros mask k all from (rw long (omega arith)) ∙ get_or-replicate (length mask - offset) (k - offset) 0 0 (omega arith)) from
-    go (inr from) (inr past) = none (get_or_past (put offset zeros mask) k 0 (rw (length-put offset zeros mask all) past)) from
+    go : (k < offset) ⊎ (offset ≤ k) → byte_in (take offset bytes) (take offset mask) k ≡ written_below offset (byte_in bytes mask) k
+    go (inl before) =
+        rw (lt-ltb k offset before) (ap (λ b. marked_byte (get_or (take offset mask) k 0) b) (get_or-take offset bytes k 0 before)
+        ∙ ap (λ m. marked_byte m (get_or bytes k 0)) (get_or-take offset mask k 0 before))
+    go (inr from) =
+        rw (le-ltb k offset from) (ap (λ m. marked_byte m (get_or (take offset bytes) k 0)) (get_or_past (take offset mask) k 0 (omega (arith, short, from))))
 
 -- zeros that are laid out change no byte, and no mark
 get_or-zeros : (n k : ℕ) → ◌≡◌ {A = ℕ} (get_or (replicate n 0) k 0) 0

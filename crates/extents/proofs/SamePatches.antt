@@ -18,7 +18,7 @@ use Rattle.extents.proofs.PatchedObjects.{changes_follow, patched_nothing}
 use Rattle.extents.proofs.LaidWithin.{patches_sized}
 use Rattle.object_maps.specs.Sources.{AreBytesFrom}
 use Rattle.extents.specs.Objects.{HasRoomFrom, KeepsRoom, LaysOver}
-use Rattle.extents.specs.Tables.{CanApply, CanStillApply, IsLeft, IsSame, KeepsRooms, AppliesOps, entry_at, name_of, patches_of}
+use Rattle.extents.specs.Tables.{CanApply, CanStillApply, IsLeft, IsSame, KeepsRooms, AppliesOps, entry_at, patches_of}
 
 pub same-trans : (p q r : Patch) → IsSame p q → IsSame q r → IsSame p r
 same-trans p q r pq qr = record { basis = pq.basis ∙ qr.basis; written = λ i. pq.written i ∙ qr.written i }

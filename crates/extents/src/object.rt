@@ -168,7 +168,8 @@ impl ObjectPatch {
         }
     }
 
-    // Forgets what was written into the record at a place of the table from an offset of the object on.
+    // Forgets what was written into the record at a place of the table from an offset of the object on. A record in
+    // which nothing is written there costs no look-up.
     fn forget_at(&mut self, place: usize, offset: usize)
         ensures numbers { numbers_of self.new ≡ numbers_of self.old }
         ensures stays { KeepsRoom self.old self.new }
@@ -176,9 +177,11 @@ impl ObjectPatch {
         ensures written { IfSome (slice_get (numbers_of self.old) place) (λ index. (i : ℕ)
             → written_in self.new i ≡ left_at_record index offset (written_in self.old) i) }
     {
-        if let Some((index, _)) = self.records.get_index(place) {
+        if let Some((index, record)) = self.records.get_index(place) {
             let index = *index;
-            self.forget_in_record(index, offset);
+            if !record.ends_by(start_in_record(index, offset)) {
+                self.forget_in_record(index, offset);
+            }
         }
     }
 

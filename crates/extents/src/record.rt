@@ -1,7 +1,8 @@
 //! What a group wrote into one record of an object.
 //!
 //! A patch takes the room for a whole record when it is made, so a write takes no memory. Its bytes and marks are laid
-//! out up to the last byte that was written and no further, so a short write costs no zeros for the rest of the record.
+//! out up to the last byte that was written and no further: a short write costs no zeros for the rest of the record, and
+//! a record that was cleared costs nothing to clear again.
 
 ghost use Rattle.std.specs.Prelude.{ℕ, ◌≡◌, ◌<◌, ◌≤◌, ◌+◌, ◌↔◌, true, false, All, None, IfOk, IsTrue, get_or, is_some, length, max, replicate, unwrap_or, vec_capacity, vec_len};
 ghost use Rattle.base.specs.disk.Disk.{put};
@@ -52,7 +53,7 @@ impl RecordPatch {
         extend_to(&mut self.bytes, end);
         extend_to(&mut self.mask, end);
         overwrite(&mut self.bytes, offset, content);
-        mark(&mut self.mask, offset, content.len(), WRITTEN);
+        mark(&mut self.mask, offset, content.len());
     }
 
     /// Forgets what was written from an offset on.
@@ -60,10 +61,15 @@ impl RecordPatch {
         ensures { (k : ℕ) → bytes_written self.new k
             ≡ written_below offset (bytes_written self.old) k }
     {
-        if offset < self.mask.len() {
-            let count = self.mask.len() - offset;
-            mark(&mut self.mask, offset, count, 0);
-        }
+        self.bytes.truncate(offset);
+        self.mask.truncate(offset);
+    }
+
+    /// Whether nothing is written from an offset on.
+    pub fn ends_by(&self, offset: usize) -> bool
+        ensures { IsTrue result → (k : ℕ) → offset ≤ k → bytes_written self.now k ≡ None }
+    {
+        self.mask.len() <= offset
     }
 
     /// Whether each of so many bytes from the offset `start` of the record on was written.
@@ -119,14 +125,14 @@ fn overwrite(bytes: &mut Vec<u8>, offset: usize, content: &[u8])
     bytes[offset..offset + content.len()].copy_from_slice(content);
 }
 
-// Gives so many bytes from an offset on this mark.
-fn mark(mask: &mut Vec<u8>, offset: usize, count: usize, mark: u8)
+// Marks so many bytes from an offset on as written.
+fn mark(mask: &mut Vec<u8>, offset: usize, count: usize)
     requires { offset + count ≤ vec_len mask.old }
-    ensures marks { mask.new.items ≡ put offset (replicate count mark) mask.old.items }
+    ensures marks { mask.new.items ≡ put offset (replicate count 255) mask.old.items }
     ensures length { vec_len mask.new ≡ vec_len mask.old }
     ensures room { vec_capacity mask.new ≡ vec_capacity mask.old }
 {
-    mask[offset..offset + count].fill(mark);
+    mask[offset..offset + count].fill(WRITTEN);
 }
 
 // The byte that was written, if the mark says so, and otherwise the one below.

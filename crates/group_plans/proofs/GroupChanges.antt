@@ -1,30 +1,33 @@
 -- What the operations of a group make of records and lengths, if they take place within the limits.
-use Rattle.std.proofs.Common.{◌≡◌, ℕ, ◌+◌, ◌<◌, Bool, true, false, ◌||◌, ◌&&◌, List, [], ◌∷◌, length, ap, sym, ◌∙◌, refl, arith, nat_le, nat_lt}
-use Rattle.std.specs.Prelude.{Option, is_some, option_map, All, if◌then◌else◌}
+use Rattle.std.proofs.Common.{◌≡◌, ℕ, ◌+◌, ◌<◌, ◌≤◌, inl, inr, Bool, true, false, ◌||◌, ◌&&◌, List, [], ◌∷◌, length, ap, sym, ◌∙◌, refl, arith, nat_le, nat_lt}
+use Rattle.std.specs.Prelude.{◌==◌, Option, is_some, option_map, All, if◌then◌else◌}
 use Rattle.std.specs.List.{list_any}
 use Rattle.std.specs.FinMap as finite
-use Rattle.std.proofs.Math.Bool.{or-true}
-use Rattle.std.proofs.lemmas.Bool.{and_parts, eqb-true, false≢true, leb-true, ltb-true}
+use Rattle.std.proofs.Math.Bool.{and-true, or-true}
+use Rattle.std.proofs.lemmas.Bool.{and_parts, cases_eq, eq-eqb, eqb-true, false≢true, leb-true, ltb-false, ltb-true, or_parts, true≢false}
 use Rattle.std.proofs.lemmas.List.Elements.{All-cons, All-head, All-nil, All-tail}
 use Rattle.base.specs.declared.names.ObjectId.{ObjectId}
 use Rattle.base.specs.declared.operation.Op.{Op}
 use Rattle.base.specs.declared.operation.Op.TheVariants.{Create, Remove, Write, SetLength, SetName}
-use Rattle.base.specs.declared.record_state.RecordState.TheVariants.{Unchanged}
-use Rattle.base.specs.formats.Limits.{max_length, object_count, pointer_count}
+use Rattle.base.specs.declared.record_state.RecordState.{RecordState}
+use Rattle.base.specs.declared.record_state.RecordState.TheVariants.{Unchanged, Dirty, Hole}
+use Rattle.base.specs.formats.Limits.{max_length, object_count, one_level_length, pointer_count, record_count}
 use Rattle.base.specs.history.Contents.{Contents, length_of}
 use Rattle.base.specs.history.Plans.{IsRange, ranges, touched}
 use Rattle.base.specs.steps.Steps.{AreLengthsOf}
-use Rattle.base.specs.tree.Syncs.{is_on, record_state}
-use Rattle.base.proofs.tree.RecordStates.{object-off, state-made}
+use Rattle.base.specs.tree.Places.{record_of_strip}
+use Rattle.base.specs.tree.Syncs.{is_dirty, is_on, record_state}
+use Rattle.base.proofs.tree.RecordStates.{HasRecord, dirty-record, object-off, state-made, state-off}
+use Rattle.base.proofs.tree.Strips.{one_level-length, record-low}
 use Rattle.object_maps.specs.declared.tree.ObjectEntry.{ObjectEntry}
 use Rattle.object_maps.specs.Lengths.{length_in}
 use Rattle.object_maps.specs.Ops.{AreOpsAllowed, IsOpAllowed}
 use Rattle.transactions.specs.declared.record.Record.{Record}
 use Rattle.tree_plans.specs.declared.changes.ObjectChanges.{ObjectChanges}
-use Rattle.tree_plans.specs.Changes.{AreInRange, state_in}
+use Rattle.tree_plans.specs.Changes.{AreInRange, has_two_levels, is_changed_in, may_have_blocks, state_in}
 use Rattle.tree_plans.specs.Marks.{AreChangesOf, pending_ops, sets_length}
 use Rattle.tree_plans.specs.Pointers.{entry_of}
-use Rattle.group_plans.specs.GroupPlans.{HasGroupLengths, MakesHoles}
+use Rattle.group_plans.specs.GroupPlans.{HasGroupLengths}
 use Rattle.group_plans.specs.Laws.{AllowedOpsTakePlace}
 use Rattle.group_plans.specs.Operations.{TakesPlace}
 
@@ -90,18 +93,50 @@ any_on n (o ∷ ops) sets = by (sets_length n o) refl sets (any_on n ops)
 -- What is told of the operations of a group that take place.
 module _ (ops : List Op) (maps : List ObjectEntry) (before after : Contents) (x : TakesPlace ops maps before after) where
   module _ (objects : List (ObjectId × ObjectChanges)) (changes : AreChangesOf ops maps objects) where
-    -- each object that they are on is in range
-    pub in_range : AreInRange objects
-    in_range n is = x.numbers n (sym (changes.there n) ∙ is)
-
     -- each record is in the state that the definitions give it
-    pub states_are : (n r : ℕ) → r < pointer_count → state_in objects n r ≡ record_state n r ops before Unchanged
+    pub states_are : (n r : ℕ) → r < record_count → state_in objects n r ≡ record_state n r ops before Unchanged
     states_are n r below = changes.states before after x.leads x.within n r below (λ sets. x.sizes n (x.numbers n (any_on n ops sets)))
 
-    -- an object that they only create or remove has holes alone
-    pub makes_holes : MakesHoles objects
-    makes_holes n r low below there unchanged =
-        states_are n r below ∙ state-made n r ops before Unchanged (sym (changes.changed n) ∙ unchanged) (sym (changes.there n) ∙ there)
+    -- a record that is written belongs to an object that is there, begins within it, and is there by a write or a new length
+    dirty_is : (n r : ℕ) → r < record_count → state_in objects n r ≡ Dirty → HasRecord r (finite.get after.objects n) × (is_changed_in objects n ≡ true)
+    dirty_is n r below state = (dirty-record n r ops before after x.leads is, by (is_changed_in objects n) refl (is_some (entry_of objects n)) refl)
+      where
+        is : record_state n r ops before Unchanged ≡ Dirty
+        is = sym (states_are n r below) ∙ state
+
+        by : (b : Bool) → is_changed_in objects n ≡ b → (c : Bool) → is_some (entry_of objects n) ≡ c → b ≡ true
+        by true changed c there = refl
+        by false unchanged true there =
+            let hole = state-made n r ops before Unchanged (sym (changes.changed n) ∙ unchanged) (sym (changes.there n) ∙ there) in
+            absurd (let no : Hole ≡ Dirty = sym hole ∙ is in cc)
+        by false unchanged false off =
+            let stays = state-off n r ops before Unchanged (sym (changes.there n) ∙ off) in
+            absurd (let no : Unchanged ≡ Dirty = sym stays ∙ is in cc)
+
+    -- each object that they are on is in range, and only strips that may have blocks have a record that is written
+    pub in_range : AreInRange objects after.objects
+    in_range = record {
+      numbers = λ n is. x.numbers n (sym (changes.there n) ∙ is);
+      strips = λ n j k low j_low k_low out. not_written n j k j_low k_low out (state_in objects n (record_of_strip j k)) refl;
+    }
+      where
+        no_strip : (n j k : ℕ) → may_have_blocks (has_two_levels (finite.get after.objects n)) true j ≡ false → HasRecord (record_of_strip j k) (finite.get after.objects n) → ⊥
+        no_strip n j k out (bytes, there, low) =
+            let parts = or_parts (nat_lt one_level_length (length bytes)) ((j == 0) && true) (ap (λ (o : Option (List ℕ)). may_have_blocks (has_two_levels o) true j) (sym there) ∙ out) in
+            let short : length bytes ≤ one_level_length = ltb-false one_level_length (length bytes) parts.0 in
+            let later : (j == 0) ≡ false = sym (and-true (j == 0)) ∙ parts.1 in
+            elim (cases_eq j 0) as (λ _. ⊥) [
+              | inl first ↦ true≢false (sym (eq-eqb j 0 first) ∙ later)
+              | inr other ↦ (omega (arith, other, low, short, one_level-length))
+            ]
+
+        not_written : (n j k : ℕ) → j < pointer_count → k < pointer_count → may_have_blocks (has_two_levels (finite.get after.objects n)) (is_changed_in objects n) j ≡ false
+            → (state : RecordState) → state_in objects n (record_of_strip j k) ≡ state → is_dirty state ≡ false
+        not_written n j k j_low k_low out Unchanged state = refl
+        not_written n j k j_low k_low out Hole state = refl
+        not_written n j k j_low k_low out Dirty state =
+            let is = dirty_is n (record_of_strip j k) (record-low j k j_low k_low) state in
+            absurd (no_strip n j k (ap (λ (b : Bool). may_have_blocks (has_two_levels (finite.get after.objects n)) b j) (sym is.1) ∙ out) is.0)
 
     -- an object that they aren't on is as it was
     pub object_kept : (n : ℕ) → is_some (entry_of objects n) ≡ false → finite.get before.objects n ≡ finite.get after.objects n

@@ -9,3 +9,6 @@ pub mod RecordReads
 pub mod PreparedPlans
 pub mod OldMaps
 pub mod ReadPlans
+mod ToldStrips
+mod SamePlans
+mod RecordsBefore

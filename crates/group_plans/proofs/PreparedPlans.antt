@@ -1,7 +1,7 @@
 -- A plan of objects of which some records are at hand is one of the objects after the group: it goes by the same
 -- lengths, and has the same bytes if each of these records is its object's.
-use Rattle.std.proofs.Common.{◌≡◌, ℕ, ◌≤◌, List, length, refl, ap, sym, ◌∙◌, inl, inr}
-use Rattle.std.specs.Prelude.{Option, None, Some, IfErr, Result, Ok, Err, is_some, option_map}
+use Rattle.std.proofs.Common.{◌≡◌, ℕ, ◌≤◌, List, length, refl, ap, subst, sym, ◌∙◌, inl, inr}
+use Rattle.std.specs.Prelude.{Option, None, Some, IfErr, IfSome, Result, Ok, Err, is_some, option_map}
 use Rattle.std.specs.Ordering.{nat_cmp}
 use Rattle.std.specs.FinMap as finite
 use Rattle.std.specs.FinMap.{FinMap}
@@ -13,7 +13,6 @@ use Rattle.base.specs.declared.refused.RefusedCalls.{RefusedCalls}
 use Rattle.base.specs.disk.Calls.{counted}
 use Rattle.base.specs.formats.Limits.{object_count}
 use Rattle.base.specs.tree.Places.{Place}
-use Rattle.base.specs.tree.Places.Place.{Data}
 use Rattle.extents.specs.declared.extents.Extents.{Extents}
 use Rattle.extents.specs.Tables.{patches_of}
 use Rattle.extents.proofs.LaidObjects.{get-laid_past}
@@ -21,11 +20,15 @@ use Rattle.object_maps.specs.declared.contents.Contents as slots
 use Rattle.object_maps.specs.ContentsShown.{contents_of}
 use Rattle.object_maps.specs.Sources.{object_length}
 use Rattle.tree_plans.specs.declared.changes.ObjectChanges.{ObjectChanges}
+use Rattle.tree_plans.specs.declared.object_map.ObjectMap.{ObjectMap}
+use Rattle.tree_plans.specs.declared.plan_source.PlanSource.{PlanSource}
 use Rattle.tree_plans.specs.declared.planner.TreePlan.{TreePlan}
-use Rattle.tree_plans.specs.Changes.{changes_of_group, has_address, is_changed_in, state_in}
+use Rattle.tree_plans.specs.Changes.{AreInRange, changes_of_group, has_address, is_changed_in, is_long_size, may_have_blocks, state_in}
+use Rattle.tree_plans.specs.Parts.{AreMapsRead, IsReadAsNeeded}
 use Rattle.tree_plans.specs.Plans.{IsWant}
 use Rattle.tree_plans.specs.Pointers.{entry_of}
 use Rattle.group_plans.specs.GroupPlans.{IsHeldRefusal, IsPlanRefusal, objects_with}
+use Rattle.group_plans.specs.OldMaps.{AreMapsReadFor}
 use Rattle.group_plans.specs.Prepared.{AreExact, IsPlainRefusal, IsPrepareRefusal, with_records}
 use Rattle.group_plans.proofs.RecordsAtHand as hand
 
@@ -41,10 +44,30 @@ same_group objects old a b same =
     let there : (n : ℕ) → is_some (finite.get a n) ≡ is_some (finite.get b n) = λ n. sym (there_as (finite.get a n)) ∙ ap is_some (same n) ∙ there_as (finite.get b n) in
     λ k. record {
       state = state_in objects;
-      had_block = λ n r. has_address (old (Data n r));
+      had_block = λ place. has_address (old place);
       is_changed = is_changed_in objects;
       is_touched = λ n. is_some (entry_of objects n);
       is_present = λ n. there n k;
+      is_long = λ n. is_long_size (same n k);
+    }
+
+-- and its changes are in range as they are
+pub range_as : (objects : List (ObjectId × ObjectChanges)) (a b : FinMap nat_cmp (List ℕ)) → ((n : ℕ) → object_length a n ≡ object_length b n) → AreInRange objects b → AreInRange objects a
+range_as objects a b same within = record {
+  numbers = within.numbers;
+  strips = λ n j k low j_low k_low out.
+      within.strips n j k low j_low k_low (ap (λ (size : Option ℕ). may_have_blocks (is_long_size size) (is_changed_in objects n) j) (sym (same n)) ∙ out);
+}
+
+-- and what was read for the one was read for the other
+pub maps_as : (source : PlanSource) (objects : List (ObjectId × ObjectChanges)) (a b : FinMap nat_cmp (List ℕ)) → ((n : ℕ) → object_length a n ≡ object_length b n)
+    → AreMapsReadFor b objects source.old_maps.now.entries → AreMapsRead source a objects
+maps_as source objects a b same read id changes low at =
+    let h = read id.0 changes low at in
+    record {
+      there = ap is_some h.map_is;
+      read = subst (λ (o : Option ObjectMap). IfSome o (IsReadAsNeeded (is_long_size (object_length a id.0)) changes)) (sym h.map_is)
+          (subst (λ (size : Option ℕ). IsReadAsNeeded (is_long_size size) changes h.map) (sym (same id.0)) h.read.read);
     }
 
 module _ (records : ℕ → ℕ → Option (List ℕ)) (extents : Extents) (contents : slots.Contents) where

@@ -1,11 +1,12 @@
 -- What a plan makes of a tree whose old maps were read, told of the pointers that the tree keeps.
-use Rattle.std.proofs.Common.{◌≡◌, ℕ, List, Option, false, inl, map, refl, ap, subst, sym, ◌∙◌}
+use Rattle.std.proofs.Common.{◌≡◌, ℕ, ◌<◌, List, Option, false, length, map, refl, ap, subst, sym, ◌∙◌}
 use Rattle.std.specs.Prelude.{IfErr, IfOk, Result, Ok, Err, is_some, if◌then◌else◌}
 use Rattle.std.specs.BTreeMap.{BTreeMap}
 use Rattle.std.specs.Ordering.{nat_cmp}
 use Rattle.std.specs.FinMap.{FinMap}
 use Rattle.std.specs.FinSet.{FinSet}
 use Rattle.std.proofs.Math.Logic.{∥∥₁_map}
+use Rattle.base.specs.common.Rising.{rising}
 use Rattle.base.specs.declared.error.PoolError.{PoolError}
 use Rattle.base.specs.declared.names.ObjectId.{ObjectId}
 use Rattle.base.specs.declared.pointer.Pointer.{Pointer}
@@ -13,7 +14,7 @@ use Rattle.base.specs.formats.Blocks.{Frame}
 use Rattle.base.specs.formats.Geometry.{block_count}
 use Rattle.base.specs.stored.Stored.{AreUsed}
 use Rattle.base.specs.tree.PlacedTrees.{ArePlaced}
-use Rattle.base.specs.tree.Places.{Place}
+use Rattle.base.specs.tree.Places.{Place, IsPlace}
 use Rattle.base.specs.tree.PlannedTrees.{AreFreed, IsTreePlan, NewBlock}
 use Rattle.base.specs.tree.Syncs.{GroupChanges, written_by}
 use Rattle.object_maps.specs.Lengths.{length_in}
@@ -22,20 +23,21 @@ use Rattle.object_maps.specs.Sources.{object_length}
 use Rattle.tree_plans.specs.declared.changes.ObjectChanges.{ObjectChanges}
 use Rattle.tree_plans.specs.declared.plan_source.PlanSource.{PlanSource}
 use Rattle.tree_plans.specs.declared.planner.TreePlan.{TreePlan}
-use Rattle.tree_plans.specs.Changes.{AreBornBefore, AreChanges, AreTreePointers, IsCoveredBy, changes_of_group, written_frame}
+use Rattle.tree_plans.specs.Changes.{AreBornBefore, changes_of_group, written_frame}
 use Rattle.tree_plans.specs.Plans.{new_block}
-use Rattle.tree_plans.specs.Pointers.{entry_of, planned_pointers, pointers_before}
-use Rattle.tree_plans.specs.TreePlans.{GivesBack, GivesTree, HasLengths, HasMaps, TakesBlocks}
+use Rattle.tree_plans.specs.Pointers.{entry_of, entry_pointer_of, planned_pointers, pointers_before}
+use Rattle.tree_plans.specs.TreePlans.{GivesBack, GivesTree, HasEntries, HasLengths, TakesBlocks, TellsFull}
 use Rattle.tree_plans.specs.Marks.{AreChangesOf, pending_ops}
 use Rattle.transactions.specs.declared.record.Record.{Record}
 use Rattle.object_maps.specs.declared.tree.Tree.{Tree}
 use Rattle.group_plans.specs.Prepared.{IsPrepareRefusal}
-use Rattle.group_plans.specs.GroupPlans.{HoldsGroupObjects, IsRefusedShort, IsTreeShort, MakesGroupTree, MakesHoles, plan_pointers}
+use Rattle.group_plans.specs.GroupPlans.{HoldsGroupObjects, IsRefusedShort, IsTreeShort, MakesGroupTree, plan_pointers}
 use Rattle.group_plans.specs.OldMaps.{AreMapsOf}
 use Rattle.group_plans.specs.ReadPlans.{HoldsPlanned, IsShortFor, IsShortFrom, PlansTree}
 use Rattle.group_plans.proofs.PlannedBlocks.{addresses_are}
-use Rattle.group_plans.proofs.PlannedPointers.{after_placed, before_placed, same_after, same_lengths}
-use Rattle.group_plans.proofs.PreparedPlans.{no_space_prepare, same_group}
+use Rattle.group_plans.proofs.PlannedPointers.{before_placed, same_after, same_lengths}
+use Rattle.group_plans.proofs.PreparedPlans.{no_space_prepare, range_as, same_group}
+use Rattle.group_plans.proofs.SamePlans.{born_as, covered_as, freed_as, plan_as, tree_as, written_as}
 
 -- what two facts of an answer give together, and five
 pub IfOk_both : {A : Type 0} {P Q R : A → Type 0} (r : Result A PoolError) → ((a : A) → P a → Q a → R a) → IfOk r P → IfOk r Q → IfOk r R
@@ -78,8 +80,8 @@ module _ (frame : Frame) (records : List Record) (tree : Tree) (objects : List (
   tree_short free e short space = record { objects = objects; changes = changes; fewer = short space }
 
 module _ (source : PlanSource) (changes : BTreeMap ObjectId ObjectChanges)
-    (none : (n : ℕ) → is_some (entry_of changes.entries n) ≡ false → is_some (entry_of source.old_maps.now.entries n) ≡ false)
-    (of : AreMapsOf (block_count source.geometry) source.tree.now source.old_maps.now.entries) (placed : ∥ ArePlaced (block_count source.geometry) (pointers_of source.tree.now) ∥₁) (p : TreePlan) where
+    (none : (n : ℕ) → is_some (entry_of changes.entries n) ≡ false → is_some (entry_of source.old_maps.now.entries n) ≡ false) (below : FinMap nat_cmp (List ℕ))
+    (of : AreMapsOf (block_count source.geometry) source.tree.now below source.old_maps.now.entries) (placed : ∥ ArePlaced (block_count source.geometry) (pointers_of source.tree.now) ∥₁) (p : TreePlan) where
   abbrev blocks : ℕ
   blocks = block_count source.geometry
 
@@ -101,44 +103,62 @@ module _ (source : PlanSource) (changes : BTreeMap ObjectId ObjectChanges)
   abbrev frame : Frame
   frame = written_frame source.guid source.geometry source.group.0
 
-  module _ (after : FinMap nat_cmp (List ℕ)) (made : GivesTree source after changes p) (maps : HasMaps after changes p) where
-    rise : ArePlaced blocks told → ArePlaced blocks (planned_pointers source p)
-    rise at = made.placed (before_placed source objects none blocks of at)
-
-    all_placed : ∥ ArePlaced blocks new ∥₁
-    all_placed = ∥∥₁_map {A = ArePlaced blocks told} {B = ArePlaced blocks new} placed (after_placed source objects none blocks of p after maps.all maps.each rise)
-
-  -- what is told of the pointers of the plan is told of those that the tree keeps, if objects that are only made have
-  -- holes
-  module _ (after : FinMap nat_cmp (List ℕ)) (made : GivesTree source after changes p) (maps : HasMaps after changes p) (holes : MakesHoles objects) where
-    kept_as : planned_pointers source p ≡ new
-    kept_as = λ k place. sym (same_after source objects none blocks of p after maps.all maps.each (rise after made maps) holes placed place) k
+  -- what is told of the pointers of the plan is told of those that the tree keeps
+  kept_as : (after : FinMap nat_cmp (List ℕ)) → HasEntries after changes p → planned_pointers source p ≡ new
+  kept_as after entries = λ k place. sym (same_after source objects none blocks below of p entries.all place) k
 
   module _ (after wanted : FinMap nat_cmp (List ℕ)) (lengths_are : (n : ℕ) → object_length after n ≡ object_length wanted n)
-      (taken : TakesBlocks source after changes p) (made : GivesTree source after changes p) (lengths : HasLengths source after changes p) (maps : HasMaps after changes p) (back : GivesBack source p) where
+      (taken : TakesBlocks source after changes p) (made : GivesTree source after changes p) (lengths : HasLengths source after changes p) (entries : HasEntries after changes p) (back : GivesBack source p) where
     same : changes_of_group objects old after ≡ changes_of_group objects old wanted
     same = same_group objects old after wanted lengths_are
 
+    kept : planned_pointers source p ≡ new
+    kept = kept_as after entries
+
     pub plans_tree : PlansTree frame old source.tree.now objects wanted p
     plans_tree = record {
-      placed = all_placed after made maps;
-      order = λ within holes.
-          subst (λ (f : Place → Pointer). map (λ (b : NewBlock). b.address) bs ≡ map (λ (place : Place). (f place).address) (written_by (changes_of_group objects old wanted))) (kept_as after made maps holes)
-          (addresses_are p.blocks.items ∙ taken.order within ∙ ap (λ (x : GroupChanges). map (λ (place : Place). (planned_pointers source p place).address) (written_by x)) same);
-      used = λ holes. subst (λ (f : Place → Pointer). AreUsed bs f) (kept_as after made maps holes) made.used;
-      freed = λ holes. subst (λ (f : Place → Pointer). AreBornBefore source.group.0 old → AreFreed old f p.freed.items) (kept_as after made maps holes) back.freed;
+      placed = ∥∥₁_map {A = ArePlaced blocks told} {B = ArePlaced blocks new} placed
+          (λ at. subst (λ (f : Place → Pointer). ArePlaced blocks f) kept (made.placed (before_placed source objects none blocks below of at)));
+      order = λ within.
+          subst (λ (f : Place → Pointer). map (λ (b : NewBlock). b.address) bs ≡ map (λ (place : Place). (f place).address) (written_by (changes_of_group objects old wanted))) kept
+          (addresses_are p.blocks.items ∙ taken.order (range_as objects after wanted lengths_are within) ∙ ap (λ (x : GroupChanges). map (λ (place : Place). (planned_pointers source p place).address) (written_by x)) same);
+      used = subst (λ (f : Place → Pointer). AreUsed bs f) kept made.used;
+      freed = subst (λ (f : Place → Pointer). AreBornBefore source.group.0 old → AreFreed old f p.freed.items) kept back.freed;
       whole = taken.whole;
-      lengths = λ n below. same_lengths source p n below ∙ lengths n below
+      lengths = λ n low. same_lengths source p n low ∙ lengths n low
           ∙ ap (λ (o : Option ℕ). if is_some (entry_of objects n) then o else length_in source.tree.now.entries.items n) (lengths_are n);
     }
 
   -- where the old pointers are the tree's, its blocks hold the objects
-  pub holds_planned : (wanted : FinMap nat_cmp (List ℕ)) → old ≡ told → TakesBlocks source wanted changes p → GivesTree source wanted changes p → HasLengths source wanted changes p → HasMaps wanted changes p → GivesBack source p
+  pub holds_planned : (wanted : FinMap nat_cmp (List ℕ)) → ((place : Place) → IsPlace place → old place ≡ told place)
+      → TakesBlocks source wanted changes p → GivesTree source wanted changes p → HasLengths source wanted changes p → HasEntries wanted changes p → GivesBack source p
       → HoldsPlanned frame source.tree.now objects wanted p
-  holds_planned wanted is taken made lengths maps back = record {
-    made = subst (λ (f : Place → Pointer). PlansTree frame f source.tree.now objects wanted p) is (plans_tree wanted wanted (λ n. refl) taken made lengths maps back);
-    planned = subst (λ (f : Place → Pointer). (before : FinMap nat_cmp (List ℕ)) → IsCoveredBy objects f before wanted → AreChanges objects wanted → AreTreePointers objects f wanted → IsTreePlan bs frame f new before wanted) is
-        (λ before covered changes_are whole.
-        let holes : MakesHoles objects = λ n r low below there unchanged. changes_are.holes n r low below there (inl unchanged) in
-        subst (λ (f : Place → Pointer). IsTreePlan bs frame old f before wanted) (kept_as wanted made maps holes) (made.planned before covered changes_are whole));
-  }
+  holds_planned wanted is taken made lengths entries back =
+      let read : PlansTree frame old source.tree.now objects wanted p = plans_tree wanted wanted (λ n. refl) taken made lengths entries back in
+      record {
+        made = record {
+          placed = read.placed;
+          order = λ within. read.order within ∙ ap (λ (places : List Place). map (λ (place : Place). (new place).address) places) (written_as old told is objects wanted);
+          used = read.used;
+          freed = λ born. freed_as old told is objects new p.freed.items (read.freed (born_as old told is objects source.group.0 born));
+          whole = read.whole;
+          lengths = read.lengths;
+        };
+        planned = λ before covered changes_are whole.
+            plan_as old told is objects bs frame new before wanted
+            (subst (λ (f : Place → Pointer). IsTreePlan bs frame old f before wanted) (kept_as wanted entries)
+            (made.planned before (covered_as old told is objects before wanted covered) changes_are (tree_as old told is objects (entry_pointer_of source.tree.now.entries.items) wanted whole)));
+      }
+
+-- where the plan is short of blocks, so it is for the changes of all objects, of the pointers that were read, and of the
+-- tree's if these are they
+module _ (source : PlanSource) (objects : List (ObjectId × ObjectChanges)) (after wanted : FinMap nat_cmp (List ℕ)) (lengths_are : (n : ℕ) → object_length after n ≡ object_length wanted n) (e : PoolError)
+    (full : TellsFull source after objects e) where
+  pub short_of : IsShortFrom (pointers_before source) objects wanted source.free.now.free e
+  short_of no_space within =
+      subst (λ (x : GroupChanges). length (rising source.free.now.free) < length (written_by x)) (same_group objects (pointers_before source) after wanted lengths_are)
+      (full.fewer no_space (range_as objects after wanted lengths_are within))
+
+  pub short_of_tree : ((place : Place) → IsPlace place → pointers_before source place ≡ pointers_of source.tree.now place) → IsShortFrom (pointers_of source.tree.now) objects wanted source.free.now.free e
+  short_of_tree is no_space within =
+      subst (λ (places : List Place). length (rising source.free.now.free) < length places) (written_as (pointers_before source) (pointers_of source.tree.now) is objects wanted) (short_of no_space within)

@@ -1,7 +1,7 @@
 -- What is read of a record, and what it becomes where the changes of a group are laid over it.
-use Rattle.std.proofs.Common.{◌≡◌, ℕ, ◌+◌, ◌*◌, ◌<◌, ◌≤◌, ◌⊎◌, inl, inr, arith, get_or, true, false, cond, ◌∷◌, ◌++◌, List, [], length, Option, Some, None, refl, ap, subst, sym, ◌∙◌}
-use Rattle.std.specs.Prelude.{◌==◌, IfSome, is_some, option_map, unwrap_or, OnOk, Ok, Err, Result}
-use Rattle.std.proofs.lemmas.Bool.{cases_lt, eqb-true}
+use Rattle.std.proofs.Common.{◌≡◌, ℕ, ◌+◌, ◌*◌, ◌<◌, ◌≤◌, ◌⊎◌, inl, inr, arith, get_or, true, ◌∷◌, ◌++◌, List, [], length, Option, Some, None, refl, ap, subst, sym, ◌∙◌}
+use Rattle.std.specs.Prelude.{IfSome, is_some, option_map, unwrap_or, OnOk, Ok, Err, Result}
+use Rattle.std.proofs.lemmas.Bool.{cases_lt}
 use Rattle.std.proofs.lemmas.List.{ext_get_or, get_or_past}
 use Rattle.std.specs.Ordering.{nat_cmp}
 use Rattle.std.specs.FinMap as finite
@@ -9,13 +9,13 @@ use Rattle.std.specs.FinMap.{FinMap}
 use Rattle.base.specs.declared.error.PoolError.{PoolError}
 use Rattle.base.specs.declared.pointer.Pointer.{Pointer}
 use Rattle.base.specs.formats.Blocks.{Frame}
-use Rattle.base.specs.formats.Limits.{object_count}
+use Rattle.base.specs.formats.Limits.{object_count, pointer_count, record_size}
+use Rattle.base.specs.tree.Places.{record_of_strip, record_start, strip_number}
 use Rattle.base.specs.tree.Places.Place.{Data}
 use Rattle.base.specs.tree.Tree.{IsRecord}
+use Rattle.base.proofs.tree.Strips.{strip-low, strip-object, strip-which}
 use Rattle.object_maps.specs.declared.contents.Contents as slots
-use Rattle.object_maps.specs.ContentsShown.{contents_of}
 use Rattle.extents.specs.declared.extents.Extents.{Extents}
-use Rattle.group_plans.specs.GroupPlans.{objects_with}
 use Rattle.object_maps.specs.Sources.{AreBytesFrom, object_bytes, object_length, object_record}
 use Rattle.object_maps.proofs.Records.{get_or-record, length-record, whole_record_read}
 use Rattle.extents.specs.LaidReads.{LaysOnBelow}
@@ -27,7 +27,9 @@ use Rattle.tree_plans.specs.declared.changes.ObjectChanges.{ObjectChanges}
 use Rattle.tree_plans.specs.Parts.{AreReady}
 use Rattle.tree_plans.specs.Plans.{IsReady}
 use Rattle.tree_plans.specs.Pointers.{entry_of}
-use Rattle.group_plans.specs.Prepared.{AreBelow, AreExact, HoldsRecord, IsCut, IsRecordOf, KeepsFront, PutsRecord}
+use Rattle.tree_plans.specs.declared.place.RecordPlace.{RecordPlace}
+use Rattle.group_plans.specs.Prepared.{AreBelow, AreExact, HoldsRecord, IsCut, IsRecordOf, KeepsFront, PutsRecord, number_of_record}
+use Rattle.group_plans.proofs.OldMaps.{entry_pushed}
 
 -- an object that has a length is there
 pub there_of : (objects : FinMap nat_cmp (List ℕ)) (n size : ℕ) → object_length objects n ≡ Some size → (b : List ℕ) × (finite.get objects n ≡ Some b) × (length b ≡ size)
@@ -38,11 +40,17 @@ there_of objects n size told = by (finite.get objects n) refl told
     by (Some b) is e = (b, is, (cc))
 
 -- and its record is one of the image
-pub record_is : (image : List ℕ) (frame : Frame) (objects : FinMap nat_cmp (List ℕ)) (n r : ℕ) (pointer : Pointer) (b : List ℕ) → n < object_count → r < 84
-    → HoldsRecord image frame objects n r pointer → finite.get objects n ≡ Some b → IsRecord image frame n r pointer b
-record_is image frame objects n r pointer b low inside h is =
-    subst (λ (p : Pointer). IsRecord image frame n r p b) h.is
-    (subst (λ (o : Option (List ℕ)). IfSome o (λ b. IsRecord image frame n r (h.pointers (Data n r)) b)) is (h.tree.each (Data n r) (low, inside)))
+pub record_is : (image : List ℕ) (frame : Frame) (objects : FinMap nat_cmp (List ℕ)) (place : RecordPlace) (pointer : Pointer) (b : List ℕ) → place.id.0 < object_count → place.strip < pointer_count → place.index < pointer_count
+    → HoldsRecord image frame objects place pointer → finite.get objects place.id.0 ≡ Some b → IsRecord image frame (strip_number place.id.0 place.strip) place.index pointer b
+record_is image frame objects place pointer b low strip_low inside h is =
+    let m : ℕ = strip_number place.id.0 place.strip in
+    subst (λ (p : Pointer). IsRecord image frame m place.index p b) h.is
+    (subst (λ (o : Option (List ℕ)). IfSome o (λ b. IsRecord image frame m place.index (h.pointers (Data m place.index)) b)) (ap (λ (i : ℕ). finite.get objects i) (strip-object place.id.0 place.strip low) ∙ is)
+    (h.tree.each (Data m place.index) (strip-low place.id.0 place.strip low strip_low, inside)))
+
+-- where it begins in its object
+pub start_is : (place : RecordPlace) → place.id.0 < object_count → record_start (strip_number place.id.0 place.strip) place.index ≡ record_size * number_of_record place
+start_is place low = ap (λ (j : ℕ). record_size * record_of_strip j place.index) (strip-which place.id.0 place.strip low)
 
 pub on_ok : {A : Type 0} {P Q : Type 0} (r : Result A PoolError) → (P → Q) → OnOk r P → OnOk r Q
 on_ok (Ok a) f h = f h
@@ -82,30 +90,10 @@ exact_more objects n r put old new is puts exact m s payload at = elim (puts.oth
   | inr before ↦ exact m s payload before
 ]
 
--- what a step says of records that are those of their objects, told of the same image, changes and contents as before
-pub exact_moved : (frame : Frame) (n r : ℕ) (pointer : Pointer) (one two : ℕ → ℕ → Option (List ℕ)) (i j : List ℕ) (x y : Extents) (a b : slots.Contents) → i ≡ j → x ≡ y → a ≡ b
-    → (HoldsRecord i frame (contents_of a).objects n r pointer → AreExact one (objects_with x a) → AreExact two (objects_with x a))
-    → HoldsRecord j frame (contents_of b).objects n r pointer → AreExact one (objects_with y b) → AreExact two (objects_with y b)
-exact_moved frame n r pointer one two i j x y a b same_image same_changes same_contents told =
-    let Q : List ℕ → Extents → slots.Contents → Type 0 = λ i x a. HoldsRecord i frame (contents_of a).objects n r pointer → AreExact one (objects_with x a) → AreExact two (objects_with x a) in
-    subst (λ (i : List ℕ). Q i y b) same_image (subst (λ (x : Extents). Q i x b) same_changes (subst (λ (a : slots.Contents). Q i x a) same_contents told))
-
 -- what is told of one image, of changes and contents is told of the same ones
 pub moved : (Q : List ℕ → Extents → slots.Contents → Type 0) (i j : List ℕ) (x y : Extents) (a b : slots.Contents) → i ≡ j → x ≡ y → a ≡ b → Q i x a → Q j y b
 moved Q i j x y a b same_image same_changes same_contents told =
     subst (λ (i : List ℕ). Q i y b) same_image (subst (λ (x : Extents). Q i x b) same_changes (subst (λ (a : slots.Contents). Q i x a) same_contents told))
-
--- an entry among some and one more
-entry_pushed : (done : List (ObjectId × ObjectChanges)) (e : ObjectId × ObjectChanges) (n : ℕ) (changes : ObjectChanges) → entry_of (done ++ (e ∷ [])) n ≡ Some changes
-    → (entry_of done n ≡ Some changes) ⊎ ((n ≡ e.0.0) × (changes ≡ e.1))
-entry_pushed [] e n changes at = elim (n == e.0.0) as (λ t. (n == e.0.0) ≡ t → cond t (Some e.1) None ≡ Some changes → (entry_of [] n ≡ Some changes) ⊎ ((n ≡ e.0.0) × (changes ≡ e.1))) [
-  | true ↦ λ is here. inr (eqb-true n e.0.0 is, (let same : e.1 ≡ changes = cc in sym same))
-  | false ↦ λ is here. absurd (cc)
-] refl at
-entry_pushed (x ∷ done) e n changes at = elim (n == x.0.0) as (λ t. (n == x.0.0) ≡ t → cond t (Some x.1) (entry_of (done ++ (e ∷ [])) n) ≡ Some changes → (cond t (Some x.1) (entry_of done n) ≡ Some changes) ⊎ ((n ≡ e.0.0) × (changes ≡ e.1))) [
-  | true ↦ λ is here. inl here
-  | false ↦ λ is here. entry_pushed done e n changes here
-] refl at
 
 -- one object more of which the records are at hand
 pub ready_more : (has : ℕ → ℕ → Type 0) (done : List (ObjectId × ObjectChanges)) (e : ObjectId × ObjectChanges) → AreReady has done → (e.0.0 < object_count → IsReady (has e.0.0) e.1) → AreReady has (done ++ (e ∷ []))

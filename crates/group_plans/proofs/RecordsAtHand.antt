@@ -1,5 +1,5 @@
 -- What objects are whose records at hand stand in the place of their own.
-use Rattle.std.proofs.Common.{◌≡◌, ℕ, ◌+◌, ◌*◌, ◌<◌, ◌≤◌, ◌⊎◌, inl, inr, Bool, true, false, cond, List, [], length, get_or, Option, Some, None, refl, ap, sym, ◌∙◌, arith}
+use Rattle.std.proofs.Common.{◌≡◌, ℕ, ◌+◌, ◌*◌, ◌<◌, ◌≤◌, ◌⊎◌, inl, inr, Bool, true, false, cond, List, [], length, get_or, Option, Some, None, refl, ap, subst, sym, ◌∙◌, arith}
 use Rattle.std.specs.Prelude.{◌==◌, ◌/◌, ◌%◌, is_some, nat_lt, option_map, unwrap_or, if◌then◌else◌}
 use Rattle.std.specs.BTreeMap as tree
 use Rattle.std.specs.BTreeMap.{BTreeMap, is_at}
@@ -12,11 +12,12 @@ use Rattle.std.proofs.lemmas.Cmp.{nat_cmp_total}
 use Rattle.std.proofs.lemmas.Bool.{cases_lt, eq-eqb, eqb-true, le-ltb, lt-ltb, ltb-true}
 use Rattle.std.proofs.lemmas.List.{ext_get_or, get_or_past}
 use Rattle.std.proofs.lemmas.List.FromFn.{fill_by_all, get_or-map-range_with_len, length-map-range_with_len}
-use Rattle.base.specs.formats.Limits.{object_count}
+use Rattle.base.specs.formats.Limits.{object_count, record_count}
+use Rattle.base.proofs.tree.Strips.{record-count}
 use Rattle.object_maps.specs.Sources.{object_bytes, object_length, object_record}
 use Rattle.object_maps.proofs.Records.{get_or-record, length-record}
 use Rattle.extents.proofs.LaidObjects.{get-objects_past, get-objects_up_to}
-use Rattle.group_plans.specs.Prepared.{AreExact, IsCut, PutsRecord, at_hand, byte_with, bytes_with, with_records}
+use Rattle.group_plans.specs.Prepared.{AreCut, AreExact, IsCut, PutsRecord, at_hand, byte_with, bytes_with, with_records}
 
 -- numbers are compared by their order as by their equality
 pub same_test : (x y : ℕ) → is_eq (nat_cmp x y) ≡ (x == y)
@@ -28,8 +29,8 @@ same_test x y = by (nat_lt x y) refl (x == y) refl
     by false less true same = refl
     by false less false same = refl
 
-pub at_own : (records : BTreeMap ℕ (List ℕ)) (n r : ℕ) → r < 84 → at_hand records n r ≡ tree.get nat_cmp records (84 * n + r)
-at_own records n r low = ap (λ (b : Bool). if b then tree.get nat_cmp records (84 * n + r) else None) (lt-ltb r 84 low)
+pub at_own : (records : BTreeMap ℕ (List ℕ)) (n r : ℕ) → r < record_count → at_hand records n r ≡ tree.get nat_cmp records (record_count * n + r)
+at_own records n r low = ap (λ (b : Bool). if b then tree.get nat_cmp records (record_count * n + r) else None) (lt-ltb r record_count low)
 
 -- the bytes of a record at hand are those of the object
 record_of : (own : ℕ → Option (List ℕ)) (r : ℕ) (payload : List ℕ) (o : Option (List ℕ)) → own r ≡ Some payload → IsCut (unwrap_or o []) r payload
@@ -92,35 +93,45 @@ module _ (records : ℕ → ℕ → Option (List ℕ)) (objects : FinMap nat_cmp
       by n (Some b) is = ap Some (sym (fill_by_all (byte_with (records n) b) b (length b) 0 refl (λ k low. byte_at n b is k (records n (k / 4032)) refl)))
 
 -- a record is put at hand
-module _ (old new : BTreeMap ℕ (List ℕ)) (n r : ℕ) (payload : List ℕ) (low : r < 84)
-    (updates : (q : ℕ) → tree.get nat_cmp new q ≡ cond (is_at (nat_cmp (84 * n + r)) q) (Some payload) (tree.get nat_cmp old q)) where
-  get_new : (q : ℕ) → tree.get nat_cmp new q ≡ cond ((84 * n + r) == q) (Some payload) (tree.get nat_cmp old q)
-  get_new q = updates q ∙ ap (λ (b : Bool). cond b (Some payload) (tree.get nat_cmp old q)) (same_test (84 * n + r) q)
+module _ (old new : BTreeMap ℕ (List ℕ)) (n r : ℕ) (payload : List ℕ) (low : r < record_count)
+    (updates : (q : ℕ) → tree.get nat_cmp new q ≡ cond (is_at (nat_cmp (record_count * n + r)) q) (Some payload) (tree.get nat_cmp old q)) where
+  get_new : (q : ℕ) → tree.get nat_cmp new q ≡ cond ((record_count * n + r) == q) (Some payload) (tree.get nat_cmp old q)
+  get_new q = updates q ∙ ap (λ (b : Bool). cond b (Some payload) (tree.get nat_cmp old q)) (same_test (record_count * n + r) q)
 
-  none_above : (records : BTreeMap ℕ (List ℕ)) (m s : ℕ) → 84 ≤ s → at_hand records m s ≡ None
-  none_above records m s high = ap (λ (b : Bool). if b then tree.get nat_cmp records (84 * m + s) else None) (le-ltb s 84 high)
+  none_above : (records : BTreeMap ℕ (List ℕ)) (m s : ℕ) → record_count ≤ s → at_hand records m s ≡ None
+  none_above records m s high = ap (λ (b : Bool). if b then tree.get nat_cmp records (record_count * m + s) else None) (le-ltb s record_count high)
 
   pub puts_record : PutsRecord n r payload (at_hand old) (at_hand new)
   puts_record = record {
-    here = at_own new n r low ∙ get_new (84 * n + r) ∙ ap (λ (b : Bool). cond b (Some payload) (tree.get nat_cmp old (84 * n + r))) (eq-eqb (84 * n + r) (84 * n + r) refl);
-    others = λ m s other e. others m s other e (cases_lt s 84);
-    kept = λ m s there. kept m s there (cases_lt s 84);
+    here = at_own new n r low ∙ get_new (record_count * n + r) ∙ ap (λ (b : Bool). cond b (Some payload) (tree.get nat_cmp old (record_count * n + r))) (eq-eqb (record_count * n + r) (record_count * n + r) refl);
+    others = λ m s other e. others m s other e (cases_lt s record_count);
+    kept = λ m s there. kept m s there (cases_lt s record_count);
   }
     where
-      others : (m s : ℕ) (other : List ℕ) → at_hand new m s ≡ Some other → (s < 84) ⊎ (84 ≤ s) → ((m ≡ n) × (s ≡ r) × (other ≡ payload)) ⊎ (at_hand old m s ≡ Some other)
+      others : (m s : ℕ) (other : List ℕ) → at_hand new m s ≡ Some other → (s < record_count) ⊎ (record_count ≤ s) → ((m ≡ n) × (s ≡ r) × (other ≡ payload)) ⊎ (at_hand old m s ≡ Some other)
       others m s other e (inr high) = absurd (let no : None ≡ Some other = sym (none_above new m s high) ∙ e in cc)
-      others m s other e (inl below) = by ((84 * n + r) == (84 * m + s)) refl (sym (get_new (84 * m + s)) ∙ sym (at_own new m s below) ∙ e)
+      others m s other e (inl below) = by ((record_count * n + r) == (record_count * m + s)) refl (sym (get_new (record_count * m + s)) ∙ sym (at_own new m s below) ∙ e)
         where
-          by : (b : Bool) → ((84 * n + r) == (84 * m + s)) ≡ b → cond b (Some payload) (tree.get nat_cmp old (84 * m + s)) ≡ Some other → ((m ≡ n) × (s ≡ r) × (other ≡ payload)) ⊎ (at_hand old m s ≡ Some other)
+          by : (b : Bool) → ((record_count * n + r) == (record_count * m + s)) ≡ b → cond b (Some payload) (tree.get nat_cmp old (record_count * m + s)) ≡ Some other → ((m ≡ n) × (s ≡ r) × (other ≡ payload)) ⊎ (at_hand old m s ≡ Some other)
           by true is here =
-              let same : 84 * n + r ≡ 84 * m + s = eqb-true (84 * n + r) (84 * m + s) is in
-              inl (omega (arith, same, low, below), omega (arith, same, low, below), (let e : payload ≡ other = cc in sym e))
+              let same : 7056 * n + r ≡ 7056 * m + s = subst (λ (c : ℕ). c * n + r ≡ c * m + s) record-count (eqb-true (record_count * n + r) (record_count * m + s) is) in
+              let r_low : r < 7056 = rw record-count at low in
+              let s_low : s < 7056 = rw record-count at below in
+              inl (omega (arith, same, r_low, s_low), omega (arith, same, r_low, s_low), (let e : payload ≡ other = cc in sym e))
           by false is there = inr (at_own old m s below ∙ there)
 
-      kept : (m s : ℕ) → is_some (at_hand old m s) ≡ true → (s < 84) ⊎ (84 ≤ s) → is_some (at_hand new m s) ≡ true
+      kept : (m s : ℕ) → is_some (at_hand old m s) ≡ true → (s < record_count) ⊎ (record_count ≤ s) → is_some (at_hand new m s) ≡ true
       kept m s there (inr high) = absurd (let no : false ≡ true = ap is_some (sym (none_above old m s high)) ∙ there in cc)
-      kept m s there (inl below) = ap is_some (at_own new m s below ∙ get_new (84 * m + s)) ∙ by ((84 * n + r) == (84 * m + s))
+      kept m s there (inl below) = ap is_some (at_own new m s below ∙ get_new (record_count * m + s)) ∙ by ((record_count * n + r) == (record_count * m + s))
         where
-          by : (b : Bool) → is_some (cond b (Some payload) (tree.get nat_cmp old (84 * m + s))) ≡ true
+          by : (b : Bool) → is_some (cond b (Some payload) (tree.get nat_cmp old (record_count * m + s))) ≡ true
           by true = refl
           by false = ap is_some (sym (at_own old m s below)) ∙ there
+
+-- and if it is cut, all are
+pub cut_more : (objects : FinMap nat_cmp (List ℕ)) (n r : ℕ) (put : List ℕ) (old new : ℕ → ℕ → Option (List ℕ)) → IsCut (object_bytes objects n) r put → PutsRecord n r put old new → AreCut old objects → AreCut new objects
+cut_more objects n r put old new is puts cut m s payload at = elim (puts.others m s payload at) [
+  | inl here ↦ subst (λ (i : ℕ). IsCut (object_bytes objects i) s payload) (sym here.0)
+      (subst (λ (q : ℕ). IsCut (object_bytes objects n) q payload) (sym here.1) (subst (λ (p : List ℕ). IsCut (object_bytes objects n) r p) (sym here.2) is))
+  | inr before ↦ cut m s payload before
+]

@@ -1,5 +1,5 @@
 -- What the plan of a group says of its blocks and of the tree that they make.
-use Rattle.std.specs.Prelude.{ℕ, ◌≡◌, ◌<◌, ◌⊎◌, All, List, Option, Some, false, is_some, true, length, map, option_map, slice_get, take, if◌then◌else◌}
+use Rattle.std.specs.Prelude.{ℕ, ◌≡◌, ◌<◌, ◌⊎◌, All, List, Option, Some, is_some, length, map, option_map, slice_get, take, if◌then◌else◌}
 use Rattle.std.specs.Ordering.{nat_cmp}
 use Rattle.std.specs.FinMap as finite
 use Rattle.std.specs.FinMap.{FinMap}
@@ -11,8 +11,7 @@ use Rattle.base.specs.declared.names.ObjectId.{ObjectId}
 use Rattle.base.specs.declared.pointer.Pointer.{Pointer}
 use Rattle.base.specs.formats.Blocks.{Frame}
 use Rattle.base.specs.formats.Geometry.{block_count, block_size}
-use Rattle.base.specs.declared.record_state.RecordState.TheVariants.{Hole}
-use Rattle.base.specs.formats.Limits.{object_count, record_count}
+use Rattle.base.specs.formats.Limits.{object_count}
 use Rattle.base.specs.stored.Stored.{AreUsed}
 use Rattle.base.specs.tree.PlacedTrees.{ArePlaced}
 use Rattle.base.specs.tree.Places.{Place}
@@ -33,10 +32,10 @@ use Rattle.tree_plans.specs.declared.changes.ObjectChanges.{ObjectChanges}
 use Rattle.tree_plans.specs.declared.planner.PlannedBlock.{PlannedBlock}
 use Rattle.tree_plans.specs.declared.planner.TreePlan.{TreePlan}
 use Rattle.group_plans.specs.declared.planning.GroupSource.{GroupSource}
-use Rattle.tree_plans.specs.Changes.{AreBornBefore, AreChanges, AreInRange, AreTreePointers, IsCoveredBy, changes_of_group, is_changed_in, state_in, written_frame}
+use Rattle.tree_plans.specs.Changes.{AreBornBefore, AreChanges, AreInRange, AreTreePointers, IsCoveredBy, changes_of_group, written_frame}
 use Rattle.tree_plans.specs.Marks.{AreChangesOf, pending_ops}
 use Rattle.tree_plans.specs.Plans.{IsWant, address_of, new_block}
-use Rattle.tree_plans.specs.Pointers.{entry_of}
+use Rattle.tree_plans.specs.Pointers.{entry_of, entry_pointer_of}
 use Rattle.group_plans.specs.Areas.{AreBlocksOf}
 use Rattle.group_plans.specs.Pointers.{lengths_after, pointers_after}
 
@@ -46,29 +45,26 @@ use Rattle.group_plans.specs.Pointers.{lengths_after, pointers_after}
 pub record IsPlannedGroup (group : ℕ) (records : List Record) (entries : List ObjectEntry) (frame : Frame) (old new : Place → Pointer) (bs : List NewBlock) (after : FinMap nat_cmp (List ℕ)) : Type 0 where
   pub objects : List (ObjectId × ObjectChanges)
   pub changes : AreChangesOf (pending_ops group records) entries objects
-  pub planned : (before : FinMap nat_cmp (List ℕ)) → IsCoveredBy objects old before after → AreChanges objects after → AreTreePointers objects old after → IsTreePlan bs frame old new before after
+  pub planned : (before : FinMap nat_cmp (List ℕ)) → IsCoveredBy objects old before after → AreChanges objects after → AreTreePointers objects (entry_pointer_of entries) old after
+      → IsTreePlan bs frame old new before after
 
--- an object that operations only create or remove has holes alone
-abbrev pub MakesHoles : List (ObjectId × ObjectChanges) → Type 0
-MakesHoles objects = (n r : ℕ) → n < object_count → r < record_count → is_some (entry_of objects n) ≡ true → is_changed_in objects n ≡ false → state_in objects n r ≡ Hole
-
--- Some changes are those of the group's operations among records, on a tree with these entries. If they make holes so,
--- the blocks are those of the places that they write, one for each, in their order, and each one is used. If no old
--- pointer was born in the group or later, what comes back is then what the old pointers have and the new ones have not.
+-- Some changes are those of the group's operations among records, on a tree with these entries. If they are in range, the
+-- blocks are those of the places that they write, one for each, in their order. Each one is used. If no old pointer was
+-- born in the group or later, what comes back is what the old pointers have and the new ones have not.
 pub record TakesGroupPlaces (group : ℕ) (records : List Record) (entries : List ObjectEntry) (old new : Place → Pointer) (bs : List NewBlock) (returned : List ℕ) (after : FinMap nat_cmp (List ℕ)) : Type 0 where
   pub objects : List (ObjectId × ObjectChanges)
   pub changes : AreChangesOf (pending_ops group records) entries objects
-  pub order : AreInRange objects → MakesHoles objects
+  pub order : AreInRange objects after
       → map (λ (b : NewBlock). b.address) bs ≡ map (λ (place : Place). (new place).address) (written_by (changes_of_group objects old after))
-  pub used : MakesHoles objects → AreUsed bs new
-  pub freed : MakesHoles objects → AreBornBefore group old → AreFreed old new returned
+  pub used : AreUsed bs new
+  pub freed : AreBornBefore group old → AreFreed old new returned
 
 -- Some changes are those of the group's operations among records, on a tree with these entries. Where they are in
 -- range, fewer of these blocks are free than there are places that are written.
 pub record IsShortOfBlocks (group : ℕ) (records : List Record) (entries : List ObjectEntry) (old : Place → Pointer) (after : FinMap nat_cmp (List ℕ)) (free : List ℕ) : Type 0 where
   pub objects : List (ObjectId × ObjectChanges)
   pub changes : AreChangesOf (pending_ops group records) entries objects
-  pub fewer : AreInRange objects → length free < length (written_by (changes_of_group objects old after))
+  pub fewer : AreInRange objects after → length free < length (written_by (changes_of_group objects old after))
 
 -- Some changes are those of the group's operations among records, on a tree with these entries. An object that an
 -- operation is on has the length that it has among these objects, and any other the one that the tree has.
@@ -79,7 +75,7 @@ pub record HasGroupLengths (group : ℕ) (records : List Record) (entries : List
 
 -- the pointers of the tree that a plan makes of another
 abbrev pub plan_pointers : Tree → TreePlan → Place → Pointer
-plan_pointers tree p = pointers_after p.root p.directories.items p.maps tree
+plan_pointers tree p = pointers_after p.root p.directories.items p.entries tree
 
 -- what a plan writes and what comes back are blocks of a device of this size
 pub record FitsIn (size : ℕ) (p : TreePlan) : Type 0 where
@@ -97,10 +93,9 @@ pub record MakesGroupTree (frame : Frame) (old : Place → Pointer) (tree : Tree
   pub placed : ∥ ArePlaced frame.blocks (plan_pointers tree p) ∥₁
   pub places : TakesGroupPlaces frame.group records tree.entries.items old (plan_pointers tree p) (map new_block p.blocks.items) p.freed.items after
   pub whole : (i : ℕ) (b : NewBlock) → slice_get (map new_block p.blocks.items) i ≡ Some b → length b.content ≡ block_size
-  pub lengths : HasGroupLengths frame.group records tree.entries.items (lengths_after p.maps tree) after
+  pub lengths : HasGroupLengths frame.group records tree.entries.items (lengths_after p.entries tree) after
 
--- And so whichever pointers to records were read: the tree has told ones, which a device that doesn't hold it need not
--- give.
+-- And so whichever pointers were read: the tree has told ones, which a device that doesn't hold it need not give.
 abbrev pub MakesReadTree : Frame → Tree → List Record → FinMap nat_cmp (List ℕ) → TreePlan → Type 0
 MakesReadTree frame tree records after p = (old : Place → Pointer) × MakesGroupTree frame old tree records after p
 
@@ -109,7 +104,7 @@ pub record HoldsGroupObjects (frame : Frame) (tree : Tree) (records : List Recor
   pub made : MakesGroupTree frame (pointers_of tree) tree records after p
   pub held : IsPlannedGroup frame.group records tree.entries.items frame (pointers_of tree) (plan_pointers tree p) (map new_block p.blocks.items) after
 
--- refused NoSpace, the free blocks are too few for the tree of the group, whichever pointers to records were read
+-- refused NoSpace, the free blocks are too few for the tree of the group, whichever pointers were read
 abbrev pub IsRefusedShort : ℕ → Tree → List Record → FinMap nat_cmp (List ℕ) → FinSet nat_cmp → PoolError → Type 0
 IsRefusedShort group tree records after free e = e ≡ NoSpace → (old : Place → Pointer) × IsShortOfBlocks group records tree.entries.items old after (rising free)
 

@@ -50,13 +50,13 @@ PlansMakeTrees = (frame before_frame : Frame) (tree : Tree) (records : List Reco
 -- the plan takes no more blocks than the operations are estimated at
 abbrev pub PlansFitEstimates : Type 0
 PlansFitEstimates = (frame : Frame) (tree : Tree) (records : List Record) (before after : Contents) (p : TreePlan) → MakesReadTree frame tree records after.objects p
-    → TakesPlace (pending_ops frame.group records) tree.entries.items before after → length p.blocks.items ≤ estimate_of (map shape_of (pending_ops frame.group records))
+    → TakesPlace (pending_ops frame.group records) tree.entries.items before after → AreSized after.objects → length p.blocks.items ≤ estimate_of (map shape_of (pending_ops frame.group records))
 
 -- and if it is short of blocks, fewer are free than that
 abbrev pub ShortPlansLackBlocks : Type 0
 ShortPlansLackBlocks = (group : ℕ) (tree : Tree) (records : List Record) (old : Place → Pointer) (before after : Contents) (free : FinSet nat_cmp)
     → IsShortOfBlocks group records tree.entries.items old after.objects (rising free)
-    → TakesPlace (pending_ops group records) tree.entries.items before after → length (rising free) < estimate_of (map shape_of (pending_ops group records))
+    → TakesPlace (pending_ops group records) tree.entries.items before after → AreSized after.objects → length (rising free) < estimate_of (map shape_of (pending_ops group records))
 
 -- if all records are of one group, its operations are estimated at the sum of what theirs are
 abbrev pub EstimatesAdd : Type 0

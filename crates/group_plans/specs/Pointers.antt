@@ -5,15 +5,16 @@ use Rattle.base.specs.declared.names.ObjectId.{ObjectId}
 use Rattle.base.specs.declared.pointer.Pointer.{Pointer}
 use Rattle.base.specs.formats.Limits.{object_count}
 use Rattle.base.specs.tree.Places.{Place}
-use Rattle.object_maps.specs.declared.tree.ObjectMap.{ObjectMap}
+use Rattle.object_maps.specs.declared.tree.ObjectEntry.{ObjectEntry}
 use Rattle.object_maps.specs.declared.tree.Tree.{Tree}
 use Rattle.object_maps.specs.Lengths.{lengths_of, with_lengths}
-use Rattle.object_maps.specs.Pointers.{map_among, pointers_at, with_maps}
+use Rattle.object_maps.specs.Pointers.{entry_among, pointers_at, with_entries}
 
--- the new root and directories, the new pointers of the objects that have some, and those of the tree for all others
-abbrev pub pointers_after : Pointer → List Pointer → BTreeMap ObjectId ObjectMap → Tree → Place → Pointer
-pointers_after root directories maps tree = with_maps (map_among maps) (pointers_at root directories tree.entries.items)
+-- the new root and directories, the new pointers of the objects that have new entries, and those of the tree for all
+-- others
+abbrev pub pointers_after : Pointer → List Pointer → BTreeMap ObjectId ObjectEntry → Tree → Place → Pointer
+pointers_after root directories entries tree = with_entries (entry_among entries) (pointers_at root directories tree.entries.items)
 
--- the new lengths of the objects that have some, and those of the tree for all others
-abbrev pub lengths_after : BTreeMap ObjectId ObjectMap → Tree → ℕ → Option ℕ
-lengths_after maps tree n = if nat_lt n object_count then with_lengths (map_among maps) (lengths_of tree) n else None
+-- the new lengths of the objects that have new entries, and those of the tree for all others
+abbrev pub lengths_after : BTreeMap ObjectId ObjectEntry → Tree → ℕ → Option ℕ
+lengths_after entries tree n = if nat_lt n object_count then with_lengths (entry_among entries) (lengths_of tree) n else None

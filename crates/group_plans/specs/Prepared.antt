@@ -7,20 +7,23 @@ use Rattle.std.specs.BTreeMap.{BTreeMap}
 use Rattle.std.specs.Ordering.{nat_cmp}
 use Rattle.std.specs.FinMap as finite
 use Rattle.std.specs.FinMap.{FinMap}
-use Rattle.base.specs.formats.Limits.{object_count, record_count, record_size}
+use Rattle.base.specs.formats.Limits.{object_count, pointer_count, record_count, record_size}
 use Rattle.base.specs.declared.error.PoolError.{PoolError}
 use Rattle.base.specs.declared.error.PoolError.TheVariants.{NoMemory, Read}
 use Rattle.base.specs.declared.pointer.Pointer.{Pointer}
 use Rattle.base.specs.formats.Blocks.{Frame}
-use Rattle.base.specs.tree.Places.{Place}
+use Rattle.base.specs.tree.Places.{Place, record_of_strip, strip_number}
 use Rattle.base.specs.tree.Places.Place.{Data}
 use Rattle.base.specs.tree.PlacedTrees.{HoldsTree}
 use Rattle.object_maps.specs.Cached.{IsReadRefusal}
 use Rattle.object_maps.specs.Sources.{AreBytesFrom, object_bytes, object_record}
-use Rattle.object_maps.specs.declared.tree.ObjectMap.{ObjectMap}
 use Rattle.extents.specs.Objects.{HidesBelow}
 use Rattle.extents.specs.Patches.{Patches, objects_up_to}
-use Rattle.tree_plans.specs.Pointers.{record_in}
+use Rattle.tree_plans.specs.declared.changes.ObjectChanges.{ObjectChanges}
+use Rattle.tree_plans.specs.declared.object_map.ObjectMap.{ObjectMap}
+use Rattle.tree_plans.specs.declared.place.RecordPlace.{RecordPlace}
+use Rattle.tree_plans.specs.Changes.{is_strip_dirty}
+use Rattle.tree_plans.specs.Plans.{read_record}
 
 -- record r of object n, if it is among these
 abbrev pub at_hand : BTreeMap ℕ (List ℕ) → ℕ → ℕ → Option (List ℕ)
@@ -60,10 +63,14 @@ pub record PutsRecord (n r : ℕ) (put : List ℕ) (old new : ℕ → ℕ → Op
   pub kept : (m s : ℕ) → is_some (old m s) ≡ true → is_some (new m s) ≡ true
 
 -- The image holds a tree of these objects in which the record has this pointer.
-pub record HoldsRecord (image : List ℕ) (frame : Frame) (objects : FinMap nat_cmp (List ℕ)) (n r : ℕ) (pointer : Pointer) : Type 0 where
+pub record HoldsRecord (image : List ℕ) (frame : Frame) (objects : FinMap nat_cmp (List ℕ)) (place : RecordPlace) (pointer : Pointer) : Type 0 where
   pub pointers : Place → Pointer
   pub tree : HoldsTree image frame pointers objects
-  pub is : pointers (Data n r) ≡ pointer
+  pub is : pointers (Data (strip_number place.id.0 place.strip) place.index) ≡ pointer
+
+-- the number of a record in its object
+abbrev pub number_of_record : RecordPlace → ℕ
+number_of_record place = record_of_strip place.strip place.index
 
 -- Bytes of a record of the object below, which the patches hide, or which are its bytes if it is there.
 abbrev pub AreBelow : Patches → FinMap nat_cmp (List ℕ) → ℕ → ℕ → List ℕ → Type 0
@@ -85,8 +92,14 @@ IsPlainRefusal e = (e ≡ NoMemory) ⊎ (e ≡ Read)
 abbrev pub KeepsHand : (ℕ → ℕ → Option (List ℕ)) → (ℕ → ℕ → Option (List ℕ)) → Type 0
 KeepsHand old new = (m s : ℕ) → is_some (old m s) ≡ true → is_some (new m s) ≡ true
 
--- The image holds a tree of these objects in which the object has these pointers to its records.
-pub record HoldsMap (image : List ℕ) (frame : Frame) (objects : FinMap nat_cmp (List ℕ)) (n : ℕ) (m : ObjectMap) : Type 0 where
+-- The image holds a tree of these objects in which object n has the pointers of a map to the records of its strip j.
+pub record HoldsRecords (image : List ℕ) (frame : Frame) (objects : FinMap nat_cmp (List ℕ)) (n j : ℕ) (m : ObjectMap) : Type 0 where
   pub pointers : Place → Pointer
   pub tree : HoldsTree image frame pointers objects
-  pub are : (r : ℕ) → r < record_count → pointers (Data n r) ≡ record_in m r
+  pub are : (k : ℕ) → k < pointer_count → pointers (Data (strip_number n j) k) ≡ read_record m j k
+
+-- and so of each strip of which these changes write a record
+pub record HoldsMap (image : List ℕ) (frame : Frame) (objects : FinMap nat_cmp (List ℕ)) (n : ℕ) (changes : ObjectChanges) (m : ObjectMap) : Type 0 where
+  pub pointers : Place → Pointer
+  pub tree : HoldsTree image frame pointers objects
+  pub are : (j k : ℕ) → j < pointer_count → k < pointer_count → is_strip_dirty changes j ≡ true → pointers (Data (strip_number n j) k) ≡ read_record m j k

@@ -1,30 +1,36 @@
 //! What callers rest on: one function for each promise of this crate's calls, proved from the contract of the call
 //! alone. So it is refused as soon as that contract says less.
 
-ghost use Rattle.std.specs.Prelude.{ℕ, ◌≡◌, ◌≢◌, ◌≤◌, ◌∷◌, [], IfErr, IfOk, IsTrue, Some, length, map};
+ghost use Rattle.std.specs.Prelude.{ℕ, ◌≡◌, ◌≢◌, ◌≤◌, ◌∷◌, [], IfErr, IfOk, IsTrue, None, Some, false, length, map, true};
+ghost use Rattle.std.specs.Global.{Vec};
 ghost use Rattle.std.specs.FinMap as finite;
 ghost use Rattle.base.specs.declared.error.PoolError.TheVariants as error;
 ghost use Rattle.base.specs.common.Rising.{rising};
 ghost use Rattle.base.specs.formats.Geometry.{block_address, block_count};
 ghost use Rattle.base.specs.disk.Disk.{bytes_of};
-ghost use Rattle.base.specs.tree.PlacedTrees.{ArePlaced, HoldsTree};
+ghost use Rattle.base.specs.tree.PlacedTrees.{ArePlaced};
 ghost use Rattle.base.specs.formats.Fields.{no_pointer};
-ghost use Rattle.object_maps.specs.declared.tree.ObjectMap.{ObjectMap};
+ghost use Rattle.base.specs.declared.pointer.Pointer.{Pointer};
 ghost use Rattle.object_maps.specs.ContentsShown.{contents_of};
 ghost use Rattle.object_maps.specs.Pointers.{pointer_of_list, pointers_of};
+ghost use Rattle.object_maps.specs.Sources.{object_length};
+ghost use Rattle.tree_plans.specs.declared.changes.ObjectChanges.{ObjectChanges};
+ghost use Rattle.tree_plans.specs.declared.object_map.ObjectMap.{ObjectMap};
+ghost use Rattle.tree_plans.specs.Changes.{has_two_levels, is_strip_touched};
 ghost use Rattle.tree_plans.specs.Plans.{address_of};
-ghost use Rattle.tree_plans.specs.Pointers.{entry_of};
+ghost use Rattle.tree_plans.specs.Pointers.{entry_of, records_among};
+ghost use Rattle.group_plans.specs.GroupPlans.{objects_with};
+ghost use Rattle.group_plans.specs.OldMaps.{HoldsTreeOf};
 
 use crate::old_maps::read_maps;
 use crate::planning::{GroupSource, plan_group};
 use base::{ObjectId, PoolError};
 use checked_blocks::Frame;
 use extents::Extents;
-use object_maps::{BlockReader, Contents, ObjectMap, Tree};
-use std::alloc::Global;
+use object_maps::{BlockReader, Contents};
 use std::collections::BTreeMap;
 use transactions::Record;
-use tree_plans::{ObjectChanges, TreePlan};
+use tree_plans::{ObjectChanges, ObjectMap, TreePlan};
 
 // Blocks 0, 1 and 4 are free: a plan of two blocks takes blocks 0 and 1.
 fn a_group_takes_the_lowest_free_blocks<B: BlockReader>(
@@ -62,8 +68,8 @@ fn a_plan_over_a_tree_that_is_held_finds_no_damage<B: BlockReader>(
     requires placed { ∥ ArePlaced (block_count source.now.geometry)
         (pointers_of source.now.tree.now) ∥₁ }
     requires keeps { IsTrue B.keeps_model }
-    requires held { HoldsTree (bytes_of (B.disk reader.old).now) before.now
-        (pointers_of source.now.tree.now) (contents_of contents.now).objects }
+    requires held { HoldsTreeOf (bytes_of (B.disk reader.old).now) before.now
+        source.now.tree.now (contents_of contents.now).objects }
     ensures { IfErr result (λ e. (kind address : ℕ) → e ≢ error.Damaged kind address) }
 {
     plan_group(reader, before, source, records, extents, contents)
@@ -91,33 +97,37 @@ fn a_plan_leaves_the_disk<B: BlockReader>(
 
 // An object of 8,064 bytes has the records 0 and 1: the map that is read of it has no pointer to record 2.
 fn a_map_has_no_pointer_past_the_end<B: BlockReader>(
-    alloc: Global,
     reader: &mut B,
     frame: &Frame,
-    tree: &Tree,
+    source: &GroupSource<'_>,
+    extents: &Extents,
     contents: &Contents,
     objects: &BTreeMap<ObjectId, ObjectChanges>,
 ) -> Result<BTreeMap<ObjectId, ObjectMap>, PoolError>
     requires fits { block_address frame.now.blocks ≤ B.size reader.old }
-    ensures { IfOk result (λ maps. (m : ObjectMap) → entry_of maps.entries 7 ≡ Some m
-        → m.length ≡ Some 8064 → pointer_of_list m.records.items 2 ≡ no_pointer) }
+    requires length { object_length (contents_of contents.now).objects 7 ≡ Some 8064 }
+    ensures { IfOk result (λ maps. (m : ObjectMap) (v : Vec Pointer)
+        → entry_of maps.entries 7 ≡ Some m → records_among m.strips.entries 0 ≡ Some v
+        → pointer_of_list v.items 2 ≡ no_pointer) }
 {
-    read_maps(alloc, reader, frame, tree, contents, objects)
+    read_maps(reader, frame, source, extents, contents, objects)
 }
 
-// The map that is read of an object of three bytes has this length.
-fn a_map_has_the_length_of_its_object<B: BlockReader>(
-    alloc: Global,
+// If an object has two levels after a group that changes no record of its strip 1, that strip is not read.
+fn an_untouched_strip_of_a_long_object_is_not_read<B: BlockReader>(
     reader: &mut B,
     frame: &Frame,
-    tree: &Tree,
+    source: &GroupSource<'_>,
+    extents: &Extents,
     contents: &Contents,
     objects: &BTreeMap<ObjectId, ObjectChanges>,
 ) -> Result<BTreeMap<ObjectId, ObjectMap>, PoolError>
     requires fits { block_address frame.now.blocks ≤ B.size reader.old }
-    requires object { finite.get (contents_of contents.now).objects 7 ≡ Some (1 ∷ 2 ∷ 3 ∷ []) }
-    ensures { IfOk result (λ maps. (m : ObjectMap) → entry_of maps.entries 7 ≡ Some m
-        → m.length ≡ Some 3) }
+    requires long { has_two_levels
+        (finite.get (objects_with extents.now contents.now) 7) ≡ true }
+    ensures { IfOk result (λ maps. (m : ObjectMap) (changes : ObjectChanges)
+        → entry_of objects.now.entries 7 ≡ Some changes → is_strip_touched changes 1 ≡ false
+        → entry_of maps.entries 7 ≡ Some m → records_among m.strips.entries 1 ≡ None) }
 {
-    read_maps(alloc, reader, frame, tree, contents, objects)
+    read_maps(reader, frame, source, extents, contents, objects)
 }

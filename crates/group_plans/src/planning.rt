@@ -1,20 +1,19 @@
 //! The tree after a group, planned from its transactions: `changed_objects` of `tree_plans` says what they do to each
-//! object, `read_maps` reads the indirect blocks of these objects, `prepare` the records that change in part, and
-//! `plan` takes a free block for each place that changes.
+//! object, `read_maps` reads the tops and the indirect blocks of these objects, `prepare` the records that change in
+//! part, and `plan` takes a free block for each place that changes.
 
 ghost use Rattle.std.specs.Prelude.{◌≡◌, ◌≤◌, ℕ, IfErr, IfOk, IsTrue, false, is_some};
 ghost use Rattle.base.specs.disk.Disk.{bytes_of};
 ghost use Rattle.base.specs.formats.Geometry.{block_address, block_count};
-ghost use Rattle.base.specs.tree.PlacedTrees.{ArePlaced, HoldsTree};
+ghost use Rattle.base.specs.tree.PlacedTrees.{ArePlaced};
 ghost use Rattle.device_model.specs.Reading.{OnlyReads};
 ghost use Rattle.object_maps.specs.ContentsShown.{contents_of};
 ghost use Rattle.object_maps.specs.Pointers.{pointers_of};
 ghost use Rattle.base.specs.tree.Places.{Place};
 ghost use Rattle.base.specs.declared.pointer.Pointer.{Pointer};
 ghost use Rattle.tree_plans.specs.Changes.{written_frame};
-ghost use Rattle.tree_plans.specs.Parts.{AreMapsRead};
 ghost use Rattle.tree_plans.specs.Pointers.{entry_of};
-ghost use Rattle.group_plans.specs.OldMaps.{AreMapsOf, AreMapsOfObjects};
+ghost use Rattle.group_plans.specs.OldMaps.{AreMapsOf, AreMapsOfObjects, AreMapsReadFor, HoldsTreeOf};
 ghost use Rattle.group_plans.specs.ReadPlans.{HoldsPlanned, IsShortFor, IsShortFrom, PlansTree};
 ghost use Rattle.group_plans.specs.GroupPlans.{FitsIn, HoldsGroupObjects, IsHeldRefusal, IsPlanRefusal, IsRefusedShort, IsTreeShort, MakesReadTree, TakesLowest, frame_of, objects_with};
 
@@ -42,7 +41,7 @@ pub struct GroupSource<'a> {
     pub guid: u64,
     /// The group that is synced.
     pub group: Group,
-    /// The pointers and lengths before the group. Those to records are told.
+    /// The pointers and lengths before the group. The pointers below those of its directories are told.
     pub tree: &'a Tree,
     /// The blocks that may be taken.
     pub free: &'a FreeSet,
@@ -52,15 +51,17 @@ pub struct GroupSource<'a> {
 /// are passed over. `extents` are the changes that those of the group make, over the contents of the tree. `before` is
 /// the frame of that tree's blocks.
 ///
-/// It reads the indirect block of each object that the group changes, rising, and then each record that the group
-/// changes in part, for rising objects and in each for rising records.
+/// Of each object that the group changes, rising, it reads the top, if the object has two levels, and then the indirect
+/// blocks of the strips that the plan looks at, rising: those of which a record changes, and all strips if the object has
+/// one level after the group. Then it reads each record that the group changes in part, for rising objects and in each
+/// for rising records.
 ///
 /// - `fits`: each block that is written or comes back lies in the block area of the device.
 /// - `taken`: the blocks are the lowest free ones, in their order.
 /// - `tree`: the blocks make a tree after the group, with its pointers and its lengths, and what comes back is what
 ///   that tree replaces, by the pointers that were read.
-/// - `objects`: if the device keeps the model and holds the tree of the contents, these are the tree's pointers, and
-///   the new tree has the objects after the group.
+/// - `objects`: if the device keeps the model and holds the tree of the contents, and the tree has their lengths
+///   (`HoldsTreeOf`), these are the tree's pointers, and the new tree has the objects after the group.
 ///
 /// # Errors
 /// - `NoSpace`, only if fewer blocks are free than there are places to write (`no_space`). If the device keeps the
@@ -86,25 +87,26 @@ pub fn plan_group<B: BlockReader>(
     ensures taken { IfOk result (TakesLowest source.now.free.now.free) }
     ensures tree { IfOk result (MakesReadTree (frame_of source.now) source.now.tree.now
         records.now (objects_with extents.now contents.now)) }
-    ensures objects { IsTrue B.keeps_model → HoldsTree (bytes_of (B.disk reader.old).now) before.now
-        (pointers_of source.now.tree.now) (contents_of contents.now).objects
+    ensures objects { IsTrue B.keeps_model
+        → HoldsTreeOf (bytes_of (B.disk reader.old).now) before.now
+        source.now.tree.now (contents_of contents.now).objects
         → IfOk result (HoldsGroupObjects (frame_of source.now) source.now.tree.now records.now
         (objects_with extents.now contents.now)) }
     ensures no_space { IfErr result (IsRefusedShort source.now.group.0 source.now.tree.now
         records.now (objects_with extents.now contents.now) source.now.free.now.free) }
-    ensures short { IsTrue B.keeps_model → HoldsTree (bytes_of (B.disk reader.old).now) before.now
-        (pointers_of source.now.tree.now) (contents_of contents.now).objects
+    ensures short { IsTrue B.keeps_model → HoldsTreeOf (bytes_of (B.disk reader.old).now) before.now
+        source.now.tree.now (contents_of contents.now).objects
         → IfErr result (IsTreeShort source.now.group.0 source.now.tree.now records.now
         (objects_with extents.now contents.now) source.now.free.now.free) }
     ensures refused { IfErr result IsPlanRefusal }
-    ensures sound { IsTrue B.keeps_model → HoldsTree (bytes_of (B.disk reader.old).now) before.now
-        (pointers_of source.now.tree.now) (contents_of contents.now).objects
+    ensures sound { IsTrue B.keeps_model → HoldsTreeOf (bytes_of (B.disk reader.old).now) before.now
+        source.now.tree.now (contents_of contents.now).objects
         → IfErr result IsHeldRefusal }
 {
     let alloc = source.alloc;
     let tree = source.tree;
     let objects = changed_objects(alloc, &tree.entries, records, source.group)?;
-    let old_maps = read_maps(alloc, reader, before, tree, contents, &objects)?;
+    let old_maps = read_maps(reader, before, source, extents, contents, &objects)?;
     let read = PlanSource {
         alloc,
         geometry: source.geometry,
@@ -130,33 +132,35 @@ fn plan_read<B: BlockReader>(
     requires sized { read.now.free.now.blocks ≡ block_count read.now.geometry }
     requires placed { ∥ ArePlaced (block_count read.now.geometry)
         (pointers_of read.now.tree.now) ∥₁ }
-    requires maps { AreMapsRead read.now objects.now.entries }
+    requires maps { AreMapsReadFor (objects_with extents.now contents.now) objects.now.entries
+        read.now.old_maps.now.entries }
     requires none { (n : ℕ) → is_some (entry_of objects.now.entries n) ≡ false
         → is_some (entry_of read.now.old_maps.now.entries n) ≡ false }
     requires old { AreMapsOf (block_count read.now.geometry) read.now.tree.now
-        read.now.old_maps.now.entries }
+        (contents_of contents.now).objects read.now.old_maps.now.entries }
     ensures reads { OnlyReads B.SectorDevice result reader.old reader.new }
     ensures fits { IfOk result (FitsIn read.now.geometry) }
     ensures taken { IfOk result (TakesLowest read.now.free.now.free) }
     ensures tree { IfOk result (λ p. (old : Place → Pointer) × PlansTree
         (written_frame read.now.guid read.now.geometry read.now.group.0) old read.now.tree.now
         objects.now.entries (objects_with extents.now contents.now) p) }
-    ensures objects { IsTrue B.keeps_model → HoldsTree (bytes_of (B.disk reader.old).now) before.now
-        (pointers_of read.now.tree.now) (contents_of contents.now).objects
+    ensures objects { IsTrue B.keeps_model
+        → HoldsTreeOf (bytes_of (B.disk reader.old).now) before.now
+        read.now.tree.now (contents_of contents.now).objects
         → AreMapsOfObjects (pointers_of read.now.tree.now) read.now.old_maps.now.entries
         → IfOk result (HoldsPlanned
         (written_frame read.now.guid read.now.geometry read.now.group.0) read.now.tree.now
         objects.now.entries (objects_with extents.now contents.now)) }
     ensures no_space { IfErr result (IsShortFor objects.now.entries
         (objects_with extents.now contents.now) read.now.free.now.free) }
-    ensures short { IsTrue B.keeps_model → HoldsTree (bytes_of (B.disk reader.old).now) before.now
-        (pointers_of read.now.tree.now) (contents_of contents.now).objects
+    ensures short { IsTrue B.keeps_model → HoldsTreeOf (bytes_of (B.disk reader.old).now) before.now
+        read.now.tree.now (contents_of contents.now).objects
         → AreMapsOfObjects (pointers_of read.now.tree.now) read.now.old_maps.now.entries
         → IfErr result (IsShortFrom (pointers_of read.now.tree.now) objects.now.entries
         (objects_with extents.now contents.now) read.now.free.now.free) }
     ensures refused { IfErr result IsPlanRefusal }
-    ensures sound { IsTrue B.keeps_model → HoldsTree (bytes_of (B.disk reader.old).now) before.now
-        (pointers_of read.now.tree.now) (contents_of contents.now).objects
+    ensures sound { IsTrue B.keeps_model → HoldsTreeOf (bytes_of (B.disk reader.old).now) before.now
+        read.now.tree.now (contents_of contents.now).objects
         → AreMapsOfObjects (pointers_of read.now.tree.now) read.now.old_maps.now.entries
         → IfErr result IsHeldRefusal }
 {

@@ -24,7 +24,8 @@ pub(crate) struct PreparedObjects<'a> {
     ghost cut: { AreCut (at_hand records) (objects_with extents.now contents.now) },
 }
 
-// The number of a record's block.
+// The number of a record among those of all objects.
+#[tactic(auto, unfolding(base::specs::formats::Limits::record_count))]
 fn record_number(id: ObjectId, index: usize) -> u64
     requires { index < record_count }
     ensures { result ≡ record_count * id.0 + index }
@@ -48,6 +49,7 @@ impl<'a> PreparedObjects<'a> {
     }
 
     // Clears what lies past an object's end in one of its records.
+    #[tactic(auto, unfolding(base::specs::formats::Limits::record_count))]
     fn cut(&self, id: ObjectId, index: usize, payload: &mut [u8])
         requires index { index < record_count }
         requires size { length payload.old ≡ record_size }

@@ -1,29 +1,32 @@
 //! The reads of a plan: each record that a group changes, as it is after the group. A plan itself reads nothing.
 
-ghost use Rattle.std.specs.Prelude.{◌≡◌, ◌<◌, ◌≤◌, IfErr, IfOk, IsTrue, OnOk, is_some, length, true};
+ghost use Rattle.std.specs.Prelude.{◌≡◌, ◌<◌, ◌≤◌, ℕ, IfErr, IfOk, IsTrue, OnOk, is_some, length, true};
 ghost use Rattle.base.specs.declared.error.PoolError.TheVariants as error;
 ghost use Rattle.base.specs.declared.record_state.RecordState.TheVariants.{Dirty};
 ghost use Rattle.base.specs.disk.Disk.{bytes_of};
 ghost use Rattle.base.specs.formats.Geometry.{block_address};
-ghost use Rattle.base.specs.formats.Limits.{object_count, record_count, record_size};
+ghost use Rattle.base.specs.formats.Limits.{object_count, pointer_count, record_size};
+ghost use Rattle.base.specs.tree.PlacedTrees.{HoldsTree};
+ghost use Rattle.base.specs.tree.Places.{record_of_strip};
 ghost use Rattle.device_model.specs.Reading.{OnlyReads};
 ghost use Rattle.object_maps.specs.Cached.{IsReadRefusal};
 ghost use Rattle.object_maps.specs.ContentsShown.{contents_of};
 ghost use Rattle.extents.specs.Tables.{patches_of};
-ghost use Rattle.group_plans.specs.GroupPlans.{objects_with};
-ghost use Rattle.base.specs.tree.PlacedTrees.{HoldsTree};
+ghost use Rattle.tree_plans.specs.Changes.{is_strip_dirty, state_at};
+ghost use Rattle.tree_plans.specs.Parts.{AreReady};
 ghost use Rattle.tree_plans.specs.Plans.{IsReady};
-ghost use Rattle.tree_plans.specs.Parts.{AreMapsRead, AreReady};
-ghost use Rattle.tree_plans.specs.Pointers.{entry_of, pointers_before};
-ghost use Rattle.group_plans.specs.Prepared.{AreBelow, AreExact, HoldsMap, HoldsRecord, IsPlainRefusal, IsPrepareRefusal, IsRecordOf, KeepsHand, at_hand};
+ghost use Rattle.tree_plans.specs.Pointers.{pointers_before};
+ghost use Rattle.group_plans.specs.GroupPlans.{objects_with};
+ghost use Rattle.group_plans.specs.OldMaps.{AreMapsReadFor, HasReadMap};
+ghost use Rattle.group_plans.specs.Prepared.{AreBelow, AreExact, HoldsMap, HoldsRecord, HoldsRecords, IsPlainRefusal, IsPrepareRefusal, IsRecordOf, KeepsHand, at_hand, number_of_record};
 
 use crate::prepared::PreparedObjects;
-use base::{OBJECT_COUNT, ObjectId, Pointer, PoolError, RECORD_SIZE, RecordState};
+use base::{OBJECT_COUNT, ObjectId, POINTER_COUNT, Pointer, PoolError, RECORD_SIZE, RecordState};
 use checked_blocks::Frame;
 use extents::Extents;
-use object_maps::{BlockReader, Contents, ObjectMap, RECORD_COUNT, read_part};
+use object_maps::{BlockReader, Contents, read_part, strip_number};
 use std::collections::BTreeMap;
-use tree_plans::{ObjectChanges, PlanSource};
+use tree_plans::{ObjectChanges, ObjectMap, PlanSource, RecordPlace};
 
 // Reads a record of the synced tree, if it is there and the group does not hide it.
 fn read_below<B: BlockReader>(
@@ -31,42 +34,35 @@ fn read_below<B: BlockReader>(
     frame: &Frame,
     extents: &Extents,
     contents: &Contents,
-    id: ObjectId,
-    index: usize,
+    place: RecordPlace,
     pointer: &Pointer,
     into: &mut [u8],
 ) -> Result<(), PoolError>
     requires fits { block_address frame.now.blocks ≤ B.size reader.old }
-    requires number { id.0 < object_count }
-    requires index { index < record_count }
+    requires number { place.id.0 < object_count }
+    requires strip { place.strip < pointer_count }
+    requires index { place.index < pointer_count }
     requires size { length into.old ≡ record_size }
     ensures reads { OnlyReads B.SectorDevice result reader.old reader.new }
     ensures size { length into.new ≡ record_size }
     ensures refused { IfErr result IsReadRefusal }
     ensures exact { IsTrue B.keeps_model → HoldsRecord (bytes_of (B.disk reader.old).now)
-        frame.now (contents_of contents.now).objects id.0 index pointer.now
+        frame.now (contents_of contents.now).objects place pointer.now
         → OnOk result (AreBelow (patches_of extents.now) (contents_of contents.now).objects
-        id.0 index into.new) }
+        place.id.0 (number_of_record place) into.new) }
     ensures sound { IsTrue B.keeps_model → HoldsRecord (bytes_of (B.disk reader.old).now)
-        frame.now (contents_of contents.now).objects id.0 index pointer.now
+        frame.now (contents_of contents.now).objects place pointer.now
         → IfErr result (λ e. e ≡ error.Read) }
 {
-    let Some(size) = contents.length(id) else {
+    let Some(size) = contents.length(place.id) else {
         return Ok(());
     };
-    if extents.hides(id, index, 0, RECORD_SIZE) {
+    if extents.hides(place.id, place.number(), 0, RECORD_SIZE) {
         return Ok(());
     }
-    read_part(
-        reader,
-        frame,
-        id.0 as usize,
-        index,
-        pointer,
-        size as usize,
-        0,
-        into,
-    )
+    let number = strip_number(place.id.0 as usize, place.strip);
+    let size = size as usize;
+    read_part(reader, frame, number, place.index, pointer, size, 0, into)
 }
 
 // Reads a record as it is after the group.
@@ -75,27 +71,28 @@ fn read_record<B: BlockReader>(
     frame: &Frame,
     extents: &Extents,
     contents: &Contents,
-    id: ObjectId,
-    index: usize,
+    place: RecordPlace,
     pointer: &Pointer,
     into: &mut [u8],
 ) -> Result<(), PoolError>
     requires fits { block_address frame.now.blocks ≤ B.size reader.old }
-    requires number { id.0 < object_count }
-    requires index { index < record_count }
+    requires number { place.id.0 < object_count }
+    requires strip { place.strip < pointer_count }
+    requires index { place.index < pointer_count }
     requires size { length into.old ≡ record_size }
     ensures reads { OnlyReads B.SectorDevice result reader.old reader.new }
     ensures size { length into.new ≡ record_size }
     ensures refused { IfErr result IsReadRefusal }
     ensures exact { IsTrue B.keeps_model → HoldsRecord (bytes_of (B.disk reader.old).now)
-        frame.now (contents_of contents.now).objects id.0 index pointer.now
-        → OnOk result (IsRecordOf (objects_with extents.now contents.now) id.0 index into.new) }
+        frame.now (contents_of contents.now).objects place pointer.now
+        → OnOk result (IsRecordOf (objects_with extents.now contents.now)
+        place.id.0 (number_of_record place) into.new) }
     ensures sound { IsTrue B.keeps_model → HoldsRecord (bytes_of (B.disk reader.old).now)
-        frame.now (contents_of contents.now).objects id.0 index pointer.now
+        frame.now (contents_of contents.now).objects place pointer.now
         → IfErr result (λ e. e ≡ error.Read) }
 {
-    read_below(reader, frame, extents, contents, id, index, pointer, into)?;
-    extents.lay_on(id, index, 0, into);
+    read_below(reader, frame, extents, contents, place, pointer, into)?;
+    extents.lay_on(place.id, place.number(), 0, into);
     Ok(())
 }
 
@@ -104,27 +101,28 @@ fn prepare_record<B: BlockReader>(
     reader: &mut B,
     frame: &Frame,
     prepared: &mut PreparedObjects<'_>,
-    id: ObjectId,
-    index: usize,
+    place: RecordPlace,
     pointer: &Pointer,
 ) -> Result<(), PoolError>
     requires fits { block_address frame.now.blocks ≤ B.size reader.old }
-    requires number { id.0 < object_count }
-    requires index { index < record_count }
+    requires number { place.id.0 < object_count }
+    requires strip { place.strip < pointer_count }
+    requires index { place.index < pointer_count }
     ensures reads { OnlyReads B.SectorDevice result reader.old reader.new }
     ensures extents { prepared.new.extents.now ≡ prepared.old.extents.now }
     ensures contents { prepared.new.contents.now ≡ prepared.old.contents.now }
-    ensures ready { OnOk result (is_some (at_hand prepared.new.records id.0 index) ≡ true) }
+    ensures ready { OnOk result
+        (is_some (at_hand prepared.new.records place.id.0 (number_of_record place)) ≡ true) }
     ensures kept { KeepsHand (at_hand prepared.old.records) (at_hand prepared.new.records) }
     ensures refused { IfErr result IsPrepareRefusal }
     ensures exact { IsTrue B.keeps_model → HoldsRecord (bytes_of (B.disk reader.old).now) frame.now
-        (contents_of prepared.old.contents.now).objects id.0 index pointer.now
+        (contents_of prepared.old.contents.now).objects place pointer.now
         → AreExact (at_hand prepared.old.records)
         (objects_with prepared.old.extents.now prepared.old.contents.now)
         → OnOk result (AreExact (at_hand prepared.new.records)
         (objects_with prepared.old.extents.now prepared.old.contents.now)) }
     ensures sound { IsTrue B.keeps_model → HoldsRecord (bytes_of (B.disk reader.old).now) frame.now
-        (contents_of prepared.old.contents.now).objects id.0 index pointer.now
+        (contents_of prepared.old.contents.now).objects place pointer.now
         → IfErr result IsPlainRefusal }
 {
     let mut payload = [0; RECORD_SIZE];
@@ -133,12 +131,11 @@ fn prepare_record<B: BlockReader>(
         frame,
         prepared.extents,
         prepared.contents,
-        id,
-        index,
+        place,
         pointer,
         &mut payload,
     )?;
-    prepared.put(id, index, &mut payload)
+    prepared.put(place.id, place.number(), &mut payload)
 }
 
 // Puts a record at hand as it is after the group, if it changes.
@@ -146,35 +143,112 @@ fn prepare_dirty<B: BlockReader>(
     reader: &mut B,
     frame: &Frame,
     prepared: &mut PreparedObjects<'_>,
-    id: ObjectId,
-    index: usize,
+    place: RecordPlace,
     pointer: &Pointer,
     state: RecordState,
 ) -> Result<(), PoolError>
     requires fits { block_address frame.now.blocks ≤ B.size reader.old }
-    requires number { id.0 < object_count }
-    requires index { index < record_count }
+    requires number { place.id.0 < object_count }
+    requires strip { place.strip < pointer_count }
+    requires index { place.index < pointer_count }
     ensures reads { OnlyReads B.SectorDevice result reader.old reader.new }
     ensures extents { prepared.new.extents.now ≡ prepared.old.extents.now }
     ensures contents { prepared.new.contents.now ≡ prepared.old.contents.now }
     ensures ready { OnOk result (state ≡ Dirty
-        → is_some (at_hand prepared.new.records id.0 index) ≡ true) }
+        → is_some (at_hand prepared.new.records place.id.0 (number_of_record place)) ≡ true) }
     ensures kept { KeepsHand (at_hand prepared.old.records) (at_hand prepared.new.records) }
     ensures refused { IfErr result IsPrepareRefusal }
     ensures exact { IsTrue B.keeps_model → HoldsRecord (bytes_of (B.disk reader.old).now) frame.now
-        (contents_of prepared.old.contents.now).objects id.0 index pointer.now
+        (contents_of prepared.old.contents.now).objects place pointer.now
         → AreExact (at_hand prepared.old.records)
         (objects_with prepared.old.extents.now prepared.old.contents.now)
         → OnOk result (AreExact (at_hand prepared.new.records)
         (objects_with prepared.old.extents.now prepared.old.contents.now)) }
     ensures sound { IsTrue B.keeps_model → HoldsRecord (bytes_of (B.disk reader.old).now) frame.now
-        (contents_of prepared.old.contents.now).objects id.0 index pointer.now
+        (contents_of prepared.old.contents.now).objects place pointer.now
         → IfErr result IsPlainRefusal }
 {
     match state {
-        RecordState::Dirty => prepare_record(reader, frame, prepared, id, index, pointer),
+        RecordState::Dirty => prepare_record(reader, frame, prepared, place, pointer),
         RecordState::Unchanged | RecordState::Hole => Ok(()),
     }
+}
+
+// Puts the records of a strip of an object that change at hand, rising. The object has this map before the group.
+fn prepare_strip<B: BlockReader>(
+    reader: &mut B,
+    frame: &Frame,
+    prepared: &mut PreparedObjects<'_>,
+    id: ObjectId,
+    strip: usize,
+    map: &ObjectMap,
+    changes: &ObjectChanges,
+) -> Result<(), PoolError>
+    requires fits { block_address frame.now.blocks ≤ B.size reader.old }
+    requires number { id.0 < object_count }
+    requires strip { strip < pointer_count }
+    ensures reads { OnlyReads B.SectorDevice result reader.old reader.new }
+    ensures extents { prepared.new.extents.now ≡ prepared.old.extents.now }
+    ensures contents { prepared.new.contents.now ≡ prepared.old.contents.now }
+    ensures ready { OnOk result ((k : ℕ) → k < pointer_count
+        → state_at changes.now (record_of_strip strip k) ≡ Dirty
+        → is_some (at_hand prepared.new.records id.0 (record_of_strip strip k)) ≡ true) }
+    ensures kept { KeepsHand (at_hand prepared.old.records) (at_hand prepared.new.records) }
+    ensures refused { IfErr result IsPrepareRefusal }
+    ensures exact { IsTrue B.keeps_model → HoldsRecords (bytes_of (B.disk reader.old).now) frame.now
+        (contents_of prepared.old.contents.now).objects id.0 strip map.now
+        → AreExact (at_hand prepared.old.records)
+        (objects_with prepared.old.extents.now prepared.old.contents.now)
+        → OnOk result (AreExact (at_hand prepared.new.records)
+        (objects_with prepared.old.extents.now prepared.old.contents.now)) }
+    ensures sound { IsTrue B.keeps_model → HoldsRecords (bytes_of (B.disk reader.old).now) frame.now
+        (contents_of prepared.old.contents.now).objects id.0 strip map.now
+        → IfErr result IsPlainRefusal }
+{
+    for index in 0..POINTER_COUNT {
+        let place = RecordPlace { id, strip, index };
+        let pointer = map.record(strip, index);
+        let state = changes.state(place.number());
+        prepare_dirty(reader, frame, prepared, place, &pointer, state)?;
+    }
+    Ok(())
+}
+
+// Puts the records of a strip of an object that change at hand, if there are any.
+fn prepare_written<B: BlockReader>(
+    reader: &mut B,
+    frame: &Frame,
+    prepared: &mut PreparedObjects<'_>,
+    id: ObjectId,
+    strip: usize,
+    map: &ObjectMap,
+    changes: &ObjectChanges,
+) -> Result<(), PoolError>
+    requires fits { block_address frame.now.blocks ≤ B.size reader.old }
+    requires number { id.0 < object_count }
+    requires strip { strip < pointer_count }
+    ensures reads { OnlyReads B.SectorDevice result reader.old reader.new }
+    ensures extents { prepared.new.extents.now ≡ prepared.old.extents.now }
+    ensures contents { prepared.new.contents.now ≡ prepared.old.contents.now }
+    ensures ready { OnOk result ((k : ℕ) → k < pointer_count
+        → state_at changes.now (record_of_strip strip k) ≡ Dirty
+        → is_some (at_hand prepared.new.records id.0 (record_of_strip strip k)) ≡ true) }
+    ensures kept { KeepsHand (at_hand prepared.old.records) (at_hand prepared.new.records) }
+    ensures refused { IfErr result IsPrepareRefusal }
+    ensures exact { IsTrue B.keeps_model → HoldsMap (bytes_of (B.disk reader.old).now) frame.now
+        (contents_of prepared.old.contents.now).objects id.0 changes.now map.now
+        → AreExact (at_hand prepared.old.records)
+        (objects_with prepared.old.extents.now prepared.old.contents.now)
+        → OnOk result (AreExact (at_hand prepared.new.records)
+        (objects_with prepared.old.extents.now prepared.old.contents.now)) }
+    ensures sound { IsTrue B.keeps_model → HoldsMap (bytes_of (B.disk reader.old).now) frame.now
+        (contents_of prepared.old.contents.now).objects id.0 changes.now map.now
+        → IfErr result IsPlainRefusal }
+{
+    if !changes.writes_strip(strip) {
+        return Ok(());
+    }
+    prepare_strip(reader, frame, prepared, id, strip, map, changes)
 }
 
 // Puts the records of an object that change at hand, rising. The object has this map before the group.
@@ -196,19 +270,17 @@ fn prepare_object<B: BlockReader>(
     ensures kept { KeepsHand (at_hand prepared.old.records) (at_hand prepared.new.records) }
     ensures refused { IfErr result IsPrepareRefusal }
     ensures exact { IsTrue B.keeps_model → HoldsMap (bytes_of (B.disk reader.old).now) frame.now
-        (contents_of prepared.old.contents.now).objects id.0 map.now
+        (contents_of prepared.old.contents.now).objects id.0 changes.now map.now
         → AreExact (at_hand prepared.old.records)
         (objects_with prepared.old.extents.now prepared.old.contents.now)
         → OnOk result (AreExact (at_hand prepared.new.records)
         (objects_with prepared.old.extents.now prepared.old.contents.now)) }
     ensures sound { IsTrue B.keeps_model → HoldsMap (bytes_of (B.disk reader.old).now) frame.now
-        (contents_of prepared.old.contents.now).objects id.0 map.now
+        (contents_of prepared.old.contents.now).objects id.0 changes.now map.now
         → IfErr result IsPlainRefusal }
 {
-    for index in 0..RECORD_COUNT {
-        let pointer = map.record(index);
-        let state = changes.state(index);
-        prepare_dirty(reader, frame, prepared, id, index, &pointer, state)?;
+    for strip in 0..POINTER_COUNT {
+        prepare_written(reader, frame, prepared, id, strip, map, changes)?;
     }
     Ok(())
 }
@@ -223,8 +295,9 @@ fn prepare_changed<B: BlockReader>(
     changes: &ObjectChanges,
 ) -> Result<(), PoolError>
     requires fits { block_address frame.now.blocks ≤ B.size reader.old }
-    requires map { id.0 < object_count
-        → is_some (entry_of source.now.old_maps.now.entries id.0) ≡ true }
+    requires map { id.0 < object_count → HasReadMap
+        (objects_with prepared.old.extents.now prepared.old.contents.now)
+        source.now.old_maps.now.entries id.0 changes.now }
     ensures reads { OnlyReads B.SectorDevice result reader.old reader.new }
     ensures extents { prepared.new.extents.now ≡ prepared.old.extents.now }
     ensures contents { prepared.new.contents.now ≡ prepared.old.contents.now }
@@ -266,7 +339,8 @@ pub(crate) fn prepare<'a, B: BlockReader>(
     contents: &'a Contents,
 ) -> Result<PreparedObjects<'a>, PoolError>
     requires fits { block_address frame.now.blocks ≤ B.size reader.old }
-    requires maps { AreMapsRead source.now objects.now.entries }
+    requires maps { AreMapsReadFor (objects_with extents.now contents.now) objects.now.entries
+        source.now.old_maps.now.entries }
     ensures reads { OnlyReads B.SectorDevice result reader.old reader.new }
     ensures extents { IfOk result (λ p. p.extents.now ≡ extents.now) }
     ensures contents { IfOk result (λ p. p.contents.now ≡ contents.now) }

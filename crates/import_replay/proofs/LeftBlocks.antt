@@ -1,6 +1,6 @@
 -- What an import leaves free: of the blocks that no pointer of the old tree names those that its plan does not take,
 -- and those that the plan replaces. So they are all blocks that neither the new tree nor the log has.
-use Rattle.std.proofs.Common.{◌≡◌, ◌⊎◌, inl, inr, ℕ, ◌<◌, Bool, true, false, not, ◌&&◌, ◌||◌, List, length, nat_eq, Some, refl, sym, ◌∙◌, ap, subst, arith}
+use Rattle.std.proofs.Common.{◌≡◌, ◌⊎◌, inl, inr, ℕ, ◌<◌, Bool, true, false, not, ◌&&◌, ◌||◌, List, nat_eq, Some, refl, sym, ◌∙◌, ap, subst, arith}
 use Rattle.std.specs.Prelude.{slice_get}
 use Rattle.std.specs.Ordering.{nat_cmp}
 use Rattle.std.specs.FinSet as set
@@ -14,7 +14,7 @@ use Rattle.base.proofs.common.KeptLists.{All-at}
 use Rattle.base.proofs.stored.StoredSets.{IsAt, at-set, set-at}
 use Rattle.group_plans.specs.Areas.{AreBlocksOf, is_block_of}
 use Rattle.group_plans.proofs.PlannedBlocks.{block_of}
-use Rattle.object_maps.specs.FreeBlocks.{AreUnnamed, tree_names}
+use Rattle.object_maps.specs.FreeBlocks.{AreUnnamed}
 use Rattle.object_maps.specs.Pointers.{pointers_of}
 use Rattle.object_maps.specs.declared.tree.Tree.{Tree}
 use Rattle.object_maps.proofs.FreeBlocks.{blocks_kept, contains-without}
@@ -22,7 +22,8 @@ use Rattle.space.specs.FreeSets.{FreeSpace, IsIdle, is_free}
 use Rattle.tree_plans.specs.declared.planner.PlannedBlock.{PlannedBlock}
 use Rattle.tree_plans.specs.declared.planner.TreePlan.{TreePlan}
 use Rattle.import_replay.specs.FreeBlocks.{AreAllOthers, IsLeftBy, IsNamed, is_planned}
-use Rattle.import_replay.proofs.FreeBlocks.{at_planned, both_are, found-named, is_found, not-false, not-true, not_both, planned_at}
+use Rattle.import_replay.proofs.FreeBlocks.{at_planned, both_are, not_both, planned_at}
+use Rattle.import_replay.proofs.NamedBlocks.{named_or_not}
 
 -- a flag that says two things
 and_cases : (a b : Bool) → (not a && b) ≡ true → (a ≡ false) × (b ≡ true)
@@ -89,12 +90,6 @@ module _ (t : Tree) (blocks : ℕ) (old new : FreeSpace) (plan : TreePlan) (log_
     | inr rest ↦ (let (gone, none) = or_parts (set.contains mid.free q) (set.contains came_back q) rest in inr (gone, λ at. false≢true (sym none ∙ at-set freed q at)))
   ]
 
-  directories : length t.directories.items ≡ 84
-  directories = omega (arith, t.directories.ok.0)
-
-  entries : length t.entries.items ≡ 5292
-  entries = omega (arith, t.entries.ok.0)
-
   kept : (k : ℕ) → k < blocks → is_free k mid ≡ (is_free k old && not (is_planned k planned))
   kept k low = by.taken.each k (let count = unnamed.sized in omega (arith, low, count))
 
@@ -115,7 +110,7 @@ module _ (t : Tree) (blocks : ℕ) (old new : FreeSpace) (plan : TreePlan) (log_
         not_stayed (k, low, at) stayed =
             let (was, unplanned) = both_are (is_free k old) (is_planned k planned) (sym (kept k low) ∙ ap (λ (a : ℕ). set.contains mid.free a) (sym at) ∙ stayed) in
             elim (made.named_from q (k, low, at) named) as (λ _. ⊥) [
-              | inl before ↦ not-true (tree_names k t) (sym (unnamed.each k low) ∙ was) (is_found t directories entries k (subst (λ (a : ℕ). IsNamed (pointers_of t) a) at before))
+              | inl before ↦ (unnamed.each k low).0 was (subst (λ (a : ℕ). IsNamed (pointers_of t) a) at before)
               | inr taken ↦ false≢true (sym unplanned ∙ at_planned k planned taken.0 taken.1 taken.2 (taken.3 ∙ at))
             ]
 
@@ -130,10 +125,12 @@ module _ (t : Tree) (blocks : ℕ) (old new : FreeSpace) (plan : TreePlan) (log_
             let p = planned_at k planned (not_both (is_free k old) (is_planned k planned) (sym (kept k low) ∙ ap (λ (a : ℕ). set.contains mid.free a) (sym at) ∙ gone) was) in
             subst (λ (a : ℕ). IsNamed pointers a) (p.3 ∙ sym at) (made.new_named p.0 p.1 p.2)
         by_flag false was gone none =
-            let before = found-named t directories entries k (not-false (tree_names k t) (sym (unnamed.each k low) ∙ was)) in
-            elim (made.stays_or_freed q (k, low, at) (subst (λ (a : ℕ). IsNamed (pointers_of t) a) (sym at) before)) as (λ _. IsNamed pointers q) [
-              | inl stays ↦ stays
-              | inr came ↦ absurd (none came)
+            elim (named_or_not (pointers_of t) (block_address k)) as (λ _. IsNamed pointers q) [
+              | inl before ↦ (elim (made.stays_or_freed q (k, low, at) (subst (λ (a : ℕ). IsNamed (pointers_of t) a) (sym at) before)) as (λ _. IsNamed pointers q) [
+                | inl stays ↦ stays
+                | inr came ↦ absurd (none came)
+              ])
+              | inr unnamed_before ↦ absurd (false≢true (sym was ∙ (unnamed.each k low).1 unnamed_before))
             ]
 
     pub all_others_left : AreAllOthers pointers blocks log_address new.free

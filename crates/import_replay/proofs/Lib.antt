@@ -6,6 +6,7 @@ pub mod OutsideWrites
 pub mod Flushes
 pub mod FirstWrites
 pub mod OwnCreations
+mod NamedBlocks
 pub mod FreeBlocks
 pub mod GivenBlocks
 pub mod LeftBlocks

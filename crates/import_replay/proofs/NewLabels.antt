@@ -1,16 +1,18 @@
 -- What an image mounts whose labels are those of a new pool.
-use Rattle.std.proofs.Common.{◌≡◌, ◌⊎◌, inl, inr, ℕ, ◌+◌, ◌<◌, ◌≤◌, List, [], length, drop, get_or, replicate, nat_eq, refl, sym, ◌∙◌, ap, subst, arith}
+use Rattle.std.proofs.Common.{◌≡◌, ◌⊎◌, inl, inr, ℕ, ◌+◌, ◌<◌, ◌≤◌, Bool, true, false, List, [], length, drop, get_or, replicate, nat_eq, refl, sym, ◌∙◌, ap, subst, arith}
+use Rattle.std.specs.Prelude.{◌==◌, if◌then◌else◌}
 use Rattle.std.specs.Ordering.{nat_cmp}
 use Rattle.std.specs.FinMap as map
 use Rattle.std.specs.List.{IsDistinct}
 use Rattle.std.specs.Int.{from_le_bytes, w64}
 use Rattle.std.proofs.lemmas.Bool.{cases_order}
 use Rattle.std.proofs.lemmas.List.{ext_get_or, get_or-take, get_or-drop, get_or-replicate, length-replicate}
-use Rattle.base.specs.formats.Fields.{part, number_at, no_pointer}
+use Rattle.base.specs.declared.pointer.Pointer.{Pointer}
+use Rattle.base.specs.formats.Fields.{part, number_at, no_pointer, pointer_in}
 use Rattle.base.specs.formats.Limits.{first_group}
 use Rattle.base.specs.formats.Geometry.{IsGeometry, block_count, slot_place, slot_of}
-use Rattle.base.specs.tree.Places.{Place, pointer_of, IsInTree}
-use Rattle.base.specs.tree.Places.Place.{Root, Directory, Indirect, Data}
+use Rattle.base.specs.tree.Places.{Place, indirect_pointer, pointer_below, pointer_of, strip_of, IsInTree}
+use Rattle.base.specs.tree.Places.Place.{Root, Directory, Top, Indirect, Data}
 use Rattle.base.specs.history.Contents.{Contents}
 use Rattle.base.specs.disk.Disk.{Moment, bytes_of, CrashLeaves}
 use Rattle.base.specs.formats.Uberblocks.{Uberblock, StandsIn, IsActive, IsUberblock}
@@ -30,11 +32,19 @@ use Rattle.import_replay.specs.Labelled.{IsLabelled}
 no_block : (image : List ℕ) (address : ℕ) → IsInTree image no_pointer address → ⊥
 no_block image address is = by_place is.place is.named
   where
+    either : (first : Bool) → (if first then no_pointer else no_pointer) ≡ no_pointer
+    either true = refl
+    either false = refl
+
+    no_indirect : (m : ℕ) → indirect_pointer image no_pointer m ≡ no_pointer
+    no_indirect m = either (strip_of m == 0)
+
     by_place : (place : Place) → (pointer_of image no_pointer place).address ≡ address → ⊥
     by_place Root named = is.there (sym named)
     by_place (Directory d) named = is.there (sym named)
-    by_place (Indirect n) named = is.there (sym named)
-    by_place (Data n r) named = is.there (sym named)
+    by_place (Top n) named = is.there (sym named)
+    by_place (Indirect m) named = is.there (sym named ∙ ap (λ (p : Pointer). p.address) (no_indirect m))
+    by_place (Data m k) named = is.there (sym named ∙ ap (λ (p : Pointer). (pointer_below image p (λ payload. pointer_in payload k)).address) (no_indirect m))
 
 none_distinct : IsDistinct nat_eq []
 unfolding IsDistinct

@@ -7,7 +7,7 @@ use Rattle.std.specs.FinSet.{FinSet, contains-insert, len-empty, len-insert}
 use Rattle.std.specs.List.{AllByRecursion, IsDistinct}
 use Rattle.std.specs.Ordering.{nat_cmp, eq_by_cmp}
 use Rattle.std.specs.Cmp.{unsigned_tied}
-use Rattle.std.proofs.lemmas.Bool.{cases_lt, eq-eqb, false≢true, ne_eqb}
+use Rattle.std.proofs.lemmas.Bool.{cases_lt, eq-eqb, eqb-true, false≢true, ne_eqb, or_cases}
 use Rattle.std.proofs.lemmas.Cmp.{nat_cmp_total}
 use Rattle.std.proofs.lemmas.List.{length-map}
 use Rattle.std.proofs.lemmas.List.Elements.{All-weaker}
@@ -22,14 +22,14 @@ use Rattle.base.specs.declared.pointer.Pointer.{Pointer}
 use Rattle.base.specs.disk.Disk.{Disk, bytes_of}
 use Rattle.base.specs.formats.Chain.{LogPiece}
 use Rattle.base.specs.formats.Geometry.{IsBlockAddress, block_address, block_area, block_count, block_size}
-use Rattle.base.specs.formats.Limits.{object_count, pointer_count}
+use Rattle.base.specs.formats.Limits.{object_count}
 use Rattle.base.specs.formats.Names.{IsName}
 use Rattle.base.specs.formats.Uberblocks.{Uberblock}
+use Rattle.base.specs.formats.Versions.{is_version_known, written_version}
 use Rattle.base.specs.history.Contents.{Contents, length_of}
 use Rattle.base.specs.stored.Stored.{AreBlocks, AreUsed}
 use Rattle.base.specs.tree.PlacedTrees.{ArePlaced, HoldsTree, IsPlaced}
 use Rattle.base.specs.tree.Places.{IsInTree, Place, has_block}
-use Rattle.base.specs.tree.Places.Place.{Data}
 use Rattle.base.specs.tree.PlannedTrees.{AreFreed, IsTreePlan, NewBlock}
 use Rattle.base.specs.tree.Syncs.{group_changes, written_places}
 use Rattle.base.specs.tree.Tree.{IsTree}
@@ -40,22 +40,24 @@ use Rattle.base.proofs.history.KeptContents.{bounded-no_others}
 use Rattle.base.proofs.tree.FreedBlocks.{IsNewAddress}
 use Rattle.base.proofs.tree.PlacedTrees.{holds-tree, none_or_opens, pointers-told}
 use Rattle.base.proofs.stored.StoredSets.{IsAt, at-map, map-at, rising-in, rising-rises}
-use Rattle.group_plans.specs.GroupPlans.{MakesGroupTree, MakesHoles, plan_pointers}
+use Rattle.group_plans.specs.GroupPlans.{MakesGroupTree, plan_pointers}
 use Rattle.group_plans.specs.Pointers.{lengths_after}
-use Rattle.group_plans.proofs.GroupChanges.{lengths_told, makes_holes}
-use Rattle.group_plans.proofs.GroupCounts.{plans_fit_estimates, short_of_these, short_plans_lack_blocks, takes_at_places}
+use Rattle.group_plans.specs.OldMaps.{HoldsTreeOf}
+use Rattle.group_plans.proofs.GroupChanges.{lengths_told}
+use Rattle.group_plans.proofs.GroupCounts.{AreNamedAs, plans_fit_estimates, short_of_these, short_plans_lack_blocks, takes_at_places}
 use Rattle.group_plans.proofs.GroupTrees.{plans_make_trees}
 use Rattle.group_plans.proofs.PlannedBlocks.{addresses_are}
 use Rattle.intent_log.specs.Chains.{IsSoundPiece}
 use Rattle.log_replay.specs.Replays.{IsPieceAllowed, IsChainAllowed, IsReplayCause, IsReplayRefusal}
 use Rattle.object_maps.specs.ContentsShown.{contents_of}
+use Rattle.object_maps.specs.Lengths.{HasLengthsOf}
 use Rattle.object_maps.specs.Loading.{IsLimitedObject}
 use Rattle.object_maps.specs.Pointers.{objects_of, pointers_of}
 use Rattle.object_maps.specs.declared.contents.Slot.{Slot}
 use Rattle.object_maps.specs.declared.tree.Tree.{Tree}
 use Rattle.space.proofs.FreeLists.{length-rising}
 use Rattle.sync.specs.Made.{BlocksWritten}
-use Rattle.tree_plans.specs.Changes.{AreBornBefore, has_address}
+use Rattle.tree_plans.specs.Changes.{AreBornBefore}
 use Rattle.tree_plans.specs.Marks.{pending_ops}
 use Rattle.tree_plans.specs.Plans.{address_of, new_block}
 use Rattle.tree_plans.specs.declared.planner.PlannedBlock.{PlannedBlock}
@@ -80,6 +82,13 @@ use Rattle.import_replay.proofs.PlannedPools.{planned_over, pointers_made}
 use Rattle.import_replay.proofs.Reasons.{reason-record}
 use Rattle.import_replay.proofs.ReplayedPools as replays
 use Rattle.import_replay.proofs.WrittenPlaces.{each_place, map_same}
+
+-- no version that is known is above the one that is written
+newest-known : (version : ℕ) → is_version_known version ≡ true → version ≤ written_version
+newest-known version known = elim (or_cases (nat_eq version 1) (nat_eq version 2) known) as (λ _. version ≤ written_version) [
+  | inl one ↦ (let is = eqb-true version 1 one in omega (arith, is))
+  | inr two ↦ (let is = eqb-true version 2 two in omega (arith, is))
+]
 
 -- blocks at different addresses have different indices
 differ_all : (b : PlannedBlock) (bs : List PlannedBlock) → ((i : ℕ) (c : PlannedBlock) → slice_get bs i ≡ Some c → b.index ≢ c.index)
@@ -162,14 +171,22 @@ reason_of_replay image size u name tree slots chain read e cause refused = reaso
           address_is = r.address_is ∙ place;
         }
 
+-- the tree that was loaded has the lengths of its objects
+loaded_lengths : (size : ℕ) (group : ℕ) (name : List ℕ) (tree : Tree) (slots : List Slot) (chain : List LogPiece) (pool : ReplayedPool) → IsReplayedPool size group name tree slots chain pool
+    → HasLengthsOf tree (objects_of slots) → HasLengthsOf pool.tree (contents_of pool.synced).objects
+loaded_lengths size group name tree slots chain pool r lengths =
+    subst (λ (t : Tree). HasLengthsOf t (objects_of pool.synced.slots.items)) (sym r.tree_is) (subst (λ (l : List Slot). HasLengthsOf tree (objects_of l)) (sym r.slots_are) lengths)
+
 -- while nothing is written, the device holds the tree that was loaded
 pub loaded_held : (size : ℕ) (u : Uberblock) (name : List ℕ) (tree : Tree) (slots : List Slot) (chain : List LogPiece) (pool : ReplayedPool) → IsReplayedPool size u.group name tree slots chain pool
-    → (mid before : Disk) → before ≡ mid → IsReadPool (bytes_of mid.now) size u name tree slots chain
-    → HoldsTree (bytes_of before.now) (frame_of_size u size) (pointers_of pool.tree) (contents_of pool.synced).objects
-loaded_held size u name tree slots chain pool r mid before same read =
-    subst (λ (d : Disk). HoldsTree (bytes_of d.now) (frame_of_size u size) (pointers_of pool.tree) (contents_of pool.synced).objects) (sym same)
-    (subst (λ (t : Tree). HoldsTree (bytes_of mid.now) (frame_of_size u size) (pointers_of t) (objects_of pool.synced.slots.items)) (sym r.tree_is)
-    (subst (λ (l : List Slot). HoldsTree (bytes_of mid.now) (frame_of_size u size) (pointers_of tree) (objects_of l)) (sym r.slots_are) read.held))
+    → HasLengthsOf tree (objects_of slots) → (mid before : Disk) → before ≡ mid → IsReadPool (bytes_of mid.now) size u name tree slots chain
+    → HoldsTreeOf (bytes_of before.now) (frame_of_size u size) pool.tree (contents_of pool.synced).objects
+loaded_held size u name tree slots chain pool r lengths mid before same read = record {
+  held = subst (λ (d : Disk). HoldsTree (bytes_of d.now) (frame_of_size u size) (pointers_of pool.tree) (contents_of pool.synced).objects) (sym same)
+      (subst (λ (t : Tree). HoldsTree (bytes_of mid.now) (frame_of_size u size) (pointers_of t) (objects_of pool.synced.slots.items)) (sym r.tree_is)
+      (subst (λ (l : List Slot). HoldsTree (bytes_of mid.now) (frame_of_size u size) (pointers_of tree) (objects_of l)) (sym r.slots_are) read.held));
+  lengths = loaded_lengths size u.group name tree slots chain pool r lengths;
+}
 
 -- what was found, loaded, replayed and planned; where this holds, the plan holds the objects
 pub record IsPrepared (holds : Type 0) (size : ℕ) (u : Uberblock) (name : List ℕ) (tree : Tree) (slots : List Slot) (chain : List LogPiece) (pool : ReplayedPool) (next : NextPool) : Type 0 where
@@ -220,10 +237,10 @@ module _ (size : ℕ) (u : Uberblock) (name : List ℕ) (tree : Tree) (slots : L
       omega (arith, within, short, long)
 
   -- the tree's pointers name a block where the image has one
-  had_block : (n k : ℕ) → n < object_count → k < pointer_count → has_address (pointers_of pool.tree (Data n k)) ≡ has_block image u.root (Data n k)
-  had_block n k low below =
-      ap (λ (q : Pointer). not (q.address == 0)) (sym (pointers-told image (frame_of_size u size) (pointers_of pool.tree) (objects_of pool.synced.slots.items) mine_read.held (Data n k) (low, below)))
-      ∙ ap (λ (q : Pointer). has_block image q (Data n k)) mine_read.root
+  had_block : AreNamedAs (pointers_of pool.tree) (has_block image u.root)
+  had_block place in_range =
+      ap (λ (q : Pointer). not (q.address == 0)) (sym (pointers-told image (frame_of_size u size) (pointers_of pool.tree) (objects_of pool.synced.slots.items) mine_read.held place in_range))
+      ∙ ap (λ (q : Pointer). has_block image q place) mine_read.root
 
   -- what the records leave, and the places that they write
   abbrev left_by : Contents
@@ -238,7 +255,7 @@ module _ (size : ℕ) (u : Uberblock) (name : List ℕ) (tree : Tree) (slots : L
   -- where blocks lack for the tree, no more are spare than these places
   few_spare : LacksTreeBlocks size u pool → set.len pool.spare.free ≤ length (replayed_places image u chain (contents_of pool.synced))
   few_spare (inl short) =
-      let fewer = short_of_these (u.group + 4) pool.replayed.records.items pool.tree.entries.items (contents_of pool.synced) left_by (replays.takes_place size u name tree slots chain pool named loaded r) (pointers_of pool.tree)
+      let fewer = short_of_these (u.group + 4) pool.replayed.records.items pool.tree.entries.items (contents_of pool.synced) left_by (replays.takes_place size u name tree slots chain pool named loaded r) (replays.sized size u name tree slots chain pool named loaded r) (pointers_of pool.tree)
       (rising pool.spare.free) short (has_block image u.root) had_block in
       let count = length-rising pool.spare.free in
       let same = ap (λ (l : List Place). length l) places-replayed in
@@ -247,7 +264,7 @@ module _ (size : ℕ) (u : Uberblock) (name : List ℕ) (tree : Tree) (slots : L
       let places : List Place = written_places pending (contents_of pool.synced) (has_block image u.root) in
       let new : Place → Pointer = plan_pointers pool.tree plan in
       let bs : List NewBlock = map new_block plan.blocks.items in
-      let each = takes_at_places (u.group + 4) pool.replayed.records.items pool.tree.entries.items (contents_of pool.synced) left_by (replays.takes_place size u name tree slots chain pool named loaded r) (pointers_of pool.tree)
+      let each = takes_at_places (u.group + 4) pool.replayed.records.items pool.tree.entries.items (contents_of pool.synced) left_by (replays.takes_place size u name tree slots chain pool named loaded r) (replays.sized size u name tree slots chain pool named loaded r) (pointers_of pool.tree)
       new bs plan.freed.items makes.made.places (has_block image u.root) had_block in
       let many : length places ≡ length plan.blocks.items =
       sym (length-map places (λ (place : Place). (new place).address)) ∙ ap (λ (l : List ℕ). length l) each ∙ length-map bs (λ (b : NewBlock). b.address) ∙ length-map plan.blocks.items new_block in
@@ -270,12 +287,12 @@ module _ (size : ℕ) (u : Uberblock) (name : List ℕ) (tree : Tree) (slots : L
     few = few_spare lacks;
     estimated = ⊎_elim
         (λ short.
-        let fewer = short_plans_lack_blocks (u.group + 4) pool.tree pool.replayed.records.items short.0 (contents_of pool.synced) (replays.after size u name tree slots chain pool named loaded r) pool.spare.free short.1 (replays.takes_place size u name tree slots chain pool named loaded r) in
+        let fewer = short_plans_lack_blocks (u.group + 4) pool.tree pool.replayed.records.items short.0 (contents_of pool.synced) (replays.after size u name tree slots chain pool named loaded r) pool.spare.free short.1 (replays.takes_place size u name tree slots chain pool named loaded r) (replays.sized size u name tree slots chain pool named loaded r) in
         let count = length-rising pool.spare.free in
         let same = replays.estimate size u name tree slots chain pool named loaded r in
         omega (arith, fewer, count, same))
         (λ takes.
-        let fits = plans_fit_estimates (next_frame u size) pool.tree pool.replayed.records.items (contents_of pool.synced) (replays.after size u name tree slots chain pool named loaded r) takes.0 takes.1 (replays.takes_place size u name tree slots chain pool named loaded r) in
+        let fits = plans_fit_estimates (next_frame u size) pool.tree pool.replayed.records.items (contents_of pool.synced) (replays.after size u name tree slots chain pool named loaded r) takes.0 takes.1 (replays.takes_place size u name tree slots chain pool named loaded r) (replays.sized size u name tree slots chain pool named loaded r) in
         let all = all_taken takes.0 takes.2 in
         let same = replays.estimate size u name tree slots chain pool named loaded r in
         omega (arith, fits, all, same)) full;
@@ -353,7 +370,7 @@ module _ (holds : Type 0) (size : ℕ) (u : Uberblock) (name : List ℕ) (tree :
     lengths = λ n below.
         is.planned.lengths n below
         ∙ lengths_told (u.group + 4) pool.replayed.records.items pool.tree.entries.items (contents_of pool.synced) left (replays.takes_place size u name tree slots chain pool is.named is.loaded is.replayed)
-        (lengths_after plan.maps pool.tree) is.planned.made.1.lengths n below
+        (lengths_after plan.entries pool.tree) is.planned.made.1.lengths n below
         ∙ ap (λ (c : Contents). length_of c n) (sym contents_left);
   }
 
@@ -364,6 +381,9 @@ module _ (holds : Type 0) (size : ℕ) (u : Uberblock) (name : List ℕ) (tree :
   module _ (image : List ℕ) (read : IsReadPool image size u name tree slots chain) (held : holds) where
     mine : IsReadPool image size u name pool.tree pool.synced.slots.items chain
     mine = mine_read size u name tree slots chain pool is.named is.loaded is.replayed image read
+
+    newest : u.version ≤ written_version
+    newest = newest-known u.version read.pool.active.stands.version_known
 
     room : block_area + block_size * block_count size ≤ length image
     room =
@@ -380,12 +400,8 @@ module _ (holds : Type 0) (size : ℕ) (u : Uberblock) (name : List ℕ) (tree :
     from_tree = (is.planned.objects held).made
 
     -- each of its blocks is used
-    holes : MakesHoles from_tree.places.objects
-    holes = makes_holes (pending_ops (u.group + 4) pool.replayed.records.items) pool.tree.entries.items (contents_of pool.synced) left (replays.takes_place size u name tree slots chain pool is.named is.loaded is.replayed)
-        from_tree.places.objects from_tree.places.changes
-
     blocks_used : AreUsed (map new_block blocks) (plan_pointers pool.tree plan)
-    blocks_used = from_tree.places.used holes
+    blocks_used = from_tree.places.used
 
     -- its blocks lie at the lowest spare addresses
     prepared_lowest : AreLowestSpare image u chain (map address_of blocks)
@@ -412,7 +428,7 @@ module _ (holds : Type 0) (size : ℕ) (u : Uberblock) (name : List ℕ) (tree :
           (λ i place at. ap (λ (q : Pointer). q.address) (is.planned.pointers place (each_place (group_changes (ops_of_placed (records_above u.group chain)) (contents_of pool.synced) (has_block image u.root)) i place at)))
           ∙ ap (λ (ops : List Op). map (λ (place : Place). (plan_pointers pool.tree plan place).address) (written_places ops (contents_of pool.synced) (has_block image u.root)))
           (replays.ops_replayed size u name tree slots chain pool is.named is.loaded is.replayed)
-          ∙ takes_at_places (u.group + 4) pool.replayed.records.items pool.tree.entries.items (contents_of pool.synced) left (replays.takes_place size u name tree slots chain pool is.named is.loaded is.replayed) (pointers_of pool.tree)
+          ∙ takes_at_places (u.group + 4) pool.replayed.records.items pool.tree.entries.items (contents_of pool.synced) left (replays.takes_place size u name tree slots chain pool is.named is.loaded is.replayed) (replays.sized size u name tree slots chain pool is.named is.loaded is.replayed) (pointers_of pool.tree)
           (plan_pointers pool.tree plan) (map new_block blocks) plan.freed.items from_tree.places (has_block image u.root)
           (had_block size u name tree slots chain pool is.named is.loaded is.replayed image read)
           ∙ addresses_are blocks;
@@ -441,13 +457,13 @@ module _ (holds : Type 0) (size : ℕ) (u : Uberblock) (name : List ℕ) (tree :
 
     -- what comes back is what the plan replaces
     replaced : AreFreed (pointers_of pool.tree) (plan_pointers pool.tree plan) plan.freed.items
-    replaced = from_tree.places.freed holes born
+    replaced = from_tree.places.freed born
 
     -- just the blocks are free that neither the new tree nor the log has
     free_left : AreAllOthers (pointers_of next.tree) (block_count size) next.log_address next.free.free
     free_left = subst (λ (a : ℕ). AreAllOthers (pointers_of next.tree) (block_count size) a next.free.free) (sym is.planned.log_is)
         (all_others_left pool.tree (block_count size) pool.free next.free plan is.planned.log_block is.replayed.free is.planned.free is.planned.fits.freed (pointers_of next.tree)
-        (pointers_made image size u chain blocks are_blocks all_unused (pointers_of pool.tree) (contents_of pool.synced).objects mine.root mine.held (parts_of next) (plan_pointers pool.tree plan) is.planned.pointers planned_contents
+        (pointers_made image size u chain blocks are_blocks all_unused (pointers_of pool.tree) (contents_of pool.synced).objects mine.root mine.held newest (parts_of next) (plan_pointers pool.tree plan) is.planned.pointers planned_contents
         no_others blocks_used room plan.freed.items replaced))
 
     -- so its parts are those of a pool
@@ -459,13 +475,13 @@ module _ (holds : Type 0) (size : ℕ) (u : Uberblock) (name : List ℕ) (tree :
     prepared_over =
         subst (λ (bs : List PlannedBlock). AreMadeOver image u chain size bs (parts_of next)) (sym is.planned.blocks_are)
         (planned_over image size u chain blocks are_blocks all_unused
-        (pointers_of pool.tree) (contents_of pool.synced).objects mine.root mine.held (parts_of next) (plan_pointers pool.tree plan) is.planned.pointers planned_contents no_others
+        (pointers_of pool.tree) (contents_of pool.synced).objects mine.root mine.held newest (parts_of next) (plan_pointers pool.tree plan) is.planned.pointers planned_contents no_others
         blocks_used room few prepared_lowest prepared_each records_counted (not_zero (block_count size) next.log_address log_placed)
         (spare-unused size u name tree slots chain pool is.named is.loaded is.replayed image read next.log_address log_spare) log_left lowest)
       where
         few : length blocks ≤ placed_estimate (records_above u.group chain)
         few =
-            let fits = plans_fit_estimates (next_frame u size) pool.tree pool.replayed.records.items (contents_of pool.synced) left plan is.planned.made (replays.takes_place size u name tree slots chain pool is.named is.loaded is.replayed) in
+            let fits = plans_fit_estimates (next_frame u size) pool.tree pool.replayed.records.items (contents_of pool.synced) left plan is.planned.made (replays.takes_place size u name tree slots chain pool is.named is.loaded is.replayed) (replays.sized size u name tree slots chain pool is.named is.loaded is.replayed) in
             let same = replays.estimate size u name tree slots chain pool is.named is.loaded is.replayed in
             omega (arith, fits, same)
 

@@ -21,8 +21,8 @@ use Rattle.base.specs.formats.Uberblocks.{IsUberblock, Uberblock, slot_size}
 use Rattle.base.specs.history.Contents.{Contents}
 use Rattle.base.specs.history.Past.{new_past}
 use Rattle.base.specs.steps.Explains.{IsLeftBy}
-use Rattle.base.specs.tree.Places.{Place}
-use Rattle.base.specs.tree.Places.Place.{Root, Directory, Indirect, Data}
+use Rattle.base.specs.tree.Places.{Place, object_of_indirect}
+use Rattle.base.specs.tree.Places.Place.{Root, Directory, Top, Indirect, Data}
 use Rattle.base.specs.tree.PlacedTrees.{HoldsTree, StandsAt}
 use Rattle.base.specs.tree.Tree.{IsRecord}
 use Rattle.base.proofs.crash.CutViews.{cut_none}
@@ -37,9 +37,9 @@ use Rattle.import_replay.specs.OwnCreations.{IsFirstDisk, first_contents, first_
 use Rattle.import_replay.proofs.NewLabels.{zero_number}
 
 -- with no pointer at any place an image holds the tree of no objects
-none_at : (image : List ℕ) (frame : Frame) (n r : ℕ) (o : Option (List ℕ)) → o ≡ None → IfSome o (λ bytes. IsRecord image frame n r no_pointer bytes)
-none_at image frame n r None none = tt
-none_at image frame n r (Some bytes) none = absurd (let no_way : Some bytes ≡ None = none in cc)
+none_at : (image : List ℕ) (frame : Frame) (m k : ℕ) (o : Option (List ℕ)) → o ≡ None → IfSome o (λ bytes. IsRecord image frame m k no_pointer bytes)
+none_at image frame m k None none = tt
+none_at image frame m k (Some bytes) none = absurd (let no_way : Some bytes ≡ None = none in cc)
 
 holds_none : (image : List ℕ) (frame : Frame) → HoldsTree image frame (λ place. no_pointer) map.empty
 holds_none image frame = record { no_others = λ n past. map.get-empty {X = List ℕ} nat_cmp n; each = λ place in_range. by_place place }
@@ -47,8 +47,9 @@ holds_none image frame = record { no_others = λ n past. map.get-empty {X = List
     by_place : (place : Place) → StandsAt image frame (λ p. no_pointer) map.empty place
     by_place Root = inl (refl, λ d below. refl)
     by_place (Directory d) = inl (refl, λ k below. (map.get-empty {X = List ℕ} nat_cmp _, refl))
-    by_place (Indirect n) = inl (refl, λ r below. refl)
-    by_place (Data n r) = none_at image frame n r (map.get map.empty n) (map.get-empty {X = List ℕ} nat_cmp n)
+    by_place (Top n) = inl (refl, λ j below. inl refl)
+    by_place (Indirect m) = inl (refl, λ k below. refl)
+    by_place (Data m k) = none_at image frame m k (map.get map.empty (object_of_indirect m)) (map.get-empty {X = List ℕ} nat_cmp (object_of_indirect m))
 
 module _ (size t guid moment : ℕ) (name : List ℕ) (disk : Disk) (g : IsGeometry size) (long : disk_size disk ≡ size) (none : disk.now.unflushed ≡ []) (labels : IsLabelled size name guid moment (bytes_of disk.now))
     (is : IsFirstDisk size t (first_view name guid moment size) disk) where

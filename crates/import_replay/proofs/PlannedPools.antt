@@ -18,7 +18,7 @@ use Rattle.base.specs.formats.Uberblocks.{Uberblock}
 use Rattle.base.specs.stored.Stored.{AreBlocks, AreUsed, LeavesTree}
 use Rattle.base.specs.tree.PlacedTrees.{HoldsTree, IsPlaced}
 use Rattle.base.specs.tree.Places.{IsInTree, IsPlace, Place, kind_of}
-use Rattle.base.specs.tree.Places.Place.{Data, Directory, Indirect, Root}
+use Rattle.base.specs.tree.Places.Place.{Data, Directory, Indirect, Root, Top}
 use Rattle.base.specs.tree.PlannedTrees.{AreFreed, IsBlockWritten, IsTreePlan, NewBlock, SameBlock}
 use Rattle.base.proofs.common.KeptLists.{All-each}
 use Rattle.base.proofs.disk.Put.{part_same}
@@ -33,6 +33,7 @@ use Rattle.object_maps.specs.Pointers.{pointers_of}
 use Rattle.sync.specs.Made.{BlocksWritten}
 use Rattle.tree_plans.specs.Plans.{address_of, new_block}
 use Rattle.tree_plans.specs.declared.planner.PlannedBlock.{PlannedBlock}
+use Rattle.base.specs.formats.Versions.{written_version}
 use Rattle.import_replay.specs.PlacedRecords.{placed_estimate}
 use Rattle.import_replay.specs.FreeBlocks.{IsNamed}
 use Rattle.import_replay.specs.ImportViews.{IsTreeMade}
@@ -46,12 +47,13 @@ use Rattle.import_replay.specs.TakenBlocks.{AreForEachPlace, AreLowestSpare}
 of_tree : (place : Place) → (kind_of place ≢ 1) × (kind_of place ≢ 6)
 of_tree Root = (λ same. omega (arith, same), λ same. omega (arith, same))
 of_tree (Directory d) = (λ same. omega (arith, same), λ same. omega (arith, same))
+of_tree (Top n) = (λ same. omega (arith, same), λ same. omega (arith, same))
 of_tree (Indirect n) = (λ same. omega (arith, same), λ same. omega (arith, same))
 of_tree (Data n r) = (λ same. omega (arith, same), λ same. omega (arith, same))
 
 module _ (image : List ℕ) (size : ℕ) (u : Uberblock) (chain : List LogPiece) (blocks : List PlannedBlock) (are : AreBlocks (block_count size) (map new_block blocks))
     (free : (i : ℕ) (b : PlannedBlock) → slice_get blocks i ≡ Some b → IsUsed image u.root chain (block_address b.index) → ⊥)
-    (old : Place → Pointer) (before : FinMap nat_cmp (List ℕ)) (root : old Root ≡ u.root) (held : HoldsTree image (frame_of_size u size) old before)
+    (old : Place → Pointer) (before : FinMap nat_cmp (List ℕ)) (root : old Root ≡ u.root) (held : HoldsTree image (frame_of_size u size) old before) (newer : u.version ≤ written_version)
     (p : PoolParts) (new : Place → Pointer) (same : (place : Place) → IsPlace place → pointers_of p.tree place ≡ new place)
     (planned : IsTreePlan (map new_block blocks) (next_frame u size) old new before (contents_of p.contents).objects)
     (no_others : (n : ℕ) → object_count ≤ n → finite.get (contents_of p.contents).objects n ≡ None) where
@@ -102,7 +104,7 @@ module _ (image : List ℕ) (size : ℕ) (u : Uberblock) (chain : List LogPiece)
   planned_made : IsTreeMade image size blocks (next_frame u size) (tree_of p)
   planned_made other long written =
       holds_as other (next_frame u size) new (pointers_of p.tree) same after
-      (planned-holds image other (frame_of_size u size) (next_frame u size) refl refl (omega arith) (map new_block blocks) (stands other long written) old new before after held planned
+      (planned-holds image other (frame_of_size u size) (next_frame u size) refl refl (omega arith) newer (map new_block blocks) (stands other long written) old new before after held planned
       (λ place in_range same. stays other long written place in_range) no_others)
 
   module _ (used : AreUsed (map new_block blocks) new) (room : block_area + block_size * block_count size ≤ length image) where
@@ -114,7 +116,7 @@ module _ (image : List ℕ) (size : ℕ) (u : Uberblock) (chain : List LogPiece)
     other = put_blocks bs image
 
     news : HoldsTree other (next_frame u size) new after
-    news = planned-written image (frame_of_size u size) (next_frame u size) bs old new before after refl refl (omega arith) held planned no_others are leaves room
+    news = planned-written image (frame_of_size u size) (next_frame u size) bs old new before after refl refl (omega arith) newer held planned no_others are leaves room
 
     -- the pool's pointers name just the blocks that this image has in the new tree
     in_other : (address : ℕ) → address ≢ 0 → IsNamed (pointers_of p.tree) address → IsInTree other (new Root) address

@@ -8,7 +8,7 @@ use Rattle.base.specs.formats.Uberblocks.{IsActive, Uberblock}
 use Rattle.base.specs.history.Contents.{Contents}
 use Rattle.base.specs.tree.Damages.{IsSoundAt}
 use Rattle.base.specs.tree.Places.{Place, kind_of, pointer_of}
-use Rattle.base.specs.tree.Places.Place.{Root, Directory, Indirect, Data}
+use Rattle.base.specs.tree.Places.Place.{Root, Directory, Top, Indirect, Data}
 use Rattle.base.proofs.crash.LogChains.{mounted_not_damaged}
 use Rattle.base.proofs.crash.OneMount.{one-active}
 use Rattle.object_maps.specs.DamageLists.{ListsDamages}
@@ -23,6 +23,7 @@ use Rattle.import_replay.specs.PoolDamages.{HasDamages, HasTreeDamages}
 not_of_tree : (place : Place) → kind_of place ≡ 6 → ⊥
 not_of_tree Root is = omega (arith, is)
 not_of_tree (Directory d) is = omega (arith, is)
+not_of_tree (Top n) is = omega (arith, is)
 not_of_tree (Indirect n) is = omega (arith, is)
 not_of_tree (Data n r) is = omega (arith, is)
 

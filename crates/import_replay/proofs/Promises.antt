@@ -13,7 +13,7 @@ use Rattle.base.specs.formats.Uberblocks.{Uberblock, IsActive}
 use Rattle.base.specs.history.Contents.{Contents}
 use Rattle.base.specs.steps.Groups.{Line}
 use Rattle.base.specs.tree.Places.{Place, kind_of}
-use Rattle.base.specs.tree.Places.Place.{Root, Directory, Indirect, Data}
+use Rattle.base.specs.tree.Places.Place.{Root, Directory, Top, Indirect, Data}
 use Rattle.base.proofs.crash.LogChains.{mounted_not_damaged}
 use Rattle.base.proofs.crash.OneMount.{mounts_agree, one-active}
 use Rattle.base.proofs.disk.Moments.{latest}
@@ -169,6 +169,7 @@ module _ (image : List ℕ) (u : Uberblock) (chain : List LogPiece) (contents : 
 tree_kind : (place : Place) → kind_of place ≡ 6 → ⊥
 tree_kind Root is = omega (arith, is)
 tree_kind (Directory d) is = omega (arith, is)
+tree_kind (Top n) is = omega (arith, is)
 tree_kind (Indirect n) is = omega (arith, is)
 tree_kind (Data n r) is = omega (arith, is)
 

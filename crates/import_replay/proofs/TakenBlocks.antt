@@ -1,7 +1,7 @@
 -- What an import changes in the block area: the lowest spare blocks, each of them for a place of the new tree that a
 -- record of the chain writes.
 use Rattle.std.proofs.Common.{◌≡◌, ◌≢◌, ◌⊎◌, inl, inr, ℕ, ◌+◌, ◌<◌, ◌≤◌, Bool, true, false, List, [], ◌∷◌, length, map, Some, refl, sym, ◌∙◌, ap, subst, arith}
-use Rattle.std.specs.Prelude.{slice_get, is_some}
+use Rattle.std.specs.Prelude.{◌==◌, ◌&&◌, if◌then◌else◌, is_some, not, slice_get}
 use Rattle.std.specs.List.{list_any}
 use Rattle.std.specs.Ordering.{nat_cmp, eq_by_cmp}
 use Rattle.std.specs.Cmp.{unsigned_tied}
@@ -19,17 +19,18 @@ use Rattle.base.specs.crash.Mount.{IsChainOf, IsUsed, Mounts, Placed, frame_of, 
 use Rattle.base.specs.declared.operation.Op.{Op}
 use Rattle.base.specs.declared.operation.Op.TheVariants.{Create, Remove, SetLength, SetName, Write}
 use Rattle.base.specs.declared.pointer.Pointer.{Pointer}
+use Rattle.base.specs.declared.record_state.RecordState.{RecordState}
 use Rattle.base.specs.declared.record_state.RecordState.TheVariants.{Unchanged}
 use Rattle.base.specs.disk.Disk.{Disk, bytes_of}
 use Rattle.base.specs.formats.Chain.{LogPiece}
 use Rattle.base.specs.formats.Fields.{no_pointer}
 use Rattle.base.specs.formats.Geometry.{block_address, block_count, block_size}
-use Rattle.base.specs.formats.Limits.{object_count, record_count}
+use Rattle.base.specs.formats.Limits.{indirect_count, object_count, pointer_count}
 use Rattle.base.specs.formats.Uberblocks.{Uberblock}
 use Rattle.base.specs.history.Contents.{Contents}
-use Rattle.base.specs.tree.Places.{IsInTree, IsPlace, Place, has_block, pointer_of}
-use Rattle.base.specs.tree.Places.Place.{Data, Indirect, Root}
-use Rattle.base.specs.tree.Syncs.{group_changes, is_change_of, is_dirty, is_on}
+use Rattle.base.specs.tree.Places.{IsInTree, IsPlace, Place, has_block, object_of_indirect, pointer_of, record_of_strip, strip_of}
+use Rattle.base.specs.tree.Places.Place.{Data, Indirect, Root, Top}
+use Rattle.base.specs.tree.Syncs.{GroupChanges, group_changes, has_strip_after, is_change_of, is_dirty, is_indirect_written, is_on, is_record_written, is_strip_changed, is_unchanged, pointer_numbers, record_state}
 use Rattle.base.proofs.common.KeptLists.{any_found, any_none, at_take, none_any}
 use Rattle.base.proofs.crash.LogFronts.{take-at}
 use Rattle.base.proofs.crash.OneMount.{one-active, one-chain}
@@ -71,6 +72,12 @@ change_off n (Remove o) off = refl
 change_off n (Write o offset bytes) off = off
 change_off n (SetLength o new) off = off
 change_off n (SetName bytes) off = refl
+
+-- a strip that didn't change, of an object that didn't, gives no reason to write its indirect block
+not_either : (long strip first changed : Bool) → strip ≡ false → changed ≡ false → (if long then strip else (first && changed)) ≡ true → ⊥
+not_either true strip first changed none off h = false≢true (sym none ∙ h)
+not_either false strip true changed none off h = false≢true (sym off ∙ h)
+not_either false strip false changed none off h = false≢true h
 
 no_change : (n : ℕ) (ops : List Op) → list_any (is_on n) ops ≡ false → list_any (is_change_of n) ops ≡ false
 no_change n ops off = any_none (is_change_of n) ops (λ i op at. change_off n op (none_any (is_on n) ops i op off at))
@@ -233,15 +240,37 @@ module _ (old new : Disk) (moment dirty_max : ℕ) (m : Mounted) (import : IsImp
                     let equal : block_address k ≡ block_address j = cc in
                     omega (arith, equal, less)
 
-    -- an object stays as it is if no record of the chain is on it
+    -- an object stays as it is if no record of the chain is on it: its records, its indirect blocks and its top
     module _ (n : ℕ) (low : n < object_count) (none : list_any (is_on n) (ops_of_placed (records_above u.group chain)) ≡ false) where
       none_on : list_any (is_on n) ops ≡ false
       none_on = ap (λ (ps : List Placed). list_any (is_on n) (ops_of_placed ps)) same_records ∙ none
 
-      pub other_record : (r k : ℕ) → r < record_count → k < block_count m.geometry → (pointer_of now m.tree.root (Data n r)).address ≡ block_address k
-          → KeepsBlock old new k
-      other_record r k r_low k_low named =
-          not_written k (Data n r) k_low (low, r_low) named (λ is. false≢true (sym (ap is_dirty (state-off n r ops each.synced Unchanged none_on)) ∙ is.2))
+      abbrev changes : GroupChanges
+      changes = group_changes ops each.synced (has_block image written.synced.u.root)
 
-      pub other_indirect : (k : ℕ) → k < block_count m.geometry → (pointer_of now m.tree.root (Indirect n)).address ≡ block_address k → KeepsBlock old new k
-      other_indirect k k_low named = not_written k (Indirect n) k_low low named (λ is. false≢true (sym (no_change n ops none_on) ∙ (and_parts (list_any (is_change_of n) ops) _ is.1).0))
+      no_state : (r : ℕ) → record_state n r ops each.synced Unchanged ≡ Unchanged
+      no_state r = state-off n r ops each.synced Unchanged none_on
+
+      no_strip : (j : ℕ) → is_strip_changed changes n j ≡ false
+      no_strip j = any_none (λ k. not (is_unchanged (changes.state n (record_of_strip j k)))) pointer_numbers (λ i k at. ap (λ (state : RecordState). not (is_unchanged state)) (no_state (record_of_strip j k)))
+
+      -- the records of its strip m, and the indirect block of that strip
+      pub other_record : (strip r k : ℕ) → strip < indirect_count → object_of_indirect strip ≡ n → r < pointer_count → k < block_count m.geometry
+          → (pointer_of now m.tree.root (Data strip r)).address ≡ block_address k → KeepsBlock old new k
+      other_record strip r k strip_low of r_low k_low named =
+          not_written k (Data strip r) k_low (strip_low, r_low) named
+          (λ is. false≢true (sym (ap is_dirty (no_state (record_of_strip (strip_of strip) r))) ∙ sym (ap (λ (o : ℕ). is_record_written changes o (strip_of strip) r) of) ∙ is.2))
+
+      pub other_indirect : (strip k : ℕ) → strip < indirect_count → object_of_indirect strip ≡ n → k < block_count m.geometry
+          → (pointer_of now m.tree.root (Indirect strip)).address ≡ block_address k → KeepsBlock old new k
+      other_indirect strip k strip_low of k_low named =
+          not_written k (Indirect strip) k_low strip_low named (λ is.
+          let both = and_parts (if changes.is_long n then is_strip_changed changes n (strip_of strip) else (strip_of strip == 0) && changes.is_changed n) (has_strip_after changes n (strip_of strip))
+          (sym (ap (λ (o : ℕ). is_indirect_written changes o (strip_of strip)) of) ∙ is.1) in
+          not_either (changes.is_long n) (is_strip_changed changes n (strip_of strip)) (strip_of strip == 0) (changes.is_changed n) (no_strip (strip_of strip)) (no_change n ops none_on) both.0)
+
+      pub other_top : (k : ℕ) → k < block_count m.geometry → (pointer_of now m.tree.root (Top n)).address ≡ block_address k → KeepsBlock old new k
+      other_top k k_low named =
+          not_written k (Top n) k_low low named (λ is.
+          let front = (and_parts (changes.is_long n && changes.is_changed n) _ is.1).0 in
+          false≢true (sym (no_change n ops none_on) ∙ (and_parts (changes.is_long n) (changes.is_changed n) front).1))

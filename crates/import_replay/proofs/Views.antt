@@ -37,7 +37,9 @@ use Rattle.extents.proofs.PatchedObjects.{patched_nothing}
 use Rattle.extents.proofs.SamePatches.{changes_added, changes_left}
 use Rattle.log_replay.specs.Replays.{IsReplayCause, ops_of_records}
 use Rattle.object_maps.specs.ContentsShown.{contents_of}
+use Rattle.object_maps.specs.Lengths.{HasLengthsOf}
 use Rattle.object_maps.specs.Ops.{AreOpsAllowed}
+use Rattle.object_maps.specs.Pointers.{objects_of}
 use Rattle.object_maps.specs.Sources.{range_in}
 use Rattle.object_maps.specs.declared.contents.Slot.{Slot}
 use Rattle.object_maps.specs.declared.tree.Tree.{Tree}
@@ -117,15 +119,17 @@ seen ops e patches below are are_too =
 module _ (size : ℕ) (u : Uberblock) (name : List ℕ) (tree : Tree) (slots : List Slot) (chain : List LogPiece) (pool : ReplayedPool) (replayed : IsReplayedPool size u.group name tree slots chain pool) (v : View)
     (framed : v.frame ≡ frame_with u (block_count size)) where
   -- what was read of a disk, with its records as changes
-  pub is_view : (disk : Disk) → IsReadPool (bytes_of disk.now) size u name tree slots chain → v.tree ≡ pool.tree → v.synced ≡ pool.synced
+  pub is_view : (disk : Disk) → IsReadPool (bytes_of disk.now) size u name tree slots chain → HasLengthsOf tree (objects_of slots) → v.tree ≡ pool.tree → v.synced ≡ pool.synced
       → AreChangesOf (ops_of_records pool.replayed.records.items) v.changes → IsViewOf (bytes_of disk.now) v
-  is_view disk read tree_is synced_is are =
+  is_view disk read lengths tree_is synced_is are =
       let contents : Contents = patched_contents (patches_of pool.replayed.extents) (name_of pool.replayed.extents) (contents_of pool.synced) in
+      let held = loaded_held size u name tree slots chain pool replayed lengths disk disk refl read in
       record {
         contents = contents;
         mounts = (u, chain, mounts_read (bytes_of disk.now) size u name tree slots chain read pool.synced replayed.name_is replayed.slots_are contents replayed.replayed.applied);
         objects = rw synced_is (seen (ops_of_records pool.replayed.records.items) v.changes (patches_of pool.replayed.extents) (contents_of pool.synced).objects are replayed.replayed.patches);
-        tree = rw (framed, tree_is, synced_is) (loaded_held size u name tree slots chain pool replayed disk disk refl read);
+        tree = rw (framed, tree_is, synced_is) held.held;
+        lengths = rw (tree_is, synced_is) held.lengths;
       }
 
 -- the records were refused: for memory, or since one can't take place
@@ -147,7 +151,7 @@ module _ (v : View) (t : ShownTree) (framed : t.frame ≡ v.frame) (tree : t.tre
 
   -- it stands on a device that has what the view found
   pub stands : {Dev : Type 0} (D : Ghosts Dev) (device : Dev) → IsTrue D.keeps_model → IsViewOf (bytes_of (D.disk device).now) v → StandsOn D device t
-  stands D device keeps is = record { keeps = keeps; tree = rw (framed, tree, contents) is.tree }
+  stands D device keeps is = record { keeps = keeps; tree = rw (framed, tree, contents) is.tree; lengths = rw (tree, contents) is.lengths }
 
 -- a refusal of a read that passed the tests is none of these
 pub not_absent : {A : Type 0} (r : Result A PoolError) (P : Type 0) → IfErr r IsRangeRefusal → IfErr r (λ e. e ≡ NoObject → P)

@@ -1,15 +1,16 @@
 -- The places that a sync writes are places of a tree, each with its reason, and the root is the last of them.
-use Rattle.std.proofs.Common.{◌≡◌, ℕ, zero, suc, ◌+◌, ◌<◌, Bool, true, false, List, [], ◌∷◌, ◌++◌, length, map, filter, Some, inl, inr, append-nil, refl, subst, arith}
+use Rattle.std.proofs.Common.{◌≡◌, ℕ, zero, suc, ◌+◌, ◌<◌, Bool, true, false, ap, ◌∙◌, List, [], ◌∷◌, ◌++◌, length, map, filter, Some, inl, inr, append-nil, refl, subst, arith}
 use Rattle.std.specs.Prelude.{All, slice_get, if◌then◌else◌}
 use Rattle.std.specs.List.{flat_map, range_with_len}
 use Rattle.std.proofs.lemmas.List.{length-append}
 use Rattle.std.proofs.lemmas.List.Elements.{All-append, All-cons, All-nil}
-use Rattle.base.specs.formats.Limits.{object_count, pointer_count, record_count}
-use Rattle.base.specs.tree.Places.{IsPlace, Place}
-use Rattle.base.specs.tree.Places.Place.{Data, Directory, Indirect, Root}
-use Rattle.base.specs.tree.Syncs.{GroupChanges, is_directory_written, is_indirect_written, is_record_written, is_root_written, places_of_object, record_numbers, written_by}
+use Rattle.base.specs.formats.Limits.{indirect_count, object_count, pointer_count}
+use Rattle.base.specs.tree.Places.{IsPlace, Place, object_of_indirect, strip_number, strip_of}
+use Rattle.base.specs.tree.Places.Place.{Data, Directory, Indirect, Root, Top}
+use Rattle.base.specs.tree.Syncs.{GroupChanges, is_directory_written, is_indirect_written, is_record_written, is_root_written, is_top_written, places_of_object, places_of_strip, pointer_numbers, written_by}
 use Rattle.base.proofs.common.KeptLists.{All-at, All-each, at_filter, push-cases}
 use Rattle.base.proofs.stored.StoredSets.{at-map}
+use Rattle.base.proofs.tree.Strips.{strip-low, strip-object, strip-which}
 use Rattle.base.proofs.tree.WrittenPlaces.{in-range}
 
 -- two functions that agree on a list's elements make the same list of it
@@ -43,17 +44,36 @@ module _ (group : GroupChanges) where
   abbrev pub IsWrittenAt : Place → Type 0
   IsWrittenAt Root = is_root_written group ≡ true
   IsWrittenAt (Directory d) = (d < pointer_count) × (is_directory_written group d ≡ true)
-  IsWrittenAt (Indirect n) = (n < object_count) × (is_indirect_written group n ≡ true)
-  IsWrittenAt (Data n r) = (n < object_count) × (r < record_count) × (is_record_written group n r ≡ true)
+  IsWrittenAt (Top n) = (n < object_count) × (is_top_written group n ≡ true)
+  IsWrittenAt (Indirect m) = (m < indirect_count) × (is_indirect_written group (object_of_indirect m) (strip_of m) ≡ true)
+  IsWrittenAt (Data m k) = (m < indirect_count) × (k < pointer_count) × (is_record_written group (object_of_indirect m) (strip_of m) k ≡ true)
+
+  -- what holds of a strip of an object holds of the strip with its number
+  of_number : (f : ℕ → ℕ → Bool) (n j : ℕ) → n < object_count → f n j ≡ true → f (object_of_indirect (strip_number n j)) (strip_of (strip_number n j)) ≡ true
+  of_number f n j low is = ap (λ a. f a (strip_of (strip_number n j))) (strip-object n j low) ∙ ap (f n) (strip-which n j low) ∙ is
+
+  written_of_strip : (n j : ℕ) → n < object_count → j < pointer_count → All IsWrittenAt (places_of_strip group n j)
+  written_of_strip n j low j_low = All-each IsWrittenAt (places_of_strip group n j) (λ i place at.
+      let (k, there, same) = at-map (λ k. Data (strip_number n j) k) (filter (is_record_written group n j) pointer_numbers) i place at in
+      let (l, stands, passes) = at_filter (is_record_written group n j) pointer_numbers i k there in
+      subst IsWrittenAt same (strip-low n j low j_low, below pointer_count l k stands, of_number (λ a b. is_record_written group a b k) n j low passes))
+
+  abbrev indirects_of : ℕ → List Place
+  indirects_of n = map (λ j. Indirect (strip_number n j)) (filter (is_indirect_written group n) pointer_numbers)
+
+  written_indirects : (n : ℕ) → n < object_count → All IsWrittenAt (indirects_of n)
+  written_indirects n low = All-each IsWrittenAt (indirects_of n) (λ i place at.
+      let (j, there, same) = at-map (λ j. Indirect (strip_number n j)) (filter (is_indirect_written group n) pointer_numbers) i place at in
+      let (l, stands, passes) = at_filter (is_indirect_written group n) pointer_numbers i j there in
+      subst IsWrittenAt same (strip-low n j low (below pointer_count l j stands), of_number (is_indirect_written group) n j low passes))
 
   written_of_object : (n : ℕ) → n < object_count → All IsWrittenAt (places_of_object group n)
   written_of_object n low =
-      All-append IsWrittenAt (map (λ r. Data n r) (filter (is_record_written group n) record_numbers)) (if is_indirect_written group n then Indirect n ∷ [] else [])
-      (All-each IsWrittenAt (map (λ r. Data n r) (filter (is_record_written group n) record_numbers)) (λ i place at.
-      let (r, there, same) = at-map (λ r. Data n r) (filter (is_record_written group n) record_numbers) i place at in
-      let (j, stands, passes) = at_filter (is_record_written group n) record_numbers i r there in
-      subst IsWrittenAt same (low, below record_count j r stands, passes)))
-      (All-if IsWrittenAt (is_indirect_written group n) (Indirect n) (λ is. (low, is)))
+      All-append IsWrittenAt (flat_map (places_of_strip group n) pointer_numbers ++ indirects_of n) (if is_top_written group n then Top n ∷ [] else [])
+      (All-append IsWrittenAt (flat_map (places_of_strip group n) pointer_numbers) (indirects_of n)
+      (All-flat IsWrittenAt (places_of_strip group n) pointer_numbers (λ i j at. written_of_strip n j low (below pointer_count i j at)))
+      (written_indirects n low))
+      (All-if IsWrittenAt (is_top_written group n) (Top n) (λ is. (low, is)))
 
   written_objects : All IsWrittenAt (flat_map (places_of_object group) (range_with_len 0 object_count))
   written_objects = All-flat IsWrittenAt (places_of_object group) (range_with_len 0 object_count) (λ i n at. written_of_object n (below object_count i n at))
@@ -76,8 +96,9 @@ module _ (group : GroupChanges) where
   written_place : (place : Place) → IsWrittenAt place → IsPlace place
   written_place Root is = tt
   written_place (Directory d) is = is.0
-  written_place (Indirect n) is = is.0
-  written_place (Data n r) is = (is.0, is.1)
+  written_place (Top n) is = is.0
+  written_place (Indirect m) is = is.0
+  written_place (Data m k) is = (is.0, is.1)
 
   pub each_place : (i : ℕ) (place : Place) → slice_get (written_by group) i ≡ Some place → IsPlace place
   each_place i place at = written_place place (each_written i place at)
@@ -89,12 +110,19 @@ module _ (group : GroupChanges) where
 
   below_root : All IsBelowRoot (flat_map (places_of_object group) (range_with_len 0 object_count) ++ map (λ d. Directory d) (filter (is_directory_written group) (range_with_len 0 pointer_count)))
   below_root = All-append IsBelowRoot (flat_map (places_of_object group) (range_with_len 0 object_count)) (map (λ d. Directory d) (filter (is_directory_written group) (range_with_len 0 pointer_count)))
-      (All-flat IsBelowRoot (places_of_object group) (range_with_len 0 object_count) (λ i n at. All-append IsBelowRoot (map (λ r. Data n r) (filter (is_record_written group n) record_numbers)) (if is_indirect_written group n then Indirect n ∷ [] else [])
-      (of_numbers (λ r. Data n r) (λ r. tt) (filter (is_record_written group n) record_numbers)) (All-if IsBelowRoot (is_indirect_written group n) (Indirect n) (λ is. tt))))
+      (All-flat IsBelowRoot (places_of_object group) (range_with_len 0 object_count) (λ i n at. of_object n))
       (of_numbers (λ d. Directory d) (λ d. tt) (filter (is_directory_written group) (range_with_len 0 pointer_count)))
     where
       of_numbers : (f : ℕ → Place) → ((n : ℕ) → IsBelowRoot (f n)) → (ns : List ℕ) → All IsBelowRoot (map f ns)
       of_numbers f each ns = All-each IsBelowRoot (map f ns) (λ i place at. let (n, there, same) = at-map f ns i place at in subst IsBelowRoot same (each n))
+
+      of_object : (n : ℕ) → All IsBelowRoot (places_of_object group n)
+      of_object n =
+          All-append IsBelowRoot (flat_map (places_of_strip group n) pointer_numbers ++ indirects_of n) (if is_top_written group n then Top n ∷ [] else [])
+          (All-append IsBelowRoot (flat_map (places_of_strip group n) pointer_numbers) (indirects_of n)
+          (All-flat IsBelowRoot (places_of_strip group n) pointer_numbers (λ i j at. of_numbers (λ k. Data (strip_number n j) k) (λ k. tt) (filter (is_record_written group n j) pointer_numbers)))
+          (of_numbers (λ j. Indirect (strip_number n j)) (λ j. tt) (filter (is_indirect_written group n) pointer_numbers)))
+          (All-if IsBelowRoot (is_top_written group n) (Top n) (λ is. tt))
 
   pub root_last : (i : ℕ) → slice_get (written_by group) i ≡ Some Root → length (written_by group) ≡ i + 1
   root_last i at =

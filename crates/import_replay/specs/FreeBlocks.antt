@@ -1,5 +1,5 @@
 -- The free blocks of a tree and a chain, and the one that a plan leaves for the log.
-use Rattle.std.specs.Prelude.{ℕ, ◌≡◌, ◌≢◌, ◌<◌, ◌⊎◌, ◌||◌, Bool, Contains, List, true, false}
+use Rattle.std.specs.Prelude.{ℕ, ◌≡◌, ◌≢◌, ◌<◌, ◌⊎◌, Bool, Contains, List, true, false}
 use Rattle.std.specs.List.{list_any}
 use Rattle.std.specs.Ordering.{nat_cmp}
 use Rattle.std.specs.FinSet as set
@@ -8,8 +8,7 @@ use Rattle.base.specs.declared.pointer.Pointer.{Pointer}
 use Rattle.base.specs.formats.Chain.{LogPiece, addresses_of}
 use Rattle.base.specs.formats.Geometry.{block_address, IsBlockAddress}
 use Rattle.base.specs.tree.Places.{Place, IsPlace}
-use Rattle.object_maps.specs.FreeBlocks.{BlocksTaken, is_block_at, tree_names}
-use Rattle.object_maps.specs.declared.tree.Tree.{Tree}
+use Rattle.object_maps.specs.FreeBlocks.{BlocksTaken, is_block_at}
 use Rattle.space.specs.FreeSets.{FreeSpace, after_take, is_free}
 use Rattle.tree_plans.specs.declared.planner.PlannedBlock.{PlannedBlock}
 use Rattle.tree_plans.specs.declared.planner.TreePlan.{TreePlan}
@@ -38,10 +37,6 @@ pub record AreAllOthers (pointers : Place → Pointer) (blocks address : ℕ) (f
 -- whether one of the blocks of a piece is the k-th block
 abbrev pub logs_block : ℕ → LogPiece → Bool
 logs_block k piece = list_any (is_block_at k) (addresses_of piece)
-
--- whether one of a tree's pointers or of a chain's blocks is
-abbrev pub uses_block : ℕ → Tree → List LogPiece → Bool
-uses_block k tree chain = tree_names k tree || list_any (logs_block k) chain
 
 -- these addresses are free once more
 abbrev pub after_gives : List ℕ → FreeSpace → FreeSpace

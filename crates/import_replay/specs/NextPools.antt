@@ -19,12 +19,13 @@ use Rattle.base.specs.formats.Uberblocks.{Uberblock}
 use Rattle.base.specs.formats.Versions.{written_version}
 use Rattle.base.specs.history.Contents as history
 use Rattle.base.specs.formats.Names.{IsName}
-use Rattle.base.specs.tree.PlacedTrees.{ArePlaced, HoldsTree}
+use Rattle.base.specs.tree.PlacedTrees.{ArePlaced}
 use Rattle.base.specs.tree.Places.{IsPlace, Place}
 use Rattle.device_model.specs.declared.device.SectorDevice.{Ghosts}
 use Rattle.extents.specs.Synced.{patched_contents}
 use Rattle.extents.specs.Tables.{name_of, patches_of}
 use Rattle.group_plans.specs.GroupPlans.{FitsIn, HoldsGroupObjects, IsHeldRefusal, IsPlanRefusal, IsShortOfBlocks, MakesReadTree, TakesLowest, objects_with, plan_pointers}
+use Rattle.group_plans.specs.OldMaps.{HoldsTreeOf}
 use Rattle.group_plans.specs.Pointers.{lengths_after}
 use Rattle.log_replay.specs.Replays.{IsReplay}
 use Rattle.object_maps.specs.ContentsShown.{contents_of}
@@ -121,9 +122,10 @@ pub record IsReplayedPool (size group : ℕ) (name : List ℕ) (tree : Tree) (sl
 abbrev pub objects_replayed : ReplayedPool → FinMap nat_cmp (List ℕ)
 objects_replayed pool = objects_with pool.replayed.extents pool.synced
 
--- the device keeps the model, and holds the tree that was loaded for this active uberblock, with the loaded objects
+-- the device keeps the model, and holds the tree that was loaded for this active uberblock, with the loaded objects,
+-- whose lengths the tree in memory has
 abbrev pub HoldsLoaded : {Dev : Type 0} (D : Ghosts Dev) (device : Dev) → ℕ → Uberblock → ReplayedPool → Type 0
-HoldsLoaded D device size u pool = IsTrue D.keeps_model × HoldsTree (bytes_of (D.disk device).now) (frame_of_size u size) (pointers_of pool.tree) (contents_of pool.synced).objects
+HoldsLoaded D device size u pool = IsTrue D.keeps_model × HoldsTreeOf (bytes_of (D.disk device).now) (frame_of_size u size) pool.tree (contents_of pool.synced).objects
 
 -- a plan makes of its tree that of these objects, as the tree of an import's group, whichever pointers to records were
 -- read
@@ -178,7 +180,7 @@ pub record IsPlannedFrom (holds : Type 0) (size : ℕ) (u : Uberblock) (pool : R
   pub objects : holds → HoldsNextObjects size u pool plan
   pub blocks_are : next.blocks.items ≡ plan.blocks.items
   pub pointers : (place : Place) → IsPlace place → pointers_of next.tree place ≡ plan_pointers pool.tree plan place
-  pub lengths : (n : ℕ) → n < object_count → lengths_of next.tree n ≡ lengths_after plan.maps pool.tree n
+  pub lengths : (n : ℕ) → n < object_count → lengths_of next.tree n ≡ lengths_after plan.entries pool.tree n
   pub contents_are : contents_of next.contents ≡ patched_contents (patches_of pool.replayed.extents) (name_of pool.replayed.extents) (contents_of pool.synced)
   pub log_block : ℕ
   pub log_is : next.log_address ≡ block_address log_block

@@ -18,6 +18,7 @@ use Rattle.extents.specs.Patches.{ArePatchesOf, no_patch}
 use Rattle.extents.specs.Unsynced.{changes_at, laid_all}
 use Rattle.log_replay.specs.Replays.{ops_of_records}
 use Rattle.object_maps.specs.ContentsShown.{contents_of}
+use Rattle.object_maps.specs.Lengths.{HasLengthsOf}
 use Rattle.object_maps.specs.Ops.{AreOpsAllowed}
 use Rattle.object_maps.specs.Pointers.{pointers_of}
 use Rattle.object_reads.specs.ShownTrees.{IsRangeRefusal}
@@ -45,12 +46,14 @@ objects_seen v = laid_all v.changes (contents_of v.synced).objects
 abbrev pub FitsOn : ℕ → View → Type 0
 FitsOn size v = block_address v.frame.blocks ≤ size
 
--- The view has the objects of contents that the image mounts, and the image holds the tree that they are read from.
+-- The view has the objects of contents that the image mounts. The image holds the tree that they are read from, and the
+-- tree in memory has the lengths of its objects.
 pub record IsViewOf (image : List ℕ) (v : View) : Type 0 where
   pub contents : Contents
   pub mounts : MountsTo image contents
   pub objects : contents.objects ≡ objects_seen v
   pub tree : HoldsTree image v.frame (pointers_of v.tree) (contents_of v.synced).objects
+  pub lengths : HasLengthsOf v.tree (contents_of v.synced).objects
 
 -- a range of an object within the limits, with a byte at least
 abbrev pub is_readable : ℕ → Range → Bool

@@ -8,15 +8,16 @@
 //!    read.
 //! 3. It reads the labels: the active uberblock, and the config that is chosen for it, which has the pool's name.
 //! 4. It reads the tree, each block checked against its pointer. The first block that fails is reported as `Damaged`.
-//!    What stays in memory of the tree: the pointers down to its indirect blocks, and which blocks it leaves free. No
-//!    pointer to a record stays. Then it reads the log chain and replays it: the records of groups above u are applied,
-//!    in order (`zil_replay` of `zil.c`). The block of the first record that can't take place is reported as `Damaged`
-//!    with kind 6.
-//! 5. It refuses u + 5 or i + 1 above 2^60. It reads again the indirect blocks of the objects that the records change,
-//!    rising, and then each data block that they change in part, for rising objects and in each for rising blocks. The
-//!    tree that the records leave is planned as that of group u + 4. It takes the lowest blocks that neither the old
-//!    tree nor the chain has, one for each place that the records write, in the order of a sync. The lowest block that
-//!    none of these has becomes the first log block. No memory is taken after that.
+//!    What stays in memory of the tree: the pointers down to what its directories name, and which blocks it leaves
+//!    free. No pointer below these stays. Then it reads the log chain and replays it: the records of groups above u are
+//!    applied, in order (`zil_replay` of `zil.c`). The block of the first record that can't take place is reported as
+//!    `Damaged` with kind 6.
+//! 5. It refuses u + 5 or i + 1 above 2^60. Of each object that the records change, rising, it reads again the top, if
+//!    the object has two levels, and then the indirect blocks that the plan looks at. Then it reads each data block that
+//!    they change in part, for rising objects and in each for rising blocks. The tree that the records leave is planned
+//!    as that of group u + 4. It takes the lowest blocks that neither the old tree nor the chain has, one for each place
+//!    that the records write, in the order of a sync. The lowest block that none of these has becomes the first log
+//!    block. No memory is taken after that.
 //! 6. It syncs group u + 4 with import number i + 1, the planned blocks, the new root and the new config
 //!    (`sync_group`). Without a record to replay there is no block, and the root stays. The run before may have written
 //!    for the groups u + 1 to u + 3; the jump keeps the new group apart from them.
@@ -96,10 +97,10 @@ pub fn import<D: SectorDevice>(
 /// were read stay in memory, and `moment`, in seconds, is stored in the uberblocks.
 ///
 /// It flushes the device, loads the tree of the active uberblock, of group u and import number i, and replays the log
-/// records of groups above u. It reads again the indirect block of each object that they change, and each data block
-/// that they change in part. No pointer to a record stays in memory. Then it syncs what they leave as group u + 4, with
-/// import number i + 1 and both label stages (On-Disk Specification, chapter 1). Group u + 5 is then open. All memory
-/// is taken before the first write.
+/// records of groups above u. It reads again the top of each object that they change, and the indirect blocks that the
+/// plan looks at, and each data block that they change in part. No pointer below those of the directories stays in
+/// memory. Then it syncs what they leave as group u + 4, with import number i + 1 and both label stages (On-Disk
+/// Specification, chapter 1). Group u + 5 is then open. All memory is taken before the first write.
 ///
 /// If the pool alone wrote the disk, a crash at any moment after the first good flush leaves the same contents,
 /// unless a torn block passes its check by chance (clause `own` with the law `steady_imports_mount` of `base`).

@@ -28,7 +28,7 @@ pub struct Mounted {
     pub import_number: u64,
     /// The pool's name and the lengths of its objects, whose bytes are told.
     pub contents: Contents,
-    /// The pointers of the tree that the import synced, down to its indirect blocks. Those to records are told.
+    /// The pointers of the tree that the import synced, down to what its directories name. Those below are told.
     pub tree: Tree,
     /// The blocks that are neither in the tree nor the first log block.
     pub free: FreeSet,

@@ -1,6 +1,6 @@
 //! What an import makes of the pool that it read, before it writes: the records of the chain are replayed, and the tree
-//! that they leave is planned. The plan reads the indirect block of each object that they change, and each data block
-//! that they change in part. All memory of the import is taken here.
+//! that they leave is planned. The plan reads of each object that they change the top and the indirect blocks that it
+//! looks at, and each data block that they change in part. All memory of the import is taken here.
 //!
 //! The blocks of the old tree and of the chain stay as they are until the sync is done, so that a crash finds one pool
 //! or the other: the new blocks and the first log block are none of them. After the sync the free blocks are all but
@@ -148,9 +148,9 @@ pub(crate) fn plan_pool<B: BlockReader>(
     })
 }
 
-// The tree that the records leave, planned as that of the import's group. The indirect blocks of the objects that they
-// change are read, rising, and then the data blocks that they change in part, for rising objects and in each for rising
-// blocks.
+// The tree that the records leave, planned as that of the import's group. Of each object that they change, rising, the
+// top is read and the indirect blocks that the plan looks at. Then the data blocks that they change in part are read,
+// for rising objects and in each for rising blocks.
 fn plan_tree<B: BlockReader>(
     alloc: Global,
     reader: &mut B,
@@ -203,18 +203,18 @@ fn with_plan(mut tree: Tree, planned: TreePlan) -> (Tree, Vec<PlannedBlock>)
     ensures pointers { (place : Place) → IsPlace place
         → pointers_of result.0 place ≡ plan_pointers tree planned place }
     ensures lengths { (n : ℕ) → n < object_count
-        → lengths_of result.0 n ≡ lengths_after planned.maps tree n }
+        → lengths_of result.0 n ≡ lengths_after planned.entries tree n }
     ensures blocks { result.1 ≡ planned.blocks }
 {
     let TreePlan {
         blocks,
-        maps,
+        entries,
         directories,
         root,
         freed: _,
     } = planned;
     tree.root = root;
     tree.directories = directories;
-    tree.set_all(maps);
+    tree.set_all(entries);
     (tree, blocks)
 }

@@ -1,7 +1,7 @@
 //! What an import and an inspection read: the pool that a device has, the tree under its root, and then the chain of
-//! log blocks. Both keep the lengths of the objects, the tree's pointers down to its indirect blocks, and a flag for
-//! each block: whether the tree leaves it free. No pointer to a record stays in memory. An import is told the bytes of
-//! the objects as well.
+//! log blocks. Both keep the lengths of the objects, the tree's pointers down to what its directories name, and a flag
+//! for each block: whether the tree leaves it free. No pointer below these stays in memory. An import is told the bytes
+//! of the objects as well.
 
 ghost use Rattle.std.specs.Prelude.{◌≡◌, All, IfErr, IfOk, IsTrue};
 ghost use Rattle.base.specs.disk.Disk.{bytes_of};

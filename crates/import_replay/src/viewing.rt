@@ -131,7 +131,7 @@ impl View {
     }
 
     /// The bytes of a range that lie below the object's length. Only the parts of records that they lie in are read,
-    /// after the indirect block of the object.
+    /// after the object's top, if it has one, and the indirect blocks of their strips.
     ///
     /// # Errors
     /// In this order: `BadRange` if the object's number is above 5,291 or the range above the greatest length,

@@ -1,6 +1,6 @@
 -- What callers of this crate conclude from the contracts of its calls.
 use Rattle.std.proofs.Common.{◌≡◌, ℕ, zero, suc, Bool, true, false, ◌+◌, ◌<◌, ◌≤◌, List, [], ◌∷◌, ◌++◌, inl, inr, length, length-append, length-drop, take, drop, sym, ap, refl, subst, ◌∙◌, arith}
-use Rattle.std.specs.Prelude.{◌-◌, IfNone, IfSome, Option, None, Some, filter, replicate, slice_get, is_some, nat_le, nat_lt}
+use Rattle.std.specs.Prelude.{◌-◌, IfNone, IfSome, Option, None, Some, All, filter, replicate, slice_get, is_some, nat_le, nat_lt}
 use Rattle.std.proofs.lemmas.Bool.{le-leb, lt-leb, ltb-false}
 use Rattle.std.specs.Int.{from_le_bytes, w64}
 use Rattle.std.proofs.lemmas.List.{append-nil, drop-drop, take_all}
@@ -10,16 +10,20 @@ use Rattle.base.specs.formats.Chain.{Header, LogBlock, LogPiece}
 use Rattle.base.specs.formats.Fields.{number_at, part}
 use Rattle.base.specs.formats.Geometry.{IsBlockAddress}
 use Rattle.base.specs.formats.Limits.{log_block_room}
-use Rattle.base.specs.formats.Records.{IsAllowed, Record, bytes_of_record, size_of}
+use Rattle.base.specs.formats.Records.{IsAllowed, IsOneLevelRecord, Record, bytes_of_record, size_of}
+use Rattle.base.specs.declared.version.Version.{Version}
+use Rattle.base.specs.declared.version.Version.TheVariants.{One}
+use Rattle.base.specs.formats.Versions.{number_of_version}
+use Rattle.base.proofs.formats.RecordSpelling.{one-spelling}
 use Rattle.base.proofs.formats.Pieces.{piece_block}
 use Rattle.base.specs.steps.Logs.{Begun, IsTaken, KeptBlock, Taken, blocks_before, total_size}
 use Rattle.base.proofs.formats.RecordSizes.{length-bytes_of_record}
 use Rattle.intent_log.specs.Fillings.{IsNextBlock, taken_of}
 use Rattle.intent_log.specs.declared.filling.NextLogBlock.{NextLogBlock}
-use Rattle.intent_log.proofs.LongRecords.{short_piece}
+use Rattle.intent_log.proofs.LongRecords.{none_short, short_piece}
 use Rattle.intent_log.proofs.PackedRecords.{length-bytes_of_records}
-use Rattle.std.proofs.lemmas.List.Elements.{All-cons, All-nil}
-use Rattle.intent_log.specs.Chains.{HasOneRecord, IsBlockAt, IsChainFrom, IsPieceAt, frame_of_chain, header_of_chain}
+use Rattle.std.proofs.lemmas.List.Elements.{All-cons, All-head, All-nil}
+use Rattle.intent_log.specs.Chains.{HasNoneOfVersion, HasOneRecord, IsBlockAt, IsChainFrom, IsPieceAt, frame_of_chain, header_of_chain}
 use Rattle.intent_log.specs.Kept.{IsFrontGiven, RunLog}
 use Rattle.intent_log.specs.Packing.{HoldsUsed, IsBegunFirst, IsCount, IsPackedAs, IsPackedFront, block_of, logged, used_of}
 use Rattle.intent_log.specs.declared.packing.Packed.{Packed}
@@ -39,14 +43,13 @@ pub some_piece : (image : List ℕ) (frame : Frame) (h : ChainHeader) (p : LogPi
 some_piece image frame h p [] piece chain = absurd (chain p piece)
 some_piece image frame h p (q ∷ ps) piece chain = omega arith
 
--- a block of one record is a piece
-pub one_record : (image : List ℕ) (frame : Frame) (h : ChainHeader) (r : Record) → HasOneRecord image frame h.import_number h.address h.number r → (p : LogPiece) × IsPieceAt image frame h p
-one_record image frame h r has =
+-- a block of one record stands, and is a piece if the version has the record
+one_block : (image : List ℕ) (frame : Frame) (h : ChainHeader) (r : Record) (has : HasOneRecord image frame h.import_number h.address h.number r)
+    → IsBlockAt image frame h (record { address = h.address; next = number_at has.payload 8; used = bytes_of_record r })
+one_block image frame h r has =
     let long = length-bytes_of_record r in
-    let b : LogBlock = record { address = h.address; next = number_at has.payload 8; used = bytes_of_record r } in
-    let p : LogPiece = record { address = h.address; behind = []; next = number_at has.payload 8; records = r ∷ [] } in
     let short = has.short in
-    let at : IsBlockAt image frame h b = record {
+    record {
       address_is = refl;
       in_area = has.in_area;
       group = has.group;
@@ -59,15 +62,34 @@ one_record image frame h r has =
         fits = omega (arith, long, short);
         rest = has.rest ∙ ap (λ (n : ℕ). bytes_of_record r ++ replicate (4008 - n) 0) (sym long);
       };
-    } in (
+    }
+
+pub one_record : (image : List ℕ) (frame : Frame) (h : ChainHeader) (r : Record) → HasOneRecord image frame h.import_number h.address h.number r → (number_of_version h.version ≤ 1 → IsOneLevelRecord r)
+    → (p : LogPiece) × IsPieceAt image frame h p
+one_record image frame h r has of_version =
+    let p : LogPiece = record { address = h.address; behind = []; next = number_at has.payload 8; records = r ∷ [] } in (
       p,
-      short_piece image frame h b p at (record {
+      short_piece image frame h (record { address = h.address; next = number_at has.payload 8; used = bytes_of_record r }) p (one_block image frame h r has) (record {
         address_is = refl;
         none_behind = refl;
         next_is = refl;
         are = record { some = omega arith; allowed = All-cons IsAllowed r [] has.allowed (All-nil IsAllowed); spelled = sym (append-nil (bytes_of_record r)) };
+        of_version = λ old. All-cons IsOneLevelRecord r [] (of_version old) (All-nil IsOneLevelRecord);
       }),
     )
+
+-- and if version 1 has it not, it begins no chain of that version
+pub none_past_one_level : (image : List ℕ) (frame : Frame) (h : ChainHeader) (r : Record) → h.version ≡ One → HasOneRecord image frame h.import_number h.address h.number r → (IsOneLevelRecord r → ⊥)
+    → (ps : List LogPiece) → IsChainFrom image frame h ps → ps ≡ []
+none_past_one_level image frame h r one has past [] chain = refl
+none_past_one_level image frame h r one has past (p ∷ ps) (piece, rest) =
+    absurd (none_short image frame h (record { address = h.address; next = number_at has.payload 8; used = bytes_of_record r }) (one_block image frame h r has) none
+    (λ new. absurd (let later : 1 < 1 = subst (λ (v : Version). 1 < number_of_version v) one new in omega (arith, later))) p piece)
+  where
+    none : HasNoneOfVersion h.version (bytes_of_record r)
+    none records are of_version =
+        let same : r ∷ [] ≡ records = one-spelling (r ∷ []) records (All-cons IsAllowed r [] has.allowed (All-nil IsAllowed)) are.allowed (append-nil (bytes_of_record r) ∙ are.spelled) in
+        past (All-head IsOneLevelRecord r [] (subst (λ (rs : List Record). All IsOneLevelRecord rs) (sym same) (of_version (subst (λ (v : Version). number_of_version v ≤ 1) (sym one) (omega arith)))))
 
 -- a packed block that stands at its place is the log block there
 pub stands_packed : (place : NewBlock) (block : List ℕ) (used : List ℕ) → HoldsUsed place block used → (image : List ℕ) (frame : Frame) → frame.guid ≡ place.guid

@@ -13,7 +13,7 @@ use Rattle.base.specs.declared.version.Version.TheVariants.{Two}
 use Rattle.base.specs.formats.Versions.{number_of_version}
 use Rattle.base.proofs.formats.Pieces.{length_said, length_said_alone, one_block}
 use Rattle.base.proofs.formats.RecordSizes.{length-bytes_of_record}
-use Rattle.intent_log.specs.Chains.{AreGathered, BeginsNone, HasNoBlock, HasNoLong, HasNoPieceAt, HasNoRecords, IsBlockAt, IsLongAt, IsNoRecord, IsPieceAt, IsRecordOf, IsShortOf, MayBegin, NoneStand, frame_of_chain, header_of_chain}
+use Rattle.intent_log.specs.Chains.{AreGathered, BeginsNone, HasNoBlock, HasNoLong, HasNoPieceAt, HasNoRecords, HasNoneOfVersion, IsBlockAt, IsLongAt, IsNoRecord, IsPieceAt, IsRecordOf, IsShortOf, MayBegin, NoneStand, frame_of_chain, header_of_chain}
 use Rattle.intent_log.specs.declared.chains.ChainHeader.{ChainHeader}
 use Rattle.intent_log.specs.declared.parts.Parts.{Parts}
 
@@ -46,13 +46,13 @@ module _ (image : List ℕ) (frame : Frame) (h : ChainHeader) where
   same_block b c x y = one_block image (frame_of_chain frame h) h.import_number (header_of_chain h) b c x y
 
   -- a piece of one block
-  pub short_piece : (b : LogBlock) (p : LogPiece) → IsBlockAt image frame h b → IsShortOf b p → IsPieceAt image frame h p
+  pub short_piece : (b : LogBlock) (p : LogPiece) → IsBlockAt image frame h b → IsShortOf h.version b p → IsPieceAt image frame h p
   short_piece b p at is = record {
     blocks = b ∷ [];
     stand = (at, tt);
     addresses = λ i. sym is.address_is i ∷ sym is.none_behind i;
     next_is = sym is.next_is;
-    whole = inl (record { block = b; blocks_are = refl; some = is.are.some; allowed = is.are.allowed; spelled = is.are.spelled });
+    whole = inl (record { block = b; blocks_are = refl; some = is.are.some; allowed = is.are.allowed; spelled = is.are.spelled; one_level = is.of_version });
   }
 
   -- and one of a long record
@@ -90,13 +90,13 @@ module _ (image : List ℕ) (frame : Frame) (h : ChainHeader) where
     of_long (c ∷ bs) r long stand (inr (small, used, none)) = absurd (omega (arith, small, long, length-bytes_of_record r))
 
     -- without records, and where no long record begins, there is no piece
-    pub none_short : HasNoRecords b.used → (1 < number_of_version h.version → BeginsNone b.used) → HasNoPieceAt image frame h
+    pub none_short : HasNoneOfVersion h.version b.used → (1 < number_of_version h.version → BeginsNone b.used) → HasNoPieceAt image frame h
     none_short none long p is = by_piece is.whole
       where
         by_piece : IsWholePiece (frame_of_chain frame h).version is.blocks p.records → ⊥
         by_piece (inl short) =
             let same : short.block ≡ b = of_short p is.blocks is.stand short.block short.blocks_are in
-            none p.records (record { some = short.some; allowed = short.allowed; spelled = ap (λ (x : LogBlock). x.used) (sym same) ∙ short.spelled })
+            none p.records (record { some = short.some; allowed = short.allowed; spelled = ap (λ (x : LogBlock). x.used) (sym same) ∙ short.spelled }) short.one_level
         by_piece (inr (new, is_long)) = long new is_long.logged is_long.allowed is_long.long (of_long is.blocks is_long.logged is_long.long is.stand is_long.parts)
 
     -- where one may begin there is none of whole records

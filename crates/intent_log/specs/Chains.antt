@@ -3,12 +3,13 @@ use Rattle.std.specs.Prelude.{ℕ, ◌≡◌, ◌≤◌, ◌<◌, ◌-◌, ◌++
 use Rattle.std.specs.Int.{from_le_bytes, w32}
 use Rattle.base.specs.declared.error.PoolError.{PoolError}
 use Rattle.base.specs.declared.error.PoolError.TheVariants.{NoMemory, Read}
+use Rattle.base.specs.declared.version.Version.{Version}
 use Rattle.base.specs.formats.Blocks.{Frame, IsBlock}
 use Rattle.base.specs.formats.Fields.{number_at, part}
 use Rattle.base.specs.formats.Geometry.{IsBlockAddress}
 use Rattle.base.specs.formats.Chain.{Header, LogBlock, LogPiece, IsLogPayload, IsLogBlock, AreLogBlocks, AreParts, IsPiece, IsChain, IsLongPiece, addresses_of, after_blocks, block_addresses}
 use Rattle.base.specs.formats.Limits.{log_block_room}
-use Rattle.base.specs.formats.Records.{Record, IsAllowed, bytes_of_record, bytes_of_records, size_of}
+use Rattle.base.specs.formats.Records.{Record, IsAllowed, IsOneLevelRecord, bytes_of_record, bytes_of_records, size_of}
 use Rattle.base.specs.formats.Versions.{number_of_version}
 use Rattle.checked_blocks.specs.declared.expected.Expected.{Expected}
 use Rattle.intent_log.specs.declared.chains.ChainHeader.{ChainHeader}
@@ -69,6 +70,14 @@ pub record AreRecordsOf (bytes : List ℕ) (records : List Record) : Type 0 wher
 abbrev pub HasNoRecords : List ℕ → Type 0
 HasNoRecords bytes = (records : List Record) → AreRecordsOf bytes records → ⊥
 
+-- a version has these records: in version 1 none of them reaches past the length of one level
+abbrev pub AreOfVersion : Version → List Record → Type 0
+AreOfVersion version records = number_of_version version ≤ 1 → All IsOneLevelRecord records
+
+-- these bytes are no records that a version has
+abbrev pub HasNoneOfVersion : Version → List ℕ → Type 0
+HasNoneOfVersion version bytes = (records : List Record) → AreRecordsOf bytes records → AreOfVersion version records → ⊥
+
 -- these bytes are one record within its limits, and they are none
 pub record IsRecordOf (bytes : List ℕ) (r : Record) : Type 0 where
   pub allowed : IsAllowed r
@@ -77,12 +86,13 @@ pub record IsRecordOf (bytes : List ℕ) (r : Record) : Type 0 where
 abbrev pub IsNoRecord : List ℕ → Type 0
 IsNoRecord bytes = (r : Record) → IsRecordOf bytes r → ⊥
 
--- a piece of this block alone, of whole records
-pub record IsShortOf (block : LogBlock) (piece : LogPiece) : Type 0 where
+-- a piece of this block alone, of whole records that the version has
+pub record IsShortOf (version : Version) (block : LogBlock) (piece : LogPiece) : Type 0 where
   pub address_is : piece.address ≡ block.address
   pub none_behind : piece.behind ≡ []
   pub next_is : piece.next ≡ block.next
   pub are : AreRecordsOf block.used piece.records
+  pub of_version : AreOfVersion version piece.records
 
 -- On each device all that was read of a piece lies in the area, and its records are within their limits. It has no more
 -- blocks than the longest record.

@@ -1,7 +1,8 @@
 //! The chain of log blocks from a header on: what an import replays.
 //!
 //! It is made of pieces. A piece is one block of whole records, or the blocks of one record that is longer than a
-//! block; version 1 has no such record. A block is of the chain if all of this is true of it:
+//! block. Version 1 has no such record, and none that reaches past the length of one level. A block is of the chain if
+//! all of this is true of it:
 //! 1. It lies in the block area, and opens as a log block of this pool.
 //! 2. Its number follows that of the block before it.
 //! 3. It names the chain of its run, which is the run's import number.
@@ -11,12 +12,14 @@
 //! A chain has no more blocks than the device has room for: each has a number of its own, and so an address of its own.
 //! Whatever the device holds, none is read after so many.
 
-ghost use Rattle.std.specs.Prelude.{◌≡◌, ◌≤◌, ◌<◌, ◌^◌, All, IfErr, IfOk, IfSome, IfNone, IsTrue, length, map};
+ghost use Rattle.std.specs.Prelude.{◌≡◌, ◌↔◌, ◌≤◌, ◌<◌, ◌^◌, All, IfErr, IfOk, IfSome, IfNone, IsTrue, length, map};
+ghost use Rattle.std.specs.List.{list_all};
 ghost use Rattle.base.specs.disk.Disk.{bytes_of};
 ghost use Rattle.base.specs.formats.Geometry.{block_address};
+ghost use Rattle.base.specs.formats.Records.{is_one_level_op};
 ghost use Rattle.device_model.specs.Reading.{OnlyReads};
 ghost use Rattle.transactions.specs.Records.{record_fields};
-ghost use Rattle.intent_log.specs.Chains.{HasNoLong, HasNoPieceAt, HasNoRecords, IsBlockAt, IsChainFrom, IsChainRefusal, IsLongAt, IsPieceAt, IsShortOf, IsSoundBlock, IsSoundPiece, MayBegin};
+ghost use Rattle.intent_log.specs.Chains.{AreOfVersion, HasNoLong, HasNoPieceAt, HasNoneOfVersion, IsBlockAt, IsChainFrom, IsChainRefusal, IsLongAt, IsPieceAt, IsShortOf, IsSoundBlock, IsSoundPiece, MayBegin};
 
 use crate::log_blocks::{LogBlock, read_block};
 use crate::parts::{Parts, gather, long_size};
@@ -26,7 +29,7 @@ use checked_blocks::Frame;
 use device_model::SectorDevice;
 use std::alloc::Global;
 use std::marker::Model;
-use transactions::Record;
+use transactions::{Record, is_one_level};
 
 /// How many sectors a block has.
 const SECTORS: u64 = BLOCK_SIZE as u64 / SECTOR_SIZE;
@@ -158,26 +161,49 @@ fn read_piece<D: SectorDevice>(
         return Ok(None);
     };
     let Some(size) = long_size(header.version, block.used.as_slice()) else {
-        return read_short(alloc, block);
+        return read_short(alloc, header.version, block);
     };
     read_parts(alloc, device, frame, header, block, size)
 }
 
-// The piece of one block of whole records. `None` if its bytes aren't that.
-fn read_short(alloc: Global, block: LogBlock) -> Result<Option<LoggedPiece>, PoolError>
-    ensures read { IfOk result (λ found. IfSome found (IsShortOf block)) }
-    ensures none { IfOk result (λ found. IfNone found (HasNoRecords block.used)) }
+// The piece of one block of whole records. `None` if its bytes aren't that, or if the version has not each of them.
+fn read_short(
+    alloc: Global,
+    version: Version,
+    block: LogBlock,
+) -> Result<Option<LoggedPiece>, PoolError>
+    ensures read { IfOk result (λ found. IfSome found (IsShortOf version block)) }
+    ensures none { IfOk result (λ found. IfNone found (HasNoneOfVersion version block.used)) }
     ensures refused { IfErr result (λ e. e ≡ PoolError.NoMemory) }
 {
     let Some(records) = read_records(alloc, block.used.as_slice())? else {
         return Ok(None);
     };
+    if !are_of_version(version, records.as_slice()) {
+        return Ok(None);
+    }
     Ok(Some(LoggedPiece {
         address: block.address,
         behind: Vec::new(alloc),
         next: block.next,
         records,
     }))
+}
+
+// Whether a version has these records: version 1 has none that reaches past the length of one level.
+fn are_of_version(version: Version, records: &[Record]) -> bool
+    ensures { IsTrue result ↔ AreOfVersion version (map record_fields records.now) }
+{
+    match version {
+        Version::One => are_of_one_level(records),
+        Version::Two => true,
+    }
+}
+
+fn are_of_one_level(records: &[Record]) -> bool
+    ensures { result ≡ list_all (λ r. list_all is_one_level_op r.ops) records.now }
+{
+    records.iter().all(|committed| is_one_level(committed))
 }
 
 // The piece of one long record, whose first block was read and says that it has so many bytes. `None` if a part of it

@@ -274,7 +274,7 @@ where
 }
 
 // The digests are those of a reading of the rules in another language. A create is charged 8,192 bytes, and these
-// writes 16,384 bytes each, so the limits tell which one the pool has.
+// writes 20,480 bytes each, so the limits tell which one the pool has.
 #[test]
 fn a_pool_in_a_file_is_loaded(rt: HostRuntime) -> Result<(), Fail> {
     let none = "committed 17\n\
@@ -286,8 +286,8 @@ fn a_pool_in_a_file_is_loaded(rt: HostRuntime) -> Result<(), Fail> {
         (1_048_576, 0, (0, none, "")),
         (8_191, 0, throttled),
         (8_192, 0, (0, none, "")),
-        (16_383, 8, throttled),
-        (16_384, 8, (0, eight, "")),
+        (20_479, 8, throttled),
+        (20_480, 8, (0, eight, "")),
     ];
     let count = count_loaded(&rt, "load.pool", &rows);
     fs::remove_file(&rt, "load.pool")?;
@@ -298,7 +298,7 @@ fn a_pool_in_a_file_is_loaded(rt: HostRuntime) -> Result<(), Fail> {
 // Makes object 1 of the bytes `abcd`. They lie at the front of the payload of the block at 4,198,400.
 const MAKES_AN_OBJECT: &str = "\
 import 1048576
-lock 1 1 w 0 338688
+lock 1 1 w 0 28449792
 begin 1 c:1 w:1:0:4 w:1:8064:4
 commit 0 abcd wxyz
 sync
@@ -424,7 +424,7 @@ fn bytes_are_put_and_got(rt: HostRuntime) {
 fn objects_of_a_file_that_cannot_be_used_are_left(rt: HostRuntime) {
     let file = "other.pool";
     let unusable = (3, "", "ztxg: cannot use other.pool\n");
-    let outside = Command::Put(put(file, Some(338_688)), "a");
+    let outside = Command::Put(put(file, Some(28_449_792)), "a");
     let rows = [
         Row::Prints(Command::Get(get(file, 0, None)), unusable),
         Row::Prints(Command::Put(put(file, None), "a"), unusable),
@@ -570,7 +570,7 @@ fn a_put_tells_what_it_has_committed(rt: HostRuntime) {
 
 // A script on a new pool in a file, which ends in a refusal.
 const REFUSED: &str =
-    "import 1048576\nlock 1 1 w 0 338688\nbegin 1 c:1\ncommit 0\nlength 2\nname\n";
+    "import 1048576\nlock 1 1 w 0 28449792\nbegin 1 c:1\ncommit 0\nlength 2\nname\n";
 
 #[test]
 fn a_script_stops_or_syncs(rt: HostRuntime) {

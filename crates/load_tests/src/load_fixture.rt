@@ -11,7 +11,7 @@ use std::alloc::{AllocError, Global};
 pub const ONE_CREATE: u64 = 8_192;
 
 /// A limit that admits one write at a time.
-pub const ONE_WRITE: u64 = 16_384;
+pub const ONE_WRITE: u64 = 20_480;
 
 /// A gate that lets each stream in.
 pub struct Open;

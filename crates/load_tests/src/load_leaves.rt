@@ -214,7 +214,7 @@ fn is_durable<W: Wait>(rt: &W, handle: &mut Handle<'_, MemDevice>, ordinal: Ordi
     false
 }
 
-// A pool of 32 MiB. A write is charged five blocks at most, so all writes find room without a sync.
+// A pool of 32 MiB. A write is charged six blocks at most, so all writes find room without a sync.
 fn large_pool(alloc: Global) -> Result<Pool<MemDevice>, PoolError> {
     let device = create(MemDevice::new(alloc, 65_536)?, b"tank", 77, 0)?;
     mounted(alloc, device, 16_777_216)

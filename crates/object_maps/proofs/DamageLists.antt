@@ -1,79 +1,228 @@
 -- A list of a tree's damages grows with the walk, part by part.
 use Rattle.std.proofs.Common.{◌≡◌, ◌≢◌, ℕ, ◌+◌, ◌-◌, ◌*◌, ◌/◌, ◌%◌, ◌<◌, ◌≤◌, zero, suc, min, List, [], ◌∷◌, ◌++◌, length, drop, replicate, map, refl, ap, sym, subst, ◌∙◌, arith, append_assoc, ◌⊎◌, inl, inr}
 use Rattle.std.specs.Prelude.{Contains}
-use Rattle.std.proofs.lemmas.Bool.{cases_lt}
+use Rattle.std.proofs.Math.Nat.{le_refl}
+use Rattle.std.proofs.lemmas.Bool.{cases_eq, cases_lt}
 use Rattle.std.proofs.lemmas.List.{append-nil, map-append}
 use Rattle.std.proofs.lemmas.List.Elements.{Contains-append_left, Contains-append_right, Contains-append_cases}
 use Rattle.base.specs.declared.error.PoolError.{PoolError}
 use Rattle.base.specs.declared.error.PoolError.TheVariants.{Damaged}
 use Rattle.base.specs.declared.pointer.Pointer.{Pointer}
 use Rattle.base.specs.formats.Blocks.{Frame, Opens}
-use Rattle.base.specs.formats.Fields.{no_pointer, entry_in, entry_pointer, pointer_in}
-use Rattle.base.specs.formats.Limits.{entry_count, pointer_count, object_count, record_size}
-use Rattle.base.specs.tree.Places.{Place, IsPlace, kind_of, number_of_place, walk_index_of, walk_index_of_indirect, pointer_of}
-use Rattle.base.specs.tree.Places.Place.{Root, Directory, Indirect, Data}
+use Rattle.base.specs.formats.Fields.{no_pointer, pointer_in}
+use Rattle.base.specs.formats.Limits.{entry_count, indirect_count, object_count, object_stride, pointer_count, record_size}
+use Rattle.base.specs.tree.Places.{Place, IsPlace, kind_of, levels_in, number_of_place, object_of_indirect, record_start, strip_number, strip_of, walk_index_of, walk_index_of_indirect, walk_index_of_object, pointer_below, pointer_of}
+use Rattle.base.specs.tree.Places.Place.{Root, Directory, Top, Indirect, Data}
+use Rattle.base.proofs.tree.LevelPointers.{indirect-first, indirect-later}
+use Rattle.base.proofs.tree.Strips.{number-object, number-strip}
+use Rattle.base.proofs.tree.WalkIndexes.{same_place}
 use Rattle.base.specs.tree.Damages.{IsSoundAt, IsWellFormed, IsFirstDamage, length_in}
 use Rattle.object_maps.specs.declared.damages.BlockDamage.{BlockDamage}
-use Rattle.object_maps.specs.DamageLists.{LiesBelow, block_damage, StandRising, IsJudged, ListsDamages, walk_index_after, AreDamaged, AddsDamages, AddsTold, HasDataOf}
-use Rattle.object_maps.specs.Walking.{AreSound, TellsBlock, IsDataOf, IsPayloadOf, directory_index}
-use Rattle.object_maps.proofs.WalkOrder.{same_place, same-object, index_within}
+use Rattle.object_maps.specs.DamageLists.{LiesBelow, block_damage, StandRising, IsJudged, ListsDamages, walk_index_after, AreDamaged, AddsDamages, AddsTold}
+use Rattle.object_maps.specs.Walking.{AreSound, TellsBlock, IsDataOf, directory_index, objects_index}
+use Rattle.object_maps.proofs.WalkOrder.{index-directory, index-object, index_of_strip, index_within, no_directory-object, no_directory-strip, no_top-strip, object-stride, same-object, same-strip, sound_one}
+use Rattle.object_maps.proofs.WalkParts.{first_index, no_top, short_rest}
 use Rattle.object_maps.proofs.WalkDamages.{same_payload, same-kind, same-address, padded-back}
-use Rattle.object_maps.proofs.WalkParts.{object_none, entry_linked, no_entry_pointer, directory_sound, objects_none}
 
 -- which is behind the place itself
-behind_itself : (place : Place) → walk_index_of place + 1 ≤ walk_index_after place
-behind_itself Root = omega arith
-behind_itself (Directory d) = omega arith
-behind_itself (Indirect n) = omega arith
-behind_itself (Data n r) = omega arith
+behind_one : (w k : ℕ) → w + 1 ≤ w + (1 + k)
+behind_one w k = omega arith
 
--- an object stands in the part of its directory
-object_part : (q k e : ℕ) → k < 63 → 2 + 5356 * q + 85 * k < 1 + 5356 * e → 1 + 5356 * e < 2 + 5356 * q + 85 * k + 85 → ⊥
-object_part q k e low after before = omega (arith, low, after, before)
+behind_some : (w s : ℕ) → 0 < s → w + 1 ≤ w + s
+behind_some w s some = omega (arith, some)
+
+stride_some : 0 < object_stride
+stride_some = omega (arith, object-stride)
+
+pub behind_directory : (d : ℕ) → directory_index d + 1 ≤ directory_index (d + 1)
+behind_directory d = let here = index-directory d in let next = index-directory (d + 1) in by here next
+  where
+    by : {v w : ℕ} → v ≡ 1 + 449884 * d → w ≡ 1 + 449884 * (d + 1) → v + 1 ≤ w
+    by here next = omega (arith, here, next)
+
+behind_itself : (place : Place) → walk_index_of place + 1 ≤ walk_index_after place
+behind_itself Root = let last = index-directory 84 in omega (arith, last)
+behind_itself (Directory d) = behind_directory d
+behind_itself (Top n) = behind_some (walk_index_of_object n) object_stride stride_some
+behind_itself (Indirect m) = behind_some (walk_index_of_indirect m) 85 (omega arith)
+behind_itself (Data m k) = le_refl (walk_index_of_indirect m + 1 + k + 1)
+
+-- the index of a place of an object, from that of the object
+from_object : (m k : ℕ) → walk_index_of_indirect m + 1 + k ≡ walk_index_of_object (object_of_indirect m) + (1 + 85 * strip_of m + (1 + k))
+from_object m k = sum (walk_index_of_object (object_of_indirect m)) (strip_of m) k
+  where
+    sum : (w j k : ℕ) → w + 1 + 85 * j + 1 + k ≡ w + (1 + 85 * j + (1 + k))
+    sum w j k = omega arith
+
+from_indirect : (m : ℕ) → walk_index_of_indirect m ≡ walk_index_of_object (object_of_indirect m) + (1 + 85 * strip_of m)
+from_indirect m = sum (walk_index_of_object (object_of_indirect m)) (strip_of m)
+  where
+    sum : (w j : ℕ) → w + 1 + 85 * j ≡ w + (1 + 85 * j)
+    sum w j = omega arith
+
+in_object : (m k : ℕ) → m < indirect_count → k < 84 → 1 + 85 * strip_of m + (1 + k) < 7141
+in_object m k low inside = let j = number-strip m low in omega (arith, j, inside)
+
+at_indirect : (m : ℕ) → m < indirect_count → 1 + 85 * strip_of m < 7141
+at_indirect m low = let j = number-strip m low in omega (arith, j)
+
+-- a place of an object stands in the part of its directory
+in_directory : (d q k t : ℕ) → k < 63 → t < 7141 → 1 + 449884 * d < 2 + 449884 * q + 7141 * k + t → 2 + 449884 * q + 7141 * k + t < 1 + 449884 * (d + 1) → q ≡ d
+in_directory d q k t low inside after before = omega (arith, low, inside, after, before)
+
+of_directory : (d n t : ℕ) → t < 7141 → directory_index d < walk_index_of_object n + t → walk_index_of_object n + t < directory_index (d + 1) → n / entry_count ≡ d
+of_directory d n t inside after before =
+    let k : n % 63 < 63 = omega arith in
+    let here : walk_index_of_object n + t ≡ 2 + 449884 * (n / 63) + 7141 * (n % 63) + t = ap (λ (w : ℕ). w + t) (index-object n) in
+    in_directory d (n / 63) (n % 63) t k inside (between (index-directory d) here after) (between here (index-directory (d + 1)) before)
+  where
+    between : {a b v w : ℕ} → a ≡ v → b ≡ w → a < b → v < w
+    between first second low = omega (arith, first, second, low)
+
+difference : (a b : ℕ) → a < b → b ≡ a + (b - a)
+difference a b low = omega (arith, low)
+
+some_difference : (a b : ℕ) → a < b → 0 ≡ b - a → ⊥
+some_difference a b low none = omega (arith, low, none)
+
+small_difference : (a b s : ℕ) → a < b → b < a + s → b - a < s
+small_difference a b s low high = omega (arith, low, high)
+
+none_between : (a b : ℕ) → a < b → b < a + 1 → ⊥
+none_between a b low high = omega (arith, low, high)
+
+plus_none : (w : ℕ) → w ≡ w + 0
+plus_none w = omega arith
+
+stride_is : (w b : ℕ) → b < w + object_stride → b < w + 7141
+stride_is w b high = omega (arith, high, object-stride)
+
+-- a place of an object that stands behind the top of an object and before its end is one of that object
+of_top : (n o t : ℕ) → t < 7141 → walk_index_of_object n < walk_index_of_object o + t → walk_index_of_object o + t < walk_index_of_object n + object_stride → (o ≡ n) × (t ≡ walk_index_of_object o + t - walk_index_of_object n)
+of_top n o t inside after before =
+    same-object o n t (walk_index_of_object o + t - walk_index_of_object n) inside
+    (small_difference (walk_index_of_object n) (walk_index_of_object o + t) 7141 after (stride_is (walk_index_of_object n) (walk_index_of_object o + t) before))
+    (difference (walk_index_of_object n) (walk_index_of_object o + t) after)
+
+moved : {a b : ℕ} (v : ℕ) → a ≡ b → v < a → v < b
+moved v same low = omega (arith, same, low)
+
+moved_up : {a b : ℕ} (v : ℕ) → a ≡ b → a < v → b < v
+moved_up v same low = omega (arith, same, low)
 
 -- what stands in the walk after a place and before the index behind it lies below it
 pub below_place : (upper lower : Place) → IsPlace upper → IsPlace lower → walk_index_of upper < walk_index_of lower → walk_index_of lower < walk_index_after upper → LiesBelow upper lower
 below_place Root Root hu hl after before = omega (arith, after)
 below_place Root (Directory d) hu hl after before = tt
-below_place Root (Indirect n) hu hl after before = tt
-below_place Root (Data n r) hu hl after before = tt
+below_place Root (Top n) hu hl after before = tt
+below_place Root (Indirect m) hu hl after before = tt
+below_place Root (Data m k) hu hl after before = tt
 below_place (Directory d) Root hu hl after before = omega (arith, after)
-below_place (Directory d) (Directory e) hu hl after before = omega (arith, after, before)
-below_place (Directory d) (Indirect n) hu hl after before = omega (arith, after, before)
-below_place (Directory d) (Data n r) hu hl after before = omega (arith, after, before, hl.1)
+below_place (Directory d) (Directory e) hu hl after before = no_directory_between (index-directory d) (index-directory e) (index-directory (d + 1)) after before
+  where
+    no_directory_between : {u v w : ℕ} → u ≡ 1 + 449884 * d → v ≡ 1 + 449884 * e → w ≡ 1 + 449884 * (d + 1) → u < v → v < w → ⊥
+    no_directory_between first second third low high = omega (arith, first, second, third, low, high)
+below_place (Directory d) (Top n) hu hl after before =
+    of_directory d n 0 (omega arith) (moved (directory_index d) (plus_none (walk_index_of_object n)) after) (moved_up (directory_index (d + 1)) (plus_none (walk_index_of_object n)) before)
+below_place (Directory d) (Indirect m) hu hl after before =
+    of_directory d (object_of_indirect m) (1 + 85 * strip_of m) (at_indirect m hl) (moved (directory_index d) (from_indirect m) after) (moved_up (directory_index (d + 1)) (from_indirect m) before)
+below_place (Directory d) (Data m k) hu hl after before =
+    of_directory d (object_of_indirect m) (1 + 85 * strip_of m + (1 + k)) (in_object m k hl.0 hl.1) (moved (directory_index d) (from_object m k) after) (moved_up (directory_index (d + 1)) (from_object m k) before)
+below_place (Top n) Root hu hl after before = omega (arith, after)
+below_place (Top n) (Directory e) hu hl after before =
+    no_directory-object e n (directory_index e - walk_index_of_object n)
+    (small_difference (walk_index_of_object n) (directory_index e) 7141 after (stride_is (walk_index_of_object n) (directory_index e) before)) (difference (walk_index_of_object n) (directory_index e) after)
+below_place (Top n) (Top o) hu hl after before =
+    let t = of_top n o 0 (omega arith) (moved (walk_index_of_object n) (plus_none (walk_index_of_object o)) after) (moved_up (walk_index_of_object n + object_stride) (plus_none (walk_index_of_object o)) before) in
+    some_difference (walk_index_of_object n) (walk_index_of_object o + 0) (moved (walk_index_of_object n) (plus_none (walk_index_of_object o)) after) t.1
+below_place (Top n) (Indirect m) hu hl after before =
+    (of_top n (object_of_indirect m) (1 + 85 * strip_of m) (at_indirect m hl) (moved (walk_index_of_object n) (from_indirect m) after) (moved_up (walk_index_of_object n + object_stride) (from_indirect m) before)).0
+below_place (Top n) (Data m k) hu hl after before =
+    (of_top n (object_of_indirect m) (1 + 85 * strip_of m + (1 + k)) (in_object m k hl.0 hl.1) (moved (walk_index_of_object n) (from_object m k) after)
+    (moved_up (walk_index_of_object n + object_stride) (from_object m k) before)).0
 below_place (Indirect m) Root hu hl after before = omega (arith, after)
-below_place (Indirect m) (Directory e) hu hl after before = object_part (m / 63) (m % 63) e (omega arith) after before
-below_place (Indirect m) (Indirect n) hu hl after before =
-    let t : ℕ = walk_index_of_indirect n - walk_index_of_indirect m in
-    let e = same-object n m 0 t (omega arith) (omega (arith, after, before)) (omega (arith, after)) in
-    omega (arith, after, e.1)
-below_place (Indirect m) (Data n r) hu hl after before =
-    let t : ℕ = walk_index_of_indirect n + 1 + r - walk_index_of_indirect m in
-    (same-object n m (1 + r) t (omega (arith, hl.1)) (omega (arith, after, before)) (omega (arith, after))).0
-below_place (Data m k) lower hu hl after before = omega (arith, after, before)
+below_place (Indirect m) (Directory e) hu hl after before =
+    no_directory-strip e m (directory_index e - walk_index_of_indirect m) hu (small_difference (walk_index_of_indirect m) (directory_index e) 85 after before) (difference (walk_index_of_indirect m) (directory_index e) after)
+below_place (Indirect m) (Top n) hu hl after before =
+    no_top-strip n m (walk_index_of_object n - walk_index_of_indirect m) hu (small_difference (walk_index_of_indirect m) (walk_index_of_object n) 85 after before)
+    (difference (walk_index_of_indirect m) (walk_index_of_object n) after)
+below_place (Indirect m) (Indirect i) hu hl after before =
+    let w : ℕ = walk_index_of_indirect m in
+    let t = same-strip i m 0 (walk_index_of_indirect i - w) hl hu (omega arith) (small_difference w (walk_index_of_indirect i) 85 after before)
+    (sym (plus_none (walk_index_of_indirect i)) ∙ difference w (walk_index_of_indirect i) after) in
+    some_difference w (walk_index_of_indirect i) after t.1
+below_place (Indirect m) (Data i k) hu hl after before =
+    let w : ℕ = walk_index_of_indirect m in
+    let low : 1 + k < 85 = omega (arith, hl.1) in
+    (same-strip i m (1 + k) (walk_index_of_indirect i + 1 + k - w) hl.0 hu low (small_difference w (walk_index_of_indirect i + 1 + k) 85 after before)
+    (regroup (walk_index_of_indirect i) k ∙ difference w (walk_index_of_indirect i + 1 + k) after)).0
+  where
+    regroup : (v k : ℕ) → v + (1 + k) ≡ v + 1 + k
+    regroup v k = omega arith
+below_place (Data m k) lower hu hl after before = none_between (walk_index_of_indirect m + 1 + k) (walk_index_of lower) after before
 
 -- what lies below a place stands behind it in the walk
+above : (d n t : ℕ) → n / entry_count ≡ d → directory_index d < walk_index_of_object n + t
+above d n t is = by (index-directory d) (index-object n)
+  where
+    by : {v w : ℕ} → v ≡ 1 + 449884 * d → w ≡ 2 + 449884 * (n / 63) + 7141 * (n % 63) → v < w + t
+    by first second = omega (arith, first, second, is)
+
+above_strip : (n o s : ℕ) → o ≡ n → walk_index_of_object n < walk_index_of_object o + 1 + s
+above_strip n o s is = rw is (more (walk_index_of_object n) s)
+  where
+    more : (w s : ℕ) → w < w + 1 + s
+    more w s = omega arith
+
+above_record : (m i k : ℕ) → i ≡ m → walk_index_of_indirect m < walk_index_of_indirect i + 1 + k
+above_record m i k is = rw is (more (walk_index_of_indirect m) k)
+  where
+    more : (w s : ℕ) → w < w + 1 + s
+    more w s = omega arith
+
+further : (v w j k : ℕ) → v < w + 1 + 85 * j → v < w + 1 + 85 * j + 1 + k
+further v w j k low = omega (arith, low)
+
 pub behind_upper : (upper lower : Place) → LiesBelow upper lower → walk_index_of upper < walk_index_of lower
 behind_upper Root Root below = absurd below
 behind_upper Root (Directory d) below = omega arith
-behind_upper Root (Indirect n) below = omega arith
-behind_upper Root (Data n r) below = omega arith
+behind_upper Root (Top n) below = omega arith
+behind_upper Root (Indirect m) below = omega arith
+behind_upper Root (Data m k) below = omega arith
 behind_upper (Directory d) Root below = absurd below
 behind_upper (Directory d) (Directory e) below = absurd below
-behind_upper (Directory d) (Indirect n) below = omega (arith, below)
-behind_upper (Directory d) (Data n r) below = omega (arith, below)
+behind_upper (Directory d) (Top n) below = moved (directory_index d) (sym (plus_none (walk_index_of_object n))) (above d n 0 below)
+behind_upper (Directory d) (Indirect m) below = moved (directory_index d) (sym (from_indirect m)) (above d (object_of_indirect m) (1 + 85 * strip_of m) below)
+behind_upper (Directory d) (Data m k) below = moved (directory_index d) (sym (from_object m k)) (above d (object_of_indirect m) (1 + 85 * strip_of m + (1 + k)) below)
+behind_upper (Top n) Root below = absurd below
+behind_upper (Top n) (Directory e) below = absurd below
+behind_upper (Top n) (Top o) below = absurd below
+behind_upper (Top n) (Indirect m) below = above_strip n (object_of_indirect m) (85 * strip_of m) below
+behind_upper (Top n) (Data m k) below =
+    further (walk_index_of_object n) (walk_index_of_object (object_of_indirect m)) (strip_of m) k (above_strip n (object_of_indirect m) (85 * strip_of m) below)
 behind_upper (Indirect m) Root below = absurd below
 behind_upper (Indirect m) (Directory e) below = absurd below
-behind_upper (Indirect m) (Indirect n) below = absurd below
-behind_upper (Indirect m) (Data n r) below = rw below (omega arith)
+behind_upper (Indirect m) (Top n) below = absurd below
+behind_upper (Indirect m) (Indirect i) below = absurd below
+behind_upper (Indirect m) (Data i k) below = above_record m i k below
 behind_upper (Data m k) lower below = absurd below
 
 -- each place stands before the end of the walk
+before_end : (n t : ℕ) → n < object_count → t < 7141 → walk_index_of_object n + t < directory_index pointer_count
+before_end n t low inside = by (index-object n) (index-directory 84)
+  where
+    by : {v w : ℕ} → v ≡ 2 + 449884 * (n / 63) + 7141 * (n % 63) → w ≡ 1 + 449884 * 84 → v + t < w
+    by first second = omega (arith, first, second, low, inside)
+
 pub within_walk : (place : Place) → IsPlace place → walk_index_of place < directory_index pointer_count
 within_walk Root h = omega arith
-within_walk (Directory d) h = omega (arith, h)
-within_walk (Indirect n) h = omega (arith, h)
-within_walk (Data n r) h = omega (arith, h.0, h.1)
+within_walk (Directory d) h = by (index-directory d) (index-directory 84)
+  where
+    by : {v w : ℕ} → v ≡ 1 + 449884 * d → w ≡ 1 + 449884 * 84 → v < w
+    by first second = omega (arith, first, second, h)
+within_walk (Top n) h = moved_up (directory_index 84) (sym (plus_none (walk_index_of_object n))) (before_end n 0 h (omega arith))
+within_walk (Indirect m) h = moved_up (directory_index 84) (sym (from_indirect m)) (before_end (object_of_indirect m) (1 + 85 * strip_of m) (number-object m) (at_indirect m h))
+within_walk (Data m k) h = moved_up (directory_index 84) (sym (from_object m k)) (before_end (object_of_indirect m) (1 + 85 * strip_of m + (1 + k)) (number-object m) (in_object m k h.0 h.1))
 
 -- one part of the walk after another
 rising_more : (start middle end : ℕ) (xs ys : List Place) → StandRising start xs middle → StandRising middle ys end → StandRising start (xs ++ ys) end
@@ -189,52 +338,53 @@ formless_added image frame root place start end pointer payload e old new in_ran
     (same-kind (kind_of place) pointer.address told.0 told.1 d) (same-address (kind_of place) pointer.address told.0 told.1 d)))
 
 -- a record whose padding is not zeros is the damage that is added
-pub record_added : (image : List ℕ) (frame : Frame) (root : Pointer) (n r size count : ℕ) (pointer : Pointer) (payload : List ℕ) (e : PoolError) (old new : List BlockDamage) → n < object_count → r < pointer_count
-    → IsDataOf image root n r pointer size → Opens image frame 5 (pointer_count * n + r) pointer payload → length payload ≡ 4032 → count ≡ min (size - record_size * r) 4032
+pub record_added : (image : List ℕ) (frame : Frame) (root : Pointer) (m k size count : ℕ) (pointer : Pointer) (payload : List ℕ) (e : PoolError) (old new : List BlockDamage) → m < indirect_count → k < pointer_count
+    → IsDataOf image root m k pointer size → Opens image frame 5 (pointer_count * m + k) pointer payload → length payload ≡ 4032 → count ≡ min (size - record_start m k) 4032
     → (drop count payload ≡ replicate (length (drop count payload)) 0 → ⊥) → e ≡ Damaged 5 pointer.address → AddsTold e old new
-    → AddsDamages image frame root (walk_index_of (Data n r)) (walk_index_of (Data n r) + 1) old new
-record_added image frame root n r size count pointer payload e old new hn hr named_by opens long is not error told =
-    let past : length_in image root n - record_size * r ≡ size - record_size * r = ap (λ (k : ℕ). k - record_size * r) named_by.size_is in
-    formless_added image frame root (Data n r) (walk_index_of (Data n r)) (walk_index_of (Data n r) + 1) pointer payload e old new (hn, hr) refl refl named_by.at named_by.there opens
-    (λ formed. not (padded-back payload (size - record_size * r) count long is (subst (λ (k : ℕ). drop k payload ≡ replicate (record_size - k) 0) past formed)))
+    → AddsDamages image frame root (walk_index_of (Data m k)) (walk_index_of (Data m k) + 1) old new
+record_added image frame root m k size count pointer payload e old new hm hk named_by opens long is not error told =
+    let past : length_in image root (object_of_indirect m) - record_start m k ≡ size - record_start m k = ap (λ (s : ℕ). s - record_start m k) named_by.size_is in
+    formless_added image frame root (Data m k) (walk_index_of (Data m k)) (walk_index_of (Data m k) + 1) pointer payload e old new (hm, hk) refl refl named_by.at named_by.there opens
+    (λ formed. not (padded-back payload (size - record_start m k) count long is (subst (λ (s : ℕ). drop s payload ≡ replicate (record_size - s) 0) past formed)))
     error told
+
+next_object : (s k : ℕ) → s + 7141 * k + 7141 ≡ s + 7141 * (k + 1)
+next_object s k = omega arith
 
 -- one object more, by its index in the walk
 pub object_added : (image : List ℕ) (frame : Frame) (root : Pointer) (d k : ℕ) (old between new : List BlockDamage) → k < entry_count
-    → AddsDamages image frame root (2 + 5356 * d) (2 + 5356 * d + 85 * k) old between
-    → AddsDamages image frame root (walk_index_of_indirect (entry_count * d + k)) (walk_index_of_indirect (entry_count * d + k) + 85) between new
-    → AddsDamages image frame root (2 + 5356 * d) (2 + 5356 * d + 85 * (k + 1)) old new
+    → AddsDamages image frame root (objects_index d) (objects_index d + 7141 * k) old between
+    → AddsDamages image frame root (walk_index_of_object (entry_count * d + k)) (walk_index_of_object (entry_count * d + k) + object_stride) between new
+    → AddsDamages image frame root (objects_index d) (objects_index d + 7141 * (k + 1)) old new
 object_added image frame root d k old between new low first second =
     let here = index_within d k low in
-    let last : walk_index_of_indirect (entry_count * d + k) + 85 ≡ 2 + 5356 * d + 85 * (k + 1) = omega (arith, here) in
-    damages_then image frame root (2 + 5356 * d) (2 + 5356 * d + 85 * k) (walk_index_of_indirect (entry_count * d + k)) (walk_index_of_indirect (entry_count * d + k) + 85)
-    (2 + 5356 * d + 85 * (k + 1)) old between new (sym here) last first second
+    damages_then image frame root (objects_index d) (objects_index d + 7141 * k) (walk_index_of_object (entry_count * d + k)) (walk_index_of_object (entry_count * d + k) + object_stride)
+    (objects_index d + 7141 * (k + 1)) old between new (sym here)
+    (ap (λ (s : ℕ). walk_index_of_object (entry_count * d + k) + s) object-stride ∙ ap (λ (v : ℕ). v + 7141) here ∙ next_object (objects_index d) k) first second
 
--- one object more, which is not there
-pub absent_added : (image : List ℕ) (frame : Frame) (root : Pointer) (d k : ℕ) (payload : List ℕ) (old new : List BlockDamage) → d < pointer_count → k < entry_count → IsPayloadOf image frame root d payload
-    → entry_in payload k ≡ replicate 64 0 → AddsDamages image frame root (2 + 5356 * d) (2 + 5356 * d + 85 * k) old new → AddsDamages image frame root (2 + 5356 * d) (2 + 5356 * d + 85 * (k + 1)) old new
-absent_added image frame root d k payload old new hd hk p absent first =
-    let n : ℕ = entry_count * d + k in
-    object_added image frame root d k old new new hk first
-    (no_damages image frame root (walk_index_of_indirect n) (walk_index_of_indirect n + 85) new (omega arith)
-    (object_none image frame root n (omega (arith, hd, hk)) ((entry_linked image frame root d k payload hk p).at ∙ ap entry_pointer absent ∙ no_entry_pointer)))
+-- a sound part of the walk after what is listed
+pub sound_added : (image : List ℕ) (frame : Frame) (root : Pointer) (start middle end : ℕ) (old new : List BlockDamage) → middle ≤ end → AddsDamages image frame root start middle old new
+    → AreSound image frame root middle end → AddsDamages image frame root start end old new
+sound_added image frame root start middle end old new low first sound = damages_more image frame root start middle end old new new first (no_damages image frame root middle end new low sound)
 
--- one directory more, which is not there
-pub directory_absent : (image : List ℕ) (frame : Frame) (root : Pointer) (d : ℕ) (old new : List BlockDamage) → d < pointer_count → pointer_of image root (Directory d) ≡ no_pointer
-    → AddsDamages image frame root 1 (1 + 5356 * d) old new → AddsDamages image frame root 1 (1 + 5356 * (d + 1)) old new
-directory_absent image frame root d old new low none first =
-    let end : 2 + 5356 * d + 85 * 63 ≡ 1 + 5356 * (d + 1) = omega arith in
-    damages_more image frame root 1 (1 + 5356 * d) (1 + 5356 * (d + 1)) old new new first
-    (no_damages image frame root (1 + 5356 * d) (1 + 5356 * (d + 1)) new (omega arith)
-    (directory_sound image frame root d low (inl none)
-    (subst (λ (i : ℕ). AreSound image frame root (2 + 5356 * d) i) end (objects_none image frame root d low none 63 (omega arith)))))
+-- and before it
+pub sound_before : (image : List ℕ) (frame : Frame) (root : Pointer) (start middle end : ℕ) (old new : List BlockDamage) → start ≤ middle → AreSound image frame root start middle
+    → AddsDamages image frame root middle end old new → AddsDamages image frame root start end old new
+sound_before image frame root start middle end old new low sound last = damages_more image frame root start middle end old old new (no_damages image frame root start middle old low sound) last
 
 -- a tree with no root has no block
+none-strip : (image : List ℕ) (m : ℕ) → pointer_of image no_pointer (Indirect m) ≡ no_pointer
+none-strip image m = elim (cases_eq (strip_of m) 0) as (λ _. pointer_of image no_pointer (Indirect m) ≡ no_pointer) [
+  | inl first ↦ indirect-first image no_pointer m (λ two. absurd (omega (arith, two))) first
+  | inr later ↦ indirect-later image no_pointer m (λ two. absurd (omega (arith, two))) later
+]
+
 none-below : (image : List ℕ) (place : Place) → pointer_of image no_pointer place ≡ no_pointer
 none-below image Root = refl
 none-below image (Directory d) = refl
-none-below image (Indirect n) = refl
-none-below image (Data n r) = refl
+none-below image (Top n) = refl
+none-below image (Indirect m) = none-strip image m
+none-below image (Data m k) = ap (λ (above : Pointer). pointer_below image above (λ (l : List ℕ). pointer_in l k)) (none-strip image m)
 
 pub no_tree_sound : (image : List ℕ) (frame : Frame) (root : Pointer) (end : ℕ) → root ≡ no_pointer → AreSound image frame root 0 end
 no_tree_sound image frame root end none = record {
@@ -300,8 +450,9 @@ damaged_listed image frame root list lists place in_range bad sound_above = go (
 pub above_directory : (d : ℕ) (upper : Place) → LiesBelow upper (Directory d) → upper ≡ Root
 above_directory d Root below = refl
 above_directory d (Directory e) below = absurd below
-above_directory d (Indirect n) below = absurd below
-above_directory d (Data n r) below = absurd below
+above_directory d (Top n) below = absurd below
+above_directory d (Indirect m) below = absurd below
+above_directory d (Data m k) below = absurd below
 
 -- places that stand rising come from the first index on
 risen : (start end : ℕ) (xs : List Place) (x : Place) → StandRising start xs end → Contains xs x → start ≤ walk_index_of x
@@ -342,8 +493,9 @@ first_listed image frame root list lists d rest is = go lists.places lists.damag
 above_root : (upper : Place) → LiesBelow upper Root → ⊥
 above_root Root below = below
 above_root (Directory d) below = below
-above_root (Indirect n) below = below
-above_root (Data n r) below = below
+above_root (Top n) below = below
+above_root (Indirect m) below = below
+above_root (Data m k) below = below
 
 -- a damaged root is listed alone
 pub root_alone : (image : List ℕ) (frame : Frame) (root : Pointer) (list : List BlockDamage) → ListsDamages image frame root list → (IsSoundAt image frame root Root → ⊥)
@@ -368,7 +520,32 @@ root_alone image frame root list lists bad = go lists.places lists.damaged lists
         let least = behind_itself p in
         absurd (omega (arith, after, least))
 
--- this pointer is to record r of an object, by the payload of its indirect block
-pub data_in : (image : List ℕ) (root : Pointer) (n r size : ℕ) (payload : List ℕ) (pointer : Pointer) → r < pointer_count → HasDataOf image root n size payload → pointer ≡ pointer_in payload r
-    → (pointer ≡ no_pointer → ⊥) → IsDataOf image root n r pointer size
-data_in image root n r size payload pointer low all read there = record { at = all.at r low ∙ sym read; there = there; size_is = all.size_is }
+next_strip : (w j : ℕ) → w + 1 + 85 * (j + 1) ≡ w + 1 + 85 * j + 85
+next_strip w j = omega arith
+
+-- one strip more of an object
+pub strip_added : (image : List ℕ) (frame : Frame) (root : Pointer) (n j : ℕ) (old between new : List BlockDamage) → n < object_count
+    → AddsDamages image frame root (walk_index_of_object n + 1) (walk_index_of_object n + 1 + 85 * j) old between
+    → AddsDamages image frame root (walk_index_of_indirect (strip_number n j)) (walk_index_of_indirect (strip_number n j) + 85) between new
+    → AddsDamages image frame root (walk_index_of_object n + 1) (walk_index_of_object n + 1 + 85 * (j + 1)) old new
+strip_added image frame root n j old between new low first second =
+    let w : ℕ = walk_index_of_object n in
+    let at = index_of_strip n j low in
+    damages_then image frame root (w + 1) (w + 1 + 85 * j) (walk_index_of_indirect (strip_number n j)) (walk_index_of_indirect (strip_number n j) + 85) (w + 1 + 85 * (j + 1)) old between new (sym at)
+    (ap (λ (v : ℕ). v + 85) at ∙ sym (next_strip w j)) first second
+
+whole_object : (w : ℕ) → w + 1 + 85 ≤ w + 7141
+whole_object w = omega arith
+
+le_next : (w : ℕ) → w ≤ w + 1
+le_next w = omega arith
+
+-- the damages of an object of one level are those of its first strip
+pub short_added : (image : List ℕ) (frame : Frame) (root : Pointer) (n : ℕ) (old new : List BlockDamage) → n < object_count → levels_in image root n ≢ 2
+    → AddsDamages image frame root (walk_index_of_indirect n) (walk_index_of_indirect n + 85) old new → AddsDamages image frame root (walk_index_of_object n) (walk_index_of_object n + object_stride) old new
+short_added image frame root n old new low one strip =
+    let w : ℕ = walk_index_of_object n in
+    let at = first_index image root n low in
+    sound_before image frame root w (w + 1) (w + object_stride) old new (le_next w) (sound_one image frame root (Top n) w (w + 1) low refl refl (inl (no_top image frame root n one)))
+    (sound_added image frame root (w + 1) (w + 1 + 85) (w + object_stride) old new (subst (λ (s : ℕ). w + 1 + 85 ≤ w + s) (sym object-stride) (whole_object w))
+    (subst (λ (v : ℕ). AddsDamages image frame root v (v + 85) old new) at strip) (short_rest image frame root n low one))

@@ -1,14 +1,17 @@
 -- Entries of a directory's payload.
-use Rattle.std.proofs.Common.{◌≡◌, ℕ, ◌+◌, ◌-◌, ◌*◌, ◌<◌, ◌≤◌, List, ◌++◌, length, take, drop, replicate, get_or, refl, ap, sym, ◌∙◌, arith, ◌≢◌, ◌⊎◌, inl, inr, true, false}
+use Rattle.std.proofs.Common.{◌≡◌, ℕ, ◌+◌, ◌-◌, ◌*◌, ◌<◌, ◌≤◌, List, ◌++◌, length, take, drop, replicate, get_or, refl, ap, sym, subst, ◌∙◌, arith, ◌≢◌, ◌⊎◌, inl, inr, true, false}
 use Rattle.std.specs.List.{All}
 use Rattle.std.specs.Int.{from_le_bytes, w64}
 use Rattle.std.proofs.lemmas.List.{drop-drop, drop-take, take-take}
 use Rattle.std.proofs.lemmas.List.Elements.{All-from_get_or}
 use Rattle.base.specs.declared.pointer.Pointer.{Pointer}
 use Rattle.base.specs.formats.Fields.{part, number_at, number_bytes, pointer_at, entry_in, entry_present, entry_length, entry_pointer, no_pointer}
-use Rattle.base.specs.formats.Limits.{max_length}
-use Rattle.base.specs.tree.Damages.{IsPointerForm, IsOneLevelForm}
+use Rattle.base.specs.formats.Limits.{max_length, one_level_length}
+use Rattle.base.specs.formats.Blocks.{Frame}
+use Rattle.base.specs.tree.Damages.{IsEntryForm, IsOneLevelForm, IsPointerForm}
 use Rattle.checked_blocks.proofs.Placed.{number_bytes-number_at}
+use Rattle.object_maps.specs.declared.forms.Entry.{Entry}
+use Rattle.object_maps.specs.Loaders.{IsEntryOf}
 use Rattle.object_maps.proofs.Records.{part-split}
 
 -- a part of a part
@@ -79,15 +82,18 @@ no_entry : entry_present (replicate 64 0) ≡ 0
 unfolding number_at
 no_entry = refl
 
--- an entry that is not present is all zeros
-pub entry_absent : (entry : List ℕ) → IsOneLevelForm entry → entry_present entry ≢ 1 → entry ≡ replicate 64 0
-entry_absent entry (inl zeros) not = zeros
-entry_absent entry (inr form) not = absurd (not form.0)
+-- an entry in its form that is not present is all zeros
+pub entry_absent : (frame : Frame) (entry : List ℕ) → IsEntryForm frame entry → entry_present entry ≡ 0 → entry ≡ replicate 64 0
+entry_absent frame entry (inl (inl zeros)) none = zeros
+entry_absent frame entry (inl (inr form)) none = let one = form.0 in absurd (omega (arith, one, none))
+entry_absent frame entry (inr (later, form)) none = let two = form.0 in absurd (omega (arith, two, none))
 
--- an entry that is present has a length within the limit
-pub entry_short : (entry : List ℕ) → IsOneLevelForm entry → entry_present entry ≡ 1 → entry_length entry ≤ max_length
-entry_short entry (inl zeros) is = let e : entry_present entry ≡ 0 = ap entry_present zeros ∙ no_entry in absurd (omega (arith, e, is))
-entry_short entry (inr form) is = form.1
+-- and one that is present says its levels and its length
+pub entry_there : (frame : Frame) (entry : List ℕ) (e : Entry) → IsEntryForm frame entry → e.present ≡ entry_present entry → e.length ≡ entry_length entry → (e.present ≡ 0 → ⊥) → IsEntryOf frame e
+entry_there frame entry e (inl (inl zeros)) present size some = absurd (some (present ∙ ap entry_present zeros ∙ no_entry))
+entry_there frame entry e (inl (inr form)) present size some = inl (present ∙ form.0, subst (λ (s : ℕ). s ≤ one_level_length) (sym size) form.1)
+entry_there frame entry e (inr (later, form)) present size some =
+    inr (later, present ∙ form.0, subst (λ (s : ℕ). one_level_length < s) (sym size) form.1, subst (λ (s : ℕ). s ≤ max_length) (sym size) form.2)
 
 no_entry_pointer : entry_pointer (replicate 64 0) ≡ no_pointer
 unfolding number_at
@@ -97,23 +103,31 @@ no_entry_length : entry_length (replicate 64 0) ≡ 0
 unfolding number_at
 no_entry_length = refl
 
--- an entry in its form that is not present has no length and no pointer
+-- an entry of one level that is not present has no length and no pointer
 pub absent_fields : (entry : List ℕ) (present : ℕ) → IsOneLevelForm entry → present ≡ entry_present entry → present ≢ 1
     → (present ≡ 0) × ((entry_length entry ≡ 0) × (entry_pointer entry ≡ no_pointer))
-absent_fields entry present form is not =
-    let zeros = entry_absent entry form (λ e. not (is ∙ e)) in
-    (is ∙ ap entry_present zeros ∙ no_entry, (ap entry_length zeros ∙ no_entry_length, ap entry_pointer zeros ∙ no_entry_pointer))
+absent_fields entry present (inl zeros) is not = (is ∙ ap entry_present zeros ∙ no_entry, (ap entry_length zeros ∙ no_entry_length, ap entry_pointer zeros ∙ no_entry_pointer))
+absent_fields entry present (inr form) is not = absurd (not (is ∙ form.0))
 
 -- and one that is present has a length and a pointer within their limits
 pub present_fields : (entry : List ℕ) (present : ℕ) → IsOneLevelForm entry → present ≡ entry_present entry → present ≡ 1
-    → (entry_length entry ≤ max_length) × IsPointerForm (entry_pointer entry)
+    → (entry_length entry ≤ one_level_length) × IsPointerForm (entry_pointer entry)
 present_fields entry present (inl zeros) is one = let e : entry_present entry ≡ 0 = ap entry_present zeros ∙ no_entry in absurd (omega (arith, e, is, one))
 present_fields entry present (inr form) is one = (form.1, form.2)
 
 pub not_true : false ≡ true → ⊥
 not_true e = cc
 
--- an entry in its form is present or not
+-- an entry of one level is present or not
 pub present_or_not : (entry : List ℕ) (present : ℕ) → IsOneLevelForm entry → present ≡ entry_present entry → (present ≡ 0) ⊎ (present ≡ 1)
 present_or_not entry present (inl zeros) is = inl (is ∙ ap entry_present zeros ∙ no_entry)
 present_or_not entry present (inr form) is = inr (is ∙ form.0)
+
+-- the length of an object that is there, by its levels
+pub long_entry : (frame : Frame) (e : Entry) → IsEntryOf frame e → e.present ≡ 2 → (one_level_length < e.length) × (e.length ≤ max_length)
+long_entry frame e (inl (one, short)) two = absurd (omega (arith, one, two))
+long_entry frame e (inr (later, two, long, most)) is = (long, most)
+
+pub short_entry : (frame : Frame) (e : Entry) → IsEntryOf frame e → (e.present ≡ 2 → ⊥) → e.length ≤ one_level_length
+short_entry frame e (inl (one, short)) other = short
+short_entry frame e (inr (later, two, long, most)) other = absurd (other two)

@@ -12,10 +12,11 @@ use Rattle.base.specs.formats.Blocks.{Frame, payload_at}
 use Rattle.base.specs.tree.Damages.{IsFirstDamage, IsSoundAt}
 use Rattle.base.specs.tree.PlacedTrees.{HoldsTree, padded_record}
 use Rattle.base.specs.tree.Places.{Place, IsPlace, directory_pointer, kind_of, pointer_of, walk_index_of}
-use Rattle.base.specs.tree.Places.Place.{Root, Directory, Indirect, Data}
+use Rattle.base.specs.tree.Places.Place.{Root, Directory, Top, Indirect, Data}
 use Rattle.base.specs.tree.Tree.{IsEntry, IsRecord, IsTree}
 use Rattle.base.proofs.tree.PlacedTrees.{holds-tree, pointers-told}
 use Rattle.base.proofs.tree.SoundTrees.{directory-at, sound}
+use Rattle.base.proofs.tree.Strips.{first-low}
 use Rattle.object_maps.specs.Loading.{IsLoadRefusal}
 
 zeros-present : entry_present (replicate 64 0) ≡ 0
@@ -26,16 +27,18 @@ zeros-present = refl
 zeros-absent : (image : List ℕ) (frame : Frame) (n : ℕ) (entry : List ℕ) (o : Option (List ℕ)) → IsEntry image frame n entry o → entry ≡ replicate 64 0 → o ≡ None
 zeros-absent image frame n entry None h zeros = refl
 zeros-absent image frame n entry (Some bytes) h zeros =
-    let one : entry_present entry ≡ 1 = h.0 in
     let none : entry_present entry ≡ 0 = ap entry_present zeros ∙ zeros-present in
-    absurd (omega arith)
+    elim (h.1) as (λ _. Some bytes ≡ None) [
+      | inl one ↦ (let is = one.0 in absurd (omega (arith, none, is)))
+      | inr two ↦ (let is = (two.1).0 in absurd (omega (arith, none, is)))
+    ]
 
 length-entry : (image : List ℕ) (frame : Frame) (n size : ℕ) (entry : List ℕ) (o : Option (List ℕ)) → IsEntry image frame n entry o → entry_present entry ≡ 1 → entry_length entry ≡ size
     → option_map length o ≡ Some size
 length-entry image frame n size entry None zeros one is =
     let none : entry_present entry ≡ 0 = ap entry_present zeros ∙ zeros-present in
     absurd (omega arith)
-length-entry image frame n size entry (Some bytes) h one is = ap Some (sym h.1 ∙ is)
+length-entry image frame n size entry (Some bytes) h one is = ap Some (sym h.0 ∙ is)
 
 record-held : (image : List ℕ) (frame : Frame) (pointer : Pointer) (o : Option (List ℕ)) → pointer ≢ no_pointer
     → IfSome o (λ bytes. IsRecord image frame 7 1 pointer bytes) → IfSome o (λ bytes. padded_record 1 bytes ≡ payload_at image pointer.address)
@@ -71,9 +74,9 @@ module _ (image : List ℕ) (frame : Frame) (pointers : Place → Pointer) (obje
       → IfSome (map.get objects 7) (λ bytes. padded_record 1 bytes ≡ payload_at image (pointer_of image root (Data 7 1)).address)
   record-in_place there =
       let told : pointer_of image root (Data 7 1) ≡ pointers (Data 7 1) =
-      ap (λ (p : Pointer). pointer_of image p (Data 7 1)) (sym is_root) ∙ pointers-told image frame pointers objects holds (Data 7 1) (omega arith, omega arith) in
+      ap (λ (p : Pointer). pointer_of image p (Data 7 1)) (sym is_root) ∙ pointers-told image frame pointers objects holds (Data 7 1) (first-low 7 (omega arith), omega arith) in
       record-held image frame (pointer_of image root (Data 7 1)) (map.get objects 7) there
-      (subst (λ (p : Pointer). IfSome (map.get objects 7) (λ bytes. IsRecord image frame 7 1 p bytes)) (sym told) (holds.each (Data 7 1) (omega arith, omega arith)))
+      (subst (λ (p : Pointer). IfSome (map.get objects 7) (λ bytes. IsRecord image frame 7 1 p bytes)) (sym told) (holds.each (Data 7 1) (first-low 7 (omega arith), omega arith)))
 
 -- if the root is not sound, it is the first damage
 at-root : (image : List ℕ) (frame : Frame) (root : Pointer) (place : Place) → (IsSoundAt image frame root Root → ⊥)
@@ -81,6 +84,7 @@ at-root : (image : List ℕ) (frame : Frame) (root : Pointer) (place : Place) �
     → (kind address : ℕ) → kind_of place ≡ kind → (pointer_of image root place).address ≡ address → (2 ≡ kind) × (root.address ≡ address)
 at-root image frame root Root damaged before kind address is_kind is_address = (is_kind, is_address)
 at-root image frame root (Directory d) damaged before kind address is_kind is_address = absurd (damaged (before Root tt (omega arith)))
+at-root image frame root (Top n) damaged before kind address is_kind is_address = absurd (damaged (before Root tt (omega arith)))
 at-root image frame root (Indirect n) damaged before kind address is_kind is_address = absurd (damaged (before Root tt (omega arith)))
 at-root image frame root (Data n r) damaged before kind address is_kind is_address = absurd (damaged (before Root tt (omega arith)))
 

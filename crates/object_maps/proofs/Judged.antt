@@ -24,11 +24,6 @@ use Rattle.object_maps.specs.Judging.{TellsAfter, with_name}
 use Rattle.object_maps.specs.Presence.{AreNoted, IsMade, IsMadeFor, is_present_after, is_present_after_all, is_there_noted}
 use Rattle.object_maps.specs.ContentsShown.{Apply}
 
--- what operations make of an object, by what those before the last make of it
-after_one_more : (n : ℕ) (ops : List Op) (op : Op) (present : Bool) → is_present_after_all n (ops ++ op ∷ []) present ≡ is_present_after n op (is_present_after_all n ops present)
-after_one_more n [] op present = refl
-after_one_more n (first ∷ ops) op present = after_one_more n ops op (is_present_after n first present)
-
 -- a front that is refused refuses the whole
 err_front : {A B : Type 0} (r : Result A PoolError) (f g : A → Result B PoolError) (e : PoolError)
     → ((a : A) → f a ≡ Err e → g a ≡ Err e) → and_then r f ≡ Err e → and_then r g ≡ Err e
@@ -102,14 +97,6 @@ tells_made before made objects n there are is = λ name.
     let now : Contents = with_name objects name in
     IfOk-from (apply_all before now) (λ (d : Contents). there ≡ is_some (finite.get d.objects n))
     (λ d h. is ∙ are (is_some (finite.get objects n)) ∙ sym (there_after before now d n h))
-
--- and one more operation
-pub made_more : (ops : List Op) (i n : ℕ) (op : Op) (made after : Presence) → i < length ops → op ≡ get_or ops i op → IsMade (take i ops) n made
-    → ((present : Bool) → is_there_noted after present ≡ is_present_after n op (is_there_noted made present)) → IsMade (take (i + 1) ops) n after
-made_more ops i n op made after low is are one = λ present.
-    one present ∙ ap (is_present_after n op) (are present)
-    ∙ sym (after_one_more n (take i ops) op present)
-    ∙ ap (λ (l : List Op). is_present_after_all n l present) (sym (take_more ops i op low ∙ ap (λ (x : Op). take i ops ++ x ∷ []) (sym is)))
 
 one_more : (before : List Op) (op : Op) (c d e : Contents) → apply_all before c ≡ Ok d → apply op d ≡ Ok e → Apply (before ++ op ∷ []) c
 one_more before op c d e h k = (e, apply-append before (op ∷ []) c d h ∙ joined (apply op d) (apply_all []) e e k refl)

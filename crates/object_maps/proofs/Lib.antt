@@ -2,13 +2,16 @@ pub mod ContentsShown
 pub mod Judged
 pub mod Records
 pub mod RisingObjects
-pub mod SetMaps
+pub mod SetEntries
 pub mod FreeBlocks
+pub mod TakenStrips
 pub mod PutObjects
 pub mod CachedBlocks
 pub mod CachedDisks
 pub mod LoadedBlocks
+pub mod ToldStrips
 pub mod LoadedRecords
+pub mod LoadedObjects
 pub mod LoadedEntries
 pub mod EntryForms
 pub mod LoadedTrees
@@ -19,4 +22,3 @@ pub mod DamageLists
 pub mod HeldTrees
 pub mod JudgedLists
 pub mod ObjectReads
-pub mod PointersRead

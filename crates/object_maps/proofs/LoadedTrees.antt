@@ -8,20 +8,21 @@ use Rattle.std.proofs.lemmas.List.{take_at, get_or-replicate, get_or_past, lengt
 use Rattle.std.proofs.lemmas.List.Elements.{All-head, All-tail}
 use Rattle.std.proofs.lemmas.Bool.{cases_lt}
 use Rattle.base.specs.declared.pointer.Pointer.{Pointer}
-use Rattle.base.specs.formats.Limits.{object_count, pointer_count, entry_count}
-use Rattle.base.specs.formats.Fields.{pointer_in, no_pointer}
+use Rattle.base.specs.formats.Limits.{object_count, indirect_count, pointer_count, entry_count}
+use Rattle.base.specs.formats.Fields.{entry_in, pointer_in, no_pointer}
 use Rattle.base.specs.formats.Geometry.{IsBlockAddress}
 use Rattle.base.specs.formats.Blocks.{Frame}
-use Rattle.base.specs.tree.Places.{Place, IsPlace}
-use Rattle.base.specs.tree.Places.Place.{Root, Directory, Indirect, Data}
-use Rattle.base.specs.tree.Tree.{OpensAt}
-use Rattle.base.specs.tree.PlacedTrees.{ArePlaced, StandsAt, HoldsTree}
+use Rattle.base.specs.tree.Places.{Place, IsPlace, object_of_indirect, strip_number, strip_of}
+use Rattle.base.specs.tree.Places.Place.{Root, Directory, Top, Indirect, Data}
+use Rattle.base.specs.tree.Tree.{IsRecord, OpensAt}
+use Rattle.base.specs.tree.PlacedTrees.{ArePlaced, HasNonePast, HoldsTree, IsEntryFor, NeedsNoTop, StandsAt}
+use Rattle.base.proofs.tree.Strips.{first-object, first-which, number-back, number-object, number-strip, strip-object, strip-which}
 use Rattle.object_maps.specs.declared.tree.ObjectEntry.{ObjectEntry}
-use Rattle.object_maps.specs.Pointers.{pointers_at, pointer_of_list, indirect_of, records_of}
+use Rattle.object_maps.specs.Pointers.{ObjectPointers, object_pointers, pointer_of_list, pointers_at}
 use Rattle.object_maps.specs.EmptyEntries.{IsEmptyEntry}
 use Rattle.object_maps.specs.Lengths.{length_in, HaveLengthsOf}
-use Rattle.object_maps.proofs.FreeBlocks.{kept_none}
-use Rattle.object_maps.specs.Loading.{IsLoadedAt, IsLimitedObject, IsObjectContent, AreEmptyFrom, DirectoryStands, AreLoadedDirectories, IsLoadedTree}
+use Rattle.object_maps.proofs.FreeBlocks.{none_of_empty}
+use Rattle.object_maps.specs.Loading.{AreEmptyFrom, AreLoadedDirectories, DirectoryStands, IndirectStands, IsLimitedObject, IsLoadedAt, IsLoadedTree, IsObjectContent, LevelsStand}
 use Rattle.object_maps.proofs.LoadedEntries.{no_directory}
 
 -- a tree with no root
@@ -55,13 +56,19 @@ object_loaded_at keeps image frame root directories objects maps t n low =
     let whole : entry_count * (n / entry_count) + n % entry_count ≡ n = omega arith in
     subst (λ (i : ℕ). IsLoadedAt keeps image frame objects maps i) whole ((t.each (n / entry_count) in_directory).each (n % entry_count) in_entries)
 
+strip_loaded_at : (keeps : Bool) (image : List ℕ) (frame : Frame) (root : Pointer) (directories : List Pointer) (objects : FinMap nat_cmp (List ℕ)) (maps : List ObjectEntry)
+    → IsLoadedTree keeps image frame root directories objects maps → (m : ℕ) → IsLoadedAt keeps image frame objects maps (object_of_indirect m)
+strip_loaded_at keeps image frame root directories objects maps t m = object_loaded_at keeps image frame root directories objects maps t (object_of_indirect m) (number-object m)
+
 -- its pointers are to blocks
 tree_placed : (keeps : Bool) (image : List ℕ) (frame : Frame) (root : Pointer) (directories : List Pointer) (objects : FinMap nat_cmp (List ℕ)) (maps : List ObjectEntry)
     → IsLoadedTree keeps image frame root directories objects maps → ArePlaced frame.blocks (pointers_at root directories maps)
 tree_placed keeps image frame root directories objects maps t Root there = t.placed
 tree_placed keeps image frame root directories objects maps t (Directory d) there = (t.each d there).placed
-tree_placed keeps image frame root directories objects maps t (Indirect n) there = (object_loaded_at keeps image frame root directories objects maps t n there).placed
-tree_placed keeps image frame root directories objects maps t (Data n r) there = (object_loaded_at keeps image frame root directories objects maps t n there.0).records_placed r there.1
+tree_placed keeps image frame root directories objects maps t (Top n) there = (object_loaded_at keeps image frame root directories objects maps t n there).placed
+tree_placed keeps image frame root directories objects maps t (Indirect m) there = (strip_loaded_at keeps image frame root directories objects maps t m).strips_placed (strip_of m) (number-strip m there)
+tree_placed keeps image frame root directories objects maps t (Data m k) there =
+    (strip_loaded_at keeps image frame root directories objects maps t m).records_placed (strip_of m) k (number-strip m there.0) there.1
 
 -- its objects are within their limits
 tree_bounded : (keeps : Bool) (image : List ℕ) (frame : Frame) (root : Pointer) (directories : List Pointer) (objects : FinMap nat_cmp (List ℕ)) (maps : List ObjectEntry)
@@ -81,37 +88,63 @@ tree_holds : (keeps : Bool) (image : List ℕ) (frame : Frame) (root : Pointer) 
     → IsLoadedTree keeps image frame root directories objects maps → IsTrue keeps → HoldsTree image frame (pointers_at root directories maps) objects
 tree_holds keeps image frame root directories objects maps t k = record { no_others = λ n past. (t.rest.each n past).object; each = stands }
   where
-    at_directory : (d : ℕ) → DirectoryStands image frame d (pointer_of_list directories d) objects maps → StandsAt image frame (pointers_at root directories maps) objects (Directory d)
-    at_directory d (inl none) = inl (none.0, λ e low. ((none.1 e low).object, (none.1 e low).indirect))
-    at_directory d (inr block) = inr block
+    pointers : Place → Pointer
+    pointers = pointers_at root directories maps
 
-    stands : (place : Place) → IsPlace place → StandsAt image frame (pointers_at root directories maps) objects place
+    -- the first strip of an object of directory d
+    first_of : (d e : ℕ) → d < pointer_count → e < entry_count → pointers (Indirect (entry_count * d + e)) ≡ (object_pointers maps (entry_count * d + e)).strip 0
+    first_of d e low inside =
+        let n_low : entry_count * d + e < 5292 = omega (arith, low, inside) in
+        ap (λ (n : ℕ). (object_pointers maps n).strip (strip_of (entry_count * d + e))) (first-object (entry_count * d + e) n_low)
+        ∙ ap (λ (j : ℕ). (object_pointers maps (entry_count * d + e)).strip j) (first-which (entry_count * d + e) n_low)
+
+    at_directory : (d : ℕ) → d < pointer_count → DirectoryStands image frame d (pointer_of_list directories d) objects maps → StandsAt image frame pointers objects (Directory d)
+    at_directory d low (inl none) = inl (none.0, λ e inside. ((none.1 e inside).object, first_of d e low inside ∙ ap (λ (p : ObjectPointers). p.strip 0) (none.1 e inside).pointers))
+    at_directory d low (inr (payload, opens, each)) = inr (
+      payload,
+      opens,
+      λ e inside. subst (λ (p : Pointer). IsEntryFor frame (entry_in payload e) (object_pointers maps (entry_count * d + e)).top p (finite.get objects (entry_count * d + e))) (sym (first_of d e low inside)) (each e inside),
+    )
+
+    -- a strip of an object
+    strip_is : (n j : ℕ) → n < object_count → pointers (Indirect (strip_number n j)) ≡ (object_pointers maps n).strip j
+    strip_is n j low =
+        ap (λ (o : ℕ). (object_pointers maps o).strip (strip_of (strip_number n j))) (strip-object n j low) ∙ ap (λ (i : ℕ). (object_pointers maps n).strip i) (strip-which n j low)
+
+    at_top : (n : ℕ) → n < object_count → LevelsStand image frame n (finite.get objects n) (object_pointers maps n) → StandsAt image frame pointers objects (Top n)
+    at_top n low (inl none) = inl (none.0, λ j inside. subst (λ (p : Pointer). NeedsNoTop (finite.get objects n) j p) (sym (strip_is n j low)) (none.1 j inside))
+    at_top n low (inr (long, payload, opens, each)) = inr (
+      long,
+      payload,
+      opens,
+      λ j inside. ((each j inside).0 ∙ sym (strip_is n j low), subst (λ (p : Pointer). HasNonePast (finite.get objects n) j p) (sym (strip_is n j low)) (each j inside).1),
+    )
+
+    at_strip : (m : ℕ) → m < indirect_count → StandsAt image frame pointers objects (Indirect m)
+    at_strip m low =
+        subst (λ (i : ℕ). IndirectStands image frame i (pointers (Indirect m)) (λ r. pointers (Data m r))) (number-back m)
+        ((strip_loaded_at keeps image frame root directories objects maps t m).strips_stand k (strip_of m) (number-strip m low))
+
+    at_record : (m r : ℕ) → m < indirect_count → r < pointer_count → StandsAt image frame pointers objects (Data m r)
+    at_record m r low inside =
+        subst (λ (i : ℕ). IfSome (finite.get objects (object_of_indirect m)) (λ bytes. IsRecord image frame i r (pointers (Data m r)) bytes)) (number-back m)
+        ((strip_loaded_at keeps image frame root directories objects maps t m).records_stand k (strip_of m) r (number-strip m low) inside)
+
+    stands : (place : Place) → IsPlace place → StandsAt image frame pointers objects place
     stands Root there = t.stands k
-    stands (Directory d) there = at_directory d ((t.each d there).stands k)
-    stands (Indirect n) there = (object_loaded_at keeps image frame root directories objects maps t n there).stands k
-    stands (Data n r) there = (object_loaded_at keeps image frame root directories objects maps t n there.0).records_stand k r there.1
-
--- pointers of objects that have none
-no_indirect : (maps : List ObjectEntry) → All IsEmptyEntry maps → (n : ℕ) → indirect_of maps n ≡ no_pointer
-no_indirect [] empty n = refl
-no_indirect (m ∷ maps) empty zero = (All-head IsEmptyEntry m maps empty).0
-no_indirect (m ∷ maps) empty (suc n) = no_indirect maps (All-tail IsEmptyEntry m maps empty) n
-
-no_records : (maps : List ObjectEntry) → All IsEmptyEntry maps → (n : ℕ) → records_of maps n ≡ []
-no_records [] empty n = refl
-no_records (m ∷ maps) empty zero = kept_none m (All-head IsEmptyEntry m maps empty).0
-no_records (m ∷ maps) empty (suc n) = no_records maps (All-tail IsEmptyEntry m maps empty) n
+    stands (Directory d) there = at_directory d there ((t.each d there).stands k)
+    stands (Top n) there = at_top n there ((object_loaded_at keeps image frame root directories objects maps t n there).stands k)
+    stands (Indirect m) there = at_strip m there
+    stands (Data m r) there = at_record m r there.0 there.1
 
 no_length : (maps : List ObjectEntry) → All IsEmptyEntry maps → (n : ℕ) → length_in maps n ≡ None
 no_length [] empty n = refl
 no_length (m ∷ maps) empty zero = (All-head IsEmptyEntry m maps empty).2
 no_length (m ∷ maps) empty (suc n) = no_length maps (All-tail IsEmptyEntry m maps empty) n
 
--- new maps are of no objects
+-- new entries are of no objects
 pub none_there : (maps : List ObjectEntry) → All IsEmptyEntry maps → AreEmptyFrom 0 finite.empty maps
-none_there maps empty = record {
-  each = λ n _. record { object = get-empty {X = List ℕ} nat_cmp n; indirect = no_indirect maps empty n; records = no_records maps empty n };
-}
+none_there maps empty = record { each = λ n _. record { object = get-empty {X = List ℕ} nat_cmp n; pointers = none_of_empty maps empty n } }
 
 pub no_lengths : (maps : List ObjectEntry) → All IsEmptyEntry maps → HaveLengthsOf maps finite.empty
 no_lengths maps empty n = no_length maps empty n ∙ ap (option_map length) (sym (get-empty {X = List ℕ} nat_cmp n))

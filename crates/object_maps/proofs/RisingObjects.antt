@@ -16,7 +16,7 @@ use Rattle.std.proofs.lemmas.List.{map-append, nil_from_length}
 use Rattle.std.proofs.lemmas.List.Elements.{All-head, All-nil, All-push, All-tail, All-weaker}
 use Rattle.base.specs.declared.names.ObjectId.{ObjectId}
 use Rattle.base.specs.formats.Digest.{contents_text, object_text}
-use Rattle.base.specs.formats.Limits.{object_count}
+use Rattle.base.specs.formats.Limits.{object_count, max_length}
 use Rattle.base.specs.history.Contents.{stored}
 use Rattle.base.proofs.history.Objects.{get-stored_same, get-stored_other}
 use Rattle.object_maps.specs.Digests.{text_at}
@@ -50,7 +50,7 @@ get-objects_below objects (suc n) q low = go (cases_eq q n) (get-objects_below o
 none_past : (objects : FinMap nat_cmp (List ℕ)) → AreWithin objects → (q : ℕ) → object_count ≤ q → finite.get objects q ≡ None
 none_past objects within q past = go (finite.get objects q) (within q)
   where
-    go : (o : Option (List ℕ)) → IfSome o (λ bytes. (q < object_count) × (length bytes ≤ 338688)) → o ≡ None
+    go : (o : Option (List ℕ)) → IfSome o (λ bytes. (q < object_count) × (length bytes ≤ max_length)) → o ≡ None
     go None h = refl
     go (Some bytes) h = absurd (omega (arith, h.0, past))
 

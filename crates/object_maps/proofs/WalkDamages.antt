@@ -5,10 +5,10 @@ use Rattle.std.proofs.lemmas.List.{length-drop, drop_all}
 use Rattle.base.specs.declared.error.PoolError.{PoolError}
 use Rattle.base.specs.declared.error.PoolError.TheVariants.{Damaged}
 use Rattle.base.specs.declared.pointer.Pointer.{Pointer}
-use Rattle.base.specs.formats.Limits.{object_count, pointer_count, record_size}
+use Rattle.base.specs.formats.Limits.{indirect_count, pointer_count, record_size}
 use Rattle.base.specs.formats.Fields.{part, no_pointer}
 use Rattle.base.specs.formats.Blocks.{Frame, Opens}
-use Rattle.base.specs.tree.Places.{Place, IsPlace, kind_of, number_of_place, walk_index_of, pointer_of, pointer_below}
+use Rattle.base.specs.tree.Places.{Place, IsPlace, kind_of, number_of_place, object_of_indirect, record_start, walk_index_of, pointer_of, pointer_below}
 use Rattle.base.specs.tree.Places.Place.{Data}
 use Rattle.base.specs.tree.Damages.{IsSoundAt, IsWellFormed, length_in}
 use Rattle.checked_blocks.specs.declared.expected.Expected.{Expected}
@@ -90,14 +90,14 @@ padded-back payload past count long is padded = go (cases_lt past 4032)
         e ∙ sym (ap (λ (l : List ℕ). replicate (length l) 0) e)
 
 -- a record whose padding is zeros is sound
-pub record_sound : (image : List ℕ) (frame : Frame) (root : Pointer) (n r size count : ℕ) (pointer : Pointer) (payload : List ℕ) → n < object_count → r < pointer_count
-    → IsDataOf image root n r pointer size → Opens image frame 5 (pointer_count * n + r) pointer payload → length payload ≡ 4032 → count ≡ min (size - record_size * r) 4032
-    → drop count payload ≡ replicate (length (drop count payload)) 0 → AreSound image frame root (walk_index_of (Data n r)) (walk_index_of (Data n r) + 1)
-record_sound image frame root n r size count pointer payload hn hr named_by opens long is zeros =
-    let past : length_in image root n - record_size * r ≡ size - record_size * r = ap (λ (k : ℕ). k - record_size * r) named_by.size_is in
-    let padded = padded-at payload (size - record_size * r) count long is zeros in
-    sound_one image frame root (Data n r) (walk_index_of (Data n r)) (walk_index_of (Data n r) + 1) (hn, hr) refl refl
-    (sound_at image frame root (Data n r) pointer payload named_by.at opens (subst (λ (k : ℕ). drop k payload ≡ replicate (record_size - k) 0) (sym past) padded))
+pub record_sound : (image : List ℕ) (frame : Frame) (root : Pointer) (m k size count : ℕ) (pointer : Pointer) (payload : List ℕ) → m < indirect_count → k < pointer_count
+    → IsDataOf image root m k pointer size → Opens image frame 5 (pointer_count * m + k) pointer payload → length payload ≡ 4032 → count ≡ min (size - record_start m k) 4032
+    → drop count payload ≡ replicate (length (drop count payload)) 0 → AreSound image frame root (walk_index_of (Data m k)) (walk_index_of (Data m k) + 1)
+record_sound image frame root m k size count pointer payload hm hk named_by opens long is zeros =
+    let past : length_in image root (object_of_indirect m) - record_start m k ≡ size - record_start m k = ap (λ (s : ℕ). s - record_start m k) named_by.size_is in
+    let padded = padded-at payload (size - record_start m k) count long is zeros in
+    sound_one image frame root (Data m k) (walk_index_of (Data m k)) (walk_index_of (Data m k) + 1) (hm, hk) refl refl
+    (sound_at image frame root (Data m k) pointer payload named_by.at opens (subst (λ (s : ℕ). drop s payload ≡ replicate (record_size - s) 0) (sym past) padded))
 
 pub same-kind : (k a m b : ℕ) → Damaged k a ≡ Damaged m b → k ≡ m
 same-kind k a m b e = cc
@@ -131,11 +131,11 @@ formless_damage image frame root place start pointer payload e in_range here at 
     (λ other opened formed. not (subst (λ (l : List ℕ). IsWellFormed image frame root place l) (same_payload image frame (kind_of place) (number_of_place place) pointer other payload opened opens) formed))
 
 -- a record whose padding is not zeros is a damage
-pub record_damage : (image : List ℕ) (frame : Frame) (root : Pointer) (n r size count : ℕ) (pointer : Pointer) (payload : List ℕ) (e : PoolError) → n < object_count → r < pointer_count
-    → IsDataOf image root n r pointer size → Opens image frame 5 (pointer_count * n + r) pointer payload → length payload ≡ 4032 → count ≡ min (size - record_size * r) 4032
-    → (drop count payload ≡ replicate (length (drop count payload)) 0 → ⊥) → e ≡ Damaged 5 pointer.address → TellsDamage image frame root (walk_index_of (Data n r)) e
-record_damage image frame root n r size count pointer payload e hn hr named_by opens long is not told =
-    let past : length_in image root n - record_size * r ≡ size - record_size * r = ap (λ (k : ℕ). k - record_size * r) named_by.size_is in
-    formless_damage image frame root (Data n r) (walk_index_of (Data n r)) pointer payload e (hn, hr) refl named_by.at named_by.there opens
-    (λ formed. not (padded-back payload (size - record_size * r) count long is (subst (λ (k : ℕ). drop k payload ≡ replicate (record_size - k) 0) past formed)))
+pub record_damage : (image : List ℕ) (frame : Frame) (root : Pointer) (m k size count : ℕ) (pointer : Pointer) (payload : List ℕ) (e : PoolError) → m < indirect_count → k < pointer_count
+    → IsDataOf image root m k pointer size → Opens image frame 5 (pointer_count * m + k) pointer payload → length payload ≡ 4032 → count ≡ min (size - record_start m k) 4032
+    → (drop count payload ≡ replicate (length (drop count payload)) 0 → ⊥) → e ≡ Damaged 5 pointer.address → TellsDamage image frame root (walk_index_of (Data m k)) e
+record_damage image frame root m k size count pointer payload e hm hk named_by opens long is not told =
+    let past : length_in image root (object_of_indirect m) - record_start m k ≡ size - record_start m k = ap (λ (s : ℕ). s - record_start m k) named_by.size_is in
+    formless_damage image frame root (Data m k) (walk_index_of (Data m k)) pointer payload e (hm, hk) refl named_by.at named_by.there opens
+    (λ formed. not (padded-back payload (size - record_start m k) count long is (subst (λ (s : ℕ). drop s payload ≡ replicate (record_size - s) 0) past formed)))
     told

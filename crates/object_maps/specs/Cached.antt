@@ -10,9 +10,9 @@ use Rattle.base.specs.disk.Disk.{Apart}
 use Rattle.base.specs.formats.Blocks.{Frame, Opens, payload_at}
 use Rattle.base.specs.formats.Fields.{no_pointer, part}
 use Rattle.base.specs.formats.Geometry.{IsBlockAddress, block_size}
-use Rattle.base.specs.formats.Limits.{pointer_count, record_size}
-use Rattle.base.specs.tree.Places.{Place}
-use Rattle.base.specs.tree.Places.Place.{Indirect}
+use Rattle.base.specs.formats.Limits.{one_level_length, pointer_count, record_size}
+use Rattle.base.specs.tree.Places.{Place, object_of_indirect, record_number}
+use Rattle.base.specs.tree.Places.Place.{Top, Indirect}
 use Rattle.base.specs.tree.PlacedTrees.{HoldsTree}
 
 -- each entry is the payload of the image's block at its address, which is that of a whole block
@@ -43,21 +43,28 @@ IsReadRefusal e = (e ≡ Read) ⊎ IsDamage e
 abbrev pub IsBlockRefusal : ℕ → ℕ → PoolError → Type 0
 IsBlockRefusal kind address e = (e ≡ Read) ⊎ (e ≡ Damaged kind address)
 
--- the image holds a tree in which object n has these bytes and its indirect block this pointer
-pub record HoldsObject (image : List ℕ) (frame : Frame) (n : ℕ) (indirect : Pointer) (pointers : Place → Pointer) (bytes : List ℕ) : Type 0 where
+-- the image holds a tree in which the object of strip m has these bytes, and the strip's indirect block this pointer
+pub record HoldsStrip (image : List ℕ) (frame : Frame) (m : ℕ) (indirect : Pointer) (pointers : Place → Pointer) (bytes : List ℕ) : Type 0 where
+  pub objects : FinMap nat_cmp (List ℕ)
+  pub tree : HoldsTree image frame pointers objects
+  pub object : finite.get objects (object_of_indirect m) ≡ Some bytes
+  pub indirect_is : pointers (Indirect m) ≡ indirect
+
+-- the image holds a tree in which object n has these bytes, two levels, and this pointer to its top
+pub record HoldsTop (image : List ℕ) (frame : Frame) (n : ℕ) (top : Pointer) (pointers : Place → Pointer) (bytes : List ℕ) : Type 0 where
   pub objects : FinMap nat_cmp (List ℕ)
   pub tree : HoldsTree image frame pointers objects
   pub object : finite.get objects n ≡ Some bytes
-  pub indirect_is : pointers (Indirect n) ≡ indirect
+  pub long : one_level_length < length bytes
+  pub top_is : pointers (Top n) ≡ top
 
--- a pointer to record r, if there is one, stands in an object that reaches so far
+-- a pointer to what begins at an offset of an object, if there is one, stands in an object that reaches so far
 abbrev pub BeginsInside : ℕ → ℕ → Pointer → Type 0
-BeginsInside size r pointer = (pointer ≡ no_pointer) ⊎ (record_size * r < size)
+BeginsInside size start pointer = (pointer ≡ no_pointer) ⊎ (start < size)
 
--- a pointer to record r of an object of this length: none, or one to a block of the area, where the record begins
--- before the end
-abbrev pub IsRecordPointer : ℕ → ℕ → ℕ → Pointer → Type 0
-IsRecordPointer blocks size r pointer = (pointer ≡ no_pointer) ⊎ ((record_size * r < size) × IsBlockAddress blocks pointer.address)
+-- such a pointer in an object of this length: none, or one to a block of the area, where it begins before the end
+abbrev pub IsPointerInside : ℕ → ℕ → ℕ → Pointer → Type 0
+IsPointerInside blocks size start pointer = (pointer ≡ no_pointer) ⊎ ((start < size) × IsBlockAddress blocks pointer.address)
 
 -- a payload that a read of a block may give: one in memory under the block's address, or that of the block of this kind
 -- and number that the pointer names
@@ -66,9 +73,10 @@ IsReadPayload cached image frame kind number pointer payload = Contains cached (
 
 -- record r of an object of this length has zeros past the object's end
 abbrev pub EndsWithObject : ℕ → ℕ → List ℕ → Type 0
-EndsWithObject size r record_payload = (k : ℕ) → size ≤ record_size * r + k → get_or record_payload k 0 ≡ 0
+EndsWithObject size r record_payload = (i : ℕ) → size ≤ record_size * r + i → get_or record_payload i 0 ≡ 0
 
--- and bytes that it may give from an offset on of the payload of record r of object n, whose length is this
+-- and bytes that it may give from an offset on of the payload of the k-th record of strip m, whose object has this length
 abbrev pub IsReadPart : List (ℕ × List ℕ) → List ℕ → Frame → ℕ → ℕ → ℕ → Pointer → ℕ → List ℕ → Type 0
-IsReadPart cached image frame n r size pointer start bytes =
-    (payload : List ℕ) × IsReadPayload cached image frame 5 (pointer_count * n + r) pointer payload × EndsWithObject size r payload × (bytes ≡ part payload start (length bytes))
+IsReadPart cached image frame m k size pointer start bytes =
+    (payload : List ℕ) × IsReadPayload cached image frame 5 (pointer_count * m + k) pointer payload × EndsWithObject size (record_number m k) payload
+    × (bytes ≡ part payload start (length bytes))

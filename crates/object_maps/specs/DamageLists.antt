@@ -5,10 +5,10 @@ use Rattle.base.specs.declared.error.PoolError.TheVariants.{Damaged, NoMemory, R
 use Rattle.base.specs.declared.pointer.Pointer.{Pointer}
 use Rattle.base.specs.formats.Blocks.{Frame}
 use Rattle.base.specs.formats.Fields.{pointer_in}
-use Rattle.base.specs.formats.Limits.{entry_count, object_stride, pointer_count}
-use Rattle.base.specs.tree.Damages.{IsSoundAt, length_in}
-use Rattle.base.specs.tree.Places.{Place, IsPlace, kind_of, walk_index_of, walk_index_of_indirect, pointer_of}
-use Rattle.base.specs.tree.Places.Place.{Root, Directory, Indirect, Data}
+use Rattle.base.specs.formats.Limits.{entry_count, object_stride, pointer_count, strip_stride}
+use Rattle.base.specs.tree.Damages.{IsSoundAt}
+use Rattle.base.specs.tree.Places.{Place, IsPlace, kind_of, object_of_indirect, walk_index_of, walk_index_of_indirect, walk_index_of_object, pointer_of}
+use Rattle.base.specs.tree.Places.Place.{Root, Directory, Top, Indirect, Data}
 use Rattle.object_maps.specs.declared.damages.BlockDamage.{BlockDamage}
 use Rattle.object_maps.specs.Walking.{directory_index}
 
@@ -16,21 +16,29 @@ use Rattle.object_maps.specs.Walking.{directory_index}
 abbrev pub IsListRefusal : PoolError → Type 0
 IsListRefusal e = (e ≡ NoMemory) ⊎ (e ≡ Read)
 
--- One place lies below another: all places below the root, the objects of its entries below a directory, its records
--- below an indirect block.
+-- One place lies below another: all places below the root, the objects of its entries below a directory, the strips of
+-- its object below a top, its records below an indirect block.
 abbrev pub LiesBelow : Place → Place → Type 0
 LiesBelow Root Root = ⊥
 LiesBelow Root (Directory d) = Unit {0}
-LiesBelow Root (Indirect n) = Unit {0}
-LiesBelow Root (Data n r) = Unit {0}
+LiesBelow Root (Top n) = Unit {0}
+LiesBelow Root (Indirect m) = Unit {0}
+LiesBelow Root (Data m k) = Unit {0}
 LiesBelow (Directory d) Root = ⊥
 LiesBelow (Directory d) (Directory e) = ⊥
-LiesBelow (Directory d) (Indirect n) = n / entry_count ≡ d
-LiesBelow (Directory d) (Data n r) = n / entry_count ≡ d
+LiesBelow (Directory d) (Top n) = n / entry_count ≡ d
+LiesBelow (Directory d) (Indirect m) = object_of_indirect m / entry_count ≡ d
+LiesBelow (Directory d) (Data m k) = object_of_indirect m / entry_count ≡ d
+LiesBelow (Top n) Root = ⊥
+LiesBelow (Top n) (Directory e) = ⊥
+LiesBelow (Top n) (Top o) = ⊥
+LiesBelow (Top n) (Indirect m) = object_of_indirect m ≡ n
+LiesBelow (Top n) (Data m k) = object_of_indirect m ≡ n
 LiesBelow (Indirect m) Root = ⊥
 LiesBelow (Indirect m) (Directory e) = ⊥
-LiesBelow (Indirect m) (Indirect n) = ⊥
-LiesBelow (Indirect m) (Data n r) = n ≡ m
+LiesBelow (Indirect m) (Top n) = ⊥
+LiesBelow (Indirect m) (Indirect i) = ⊥
+LiesBelow (Indirect m) (Data i k) = i ≡ m
 LiesBelow (Data m k) lower = ⊥
 
 -- how a damage of the block at a place is listed
@@ -41,8 +49,9 @@ block_damage image root place = record { kind = kind_of place; address = (pointe
 abbrev pub walk_index_after : Place → ℕ
 walk_index_after Root = directory_index pointer_count
 walk_index_after (Directory d) = directory_index (d + 1)
-walk_index_after (Indirect n) = walk_index_of_indirect n + object_stride
-walk_index_after (Data n r) = walk_index_of_indirect n + 1 + r + 1
+walk_index_after (Top n) = walk_index_of_object n + object_stride
+walk_index_after (Indirect m) = walk_index_of_indirect m + strip_stride
+walk_index_after (Data m k) = walk_index_of_indirect m + 1 + k + 1
 
 -- the places stand in the walk from one index up to another, each behind the one before it and all that lies below that
 abbrev pub StandRising : ℕ → List Place → ℕ → Type 0
@@ -78,11 +87,6 @@ pub record AddsDamages (image : List ℕ) (frame : Frame) (root : Pointer) (star
 -- the damage that a refusal tells is added to a list
 abbrev pub AddsTold : PoolError → List BlockDamage → List BlockDamage → Type 0
 AddsTold e old new = (kind : ℕ) × (address : ℕ) × (e ≡ Damaged kind address) × (new ≡ old ++ record { kind = kind; address = address } ∷ [])
-
--- this payload has the pointers to the records of object n, and the object has this length
-pub record HasDataOf (image : List ℕ) (root : Pointer) (n size : ℕ) (payload : List ℕ) : Type 0 where
-  pub at : (r : ℕ) → r < pointer_count → pointer_of image root (Data n r) ≡ pointer_in payload r
-  pub size_is : length_in image root n ≡ size
 
 -- this payload has the pointers to the directories
 pub record HasDirectories (image : List ℕ) (root : Pointer) (payload : List ℕ) : Type 0 where

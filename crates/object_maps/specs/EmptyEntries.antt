@@ -5,4 +5,4 @@ use Rattle.object_maps.specs.declared.tree.ObjectEntry.{ObjectEntry}
 
 -- the entry of an object that is not there
 abbrev pub IsEmptyEntry : ObjectEntry → Type 0
-IsEmptyEntry e = (e.indirect ≡ no_pointer) × (e.records.value ≡ []) × (e.length ≡ None)
+IsEmptyEntry e = (e.pointer ≡ no_pointer) × (e.strips.value ≡ []) × (e.length ≡ None)

@@ -6,7 +6,6 @@ use Rattle.std.specs.FinMap as finite
 use Rattle.std.specs.FinMap.{FinMap}
 use Rattle.base.specs.formats.Limits.{object_count}
 use Rattle.object_maps.specs.declared.tree.ObjectEntry.{ObjectEntry}
-use Rattle.object_maps.specs.declared.tree.ObjectMap.{ObjectMap}
 use Rattle.object_maps.specs.declared.tree.Tree.{Tree}
 
 -- the length of object n, None if there is no such object
@@ -16,9 +15,9 @@ length_in entries n = option_map_or (λ (e : ObjectEntry). e.length) (slice_get 
 abbrev pub lengths_of : Tree → ℕ → Option ℕ
 lengths_of t n = length_in t.entries.items n
 
--- the length of each object, if these objects have new maps
-abbrev pub with_lengths : (ℕ → Option ObjectMap) → (ℕ → Option ℕ) → ℕ → Option ℕ
-with_lengths new old n = option_map_or (λ (m : ObjectMap). m.length) (new n) (old n)
+-- the length of each object, if these objects have new entries
+abbrev pub with_lengths : (ℕ → Option ObjectEntry) → (ℕ → Option ℕ) → ℕ → Option ℕ
+with_lengths new old n = option_map_or (λ (e : ObjectEntry). e.length) (new n) (old n)
 
 -- a tree has the lengths of these objects
 abbrev pub HasLengthsOf : Tree → FinMap nat_cmp (List ℕ) → Type 0

@@ -3,13 +3,14 @@ use Rattle.std.specs.Prelude.{ℕ, ◌≡◌, ◌≢◌, ◌≤◌, ◌<◌, ◌
 use Rattle.base.specs.declared.error.PoolError.{PoolError}
 use Rattle.base.specs.declared.error.PoolError.TheVariants.{Damaged}
 use Rattle.base.specs.declared.pointer.Pointer.{Pointer}
-use Rattle.base.specs.formats.Fields.{no_pointer}
+use Rattle.base.specs.formats.Fields.{no_pointer, pointer_in}
 use Rattle.base.specs.formats.Blocks.{Frame, Opens}
-use Rattle.base.specs.tree.Places.{Place, IsPlace, kind_of, walk_index_of, pointer_of}
+use Rattle.base.specs.tree.Places.{Place, IsPlace, kind_of, walk_index_of, pointer_of, below_pointer, levels_in, object_of_indirect, strip_number}
 use Rattle.base.specs.tree.Places.Place.{Directory, Indirect, Data}
 use Rattle.base.specs.formats.Limits.{pointer_count, directory_stride}
 use Rattle.base.specs.tree.Tree.{OpensAt}
 use Rattle.object_maps.specs.Pointers.{pointer_of_list}
+use Rattle.object_maps.specs.declared.forms.Entry.{Entry}
 use Rattle.base.specs.tree.Damages.{IsSoundAt, length_in}
 
 -- the places of the walk from one index up to another are sound
@@ -47,21 +48,38 @@ abbrev pub TellsBlock : List ℕ → Frame → ℕ → ℕ → Pointer → PoolE
 TellsBlock image frame kind number pointer e = (k : ℕ) (address : ℕ) → e ≡ Damaged k address
     → (kind ≡ k) × ((pointer.address ≡ address) × ((payload : List ℕ) → Opens image frame kind number pointer payload → ⊥))
 
--- this pointer is to record r of object n in the image's tree, and the object has this length
-pub record IsDataOf (image : List ℕ) (root : Pointer) (n r : ℕ) (pointer : Pointer) (size : ℕ) : Type 0 where
-  pub at : pointer_of image root (Data n r) ≡ pointer
+-- this pointer is to the k-th record of strip m in the image's tree, and its object has this length
+pub record IsDataOf (image : List ℕ) (root : Pointer) (m k : ℕ) (pointer : Pointer) (size : ℕ) : Type 0 where
+  pub at : pointer_of image root (Data m k) ≡ pointer
   pub there : pointer ≢ no_pointer
+  pub size_is : length_in image root (object_of_indirect m) ≡ size
+
+-- this payload has the pointers to the records of strip m in the image's tree, and its object has this length
+pub record AreDataOf (image : List ℕ) (root : Pointer) (m : ℕ) (payload : List ℕ) (size : ℕ) : Type 0 where
+  pub at : (k : ℕ) → k < pointer_count → pointer_of image root (Data m k) ≡ pointer_in payload k
+  pub size_is : length_in image root (object_of_indirect m) ≡ size
+
+-- this pointer is to the indirect block of strip m, and its object has this length
+pub record IsIndirectOf (image : List ℕ) (root : Pointer) (m : ℕ) (indirect : Pointer) (size : ℕ) : Type 0 where
+  pub at : pointer_of image root (Indirect m) ≡ indirect
+  pub size_is : length_in image root (object_of_indirect m) ≡ size
+
+-- this payload has the pointers to the strips of object n, which has two levels and this length
+pub record AreStripsOf (image : List ℕ) (root : Pointer) (n : ℕ) (payload : List ℕ) (size : ℕ) : Type 0 where
+  pub at : (j : ℕ) → j < pointer_count → pointer_of image root (Indirect (strip_number n j)) ≡ pointer_in payload j
   pub size_is : length_in image root n ≡ size
 
--- these pointers are to the records of object n in the image's tree, and the object has this length
-pub record AreDataOf (image : List ℕ) (root : Pointer) (n : ℕ) (records : List Pointer) (size : ℕ) : Type 0 where
-  pub at : (r : ℕ) → r < pointer_count → pointer_of image root (Data n r) ≡ pointer_of_list records r
+-- this pointer is to the top of object n, which has two levels and this length
+pub record IsTopOf (image : List ℕ) (root : Pointer) (n : ℕ) (top : Pointer) (size : ℕ) : Type 0 where
+  pub levels : levels_in image root n ≡ 2
+  pub at : below_pointer image root n ≡ top
   pub size_is : length_in image root n ≡ size
 
--- this pointer is to the indirect block of object n, and the object has this length
-pub record IsIndirectOf (image : List ℕ) (root : Pointer) (n : ℕ) (indirect : Pointer) (size : ℕ) : Type 0 where
-  pub at : pointer_of image root (Indirect n) ≡ indirect
-  pub size_is : length_in image root n ≡ size
+-- the directory's entry of object n has these levels, this pointer and this length
+pub record IsObjectAt (image : List ℕ) (root : Pointer) (n : ℕ) (entry : Entry) : Type 0 where
+  pub levels : levels_in image root n ≡ entry.present
+  pub at : below_pointer image root n ≡ entry.pointer
+  pub size_is : length_in image root n ≡ entry.length
 
 -- this is the payload of directory d
 pub record IsPayloadOf (image : List ℕ) (frame : Frame) (root : Pointer) (d : ℕ) (payload : List ℕ) : Type 0 where

@@ -1,4 +1,5 @@
-//! Reads of one object of a tree, block by block: its indirect block, and parts of its records.
+//! Reads of one object of a tree, block by block: its top if it has two levels, its indirect blocks, and parts of its
+//! records. The entry of an object names its top, or the indirect block of its first strip.
 //!
 //! On a device that keeps the model, a payload is that of the block which its pointer names, as a load takes it, or one
 //! that is in memory under the block's address (`taken`).
@@ -10,19 +11,19 @@ ghost use Rattle.base.specs.disk.Disk.{bytes_of};
 ghost use Rattle.base.specs.formats.Blocks.{Opens};
 ghost use Rattle.base.specs.formats.Fields.{no_pointer, pointer_in};
 ghost use Rattle.base.specs.formats.Geometry.{block_address};
-ghost use Rattle.base.specs.formats.Limits.{object_count, payload_size, record_count, record_size};
+ghost use Rattle.base.specs.formats.Limits.{object_count, indirect_count, payload_size, pointer_count, record_size};
 ghost use Rattle.base.specs.tree.PlacedTrees.{IsPlaced};
-ghost use Rattle.base.specs.tree.Places.{Place};
-ghost use Rattle.base.specs.tree.Places.Place.{Data};
+ghost use Rattle.base.specs.tree.Places.{Place, record_number, record_start, strip_number, strip_start};
+ghost use Rattle.base.specs.tree.Places.Place.{Indirect, Data};
 ghost use Rattle.base.specs.tree.Tree.{IsRecord};
 ghost use Rattle.device_model.specs.Reading.{OnlyReads};
-ghost use Rattle.object_maps.specs.Cached.{BeginsInside, HasNoneAt, HoldsObject, IsBlockRefusal, IsReadPart, IsReadPayload, IsRecordPointer, OnlyLeft};
+ghost use Rattle.object_maps.specs.Cached.{BeginsInside, HasNoneAt, HoldsStrip, HoldsTop, IsBlockRefusal, IsPointerInside, IsReadPart, IsReadPayload, OnlyLeft};
 ghost use Rattle.object_maps.specs.Kinds.{kind_number};
 ghost use Rattle.object_maps.specs.Sources.{AreBytesFrom};
 
-use crate::tree::RECORD_COUNT;
+use crate::strips::{data_number, record_number};
 use crate::walk::{BlockPlace, damaged};
-use base::{POINTER_SIZE, Pointer, PoolError, RECORD_SIZE, are_zeros, read_pointer};
+use base::{POINTER_COUNT, POINTER_SIZE, Pointer, PoolError, RECORD_SIZE, are_zeros, read_pointer};
 use checked_blocks::{Block, Frame, Kind, PAYLOAD_SIZE};
 use device_model::SectorDevice;
 
@@ -75,8 +76,85 @@ pub trait BlockReader: SectorDevice {
         ensures left { OnlyLeft (Self.cached self.old) (Self.cached self.new) };
 }
 
-/// The payload of the indirect block of an object whose directory entry has this pointer. If it has no such block, the
+// The payload of the block at a place, or zeros for no pointer.
+fn read_pointers<B: BlockReader>(
+    reader: &mut B,
+    frame: &Frame,
+    place: BlockPlace,
+    pointer: &Pointer,
+    payload: &mut [u8],
+) -> Result<(), PoolError>
+    requires fits { block_address frame.now.blocks ≤ B.size reader.old }
+    requires size { length payload.old ≡ payload_size }
+    ensures reads { OnlyReads B.SectorDevice result reader.old reader.new }
+    ensures size { length payload.new ≡ payload_size }
+    ensures refused { IfErr result
+        (IsBlockRefusal (kind_number place.kind) pointer.now.address) }
+    ensures hole { pointer.now ≡ no_pointer
+        → OnOk result ((k : ℕ) → k < payload_size → get_or payload.new k 0 ≡ 0) }
+    ensures whole { pointer.now ≡ no_pointer → IfErr result (λ _. ⊥) }
+    ensures none { pointer.now ≡ no_pointer
+        → OnOk result ((k : ℕ) → k < pointer_count → pointer_in payload.new k ≡ no_pointer) }
+    ensures taken { IsTrue B.keeps_model → pointer.now ≢ no_pointer → OnOk result (IsReadPayload
+        (B.cached reader.old) (bytes_of (B.disk reader.old).now) frame.now
+        (kind_number place.kind) place.number pointer.now payload.new) }
+    ensures exact { IsTrue B.keeps_model → pointer.now ≢ no_pointer → (held : List ℕ)
+        → Opens (bytes_of (B.disk reader.old).now) frame.now (kind_number place.kind)
+        place.number pointer.now held → OnOk result (payload.new ≡ held) }
+    ensures sound { IsTrue B.keeps_model → pointer.now ≢ no_pointer → (held : List ℕ)
+        → Opens (bytes_of (B.disk reader.old).now) frame.now (kind_number place.kind)
+        place.number pointer.now held → IfErr result (λ e. e ≡ error.Read) }
+{
+    if pointer.is_none() {
+        payload.fill(0);
+        return Ok(());
+    }
+    reader.read_payload(frame, place, pointer, payload)
+}
+
+/// The payload of the top of an object of two levels, whose directory entry has this pointer. If it has no top, the
 /// payload is zeros.
+///
+/// # Errors
+/// `Read` if the device refused the read, `Damaged` if the block is none of this place.
+pub fn read_top<B: BlockReader>(
+    reader: &mut B,
+    frame: &Frame,
+    number: usize,
+    top: &Pointer,
+    payload: &mut [u8],
+) -> Result<(), PoolError>
+    requires fits { block_address frame.now.blocks ≤ B.size reader.old }
+    requires number { number < object_count }
+    requires size { length payload.old ≡ payload_size }
+    ensures reads { OnlyReads B.SectorDevice result reader.old reader.new }
+    ensures size { length payload.new ≡ payload_size }
+    ensures refused { IfErr result (IsBlockRefusal (kind_number Kind.Top) top.now.address) }
+    ensures hole { top.now ≡ no_pointer
+        → OnOk result ((k : ℕ) → k < payload_size → get_or payload.new k 0 ≡ 0) }
+    ensures taken { IsTrue B.keeps_model → top.now ≢ no_pointer → OnOk result (IsReadPayload
+        (B.cached reader.old) (bytes_of (B.disk reader.old).now) frame.now
+        (kind_number Kind.Top) number top.now payload.new) }
+    ensures exact { IsTrue B.keeps_model → (pointers : Place → Pointer) (bytes : List ℕ)
+        → HoldsTop (bytes_of (B.disk reader.old).now) frame.now number top.now pointers bytes
+        → OnOk result ((j : ℕ) → j < pointer_count
+        → pointer_in payload.new j ≡ pointers (Indirect (strip_number number j))) }
+    ensures sound { IsTrue B.keeps_model → (pointers : Place → Pointer) (bytes : List ℕ)
+        → HoldsTop (bytes_of (B.disk reader.old).now) frame.now number top.now pointers bytes
+        → IfErr result (λ e. e ≡ error.Read) }
+{
+    let place = BlockPlace {
+        kind: Kind::Top,
+        number: number as u64,
+    };
+    read_pointers(reader, frame, place, top, payload)
+}
+
+/// The payload of the indirect block of the strip of this number, which its top or its object's directory entry names
+/// by this pointer. If it has no such block, the payload is zeros.
+///
+/// # Errors
+/// `Read` if the device refused the read, `Damaged` if the block is none of this place.
 pub fn read_indirect<B: BlockReader>(
     reader: &mut B,
     frame: &Frame,
@@ -85,7 +163,7 @@ pub fn read_indirect<B: BlockReader>(
     payload: &mut [u8],
 ) -> Result<(), PoolError>
     requires fits { block_address frame.now.blocks ≤ B.size reader.old }
-    requires number { number < object_count }
+    requires number { number < indirect_count }
     requires size { length payload.old ≡ payload_size }
     ensures reads { OnlyReads B.SectorDevice result reader.old reader.new }
     ensures size { length payload.new ≡ payload_size }
@@ -97,56 +175,102 @@ pub fn read_indirect<B: BlockReader>(
         (B.cached reader.old) (bytes_of (B.disk reader.old).now) frame.now
         (kind_number Kind.Indirect) number indirect.now payload.new) }
     ensures exact { IsTrue B.keeps_model → (pointers : Place → Pointer) (bytes : List ℕ)
-        → HoldsObject (bytes_of (B.disk reader.old).now) frame.now number indirect.now pointers bytes
-        → OnOk result ((r : ℕ) → r < record_count
-        → pointer_in payload.new r ≡ pointers (Data number r)) }
+        → HoldsStrip (bytes_of (B.disk reader.old).now) frame.now number indirect.now pointers bytes
+        → OnOk result ((k : ℕ) → k < pointer_count
+        → pointer_in payload.new k ≡ pointers (Data number k)) }
     ensures sound { IsTrue B.keeps_model → (pointers : Place → Pointer) (bytes : List ℕ)
-        → HoldsObject (bytes_of (B.disk reader.old).now) frame.now number indirect.now pointers bytes
+        → HoldsStrip (bytes_of (B.disk reader.old).now) frame.now number indirect.now pointers bytes
         → IfErr result (λ e. e ≡ error.Read) }
 {
-    if indirect.is_none() {
-        payload.fill(0);
-        return Ok(());
-    }
     let place = BlockPlace {
         kind: Kind::Indirect,
         number: number as u64,
     };
-    reader.read_payload(frame, place, indirect, payload)
+    read_pointers(reader, frame, place, indirect, payload)
 }
 
-/// The pointer to a record of an object of this length, in the payload of its indirect block.
-///
-/// # Errors
-/// `Damaged` if it is none and names no block of the area, or if it names one from the object's end on.
-pub fn record_pointer(
+// A pointer of a payload to what begins at an offset of an object of this length.
+fn pointer_inside(
     frame: &Frame,
     payload: &[u8],
     index: usize,
+    kind: Kind,
+    start: usize,
     size: usize,
 ) -> Result<Pointer, PoolError>
     requires size { length payload.now ≡ payload_size }
-    requires index { index < record_count }
+    requires index { index < pointer_count }
     ensures pointer { IfOk result (λ p. p ≡ pointer_in payload.now index) }
     ensures placed { IfOk result (IsPlaced frame.now.blocks) }
-    ensures inside { IfOk result (BeginsInside size index) }
-    ensures refused { IfErr result (λ e. e ≡ error.Damaged (kind_number Kind.Data)
+    ensures inside { IfOk result (BeginsInside size start) }
+    ensures refused { IfErr result (λ e. e ≡ error.Damaged (kind_number kind)
         (pointer_in payload.now index).address) }
-    ensures sound { IsRecordPointer frame.now.blocks size index (pointer_in payload.now index)
+    ensures sound { IsPointerInside frame.now.blocks size start (pointer_in payload.now index)
         → IfErr result (λ _. ⊥) }
 {
     let pointer = read_pointer(payload, POINTER_SIZE * index);
     if pointer.is_none() {
         return Ok(pointer);
     }
-    if !frame.is_block_address(pointer.address) || size <= RECORD_SIZE * index {
-        return Err(damaged(Kind::Data, &pointer));
+    if !frame.is_block_address(pointer.address) || size <= start {
+        return Err(damaged(kind, &pointer));
     }
     Ok(pointer)
 }
 
-/// The bytes of a record from the offset `start` in it on, with zeros after the object's end. The record has this
-/// pointer, and the object this length.
+/// The pointer to the indirect block of a strip of an object of this length, in the payload of its top.
+///
+/// # Errors
+/// `Damaged` if it is none and names no block of the area, or if it names one of a strip from the object's end on.
+pub fn strip_pointer(
+    frame: &Frame,
+    payload: &[u8],
+    index: usize,
+    size: usize,
+) -> Result<Pointer, PoolError>
+    requires size { length payload.now ≡ payload_size }
+    requires index { index < pointer_count }
+    ensures pointer { IfOk result (λ p. p ≡ pointer_in payload.now index) }
+    ensures placed { IfOk result (IsPlaced frame.now.blocks) }
+    ensures inside { IfOk result (BeginsInside size (strip_start index)) }
+    ensures refused { IfErr result (λ e. e ≡ error.Damaged (kind_number Kind.Indirect)
+        (pointer_in payload.now index).address) }
+    ensures sound { IsPointerInside frame.now.blocks size (strip_start index)
+        (pointer_in payload.now index) → IfErr result (λ _. ⊥) }
+{
+    let start = RECORD_SIZE * (POINTER_COUNT * index);
+    pointer_inside(frame, payload, index, Kind::Indirect, start, size)
+}
+
+/// The pointer to a record of the strip of this number, in the payload of its indirect block. Its object has this
+/// length.
+///
+/// # Errors
+/// `Damaged` if it is none and names no block of the area, or if it names one from the object's end on.
+pub fn record_pointer(
+    frame: &Frame,
+    payload: &[u8],
+    number: usize,
+    index: usize,
+    size: usize,
+) -> Result<Pointer, PoolError>
+    requires size { length payload.now ≡ payload_size }
+    requires number { number < indirect_count }
+    requires index { index < pointer_count }
+    ensures pointer { IfOk result (λ p. p ≡ pointer_in payload.now index) }
+    ensures placed { IfOk result (IsPlaced frame.now.blocks) }
+    ensures inside { IfOk result (BeginsInside size (record_start number index)) }
+    ensures refused { IfErr result (λ e. e ≡ error.Damaged (kind_number Kind.Data)
+        (pointer_in payload.now index).address) }
+    ensures sound { IsPointerInside frame.now.blocks size (record_start number index)
+        (pointer_in payload.now index) → IfErr result (λ _. ⊥) }
+{
+    let start = RECORD_SIZE * record_number(number, index);
+    pointer_inside(frame, payload, index, Kind::Data, start, size)
+}
+
+/// The bytes of a record of the strip of this number from the offset `start` in the record on, with zeros after the
+/// object's end. The record has this pointer, and the object this length.
 ///
 /// # Errors
 /// `Read` if the device refused the read. `Damaged` if the block is none of this place, or if a byte of it past the
@@ -162,8 +286,8 @@ pub fn read_part<B: BlockReader>(
     into: &mut [u8],
 ) -> Result<(), PoolError>
     requires fits { block_address frame.now.blocks ≤ B.size reader.old }
-    requires number { number < object_count }
-    requires index { index < record_count }
+    requires number { number < indirect_count }
+    requires index { index < pointer_count }
     requires within { start + length into.old ≤ record_size }
     ensures reads { OnlyReads B.SectorDevice result reader.old reader.new }
     ensures size { length into.new ≡ length into.old }
@@ -174,10 +298,10 @@ pub fn read_part<B: BlockReader>(
         (B.cached reader.old) (bytes_of (B.disk reader.old).now) frame.now
         number index size pointer.now start into.new) }
     ensures zeros { OnOk result ((k : ℕ) → k < length into.new
-        → size ≤ record_size * index + (start + k) → get_or into.new k 0 ≡ 0) }
+        → size ≤ record_start number index + (start + k) → get_or into.new k 0 ≡ 0) }
     ensures exact { IsTrue B.keeps_model → (bytes : List ℕ)
         → IsRecord (bytes_of (B.disk reader.old).now) frame.now number index pointer.now bytes
-        → OnOk result (AreBytesFrom (record_size * index + start) bytes into.new) }
+        → OnOk result (AreBytesFrom (record_start number index + start) bytes into.new) }
     ensures sound { IsTrue B.keeps_model → (bytes : List ℕ) → length bytes ≡ size
         → IsRecord (bytes_of (B.disk reader.old).now) frame.now number index pointer.now bytes
         → IfErr result (λ e. e ≡ error.Read) }
@@ -189,10 +313,10 @@ pub fn read_part<B: BlockReader>(
     let mut payload = [0; PAYLOAD_SIZE];
     let place = BlockPlace {
         kind: Kind::Data,
-        number: (RECORD_COUNT * number + index) as u64,
+        number: data_number(number, index),
     };
     reader.read_payload(frame, place, pointer, &mut payload)?;
-    let end = RECORD_SIZE.min(size.saturating_sub(RECORD_SIZE * index));
+    let end = RECORD_SIZE.min(size.saturating_sub(RECORD_SIZE * record_number(number, index)));
     if !are_zeros(&payload[end..]) {
         return Err(damaged(Kind::Data, pointer));
     }

@@ -7,3 +7,4 @@ mod judged;
 mod loads;
 mod maps;
 mod reads;
+mod strips;

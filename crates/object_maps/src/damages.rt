@@ -1,27 +1,24 @@
 //! All damages of a tree, in the order of its walk (`walk.rt`). What lies below a damaged block isn't read, everything
 //! else is.
 
-ghost use Rattle.std.specs.Prelude.{◌≡◌, ◌≢◌, ℕ, ◌+◌, ◌*◌, ◌<◌, ◌≤◌, List, IfOk, IfErr, OnOk, IsTrue, length};
+ghost use Rattle.std.specs.Prelude.{◌≡◌, ◌≢◌, ℕ, ◌+◌, ◌<◌, ◌≤◌, List, IfOk, IfErr, OnOk, IsTrue, length};
 ghost use Rattle.base.specs.declared.refused.RefusedCalls.{RefusedCalls};
 ghost use Rattle.base.specs.disk.Calls.{counted, with_refusal};
 ghost use Rattle.base.specs.disk.Disk.{bytes_of};
-ghost use Rattle.base.specs.formats.Fields.{no_pointer, pointer_in};
+ghost use Rattle.base.specs.formats.Fields.{no_pointer};
 ghost use Rattle.base.specs.formats.Geometry.{block_address};
-ghost use Rattle.base.specs.formats.Limits.{object_count, object_stride, payload_size, pointer_count, record_size};
-ghost use Rattle.base.specs.tree.Damages.{IsRecordPointerForm};
-ghost use Rattle.base.specs.tree.Places.{IsPlace, pointer_of, walk_index_of, walk_index_of_indirect};
+ghost use Rattle.base.specs.formats.Limits.{indirect_count, object_count, object_stride, payload_size, pointer_count, strip_stride};
+ghost use Rattle.base.specs.tree.Places.{IsPlace, pointer_of, record_start, walk_index_of, walk_index_of_indirect, walk_index_of_object};
 ghost use Rattle.base.specs.tree.Places.Place.{Directory, Data};
 ghost use Rattle.device_model.specs.Reading.{OnlyReads};
-ghost use Rattle.object_maps.specs.DamageLists.{AddsDamages, AddsTold, HasDataOf, HasDirectories, IsListRefusal, ListsDamages};
-ghost use Rattle.object_maps.specs.Loaders.{IsEntryPayload, OnWalk};
+ghost use Rattle.object_maps.specs.DamageLists.{AddsDamages, AddsTold, HasDirectories, IsListRefusal, ListsDamages};
+ghost use Rattle.object_maps.specs.Loaders.{AreRecordForms, IsEntryPayload, OnWalk};
 ghost use Rattle.object_maps.specs.Loading.{IsLoadRefusal};
-ghost use Rattle.object_maps.specs.Walking.{IsDataOf, IsIndirectOf, IsPayloadOf, directory_index, objects_index};
+ghost use Rattle.object_maps.specs.Walking.{AreDataOf, AreStripsOf, IsDataOf, IsIndirectOf, IsObjectAt, IsPayloadOf, IsTopOf, directory_index, objects_index};
 
-use crate::tree::RECORD_COUNT;
-use crate::walk::{
-    BlockPlace, Entry, Loader, are_entries, are_records, damaged, have_form, new_buffer,
-    payload_of, read_entry,
-};
+use crate::forms::{Entry, are_entries, are_records, are_strips, have_form, read_entry};
+use crate::strips::{data_number, record_number, strip_number};
+use crate::walk::{BlockPlace, Loader, damaged, new_buffer, payload_of};
 use base::{
     ENTRY_COUNT, POINTER_COUNT, POINTER_SIZE, Pointer, PoolError, RECORD_SIZE, are_zeros,
     read_pointer,
@@ -33,15 +30,15 @@ use std::alloc::Global;
 /// A block that is damaged, as `PoolError::Damaged` names it.
 #[derive(Clone, Copy, Debug, PartialEq, Eq)]
 pub struct BlockDamage {
-    /// The kind of the block: 2 root, 3 directory, 4 indirect, 5 data, 6 log.
+    /// The kind of the block: 2 root, 3 directory, 4 indirect, 5 data, 6 log, 7 top.
     pub kind: u64,
     /// Its byte address on the device.
     pub address: u64,
 }
 
 /// Lists each damage of the tree under a root pointer, in the order of the walk: the root, then each directory, and for
-/// its entries each indirect block and its records, all rising. What lies below a damaged block isn't read, everything
-/// else is. A tree of which nothing is listed is whole.
+/// its entries the top and each indirect block with its records, all rising. What lies below a damaged block isn't read,
+/// everything else is. A tree of which nothing is listed is whole.
 ///
 /// # Errors
 /// `Read` if the device refuses a read, `NoMemory`.
@@ -197,7 +194,7 @@ impl Loader<'_> {
     {
         for index in 0..ENTRY_COUNT {
             let entry = read_entry(payload, index);
-            if entry.present != 1 {
+            if entry.present == 0 {
                 continue;
             }
             let number = ENTRY_COUNT * directory + index;
@@ -206,7 +203,7 @@ impl Loader<'_> {
         Ok(())
     }
 
-    // Lists the damages of the object that an entry names: of its indirect block and of its records.
+    // Lists the damages of the object that an entry names.
     fn list_object<D: SectorDevice>(
         &self,
         device: &mut D,
@@ -219,13 +216,103 @@ impl Loader<'_> {
         ensures reads { OnlyReads D.SectorDevice result device.old device.new }
         ensures cause { IfErr result IsListRefusal }
         ensures listed { OnWalk D.keeps_model (D.disk device.old) (λ image top.
-            IsIndirectOf image top number entry.now.pointer entry.now.length
+            IsObjectAt image top number entry.now
             → OnOk result (AddsDamages image self.now.frame.now top
-            (walk_index_of_indirect number) (walk_index_of_indirect number + object_stride)
+            (walk_index_of_object number) (walk_index_of_object number + object_stride)
             damages.old.items damages.new.items)) }
     {
-        let pointer = entry.pointer;
+        let size = entry.length as usize;
+        if entry.present == 2 {
+            return self.list_top(device, number, &entry.pointer, size, damages);
+        }
+        self.list_strip(device, number, &entry.pointer, size, damages)
+    }
+
+    // Lists the damages of an object of two levels: of its top and of its strips.
+    fn list_top<D: SectorDevice>(
+        &self,
+        device: &mut D,
+        number: usize,
+        pointer: &Pointer,
+        size: usize,
+        damages: &mut Vec<BlockDamage>,
+    ) -> Result<(), PoolError>
+        requires fits { block_address self.now.frame.now.blocks ≤ D.size device.old }
+        requires in_range { number < object_count }
+        ensures reads { OnlyReads D.SectorDevice result device.old device.new }
+        ensures cause { IfErr result IsListRefusal }
+        ensures listed { OnWalk D.keeps_model (D.disk device.old) (λ image top.
+            IsTopOf image top number pointer.now size
+            → OnOk result (AddsDamages image self.now.frame.now top
+            (walk_index_of_object number) (walk_index_of_object number + object_stride)
+            damages.old.items damages.new.items)) }
+    {
         if pointer.is_none() {
+            return Ok(());
+        }
+        let mut buffer = new_buffer();
+        let place = BlockPlace {
+            kind: Kind::Top,
+            number: number as u64,
+        };
+        if let Err(error) = self.read_block(device, place, pointer, None, &mut buffer) {
+            return add_damage(error, damages);
+        }
+        let payload = payload_of(&buffer);
+        if !are_strips(payload, size) {
+            return add_damage(damaged(Kind::Top, pointer), damages);
+        }
+        self.list_strips(device, number, payload, size, damages)
+    }
+
+    // Lists the damages of the strips that the payload of a top names.
+    fn list_strips<D: SectorDevice>(
+        &self,
+        device: &mut D,
+        number: usize,
+        payload: &[u8],
+        size: usize,
+        damages: &mut Vec<BlockDamage>,
+    ) -> Result<(), PoolError>
+        requires fits { block_address self.now.frame.now.blocks ≤ D.size device.old }
+        requires in_range { number < object_count }
+        requires payload { length payload.now ≡ payload_size }
+        ensures reads { OnlyReads D.SectorDevice result device.old device.new }
+        ensures cause { IfErr result IsListRefusal }
+        ensures listed { OnWalk D.keeps_model (D.disk device.old) (λ image top.
+            AreStripsOf image top number payload.now size
+            → OnOk result (AddsDamages image self.now.frame.now top
+            (walk_index_of_object number + 1) (walk_index_of_object number + object_stride)
+            damages.old.items damages.new.items)) }
+    {
+        for index in 0..POINTER_COUNT {
+            let pointer = read_pointer(payload, POINTER_SIZE * index);
+            let strip = strip_number(number, index);
+            self.list_strip(device, strip, &pointer, size, damages)?;
+        }
+        Ok(())
+    }
+
+    // Lists the damages of the strip of this number: of its indirect block and of its records.
+    fn list_strip<D: SectorDevice>(
+        &self,
+        device: &mut D,
+        number: usize,
+        indirect: &Pointer,
+        size: usize,
+        damages: &mut Vec<BlockDamage>,
+    ) -> Result<(), PoolError>
+        requires fits { block_address self.now.frame.now.blocks ≤ D.size device.old }
+        requires in_range { number < indirect_count }
+        ensures reads { OnlyReads D.SectorDevice result device.old device.new }
+        ensures cause { IfErr result IsListRefusal }
+        ensures listed { OnWalk D.keeps_model (D.disk device.old) (λ image top.
+            IsIndirectOf image top number indirect.now size
+            → OnOk result (AddsDamages image self.now.frame.now top
+            (walk_index_of_indirect number) (walk_index_of_indirect number + strip_stride)
+            damages.old.items damages.new.items)) }
+    {
+        if indirect.is_none() {
             return Ok(());
         }
         let mut buffer = new_buffer();
@@ -233,15 +320,14 @@ impl Loader<'_> {
             kind: Kind::Indirect,
             number: number as u64,
         };
-        if let Err(error) = self.read_block(device, place, &pointer, None, &mut buffer) {
+        if let Err(error) = self.read_block(device, place, indirect, None, &mut buffer) {
             return add_damage(error, damages);
         }
         let payload = payload_of(&buffer);
-        let size = entry.length as usize;
-        if !are_records(payload, size) {
-            return add_damage(damaged(Kind::Indirect, &pointer), damages);
+        if !are_records(payload, number, size) {
+            return add_damage(damaged(Kind::Indirect, indirect), damages);
         }
-        self.list_records(device, number, size, payload, damages)
+        self.list_records(device, number, payload, size, damages)
     }
 
     // Lists the damages of the records that an indirect block's payload names.
@@ -249,24 +335,23 @@ impl Loader<'_> {
         &self,
         device: &mut D,
         number: usize,
-        size: usize,
         payload: &[u8],
+        size: usize,
         damages: &mut Vec<BlockDamage>,
     ) -> Result<(), PoolError>
         requires fits { block_address self.now.frame.now.blocks ≤ D.size device.old }
-        requires in_range { number < object_count }
+        requires in_range { number < indirect_count }
         requires payload { length payload.now ≡ payload_size }
-        requires records { (r : ℕ) → r < pointer_count
-            → IsRecordPointerForm size (record_size * r) (pointer_in payload.now r) }
+        requires records { AreRecordForms number size payload.now }
         ensures reads { OnlyReads D.SectorDevice result device.old device.new }
         ensures cause { IfErr result IsListRefusal }
         ensures listed { OnWalk D.keeps_model (D.disk device.old) (λ image top.
-            HasDataOf image top number size payload.now
+            AreDataOf image top number payload.now size
             → OnOk result (AddsDamages image self.now.frame.now top
-            (walk_index_of_indirect number + 1) (walk_index_of_indirect number + object_stride)
+            (walk_index_of_indirect number + 1) (walk_index_of_indirect number + strip_stride)
             damages.old.items damages.new.items)) }
     {
-        for index in 0..RECORD_COUNT {
+        for index in 0..POINTER_COUNT {
             let pointer = read_pointer(payload, POINTER_SIZE * index);
             if pointer.is_none() {
                 continue;
@@ -288,7 +373,7 @@ impl Loader<'_> {
     ) -> Result<(), PoolError>
         requires fits { block_address self.now.frame.now.blocks ≤ D.size device.old }
         requires place { IsPlace (Data number index) }
-        requires within { record_size * index < size }
+        requires within { record_start number index < size }
         ensures reads { OnlyReads D.SectorDevice result device.old device.new }
         ensures cause { IfErr result IsListRefusal }
         ensures listed { OnWalk D.keeps_model (D.disk device.old) (λ image top.
@@ -300,12 +385,12 @@ impl Loader<'_> {
         let mut buffer = new_buffer();
         let place = BlockPlace {
             kind: Kind::Data,
-            number: (RECORD_COUNT * number + index) as u64,
+            number: data_number(number, index),
         };
         if let Err(error) = self.read_block(device, place, pointer, None, &mut buffer) {
             return add_damage(error, damages);
         }
-        let count = (size - RECORD_SIZE * index).min(RECORD_SIZE);
+        let count = (size - RECORD_SIZE * record_number(number, index)).min(RECORD_SIZE);
         if !are_zeros(&payload_of(&buffer)[count..]) {
             return add_damage(damaged(Kind::Data, pointer), damages);
         }

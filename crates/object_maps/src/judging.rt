@@ -1,8 +1,8 @@
 //! Operations that are judged before they take place, each by whether its object is there. A name that is given, and is
 //! one, is never refused.
 //!
-//! What the operations before made of an object is sought among these if there are few, and is noted in a table of all
-//! numbers if there are many. The table stands on the stack. So the cost grows with the operations, and none takes memory.
+//! If there are few operations, what those before made of an object is found by going through them. If there are many,
+//! it is noted in a table of all numbers, on the stack. So the cost grows with the operations, and none takes memory.
 
 ghost use Rattle.std.specs.Prelude.{◌≡◌, ◌++◌, ◌∷◌, Bool, List, [], length};
 ghost use Rattle.base.specs.declared.operation.Op.{Op};
@@ -25,7 +25,7 @@ enum Presence {
     Removed,
 }
 
-// The most operations among which one seeks what those before it made of its object: with more, a table costs less.
+// The most operations that each go through those before them. With more, a table costs less.
 const SHORT_LIST: usize = 32;
 
 /// Judges operations in order, each on the objects after those before it, and gives the first refusal:

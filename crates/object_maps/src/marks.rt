@@ -1,10 +1,11 @@
 //! The blocks that pointers name are taken from a set of free blocks.
 
+ghost use Rattle.std.specs.Prelude.{◌≡◌, length};
 ghost use Rattle.std.specs.List.{list_any};
-ghost use Rattle.object_maps.specs.FreeBlocks.{BlocksTaken, is_block_at, map_names, names_block};
+ghost use Rattle.base.specs.formats.Limits.{payload_size};
+ghost use Rattle.object_maps.specs.FreeBlocks.{BlocksTaken, is_block_at, names_block, payload_names};
 
-use crate::tree::{ObjectMap, RECORD_COUNT};
-use base::{BLOCK_SIZE, Pointer};
+use base::{BLOCK_SIZE, POINTER_COUNT, POINTER_SIZE, Pointer, read_pointer};
 use checked_blocks::BLOCK_AREA;
 use space::FreeSet;
 
@@ -25,11 +26,13 @@ pub(crate) fn take_blocks(free: &mut FreeSet, pointers: &[Pointer])
     }
 }
 
-// Takes the blocks that a map of an object names.
-pub(crate) fn take_map(free: &mut FreeSet, map: &ObjectMap)
-    ensures { BlocksTaken (λ k. map_names k map.now) free.old free.new }
+// Takes the blocks that the pointers of a payload name.
+pub(crate) fn take_named(free: &mut FreeSet, payload: &[u8])
+    requires { length payload.now ≡ payload_size }
+    ensures { BlocksTaken (λ k. payload_names k payload.now) free.old free.new }
 {
-    take_block(free, map.indirect.address);
-    let count = RECORD_COUNT.min(map.records.len());
-    take_blocks(free, &map.records[..count]);
+    for index in 0..POINTER_COUNT {
+        let pointer = read_pointer(payload, POINTER_SIZE * index);
+        take_block(free, pointer.address);
+    }
 }

@@ -1,75 +1,70 @@
 //! The tree of blocks that holds a pool's objects (On-Disk Specification, chapter 2): a root, directories, and for each
-//! object an indirect block over its records. The lengths of its objects, and its pointers down to the indirect blocks,
-//! are kept in memory. The pointers to records are told: they stand in the indirect blocks.
+//! object an indirect block over 84 records, or a top over 84 such blocks. The lengths of its objects, and its pointers
+//! down to what the directories name, are kept in memory. The pointers below these are told: they stand in the blocks.
 
 ghost use Rattle.std.specs.Prelude.{◌≡◌, IfOk, All, vec_len};
 ghost use Rattle.base.specs.formats.Limits.{object_count, pointer_count};
 ghost use Rattle.object_maps.specs.EmptyEntries.{IsEmptyEntry};
 
-use crate::told_bytes::{PointersView, tell_pointers};
-use base::{OBJECT_COUNT, ObjectId, POINTER_COUNT, Pointer, Told};
+use crate::told_bytes::{StripsView, no_strips};
+use base::{OBJECT_COUNT, ONE_LEVEL_LENGTH, ObjectId, POINTER_COUNT, Pointer, Told};
 use std::alloc::{AllocError, Global};
 use std::collections::BTreeMap;
 
-/// The records of an object, 4,032 bytes each.
-pub const RECORD_COUNT: usize = POINTER_COUNT;
-
-/// What a tree has of one object, with its indirect block: its length, and the pointers to that block and to its
-/// records.
-#[derive(Debug, PartialEq, Eq, Drop)]
-pub struct ObjectMap {
-    /// The length of the object in bytes, `None` if the tree has no such object.
-    pub length: Option<u64>,
-    /// The pointer to the indirect block. It is `Pointer::NONE` if there is none: then all records are holes.
-    pub indirect: Pointer,
-    /// The pointer to each record, by the record's index. It may be empty if all records are holes.
-    pub records: Vec<Pointer>,
-}
-
-impl ObjectMap {
-    ghost use Rattle.std.specs.Prelude.{◌≡◌, get_or};
-    ghost use Rattle.base.specs.formats.Fields.{no_pointer};
-    ghost use Rattle.object_maps.specs.Pointers.{told_map};
-
-    /// The pointer to a record, or to nothing.
-    pub fn record(&self, index: usize) -> Pointer
-        ensures { result ≡ get_or self.now.records.items index no_pointer }
-    {
-        match self.records.get(index) {
-            Some(pointer) => *pointer,
-            None => Pointer::NONE,
-        }
-    }
-
-    /// What is kept of it once its indirect block is written. The pointers to its records are told. It takes no memory.
-    pub fn into_entry(self) -> ObjectEntry
-        ensures { result ≡ told_map self }
-    {
-        let ObjectMap {
-            length,
-            indirect,
-            records,
-        } = self;
-        ObjectEntry {
-            length,
-            indirect,
-            records: tell_pointers(&records),
-        }
-    }
-}
+/// The most records of an object, 4,032 bytes each.
+pub const RECORD_COUNT: usize = POINTER_COUNT * POINTER_COUNT;
 
 /// What is kept in memory of one object of a tree: what its directory has of it.
 #[derive(Debug, Drop)]
 pub struct ObjectEntry {
     /// The length of the object in bytes, `None` if the tree has no such object.
     pub length: Option<u64>,
-    /// The pointer to the indirect block. It is `Pointer::NONE` if there is none: then all records are holes.
-    pub indirect: Pointer,
-    /// The pointers to its records, of which none stands in memory.
-    pub records: Told<PointersView>,
+    /// The pointer to the object's top if it has two levels, or else to its indirect block. It is `Pointer::NONE` if
+    /// there is none: then all records are holes.
+    pub pointer: Pointer,
+    /// The pointers below, of which none stands in memory.
+    pub strips: Told<StripsView>,
 }
 
-/// The pointers of a tree down to its indirect blocks, and the lengths of its objects.
+impl ObjectEntry {
+    ghost use Rattle.std.specs.Prelude.{◌≡◌, false};
+    ghost use Rattle.object_maps.specs.Pointers.{is_long_entry, pointers_of_entry};
+
+    /// Whether the object has two levels of indirect blocks.
+    pub fn is_long(&self) -> bool
+        ensures { result ≡ is_long_entry self.now }
+    {
+        match self.length {
+            Some(length) => length > ONE_LEVEL_LENGTH,
+            None => false,
+        }
+    }
+
+    /// The pointer to the object's top, or to nothing.
+    pub fn top(&self) -> Pointer
+        ensures { result ≡ (pointers_of_entry self.now).top }
+    {
+        if self.is_long() {
+            self.pointer
+        } else {
+            Pointer::NONE
+        }
+    }
+
+    /// The pointer to the indirect block of an object of one level, or to nothing.
+    pub fn indirect(&self) -> Pointer
+        ensures { is_long_entry self.now ≡ false
+            → result ≡ (pointers_of_entry self.now).strip 0 }
+    {
+        if self.is_long() {
+            Pointer::NONE
+        } else {
+            self.pointer
+        }
+    }
+}
+
+/// The pointers of a tree down to what its directories name, and the lengths of its objects.
 #[derive(Debug, Drop)]
 pub struct Tree {
     /// The pointer to the root. It is `Pointer::NONE` if there is none: then no object is there.
@@ -91,8 +86,8 @@ pub fn empty_entries(alloc: Global) -> Result<Vec<ObjectEntry>, AllocError>
     for _i in 0..OBJECT_COUNT {
         entries.push_reserved(ObjectEntry {
             length: None,
-            indirect: Pointer::NONE,
-            records: tell_pointers(&[]),
+            pointer: Pointer::NONE,
+            strips: no_strips(),
         });
     }
     Ok(entries)
@@ -103,22 +98,21 @@ impl Tree {
     ghost use Rattle.base.specs.formats.Limits.{object_count};
     ghost use Rattle.base.specs.tree.Places.{Place, IsPlace};
     ghost use Rattle.object_maps.specs.Lengths.{lengths_of, with_lengths};
-    ghost use Rattle.object_maps.specs.Pointers.{map_among, pointers_of, told_map, with_maps};
+    ghost use Rattle.object_maps.specs.Pointers.{entry_among, pointers_of, with_entries};
     ghost use Rattle.object_maps.specs.Surveys.{ListsObjectsOf};
     ghost use Rattle.std.proofs.Math.ListN.{set};
 
-    /// Sets the lengths and the pointers of these objects. Those with no place in the tree are dropped. It takes no
-    /// memory.
-    pub fn set_all(&mut self, maps: BTreeMap<ObjectId, ObjectMap>)
+    /// Sets the entries of these objects. Those with no place in the tree are dropped. It takes no memory.
+    pub fn set_all(&mut self, entries: BTreeMap<ObjectId, ObjectEntry>)
         ensures pointers { (place : Place) → IsPlace place
-            → pointers_of self.new place ≡ with_maps (map_among maps) (pointers_of self.old) place }
+            → pointers_of self.new place ≡ with_entries (entry_among entries) (pointers_of self.old) place }
         ensures lengths { (n : ℕ) → n < object_count
-            → lengths_of self.new n ≡ with_lengths (map_among maps) (lengths_of self.old) n }
+            → lengths_of self.new n ≡ with_lengths (entry_among entries) (lengths_of self.old) n }
         ensures root { self.new.root ≡ self.old.root }
         ensures directories { self.new.directories ≡ self.old.directories }
     {
-        for (id, map) in maps {
-            self.set(id, map);
+        for (id, entry) in entries {
+            self.set(id, entry);
         }
     }
 
@@ -135,13 +129,13 @@ impl Tree {
         Ok(list)
     }
 
-    fn set(&mut self, id: ObjectId, map: ObjectMap)
-        ensures entries { self.new.entries.items ≡ set self.old.entries.items id.0 (told_map map) }
+    fn set(&mut self, id: ObjectId, entry: ObjectEntry)
+        ensures entries { self.new.entries.items ≡ set self.old.entries.items id.0 entry }
         ensures root { self.new.root ≡ self.old.root }
         ensures directories { self.new.directories ≡ self.old.directories }
     {
         if (id.0 as usize) < self.entries.len() {
-            self.entries[id.0 as usize] = map.into_entry();
+            self.entries[id.0 as usize] = entry;
         }
     }
 }

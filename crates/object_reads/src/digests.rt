@@ -13,7 +13,7 @@ ghost use Rattle.object_maps.specs.Digests.{Feeds, text_at};
 ghost use Rattle.object_maps.specs.Judging.{with_name};
 ghost use Rattle.object_maps.specs.Sources.{AreWithin, object_bytes};
 
-use crate::pointer_block::PointerBlock;
+use crate::pointer_blocks::PointerBlocks;
 use crate::shown_tree::ShownTree;
 use base::{OBJECT_COUNT, ObjectId, PoolError, PoolName, RECORD_SIZE};
 use object_maps::{BlockReader, ObjectSource};
@@ -24,7 +24,8 @@ impl<'a> ShownTree<'a> {
 
     /// The digest of the contents with this name: SHA-256 of the name's length (4 bytes), the name, the number of
     /// objects (4), and for each object by rising number its number (4), its length (8) and its bytes. All numbers are
-    /// little-endian. Of each object the indirect block is read first, then the records, rising. It takes no memory.
+    /// little-endian. The records of an object are read rising, those of a strip after its indirect block, and all after
+    /// the object's top, if it has one. It takes no memory.
     ///
     /// # Errors
     /// `Read` if the device refused a read, `Damaged` if a block is not the one that its pointer names.
@@ -98,10 +99,10 @@ impl<'a> ShownTree<'a> {
         ensures sound { StandsOn B.SectorDevice reader.old self.now
             → IfErr result (λ e. e ≡ error.Read) }
     {
-        let mut block = PointerBlock::new();
+        let mut blocks = PointerBlocks::new();
         let mut record = [0; RECORD_SIZE];
         for index in 0..size.div_ceil(RECORD_SIZE) {
-            self.read_part(reader, id, &mut block, index, 0, &mut record)?;
+            self.read_part(reader, id, &mut blocks, index, 0, &mut record)?;
             let count = RECORD_SIZE.min(size - RECORD_SIZE * index);
             hasher.update(&record[..count]);
         }

@@ -4,7 +4,7 @@
 
 mod clients;
 mod digests;
-mod pointer_block;
+mod pointer_blocks;
 mod reading;
 mod shown_tree;
 

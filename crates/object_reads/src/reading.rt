@@ -11,7 +11,7 @@ ghost use Rattle.object_maps.specs.Cached.{IsReadRefusal};
 ghost use Rattle.object_maps.specs.Sources.{object_bytes, object_length, range_in};
 ghost use Rattle.object_reads.specs.ShownTrees.{IsRangeRefusal, IsRangeRefusalOnTree, StandsOn, shown_objects};
 
-use crate::pointer_block::PointerBlock;
+use crate::pointer_blocks::PointerBlocks;
 use crate::shown_tree::ShownTree;
 use base::{Bytes, ObjectId, PoolError, RECORD_SIZE, Range};
 use object_maps::BlockReader;
@@ -19,7 +19,8 @@ use std::alloc::Global;
 
 impl<'a> ShownTree<'a> {
     /// The bytes of a range of an object that lie below its length. Only the parts of records that they lie in are
-    /// read, straight into their place, after the indirect block.
+    /// read, straight into their place. The top of an object of two levels is read once before them, and the indirect
+    /// block of each strip once before its records.
     ///
     /// # Errors
     /// `NoMemory` if there is none for the bytes, `Read` if the device refused a read, `Damaged` if a block is not the
@@ -74,14 +75,14 @@ impl<'a> ShownTree<'a> {
         ensures sound { StandsOn B.SectorDevice reader.old self.now
             → IfErr result (λ e. e ≡ error.Read) }
     {
-        let mut block = PointerBlock::new();
+        let mut blocks = PointerBlocks::new();
         let mut done = 0;
         while done < into.len() {
             let start = (low + done) % RECORD_SIZE;
             let count = (RECORD_SIZE - start).min(into.len() - done);
             let index = (low + done) / RECORD_SIZE;
             let part = &mut into[done..done + count];
-            self.read_part(reader, id, &mut block, index, start, part)?;
+            self.read_part(reader, id, &mut blocks, index, start, part)?;
             done += count;
         }
         Ok(())

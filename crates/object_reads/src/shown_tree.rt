@@ -1,6 +1,7 @@
 //! The synced tree of a pool, as the changes of the unsynced groups show: parts of the records of its objects.
 //!
-//! A block is read only if a byte of it shows, and the indirect block of an object once for all of its records.
+//! A block is read only if a byte of it shows. As records are read rising, the top of an object is read once for all of
+//! its strips, and an indirect block once for all records of its strip.
 
 ghost use Rattle.std.specs.Prelude.{◌≡◌, ◌+◌, ◌*◌, ◌<◌, ◌≤◌, IfErr, OnOk, is_some, length, true};
 ghost use Rattle.std.specs.FinMap as finite;
@@ -11,12 +12,12 @@ ghost use Rattle.device_model.specs.Reading.{OnlyReads};
 ghost use Rattle.object_maps.specs.Cached.{IsReadRefusal};
 ghost use Rattle.object_maps.specs.Sources.{AreBytesFrom, object_bytes, object_length};
 
-use crate::pointer_block::PointerBlock;
-use base::{ObjectId, PoolError};
+use crate::pointer_blocks::PointerBlocks;
+use base::{ObjectId, POINTER_COUNT, PoolError};
 use checked_blocks::Frame;
 use extents::{Laid, UnsyncedExtents};
 use object_maps::{
-    BlockReader, Contents, ObjectSource, Tree, read_indirect, read_part, record_pointer,
+    BlockReader, Contents, ObjectSource, Tree, read_part, record_pointer, strip_number,
 };
 
 /// What a pool has in memory of the objects that it shows. Reads of their bytes are handed the device.
@@ -24,7 +25,7 @@ use object_maps::{
 pub struct ShownTree<'a> {
     /// The frame of the synced tree's blocks.
     pub frame: Frame,
-    /// The pointers of the synced tree, down to its indirect blocks.
+    /// The pointers of the synced tree, down to what its directories name, and the lengths of its objects.
     pub tree: &'a Tree,
     /// The lengths of its objects.
     pub contents: &'a Contents,
@@ -36,7 +37,7 @@ pub struct ShownTree<'a> {
 type Objects<'a> = Laid<'a, Laid<'a, Laid<'a, &'a Contents>>>;
 
 impl<'a> ShownTree<'a> {
-    ghost use Rattle.object_reads.specs.ShownTrees.{ArePointersTo, IsBlockOf, StandsOn, shown_objects, synced_objects};
+    ghost use Rattle.object_reads.specs.ShownTrees.{ArePointerBlocksOf, StandsOn, shown_objects, synced_objects};
 
     // The objects that are shown, by their lengths.
     pub(crate) fn objects(&self) -> Objects<'a>
@@ -57,7 +58,7 @@ impl<'a> ShownTree<'a> {
         &self,
         reader: &mut B,
         id: ObjectId,
-        block: &mut PointerBlock,
+        blocks: &mut PointerBlocks,
         index: usize,
         start: usize,
         into: &mut [u8],
@@ -67,13 +68,13 @@ impl<'a> ShownTree<'a> {
         requires there { is_some (finite.get (shown_objects self.now) id.0) ≡ true }
         requires index { index < record_count }
         requires within { start + length into.old ≤ record_size }
-        requires block { StandsOn B.SectorDevice reader.old self.now
-            → IsBlockOf self.now id.0 block.old }
+        requires blocks { StandsOn B.SectorDevice reader.old self.now
+            → ArePointerBlocksOf self.now id.0 blocks.old }
         ensures reads { OnlyReads B.SectorDevice result reader.old reader.new }
         ensures size { length into.new ≡ length into.old }
         ensures refused { IfErr result IsReadRefusal }
-        ensures block { StandsOn B.SectorDevice reader.old self.now
-            → OnOk result (IsBlockOf self.now id.0 block.new) }
+        ensures blocks { StandsOn B.SectorDevice reader.old self.now
+            → OnOk result (ArePointerBlocksOf self.now id.0 blocks.new) }
         ensures exact { StandsOn B.SectorDevice reader.old self.now
             → OnOk result (AreBytesFrom (record_size * index + start)
             (object_bytes (shown_objects self.now) id.0) into.new) }
@@ -81,7 +82,7 @@ impl<'a> ShownTree<'a> {
             → IfErr result (λ e. e ≡ error.Read) }
     {
         if !self.changes.hides(id, index, start, into.len()) {
-            self.read_synced(reader, id, block, index, start, into)?;
+            self.read_synced(reader, id, blocks, index, start, into)?;
         }
         self.changes.lay_on(id, index, start, into);
         Ok(())
@@ -92,7 +93,7 @@ impl<'a> ShownTree<'a> {
         &self,
         reader: &mut B,
         id: ObjectId,
-        block: &mut PointerBlock,
+        blocks: &mut PointerBlocks,
         index: usize,
         start: usize,
         into: &mut [u8],
@@ -101,13 +102,13 @@ impl<'a> ShownTree<'a> {
         requires number { id.0 < object_count }
         requires index { index < record_count }
         requires within { start + length into.old ≤ record_size }
-        requires block { StandsOn B.SectorDevice reader.old self.now
-            → IsBlockOf self.now id.0 block.old }
+        requires blocks { StandsOn B.SectorDevice reader.old self.now
+            → ArePointerBlocksOf self.now id.0 blocks.old }
         ensures reads { OnlyReads B.SectorDevice result reader.old reader.new }
         ensures size { length into.new ≡ length into.old }
         ensures refused { IfErr result IsReadRefusal }
-        ensures block { StandsOn B.SectorDevice reader.old self.now
-            → OnOk result (IsBlockOf self.now id.0 block.new) }
+        ensures blocks { StandsOn B.SectorDevice reader.old self.now
+            → OnOk result (ArePointerBlocksOf self.now id.0 blocks.new) }
         ensures exact { StandsOn B.SectorDevice reader.old self.now
             → OnOk result (AreBytesFrom (record_size * index + start)
             (object_bytes (synced_objects self.now) id.0) into.new) }
@@ -118,52 +119,21 @@ impl<'a> ShownTree<'a> {
             into.fill(0);
             return Ok(());
         };
-        self.read_pointers(reader, id, block)?;
         let size = size as usize;
-        let pointer = record_pointer(&self.frame, &block.payload, index, size)?;
+        let strip = index / POINTER_COUNT;
+        self.read_strip(reader, id, size, strip, blocks)?;
+        let number = strip_number(id.0 as usize, strip);
+        let record = index % POINTER_COUNT;
+        let pointer = record_pointer(&self.frame, &blocks.indirect, number, record, size)?;
         read_part(
             reader,
             &self.frame,
-            id.0 as usize,
-            index,
+            number,
+            record,
             &pointer,
             size,
             start,
             into,
         )
-    }
-
-    // Reads the indirect block of an object of the synced tree, if it is not read yet.
-    fn read_pointers<B: BlockReader>(
-        &self,
-        reader: &mut B,
-        id: ObjectId,
-        block: &mut PointerBlock,
-    ) -> Result<(), PoolError>
-        requires fits { block_address self.now.frame.blocks ≤ B.size reader.old }
-        requires number { id.0 < object_count }
-        requires there { is_some (finite.get (synced_objects self.now) id.0) ≡ true }
-        requires block { StandsOn B.SectorDevice reader.old self.now
-            → IsBlockOf self.now id.0 block.old }
-        ensures reads { OnlyReads B.SectorDevice result reader.old reader.new }
-        ensures refused { IfErr result IsReadRefusal }
-        ensures pointers { StandsOn B.SectorDevice reader.old self.now
-            → OnOk result (ArePointersTo self.now id.0 block.new.payload) }
-        ensures sound { StandsOn B.SectorDevice reader.old self.now
-            → IfErr result (λ e. e ≡ error.Read) }
-    {
-        if block.is_read {
-            return Ok(());
-        }
-        let indirect = self.tree.entries[id.0 as usize].indirect;
-        read_indirect(
-            reader,
-            &self.frame,
-            id.0 as usize,
-            &indirect,
-            &mut block.payload,
-        )?;
-        block.is_read = true;
-        Ok(())
     }
 }

@@ -15,6 +15,7 @@ fn cut_group(alloc: Global) -> Result<Extents, PoolError> {
 }
 
 // The first three bytes and the last two of the first record of an object of 10 bytes, under a group.
+#[tactic(auto, unfolding(base::specs::formats::Limits::record_count))]
 fn ends_of_first(group: &Extents) -> ([u8; 3], [u8; 2]) {
     let mut record = [0; RECORD_SIZE];
     record[..2].copy_from_slice(b"xy");
@@ -26,6 +27,7 @@ fn ends_of_first(group: &Extents) -> ([u8; 3], [u8; 2]) {
 }
 
 // The first three bytes of the second record of an object of 9,000 bytes, under a group.
+#[tactic(auto, unfolding(base::specs::formats::Limits::record_count))]
 fn front_of_second(group: &Extents) -> [u8; 3] {
     let mut record = [b'z'; RECORD_SIZE];
     group.lay_over(OBJECT, 1, 0, Some(9_000), &mut record);
@@ -47,6 +49,7 @@ fn written_group(alloc: Global) -> Result<Extents, PoolError> {
 }
 
 // The bytes around the end of the first record, through such a group over zeros.
+#[tactic(auto, unfolding(base::specs::formats::Limits::record_count))]
 fn written_bytes(alloc: Global) -> Result<([u8; 3], [u8; 2]), PoolError> {
     let group = written_group(alloc)?;
     let (mut front, mut back) = ([0; 3], [0; 2]);

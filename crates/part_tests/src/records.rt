@@ -263,9 +263,9 @@ fn what_is_outside_its_limits_is_not_encoded(rt: HostRuntime) {
     let sevens = sevens();
     let rows = [
         (Made::Write(0, b""), bad),
-        (Made::Write(338_685, b"wxyz"), bad),
-        (Made::Write(338_684, b"wxyz"), None),
-        (Made::Write(335_000, &sevens), bad),
+        (Made::Write(28_449_789, b"wxyz"), bad),
+        (Made::Write(28_449_788, b"wxyz"), None),
+        (Made::Write(28_446_000, &sevens), bad),
         // the record of 65,497 bytes has 65,536
         (Made::Write(0, front(&sevens, 65_497)), None),
         (Made::Write(0, &sevens), Some(PoolError::TooLarge)),

@@ -12,7 +12,6 @@ use Rattle.base.specs.history.Past.{Past}
 use Rattle.base.specs.steps.Additions.{past_after}
 use Rattle.base.specs.steps.Runs.{reply_of}
 use Rattle.base.specs.steps.Steps as steps
-use Rattle.base.specs.steps.Steps.{State}
 use Rattle.base.proofs.steps.Additions.{told_past}
 use Rattle.device_model.specs.declared.device.SectorDevice.{Ghosts}
 use Rattle.object_maps.specs.declared.tree.Tree.{Tree}

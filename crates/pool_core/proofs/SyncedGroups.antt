@@ -1,5 +1,5 @@
 -- A sync of the open group that returns a group has synced it, and a receipt of a synced group is durable.
-use Rattle.std.proofs.Common.{◌≡◌, ◌∙◌, ℕ, Bool, true, false, ap, inl, inr, refl, sym}
+use Rattle.std.proofs.Common.{◌≡◌, ◌∙◌, ℕ, Bool, true, ap, inl, inr, sym}
 use Rattle.std.proofs.Math.Nat.{le_refl}
 use Rattle.std.proofs.lemmas.Bool.{false≢true, le-leb}
 use Rattle.std.specs.Prelude.{◌||◌, Err, None, Ok, Option, Result, Some, nat_le}

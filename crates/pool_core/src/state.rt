@@ -114,7 +114,7 @@ impl<D: SectorDevice> PoolState<D> {
         self.pool.lock(owner, object, range, mode)
     }
 
-    /// Locks an object as a writer from its end to the greatest length, 338,688, and returns that range too.
+    /// Locks an object as a writer from its end to the greatest length, 28,449,792, and returns that range too.
     ///
     /// # Errors
     /// In this order:
@@ -404,9 +404,10 @@ impl<D: SectorDevice> PoolState<D> {
     /// takes the memory for all its steps. The moment, in seconds, is stored in its uberblocks. If the group gives a
     /// name, six more steps write it into the configs of the labels.
     ///
-    /// Of the synced tree it reads the indirect block of each changed object, rising, and then each record that the
-    /// group changes in part, for rising objects and in each for rising records. A block that the cache has is not
-    /// read. If the start is refused, the group is still quiesced, and the same call goes on with what the cache has.
+    /// Of each changed object, rising, it reads the top, if the synced object has two levels, and then the indirect
+    /// blocks that the plan looks at. Then it reads each record that the group changes in part, for rising objects and
+    /// in each for rising records. A block that the cache has is not read. If the start is refused, the group is still
+    /// quiesced, and the same call goes on with what the cache has.
     ///
     /// # Errors
     /// In this order:

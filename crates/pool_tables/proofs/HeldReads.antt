@@ -97,9 +97,12 @@ suspended_first is = cc
 pub area_fits : (geometry size : ℕ) → IsGeometry geometry → size ≡ geometry → block_address (block_count geometry) ≤ size
 area_fits geometry size sized is = let end = blocks-end geometry sized in omega (arith, end, is)
 
--- a device that holds a pool has its synced tree
+-- a device that holds a pool has its synced tree, with the lengths of the synced objects
 pub tree_held : (now : List ℕ) (past : Past) (p : PoolTables) → IsHeld (held_with (pool_told p now) past) → HoldsSyncedTree p now
-tree_held now past p x = synced_tree now (pool_shown p) past (pointers_of p.tree) x.kept.stored x.explained
+tree_held now past p x = record {
+  held = synced_tree now (pool_shown p) past (pointers_of p.tree) x.kept.stored x.explained;
+  lengths = x.explained.trees.synced.lengths;
+}
 
 -- what a pool hands its reads
 module _ (p : PoolTables) (t : ShownTree) (framed : t.frame ≡ frame_at (pool_shown p) (pool_shown p).line.synced) (tree : t.tree.now ≡ p.tree) (contents : t.contents.now ≡ p.synced)
@@ -114,4 +117,8 @@ module _ (p : PoolTables) (t : ShownTree) (framed : t.frame ≡ frame_at (pool_s
   pub held_stands : {Dev : Type 0} (D : Ghosts Dev) (device : Dev) → IsTrue D.keeps_model → (past : Past) → IsHeld (held_with (pool_told p (bytes_of (D.disk device).now)) past)
       → StandsOn D device t
   held_stands D device keeps past h =
-      record { keeps = keeps; tree = rw (framed, tree, contents) (tree_held (bytes_of (D.disk device).now) past p h) }
+      record {
+        keeps = keeps;
+        tree = rw (framed, tree, contents) (tree_held (bytes_of (D.disk device).now) past p h).held;
+        lengths = rw (tree, contents) h.explained.trees.synced.lengths;
+      }

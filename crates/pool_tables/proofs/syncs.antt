@@ -1,4 +1,5 @@
 pub mod SameSyncs
+pub mod SyncedTrees
 pub mod SyncLeads
 pub mod PlannedGroups
 pub mod PlannedContents

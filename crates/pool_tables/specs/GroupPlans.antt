@@ -6,21 +6,19 @@ use Rattle.base.specs.formats.Uberblocks.{Uberblock}
 use Rattle.base.specs.steps.Logs.{header_for}
 use Rattle.base.specs.steps.Shown.{SyncPlan}
 use Rattle.base.specs.stored.Stored.{frame_at}
-use Rattle.base.specs.tree.PlacedTrees.{HoldsTree}
 use Rattle.sync.specs.Runs.{call_count}
 use Rattle.extents.specs.Unsynced.{name_at}
-use Rattle.object_maps.specs.Pointers.{pointers_of}
 use Rattle.tree_plans.specs.declared.planner.TreePlan.{TreePlan}
 use Rattle.tree_plans.specs.Plans.{address_of}
 use Rattle.group_plans.specs.GroupPlans.{HoldsGroupObjects, IsRefusedShort, MakesReadTree}
+use Rattle.group_plans.specs.OldMaps.{HoldsTreeOf}
 use Rattle.group_plans.specs.Pointers.{lengths_after}
 use Rattle.pool_tables.specs.declared.pool.PoolTables.{PoolTables}
 use Rattle.pool_tables.specs.declared.pool.RunningSync.{RunningSync}
 use Rattle.pool_tables.specs.RunningUberblocks.{uberblock_with}
 use Rattle.pool_tables.specs.Shows.{contents_after_oldest, new_plan, pool_shown, synced_of}
 
--- it makes of a pool's tree that of its oldest unsynced group, which is this one, whichever pointers to records were
--- read
+-- it makes of a pool's tree that of its oldest unsynced group, which is this one, whichever pointers were read
 abbrev pub MakesOldestTree : PoolTables → ℕ → TreePlan → Type 0
 MakesOldestTree pool group p = MakesReadTree (frame_at (pool_shown pool) group) pool.tree pool.log.records (contents_after_oldest pool).objects p
 
@@ -28,9 +26,9 @@ MakesOldestTree pool group p = MakesReadTree (frame_at (pool_shown pool) group) 
 abbrev pub HoldsOldestObjects : PoolTables → ℕ → TreePlan → Type 0
 HoldsOldestObjects pool group p = HoldsGroupObjects (frame_at (pool_shown pool) group) pool.tree pool.log.records (contents_after_oldest pool).objects p
 
--- the bytes hold a pool's synced tree
+-- the bytes hold a pool's synced tree, which has the lengths of the synced objects
 abbrev pub HoldsSyncedTree : PoolTables → List ℕ → Type 0
-HoldsSyncedTree pool now = HoldsTree now (frame_at (pool_shown pool) (pool_shown pool).line.synced) (pointers_of pool.tree) (synced_of pool).objects
+HoldsSyncedTree pool now = HoldsTreeOf now (frame_at (pool_shown pool) (pool_shown pool).line.synced) pool.tree (synced_of pool).objects
 
 -- refused NoSpace, the pool is short of blocks for it
 abbrev pub IsPoolShort : PoolTables → ℕ → PoolError → Type 0
@@ -41,13 +39,13 @@ pub record BeginsPlan (p : TreePlan) (r : RunningSync) : Type 0 where
   pub blocks : r.run.blocks ≡ p.blocks
   pub done : r.run.done ≡ 0
   pub left : r.run.done < call_count r.run
-  pub maps : r.maps ≡ p.maps
+  pub entries : r.entries ≡ p.entries
   pub directories : r.directories ≡ p.directories
   pub root : r.root ≡ p.root
 
 -- what is shown of it, with this moment and the log header for its group, and its uberblock
 abbrev pub begun_plan : PoolTables → ℕ → ℕ → TreePlan → SyncPlan
-begun_plan pool group moment p = new_plan moment (name_at pool.changes 0) (header_for group (pool_shown pool).log) (map address_of p.blocks.items) p.freed.items p.root (contents_after_oldest pool) (lengths_after p.maps pool.tree)
+begun_plan pool group moment p = new_plan moment (name_at pool.changes 0) (header_for group (pool_shown pool).log) (map address_of p.blocks.items) p.freed.items p.root (contents_after_oldest pool) (lengths_after p.entries pool.tree)
 
 abbrev pub uberblock_for : PoolTables → ℕ → ℕ → Pointer → Uberblock
 uberblock_for pool group moment root = uberblock_with pool.guid pool.import_number (header_for group (pool_shown pool).log) group moment root

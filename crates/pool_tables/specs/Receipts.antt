@@ -1,10 +1,9 @@
 -- Whether the transaction of a receipt is durable, as a wait for it asks.
-use Rattle.std.specs.Prelude.{◌≡◌, ◌==◌, ◌&&◌, Bool, false, None, Ok, Err, Result, Some}
+use Rattle.std.specs.Prelude.{◌≡◌, Bool, false, None, Ok, Err, Result, Some}
 use Rattle.base.specs.declared.error.PoolError.{PoolError}
 use Rattle.base.specs.declared.names.Receipt.{Receipt}
 use Rattle.base.specs.steps.Refusals.{fsync_refusal}
 use Rattle.base.specs.steps.Shown.{Shown, is_durable}
-use Rattle.transactions.specs.declared.record.Record.{Record}
 
 -- The transaction is durable or not. If it isn't, the first test of a wait for it that applies refuses.
 abbrev pub ChecksReceipt : Receipt → Result Bool PoolError → Shown → Type 0

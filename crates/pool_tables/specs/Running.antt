@@ -1,11 +1,8 @@
 -- What is known of a sync while it runs.
-use Rattle.std.specs.Prelude.{ℕ, ◌≡◌, ◌<◌, false, All, List, Option, None, Some, filter, nat_le}
+use Rattle.std.specs.Prelude.{ℕ, ◌≡◌, ◌<◌, List, Option, None, Some}
 use Rattle.base.specs.declared.pointer.Pointer.{Pointer}
-use Rattle.base.specs.crash.LogSteps.{IsHeaderIn}
-use Rattle.base.specs.formats.Chain.{Header}
 use Rattle.base.specs.formats.Geometry.{block_count}
 use Rattle.base.specs.formats.Uberblocks.{Uberblock}
-use Rattle.base.specs.steps.Logs.{AreBalanced, KeptBlock, Log, begun_committed, reaches_above}
 use Rattle.base.specs.tree.PlacedTrees.{ArePlaced}
 use Rattle.base.specs.tree.Places.{Place}
 use Rattle.labels.specs.Configs.{config_block}

@@ -1,5 +1,5 @@
 -- What contracts show of a pool, read off its fields.
-use Rattle.std.specs.Prelude.{ℕ, ◌-◌, ◌+◌, List, drop, length, map, Option, option_map}
+use Rattle.std.specs.Prelude.{ℕ, ◌-◌, ◌+◌, List, length, map, Option, option_map}
 use Rattle.std.specs.FinMap.{FinMap}
 use Rattle.std.specs.Ordering.{nat_cmp}
 use Rattle.std.specs.FinSet as set
@@ -14,8 +14,6 @@ use Rattle.extents.specs.Unsynced.{changes_at, laid_all, name_at, name_over}
 use Rattle.object_maps.specs.declared.tree.Tree.{Tree}
 use Rattle.object_maps.specs.ContentsShown.{contents_of}
 use Rattle.object_maps.specs.Lengths.{lengths_of}
-use Rattle.transactions.specs.declared.record.Record.{Record}
-use Rattle.transactions.specs.Records.{record_fields}
 use Rattle.tree_plans.specs.declared.planner.PlannedBlock.{PlannedBlock}
 use Rattle.pool_tables.specs.declared.pool.RunningSync.{RunningSync}
 use Rattle.pool_tables.specs.declared.pool.PoolTables.{PoolTables}
@@ -43,7 +41,7 @@ plan_of tree contents r = record {
   root = r.root;
   header = header_fields r.header;
   contents = contents;
-  lengths = lengths_after r.maps tree;
+  lengths = lengths_after r.entries tree;
 }
 
 -- the plan of a sync that starts, of a group that gives this name, if it gives one, with this log header, the addresses
@@ -108,5 +106,5 @@ abbrev pub shown_after_tree : RunningSync → Tree → Shown → Shown
 shown_after_tree r tree s = record s {
   free = set.union s.free (set.from_list r.freed.items);
   root = r.root;
-  lengths = lengths_after r.maps tree;
+  lengths = lengths_after r.entries tree;
 }

@@ -43,7 +43,7 @@ made_by pointers run = record { pointers = pointers; blocks = map new_block run.
 
 -- the one that a running sync makes of this tree, and its pointers
 abbrev pub tree_after : RunningSync → Tree → Place → Pointer
-tree_after r tree = pointers_after r.root r.directories.items r.maps tree
+tree_after r tree = pointers_after r.root r.directories.items r.entries tree
 
 abbrev pub new_tree_of : Tree → RunningSync → NewTree
 new_tree_of tree r = made_by (tree_after r tree) r.run

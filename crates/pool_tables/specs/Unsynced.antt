@@ -1,9 +1,7 @@
 -- The transactions of the unsynced groups, and the changes that their operations make.
-use Rattle.std.specs.Prelude.{ℕ, ◌≡◌, ◌+◌, ◌<◌, ◌≤◌, Bool, All, None, List, filter, length, map, nat_lt, take}
-use Rattle.base.specs.formats.Records.{IsAllowed}
+use Rattle.std.specs.Prelude.{ℕ, ◌≡◌, ◌+◌, ◌<◌, ◌≤◌, All, None, List}
 use Rattle.base.specs.history.Contents.{name_given_by_all}
 use Rattle.base.specs.steps.Groups.{Line}
-use Rattle.base.specs.steps.Logs.{AreBalanced, Log, begun_committed, committed_above, committed_in, committed_of}
 use Rattle.extents.specs.declared.unsynced.UnsyncedExtents.{UnsyncedExtents}
 use Rattle.extents.specs.Patches.{ArePatchesOf}
 use Rattle.extents.specs.Unsynced.{changes_at, name_at}
@@ -11,7 +9,6 @@ use Rattle.object_maps.specs.declared.contents.Contents.{Contents}
 use Rattle.object_maps.specs.ContentsShown.{contents_of}
 use Rattle.object_maps.specs.Sources.{AreWithin}
 use Rattle.transactions.specs.declared.record.Record.{Record}
-use Rattle.transactions.specs.Records.{record_fields}
 use Rattle.tree_plans.specs.Marks.{pending_ops}
 
 -- each group after this synced one has, at its place, the changes of its operations

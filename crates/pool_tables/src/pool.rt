@@ -74,7 +74,7 @@ use groups::Groups;
 use import_replay::Mounted;
 use intent_log::{Log, LogHeader};
 use labels::Geometry;
-use object_maps::{BlockReader, Contents, ObjectMap, ObjectSource, Tree};
+use object_maps::{BlockReader, Contents, ObjectEntry, ObjectSource, Tree};
 use object_reads::ShownTree;
 use range_locks::{HeldLock, HeldLocks, HeldPiece, RangeLocks};
 use space::FreeSet;
@@ -101,8 +101,8 @@ struct RunningSync {
     moment: u64,
     header: LogHeader,
     run: SyncRun,
-    // the maps of the objects that the group changes, of which the tree keeps the entries once it is synced
-    maps: BTreeMap<ObjectId, ObjectMap>,
+    // the entries of the objects that the group changes, which the tree gets once it is synced
+    entries: BTreeMap<ObjectId, ObjectEntry>,
     directories: Vec<Pointer>,
     root: Pointer,
     // the addresses of the blocks that come back
@@ -134,7 +134,7 @@ pub struct PoolTables {
     free: FreeSet,
     // with the records of the transactions of unsynced groups
     log: Log,
-    // the pointers of the synced tree down to its indirect blocks: those to records are read from these
+    // the pointers of the synced tree down to what its directories name: those below are read from these
     tree: Tree,
     sync: Option<RunningSync>,
     ghost sized: { IsGeometry geometry },
@@ -147,7 +147,7 @@ pub struct PoolTables {
     ghost accounted: { AreAccounted transactions.transactions groups dirty } by { Prim.hlevel props },
     ghost running: { ForSome sync (λ r. IsRunning geometry
         (uberblock_with guid import_number (header_fields r.header) r.group.0 r.moment r.root)
-        (pointers_after r.root r.directories.items r.maps tree)
+        (pointers_after r.root r.directories.items r.entries tree)
         (name_at changes 0) r.run) } by { Prim.hlevel props },
     ghost sync_line: { option_map (λ r. r.group.0) sync ≡ groups.line.syncing } by { Prim.hlevel props },
     ghost tree_placed: { ∥ ArePlaced (block_count geometry) (pointers_of tree) ∥₁ },

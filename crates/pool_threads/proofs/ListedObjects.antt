@@ -1,5 +1,5 @@
 -- The objects from a number on: the one at that number, if it is there, and then those from the next number on.
-use Rattle.std.proofs.Common.{◌≡◌, ◌≢◌, ◌∙◌, ◌<◌, ◌≤◌, ◌+◌, ◌-◌, ◌++◌, ◌∷◌, ℕ, zero, suc, [], List, append_assoc, append-nil, ap, arith, length, refl, subst, sym}
+use Rattle.std.proofs.Common.{◌≡◌, ◌≢◌, ◌∙◌, ◌<◌, ◌≤◌, ◌+◌, ◌-◌, ◌++◌, ◌∷◌, ℕ, suc, [], List, append_assoc, ap, arith, length, refl, subst, sym}
 use Rattle.std.specs.Prelude.{Bool, Err, None, Ok, Option, Result, Some, false, is_none, nat_le, take, true}
 use Rattle.std.specs.List.{range_with_len}
 use Rattle.std.proofs.lemmas.Bool.{leb-false, leb-true}

@@ -52,14 +52,14 @@ tree_is_of_objects : (tree : Tree) → AreOfObjects (lengths_of tree)
 tree_is_of_objects tree n past = ap (λ (o : Option ObjectEntry). option_map_or (λ (m : ObjectEntry). m.length) o None) (slice_get_past tree.entries.items n (omega (arith, past, tree.entries.ok.0, tree.all_objects)))
 
 -- so are the lengths after a sync
-lengths_after_of_objects : (r : RunningSync) (tree : Tree) → AreOfObjects (lengths_after r.maps tree)
+lengths_after_of_objects : (r : RunningSync) (tree : Tree) → AreOfObjects (lengths_after r.entries tree)
 lengths_after_of_objects r tree n past = by (nat_lt n object_count) refl
   where
-    by : (b : Bool) → nat_lt n object_count ≡ b → lengths_after r.maps tree n ≡ None
+    by : (b : Bool) → nat_lt n object_count ≡ b → lengths_after r.entries tree n ≡ None
     by false high = rw high refl
     by true low = absurd (omega (arith, past, ltb-true n object_count low))
 
-plan_is_of_objects : (o : Option RunningSync) (tree : Tree) (plan_of : RunningSync → SyncPlan) → ((r : RunningSync) → (plan_of r).lengths ≡ lengths_after r.maps tree)
+plan_is_of_objects : (o : Option RunningSync) (tree : Tree) (plan_of : RunningSync → SyncPlan) → ((r : RunningSync) → (plan_of r).lengths ≡ lengths_after r.entries tree)
     → AreOfPlan (option_map plan_of o)
 unfolding AreOfPlan
 plan_is_of_objects None tree plan_of is plan none = absurd (let no : None ≡ Some plan = none in cc)

@@ -321,7 +321,7 @@ fn a_commit_takes_one_turn<D: SectorDevice, W: Wait>(
     handle.commit(rt, tx, ops)
 }
 
-// Nor is it told of another handle: none was split off it or joined to it, so its own turns are all that it did.
+// Nor does it meet another handle: none was split off it or joined to it, so its own turns are all that it did.
 fn a_commit_meets_no_other_handle<D: SectorDevice, W: Wait>(
     rt: &W,
     handle: &mut Handle<'_, D>,

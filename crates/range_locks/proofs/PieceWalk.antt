@@ -83,7 +83,7 @@ module _ (table : PartRows) (n : ℕ) (held : LockTable) (was : AreCounted n hel
     | inr behind ↦ behind
   ])
 
-  last_end : (offset : ℕ) → ((k : ℕ) → offset ≤ k → k < 338689 → part_in table k ≡ None) → ends_from offset (ends_of n held.locks) ≡ []
+  last_end : (offset : ℕ) → ((k : ℕ) → offset ≤ k → k < 28449793 → part_in table k ≡ None) → ends_from offset (ends_of n held.locks) ≡ []
   last_end offset none = none_from offset (ends_of n held.locks) (λ y there. elim (cases_lt y offset) as (λ _. y < offset) [
     | inl below ↦ below
     | inr above ↦ absurd (let within : y ≤ max_length = ends_within n y held.locks was.are.allowed there in no_end_there y (none y above (omega arith)) there)
@@ -107,29 +107,29 @@ module _ (table : PartRows) (n : ℕ) (held : LockTable) (was : AreCounted n hel
 -- the pieces so far, and those from the next key on, are all of them
 abbrev pub IsWalked : PartRows → List HeldPiece → Option (ℕ × Part) → Type 0
 IsWalked table pieces None = (n : ℕ) (held : LockTable) → AreCounted n held table → pieces ≡ pieces_of n held.locks
-IsWalked table pieces (Some b) = (b.0 < 338689) × (part_in table b.0 ≡ Some b.1)
+IsWalked table pieces (Some b) = (b.0 < 28449793) × (part_in table b.0 ≡ Some b.1)
     × ((n : ℕ) (held : LockTable) → AreCounted n held table → pieces ++ pieces_from n held.locks b.0 (ends_from (b.0 + 1) (ends_of n held.locks)) ≡ pieces_of n held.locks)
 
 module _ (table : PartRows) where
-  walk_begins : (low : ℕ) (p : Part) → low < 338689 → part_in table low ≡ Some p → ((k : ℕ) → 0 ≤ k → k < low → part_in table k ≡ None) → IsWalked table [] (Some (low, p))
+  walk_begins : (low : ℕ) (p : Part) → low < 28449793 → part_in table low ≡ Some p → ((k : ℕ) → 0 ≤ k → k < low → part_in table k ≡ None) → IsWalked table [] (Some (low, p))
   walk_begins low p within at none = (within, at, λ n held was. ap (pieces_along n held.locks) (sym (next_end table n held was 0 low p (omega arith) at none) ∙ ends_from-zero (ends_of n held.locks)))
 
-  walk_is_empty : ((k : ℕ) → 0 ≤ k → k < 338689 → part_in table k ≡ None) → IsWalked table [] None
+  walk_is_empty : ((k : ℕ) → 0 ≤ k → k < 28449793 → part_in table k ≡ None) → IsWalked table [] None
   walk_is_empty none n held was = ap (pieces_along n held.locks) (sym (last_end table n held was 0 none) ∙ ends_from-zero (ends_of n held.locks))
 
   -- as it begins
-  pub walk_starts : (o : Option (ℕ × Part)) → IfSome o (λ (r : ℕ × Part). (0 ≤ r.0) × (r.0 < 338689)) → IfSome o (λ (r : ℕ × Part). part_in table r.0 ≡ Some r.1)
+  pub walk_starts : (o : Option (ℕ × Part)) → IfSome o (λ (r : ℕ × Part). (0 ≤ r.0) × (r.0 < 28449793)) → IfSome o (λ (r : ℕ × Part). part_in table r.0 ≡ Some r.1)
       → IfSome o (λ (r : ℕ × Part). (k : ℕ) → 0 ≤ k → k < r.0 → part_in table k ≡ None)
-      → IfNone o ((k : ℕ) → 0 ≤ k → k < 338689 → part_in table k ≡ None) → IsWalked table [] o
+      → IfNone o ((k : ℕ) → 0 ≤ k → k < 28449793 → part_in table k ≡ None) → IsWalked table [] o
   walk_starts None _ _ _ none = walk_is_empty none
   walk_starts (Some r) within at none _ = walk_begins r.0 r.1 within.1 at none
 
   -- where no key is left
   module _ (pieces : List HeldPiece) (low : ℕ) (p : Part) (walked : IsWalked table pieces (Some (low, p))) where
-    pub walk_ends : ((k : ℕ) → low + 1 ≤ k → k < 338689 → part_in table k ≡ None) → IsWalked table pieces None
+    pub walk_ends : ((k : ℕ) → low + 1 ≤ k → k < 28449793 → part_in table k ≡ None) → IsWalked table pieces None
     walk_ends none n held was = sym (append-nil pieces) ∙ ap (λ ends. pieces ++ pieces_from n held.locks low ends) (sym (last_end table n held was (low + 1) none)) ∙ walked.2 n held was
 
-    module _ (high : ℕ) (q : Part) (from : low + 1 ≤ high) (within : high < 338689) (at : part_in table high ≡ Some q)
+    module _ (high : ℕ) (q : Part) (from : low + 1 ≤ high) (within : high < 28449793) (at : part_in table high ≡ Some q)
         (none : (k : ℕ) → low + 1 ≤ k → k < high → part_in table k ≡ None) where
       -- past a piece
       pub walk_piece : is_covered_part p ≡ true → IsWalked table (pieces ++ record { low = low; high = high; writer = is_some p.writer; readers = p.readers } ∷ []) (Some (high, q))

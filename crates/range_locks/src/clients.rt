@@ -88,7 +88,7 @@ fn a_reader_may_overlap_a_reader(locks: &mut RangeLocks) -> Result<LockId, PoolE
 fn a_range_outside_its_limits_is_refused(locks: &mut RangeLocks) {
     let empty = locks.lock(ONE, bytes(5, 5), Mode::Reader);
     prove!(empty == Err(PoolError::BadRange));
-    let long = locks.lock(ONE, bytes(0, 338_689), Mode::Reader);
+    let long = locks.lock(ONE, bytes(0, 28_449_793), Mode::Reader);
     prove!(long == Err(PoolError::BadRange));
 }
 
@@ -113,7 +113,7 @@ fn no_more_than_256_locks_are_held(locks: &mut RangeLocks) -> bool
 // An append lock begins at the object's end and has the last byte of each range.
 fn an_append_lock_has_the_last_byte(locks: &mut RangeLocks) -> Result<(LockId, Range), PoolError>
     ensures low { IfOk result (λ a. a.1.low ≡ 100) }
-    ensures high { IfOk result (λ a. a.1.high ≡ 338688) }
+    ensures high { IfOk result (λ a. a.1.high ≡ 28449792) }
 {
     locks.lock_append(ONE, ObjectId(7), Some(100))
 }

@@ -3,12 +3,11 @@ use Rattle.std.specs.Prelude.{◌≡◌, ◌≢◌, ◌<◌, ◌+◌, ◌++◌, 
 use Rattle.std.specs.Borrow.{Bor}
 use Rattle.std.specs.Char.{is_ascii_graphic}
 use Rattle.std.specs.List.{AllZip, list_all}
-use Rattle.base.specs.formats.Limits.{max_length}
 use Rattle.script_lines.specs.Numbers.{IsNumberBelow, spelled_number}
 
--- the most copies that a word stands for, the greatest length of an object
+-- the most copies that a word stands for, the greatest length of an object with one level
 abbrev pub max_copies : ℕ
-max_copies = max_length
+max_copies = 338688
 
 -- `COUNT:C` (58 is the colon) stands for 1 to 338,688 copies of the character C
 abbrev pub AreCopies : List ℕ → List ℕ → Type 0

@@ -11,7 +11,7 @@ use topzerad::{
     run_beside_loops,
 };
 
-/// How many lines each thread adds. Each write is charged 16,384 bytes, so all of them together pass the dirty limit of
+/// How many lines each thread adds. Each write is charged 20,480 bytes, so all of them together pass the dirty limit of
 /// 4 MiB. A thread waits there until the loops have synced a group.
 const LINES: u64 = 80;
 

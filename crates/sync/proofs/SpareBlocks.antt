@@ -119,7 +119,7 @@ module _ (run : SyncRun) (sound : IsSound run) (address : ℕ) (is : IsBlockAddr
       tree_there : HoldsTree image (view_frame run.geometry v) v.pointers v.synced.objects
       tree_there =
           let holds = makes before (length-put address was image fits ∙ same_size) before_written in
-          holds-elsewhere before image (view_frame run.geometry v) (view_frame run.geometry v) refl refl (omega arith) v.pointers v.synced.objects holds
+          holds-elsewhere before image (view_frame run.geometry v) (view_frame run.geometry v) refl refl (omega arith) (omega arith) v.pointers v.synced.objects holds
           (λ p in_range some. elim (holds-placed before (view_frame run.geometry v) v.pointers v.synced.objects holds p in_range) as (λ _. part image (v.pointers p).address block_size ≡ part before (v.pointers p).address block_size) [
             | inl none ↦ absurd (some none)
             | inr area ↦ sym (part-put_apart address was image (v.pointers p).address block_size fits

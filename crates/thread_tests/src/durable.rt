@@ -126,7 +126,8 @@ const LEAST: Size = Size {
     dirty_max: 4_194_304,
 };
 
-// Makes the object and writes to it 91 times: 2 blocks, and 4 for each write. It returns the last receipt.
+// Makes the object and writes to it 72 times: 2 blocks, 5 for each write, and 6 for each of the four over two records.
+// So 17 blocks are left. It returns the last receipt.
 fn fill<W: Wait>(
     rt: &W,
     alloc: Global,
@@ -134,8 +135,11 @@ fn fill<W: Wait>(
 ) -> Result<Receipt, PoolError> {
     let create = Ops::new(vec![in alloc; Op::Create(OBJECT)]?);
     let mut last = handle.transact(rt, OWNER, create)?;
-    for _ in 0..91 {
+    for _ in 0..68 {
         last = handle.transact(rt, OWNER, write(alloc, 0, b"full")?)?;
+    }
+    for _ in 0..4 {
+        last = handle.transact(rt, OWNER, write(alloc, 4_030, b"full")?)?;
     }
     Ok(last)
 }
@@ -276,7 +280,7 @@ const FAILURES: [Failure; 5] = [
     },
 ];
 
-/// The limit is the charge of 32 writes. Then the writers wait for the thread that syncs.
+/// The limit is the charge of 25 writes. Then the writers wait for the thread that syncs.
 const SYNCED: Size = Size {
     sectors: 12_288,
     dirty_max: 524_288,

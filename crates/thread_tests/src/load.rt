@@ -14,7 +14,7 @@ use std::thread::{Threads, join, map_vec};
 /// The transactions of each of the four threads.
 const ROUNDS: u16 = 2_500;
 
-/// A write is charged five blocks at most, 20,480 bytes, until it is synced. So 10,000 of them fit even where none is.
+/// A write is charged six blocks at most, 24,576 bytes, until it is synced. So 10,000 of them fit even if none is.
 const LARGE: Size = Size {
     sectors: 524_288,
     dirty_max: 268_435_456,

@@ -256,7 +256,7 @@ fn write_again<W: Wait>(
     Ok(receipt.ordinal)
 }
 
-// No loop syncs, and 1 MiB has room for 64 of them, of 16,384 bytes each.
+// No loop syncs, and 1 MiB has room for 51 of them, of 20,480 bytes each.
 #[test]
 fn one_thread_commits_on_at_the_dirty_limit(rt: HostRuntime) -> Result<(), Fail> {
     let size = Size {
@@ -275,7 +275,7 @@ const CRAMPED: Size = Size {
     dirty_max: 16_777_216,
 };
 
-// Its blocks have room for some 240 of them. No loop syncs.
+// Its blocks have room for 73 of them. No loop syncs.
 #[test]
 fn one_thread_commits_on_without_space(rt: HostRuntime) -> Result<(), Fail> {
     let pool = new_pool(rt.alloc(), CRAMPED)?;

@@ -23,12 +23,13 @@
 //!    made under the pool's lock, so other threads wait for it. [`Pool::finish`] makes a last sync and gives the device
 //!    back.
 //! 6. **The dirty limit**, as [`DEFAULT_DIRTY_MAX`], is in bytes. Until its group is synced, a transaction is charged
-//!    4,096 bytes for each block that its sync may write: 2 blocks for a create or a remove, 4 for a new length. A
-//!    write is 3 blocks, and one more for each piece of 4,032 bytes that it touches. At the limit [`PoolState::begin`]
-//!    is refused `Throttled`, and `begin` of a handle waits until a thread syncs a group. `transact` waits only while
-//!    the loops `quiescer` and `syncer` run; without them it makes the sync itself. At [`DEFAULT_DIRTY_MAX`] the 171st
-//!    object makes the first sync, if each transaction creates one and writes a few bytes to it. `transact` does the
-//!    same if it finds no space, and is refused `NoSpace` only if no sync can make some.
+//!    4,096 bytes for each block that its sync may write: 2 blocks for a create or a remove, 5 for a new length. A
+//!    write is 3 blocks, and one more for each piece of 4,032 bytes, and of 338,688, that it touches. At the limit
+//!    [`PoolState::begin`] is refused `Throttled`, and `begin` of a handle waits until a thread syncs a group.
+//!    `transact` waits only while the loops `quiescer` and `syncer` run; without them it makes the sync itself. At
+//!    [`DEFAULT_DIRTY_MAX`] the 147th object makes the first sync, if each transaction creates one and writes a few
+//!    bytes to it. `transact` does the same if it finds no space, and is refused `NoSpace` only if no sync can make
+//!    some.
 //! 7. **A refusal** is a [`PoolError`]. A refused step changes nothing, with one exception: a refused write or flush
 //!    suspends the pool, and it has to be opened again. `sync_pool` and `sync_open_group` keep the steps before the
 //!    refused one. A refused `transact` changes no contents, and holds no lock. [`create`], [`import`] and
@@ -36,8 +37,8 @@
 //!    place. In a function that returns a `PoolError`, `?` takes the refusal and drops the other. With `anyhow`, write
 //!    `.map_err(PoolError::from)?`.
 //!
-//! Numbers: an object has up to 338,688 bytes ([`MAX_LENGTH`]), a device 6 MiB to 1 GiB in sectors of 512 bytes. A guid
-//! is any number that distinguishes pools. A moment is a time in seconds that the uberblocks carry; 0 serves if no
+//! Numbers: an object has up to 28,449,792 bytes ([`MAX_LENGTH`]), a device 6 MiB to 1 GiB in sectors of 512 bytes. A
+//! guid is any number that distinguishes pools. A moment is a time in seconds that the uberblocks carry; 0 serves if no
 //! clock is read.
 //!
 //! The sharpest limit is that of one transaction: its log record has at most 65,536 bytes ([`MAX_LOG_RECORD`]), or it

@@ -19,4 +19,4 @@ pub use plan::{
     charge, estimate, is_in_plan, is_plan_allowed, is_shrinking, is_too_large, plans_overlap,
     range_of, record_size,
 };
-pub use record::{Record, decode_record, encode_into, encode_record};
+pub use record::{Record, decode_record, encode_into, encode_record, is_one_level};

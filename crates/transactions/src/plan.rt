@@ -3,6 +3,7 @@
 ghost use Rattle.std.specs.Prelude.{◌≡◌, ◌↔◌, ◌+◌, ◌-◌, ◌^◌, ◌<◌, ◌≤◌, IfNone, IfSome, IsTrue, map, min, nat_le, nat_lt, true};
 ghost use Rattle.std.specs.List.{list_all};
 ghost use Rattle.base.specs.formats.Limits.{max_length, max_log_record};
+ghost use Rattle.base.specs.formats.Records as records;
 ghost use Rattle.base.specs.history.Contents.{Contents};
 ghost use Rattle.base.specs.history.Plans as plans;
 ghost use Rattle.base.specs.history.Plans.{number_range, shape_of};
@@ -11,15 +12,15 @@ ghost use Rattle.transactions.specs.Ranges.{has_kept_in, kept_range_of, kept_ran
 ghost use Rattle.transactions.specs.Lengths.{TellsLengths};
 
 use base::{
-    BLOCK_SIZE, MAX_LENGTH, MAX_LOG_RECORD, MAX_NAME, OBJECT_COUNT, ObjectId, ObjectRange, Op,
-    RECORD_SIZE, Range, Shape,
+    BLOCK_SIZE, MAX_LENGTH, MAX_LOG_RECORD, MAX_NAME, OBJECT_COUNT, ONE_LEVEL_LENGTH, ObjectId,
+    ObjectRange, Op, RECORD_SIZE, Range, Shape,
 };
 
 /// The bytes of a log record before its operations: its length, group, ordinal and number of operations.
 pub(crate) const RECORD_HEAD: u64 = 22;
 
-/// Whether a plan has a shape, and each is within its limits: an object below 5,292, bytes that end at 338,688 at most
-/// (of a write at least one), a name of 1 to 64 bytes.
+/// Whether a plan has a shape, and each is within its limits: an object below 5,292, bytes that end at 28,449,792 at
+/// most (of a write at least one), a name of 1 to 64 bytes.
 pub fn is_plan_allowed(plan: &[Shape]) -> bool
     ensures { result ≡ plans.is_plan_allowed plan.now }
 {
@@ -40,17 +41,29 @@ pub(crate) fn is_shape_allowed(shape: &Shape) -> bool
         Shape::Create(object) | Shape::Remove(object) => object.0 < OBJECT_COUNT,
         Shape::Write(object, offset, count) => object.0 < OBJECT_COUNT
             && 0 < *count
-            && is_end_allowed(*offset, *count),
+            && ends_by(*offset, *count, MAX_LENGTH),
         Shape::SetLength(object, length) => object.0 < OBJECT_COUNT && *length <= MAX_LENGTH,
         Shape::SetName(count) => 0 < *count && *count <= MAX_NAME as u64,
     }
 }
 
-/// Whether so many bytes at an offset end within the greatest length.
-fn is_end_allowed(offset: u64, count: u64) -> bool
-    ensures { result ≡ nat_le (offset + count) max_length }
+/// Whether so many bytes at an offset end by this length.
+fn ends_by(offset: u64, count: u64, length: u64) -> bool
+    ensures { result ≡ nat_le (offset + count) length }
 {
-    count <= MAX_LENGTH && offset <= MAX_LENGTH - count
+    count <= length && offset <= length - count
+}
+
+/// Whether a shape ends within the bytes that one level of indirect blocks holds.
+#[tactic(auto, unfolding(base::specs::formats::Limits::one_level_length))]
+pub(crate) fn is_one_level_shape(shape: &Shape) -> bool
+    ensures { result ≡ records.is_one_level_shape shape.now }
+{
+    match shape {
+        Shape::Write(_, offset, count) => ends_by(*offset, *count, ONE_LEVEL_LENGTH),
+        Shape::SetLength(_, length) => *length <= ONE_LEVEL_LENGTH,
+        Shape::Create(_) | Shape::Remove(_) | Shape::SetName(_) => true,
+    }
 }
 
 /// How many bytes the log record of a plan has: 22, and for each operation 5 (a create, a remove), 13 (a new length),
@@ -188,8 +201,8 @@ fn have_shapes(ops: &[Op], plan: &[Shape]) -> bool
     true
 }
 
-/// The most blocks that a sync takes for a plan: 2 for a create or a remove, 4 for a new length, 1 for a new name, and
-/// for a write 3 and the records that it touches.
+/// The most blocks that a sync takes for a plan: 2 for a create or a remove, 5 for a new length, 1 for a new name, and
+/// for a write 3, the records that it touches and the indirect blocks above them.
 pub fn estimate(plan: &[Shape]) -> u64
     requires allowed { plans.is_plan_allowed plan.now ≡ true }
     requires small { plans.log_record_size plan.now ≤ max_log_record }
@@ -202,14 +215,17 @@ pub fn estimate(plan: &[Shape]) -> u64
     blocks
 }
 
+#[tactic(auto, unfolding(base::specs::formats::Limits::one_level_length))]
 fn estimate_of_shape(shape: &Shape) -> u64
     requires { plans.is_shape_allowed shape.now ≡ true }
     ensures { result ≡ plans.estimate_of_shape shape.now }
 {
     match shape {
         Shape::Create(_) | Shape::Remove(_) => 2,
-        Shape::Write(_, offset, count) => records_touched(*offset, *count) + 3,
-        Shape::SetLength(_, _) => 4,
+        Shape::Write(_, offset, count) => records_touched(*offset, *count)
+            + strips_touched(*offset, *count)
+            + 3,
+        Shape::SetLength(_, _) => 5,
         Shape::SetName(_) => 1,
     }
 }
@@ -222,6 +238,16 @@ fn records_touched(offset: u64, count: u64) -> u64
 {
     let size = RECORD_SIZE as u64;
     (offset + count - 1) / size - offset / size + 1
+}
+
+/// How many indirect blocks lie above these records, in an object of two levels.
+#[tactic(auto, unfolding(base::specs::formats::Limits::one_level_length))]
+fn strips_touched(offset: u64, count: u64) -> u64
+    requires some { 0 < count }
+    requires within { offset + count ≤ max_length }
+    ensures { result ≡ plans.strips_touched offset count }
+{
+    (offset + count - 1) / ONE_LEVEL_LENGTH - offset / ONE_LEVEL_LENGTH + 1
 }
 
 /// The bytes that a plan is charged: those of its estimate's blocks.

@@ -5,13 +5,13 @@ ghost use Rattle.std.specs.List.{list_all};
 ghost use Rattle.base.specs.formats.Limits.{max_log_record};
 ghost use Rattle.base.specs.history.Plans.{log_record_size, shape_of};
 ghost use Rattle.base.specs.formats.Records as records;
-ghost use Rattle.base.specs.formats.Records.{HasNoRecord, IsAllowed, IsDecoded, bytes_of_record, size_of};
+ghost use Rattle.base.specs.formats.Records.{HasNoRecord, IsAllowed, IsDecoded, bytes_of_record, is_one_level_op, size_of};
 ghost use Rattle.transactions.specs.Refusals.{Refuses};
 ghost use Rattle.transactions.specs.Records as words;
 ghost use Rattle.transactions.specs.Records.{Decodes, encode_refusal, record_fields};
 ghost use Rattle.transactions.specs.Writing.{HasRoomFor};
 
-use crate::plan::{RECORD_HEAD, with_shape};
+use crate::plan::{RECORD_HEAD, is_one_level_shape, with_shape};
 use crate::reading::{ReadError, is_op_allowed, read_record};
 use crate::writing::write_record;
 use base::{Group, LAST_NUMBER, Op, Ops, Ordinal, PoolError};
@@ -94,6 +94,18 @@ fn is_each_allowed(ops: &[Op]) -> bool
     ensures { result ≡ list_all words.is_op_allowed ops.now }
 {
     ops.iter().all(|op| is_op_allowed(op))
+}
+
+/// Whether each operation of a record ends within the 338,688 bytes that one level of indirect blocks holds. Version 1
+/// has no other records.
+pub fn is_one_level(committed: &Record) -> bool
+    ensures { result ≡ list_all is_one_level_op committed.now.ops }
+{
+    committed
+        .ops
+        .as_slice()
+        .iter()
+        .all(|op| is_one_level_shape(&op.shape()))
 }
 
 /// How many bytes the record of these operations has. `None` if these are above 65,536.

@@ -25,10 +25,10 @@ same_pointer : {x y z w : ℕ} {a b : List ℕ} → x ≡ y → z ≡ w → a �
 same_pointer e f g = rw (e, f, g) refl
 
 -- three fields that are written one after the other
-module _ (at size : ℕ) (p : Pointer) (bytes one two three : List ℕ) (fits : at + 64 ≤ length bytes) (long : length p.check ≡ 32)
-    (e1 : one ≡ put at (number_bytes 1) bytes) (e2 : two ≡ put (at + 8) (number_bytes size) one) (e3 : three ≡ put (at + 16) (pointer_bytes p) two) where
+module _ (at levels size : ℕ) (p : Pointer) (bytes one two three : List ℕ) (fits : at + 64 ≤ length bytes) (long : length p.check ≡ 32)
+    (e1 : one ≡ put at (number_bytes levels) bytes) (e2 : two ≡ put (at + 8) (number_bytes size) one) (e3 : three ≡ put (at + 16) (pointer_bytes p) two) where
   l1 : length one ≡ length bytes
-  l1 = rw e1 (length-put at (number_bytes 1) bytes (omega (arith, length-number_bytes 1, fits)))
+  l1 = rw e1 (length-put at (number_bytes levels) bytes (omega (arith, length-number_bytes levels, fits)))
 
   l2 : length two ≡ length bytes
   l2 = rw e2 (length-put (at + 8) (number_bytes size) one (omega (arith, length-number_bytes size, l1, fits))) ∙ l1
@@ -36,12 +36,12 @@ module _ (at size : ℕ) (p : Pointer) (bytes one two three : List ℕ) (fits : 
   last : at + 16 + length (pointer_bytes p) ≤ length two
   last = omega (arith, length-pointer_bytes p long, l2, fits)
 
-  pub entry_is_present : entry_present (part three at 64) ≡ 1
-  entry_is_present =
+  pub entry_is_present : levels < 2 ^ 64 → entry_present (part three at 64) ≡ levels
+  entry_is_present few =
       let here : at + 0 ≡ at = omega arith in
       number_at-part three at 64 0 (omega arith) ∙ ap (number_at three) here ∙ ap (λ (l : List ℕ). number_at l at) e3 ∙ number_at-put_apart (at + 16) (pointer_bytes p) two at last (inr (omega arith))
       ∙ ap (λ (l : List ℕ). number_at l at) e2 ∙ number_at-put_apart (at + 8) (number_bytes size) one at (omega (arith, length-number_bytes size, l1, fits)) (inr (omega arith))
-      ∙ ap (λ (l : List ℕ). number_at l at) e1 ∙ number_at-put at 1 bytes (omega (arith, fits)) (omega arith)
+      ∙ ap (λ (l : List ℕ). number_at l at) e1 ∙ number_at-put at levels bytes (omega (arith, fits)) few
 
   pub entry_has_length : size < 2 ^ 64 → entry_length (part three at 64) ≡ size
   entry_has_length small =
@@ -60,10 +60,10 @@ module _ (at size : ℕ) (p : Pointer) (bytes one two three : List ℕ) (fits : 
   entry_apart place apart =
       ap (λ (l : List ℕ). part l place 64) e3 ∙ part-put_apart (at + 16) (pointer_bytes p) two place 64 last (third apart)
       ∙ ap (λ (l : List ℕ). part l place 64) e2 ∙ part-put_apart (at + 8) (number_bytes size) one place 64 (omega (arith, length-number_bytes size, l1, fits)) (second apart)
-      ∙ ap (λ (l : List ℕ). part l place 64) e1 ∙ part-put_apart at (number_bytes 1) bytes place 64 (omega (arith, length-number_bytes 1, fits)) (first apart)
+      ∙ ap (λ (l : List ℕ). part l place 64) e1 ∙ part-put_apart at (number_bytes levels) bytes place 64 (omega (arith, length-number_bytes levels, fits)) (first apart)
     where
-      first : Apart at 64 place 64 → Apart at (length (number_bytes 1)) place 64
-      first (inl before) = inl (omega (arith, length-number_bytes 1))
+      first : Apart at 64 place 64 → Apart at (length (number_bytes levels)) place 64
+      first (inl before) = inl (omega (arith, length-number_bytes levels))
       first (inr behind) = inr behind
 
       second : Apart at 64 place 64 → Apart (at + 8) (length (number_bytes size)) place 64

@@ -10,4 +10,9 @@ pub mod Order
 pub mod Room
 pub mod Once
 mod Parts
+pub mod Strips
+pub mod Levels
+mod NewObjects
+mod Passes
+mod DirtyStrips
 pub mod Promises

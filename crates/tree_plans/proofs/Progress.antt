@@ -1,22 +1,21 @@
 -- How a plan goes on: what it has stays, and the next block is the lowest free one.
-use Rattle.std.proofs.Common.{◌≡◌, ◌≢◌, ℕ, zero, suc, ◌+◌, ◌<◌, ◌⊎◌, inl, inr, List, [], ◌∷◌, ◌++◌, length, map, ◌≤◌, Some, refl, sym, ◌∙◌, ap, append_assoc, arith}
+use Rattle.std.proofs.Common.{◌≡◌, ◌≢◌, ℕ, zero, suc, ◌+◌, ◌<◌, ◌⊎◌, inl, inr, Bool, List, [], ◌∷◌, ◌++◌, length, map, ◌≤◌, Some, refl, sym, ◌∙◌, ap, append_assoc, arith}
 use Rattle.std.specs.Prelude.{slice_get, slice_index_or}
 use Rattle.std.specs.Ordering.{nat_cmp}
 use Rattle.std.specs.FinSet.{FinSet}
 use Rattle.base.specs.declared.pointer.Pointer.{Pointer}
-use Rattle.base.specs.formats.Fields.{no_pointer, part}
+use Rattle.base.specs.formats.Fields.{no_pointer, part, pointer_in}
 use Rattle.base.specs.formats.Geometry.{block_address}
 use Rattle.base.specs.formats.Blocks.{Frame, IsBlock}
-use Rattle.base.specs.tree.Places.{Place, kind_of, number_of_place}
-use Rattle.base.specs.tree.Places.Place.{Data, Indirect}
+use Rattle.base.specs.formats.Limits.{pointer_count}
+use Rattle.base.specs.tree.Places.{Place, kind_of, number_of_place, record_of_strip, strip_number}
+use Rattle.base.specs.tree.Places.Place.{Data, Indirect, Top}
 use Rattle.base.specs.tree.PlannedTrees.{NewBlock, IsNewAt}
 use Rattle.space.specs.FreeSets.{free_from}
 use Rattle.tree_plans.specs.declared.planner.PlannedBlock.{PlannedBlock}
 use Rattle.std.proofs.lemmas.Bool.{cases_lt}
-use Rattle.object_maps.specs.declared.tree.ObjectMap.{ObjectMap}
-use Rattle.tree_plans.specs.Pointers.{ObjectPointers}
-use Rattle.tree_plans.specs.Plans.{Progress, Keeps, IsAmong, Goes, HasBecome, LosesBlock, IsWritten, IsRecordPlanned, AreRecordsPlanned, IsIndirectPlanned, PlaceFrees, RecordsFree, FreesOnly, ObjectFrees, IsObjectPlanned, indirect_state, new_block}
-use Rattle.tree_plans.specs.Changes.{state_at}
+use Rattle.object_maps.specs.Pointers.{ObjectPointers, pointer_of_list}
+use Rattle.tree_plans.specs.Plans.{Progress, Keeps, IsAmong, IsOfPlace, IsOfRecord, IsOfStrip, Goes, HasBecome, LosesBlock, IsWritten, IsRecordPlanned, AreRecordsPlanned, PlaceFrees, FreesFrom, IsObjectPlanned, kept_state, new_block, strip_state, top_state}
 use Rattle.tree_plans.specs.declared.changes.ObjectChanges.{ObjectChanges}
 use Rattle.base.specs.declared.record_state.RecordState.{RecordState}
 use Rattle.base.specs.declared.record_state.RecordState.TheVariants.{Unchanged, Dirty, Hole}
@@ -117,8 +116,8 @@ become_stays place Unchanged old new Fits g h = h
 become_stays place Dirty old new Fits g h = (h.0, written_stays g h.1, h.2)
 become_stays place Hole old new Fits g h = cleared_stays g h
 
-pub record_stays : {free : FinSet nat_cmp} {s t : Progress} (n r : ℕ) (bytes : List ℕ) (state : RecordState) (old new : Pointer) → Goes free s t → IsRecordPlanned s n r bytes state old new → IsRecordPlanned t n r bytes state old new
-record_stays n r bytes state old new g h = become_stays (Data n r) state old new (λ payload. payload ≡ padded_record r bytes) g h
+pub record_stays : {free : FinSet nat_cmp} {s t : Progress} (n j k : ℕ) (bytes : List ℕ) (state : RecordState) (old new : Pointer) → Goes free s t → IsRecordPlanned s n j k bytes state old new → IsRecordPlanned t n j k bytes state old new
+record_stays n j k bytes state old new g h = become_stays (Data (strip_number n j) k) state old new (λ payload. payload ≡ padded_record (record_of_strip j k) bytes) g h
 
 pub last_of : {A : Type 0} (xs : List A) (a d : A) → slice_index_or (xs ++ a ∷ []) (length xs) d ≡ a
 last_of [] a d = refl
@@ -144,45 +143,51 @@ each_push P xs a d i long each here r low = go (cases_lt r i)
         rw (e, last_of xs a d) (rw f here)
 
 -- one record more is planned
-pub records_push : {free : FinSet nat_cmp} {s t : Progress} (n : ℕ) (bytes : List ℕ) (changes : ObjectChanges) (old : ObjectPointers) (i : ℕ) (records : List Pointer) (state : RecordState) (was new : Pointer)
-    → Goes free s t → length records ≡ i → was ≡ old.record_at i → state ≡ state_at changes i → AreRecordsPlanned s n bytes changes old i records → IsRecordPlanned t n i bytes state was new
-    → AreRecordsPlanned t n bytes changes old (i + 1) (records ++ new ∷ [])
-records_push {s = s} {t = t} n bytes changes old i records state was new g long is state_is each here =
-    each_push (λ r p. IsRecordPlanned t n r bytes (state_at changes r) (old.record_at r) p) records new no_pointer i long
-    (λ r low. record_stays n r bytes (state_at changes r) (old.record_at r) (slice_index_or records r no_pointer) g (each r low)) (rw (← is, ← state_is) here)
+pub records_push : {free : FinSet nat_cmp} {s t : Progress} (n j : ℕ) (bytes : List ℕ) (is_long : Bool) (changes : ObjectChanges) (old : ℕ → Pointer) (i : ℕ) (records : List Pointer) (state : RecordState) (was new : Pointer)
+    → Goes free s t → length records ≡ i → was ≡ old i → state ≡ kept_state is_long changes j i → AreRecordsPlanned s n j bytes is_long changes old i (pointer_of_list records) → IsRecordPlanned t n j i bytes state was new
+    → AreRecordsPlanned t n j bytes is_long changes old (i + 1) (pointer_of_list (records ++ new ∷ []))
+records_push {s = s} {t = t} n j bytes is_long changes old i records state was new g long is state_is each here =
+    each_push (λ k p. IsRecordPlanned t n j k bytes (kept_state is_long changes j k) (old k) p) records new no_pointer i long
+    (λ k low. record_stays n j k bytes (kept_state is_long changes j k) (old k) (pointer_of_list records k) g (each k low)) (rw (← is, ← state_is) here)
 
-pub frees_push : (first old new : List ℕ) (changes : ObjectChanges) (map : ObjectPointers) (i : ℕ) (state : RecordState) (was : Pointer) → was ≡ map.record_at i → state ≡ state_at changes i → RecordsFree first old changes map i
-    → PlaceFrees old new state was → RecordsFree first new changes map (i + 1)
-frees_push first old new changes map i state was is state_is frees more address among =
-    elim (more address among) [
-      | inl before ↦ elim (frees address before) [ inl at_first ↦ inl at_first | inr of ↦ inr (record { index = of.index; low = (let low = of.low in omega arith); replaced = of.replaced; was = of.was }) ]
-      | inr here ↦ inr (record { index = i; low = omega arith; replaced = rw (← state_is) here.0; was = rw (← is) here.1 })
-    ]
+pub records_stay : {free : FinSet nat_cmp} {s t : Progress} (n j : ℕ) (bytes : List ℕ) (is_long : Bool) (changes : ObjectChanges) (old : ℕ → Pointer) (count : ℕ) (new : ℕ → Pointer)
+    → Goes free s t → AreRecordsPlanned s n j bytes is_long changes old count new → AreRecordsPlanned t n j bytes is_long changes old count new
+records_stay n j bytes is_long changes old count new g each k low = record_stays n j k bytes (kept_state is_long changes j k) (old k) (new k) g (each k low)
 
-pub records_stay : {free : FinSet nat_cmp} {s t : Progress} (n : ℕ) (bytes : List ℕ) (changes : ObjectChanges) (old : ObjectPointers) (count : ℕ) (records : List Pointer)
-    → Goes free s t → AreRecordsPlanned s n bytes changes old count records → AreRecordsPlanned t n bytes changes old count records
-records_stay n bytes changes old count records g each r low = record_stays n r bytes (state_at changes r) (old.record_at r) (slice_index_or records r no_pointer) g (each r low)
+-- what comes back of one more part
+pub frees_more : (first old new : List ℕ) (Before Here Both : ℕ → Type 0) → ((address : ℕ) → Before address → Both address) → ((address : ℕ) → Here address → Both address)
+    → FreesFrom first old Before → FreesFrom old new Here → FreesFrom first new Both
+frees_more first old new Before Here Both one two frees more address among = elim (more address among) [
+  | inl before ↦ elim (frees address before) [ inl at_first ↦ inl at_first | inr of ↦ inr (one address of) ]
+  | inr here ↦ inr (two address here)
+]
 
--- an object whose records are planned, and then its indirect block
-pub object_planned : {free : FinSet nat_cmp} {s t : Progress} (n : ℕ) (bytes : List ℕ) (changes : ObjectChanges) (old : ObjectPointers) (new : ObjectMap)
-    → Goes free s t → length new.records.items ≡ 84 → AreRecordsPlanned s n bytes changes old 84 new.records.items
-    → IsIndirectPlanned t n changes.is_changed new.records.items old.indirect new.indirect → IsObjectPlanned t n bytes changes old new
-object_planned n bytes changes old new g count records indirect = record {
-  count = count;
-  records = records_stay n bytes changes old 84 new.records.items g records;
-  indirect = indirect;
+-- and so of one record more of a strip
+pub record_below : (is_long : Bool) (changes : ObjectChanges) (map : ObjectPointers) (j i address : ℕ) → IsOfRecord is_long changes map j i address → IsOfRecord is_long changes map j (i + 1) address
+record_below is_long changes map j i address of = record { index = of.index; low = (let low = of.low in omega arith); replaced = of.replaced; is_of = of.is_of }
+
+pub record_here : (is_long : Bool) (changes : ObjectChanges) (map : ObjectPointers) (j i : ℕ) (state : RecordState) (was : Pointer) (address : ℕ) → was ≡ map.record_at j i → state ≡ kept_state is_long changes j i
+    → IsOfPlace state was address → IsOfRecord is_long changes map j (i + 1) address
+record_here is_long changes map j i state was address is state_is here = record { index = i; low = omega arith; replaced = rw (← state_is) here.0; is_of = rw (← is) here.1 }
+
+pub frees_push : (first old new : List ℕ) (is_long : Bool) (changes : ObjectChanges) (map : ObjectPointers) (j i : ℕ) (state : RecordState) (was : Pointer) → was ≡ map.record_at j i → state ≡ kept_state is_long changes j i
+    → FreesFrom first old (IsOfRecord is_long changes map j i) → PlaceFrees old new state was → FreesFrom first new (IsOfRecord is_long changes map j (i + 1))
+frees_push first old new is_long changes map j i state was is state_is =
+    frees_more first old new (IsOfRecord is_long changes map j i) (IsOfPlace state was) (IsOfRecord is_long changes map j (i + 1)) (record_below is_long changes map j i)
+    (λ address. record_here is_long changes map j i state was address is state_is)
+
+-- and of one strip more
+pub strip_below : (is_long : Bool) (changes : ObjectChanges) (map : ObjectPointers) (j address : ℕ) → IsOfStrip is_long changes map j address → IsOfStrip is_long changes map (j + 1) address
+strip_below is_long changes map j address of = record { strip = of.strip; low = (let low = of.low in omega arith); record_is = of.record_is }
+
+pub strip_here : (is_long : Bool) (changes : ObjectChanges) (map : ObjectPointers) (j address : ℕ) → IsOfRecord is_long changes map j pointer_count address → IsOfStrip is_long changes map (j + 1) address
+strip_here is_long changes map j address here = record { strip = j; low = omega arith; record_is = here }
+
+-- an object that is planned stays planned
+pub object_stays : {free : FinSet nat_cmp} {s t : Progress} (n : ℕ) (bytes : List ℕ) (is_long : Bool) (changes : ObjectChanges) (was new : ObjectPointers) → Goes free s t → IsObjectPlanned s n bytes is_long changes was new
+    → IsObjectPlanned t n bytes is_long changes was new
+object_stays n bytes is_long changes was new g p = record {
+  records = λ j low. records_stay n j bytes is_long changes (was.record_at j) pointer_count (new.record_at j) g (p.records j low);
+  strips = λ j low. become_stays (Indirect (strip_number n j)) (strip_state is_long changes was j) (was.strip j) (new.strip j) (λ payload. (k : ℕ) → k < pointer_count → pointer_in payload k ≡ new.record_at j k) g (p.strips j low);
+  top = become_stays (Top n) (top_state is_long changes was) was.top new.top (λ payload. (j : ℕ) → j < pointer_count → pointer_in payload j ≡ new.strip j) g p.top;
 }
-
-pub object_stays : {free : FinSet nat_cmp} {s t : Progress} (n : ℕ) (bytes : List ℕ) (changes : ObjectChanges) (old : ObjectPointers) (new : ObjectMap) → Goes free s t → IsObjectPlanned s n bytes changes old new → IsObjectPlanned t n bytes changes old new
-object_stays n bytes changes old new g p = record {
-  count = p.count;
-  records = records_stay n bytes changes old 84 new.records.items g p.records;
-  indirect = become_stays (Indirect n) (indirect_state changes.is_changed new.records.items) old.indirect new.indirect _ g p.indirect;
-}
-
-pub object_frees : (first old new : List ℕ) (changes : ObjectChanges) (map : ObjectPointers) → RecordsFree first old changes map 84 → FreesOnly old new map.indirect → ObjectFrees first new changes map
-object_frees first old new changes map records indirect address among =
-    elim (indirect address among) [
-      | inl before ↦ elim (records address before) [ inl at_first ↦ inl at_first | inr of ↦ inr (inl of) ]
-      | inr here ↦ inr (inr here)
-    ]

@@ -1,6 +1,6 @@
 -- A plan that is refused for want of blocks: they are not free.
 use Rattle.std.proofs.Common.{◌≡◌, ℕ, zero, suc, ◌+◌, ◌-◌, ◌≤◌, ◌<◌, Bool, true, false, List, [], ◌∷◌, ◌++◌, length, map, filter, Ordering, Less, None, refl, sym, ◌∙◌, ap, arith, if◌then◌else◌, Result, IfErr, IsErrAnd}
-use Rattle.std.specs.Prelude.{is_some}
+use Rattle.std.specs.Prelude.{is_some, sum_by}
 use Rattle.std.specs.List.{flat_map, range_with_len}
 use Rattle.std.specs.Ordering.{nat_cmp}
 use Rattle.std.specs.FinMap.{FinMap}
@@ -8,30 +8,35 @@ use Rattle.std.specs.FinSet.{FinSet}
 use Rattle.std.specs.List.Sorted.{IsStrictlySortedBy}
 use Rattle.std.specs.Map.{keys_of}
 use Rattle.std.proofs.lemmas.List.{append-nil, length-append, length-map}
+use Rattle.std.proofs.lemmas.List.Sums.{sum_by-cons}
 use Rattle.std.proofs.lemmas.Grind.{flat_map-append}
 use Rattle.std.proofs.lemmas.Result.{err_from_is_err_and}
 use Rattle.base.specs.declared.error.PoolError.{PoolError}
+use Rattle.base.specs.declared.error.PoolError.TheVariants.{NoMemory, NoSpace}
 use Rattle.base.specs.declared.pointer.Pointer.{Pointer}
 use Rattle.base.specs.declared.names.ObjectId.{ObjectId}
 use Rattle.base.specs.formats.Fields.{no_pointer}
-use Rattle.base.specs.tree.Places.{Place}
-use Rattle.base.specs.tree.Places.Place.{Root, Directory, Indirect, Data}
+use Rattle.base.specs.formats.Limits.{pointer_count}
+use Rattle.base.specs.tree.Places.{Place, strip_number}
+use Rattle.base.specs.tree.Places.Place.{Root, Directory, Top, Indirect, Data}
 use Rattle.base.specs.declared.record_state.RecordState.{RecordState}
 use Rattle.base.specs.declared.record_state.RecordState.TheVariants.{Dirty}
-use Rattle.base.specs.tree.Syncs.{GroupChanges, is_dirty, is_directory_written, is_indirect_written, is_record_written, is_root_written, places_of_object, written_by}
+use Rattle.base.specs.tree.Syncs.{GroupChanges, is_dirty, is_directory_written, is_indirect_written, is_record_written, is_root_written, is_top_written, places_of_object, places_of_strip, pointer_numbers, written_by}
 use Rattle.base.specs.tree.PlannedTrees.{NewBlock}
-use Rattle.object_maps.specs.declared.tree.ObjectMap.{ObjectMap}
+use Rattle.object_maps.specs.declared.tree.ObjectEntry.{ObjectEntry}
+use Rattle.object_maps.specs.Pointers.{ObjectPointers}
+use Rattle.tree_plans.specs.declared.changed_object.ChangedObject.{ChangedObject}
 use Rattle.base.specs.common.Rising.{rising}
 use Rattle.space.specs.FreeSets.{free_from}
 use Rattle.space.proofs.FreeLists.{free_from-0}
 use Rattle.tree_plans.specs.declared.changes.ObjectChanges.{ObjectChanges}
-use Rattle.tree_plans.specs.Pointers.{ObjectPointers, entry_of, planned_map}
+use Rattle.tree_plans.specs.Pointers.{entry_of, planned_map}
 use Rattle.tree_plans.specs.Changes.{AreInRange, changes_of_group}
-use Rattle.tree_plans.specs.Plans.{Goes, Progress, is_dirty_in, is_indirect_written_in}
+use Rattle.tree_plans.specs.Plans.{Goes, Progress, is_dirty_in}
 use Rattle.tree_plans.specs.Walks.{is_directory_dirty, root_state}
-use Rattle.tree_plans.specs.Order.{Adds, address_if, addresses_of, addresses_where, all_addresses, object_addresses}
-use Rattle.tree_plans.specs.Room.{Lacks, all_blocks, count_if, count_where, needed_blocks, object_blocks, tree_blocks}
-use Rattle.tree_plans.proofs.Order.{absent-indirect_written, absent-written, adds_twice, addresses_more, all_from_none, all_numbers, none_passes, rising_of, root-written, written-directories}
+use Rattle.tree_plans.specs.Order.{Adds, address_if, addresses_of, addresses_where, all_addresses, object_addresses, strip_addresses}
+use Rattle.tree_plans.specs.Room.{Lacks, all_blocks, count_if, count_where, is_indirect_needed, is_top_needed, needed_blocks, object_blocks, record_blocks, tree_blocks}
+use Rattle.tree_plans.proofs.Order.{absent-indirect_written, absent-top, absent-written, adds_twice, addresses_more, all_from_none, all_numbers, none_passes, rising_of, root-written, same_filter, strip_addresses_more, strip_addresses_same, written-directories}
 use Rattle.tree_plans.proofs.Progress.{goes_twice}
 
 -- no free block is left for the next one
@@ -60,7 +65,7 @@ pub where_length : (p : ℕ → Bool) (f : ℕ → Pointer) (count : ℕ) → le
 unfolding addresses_where count_where
 where_length p f count = length-map (filter p (range_with_len 0 count)) (λ i. (f i).address)
 
-if_length : (b : Bool) (p : Pointer) → length (address_if b p) ≡ count_if b
+pub if_length : (b : Bool) (p : Pointer) → length (address_if b p) ≡ count_if b
 if_length true p = refl
 if_length false p = refl
 
@@ -90,19 +95,9 @@ lacks_at free s t p f index count b low is goes adds lacks =
     let rest : count_where p (index + 1) ≤ count_where p count = where_grows p (index + 1) (count - (index + 1)) count (omega (arith, low)) in
     lacks_behind free s t (addresses_where p f index) (count_if b) (count_where p count) goes adds (omega (arith, below, next, rest)) lacks
 
--- the addresses of an object are as many as the places that it has to write
-object_length : (g : GroupChanges) (n : ℕ) (o : ObjectPointers) → length (object_addresses g n o) ≡ object_blocks g n
-unfolding object_addresses object_blocks addresses_where
-object_length g n o = by (filter (is_record_written g n) (range_with_len 0 84)) (is_indirect_written g n)
-  where
-    last : (b : Bool) (p : Pointer) → length (address_if b p) ≡ length (if b then Indirect n ∷ [] else [])
-    last true p = refl
-    last false p = refl
-
-    by : (xs : List ℕ) (b : Bool) → length (map (λ r. (o.record_at r).address) xs ++ address_if b o.indirect)
-        ≡ length (map (λ r. Data n r) xs ++ (if b then Indirect n ∷ [] else []))
-    by [] b = last b o.indirect
-    by (x ∷ xs) b = ap suc (by xs b)
+if_places : {A : Type 0} (b : Bool) (a : A) → length (if b then a ∷ [] else []) ≡ count_if b
+if_places true a = refl
+if_places false a = refl
 
 flat_length : {X A B : Type 0} (f : X → List A) (g : X → List B) → ((x : X) → length (f x) ≡ length (g x)) → (xs : List X) → length (flat_map f xs) ≡ length (flat_map g xs)
 flat_length f g same [] = refl
@@ -113,25 +108,105 @@ flat_length f g same (x ∷ xs) =
     let rest = flat_length f g same xs in
     omega (arith, one, two, here, rest)
 
+flat_map_length : {A B : Type 0} (f : A → List B) (xs : List A) → length (flat_map f xs) ≡ sum_by (λ x. length (f x)) xs
+flat_map_length f [] = refl
+flat_map_length f (x ∷ xs) =
+    let one = length-append (f x) (flat_map f xs) in
+    let rest = flat_map_length f xs in
+    let sum = sum_by-cons (λ y. length (f y)) x xs in
+    omega (arith, one, rest, sum)
+
+-- what the records of the first strips of an object take
+pub strips_length : (q : ℕ → ℕ → Bool) (f : ℕ → ℕ → Pointer) (count : ℕ) → length (strip_addresses q f count) ≡ sum_by (λ j. count_where (q j) pointer_count) (range_with_len 0 count)
+unfolding strip_addresses
+strips_length q f count = flat_map_length (λ j. addresses_where (q j) (f j) pointer_count) (range_with_len 0 count) ∙ (λ x. sum_by (λ j. where_length (q j) (f j) pointer_count x) (range_with_len 0 count))
+
+pub strips_more : (q : ℕ → ℕ → Bool) (n : ℕ) → sum_by (λ j. count_where (q j) pointer_count) (range_with_len 0 (n + 1)) ≡ sum_by (λ j. count_where (q j) pointer_count) (range_with_len 0 n) + count_where (q n) pointer_count
+strips_more q n =
+    let f : ℕ → ℕ → Pointer = λ j k. no_pointer in
+    let next = strip_addresses_more q f f n (λ j k low below. refl) in
+    let one = strips_length q f (n + 1) in
+    let two = strips_length q f n in
+    let three = where_length (q n) (f n) pointer_count in
+    let four = length-append (strip_addresses q f n) (addresses_where (q n) (f n) pointer_count) in
+    let same : length (strip_addresses q f (n + 1)) ≡ length (strip_addresses q f n ++ addresses_where (q n) (f n) pointer_count) = ap (λ (l : List ℕ). length l) next in
+    omega (arith, one, two, three, four, same)
+
+strips_grow : (q : ℕ → ℕ → Bool) (n more all : ℕ) → n + more ≡ all → sum_by (λ j. count_where (q j) pointer_count) (range_with_len 0 n) ≤ sum_by (λ j. count_where (q j) pointer_count) (range_with_len 0 all)
+strips_grow q n zero all sum =
+    let same : n ≡ all = omega (arith, sum) in
+    rw same (omega arith)
+strips_grow q n (suc more) all sum =
+    let next : n + more + 1 ≡ all = omega (arith, sum) in
+    let h = strips_grow q n more (n + more) refl in
+    let step = strips_more q (n + more) in
+    let up : sum_by (λ j. count_where (q j) pointer_count) (range_with_len 0 n) ≤ sum_by (λ j. count_where (q j) pointer_count) (range_with_len 0 (n + more + 1)) = omega (arith, h, step) in
+    rw next at up
+
+-- the records of a strip are refused, if the strips below it are done
+pub lacks_strip : (free : FinSet nat_cmp) (s t : Progress) (q : ℕ → ℕ → Bool) (f : ℕ → ℕ → Pointer) (strip count : ℕ) → strip < count → Goes free s t → Adds s.blocks t.blocks (strip_addresses q f strip)
+    → Lacks free t (count_where (q strip) pointer_count) → Lacks free s (sum_by (λ j. count_where (q j) pointer_count) (range_with_len 0 count))
+lacks_strip free s t q f strip count low goes adds lacks =
+    let below = strips_length q f strip in
+    let next = strips_more q strip in
+    let rest = strips_grow q (strip + 1) (count - (strip + 1)) count (omega (arith, low)) in
+    lacks_behind free s t (strip_addresses q f strip) (count_where (q strip) pointer_count) (sum_by (λ j. count_where (q j) pointer_count) (range_with_len 0 count)) goes adds (omega (arith, below, next, rest)) lacks
+
+-- numbers that are marked alike
+pub count_same : (p q : ℕ → Bool) (count : ℕ) → ((k : ℕ) → k < count → p k ≡ q k) → count_where p count ≡ count_where q count
+unfolding count_where
+count_same p q count same = ap (λ (l : List ℕ). length l) (same_filter p q count same)
+
+-- the addresses of an object are as many as the places that it has to write
+object_length : (g : GroupChanges) (n : ℕ) (o : ObjectPointers) → length (object_addresses g n o) ≡ object_blocks g n
+unfolding object_addresses object_blocks strip_addresses addresses_where
+object_length g n o =
+    let records : List ℕ = flat_map (λ j. map (λ k. (o.record_at j k).address) (filter (is_record_written g n j) pointer_numbers)) pointer_numbers in
+    let indirects : List ℕ = map (λ j. (o.strip j).address) (filter (is_indirect_written g n) pointer_numbers) in
+    let top : List ℕ = address_if (is_top_written g n) o.top in
+    let places : List Place = flat_map (places_of_strip g n) pointer_numbers in
+    let middle : List Place = map (λ j. Indirect (strip_number n j)) (filter (is_indirect_written g n) pointer_numbers) in
+    let last : List Place = if is_top_written g n then Top n ∷ [] else [] in
+    let a1 = length-append (records ++ indirects) top in
+    let a2 = length-append records indirects in
+    let b1 = length-append (places ++ middle) last in
+    let b2 = length-append places middle in
+    let one : length records ≡ length places = flat_length (λ j. map (λ k. (o.record_at j k).address) (filter (is_record_written g n j) pointer_numbers)) (places_of_strip g n)
+    (λ j. length-map (filter (is_record_written g n j) pointer_numbers) (λ k. (o.record_at j k).address) ∙ sym (length-map (filter (is_record_written g n j) pointer_numbers) (λ k. Data (strip_number n j) k))) pointer_numbers in
+    let two : length indirects ≡ length middle = length-map (filter (is_indirect_written g n) pointer_numbers) (λ j. (o.strip j).address)
+    ∙ sym (length-map (filter (is_indirect_written g n) pointer_numbers) (λ j. Indirect (strip_number n j))) in
+    let three : length top ≡ length last = if_length (is_top_written g n) o.top ∙ sym (if_places (is_top_written g n) (Top n)) in
+    omega (arith, a1, a2, b1, b2, one, two, three)
+
 all_length : (g : GroupChanges) (map_of : ℕ → ObjectPointers) (count : ℕ) → length (all_addresses g map_of count) ≡ all_blocks g count
 unfolding all_addresses all_blocks object_blocks
 all_length g map_of count = flat_length (λ n. object_addresses g n (map_of n)) (places_of_object g) (λ n. object_length g n (map_of n)) (range_with_len 0 count)
 
--- the records of an object that are written, and its indirect block after them
-blocks_are : (g : GroupChanges) (n : ℕ) → object_blocks g n ≡ count_where (is_record_written g n) 84 + count_if (is_indirect_written g n)
-unfolding object_blocks count_where
-blocks_are g n =
-    length-append (map (λ r. Data n r) (filter (is_record_written g n) (range_with_len 0 84))) (if is_indirect_written g n then Indirect n ∷ [] else [])
-    ∙ ap (λ (k : ℕ). k + length (if is_indirect_written g n then Indirect n ∷ [] else [])) (length-map (filter (is_record_written g n) (range_with_len 0 84)) (λ r. Data n r))
-    ∙ ap (λ (k : ℕ). length (filter (is_record_written g n) (range_with_len 0 84)) + k) (last (is_indirect_written g n))
-  where
-    last : (b : Bool) → length (if b then Indirect n ∷ [] else []) ≡ count_if b
-    last true = refl
-    last false = refl
+-- an object's addresses, part by part
+by_parts : (g : GroupChanges) (n : ℕ) (o : ObjectPointers) (a b c : ℕ) → length (strip_addresses (is_record_written g n) o.record_at pointer_count) ≡ a
+    → length (addresses_where (is_indirect_written g n) o.strip pointer_count) ≡ b → length (address_if (is_top_written g n) o.top) ≡ c → length (object_addresses g n o) ≡ a + b + c
+unfolding object_addresses
+by_parts g n o a b c one two three =
+    let x = length-append (strip_addresses (is_record_written g n) o.record_at pointer_count ++ addresses_where (is_indirect_written g n) o.strip pointer_count) (address_if (is_top_written g n) o.top) in
+    let y = length-append (strip_addresses (is_record_written g n) o.record_at pointer_count) (addresses_where (is_indirect_written g n) o.strip pointer_count) in
+    omega (arith, x, y, one, two, three)
 
-pub object_needs : (g : GroupChanges) (n : ℕ) (changes : ObjectChanges) (was : ObjectPointers) → is_record_written g n ≡ is_dirty_in changes → is_indirect_written g n ≡ is_indirect_written_in changes was
-    → needed_blocks changes was ≡ object_blocks g n
-object_needs g n changes was records indirect = sym (blocks_are g n ∙ ap (λ (q : ℕ → Bool). count_where q 84 + count_if (is_indirect_written g n)) records ∙ ap (λ (b : Bool). count_where (is_dirty_in changes) 84 + count_if b) indirect)
+-- what an object takes by its changes is what its group writes of it
+pub object_needs : (g : GroupChanges) (n : ℕ) (object : ChangedObject) (was : ObjectPointers) → ((j k : ℕ) → j < pointer_count → k < pointer_count → is_record_written g n j k ≡ is_dirty_in object j k)
+    → ((j : ℕ) → is_indirect_written g n j ≡ is_indirect_needed object.is_long object.changes.now was j) → is_top_written g n ≡ is_top_needed object.is_long object.changes.now was
+    → needed_blocks object was ≡ object_blocks g n
+object_needs g n object was records indirects top =
+    let o : ObjectPointers = was in
+    let counted = object_length g n o in
+    let of_records : strip_addresses (is_record_written g n) o.record_at pointer_count ≡ strip_addresses (is_dirty_in object) o.record_at pointer_count =
+    strip_addresses_same (is_record_written g n) (is_dirty_in object) o.record_at o.record_at pointer_count records (λ j k low below. refl) in
+    let one : length (strip_addresses (is_record_written g n) o.record_at pointer_count) ≡ record_blocks object pointer_count = ap (λ (l : List ℕ). length l) of_records ∙ strips_length (is_dirty_in object) o.record_at pointer_count in
+    let two : length (addresses_where (is_indirect_written g n) o.strip pointer_count) ≡ count_where (is_indirect_needed object.is_long object.changes.now was) pointer_count =
+    where_length (is_indirect_written g n) o.strip pointer_count ∙ (λ x. count_where (λ j. indirects j x) pointer_count) in
+    let three : length (address_if (is_top_written g n) o.top) ≡ count_if (is_top_needed object.is_long object.changes.now was) = if_length (is_top_written g n) o.top ∙ ap count_if top in
+    let whole : length (object_addresses g n o) ≡ record_blocks object pointer_count + count_where (is_indirect_needed object.is_long object.changes.now was) pointer_count + count_if (is_top_needed object.is_long object.changes.now was) =
+    by_parts g n o _ _ _ one two three in
+    omega (arith, counted, whole)
 
 -- an object is refused, if those below it are done
 module _ (R : ObjectId → ObjectId → Ordering) (less : (a b : ObjectId) → R a b ≡ Less → a.0 < b.0) where
@@ -143,7 +218,7 @@ module _ (R : ObjectId → ObjectId → Ordering) (less : (a b : ObjectId) → R
       (all_numbers (places_of_object g) count 0 count objects (omega arith) (rising_of R less 0 count objects (all_from_none R less (keys_of objects)) sorted within)
       (λ n low absent. nothing n absent))
 
-  pub lacks_object : (free : FinSet nat_cmp) (s t : Progress) (g : GroupChanges) (maps : ℕ → ObjectPointers) (planned : List (ObjectId × ObjectMap)) (count : ℕ) (objects done rest : List (ObjectId × ObjectChanges)) (e : ObjectId × ObjectChanges)
+  pub lacks_object : (free : FinSet nat_cmp) (s t : Progress) (g : GroupChanges) (maps : ℕ → ObjectPointers) (planned : List (ObjectId × ObjectEntry)) (count : ℕ) (objects done rest : List (ObjectId × ObjectChanges)) (e : ObjectId × ObjectChanges)
       → objects ≡ done ++ (e ∷ rest) → IsStrictlySortedBy R (keys_of objects) → ((n : ℕ) → is_some (entry_of objects n) ≡ true → n < count)
       → ((n : ℕ) → entry_of objects n ≡ None → places_of_object g n ≡ []) → Goes free s t
       → Adds s.blocks t.blocks (flat_map (λ (x : ObjectId × ObjectChanges). object_addresses g x.0.0 (planned_map maps planned x.0.0)) done)
@@ -162,8 +237,14 @@ module _ (R : ObjectId → ObjectId → Ordering) (less : (a b : ObjectId) → R
 -- an object that no operation is on has no place that is written
 pub no_places : (objects : List (ObjectId × ObjectChanges)) (pointers : Place → Pointer) (after : FinMap nat_cmp (List ℕ)) (n : ℕ) → entry_of objects n ≡ None → places_of_object (changes_of_group objects pointers after) n ≡ []
 no_places objects pointers after n none =
-    (λ k. map (λ r. Data n r) (none_passes (is_record_written (changes_of_group objects pointers after) n) (absent-written objects pointers after n none) (range_with_len 0 84) k)
-    ++ (if absent-indirect_written objects pointers after n none k then Indirect n ∷ [] else []))
+    let g : GroupChanges = changes_of_group objects pointers after in
+    (λ x. none_flat (places_of_strip g n) (λ j. (λ y. map (λ k. Data (strip_number n j) k) (none_passes (is_record_written g n j) (absent-written objects pointers after n none j) pointer_numbers y))) pointer_numbers x
+    ++ map (λ j. Indirect (strip_number n j)) (none_passes (is_indirect_written g n) (absent-indirect_written objects pointers after n none) pointer_numbers x)
+    ++ (if absent-top objects pointers after n none x then Top n ∷ [] else []))
+  where
+    none_flat : {A B : Type 0} (f : A → List B) → ((a : A) → f a ≡ []) → (xs : List A) → flat_map f xs ≡ []
+    none_flat f none [] = refl
+    none_flat f none (a ∷ xs) = (λ x. none a x ++ none_flat f none xs x)
 
 -- the places of a whole walk
 parts : (g : GroupChanges) (written : ℕ → Bool) (count directory_count : ℕ) (b : Bool)
@@ -184,7 +265,7 @@ parts g written count directory_count b =
     last true = refl
     last false = refl
 
-module _ (free : FinSet nat_cmp) (objects : List (ObjectId × ObjectChanges)) (pointers : Place → Pointer) (after : FinMap nat_cmp (List ℕ)) (within : AreInRange objects) where
+module _ (free : FinSet nat_cmp) (objects : List (ObjectId × ObjectChanges)) (pointers : Place → Pointer) (after : FinMap nat_cmp (List ℕ)) (within : AreInRange objects after) where
   abbrev group : GroupChanges
   group = changes_of_group objects pointers after
 
@@ -236,6 +317,29 @@ plan_lacks free next blocks g at_first none lacks = lacks_in_all free next block
 -- a place that takes one block is refused for want of it
 pub lacks_here : (free : FinSet nat_cmp) (s : Progress) (state : RecordState) → state ≡ Dirty → free_from s.next free ≡ [] → Lacks free s (count_if (is_dirty state))
 lacks_here free s state is none = rw is (lacks_one free s none)
+
+-- want of memory is not want of blocks
+pub not_space : {P : Type 0} (e : PoolError) → e ≡ NoMemory → e ≡ NoSpace → P
+not_space e memory space = absurd (let no : NoSpace ≡ NoMemory = sym space ∙ memory in cc)
+
+-- a part of an object is refused: its records, then its indirect blocks, and then its top
+pub records_lack : (free : FinSet nat_cmp) (s : Progress) (records strips tops : ℕ) → Lacks free s records → Lacks free s (records + strips + tops)
+records_lack free s records strips tops = lacks_more free s records (records + strips + tops) (omega arith)
+
+pub strips_lack : (free : FinSet nat_cmp) (s t : Progress) (added : List ℕ) (records strips tops made : ℕ) → length added ≡ records → made ≡ strips → Goes free s t → Adds s.blocks t.blocks added
+    → Lacks free t made → Lacks free s (records + strips + tops)
+strips_lack free s t added records strips tops made long same goes adds = lacks_behind free s t added made (records + strips + tops) goes adds (fits (length added) long)
+  where
+    fits : (taken : ℕ) → taken ≡ records → taken + made ≤ records + strips + tops
+    fits taken is = omega (arith, is, same)
+
+pub tops_lack : (free : FinSet nat_cmp) (s t : Progress) (added below : List ℕ) (records strips tops made top : ℕ) → length added ≡ records → length below ≡ made → made ≡ strips → top ≡ tops → Goes free s t
+    → Adds s.blocks t.blocks (added ++ below) → Lacks free t top → Lacks free s (records + strips + tops)
+tops_lack free s t added below records strips tops made top long more same last goes adds = lacks_behind free s t (added ++ below) top (records + strips + tops) goes adds
+    (fits (length (added ++ below)) (length added) (length below) (length-append added below) long more)
+  where
+    fits : (all one two : ℕ) → all ≡ one + two → one ≡ records → two ≡ made → all + top ≤ records + strips + tops
+    fits all one two sum one_is two_is = omega (arith, sum, one_is, two_is, same, last)
 
 -- an error is handed on
 pub handed_on : {A : Type 0} (r : Result A PoolError) (x : PoolError) (P : PoolError → Type 0) → IsErrAnd r (λ e. e ≡ x) → P x → IfErr r P

@@ -1,6 +1,7 @@
 -- Each block that a plan makes is at a place of the new tree.
-use Rattle.std.proofs.Common.{◌≡◌, ◌==◌, ℕ, zero, suc, ◌+◌, ◌<◌, ◌⊎◌, inl, inr, true, false, cond, List, [], ◌∷◌, ◌++◌, length, map, Option, Ordering, Less, Some, None, refl, sym, ◌∙◌, ap, arith}
+use Rattle.std.proofs.Common.{◌≡◌, ◌==◌, ℕ, zero, suc, ◌+◌, ◌<◌, inl, inr, true, false, cond, List, [], ◌∷◌, ◌++◌, length, map, Option, Ordering, Less, Some, None, refl, sym, ◌∙◌, ap, arith}
 use Rattle.std.specs.Prelude.{slice_get, All}
+use Rattle.std.specs.Global.{Vec}
 use Rattle.std.specs.List.{AllByRecursion}
 use Rattle.std.specs.List.Sorted.{IsStrictlySortedBy}
 use Rattle.std.specs.Map.{keys_of}
@@ -10,15 +11,18 @@ use Rattle.std.proofs.lemmas.Bool.{eq-eqb, eqb-true}
 use Rattle.base.specs.declared.pointer.Pointer.{Pointer}
 use Rattle.base.specs.declared.names.ObjectId.{ObjectId}
 use Rattle.base.specs.formats.Fields.{no_pointer}
-use Rattle.base.specs.tree.Places.{Place, IsPlace}
-use Rattle.base.specs.tree.Places.Place.{Root, Directory, Indirect, Data}
+use Rattle.base.specs.formats.Limits.{pointer_count}
+use Rattle.base.specs.tree.Places.{Place, IsPlace, strip_number, strip_of}
+use Rattle.base.specs.tree.Places.Place.{Root, Directory, Top, Indirect, Data}
+use Rattle.base.proofs.tree.Strips.{strip-low, strip-object, strip-which}
 use Rattle.base.specs.tree.PlannedTrees.{NewBlock}
 use Rattle.base.specs.stored.Stored.{AreUsed}
-use Rattle.object_maps.specs.declared.tree.ObjectMap.{ObjectMap}
+use Rattle.object_maps.specs.declared.tree.ObjectEntry.{ObjectEntry}
+use Rattle.object_maps.specs.Pointers.{ObjectPointers, pointer_of_list, pointers_by, pointers_of_entry}
 use Rattle.tree_plans.specs.declared.planner.PlannedBlock.{PlannedBlock}
-use Rattle.tree_plans.specs.Pointers.{IsPut, ObjectPointers, entry_of, planned_map, pointers_from, pointers_in}
+use Rattle.tree_plans.specs.Pointers.{IsPut, entry_of, planned_map, records_among}
 use Rattle.tree_plans.specs.Plans.{new_block}
-use Rattle.tree_plans.specs.Uses.{AreOf, IsPointedAt, IsInObject, IsInPlanned, IsTaken, ObjectUses, ObjectsUse, PointersUse, UsesOnly}
+use Rattle.tree_plans.specs.Uses.{AreOf, IsPointedAt, IsInObject, IsInPlanned, ObjectUses, ObjectsUse, PointersUse, StripsUse, UsesOnly}
 use Rattle.tree_plans.proofs.Progress.{front_of, last_of}
 use Rattle.tree_plans.proofs.Walks.{push_cases}
 
@@ -32,7 +36,8 @@ uses_one s t block place pushed here address taken =
     ]
 
 -- one pointer more
-pub pointers_use_push : (first s t : List NewBlock) (pointers : List Pointer) (i : ℕ) (new : Pointer) → length pointers ≡ i → PointersUse first s pointers i → UsesOnly s t new.address → PointersUse first t (pointers ++ new ∷ []) (i + 1)
+pub pointers_use_push : (first s t : List NewBlock) (pointers : List Pointer) (i : ℕ) (new : Pointer) → length pointers ≡ i → PointersUse first s (pointer_of_list pointers) i → UsesOnly s t new.address
+    → PointersUse first t (pointer_of_list (pointers ++ new ∷ [])) (i + 1)
 pointers_use_push first s t pointers i new long uses more address taken =
     elim (more address taken) [
       | inl before ↦ elim (uses address before) [
@@ -48,42 +53,69 @@ pointers_use_push first s t pointers i new long uses more address taken =
       })
     ]
 
--- the records of an object, and then its indirect block
-pub object_uses : (first s t : List NewBlock) (pointers : List Pointer) (at : ℕ) → PointersUse first s pointers 84 → UsesOnly s t at
-    → (address : ℕ) → IsTaken t address → IsTaken first address ⊎ (IsPointedAt pointers 84 address ⊎ (at ≡ address))
-object_uses first s t pointers at records indirect address taken =
-    elim (indirect address taken) [
-      | inl before ↦ elim (records address before) [ inl at_first ↦ inl at_first | inr of ↦ inr (inl of) ]
-      | inr here ↦ inr (inr here)
+-- pointers that are the same
+pub pointed_same : (f g : ℕ → Pointer) (count address : ℕ) → ((i : ℕ) → i < count → f i ≡ g i) → IsPointedAt f count address → IsPointedAt g count address
+pointed_same f g count address same of = record { index = of.index; low = of.low; is = ap (λ (p : Pointer). p.address) (sym (same of.index of.low)) ∙ of.is }
+
+-- the records of one strip more, and a strip that takes none
+pub strips_use_push : (first s t : List NewBlock) (old new : List (ℕ × Vec Pointer)) (i : ℕ) (v : Vec Pointer) → ((j : ℕ) → j < i → records_among new j ≡ records_among old j) → records_among new i ≡ Some v
+    → StripsUse first s old i → PointersUse s t (pointer_of_list v.items) pointer_count → StripsUse first t new (i + 1)
+strips_use_push first s t old new i v same there uses more address taken = elim (more address taken) [
+  | inl before ↦ elim (uses address before) [
+    | inl at_first ↦ inl at_first
+    | inr of ↦ inr (record { strip = of.strip; low = (let low = of.low in omega arith); records = of.records; records_are = same of.strip of.low ∙ of.records_are; is_in = of.is_in })
+  ]
+  | inr here ↦ inr (record { strip = i; low = omega arith; records = v; records_are = there; is_in = here })
+]
+
+pub strips_use_passed : (first s : List NewBlock) (strips : List (ℕ × Vec Pointer)) (i : ℕ) → StripsUse first s strips i → StripsUse first s strips (i + 1)
+strips_use_passed first s strips i uses address taken = elim (uses address taken) [
+  | inl at_first ↦ inl at_first
+  | inr of ↦ inr (record { strip = of.strip; low = (let low = of.low in omega arith); records = of.records; records_are = of.records_are; is_in = of.is_in })
+]
+
+-- the records of an object, then its indirect blocks, and then its top, which are the pointers that it has after
+pub object_uses : (first s t u : List NewBlock) (strips : List (ℕ × Vec Pointer)) (indirects : List Pointer) (top : Pointer) (o : ObjectPointers) → StripsUse first s strips pointer_count → PointersUse s t (pointer_of_list indirects) pointer_count
+    → UsesOnly t u top.address → ((j : ℕ) (v : Vec Pointer) → j < pointer_count → records_among strips j ≡ Some v → (k : ℕ) → k < pointer_count → pointer_of_list v.items k ≡ o.record_at j k)
+    → ((j : ℕ) → j < pointer_count → pointer_of_list indirects j ≡ o.strip j) → top ≡ o.top → ObjectUses first u o
+object_uses first s t u strips indirects top o below middle above same_records same_strips same_top address taken = elim (above address taken) [
+  | inr here ↦ inr (inr (inr (ap (λ (p : Pointer). p.address) (sym same_top) ∙ here)))
+  | inl after ↦ elim (middle address after) [
+    | inr of ↦ inr (inr (inl (pointed_same (pointer_of_list indirects) o.strip pointer_count address same_strips of)))
+    | inl before ↦ elim (below address before) [
+      | inl at_first ↦ inl at_first
+      | inr of ↦ inr (inl (record { strip = of.strip; low = of.low; is_in = pointed_same (pointer_of_list of.records.items) (o.record_at of.strip) pointer_count address (same_records of.strip of.records of.low of.records_are) of.is_in }))
     ]
+  ]
+]
 
 -- an object that was not planned yet is put
-entry_kept : (old new : List (ObjectId × ObjectMap)) (id : ObjectId) (m : ObjectMap) → IsPut old id m new → entry_of old id.0 ≡ None → (n : ℕ) (k : ObjectMap) → entry_of old n ≡ Some k → entry_of new n ≡ Some k
+entry_kept : (old new : List (ObjectId × ObjectEntry)) (id : ObjectId) (m : ObjectEntry) → IsPut old id m new → entry_of old id.0 ≡ None → (n : ℕ) (k : ObjectEntry) → entry_of old n ≡ Some k → entry_of new n ≡ Some k
 entry_kept old new id m put none n k e =
     put n ∙ (elim (id.0 == n) as (λ t. (id.0 == n) ≡ t → cond t (Some m) (entry_of old n) ≡ Some k) [
       | true ↦ λ is. let there : entry_of old id.0 ≡ Some k = ap (entry_of old) (eqb-true id.0 n is) ∙ e in absurd (cc)
       | false ↦ λ is. e
     ] refl)
 
-pub objects_use_put : (first s t : List NewBlock) (old new : List (ObjectId × ObjectMap)) (id : ObjectId) (m : ObjectMap) → IsPut old id m new → entry_of old id.0 ≡ None → id.0 < 5292 → ObjectUses s t m
+pub objects_use_put : (first s t : List NewBlock) (old new : List (ObjectId × ObjectEntry)) (id : ObjectId) (m : ObjectEntry) → IsPut old id m new → entry_of old id.0 ≡ None → id.0 < 5292 → ObjectUses s t (pointers_of_entry m)
     → ObjectsUse first s old → ObjectsUse first t new
 objects_use_put first s t old new id m put none low more uses address taken =
     elim (more address taken) [
       | inl before ↦ elim (uses address before) [
         | inl at_first ↦ inl at_first
-        | inr of ↦ inr (record { number = of.number; low = of.low; map = of.map; map_is = entry_kept old new id m put none of.number of.map of.map_is; is_in = of.is_in })
+        | inr of ↦ inr (record { number = of.number; low = of.low; entry = of.entry; entry_is = entry_kept old new id m put none of.number of.entry of.entry_is; is_in = of.is_in })
       ]
       | inr here ↦ inr (record {
         number = id.0;
         low = low;
-        map = m;
-        map_is = put id.0 ∙ ap (λ b. cond b (Some m) (entry_of old id.0)) (eq-eqb id.0 id.0 refl);
+        entry = m;
+        entry_is = put id.0 ∙ ap (λ b. cond b (Some m) (entry_of old id.0)) (eq-eqb id.0 id.0 refl);
         is_in = here;
       })
     ]
 
 -- the other entries stay
-pub others_put : (old new : List (ObjectId × ObjectMap)) (id : ObjectId) (m : ObjectMap) → IsPut old id m new → (n : ℕ) → (id.0 == n) ≡ false → entry_of new n ≡ entry_of old n
+pub others_put : (old new : List (ObjectId × ObjectEntry)) (id : ObjectId) (m : ObjectEntry) → IsPut old id m new → (n : ℕ) → (id.0 == n) ≡ false → entry_of new n ≡ entry_of old n
 others_put old new id m put n other = put n ∙ ap (λ b. cond b (Some m) (entry_of old n)) other
 
 -- one object more is gone over
@@ -129,8 +161,8 @@ module _ (R : ObjectId → ObjectId → Ordering) (ties : (a b : ObjectId) → i
   next_is_new all done rest e split sorted = not_yet done e rest (rw split at sorted)
 
 -- of a whole walk, each block is one of the new tree
-pub tree_used : (first one two three : List NewBlock) (maps : ℕ → ObjectPointers) (planned : List (ObjectId × ObjectMap)) (directories : List Pointer) (root : Pointer)
-    → first ≡ [] → ObjectsUse first one planned → PointersUse one two directories 84 → UsesOnly two three root.address → AreUsed three (pointers_from root directories (planned_map maps planned))
+pub tree_used : (first one two three : List NewBlock) (maps : ℕ → ObjectPointers) (planned : List (ObjectId × ObjectEntry)) (directories : List Pointer) (root : Pointer)
+    → first ≡ [] → ObjectsUse first one planned → PointersUse one two (pointer_of_list directories) 84 → UsesOnly two three root.address → AreUsed three (pointers_by root directories (planned_map maps planned))
 tree_used first one two three maps planned directories root none objects across top i b e =
     elim (top b.address (i, b, e, refl)) [
       | inr here ↦ (Root, tt, here)
@@ -143,21 +175,31 @@ tree_used first one two three maps planned directories root none objects across 
       ]
     ]
   where
+    after : Place → Pointer
+    after = pointers_by root directories (planned_map maps planned)
+
     nothing : (j : ℕ) (c : NewBlock) → slice_get first j ≡ Some c → ⊥
     nothing j c is = let at : slice_get [] j ≡ Some c = rw none at is in absurd (cc)
 
-    in_object : (of : IsInPlanned planned b.address) → IsInObject of.map b.address
-        → (place : Place) × IsPlace place × ((pointers_from root directories (planned_map maps planned) place).address ≡ b.address)
+    map_is : (of : IsInPlanned planned b.address) → planned_map maps planned of.number ≡ pointers_of_entry of.entry
+    map_is of = ap (λ (o : Option ObjectEntry). option_map_or pointers_of_entry o (maps of.number)) of.entry_is
+
+    in_object : (of : IsInPlanned planned b.address) → IsInObject (pointers_of_entry of.entry) b.address → (place : Place) × IsPlace place × ((after place).address ≡ b.address)
     in_object of (inl r) = (
-      Data of.number r.index,
-      (of.low, r.low),
-      ap (λ (o : Option ObjectMap). ((option_map_or pointers_in o (maps of.number)).record_at r.index).address) of.map_is ∙ r.is,
+      Data (strip_number of.number r.strip) r.is_in.index,
+      (strip-low of.number r.strip of.low r.low, r.is_in.low),
+      ap (λ (n : ℕ). ((planned_map maps planned n).record_at (strip_of (strip_number of.number r.strip)) r.is_in.index).address) (strip-object of.number r.strip of.low)
+          ∙ ap (λ (j : ℕ). ((planned_map maps planned of.number).record_at j r.is_in.index).address) (strip-which of.number r.strip of.low)
+          ∙ ap (λ (o : ObjectPointers). (o.record_at r.strip r.is_in.index).address) (map_is of) ∙ r.is_in.is,
     )
-    in_object of (inr is) = (
-      Indirect of.number,
-      of.low,
-      ap (λ (o : Option ObjectMap). (option_map_or pointers_in o (maps of.number)).indirect.address) of.map_is ∙ is,
+    in_object of (inr (inl r)) = (
+      Indirect (strip_number of.number r.index),
+      strip-low of.number r.index of.low r.low,
+      ap (λ (n : ℕ). ((planned_map maps planned n).strip (strip_of (strip_number of.number r.index))).address) (strip-object of.number r.index of.low)
+          ∙ ap (λ (j : ℕ). ((planned_map maps planned of.number).strip j).address) (strip-which of.number r.index of.low)
+          ∙ ap (λ (o : ObjectPointers). (o.strip r.index).address) (map_is of) ∙ r.is,
     )
+    in_object of (inr (inr is)) = (Top of.number, of.low, ap (λ (o : ObjectPointers). o.top.address) (map_is of) ∙ is)
 
 -- each block is whole
 pub all_whole : (blocks : List PlannedBlock) → All (λ (b : PlannedBlock). length b.block ≡ 4096) blocks → (i : ℕ) (b : NewBlock) → slice_get (map new_block blocks) i ≡ Some b → length b.content ≡ 4096

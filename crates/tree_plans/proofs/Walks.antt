@@ -16,9 +16,11 @@ use Rattle.base.specs.declared.record_state.RecordState.{RecordState}
 use Rattle.base.specs.formats.Limits.{object_count}
 use Rattle.base.specs.formats.Fields.{no_pointer}
 use Rattle.base.specs.tree.Places.Place.{Directory}
-use Rattle.object_maps.specs.declared.tree.ObjectMap.{ObjectMap}
+use Rattle.object_maps.specs.declared.tree.ObjectEntry.{ObjectEntry}
 use Rattle.tree_plans.specs.declared.changes.ObjectChanges.{ObjectChanges}
-use Rattle.tree_plans.specs.Pointers.{IsPut, ObjectPointers, entry_of}
+use Rattle.object_maps.specs.Pointers.{ObjectPointers, pointers_of_entry}
+use Rattle.tree_plans.specs.Pointers.{IsPut, entry_of}
+use Rattle.tree_plans.specs.Changes.{has_two_levels}
 use Rattle.tree_plans.specs.Plans.{Progress, Goes, FreesOnly, PlaceFrees, ObjectFrees, IsAmong, IsOf, replaces}
 use Rattle.tree_plans.specs.Walks.{AreDirectoriesPlanned, AreEntriesWritten, AreObjectsPlanned, DirectoriesFree, IsDirectoryPlanned, IsOfDirectory, IsOfObject, IsPlannedFrom, ObjectsFree, directory_state, root_state}
 use Rattle.tree_plans.proofs.Progress.{become_stays, each_push, object_stays}
@@ -36,22 +38,31 @@ some_either false a o (inl e) = absurd (cc)
 some_either false a o (inr e) = e
 
 module _ {free : FinSet nat_cmp} {s t : Progress} (maps : ℕ → ObjectPointers) (after : FinMap nat_cmp (List ℕ)) (objects : List (ObjectId × ObjectChanges)) where
-  pub from_stays : (n : ℕ) (m : ObjectMap) → Goes free s t → IsPlannedFrom s maps after objects n m → IsPlannedFrom t maps after objects n m
+  pub from_stays : (n : ℕ) (m : ObjectEntry) → Goes free s t → IsPlannedFrom s maps after objects n m → IsPlannedFrom t maps after objects n m
   from_stays n m g f = record {
     low = f.low;
     changes = f.changes;
     changes_are = f.changes_are;
     old = f.old;
     old_is = f.old_is;
-    planned = object_stays n (unwrap_or (finite.get after n) []) f.changes f.old m g f.planned;
+    planned = object_stays n (unwrap_or (finite.get after n) []) (has_two_levels (finite.get after n)) f.changes f.old (pointers_of_entry m) g f.planned;
+    named = f.named;
     length = f.length;
   }
 
-  pub objects_stay : (done : List (ObjectId × ObjectChanges)) (planned : List (ObjectId × ObjectMap)) → Goes free s t → AreObjectsPlanned s maps after objects done planned → AreObjectsPlanned t maps after objects done planned
+  pub objects_stay : (done : List (ObjectId × ObjectChanges)) (planned : List (ObjectId × ObjectEntry)) → Goes free s t → AreObjectsPlanned s maps after objects done planned → AreObjectsPlanned t maps after objects done planned
   objects_stay done planned g a = record { each = λ n m e. from_stays n m g (a.each n m e); all = a.all }
 
+-- before the first object none is planned
+pub none_planned : (s : Progress) (maps : ℕ → ObjectPointers) (after : FinMap nat_cmp (List ℕ)) (objects : List (ObjectId × ObjectChanges)) (planned : List (ObjectId × ObjectEntry)) → planned ≡ []
+    → AreObjectsPlanned s maps after objects [] planned
+none_planned s maps after objects planned empty = record {
+  each = λ n e there. absurd (let no : None ≡ Some e = sym (ap (λ (l : List (ObjectId × ObjectEntry)). entry_of l n) empty) ∙ there in cc);
+  all = λ i id changes at low. absurd (cc);
+}
+
 -- an object that has no place in the tree is gone over
-pub object_passed : (s : Progress) (maps : ℕ → ObjectPointers) (after : FinMap nat_cmp (List ℕ)) (objects done : List (ObjectId × ObjectChanges)) (planned : List (ObjectId × ObjectMap)) (id : ObjectId) (changes : ObjectChanges)
+pub object_passed : (s : Progress) (maps : ℕ → ObjectPointers) (after : FinMap nat_cmp (List ℕ)) (objects done : List (ObjectId × ObjectChanges)) (planned : List (ObjectId × ObjectEntry)) (id : ObjectId) (changes : ObjectChanges)
     → (id.0 < object_count → ⊥) → AreObjectsPlanned s maps after objects done planned → AreObjectsPlanned s maps after objects (done ++ (id, changes) ∷ []) planned
 object_passed s maps after objects done planned id changes none a = record {
   each = a.each;
@@ -64,7 +75,7 @@ object_passed s maps after objects done planned id changes none a = record {
 }
 
 -- an object is planned
-pub object_put : {free : FinSet nat_cmp} {s t : Progress} (maps : ℕ → ObjectPointers) (after : FinMap nat_cmp (List ℕ)) (objects done : List (ObjectId × ObjectChanges)) (old new : List (ObjectId × ObjectMap)) (id : ObjectId) (changes : ObjectChanges) (m : ObjectMap)
+pub object_put : {free : FinSet nat_cmp} {s t : Progress} (maps : ℕ → ObjectPointers) (after : FinMap nat_cmp (List ℕ)) (objects done : List (ObjectId × ObjectChanges)) (old new : List (ObjectId × ObjectEntry)) (id : ObjectId) (changes : ObjectChanges) (m : ObjectEntry)
     → Goes free s t → IsPut old id m new → IsPlannedFrom t maps after objects id.0 m → AreObjectsPlanned s maps after objects done old → AreObjectsPlanned t maps after objects (done ++ (id, changes) ∷ []) new
 object_put {free} {s} {t} maps after objects done old new id changes m g put here a = record {
   each = λ n other e. found n other (id.0 == n) refl (sym (put n) ∙ e);
@@ -75,17 +86,17 @@ object_put {free} {s} {t} maps after objects done old new id changes m g put her
       ]);
 }
   where
-    found : (n : ℕ) (other : ObjectMap) (b : Bool) → (id.0 == n) ≡ b → cond b (Some m) (entry_of old n) ≡ Some other → IsPlannedFrom t maps after objects n other
+    found : (n : ℕ) (other : ObjectEntry) (b : Bool) → (id.0 == n) ≡ b → cond b (Some m) (entry_of old n) ≡ Some other → IsPlannedFrom t maps after objects n other
     found n other true e is =
         let same : id.0 ≡ n = eqb-true id.0 n e in
         let m_is : m ≡ other = cc in
         rw (← same, ← m_is) here
     found n other false e is = from_stays maps after objects n other g (a.each n other is)
 
-pub objects_free_put : (first freed released : List ℕ) (maps : ℕ → ObjectPointers) (objects : List (ObjectId × ObjectChanges)) (old new : List (ObjectId × ObjectMap)) (id : ObjectId) (changes : ObjectChanges) (was : ObjectPointers) (m : ObjectMap)
-    → IsPut old id m new → id.0 < object_count → entry_of objects id.0 ≡ Some changes → maps id.0 ≡ was → ObjectFrees freed released changes was
-    → ObjectsFree first freed maps objects old → ObjectsFree first released maps objects new
-objects_free_put first freed released maps objects old new id changes was m put low changes_are was_is more frees address among =
+pub objects_free_put : (first freed released : List ℕ) (maps : ℕ → ObjectPointers) (after : FinMap nat_cmp (List ℕ)) (objects : List (ObjectId × ObjectChanges)) (old new : List (ObjectId × ObjectEntry)) (id : ObjectId) (changes : ObjectChanges) (was : ObjectPointers) (m : ObjectEntry)
+    → IsPut old id m new → id.0 < object_count → entry_of objects id.0 ≡ Some changes → maps id.0 ≡ was → ObjectFrees freed released (has_two_levels (finite.get after id.0)) changes was
+    → ObjectsFree first freed maps after objects old → ObjectsFree first released maps after objects new
+objects_free_put first freed released maps after objects old new id changes was m put low changes_are was_is more frees address among =
     elim (more address among) [
       | inl before ↦ elim (frees address before) [
         | inl at_first ↦ inl at_first
@@ -113,17 +124,17 @@ objects_free_put first freed released maps objects old new id changes was m put 
     ]
 
 -- directories
-pub directories_stay : {free : FinSet nat_cmp} {s t : Progress} (maps : ℕ → ObjectPointers) (planned : List (ObjectId × ObjectMap)) (after : FinMap nat_cmp (List ℕ)) (objects : List (ObjectId × ObjectChanges)) (old : List Pointer) (count : ℕ) (new : List Pointer)
-    → Goes free s t → AreDirectoriesPlanned s maps planned after objects old count new → AreDirectoriesPlanned t maps planned after objects old count new
-directories_stay maps planned after objects old count new g each d low =
-    become_stays (Directory d) (directory_state objects after d) (slice_index_or old d no_pointer) (slice_index_or new d no_pointer) (AreEntriesWritten maps planned after d 63) g (each d low)
+pub directories_stay : {free : FinSet nat_cmp} {s t : Progress} (below : ℕ → Pointer) (planned : List (ObjectId × ObjectEntry)) (after : FinMap nat_cmp (List ℕ)) (objects : List (ObjectId × ObjectChanges)) (old : List Pointer) (count : ℕ) (new : List Pointer)
+    → Goes free s t → AreDirectoriesPlanned s below planned after objects old count new → AreDirectoriesPlanned t below planned after objects old count new
+directories_stay below planned after objects old count new g each d low =
+    become_stays (Directory d) (directory_state objects after d) (slice_index_or old d no_pointer) (slice_index_or new d no_pointer) (AreEntriesWritten below planned after d 63) g (each d low)
 
-pub directories_push : {free : FinSet nat_cmp} {s t : Progress} (maps : ℕ → ObjectPointers) (planned : List (ObjectId × ObjectMap)) (after : FinMap nat_cmp (List ℕ)) (objects : List (ObjectId × ObjectChanges)) (old : List Pointer) (i : ℕ) (directories : List Pointer) (state : RecordState) (new : Pointer)
-    → Goes free s t → length directories ≡ i → state ≡ directory_state objects after i → AreDirectoriesPlanned s maps planned after objects old i directories
-    → IsDirectoryPlanned t maps planned after i state (slice_index_or old i no_pointer) new → AreDirectoriesPlanned t maps planned after objects old (i + 1) (directories ++ new ∷ [])
-directories_push {s = s} {t = t} maps planned after objects old i directories state new g long is each here =
-    each_push (λ d p. IsDirectoryPlanned t maps planned after d (directory_state objects after d) (slice_index_or old d no_pointer) p) directories new no_pointer i long
-    (directories_stay maps planned after objects old i directories g each) (rw (← is) here)
+pub directories_push : {free : FinSet nat_cmp} {s t : Progress} (below : ℕ → Pointer) (planned : List (ObjectId × ObjectEntry)) (after : FinMap nat_cmp (List ℕ)) (objects : List (ObjectId × ObjectChanges)) (old : List Pointer) (i : ℕ) (directories : List Pointer) (state : RecordState) (new : Pointer)
+    → Goes free s t → length directories ≡ i → state ≡ directory_state objects after i → AreDirectoriesPlanned s below planned after objects old i directories
+    → IsDirectoryPlanned t below planned after i state (slice_index_or old i no_pointer) new → AreDirectoriesPlanned t below planned after objects old (i + 1) (directories ++ new ∷ [])
+directories_push {s = s} {t = t} below planned after objects old i directories state new g long is each here =
+    each_push (λ d p. IsDirectoryPlanned t below planned after d (directory_state objects after d) (slice_index_or old d no_pointer) p) directories new no_pointer i long
+    (directories_stay below planned after objects old i directories g each) (rw (← is) here)
 
 pub directories_free_push : (first old new : List ℕ) (objects : List (ObjectId × ObjectChanges)) (after : FinMap nat_cmp (List ℕ)) (was : List Pointer) (i : ℕ) (state : RecordState) → state ≡ directory_state objects after i
     → DirectoriesFree first old objects after was i → PlaceFrees old new state (slice_index_or was i no_pointer) → DirectoriesFree first new objects after was (i + 1)
@@ -137,9 +148,9 @@ pub frees_weaker : (old new : List ℕ) (was : Pointer) (state : RecordState) �
 frees_weaker old new was state is only address among = elim (only address among) [ inl before ↦ inl before | inr of ↦ inr (is, of) ]
 
 -- what comes back of a whole walk
-pub walk_frees : (f0 f1 f2 f3 : List ℕ) (maps : ℕ → ObjectPointers) (objects : List (ObjectId × ObjectChanges)) (after : FinMap nat_cmp (List ℕ)) (planned : List (ObjectId × ObjectMap)) (was : List Pointer) (root : Pointer)
-    → f0 ≡ [] → ObjectsFree f0 f1 maps objects planned → DirectoriesFree f1 f2 objects after was 84 → PlaceFrees f2 f3 (root_state objects after) root
-    → (address : ℕ) → IsAmong f3 address → IsOfObject maps objects planned address ⊎ (IsOfDirectory objects after was 84 address ⊎ ((replaces (root_state objects after) ≡ true) × IsOf root address))
+pub walk_frees : (f0 f1 f2 f3 : List ℕ) (maps : ℕ → ObjectPointers) (objects : List (ObjectId × ObjectChanges)) (after : FinMap nat_cmp (List ℕ)) (planned : List (ObjectId × ObjectEntry)) (was : List Pointer) (root : Pointer)
+    → f0 ≡ [] → ObjectsFree f0 f1 maps after objects planned → DirectoriesFree f1 f2 objects after was 84 → PlaceFrees f2 f3 (root_state objects after) root
+    → (address : ℕ) → IsAmong f3 address → IsOfObject maps after objects planned address ⊎ (IsOfDirectory objects after was 84 address ⊎ ((replaces (root_state objects after) ≡ true) × IsOf root address))
 walk_frees f0 f1 f2 f3 maps objects after planned was root start one two three address among =
     elim (three address among) [
       | inr here ↦ inr (inr here)

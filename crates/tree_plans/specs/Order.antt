@@ -2,11 +2,11 @@
 use Rattle.std.specs.Prelude.{ℕ, ◌≡◌, Bool, List, [], ◌∷◌, ◌++◌, map, filter, if◌then◌else◌}
 use Rattle.std.specs.List.{flat_map, range_with_len}
 use Rattle.base.specs.declared.pointer.Pointer.{Pointer}
-use Rattle.base.specs.formats.Limits.{record_count}
+use Rattle.base.specs.formats.Limits.{pointer_count}
 use Rattle.base.specs.tree.Places.{Place}
 use Rattle.base.specs.tree.PlannedTrees.{NewBlock}
-use Rattle.base.specs.tree.Syncs.{GroupChanges, is_indirect_written, is_record_written, written_by}
-use Rattle.tree_plans.specs.Pointers.{ObjectPointers}
+use Rattle.base.specs.tree.Syncs.{GroupChanges, is_indirect_written, is_record_written, is_top_written, written_by}
+use Rattle.object_maps.specs.Pointers.{ObjectPointers}
 
 abbrev pub addresses_of : List NewBlock → List ℕ
 addresses_of blocks = map (λ (b : NewBlock). b.address) blocks
@@ -23,11 +23,16 @@ address_if made pointer = if made then pointer.address ∷ [] else []
 unfoldable pub addresses_where : (ℕ → Bool) → (ℕ → Pointer) → ℕ → List ℕ
 addresses_where is_marked pointers count = map (λ i. (pointers i).address) (filter is_marked (range_with_len 0 count))
 
--- of an object: the addresses of its dirty records, rising, and after them that of its indirect block, if it is
--- written
+-- of the first strips of an object, the addresses of the records that are marked, rising
+unfoldable pub strip_addresses : (ℕ → ℕ → Bool) → (ℕ → ℕ → Pointer) → ℕ → List ℕ
+strip_addresses is_marked records count = flat_map (λ j. addresses_where (is_marked j) (records j) pointer_count) (range_with_len 0 count)
+
+-- of an object: the addresses of its dirty records, rising, then those of its indirect blocks that are written, rising,
+-- and then that of its top, if it is written
 unfoldable pub object_addresses : GroupChanges → ℕ → ObjectPointers → List ℕ
-object_addresses group n o = addresses_where (is_record_written group n) o.record_at record_count
-    ++ address_if (is_indirect_written group n) o.indirect
+object_addresses group n o = strip_addresses (is_record_written group n) o.record_at pointer_count
+    ++ addresses_where (is_indirect_written group n) o.strip pointer_count
+    ++ address_if (is_top_written group n) o.top
 
 -- of the objects below a number, rising
 unfoldable pub all_addresses : GroupChanges → (ℕ → ObjectPointers) → ℕ → List ℕ

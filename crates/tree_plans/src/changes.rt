@@ -11,14 +11,14 @@
 ghost use Rattle.std.specs.Prelude.{◌≡◌, ◌≢◌, ◌<◌, ◌≤◌, ◌+◌, ◌*◌, ◌↔◌, ◌++◌, ◌∷◌, [], ℕ, List, unwrap_or, IfErr, IfOk, OnOk};
 ghost use Rattle.base.specs.declared.error.PoolError.TheVariants as error;
 ghost use Rattle.base.specs.declared.operation.Op.{Op};
-ghost use Rattle.base.specs.formats.Limits.{max_length, record_count, record_size};
+ghost use Rattle.base.specs.formats.Limits.{max_length, pointer_count, record_count, record_size};
 ghost use Rattle.object_maps.specs.Lengths.{length_in};
 ghost use Rattle.tree_plans.specs.Changes.{is_changed_in, state_at, state_in};
 ghost use Rattle.tree_plans.specs.Marks.{AreChangesOf, AreToldSoFar, NotesOp, length_so_far, pending_ops};
 ghost use Rattle.tree_plans.specs.Pointers.{IsPut, entry_of};
 
-use base::{Group, MAX_LENGTH, ObjectId, Op, PoolError, RECORD_SIZE, RecordState};
-use object_maps::ObjectEntry;
+use base::{Group, ObjectId, Op, POINTER_COUNT, PoolError, RECORD_SIZE, RecordState};
+use object_maps::{ObjectEntry, RECORD_COUNT};
 use std::alloc::Global;
 use std::collections::{BTreeMap, BTreeSet};
 use transactions::Record;
@@ -40,7 +40,7 @@ impl ObjectChanges {
     ghost use Rattle.std.specs.Prelude.{◌≡◌, ◌<◌, ◌≤◌, ◌+◌, ℕ, max, nat_lt, true, false, if◌then◌else◌};
     ghost use Rattle.base.specs.declared.record_state.RecordState.TheVariants as state;
     ghost use Rattle.base.specs.tree.Syncs.{is_record_touched, state_after_cut};
-    ghost use Rattle.tree_plans.specs.Changes.{state_at};
+    ghost use Rattle.tree_plans.specs.Changes.{is_strip_dirty, is_strip_touched, state_at};
 
     /// No operation yet, on an object of this length in bytes. It takes no memory.
     pub fn none(alloc: Global, length: u64) -> Self
@@ -67,6 +67,30 @@ impl ObjectChanges {
             Some(first) if first <= index => RecordState::Hole,
             _ => RecordState::Unchanged,
         }
+    }
+
+    /// Whether the operations left a record of the strip of this index otherwise than it was.
+    pub fn touches_strip(&self, index: usize) -> bool
+        requires { index < pointer_count }
+        ensures { result ≡ is_strip_touched self.now index }
+    {
+        let end = POINTER_COUNT * (index + 1);
+        match self.first_hole {
+            Some(first) if first < end => true,
+            _ => self.writes_strip(index),
+        }
+    }
+
+    /// Whether the sync writes a record of the strip of this index.
+    pub fn writes_strip(&self, index: usize) -> bool
+        requires { index < pointer_count }
+        ensures { result ≡ is_strip_dirty self.now index }
+    {
+        let first = POINTER_COUNT * index;
+        self.dirty
+            .range(first..first + POINTER_COUNT)
+            .next()
+            .is_some()
     }
 
     /// The object is created or removed. It takes no memory.
@@ -161,18 +185,23 @@ impl ObjectChanges {
     }
 }
 
+// Where the last record of an object ends.
+const END_OF_RECORDS: u64 = (RECORD_SIZE * RECORD_COUNT) as u64;
+
 // The first record that has a byte from an offset on, and the one after the last that has a byte of a write: at most
 // that after an object's last record.
+#[tactic(auto, unfolding(base::specs::formats::Limits::record_count))]
 fn first_touched(offset: u64) -> usize
     ensures { (r : ℕ) → r < record_count → (result ≤ r) ↔ (offset < record_size * (r + 1)) }
 {
-    offset.min(MAX_LENGTH) as usize / RECORD_SIZE
+    offset.min(END_OF_RECORDS) as usize / RECORD_SIZE
 }
 
+#[tactic(auto, unfolding(base::specs::formats::Limits::record_count))]
 fn touched_end(offset: u64, count: usize) -> usize
     ensures { (r : ℕ) → r < record_count → (r < result) ↔ (record_size * r < offset + count) }
 {
-    let end = offset.saturating_add(count as u64).min(MAX_LENGTH);
+    let end = offset.saturating_add(count as u64).min(END_OF_RECORDS);
     (end as usize).div_ceil(RECORD_SIZE)
 }
 

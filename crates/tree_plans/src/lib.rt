@@ -1,9 +1,12 @@
 //! Plans of syncs: which blocks the tree of a group has, and where they lie.
 #![tactic(auto)]
 
+mod changed_object;
 mod changes;
 mod clients;
 mod freed;
+mod new_entry;
+mod object_map;
 mod payload;
 mod place;
 mod plan_source;
@@ -11,6 +14,9 @@ mod planner;
 mod walk;
 
 pub use changes::{ObjectChanges, changed_objects};
+pub use new_entry::is_long;
+pub use object_map::ObjectMap;
+pub use place::RecordPlace;
 pub use plan_source::PlanSource;
 pub use planner::{PlannedBlock, TreePlan};
 pub use walk::plan;

@@ -1,18 +1,19 @@
 //! The payloads of a tree's blocks (On-Disk Specification, chapter 2).
 
-ghost use Rattle.std.specs.Prelude.{◌≡◌, ◌≢◌, ◌&&◌, ◌<◌, ℕ, length, replicate, slice_index_or};
+ghost use Rattle.std.specs.Prelude.{◌≡◌, ◌≢◌, ◌<◌, ℕ, length, replicate, slice_index_or};
 ghost use Rattle.std.specs.List.{list_any};
 ghost use Rattle.base.specs.formats.Fields.{entry_in, entry_length, entry_pointer, entry_present, no_pointer, pointer_in};
 ghost use Rattle.base.specs.formats.Limits.{entry_count, entry_size, object_count, payload_size, pointer_count};
 ghost use Rattle.checked_blocks.specs.Sealing.{zeros};
 ghost use Rattle.tree_plans.specs.Changes.{has_address};
-ghost use Rattle.tree_plans.specs.Pointers.{maps_before};
-ghost use Rattle.tree_plans.specs.Walks.{AreEntriesWritten, IsEntryOfLength, indirect_after};
+ghost use Rattle.tree_plans.specs.Pointers.{entry_pointer_of, planned_pointer};
+ghost use Rattle.tree_plans.specs.Walks.{AreEntriesWritten, IsEntryOfLength, levels_of};
 
+use crate::new_entry::is_long;
 use crate::plan_source::PlanSource;
 use base::{ENTRY_COUNT, ENTRY_SIZE, ObjectId, POINTER_SIZE, Pointer, write_pointer, write_u64};
 use checked_blocks::PAYLOAD_SIZE;
-use object_maps::{ObjectMap, ObjectSource};
+use object_maps::{ObjectEntry, ObjectSource};
 use std::collections::BTreeMap;
 
 /// A payload of pointers.
@@ -29,16 +30,8 @@ pub fn payload_of(pointers: &[Pointer]) -> [u8; PAYLOAD_SIZE]
     payload
 }
 
-/// Whether an indirect block over these pointers is written: an operation wrote its object or set its length, and one
-/// of them names a block.
-pub fn is_indirect_written(is_changed: bool, records: &[Pointer]) -> bool
-    ensures { result ≡ (is_changed && list_any has_address records.now) }
-{
-    is_changed && has_block(records)
-}
-
-// Whether one of these pointers names a block.
-fn has_block(pointers: &[Pointer]) -> bool
+/// Whether one of these pointers names a block.
+pub fn has_block(pointers: &[Pointer]) -> bool
     ensures { result ≡ list_any has_address pointers.now }
 {
     pointers.iter().any(|pointer| pointer.address != 0)
@@ -59,36 +52,43 @@ fn put_pointer(payload: &mut [u8], index: usize, pointer: Pointer)
 pub fn directory_payload<O: ObjectSource>(
     after: &O,
     source: &PlanSource<'_>,
-    maps: &BTreeMap<ObjectId, ObjectMap>,
+    entries: &BTreeMap<ObjectId, ObjectEntry>,
     directory: usize,
 ) -> [u8; PAYLOAD_SIZE]
     requires { directory < pointer_count }
     ensures size { length result ≡ payload_size }
-    ensures entries { AreEntriesWritten (maps_before source.now) maps.now.entries
-        (O.objects after.now) directory entry_count result }
+    ensures entries { AreEntriesWritten (entry_pointer_of source.now.tree.now.entries.items)
+        entries.now.entries (O.objects after.now) directory entry_count result }
 {
     let mut payload = empty_payload();
     for index in 0..ENTRY_COUNT {
         let id = ObjectId((ENTRY_COUNT * directory + index) as u32);
-        let indirect = planned_indirect(source, maps, id);
-        put_object(&mut payload, index, after.length(id), indirect);
+        let pointer = planned_pointer(source, entries, id);
+        put_object(&mut payload, index, after.length(id), pointer);
     }
     payload
 }
 
 // Writes the entry of an object, if it is there. The entry is zeros before.
-fn put_object(payload: &mut [u8], index: usize, size: Option<u64>, indirect: Pointer)
+fn put_object(payload: &mut [u8], index: usize, size: Option<u64>, pointer: Pointer)
     requires size { length payload.old ≡ payload_size }
     requires in_range { index < entry_count }
     requires empty { entry_in payload.old index ≡ replicate entry_size 0 }
     ensures size { length payload.new ≡ payload_size }
-    ensures here { IsEntryOfLength (entry_in payload.new index) indirect size }
+    ensures here { IsEntryOfLength (entry_in payload.new index) pointer size }
     ensures others { (k : ℕ) → k < entry_count → k ≢ index
         → entry_in payload.new k ≡ entry_in payload.old k }
 {
     if let Some(size) = size {
-        write_entry(payload, index, size, indirect);
+        write_entry(payload, index, levels_of(size), size, pointer);
     }
+}
+
+// The levels of indirect blocks of an object of this length.
+fn levels_of(size: u64) -> u64
+    ensures { result ≡ levels_of size }
+{
+    if is_long(Some(size)) { 2 } else { 1 }
 }
 
 /// A payload of zeros.
@@ -98,34 +98,36 @@ pub fn empty_payload() -> [u8; PAYLOAD_SIZE]
     [0; PAYLOAD_SIZE]
 }
 
-// The pointer to the indirect block of an object after the plan.
-fn planned_indirect(
+// The pointer in the entry of an object after the plan.
+fn planned_pointer(
     source: &PlanSource<'_>,
-    maps: &BTreeMap<ObjectId, ObjectMap>,
+    entries: &BTreeMap<ObjectId, ObjectEntry>,
     id: ObjectId,
 ) -> Pointer
     requires { id.0 < object_count }
-    ensures { result ≡ indirect_after (maps_before source.now) maps.now.entries id.0 }
+    ensures { result ≡ planned_pointer (entry_pointer_of source.now.tree.now.entries.items)
+        entries.now.entries id.0 }
 {
-    match maps.get(&id) {
-        Some(map) => map.indirect,
-        None => source.old_indirect(id),
+    match entries.get(&id) {
+        Some(entry) => entry.pointer,
+        None => source.tree.entries[id.0 as usize].pointer,
     }
 }
 
-// Writes the entry of an object that is there: 1, its length, and the pointer to its indirect block.
-fn write_entry(payload: &mut [u8], index: usize, size: u64, indirect: Pointer)
+// Writes the entry of an object that is there: its levels, its length, and the pointer to its top or to its indirect
+// block.
+fn write_entry(payload: &mut [u8], index: usize, levels: u64, size: u64, pointer: Pointer)
     requires size { length payload.old ≡ payload_size }
     requires in_range { index < entry_count }
     ensures size { length payload.new ≡ payload_size }
-    ensures present { entry_present (entry_in payload.new index) ≡ 1 }
+    ensures present { entry_present (entry_in payload.new index) ≡ levels }
     ensures length { entry_length (entry_in payload.new index) ≡ size }
-    ensures pointer { entry_pointer (entry_in payload.new index) ≡ indirect }
+    ensures pointer { entry_pointer (entry_in payload.new index) ≡ pointer }
     ensures others { (k : ℕ) → k < entry_count → k ≢ index
         → entry_in payload.new k ≡ entry_in payload.old k }
 {
     let at = ENTRY_SIZE * index;
-    write_u64(payload, at, 1);
+    write_u64(payload, at, levels);
     write_u64(payload, at + 8, size);
-    write_pointer(payload, at + 16, &indirect);
+    write_pointer(payload, at + 16, &pointer);
 }

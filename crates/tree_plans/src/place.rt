@@ -1,20 +1,44 @@
 //! The places of a tree that blocks are planned for.
 
-ghost use Rattle.std.specs.Prelude.{◌≡◌};
-ghost use Rattle.base.specs.tree.Places.{IsPlace, kind_of, number_of_place};
+ghost use Rattle.std.specs.Prelude.{◌≡◌, ◌<◌};
+ghost use Rattle.base.specs.formats.Limits.{object_count, pointer_count};
+ghost use Rattle.base.specs.tree.Places.{IsPlace, kind_of, number_of_place, record_of_strip, strip_number};
 ghost use Rattle.tree_plans.specs.Plans.{place_of};
 
-use base::ObjectId;
+use base::{ObjectId, POINTER_COUNT};
 use checked_blocks::Kind;
-use object_maps::RECORD_COUNT;
+use object_maps::strip_number;
 
 /// A record of an object.
 #[derive(Clone, Copy, Debug, PartialEq, Eq)]
 pub struct RecordPlace {
     /// The number of the object.
     pub id: ObjectId,
-    /// The index of the record, counted from 0 in records of 4,032 bytes.
+    /// The index of the record's strip in the object.
+    pub strip: usize,
+    /// The index of the record in its strip.
     pub index: usize,
+}
+
+impl RecordPlace {
+    /// The number of the record in its object, counted from 0 in records of 4,032 bytes.
+    pub fn number(self) -> usize
+        requires strip { self.strip < pointer_count }
+        requires index { self.index < pointer_count }
+        ensures { result ≡ record_of_strip self.strip self.index }
+    {
+        POINTER_COUNT * self.strip + self.index
+    }
+
+    /// Its place in the tree.
+    pub fn data_place(self) -> BlockPlace
+        requires id { self.id.0 < object_count }
+        requires strip { self.strip < pointer_count }
+        requires index { self.index < pointer_count }
+        ensures { result ≡ BlockPlace.Data (strip_number self.id.0 self.strip) self.index }
+    {
+        BlockPlace::Data(strip_number(self.id.0 as usize, self.strip), self.index)
+    }
 }
 
 /// A place of the tree that a block is planned for.
@@ -24,10 +48,12 @@ pub enum BlockPlace {
     Root,
     /// The directory of this number.
     Directory(usize),
-    /// The indirect block of this object.
-    Indirect(ObjectId),
-    /// The data block of this object's record of this index.
-    Data(ObjectId, usize),
+    /// The top of this object.
+    Top(ObjectId),
+    /// The indirect block of the strip of this number.
+    Indirect(usize),
+    /// The data block of this record of the strip of this number.
+    Data(usize, usize),
 }
 
 impl BlockPlace {
@@ -38,6 +64,7 @@ impl BlockPlace {
         match self {
             BlockPlace::Root => Kind::Root as u64,
             BlockPlace::Directory(_) => Kind::Directory as u64,
+            BlockPlace::Top(_) => Kind::Top as u64,
             BlockPlace::Indirect(_) => Kind::Indirect as u64,
             BlockPlace::Data(_, _) => Kind::Data as u64,
         }
@@ -51,8 +78,9 @@ impl BlockPlace {
         match self {
             BlockPlace::Root => 0,
             BlockPlace::Directory(index) => index as u64,
-            BlockPlace::Indirect(id) => u64::from(id.0),
-            BlockPlace::Data(id, index) => RECORD_COUNT as u64 * u64::from(id.0) + index as u64,
+            BlockPlace::Top(id) => u64::from(id.0),
+            BlockPlace::Indirect(number) => number as u64,
+            BlockPlace::Data(number, index) => (POINTER_COUNT * number + index) as u64,
         }
     }
 }

@@ -1,10 +1,10 @@
 //! The walk of a sync over a tree: which blocks it writes, and in which order.
 //!
 //! Live blocks are never overwritten (On-Disk Specification, chapter 2), so a block that changes moves, and what points
-//! to it changes too: a record changes its indirect block, that its directory, and that the root. A pointer has the
-//! check of its block, so the walk goes from the records up:
+//! to it changes too: a record changes its indirect block, that the top of an object of two levels. These change its
+//! directory, and that the root. A pointer has the check of its block, so the walk goes from the records up:
 //!
-//! 1. each object that an operation is on, rising: its dirty records, rising, and after them its indirect block;
+//! 1. each object that an operation is on, rising: its dirty records, rising, its indirect blocks, rising, and its top;
 //! 2. each directory with such an object, rising;
 //! 3. the root, if there is such an object.
 //!
@@ -22,20 +22,22 @@ ghost use Rattle.base.specs.formats.Limits.{object_count, pointer_count};
 ghost use Rattle.base.specs.tree.Syncs.{is_dirty};
 ghost use Rattle.tree_plans.specs.Changes.{AreInRange};
 ghost use Rattle.tree_plans.specs.declared.changes.ObjectChanges.{ObjectChanges};
-ghost use Rattle.tree_plans.specs.Parts.{AreMapsRead, AreReady, GoesOver, HasNothing, PlansDirectories, PlansDirectory, PlansObjects, PlansRoot, PlansTree, TellsLack, group_in};
+ghost use Rattle.tree_plans.specs.Parts.{AreMapsRead, AreReady, GoesOver, HasNothing, IsMapReadOf, PlansDirectories, PlansDirectory, PlansObjects, PlansRoot, PlansTree, TellsLack, group_in};
 ghost use Rattle.tree_plans.specs.Plans.{IsReady, IsWant, state_above};
 ghost use Rattle.tree_plans.specs.Pointers.{entry_of};
 ghost use Rattle.tree_plans.specs.Room.{changed_blocks, count_if, directory_blocks, object_blocks, tree_blocks};
-ghost use Rattle.tree_plans.specs.TreePlans.{GivesBack, GivesTree, HasLengths, HasMaps, TakesBlocks, TellsFull};
+ghost use Rattle.tree_plans.specs.TreePlans.{GivesBack, GivesTree, HasEntries, HasLengths, TakesBlocks, TellsFull};
 ghost use Rattle.tree_plans.specs.Walks.{has_object, has_objects, is_directory_touched, is_emptied, root_state};
 
+use crate::changed_object::ChangedObject;
 use crate::changes::ObjectChanges;
+use crate::new_entry::{entry_strips, is_long};
 use crate::payload::{directory_payload, payload_of};
 use crate::place::BlockPlace;
 use crate::plan_source::PlanSource;
 use crate::planner::{Planner, TreePlan};
 use base::{ENTRY_COUNT, OBJECT_COUNT, ObjectId, POINTER_COUNT, Pointer, PoolError, RecordState};
-use object_maps::{ObjectMap, ObjectSource, RecordSource};
+use object_maps::{ObjectEntry, ObjectSource, RecordSource};
 use std::collections::BTreeMap;
 
 // Whether an operation is on an object of a directory.
@@ -88,28 +90,31 @@ fn state_of(touched: bool, left: bool) -> RecordState
     }
 }
 
-/// Plans the tree after a group whose operations do this to objects: for rising objects their dirty records rising and
-/// then their indirect block; then directories rising; then the root. Each takes the lowest free block. Live blocks are
-/// not overwritten (On-Disk Specification, chapter 2): what is replaced, or has no place any more, comes back by its
-/// address.
+/// Plans the tree after a group whose operations do this to objects: for rising objects their dirty records rising,
+/// then their indirect blocks rising, then their top; then directories rising; then the root. Each takes the lowest
+/// free block. Live blocks are not overwritten (On-Disk Specification, chapter 2): what is replaced, or has no place
+/// any more, comes back by its address.
 ///
 /// `after` gives the objects after the group. The records that are written are at hand (`ready`), and the maps of the
-/// objects that operations are on were read (`maps`). The pointers before are those maps' and otherwise the tree's.
+/// objects that operations are on were read (`maps`): in each map the pointers in the indirect block of each strip of
+/// which a record changes, and for an object of one level after the group those of all its strips. The pointers before
+/// are those maps' and otherwise the tree's. The work for an object goes with the strips that were read or have a
+/// record to write.
 ///
 /// - `taken`: the blocks are whole and the lowest free ones. If each object that an operation is on has a number below
-///   5,292 they stand in the order of the places that the definitions write, one for each.
+///   5,292, and only records of strips that may have blocks are written (`AreInRange`), they stand in the order of the
+///   places that the definitions write, one for each.
 /// - `tree`: what becomes of each place of the tree. The states of the records have to cover all that differs from
 ///   before (`IsCoveredBy`), and to fit the objects after (`AreChanges`). The pointers before have to be those of a
 ///   tree (`AreTreePointers`). Each block has a pointer to it, and the root stays if no operation is on an object.
 /// - `lengths`: of each object that an operation is on, the tree has the length that it has after the group, and of any
 ///   other the one that it had.
-/// - `maps`: the plan has a map of each object that an operation is on, with no pointer for a hole.
+/// - `entries`: the plan has an entry of each object that an operation is on.
 /// - `freed`: what comes back lies in the block area, and is what the plan replaces or clears, each once if no two
 ///   places had blocks at one address (`AreApart`).
 ///
 /// # Errors
-/// - `NoSpace`: if each such object has a number below 5,292, only if fewer blocks are free than there are places to
-///   write (`full`).
+/// - `NoSpace`: if the changes are in range, only if fewer blocks are free than there are places to write (`full`).
 /// - `NoMemory`.
 pub fn plan<O: RecordSource>(
     source: &PlanSource<'_>,
@@ -118,11 +123,11 @@ pub fn plan<O: RecordSource>(
 ) -> Result<TreePlan, PoolError>
     requires free { source.now.free.now.blocks ≡ block_count source.now.geometry }
     requires ready { AreReady (O.has_record after.now) objects.now.entries }
-    requires maps { AreMapsRead source.now objects.now.entries }
+    requires maps { AreMapsRead source.now (O.objects after.now) objects.now.entries }
     ensures taken { IfOk result (TakesBlocks source.now (O.objects after.now) objects.now) }
     ensures tree { IfOk result (GivesTree source.now (O.objects after.now) objects.now) }
     ensures lengths { IfOk result (HasLengths source.now (O.objects after.now) objects.now) }
-    ensures maps { IfOk result (HasMaps (O.objects after.now) objects.now) }
+    ensures entries { IfOk result (HasEntries (O.objects after.now) objects.now) }
     ensures freed { IfOk result (GivesBack source.now) }
     ensures full { IfErr result
         (TellsFull source.now (O.objects after.now) objects.now.entries) }
@@ -140,7 +145,7 @@ pub fn plan<O: RecordSource>(
     let tree = place_tree(&mut planner, source, after, objects)?;
     Ok(TreePlan {
         blocks: planner.blocks,
-        maps: tree.maps,
+        entries: tree.entries,
         directories: tree.directories,
         root: tree.root,
         freed: planner.freed,
@@ -150,7 +155,7 @@ pub fn plan<O: RecordSource>(
 // The pointers of the tree after a plan.
 #[derive(Drop)]
 struct NewTree {
-    maps: BTreeMap<ObjectId, ObjectMap>,
+    entries: BTreeMap<ObjectId, ObjectEntry>,
     directories: Vec<Pointer>,
     root: Pointer,
 }
@@ -166,21 +171,21 @@ fn place_tree<O: RecordSource>(
     requires free { source.now.free.now.blocks ≡ block_count source.now.geometry }
     requires begun { HasNothing planner.old }
     requires ready { AreReady (O.has_record after.now) objects.now.entries }
-    requires maps { AreMapsRead source.now objects.now.entries }
+    requires maps { AreMapsRead source.now (O.objects after.now) objects.now.entries }
     ensures geometry { planner.new.geometry ≡ planner.old.geometry }
     ensures planned { IfOk result
         (PlansTree source.now (O.objects after.now) objects.now planner.old planner.new) }
-    ensures full { IfErr result (λ e. AreInRange objects.now.entries
+    ensures full { IfErr result (λ e. AreInRange objects.now.entries (O.objects after.now)
         → TellsLack source.now.free.now planner.old
         (tree_blocks (group_in source.now (O.objects after.now) objects.now.entries)) e) }
     ensures kept { OnOk result (objects.now.entries ≡ [] → planner.new ≡ planner.old) }
     ensures refused { IfErr result IsWant }
 {
-    let maps = place_objects(planner, source, after, objects)?;
-    let directories = place_directories(planner, source, after, objects, &maps)?;
+    let entries = place_objects(planner, source, after, objects)?;
+    let directories = place_directories(planner, source, after, objects, &entries)?;
     let root = place_root(planner, source, after, objects, &directories)?;
     Ok(NewTree {
-        maps,
+        entries,
         directories,
         root,
     })
@@ -227,25 +232,25 @@ fn place_objects<O: RecordSource>(
     source: &PlanSource<'_>,
     after: &O,
     objects: &BTreeMap<ObjectId, ObjectChanges>,
-) -> Result<BTreeMap<ObjectId, ObjectMap>, PoolError>
+) -> Result<BTreeMap<ObjectId, ObjectEntry>, PoolError>
     requires geometry { planner.old.geometry ≡ source.now.geometry }
     requires free { source.now.free.now.blocks ≡ block_count source.now.geometry }
     requires ready { AreReady (O.has_record after.now) objects.now.entries }
-    requires maps { AreMapsRead source.now objects.now.entries }
+    requires maps { AreMapsRead source.now (O.objects after.now) objects.now.entries }
     ensures geometry { planner.new.geometry ≡ planner.old.geometry }
     ensures planned { IfOk result
         (PlansObjects source.now (O.objects after.now) objects.now planner.old planner.new) }
-    ensures full { IfErr result (λ e. AreInRange objects.now.entries
+    ensures full { IfErr result (λ e. AreInRange objects.now.entries (O.objects after.now)
         → TellsLack source.now.free.now planner.old
         (changed_blocks (group_in source.now (O.objects after.now) objects.now.entries)) e) }
     ensures kept { OnOk result (objects.now.entries ≡ [] → planner.new ≡ planner.old) }
     ensures refused { IfErr result IsWant }
 {
-    let mut maps = BTreeMap::new(source.alloc);
+    let mut entries = BTreeMap::new(source.alloc);
     for (id, changes) in objects.iter() {
-        place_changed(planner, source, after, &mut maps, *id, changes)?;
+        place_changed(planner, source, after, &mut entries, *id, changes)?;
     }
-    Ok(maps)
+    Ok(entries)
 }
 
 // An object that operations are on.
@@ -253,7 +258,7 @@ fn place_changed<O: RecordSource>(
     planner: &mut Planner,
     source: &PlanSource<'_>,
     after: &O,
-    maps: &mut BTreeMap<ObjectId, ObjectMap>,
+    entries: &mut BTreeMap<ObjectId, ObjectEntry>,
     id: ObjectId,
     changes: &ObjectChanges,
 ) -> Result<(), PoolError>
@@ -261,13 +266,14 @@ fn place_changed<O: RecordSource>(
     requires free { source.now.free.now.blocks ≡ block_count source.now.geometry }
     requires ready { id.0 < object_count → IsReady (O.has_record after.now id.0) changes.now }
     requires map { id.0 < object_count
-        → is_some (entry_of source.now.old_maps.now.entries id.0) ≡ true }
+        → IsMapReadOf source.now (O.objects after.now) id changes.now }
     ensures geometry { planner.new.geometry ≡ planner.old.geometry }
     ensures planned { OnOk result
-        (GoesOver source.now (O.objects after.now) id changes.now maps.old.entries
-        planner.old planner.new maps.new.entries) }
+        (GoesOver source.now (O.objects after.now) id changes.now entries.old.entries
+        planner.old planner.new entries.new.entries) }
     ensures full { IfErr result (λ e. (objects : List (ObjectId × ObjectChanges))
         → entry_of objects id.0 ≡ Some changes.now
+        → AreInRange objects (O.objects after.now)
         → TellsLack source.now.free.now planner.old
         (object_blocks (group_in source.now (O.objects after.now) objects) id.0) e) }
     ensures refused { IfErr result IsWant }
@@ -275,9 +281,15 @@ fn place_changed<O: RecordSource>(
     if id.0 >= OBJECT_COUNT {
         return Ok(());
     }
-    let old = source.old_map(id);
-    let map = planner.place_object(source.free, id, after, old, changes)?;
-    maps.insert(id, map)?;
+    let object = ChangedObject {
+        id,
+        is_long: is_long(after.length(id)),
+        old: source.old_map(id),
+        changes,
+    };
+    let told = entry_strips(&source.tree.entries[id.0 as usize]);
+    let entry = planner.place_object(source.free, &object, after, &told)?;
+    entries.insert(id, entry)?;
     Ok(())
 }
 
@@ -286,14 +298,14 @@ fn place_directories<O: ObjectSource>(
     source: &PlanSource<'_>,
     after: &O,
     objects: &BTreeMap<ObjectId, ObjectChanges>,
-    maps: &BTreeMap<ObjectId, ObjectMap>,
+    entries: &BTreeMap<ObjectId, ObjectEntry>,
 ) -> Result<Vec<Pointer>, PoolError>
     requires geometry { planner.old.geometry ≡ source.now.geometry }
     requires free { source.now.free.now.blocks ≡ block_count source.now.geometry }
     ensures geometry { planner.new.geometry ≡ planner.old.geometry }
     ensures count { IfOk result (λ directories. vec_len directories ≡ pointer_count) }
     ensures planned { IfOk result (λ directories. PlansDirectories
-        source.now (O.objects after.now) objects.now maps.now
+        source.now (O.objects after.now) objects.now entries.now
         planner.old planner.new directories.items) }
     ensures full { IfErr result
         (TellsLack source.now.free.now planner.old
@@ -305,7 +317,7 @@ fn place_directories<O: ObjectSource>(
     let mut directories = Vec::with_capacity(source.alloc, POINTER_COUNT)?;
     for index in 0..POINTER_COUNT {
         let touched = is_replaced(objects, emptied, index);
-        let pointer = place_directory(planner, source, after, maps, index, touched)?;
+        let pointer = place_directory(planner, source, after, entries, index, touched)?;
         directories.push_reserved(pointer);
     }
     Ok(directories)
@@ -316,7 +328,7 @@ fn place_directory<O: ObjectSource>(
     planner: &mut Planner,
     source: &PlanSource<'_>,
     after: &O,
-    maps: &BTreeMap<ObjectId, ObjectMap>,
+    entries: &BTreeMap<ObjectId, ObjectEntry>,
     index: usize,
     touched: bool,
 ) -> Result<Pointer, PoolError>
@@ -325,7 +337,7 @@ fn place_directory<O: ObjectSource>(
     requires index { index < pointer_count }
     ensures geometry { planner.new.geometry ≡ planner.old.geometry }
     ensures planned { IfOk result
-        (PlansDirectory source.now (O.objects after.now) maps.now index touched
+        (PlansDirectory source.now (O.objects after.now) entries.now index touched
         planner.old planner.new) }
     ensures full { IfErr result (TellsLack source.now.free.now planner.old
         (count_if (is_dirty (state_above touched (has_object (O.objects after.now) index))))) }
@@ -339,6 +351,6 @@ fn place_directory<O: ObjectSource>(
     if !has_object_in(after, index) {
         return planner.clear(&old);
     }
-    let payload = directory_payload(after, source, maps, index);
+    let payload = directory_payload(after, source, entries, index);
     planner.place(source.free, BlockPlace::Directory(index), &payload, &old)
 }

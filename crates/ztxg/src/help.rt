@@ -71,7 +71,7 @@ Examples:
   ztxg get tank.pool 1 --offset 4096 --length 512
 
 Writes the object's bytes from O on, L at most, and nothing else. Bytes that the
-log has are among them. An object has at most 338688 bytes.
+log has are among them. An object has at most 28449792 bytes.
 
 Refusals, with status 1, and then nothing is written:
    1 NoMemory              there is no memory
@@ -90,7 +90,7 @@ Examples:
 
 Reads standard input to its end, then opens FILE. Prints 'put B bytes in T
 transactions' once all is durable. A transaction has at most 64512 bytes: so up
-to 64512 bytes are put as a whole, or not at all. An object has at most 338688
+to 64512 bytes are put as a whole, or not at all. An object has at most 28449792
 bytes. If bytes were committed before a refusal, a second line on standard error
 has their number: 'ztxg: committed B bytes in T transactions'.
 
@@ -208,8 +208,9 @@ With --all there is a line 'damaged KIND ADDRESS' for each damaged block of the
 tree. What only a damaged block names is not read. If the tree is whole, a
 damage of the log has one line.
 
-KIND is 2 for the root, 3 for a directory, 4 for an indirect block, 5 for data
-and 6 for the log. ADDRESS is the block's byte in FILE.
+KIND is 2 for the root, 3 for a directory, 4 for an indirect block, 5 for data,
+6 for the log and 7 for the top of an object above 338688 bytes. ADDRESS is the
+block's byte in FILE.
 
 Refusals, with status 1:
    1 NoMemory     there is no memory

@@ -1,26 +1,34 @@
 /* Notes the writes, syncs and sizes of regular files and the syncs of folders, a line each, in the file that CALLS_FILE
-   names. */
+   names. The bytes of the writes go into the file that BYTES_FILE names, one after the other. */
 
 #include "shim.h"
 #include <stdio.h>
 #include <sys/stat.h>
 #include <sys/types.h>
+#include <unistd.h>
 
-static int noted = -1;
+static int noted = -1, copied = -1;
 
-__attribute__((constructor)) static void begin(void) {
-    const char *path = getenv("CALLS_FILE");
-    noted = path ? open(path, O_WRONLY | O_APPEND | O_CREAT, 0600) : -1;
+static int opened(const char *variable) {
+    const char *path = getenv(variable);
+    return path ? open(path, O_WRONLY | O_APPEND | O_CREAT, 0600) : -1;
 }
 
-static void note(int file, const char *name, long long place, long long size) {
+__attribute__((constructor)) static void begin(void) {
+    noted = opened("CALLS_FILE");
+    copied = opened("BYTES_FILE");
+}
+
+static int note(int file, const char *name, long long place, long long size) {
     struct stat is;
-    if (noted >= 0 && !fstat(file, &is) && S_ISREG(is.st_mode)) dprintf(noted, "%s %lld %lld\n", name, place, size);
+    if (noted < 0 || fstat(file, &is) || !S_ISREG(is.st_mode)) return 0;
+    dprintf(noted, "%s %lld %lld\n", name, place, size);
+    return 1;
 }
 
 ssize_t pwrite64(int file, const void *bytes, size_t size, off64_t place) {
     NEXT(ssize_t (*next)(int, const void *, size_t, off64_t), "pwrite64");
-    note(file, "write", place, size);
+    if (note(file, "write", place, size) && copied >= 0 && write(copied, bytes, size) != (ssize_t)size) abort();
     return next(file, bytes, size, place);
 }
 

@@ -1,5 +1,5 @@
 -- Each moment of a whole sync, stopped anywhere or refused anywhere, has fair bytes, and no config counts but those
--- that are known. No contract cites these lemmas yet.
+-- that are known.
 use Rattle.std.proofs.Common.{◌≡◌, ◌⊎◌, inl, inr, ℕ, ◌≤◌, Bool, true, List, [], ◌∷◌, length, sym, ◌∙◌, ap, subst, arith}
 use Rattle.base.specs.formats.Geometry.{IsGeometry, block_size, config_place}
 use Rattle.base.specs.formats.Uberblocks.{IsUberblock, slot_size}

@@ -104,10 +104,10 @@ module _ (blocks : ℕ) where
 
 -- a planned tree is held once its blocks are written, where none of them is at an address of the old tree
 pub planned-written : (image : List ℕ) (frame grown : Frame) (bs : List NewBlock) (old new : Place → Pointer) (before after : FinMap nat_cmp (List ℕ))
-    → grown.guid ≡ frame.guid → grown.blocks ≡ frame.blocks → frame.group ≤ grown.group → HoldsTree image frame old before → IsTreePlan bs grown old new before after
+    → grown.guid ≡ frame.guid → grown.blocks ≡ frame.blocks → frame.group ≤ grown.group → frame.version ≤ grown.version → HoldsTree image frame old before → IsTreePlan bs grown old new before after
     → ((n : ℕ) → object_count ≤ n → map.get after n ≡ None) → AreBlocks grown.blocks bs → LeavesTree bs old → block_area + block_size * grown.blocks ≤ length image
     → HoldsTree (put_blocks bs image) grown new after
-planned-written image frame grown bs old new before after guid_same blocks_same later holds planned no_others are leaves room =
+planned-written image frame grown bs old new before after guid_same blocks_same later newer holds planned no_others are leaves room =
     let placed : ArePlaced grown.blocks old = subst (λ (n : ℕ). ArePlaced n old) (sym blocks_same) (holds-placed image frame old before holds) in
-    planned-holds image (put_blocks bs image) frame grown guid_same blocks_same later bs (new-stand grown.blocks bs image are room) old new before after holds planned
+    planned-holds image (put_blocks bs image) frame grown guid_same blocks_same later newer bs (new-stand grown.blocks bs image are room) old new before after holds planned
     (λ place in_range _. tree-same grown.blocks old bs image placed leaves are room place in_range) no_others

@@ -10,7 +10,7 @@ use Rattle.base.specs.formats.Geometry.{is_geometry, block_count, block_address,
 use Rattle.base.specs.steps.Locks.{Grant, is_blocked}
 use Rattle.base.specs.steps.Refusals.{object_range, is_plan_blocked, is_plan_covered}
 use Rattle.base.specs.steps.Groups.{Admission}
-use Rattle.base.specs.formats.Limits.{log_block_room, max_log_record}
+use Rattle.base.specs.formats.Limits.{one_level_length, log_block_room, max_log_record}
 use Rattle.base.specs.formats.Records.{Record, bytes_of_record}
 use Rattle.base.specs.steps.Logs.{total_size}
 use Rattle.base.specs.steps.Charges.{available_of}
@@ -18,15 +18,17 @@ use Rattle.base.specs.steps.Charges.{available_of}
 abbrev object : ℕ → ObjectId
 object n = record { 0 = n }
 
--- a write of 4 bytes at 4,030 touches two records: estimate 5, charge 20,480
+-- a write of 4 bytes at 4,030 touches two records and one indirect block: estimate 6, charge 24,576
 two_records : records_touched 4030 4 ≡ 2
 two_records = refl
 
-estimate_5 : estimate_of (shape.Write (object 1) 4030 4 ∷ []) ≡ 5
-estimate_5 = refl
+estimate_6 : estimate_of (shape.Write (object 1) 4030 4 ∷ []) ≡ 6
+unfolding one_level_length
+estimate_6 = refl
 
-charge_20480 : charge_of (shape.Write (object 1) 4030 4 ∷ []) ≡ 20480
-charge_20480 = refl
+charge_24576 : charge_of (shape.Write (object 1) 4030 4 ∷ []) ≡ 24576
+unfolding one_level_length
+charge_24576 = refl
 
 -- a write of 65,497 bytes has a record of 64 KiB, and one byte more is too large
 record_65536 : log_record_size (shape.Write (object 1) 0 65497 ∷ []) ≡ max_log_record
@@ -42,21 +44,36 @@ record_4008 = refl
 long_record : nat_lt log_block_room (log_record_size (shape.Write (object 1) 0 3970 ∷ [])) ≡ true
 long_record = refl
 
--- two writes of one record are charged 32,768; a third would pass 40,960, and a create reaches it
-third_write : nat_lt 40960 (32768 + charge_of (shape.Write (object 1) 0 4 ∷ [])) ≡ true
+-- a write of one record is charged 20,480: two reach 40,960, and a third, or a create, would pass it
+second_write : nat_lt 40960 (20480 + charge_of (shape.Write (object 1) 0 4 ∷ [])) ≡ false
+unfolding one_level_length
+second_write = refl
+
+third_write : nat_lt 40960 (40960 + charge_of (shape.Write (object 1) 0 4 ∷ [])) ≡ true
+unfolding one_level_length
 third_write = refl
 
-a_create : nat_lt 40960 (32768 + charge_of (shape.Create (object 1) ∷ [])) ≡ false
+a_create : nat_lt 40960 (40960 + charge_of (shape.Create (object 1) ∷ [])) ≡ true
 a_create = refl
 
+-- a write right behind 338,688 bytes is estimated at 5 blocks, and one over their end at 7: it touches two records and two
+-- indirect blocks
+behind_one_level : estimate_of (shape.Write (object 1) 338688 4 ∷ []) ≡ 5
+unfolding one_level_length
+behind_one_level = refl
+
+over_one_level : estimate_of (shape.Write (object 1) 338686 4 ∷ []) ≡ 7
+unfolding one_level_length
+over_one_level = refl
+
 -- a write up to the greatest length is allowed; one byte further, and one of no bytes, are not
-up_to_the_top : is_plan_allowed (shape.Write (object 1) 338684 4 ∷ []) ≡ true
+up_to_the_top : is_plan_allowed (shape.Write (object 1) 28449788 4 ∷ []) ≡ true
 up_to_the_top = refl
 
-past_the_top : is_plan_allowed (shape.Write (object 1) 338685 4 ∷ []) ≡ false
+past_the_top : is_plan_allowed (shape.Write (object 1) 28449789 4 ∷ []) ≡ false
 past_the_top = refl
 
-of_no_bytes : is_plan_allowed (shape.Write (object 1) 338684 0 ∷ []) ≡ false
+of_no_bytes : is_plan_allowed (shape.Write (object 1) 28449788 0 ∷ []) ≡ false
 of_no_bytes = refl
 
 no_shape : is_plan_allowed [] ≡ false
@@ -104,7 +121,7 @@ a_byte_in_common = refl
 side_by_side : is_blocked (object_range 1 10 12) Reader (writer 1 1 0 10 ∷ []) ≡ false
 side_by_side = refl
 
-after_an_append : is_blocked (object_range 1 200 201) Writer (writer 1 1 104 338688 ∷ []) ≡ true
+after_an_append : is_blocked (object_range 1 200 201) Writer (writer 1 1 104 28449792 ∷ []) ≡ true
 after_an_append = refl
 
 -- an open write of [0, 4) blocks its owner's write of [2, 6), which its lock of [0, 100) covers
@@ -151,6 +168,6 @@ plan_797 = refl
 estimate_1594 : charge_of (replicate 797 (shape.Create (object 1))) ≡ 6529024
 estimate_1594 = refl
 
--- free 893, of 10 reserved blocks 2 taken
-available_885 : available_of 893 10 2 ≡ 885
-available_885 = refl
+-- free 893, of 12 reserved blocks 2 taken
+available_883 : available_of 893 12 2 ≡ 883
+available_883 = refl

@@ -10,8 +10,7 @@ use Rattle.base.specs.declared.operation.Op.TheVariants as op
 use Rattle.base.specs.history.Contents.{Contents, with_object, length_of, bytes_after_write}
 use Rattle.base.specs.history.History.{Entry, conflicts, replay, kept, IsCut, entries_up_to}
 use Rattle.base.specs.steps.Groups.{IsLine, MayHold}
-use Rattle.base.specs.tree.Places.Place.{Data, Indirect}
-use Rattle.base.specs.tree.Syncs.{group_changes, places_of_object, record_state}
+use Rattle.base.specs.tree.Syncs.{record_state}
 use Rattle.base.specs.declared.record_state.RecordState.TheVariants.{Unchanged, Dirty, Hole}
 use Rattle.base.specs.steps.Steps.{bytes_in}
 use Rattle.base.specs.steps.Refusals.{object_range}
@@ -105,14 +104,6 @@ the_full_line = record { first = omega arith; syncing = refl; middle = refl; ope
 -- a gap is no line
 no_gap : IsLine (record { synced = 8; syncing = None; middle = None; open_group = 10 }) → ⊥
 no_gap l = absurd (omega (arith, l.open_group))
-
--- the sync of a create and a write of one record writes the record and the indirect block of object 1
-the_places : places_of_object (group_changes (op.Create (object 1) ∷ op.Write (object 1) 0 (codes "abcd") ∷ []) empty_pool (λ place. false)) 1 ≡ Data 1 0 ∷ Indirect 1 ∷ []
-the_places = refl
-
--- that of a create alone writes neither
-no_places : places_of_object (group_changes (op.Create (object 1) ∷ []) empty_pool (λ place. false)) 1 ≡ []
-no_places = refl
 
 -- a cut of an object of 5,000 bytes to 4,500 writes its second record; one to 4,032 makes a hole of it
 abbrev pool_of_5000 : Contents

@@ -116,7 +116,7 @@ module _ (now later : List ℕ) (s : Shown) (pointers : Place → Pointer) (past
       frame = frame_at s s.line.synced
 
       tree : HoldsTree later frame pointers x.synced.objects
-      tree = holds-elsewhere now later frame frame refl refl (omega arith) pointers x.synced.objects x.tree same
+      tree = holds-elsewhere now later frame frame refl refl (omega arith) (omega arith) pointers x.synced.objects x.tree same
 
       there : (address : ℕ) → IsInTree now s.root address → IsInTree later s.root address
       there address = subst (λ (root : Pointer). IsInTree now root address → IsInTree later root address) x.root (tree-along now later frame frame pointers x.synced.objects x.synced.objects x.tree tree address)

@@ -1,11 +1,11 @@
 -- A sync writes at most as many blocks as its operations are estimated at: each block is one that some operation may
 -- change.
-use Rattle.std.proofs.Common.{◌≡◌, ℕ, ◌≢◌, ◌+◌, ◌*◌, ◌/◌, ◌<◌, ◌≤◌, Bool, true, false, not, ◌&&◌, List, [], ◌∷◌, ◌++◌, length, map, filter, refl, sym, ◌∙◌, arith, length-append}
-use Rattle.std.specs.Prelude.{◌==◌, nat_lt, nat_le, sum_by, if◌then◌else◌}
+use Rattle.std.proofs.Common.{◌≡◌, ℕ, ◌≢◌, ◌+◌, ◌*◌, ◌/◌, ◌<◌, ◌≤◌, Bool, true, false, not, ◌&&◌, List, [], ◌∷◌, ◌++◌, length, map, filter, refl, sym, ◌∙◌, ap, arith, length-append}
+use Rattle.std.specs.Prelude.{◌==◌, nat_lt, nat_le, sum_by, Option, Some, None, if◌then◌else◌}
 use Rattle.std.specs.Option.{option_map_or}
 use Rattle.std.specs.FinMap as finite
 use Rattle.std.specs.List.{list_any, flat_map, range_with_len, count_by}
-use Rattle.std.proofs.lemmas.Bool.{and_parts, not-true, eqb-true, ne_eqb, ltb-true, leb-false, true≢false}
+use Rattle.std.proofs.lemmas.Bool.{and_parts, not-true, eqb-true, ne_eqb, ltb-true, leb-true, leb-false, true≢false}
 use Rattle.std.proofs.lemmas.List.{length-map}
 use Rattle.std.proofs.lemmas.List.Sums.{length-filter, sum_by-le-sum_by, sum_by-cons}
 use Rattle.std.proofs.lemmas.List.Folds.{fold-map}
@@ -14,16 +14,17 @@ use Rattle.base.specs.declared.operation.Op.{Op}
 use Rattle.base.specs.declared.operation.Op.TheVariants.{Create, Remove, Write, SetLength, SetName}
 use Rattle.base.specs.formats.Limits.{object_count, record_size, pointer_count, entry_count}
 use Rattle.base.specs.history.Contents.{Contents, length_of}
-use Rattle.base.specs.history.Plans.{shape_of, records_touched, estimate_of_shape, estimate_of}
-use Rattle.base.specs.tree.Places.{Place}
-use Rattle.base.specs.tree.Places.Place.{Root, Directory, Indirect, Data}
+use Rattle.base.specs.history.Plans.{shape_of, records_touched, strips_touched, estimate_of_shape, estimate_of}
+use Rattle.base.specs.tree.Places.{Place, record_of_strip, strip_number}
+use Rattle.base.specs.tree.Places.Place.{Root, Directory, Top, Indirect, Data}
 use Rattle.base.specs.declared.record_state.RecordState.{RecordState}
 use Rattle.base.specs.declared.record_state.RecordState.TheVariants.{Unchanged, Dirty, Hole}
-use Rattle.base.specs.tree.Syncs.{is_record_touched, state_after_cut, state_after_op, contents_after, contents_after_all, record_state, is_on, is_change_of, is_rename, is_dirty, record_numbers, object_numbers}
+use Rattle.base.specs.tree.Syncs.{is_record_touched, state_after_cut, state_after_op, contents_after, contents_after_all, record_state, is_on, is_change_of, is_rename, is_dirty, pointer_numbers, object_numbers}
 use Rattle.base.specs.tree.Syncs as syncs
 use Rattle.base.specs.steps.Space.{SyncsFit}
 use Rattle.base.proofs.common.KeptLists.{any_at, any_found}
-use Rattle.base.proofs.tree.Sums.{as_one, sum_by-plus, sum_by-none, sum_by-sum_by, any_within_count, one_within, count_within}
+use Rattle.base.proofs.tree.StripCounts.{strips_of, strips_fit}
+use Rattle.base.proofs.tree.Sums.{as_one, sum_by-plus, sum_by-none, sum_by-sum_by, any_within_count, one_within, count_within, rows_within}
 
 -- whether a cut to a new length goes through a record
 abbrev is_record_cut : ℕ → ℕ → Bool
@@ -108,9 +109,32 @@ module _ {X O : Type 0} (places : ℕ → List X) (directory : ℕ → X) (is_wr
       let inner : sum_by (λ op. first op + second op) ops ≡ sum_by first ops + sum_by second ops = sum_by-plus first second ops in
       omega arith
 
--- how many blocks of an object an operation may change: records that it may make dirty, and the indirect block
+-- how many records of an object an operation may make dirty
+abbrev records_part : List ℕ → Op → ℕ → ℕ
+records_part strips op n = sum_by (λ j. count_by (λ k. may_dirty n (record_of_strip j k) op) pointer_numbers) strips
+
+-- how many blocks of an object an operation may change: records, the top or the one indirect block, and the indirect
+-- blocks of two levels
 abbrev object_part : List ℕ → Op → ℕ → ℕ
-object_part records op n = count_by (λ r. may_dirty n r op) records + as_one (is_change_of n op)
+object_part strips op n = records_part strips op n + as_one (is_change_of n op) + strips_of n op
+
+-- The indirect blocks and the top of an object, by whether it has two levels: in one level there is one at most.
+upper_within : (long changed any : Bool) (is_strip has_after : ℕ → Bool) (c s : ℕ) → as_one changed ≤ c → (long ≡ true → count_by (λ j. is_strip j && has_after j) pointer_numbers ≤ s)
+    → count_by (λ j. (if long then is_strip j else (j == 0) && changed) && has_after j) pointer_numbers + as_one ((long && changed) && any) ≤ c + s
+upper_within true changed any is_strip has_after c s one strips =
+    let few = strips refl in
+    let top = both_within changed any in
+    omega (arith, one, few, top)
+upper_within false changed any is_strip has_after c s one strips =
+    let few : count_by (λ j. ((j == 0) && changed) && has_after j) pointer_numbers ≤ as_one changed = count_within (λ j. ((j == 0) && changed) && has_after j) 0 (as_one changed) 0 pointer_count within in
+    omega (arith, one, few)
+  where
+    within : (j : ℕ) → 0 ≤ j → j < 0 + pointer_count → (((j == 0) && changed) && has_after j) ≡ true → (0 ≤ j) × (j < 0 + as_one changed)
+    within j from to passes =
+        let first = and_parts (j == 0) changed (and_parts ((j == 0) && changed) (has_after j) passes).0 in
+        let zero_is : j ≡ 0 = eqb-true j 0 first.0 in
+        let one_is : as_one changed ≡ 1 = ap as_one first.1 in
+        (from, omega (arith, zero_is, one_is))
 
 -- in how many of a list's directories an operation's object is
 abbrev directory_part : (ℕ → List ℕ) → List ℕ → Op → ℕ
@@ -122,38 +146,67 @@ root_part op = as_one (not (is_rename op))
 
 -- what operations may change, against what a sync writes
 module _ (ops : List Op) (synced : Contents) (had : Place → Bool) where
-  dirty_within : (n : ℕ) (records : List ℕ) → count_by (syncs.is_record_written (syncs.group_changes ops synced had) n) records ≤ sum_by (λ op. count_by (λ r. may_dirty n r op) records) ops
-  dirty_within n records =
-      let each : count_by (syncs.is_record_written (syncs.group_changes ops synced had) n) records ≤ sum_by (λ r. count_by (may_dirty n r) ops) records =
-      sum_by-le-sum_by (λ r. as_one (syncs.is_record_written (syncs.group_changes ops synced had) n r)) (λ r. count_by (may_dirty n r) ops) records
-      (λ r. let whole : as_one (syncs.is_record_written (syncs.group_changes ops synced had) n r) ≤ 0 + count_by (may_dirty n r) ops = all_dirty n r ops synced Unchanged in omega arith) in
-      let turned : sum_by (λ r. count_by (may_dirty n r) ops) records ≡ sum_by (λ op. count_by (λ r. may_dirty n r op) records) ops =
-      sum_by-sum_by (λ r op. as_one (may_dirty n r op)) records ops in
-      omega arith
+  dirty_within : (n j : ℕ) → count_by (syncs.is_record_written (syncs.group_changes ops synced had) n j) pointer_numbers ≤ sum_by (λ op. count_by (λ k. may_dirty n (record_of_strip j k) op) pointer_numbers) ops
+  dirty_within n j =
+      let each : count_by (syncs.is_record_written (syncs.group_changes ops synced had) n j) pointer_numbers ≤ sum_by (λ k. count_by (may_dirty n (record_of_strip j k)) ops) pointer_numbers =
+      sum_by-le-sum_by (λ k. as_one (syncs.is_record_written (syncs.group_changes ops synced had) n j k)) (λ k. count_by (may_dirty n (record_of_strip j k)) ops) pointer_numbers
+      (λ k. let whole : as_one (syncs.is_record_written (syncs.group_changes ops synced had) n j k) ≤ 0 + count_by (may_dirty n (record_of_strip j k)) ops = all_dirty n (record_of_strip j k) ops synced Unchanged in omega (arith, whole)) in
+      let turned : sum_by (λ k. count_by (may_dirty n (record_of_strip j k)) ops) pointer_numbers ≡ sum_by (λ op. count_by (λ k. may_dirty n (record_of_strip j k) op) pointer_numbers) ops =
+      sum_by-sum_by (λ k op. as_one (may_dirty n (record_of_strip j k) op)) pointer_numbers ops in
+      omega (arith, each, turned)
 
-  object_within : (n : ℕ) (records : List ℕ)
-      → length (map (λ r. Data n r) (filter (syncs.is_record_written (syncs.group_changes ops synced had) n) records) ++ (if syncs.is_indirect_written (syncs.group_changes ops synced had) n then Indirect n ∷ [] else [])) ≤ sum_by (λ op. object_part records op n) ops
-  object_within n records =
-      let both : length (map (λ r. Data n r) (filter (syncs.is_record_written (syncs.group_changes ops synced had) n) records) ++ (if syncs.is_indirect_written (syncs.group_changes ops synced had) n then Indirect n ∷ [] else []))
-      ≡ length (map (λ r. Data n r) (filter (syncs.is_record_written (syncs.group_changes ops synced had) n) records)) + length (if syncs.is_indirect_written (syncs.group_changes ops synced had) n then Indirect n ∷ [] else []) =
-      length-append (map (λ r. Data n r) (filter (syncs.is_record_written (syncs.group_changes ops synced had) n) records)) (if syncs.is_indirect_written (syncs.group_changes ops synced had) n then Indirect n ∷ [] else []) in
-      let of_records : length (map (λ r. Data n r) (filter (syncs.is_record_written (syncs.group_changes ops synced had) n) records)) ≡ count_by (syncs.is_record_written (syncs.group_changes ops synced had) n) records =
-      length-map (filter (syncs.is_record_written (syncs.group_changes ops synced had) n) records) (λ r. Data n r) ∙ length-filter (syncs.is_record_written (syncs.group_changes ops synced had) n) records in
-      let dirty : count_by (syncs.is_record_written (syncs.group_changes ops synced had) n) records ≤ sum_by (λ op. count_by (λ r. may_dirty n r op) records) ops = dirty_within n records in
-      let indirect : length (if syncs.is_indirect_written (syncs.group_changes ops synced had) n then Indirect n ∷ [] else []) ≡ as_one (syncs.is_indirect_written (syncs.group_changes ops synced had) n) = length-one (syncs.is_indirect_written (syncs.group_changes ops synced had) n) (Indirect n) in
-      let changed : as_one (syncs.is_indirect_written (syncs.group_changes ops synced had) n) ≤ as_one (list_any (is_change_of n) ops) = both_within (list_any (is_change_of n) ops) (list_any (syncs.has_record_after (syncs.group_changes ops synced had) n) record_numbers) in
-      let counted : as_one (list_any (is_change_of n) ops) ≤ count_by (is_change_of n) ops = any_within_count (is_change_of n) ops in
-      let sum : sum_by (λ op. object_part records op n) ops ≡ sum_by (λ op. count_by (λ r. may_dirty n r op) records) ops + count_by (is_change_of n) ops =
-      sum_by-plus (λ op. count_by (λ r. may_dirty n r op) records) (λ op. as_one (is_change_of n op)) ops in
-      omega arith
+  strip_within : (n j : ℕ) → length (syncs.places_of_strip (syncs.group_changes ops synced had) n j) ≤ sum_by (λ op. count_by (λ k. may_dirty n (record_of_strip j k) op) pointer_numbers) ops
+  strip_within n j =
+      let as_many : length (syncs.places_of_strip (syncs.group_changes ops synced had) n j) ≡ count_by (syncs.is_record_written (syncs.group_changes ops synced had) n j) pointer_numbers =
+      length-map (filter (syncs.is_record_written (syncs.group_changes ops synced had) n j) pointer_numbers) (λ k. Data (strip_number n j) k)
+      ∙ length-filter (syncs.is_record_written (syncs.group_changes ops synced had) n j) pointer_numbers in
+      let dirty = dirty_within n j in
+      omega (arith, as_many, dirty)
 
-  objects_within : (objects : List ℕ) → sum_by (λ n. length (syncs.places_of_object (syncs.group_changes ops synced had) n)) objects ≤ sum_by (λ op. sum_by (object_part record_numbers op) objects) ops
+  records_within : (n : ℕ) (strips : List ℕ) → length (flat_map (syncs.places_of_strip (syncs.group_changes ops synced had) n) strips) ≤ sum_by (λ op. records_part strips op n) ops
+  records_within n strips =
+      let as_many : length (flat_map (syncs.places_of_strip (syncs.group_changes ops synced had) n) strips) ≡ sum_by (λ j. length (syncs.places_of_strip (syncs.group_changes ops synced had) n j)) strips =
+      length-flat_map (syncs.places_of_strip (syncs.group_changes ops synced had) n) strips in
+      let each : sum_by (λ j. length (syncs.places_of_strip (syncs.group_changes ops synced had) n j)) strips ≤ sum_by (λ j. sum_by (λ op. count_by (λ k. may_dirty n (record_of_strip j k) op) pointer_numbers) ops) strips =
+      sum_by-le-sum_by (λ j. length (syncs.places_of_strip (syncs.group_changes ops synced had) n j)) (λ j. sum_by (λ op. count_by (λ k. may_dirty n (record_of_strip j k) op) pointer_numbers) ops) strips (strip_within n) in
+      let turned : sum_by (λ j. sum_by (λ op. count_by (λ k. may_dirty n (record_of_strip j k) op) pointer_numbers) ops) strips ≡ sum_by (λ op. records_part strips op n) ops =
+      sum_by-sum_by (λ j op. count_by (λ k. may_dirty n (record_of_strip j k) op) pointer_numbers) strips ops in
+      omega (arith, as_many, each, turned)
+
+  upper_blocks : (n : ℕ) → count_by (syncs.is_indirect_written (syncs.group_changes ops synced had) n) pointer_numbers + as_one (syncs.is_top_written (syncs.group_changes ops synced had) n)
+      ≤ count_by (is_change_of n) ops + sum_by (strips_of n) ops
+  upper_blocks n =
+      upper_within (syncs.is_long_object object) (list_any (is_change_of n) ops) (list_any (syncs.is_strip_kept (syncs.group_changes ops synced had) n) pointer_numbers)
+      (syncs.is_strip_changed (syncs.group_changes ops synced had) n) (syncs.has_strip_after (syncs.group_changes ops synced had) n)
+      (count_by (is_change_of n) ops) (sum_by (strips_of n) ops) (any_within_count (is_change_of n) ops)
+      (λ long. strips_fit n ops synced (λ j k. had (Data (strip_number n j) k)) pointer_count)
+    where
+      object : Option (List ℕ)
+      object = finite.get (contents_after_all ops synced).objects n
+
+  object_within : (n : ℕ) → length (syncs.places_of_object (syncs.group_changes ops synced had) n) ≤ sum_by (λ op. object_part pointer_numbers op n) ops
+  object_within n =
+      let records : List Place = flat_map (syncs.places_of_strip (syncs.group_changes ops synced had) n) pointer_numbers in
+      let indirects : List Place = map (λ j. Indirect (strip_number n j)) (filter (syncs.is_indirect_written (syncs.group_changes ops synced had) n) pointer_numbers) in
+      let top : List Place = if syncs.is_top_written (syncs.group_changes ops synced had) n then Top n ∷ [] else [] in
+      let both = length-append (records ++ indirects) top in
+      let first = length-append records indirects in
+      let few = records_within n pointer_numbers in
+      let of_indirects : length indirects ≡ count_by (syncs.is_indirect_written (syncs.group_changes ops synced had) n) pointer_numbers =
+      length-map (filter (syncs.is_indirect_written (syncs.group_changes ops synced had) n) pointer_numbers) (λ j. Indirect (strip_number n j)) ∙ length-filter (syncs.is_indirect_written (syncs.group_changes ops synced had) n) pointer_numbers in
+      let of_top : length top ≡ as_one (syncs.is_top_written (syncs.group_changes ops synced had) n) = length-one (syncs.is_top_written (syncs.group_changes ops synced had) n) (Top n) in
+      let upper = upper_blocks n in
+      let outer = sum_by-plus (λ op. records_part pointer_numbers op n + as_one (is_change_of n op)) (strips_of n) ops in
+      let inner = sum_by-plus (λ op. records_part pointer_numbers op n) (λ op. as_one (is_change_of n op)) ops in
+      omega (arith, both, first, few, of_indirects, of_top, upper, outer, inner)
+
+  objects_within : (objects : List ℕ) → sum_by (λ n. length (syncs.places_of_object (syncs.group_changes ops synced had) n)) objects ≤ sum_by (λ op. sum_by (object_part pointer_numbers op) objects) ops
   objects_within objects =
-      let each : sum_by (λ n. length (syncs.places_of_object (syncs.group_changes ops synced had) n)) objects ≤ sum_by (λ n. sum_by (λ op. object_part record_numbers op n) ops) objects =
-      sum_by-le-sum_by (λ n. length (syncs.places_of_object (syncs.group_changes ops synced had) n)) (λ n. sum_by (λ op. object_part record_numbers op n) ops) objects (λ n. object_within n record_numbers) in
-      let turned : sum_by (λ n. sum_by (λ op. object_part record_numbers op n) ops) objects ≡ sum_by (λ op. sum_by (object_part record_numbers op) objects) ops =
-      sum_by-sum_by (λ n op. object_part record_numbers op n) objects ops in
-      omega arith
+      let each : sum_by (λ n. length (syncs.places_of_object (syncs.group_changes ops synced had) n)) objects ≤ sum_by (λ n. sum_by (λ op. object_part pointer_numbers op n) ops) objects =
+      sum_by-le-sum_by (λ n. length (syncs.places_of_object (syncs.group_changes ops synced had) n)) (λ n. sum_by (λ op. object_part pointer_numbers op n) ops) objects object_within in
+      let turned : sum_by (λ n. sum_by (λ op. object_part pointer_numbers op n) ops) objects ≡ sum_by (λ op. sum_by (object_part pointer_numbers op) objects) ops =
+      sum_by-sum_by (λ n op. object_part pointer_numbers op n) objects ops in
+      omega (arith, each, turned)
 
   directories_within : (directories : List ℕ) → count_by (syncs.is_directory_written (syncs.group_changes ops synced had)) directories ≤ sum_by (directory_part object_numbers directories) ops
   directories_within directories =
@@ -197,44 +250,56 @@ module _ (ops : List Op) (synced : Contents) (had : Place → Bool) where
       omega arith
 
 -- a write touches no more records than are counted for it, and a cut goes through one at most
-write_records : (offset count a many : ℕ) → count_by (λ r. is_record_touched r offset count) (range_with_len a many) ≤ records_touched offset count
-write_records offset count a many = count_within (λ r. is_record_touched r offset count) (offset / record_size) (records_touched offset count) a many within
+rising_rows : (i j : ℕ) → i < j → pointer_count * i + pointer_count ≤ pointer_count * j
+rising_rows i j below = omega (arith, below)
+
+write_records : (offset count a many : ℕ) → sum_by (λ j. count_by (λ k. is_record_touched (record_of_strip j k) offset count) pointer_numbers) (range_with_len a many) ≤ records_touched offset count
+write_records offset count a many =
+    rows_within (λ j k. is_record_touched (record_of_strip j k) offset count) (λ j. pointer_count * j) pointer_count (offset / record_size) (records_touched offset count) a many rising_rows
+    (λ j k from below touched. within (record_of_strip j k) touched)
   where
-    within : (r : ℕ) → a ≤ r → r < a + many → is_record_touched r offset count ≡ true → (offset / record_size ≤ r) × (r < offset / record_size + records_touched offset count)
-    within r from to touched =
+    within : (r : ℕ) → is_record_touched r offset count ≡ true → (offset / record_size ≤ r) × (r < offset / record_size + records_touched offset count)
+    within r touched =
         let parts : (nat_lt offset (record_size * (r + 1)) ≡ true) × (nat_lt (record_size * r) (offset + count) ≡ true) = and_parts (nat_lt offset (record_size * (r + 1))) (nat_lt (record_size * r) (offset + count)) touched in
         let before : offset < record_size * (r + 1) = ltb-true offset (record_size * (r + 1)) parts.0 in
         let behind : record_size * r < offset + count = ltb-true (record_size * r) (offset + count) parts.1 in
         (omega arith, omega arith)
 
-cut_records : (new a many : ℕ) → count_by (λ r. is_record_cut r new) (range_with_len a many) ≤ 1
-cut_records new a many = count_within (λ r. is_record_cut r new) (new / record_size) 1 a many within
+cut_records : (new a many : ℕ) → sum_by (λ j. count_by (λ k. is_record_cut (record_of_strip j k) new) pointer_numbers) (range_with_len a many) ≤ 1
+cut_records new a many =
+    rows_within (λ j k. is_record_cut (record_of_strip j k) new) (λ j. pointer_count * j) pointer_count (new / record_size) 1 a many rising_rows (λ j k from below cut. within (record_of_strip j k) cut)
   where
-    within : (r : ℕ) → a ≤ r → r < a + many → is_record_cut r new ≡ true → (new / record_size ≤ r) × (r < new / record_size + 1)
-    within r from to cut =
+    within : (r : ℕ) → is_record_cut r new ≡ true → (new / record_size ≤ r) × (r < new / record_size + 1)
+    within r cut =
         let parts : (not (nat_le new (record_size * r)) ≡ true) × (nat_lt new (record_size * (r + 1)) ≡ true) = and_parts (not (nat_le new (record_size * r))) (nat_lt new (record_size * (r + 1))) cut in
         let behind : record_size * r < new = leb-false new (record_size * r) (not-true (nat_le new (record_size * r)) parts.0) in
         let before : new < record_size * (r + 1) = ltb-true new (record_size * (r + 1)) parts.1 in
         (omega arith, omega arith)
 
 -- what is counted under a test that fails, and under any test
-under-false : (b : Bool) (t : ℕ → Bool) (records : List ℕ) → b ≡ false → count_by (λ r. b && t r) records + as_one b ≡ 0
-under-false true t records is = absurd (true≢false is)
-under-false false t records is = let none : count_by (λ (r : ℕ). false) records ≡ 0 = sum_by-none (λ (r : ℕ). 0) records (λ r. refl) in omega arith
+no_records : (strips : List ℕ) → sum_by (λ (j : ℕ). count_by (λ (k : ℕ). false) pointer_numbers) strips ≡ 0
+no_records strips = sum_by-none (λ (j : ℕ). count_by (λ (k : ℕ). false) pointer_numbers) strips (λ j. sum_by-none (λ (k : ℕ). 0) pointer_numbers (λ k. refl))
 
-under-any : (b : Bool) (t : ℕ → Bool) (records : List ℕ) (w : ℕ) → count_by t records ≤ w → count_by (λ r. b && t r) records + as_one b ≤ w + 1
-under-any true t records w h = omega arith
-under-any false t records w h = let none : count_by (λ (r : ℕ). false) records ≡ 0 = sum_by-none (λ (r : ℕ). 0) records (λ r. refl) in omega arith
+under-false : (b : Bool) (t : ℕ → ℕ → Bool) (strips : List ℕ) (s : ℕ) → b ≡ false
+    → sum_by (λ j. count_by (λ k. b && t j k) pointer_numbers) strips + as_one b + (if b then s else 0) ≡ 0
+under-false true t strips s is = absurd (true≢false is)
+under-false false t strips s is = omega (arith, no_records strips)
 
--- of all objects an operation on one changes only that one's records and indirect block
-one_object : (m : ℕ) (t : ℕ → Bool) (records : List ℕ) (w a many : ℕ) → count_by t records ≤ w
-    → sum_by (λ n. count_by (λ r. (m == n) && t r) records + as_one (m == n)) (range_with_len a many) ≤ w + 1
-one_object m t records w a many h = one_within (λ n. count_by (λ r. (m == n) && t r) records + as_one (m == n)) m (w + 1) a many
-    (λ n from to other. under-false (m == n) t records (ne_eqb m n (λ e. other (sym e)))) (λ from. under-any (m == m) t records w h)
+under-any : (b : Bool) (t : ℕ → ℕ → Bool) (strips : List ℕ) (s w : ℕ) → sum_by (λ j. count_by (t j) pointer_numbers) strips ≤ w
+    → sum_by (λ j. count_by (λ k. b && t j k) pointer_numbers) strips + as_one b + (if b then s else 0) ≤ w + 1 + s
+under-any true t strips s w h = omega (arith, h)
+under-any false t strips s w h = omega (arith, no_records strips)
 
-no-object : (records objects : List ℕ) → sum_by (λ (n : ℕ). count_by (λ (r : ℕ). false) records + as_one false) objects ≡ 0
-no-object records objects = sum_by-none (λ (n : ℕ). count_by (λ (r : ℕ). false) records + as_one false) objects
-    (λ n. let none : count_by (λ (r : ℕ). false) records ≡ 0 = sum_by-none (λ (r : ℕ). 0) records (λ r. refl) in omega arith)
+-- of all objects an operation on one changes only that one's records, indirect blocks and top
+one_object : (m : ℕ) (t : ℕ → ℕ → Bool) (strips : List ℕ) (s w a many : ℕ) → sum_by (λ j. count_by (t j) pointer_numbers) strips ≤ w
+    → sum_by (λ n. sum_by (λ j. count_by (λ k. (m == n) && t j k) pointer_numbers) strips + as_one (m == n) + (if m == n then s else 0)) (range_with_len a many) ≤ w + 1 + s
+one_object m t strips s w a many h =
+    one_within (λ n. sum_by (λ j. count_by (λ k. (m == n) && t j k) pointer_numbers) strips + as_one (m == n) + (if m == n then s else 0)) m (w + 1 + s) a many
+    (λ n from to other. under-false (m == n) t strips s (ne_eqb m n (λ e. other (sym e)))) (λ from. under-any (m == m) t strips s w h)
+
+no-object : (strips objects : List ℕ) → sum_by (λ (n : ℕ). sum_by (λ (j : ℕ). count_by (λ (k : ℕ). false) pointer_numbers) strips + as_one false + 0) objects ≡ 0
+no-object strips objects = sum_by-none (λ (n : ℕ). sum_by (λ (j : ℕ). count_by (λ (k : ℕ). false) pointer_numbers) strips + as_one false + 0) objects
+    (λ n. omega (arith, no_records strips))
 
 -- what one operation may change, over records, objects and directories that are numbers in a row
 module _ (start : ℕ → ℕ) (size : ℕ) (own : (m d : ℕ) → start d ≤ m → m < start d + size → d ≡ m / entry_count) where
@@ -252,29 +317,30 @@ module _ (start : ℕ → ℕ) (size : ℕ) (own : (m d : ℕ) → start d ≤ m
   no-directory : (directories : List ℕ) → sum_by (λ d. count_by (λ (n : ℕ). false) (range_with_len (start d) size)) directories ≡ 0
   no-directory directories = sum_by-none (λ d. count_by (λ (n : ℕ). false) (range_with_len (start d) size)) directories (λ d. sum_by-none (λ (n : ℕ). 0) (range_with_len (start d) size) (λ n. refl))
 
-  module _ (a records b objects c directories : ℕ) where
+  module _ (a strips b objects c directories : ℕ) where
     abbrev part_of : Op → ℕ
-    part_of op = sum_by (object_part (range_with_len a records) op) (range_with_len b objects) + directory_part (λ d. range_with_len (start d) size) (range_with_len c directories) op + root_part op
+    part_of op = sum_by (object_part (range_with_len a strips) op) (range_with_len b objects) + directory_part (λ d. range_with_len (start d) size) (range_with_len c directories) op + root_part op
 
     one_operation : (op : Op) → part_of op ≤ estimate_of_shape (shape_of op)
     one_operation (Create m) =
-        let none = no-object (range_with_len a records) (range_with_len b objects) in
+        let none = no-object (range_with_len a strips) (range_with_len b objects) in
         let one = one_directory m.0 c directories in
         omega (arith, none, one)
     one_operation (Remove m) =
-        let none = no-object (range_with_len a records) (range_with_len b objects) in
+        let none = no-object (range_with_len a strips) (range_with_len b objects) in
         let one = one_directory m.0 c directories in
         omega (arith, none, one)
     one_operation (Write m offset bytes) =
-        let most = one_object m.0 (λ r. is_record_touched r offset (length bytes)) (range_with_len a records) (records_touched offset (length bytes)) b objects (write_records offset (length bytes) a records) in
+        let below = one_object m.0 (λ j k. is_record_touched (record_of_strip j k) offset (length bytes)) (range_with_len a strips) (strips_touched offset (length bytes)) (records_touched offset (length bytes)) b objects
+        (write_records offset (length bytes) a strips) in
         let one = one_directory m.0 c directories in
-        omega (arith, most, one)
+        omega (arith, below, one)
     one_operation (SetLength m new) =
-        let most = one_object m.0 (λ r. is_record_cut r new) (range_with_len a records) 1 b objects (cut_records new a records) in
+        let below = one_object m.0 (λ j k. is_record_cut (record_of_strip j k) new) (range_with_len a strips) 1 1 b objects (cut_records new a strips) in
         let one = one_directory m.0 c directories in
-        omega (arith, most, one)
+        omega (arith, below, one)
     one_operation (SetName bytes) =
-        let none = no-object (range_with_len a records) (range_with_len b objects) in
+        let none = no-object (range_with_len a strips) (range_with_len b objects) in
         let nothing = no-directory (range_with_len c directories) in
         omega (arith, none, nothing)
 
@@ -290,7 +356,7 @@ syncs_fit ops synced had =
     let part : Op → ℕ = part_of (λ d. entry_count * d) entry_count own_directory 0 pointer_count 0 object_count 0 pointer_count in
     let written = three_parts (syncs.places_of_object (syncs.group_changes ops synced had)) (λ d. Directory d) (syncs.is_directory_written (syncs.group_changes ops synced had)) (if syncs.is_root_written (syncs.group_changes ops synced had) then Root ∷ [] else [])
     (range_with_len 0 object_count) (range_with_len 0 pointer_count)
-    (λ op. sum_by (object_part record_numbers op) (range_with_len 0 object_count)) (directory_part object_numbers (range_with_len 0 pointer_count)) root_part ops
+    (λ op. sum_by (object_part pointer_numbers op) (range_with_len 0 object_count)) (directory_part object_numbers (range_with_len 0 pointer_count)) root_part ops
     (objects_within ops synced had (range_with_len 0 object_count)) (directories_within ops synced had (range_with_len 0 pointer_count))
     (last_within ops synced had) in
     let each : sum_by part ops ≤ sum_by (λ op. estimate_of_shape (shape_of op)) ops = sum_by-le-sum_by part (λ op. estimate_of_shape (shape_of op)) ops (one_operation (λ d. entry_count * d) entry_count own_directory 0 pointer_count 0 object_count 0 pointer_count) in

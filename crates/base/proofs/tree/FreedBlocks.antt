@@ -1,17 +1,17 @@
 -- Which addresses the tree that a sync plans has: those of the new blocks, and of the old tree those that are not
 -- freed.
-use Rattle.std.proofs.Common.{◌≡◌, ℕ, ◌*◌, ◌<◌, List, length, refl, ap, sym, subst, ◌∙◌, arith, ◌⊎◌, inl, inr}
+use Rattle.std.proofs.Common.{◌≡◌, ℕ, ◌<◌, List, length, refl, ap, sym, subst, ◌∙◌, arith, ◌⊎◌, inl, inr}
 use Rattle.std.specs.Prelude.{Option, Some, None, IfSome, ◌≢◌, slice_get}
 use Rattle.std.specs.Ordering.{nat_cmp}
 use Rattle.std.specs.FinMap as map
 use Rattle.std.specs.FinMap.{FinMap}
 use Rattle.base.specs.declared.pointer.Pointer.{Pointer}
-use Rattle.base.specs.formats.Limits.{object_count, record_size, pointer_count}
+use Rattle.base.specs.formats.Limits.{indirect_count, pointer_count}
 use Rattle.base.specs.formats.Fields.{no_pointer}
 use Rattle.base.specs.formats.Geometry.{block_address}
 use Rattle.base.specs.formats.Blocks.{Frame}
-use Rattle.base.specs.tree.Places.{Place, IsPlace, IsInTree}
-use Rattle.base.specs.tree.Places.Place.{Root, Directory, Indirect, Data}
+use Rattle.base.specs.tree.Places.{Place, IsPlace, IsInTree, object_of_indirect, record_number, record_start}
+use Rattle.base.specs.tree.Places.Place.{Root, Directory, Top, Indirect, Data}
 use Rattle.base.specs.tree.PlacedTrees.{padded_record, HoldsTree}
 use Rattle.base.specs.tree.PlannedTrees.{NewBlock, IsNewAt, IsPlannedAt, IsTreePlan, AreFreed}
 pub use Rattle.base.specs.stored.Stored.{AreUsed}
@@ -31,10 +31,10 @@ module _ (image other : List ℕ) (frame grown : Frame) (bs : List NewBlock) (ol
   new-becomes : (place : Place) (payload : List ℕ) → IsNewAt bs grown place (new place) payload → Becomes place
   new-becomes place payload is = inr (inr (is.index, is.block, is.found, sym is.address))
 
-  data-becomes : (n r : ℕ) (o : Option (List ℕ)) → n < object_count → r < pointer_count → map.get after n ≡ o
-      → IfSome o (λ bytes. (record_size * r < length bytes) × IsNewAt bs grown (Data n r) (new (Data n r)) (padded_record r bytes)) → Becomes (Data n r)
-  data-becomes n r None n_below r_below is h = inr (inl (absent-data other grown new after news n r n_below r_below is))
-  data-becomes n r (Some bytes) n_below r_below is h = new-becomes (Data n r) (padded_record r bytes) h.1
+  data-becomes : (m k : ℕ) (o : Option (List ℕ)) → m < indirect_count → k < pointer_count → map.get after (object_of_indirect m) ≡ o
+      → IfSome o (λ bytes. (record_start m k < length bytes) × IsNewAt bs grown (Data m k) (new (Data m k)) (padded_record (record_number m k) bytes)) → Becomes (Data m k)
+  data-becomes m k None low k_low is h = inr (inl (absent-data other grown new after news m k low k_low is))
+  data-becomes m k (Some bytes) low k_low is h = new-becomes (Data m k) (padded_record (record_number m k) bytes) h.1
 
   planned-becomes : (place : Place) → IsPlace place → IsPlannedAt bs grown old new before after place → Becomes place
   planned-becomes Root in_range (inl p) = inl p.0
@@ -43,12 +43,15 @@ module _ (image other : List ℕ) (frame grown : Frame) (bs : List NewBlock) (ol
   planned-becomes (Directory d) in_range (inl p) = inl p.0
   planned-becomes (Directory d) in_range (inr (inl p)) = new-becomes (Directory d) p.0 p.1
   planned-becomes (Directory d) in_range (inr (inr p)) = inr (inl p.0)
-  planned-becomes (Indirect n) in_range (inl p) = inl p.0
-  planned-becomes (Indirect n) in_range (inr (inl p)) = new-becomes (Indirect n) p.0 p.1
-  planned-becomes (Indirect n) in_range (inr (inr p)) = inr (inl p.0)
-  planned-becomes (Data n r) in_range (inl p) = inl p.0
-  planned-becomes (Data n r) in_range (inr (inl p)) = data-becomes n r (map.get after n) in_range.0 in_range.1 refl p
-  planned-becomes (Data n r) in_range (inr (inr p)) = inr (inl p.0)
+  planned-becomes (Top n) in_range (inl p) = inl p.0
+  planned-becomes (Top n) in_range (inr (inl p)) = new-becomes (Top n) p.1 p.2
+  planned-becomes (Top n) in_range (inr (inr p)) = inr (inl p.0)
+  planned-becomes (Indirect m) in_range (inl p) = inl p.0
+  planned-becomes (Indirect m) in_range (inr (inl p)) = new-becomes (Indirect m) p.0 p.1
+  planned-becomes (Indirect m) in_range (inr (inr p)) = inr (inl p.0)
+  planned-becomes (Data m k) in_range (inl p) = inl p.0
+  planned-becomes (Data m k) in_range (inr (inl p)) = data-becomes m k (map.get after (object_of_indirect m)) in_range.0 in_range.1 refl p
+  planned-becomes (Data m k) in_range (inr (inr p)) = inr (inl p.0)
 
   pub becomes : (place : Place) → IsPlace place → Becomes place
   becomes place in_range = planned-becomes place in_range (planned place in_range)

@@ -15,12 +15,12 @@ use Rattle.base.specs.declared.record_state.RecordState.{RecordState}
 use Rattle.base.specs.declared.record_state.RecordState.TheVariants.{Unchanged, Dirty, Hole}
 use Rattle.base.specs.declared.operation.Op.TheVariants.{Create, Remove, Write, SetLength, SetName}
 use Rattle.base.specs.declared.pointer.Pointer.{Pointer}
-use Rattle.base.specs.formats.Limits.{object_count, record_size, pointer_count}
+use Rattle.base.specs.formats.Limits.{indirect_count, record_size, pointer_count}
 use Rattle.base.specs.formats.Blocks.{Frame}
 use Rattle.base.specs.history.Sequences.{in_turn}
 use Rattle.base.specs.history.Contents.{Contents, at_object, with_object, stored, apply, created, removed, changed, resize, bytes_after_write}
 use Rattle.base.specs.history.History.{apply_all}
-use Rattle.base.specs.tree.Places.{Place}
+use Rattle.base.specs.tree.Places.{Place, object_of_indirect, record_number}
 use Rattle.base.specs.tree.Places.Place.{Data}
 use Rattle.base.specs.tree.Tree.{record_bytes}
 use Rattle.base.specs.tree.PlacedTrees.{padded_record, HoldsTree}
@@ -370,11 +370,14 @@ module _ (n r : ℕ) where
 
 -- an unchanged record of a tree's object: where it has a block, it began within its object
 module _ (image : List ℕ) (frame : Frame) (pointers : Place → Pointer) (objects : FinMap nat_cmp (List ℕ)) (holds : HoldsTree image frame pointers objects) where
-  pub tree-record : (n r : ℕ) (b a : Option (List ℕ)) → n < object_count → r < pointer_count → map.get objects n ≡ b → padded_record r (unwrap_or b []) ≡ padded_record r (unwrap_or a [])
-      → (record_size * r < length (unwrap_or b []) → record_size * r < length (unwrap_or a [])) → SameRecord (pointers (Data n r)) r b a
-  tree-record n r b None low below is padded within = tt
-  tree-record n r None (Some y) low below is padded within = (padded, inl (absent-data image frame pointers objects holds n r low below is))
-  tree-record n r (Some x) (Some y) low below is padded within = elim (record_at image frame pointers objects holds n r x low below is) as (λ _. SameRecord (pointers (Data n r)) r (Some x) (Some y)) [
-    | inl h ↦ (padded, inl h.0)
-    | inr h ↦ (padded, inr (within h.0))
-  ]
+  pub tree-record : (m k : ℕ) (b a : Option (List ℕ)) → m < indirect_count → k < pointer_count → map.get objects (object_of_indirect m) ≡ b
+      → padded_record (record_number m k) (unwrap_or b []) ≡ padded_record (record_number m k) (unwrap_or a [])
+      → (record_size * record_number m k < length (unwrap_or b []) → record_size * record_number m k < length (unwrap_or a []))
+      → SameRecord (pointers (Data m k)) (record_number m k) b a
+  tree-record m k b None low k_low is padded within = tt
+  tree-record m k None (Some y) low k_low is padded within = (padded, inl (absent-data image frame pointers objects holds m k low k_low is))
+  tree-record m k (Some x) (Some y) low k_low is padded within =
+      elim (record_at image frame pointers objects holds m k x low k_low is) as (λ _. SameRecord (pointers (Data m k)) (record_number m k) (Some x) (Some y)) [
+        | inl h ↦ (padded, inl h.0)
+        | inr h ↦ (padded, inr (within h.0))
+      ]

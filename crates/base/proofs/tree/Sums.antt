@@ -2,7 +2,7 @@
 use Rattle.std.proofs.Common.{◌≡◌, ℕ, ◌≢◌, zero, suc, ◌+◌, ◌-◌, ◌<◌, ◌≤◌, Bool, true, false, ◌||◌, List, [], ◌∷◌, length, get_or, set, refl, ap, sym, ◌∙◌, arith, inl, inr}
 use Rattle.std.specs.Prelude.{Some, slice_get, filter, cond, sum_by}
 use Rattle.std.specs.List.{list_any, range_with_len, count_by}
-use Rattle.std.proofs.lemmas.Bool.{cases_eq}
+use Rattle.std.proofs.lemmas.Bool.{cases_eq, cases_lt}
 use Rattle.std.proofs.lemmas.List.{length-set, get_or-set_other}
 use Rattle.base.proofs.common.KeptLists.{none_at, Some-injective}
 use Rattle.std.proofs.lemmas.List.Sums.{sum_by-cons, sum_by-set}
@@ -116,3 +116,34 @@ count_within p low w a (suc count) within =
         (λ i from to passes. (from, let there : (low ≤ i) × (i < low + w) = within i (omega arith) (omega arith) passes in omega arith)) in
         omega arith
     go false is later all e = let rest : count_by p (range_with_len (a + 1) count) ≤ w = later low w (λ i from to passes. within i (omega arith) (omega arith) passes) in omega arith
+
+-- and so of numbers in rows, one row after another
+pub rows_within : (p : ℕ → ℕ → Bool) (start : ℕ → ℕ) (size low w a many : ℕ) → ((i j : ℕ) → i < j → start i + size ≤ start j)
+    → ((j k : ℕ) → a ≤ j → k < size → p j k ≡ true → (low ≤ start j + k) × (start j + k < low + w)) → sum_by (λ j. count_by (p j) (range_with_len 0 size)) (range_with_len a many) ≤ w
+rows_within p start size low w a zero rising within = omega arith
+rows_within p start size low w a (suc many) rising within = elim (cases_lt low (start a + size)) as (λ _. sum_by row (range_with_len a (suc many)) ≤ w) [
+  | inr behind ↦ (
+      let none = count_within (p a) 0 0 0 size (λ k from to passes. let at = within a k (omega arith) (omega (arith, to)) passes in let first = at.0 in absurd (omega (arith, first, to, behind))) in
+      let rest = rows_within p start size low w (a + 1) many rising (λ j k from to passes. within j k (omega (arith, from)) to passes) in
+      omega (arith, none, rest, whole))
+  | inl here ↦ elim (cases_lt (start a + size) (low + w)) as (λ _. sum_by row (range_with_len a (suc many)) ≤ w) [
+    | inl more ↦ (
+        let first = count_within (p a) (low - start a) ((start a + size) - low) 0 size (λ k from to passes.
+        let at = within a k (omega arith) (omega (arith, to)) passes in let above = at.0 in (omega (arith, above), omega (arith, to, here))) in
+        let rest = rows_within p start size (start a + size) ((low + w) - (start a + size)) (a + 1) many rising (λ j k from to passes.
+        let at = within j k (omega (arith, from)) to passes in let below = at.1 in let next = rising a j (omega (arith, from)) in (omega (arith, next), omega (arith, below, more))) in
+        omega (arith, first, rest, whole, here, more))
+    | inr all ↦ (
+        let first = count_within (p a) (low - start a) w 0 size (λ k from to passes.
+        let at = within a k (omega arith) (omega (arith, to)) passes in let above = at.0 in let below = at.1 in (omega (arith, above), omega (arith, above, below))) in
+        let rest = rows_within p start size low 0 (a + 1) many rising (λ j k from to passes.
+        let at = within j k (omega (arith, from)) to passes in let below = at.1 in let next = rising a j (omega (arith, from)) in absurd (omega (arith, below, next, all))) in
+        omega (arith, first, rest, whole))
+  ]
+]
+  where
+    row : ℕ → ℕ
+    row j = count_by (p j) (range_with_len 0 size)
+
+    whole : sum_by row (range_with_len a (suc many)) ≡ row a + sum_by row (range_with_len (a + 1) many)
+    whole = sum_by-cons row a (range_with_len (a + 1) many)

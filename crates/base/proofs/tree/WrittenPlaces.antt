@@ -1,6 +1,6 @@
 -- Which places a sync writes is told by what its group makes of the records and objects of a tree, all of which are in
 -- range.
-use Rattle.std.proofs.Common.{◌≡◌, ℕ, zero, suc, ◌+◌, ◌*◌, ◌<◌, ◌≤◌, Bool, true, ◌&&◌, ◌||◌, List, [], ◌∷◌, ◌++◌, length, map, filter, Some, Ok, inl, inr, refl, ap, sym, subst, ◌∙◌, arith}
+use Rattle.std.proofs.Common.{◌≡◌, ℕ, zero, suc, ◌+◌, ◌*◌, ◌<◌, ◌≤◌, Bool, true, not, ◌&&◌, ◌||◌, List, [], ◌∷◌, ◌++◌, length, map, filter, Some, Ok, inl, inr, refl, ap, sym, subst, ◌∙◌, arith}
 use Rattle.std.specs.Prelude.{All, ◌==◌, nat_le, nat_lt, slice_get, is_some, if◌then◌else◌}
 use Rattle.std.specs.List.{list_all, list_any, flat_map, range_with_len}
 use Rattle.std.proofs.lemmas.Bool.{and_parts, eqb-true, false≢true, ltb-true, or_cases}
@@ -10,7 +10,7 @@ use Rattle.std.specs.FinMap as finite
 use Rattle.base.specs.declared.operation.Op.{Op}
 use Rattle.base.specs.declared.operation.Op.TheVariants.{Create, Remove, Write, SetLength, SetName}
 use Rattle.base.specs.declared.record_state.RecordState.TheVariants.{Unchanged}
-use Rattle.base.specs.formats.Limits.{object_count, max_length, pointer_count, entry_count}
+use Rattle.base.specs.formats.Limits.{object_count, indirect_count, record_count, max_length, pointer_count, entry_count}
 use Rattle.base.specs.history.Contents.{Contents}
 use Rattle.base.specs.history.History.{Entry, IsWithin, apply_all, entries_in}
 use Rattle.base.specs.history.Past.{Past}
@@ -18,10 +18,11 @@ use Rattle.base.specs.history.Plans.{IsRange, NumberRange, is_shape_allowed, ran
 use Rattle.base.specs.steps.Tables.{AreTablesExplained}
 use Rattle.base.specs.steps.Shown.{Shown}
 use Rattle.base.specs.steps.Steps.{ops_of_group}
-use Rattle.base.specs.tree.Places.{Place}
-use Rattle.base.specs.tree.Places.Place.{Root, Directory, Indirect, Data}
-use Rattle.base.specs.tree.Syncs.{GroupChanges, record_state, is_on, is_change_of, is_dirty, has_block_after, record_numbers, object_numbers, is_record_written, has_record_after, is_indirect_written, is_directory_touched, is_directory_written, is_root_written, places_of_object, written_by, written_places}
+use Rattle.base.specs.tree.Places.{Place, strip_number, record_of_strip}
+use Rattle.base.specs.tree.Places.Place.{Root, Directory, Top, Indirect, Data}
+use Rattle.base.specs.tree.Syncs.{GroupChanges, record_state, is_on, is_change_of, is_dirty, is_unchanged, has_block_after, is_long_object, pointer_numbers, object_numbers, is_record_written, has_record_after, is_strip_changed, has_strip_after, is_strip_kept, is_indirect_written, is_top_written, is_directory_touched, is_directory_written, is_root_written, places_of_strip, places_of_object, written_by, written_places, group_changes}
 use Rattle.base.proofs.common.KeptLists.{All-at, none_at, at_filter, filter_same, Some-injective}
+use Rattle.base.proofs.tree.Strips.{strip-low, record-low}
 use Rattle.base.proofs.tree.RecordStates.{contents-after_all}
 
 -- two functions that agree on a list's elements make the same of it, and so do two tests
@@ -54,26 +55,52 @@ in-directory d i n low at = let to = (in-range (entry_count * d) entry_count i n
 
 -- two that agree on each record and object of a tree
 pub record AgreeInRange (one other : GroupChanges) : Type 0 where
-  pub states : (n r : ℕ) → n < object_count → r < pointer_count → one.state n r ≡ other.state n r
-  pub blocks : (n r : ℕ) → n < object_count → r < pointer_count → one.had_block n r ≡ other.had_block n r
+  pub states : (n r : ℕ) → n < object_count → r < record_count → one.state n r ≡ other.state n r
+  pub blocks : (m k : ℕ) → m < indirect_count → k < pointer_count → one.had_block (Data m k) ≡ other.had_block (Data m k)
+  pub strips : (m : ℕ) → m < indirect_count → one.had_block (Indirect m) ≡ other.had_block (Indirect m)
   pub changed : (n : ℕ) → n < object_count → one.is_changed n ≡ other.is_changed n
   pub touched : (n : ℕ) → n < object_count → one.is_touched n ≡ other.is_touched n
   pub present : (n : ℕ) → n < object_count → one.is_present n ≡ other.is_present n
+  pub long : (n : ℕ) → n < object_count → one.is_long n ≡ other.is_long n
 
 module _ (one other : GroupChanges) (agree : AgreeInRange one other) where
-  same-records : (n : ℕ) → n < object_count → filter (is_record_written one n) record_numbers ≡ filter (is_record_written other n) record_numbers
-  same-records n low = filter_same (is_record_written one n) (is_record_written other n) record_numbers
-      (λ i r at. ap is_dirty (agree.states n r low (in-first pointer_count i r at)))
+  module _ (n : ℕ) (low : n < object_count) where
+    module _ (j : ℕ) (j_low : j < pointer_count) where
+      same-state : (i k : ℕ) → slice_get pointer_numbers i ≡ Some k → one.state n (record_of_strip j k) ≡ other.state n (record_of_strip j k)
+      same-state i k at = agree.states n (record_of_strip j k) low (record-low j k j_low (in-first pointer_count i k at))
 
-  same-blocks : (n : ℕ) → n < object_count → list_any (has_record_after one n) record_numbers ≡ list_any (has_record_after other n) record_numbers
-  same-blocks n low = any-same (has_record_after one n) (has_record_after other n) record_numbers
-      (λ i r at. (λ k. has_block_after (agree.states n r low (in-first pointer_count i r at) k) (agree.blocks n r low (in-first pointer_count i r at) k)))
+      same-records : filter (is_record_written one n j) pointer_numbers ≡ filter (is_record_written other n j) pointer_numbers
+      same-records = filter_same (is_record_written one n j) (is_record_written other n j) pointer_numbers (λ i k at. ap is_dirty (same-state i k at))
 
-  same-indirect : (n : ℕ) → n < object_count → is_indirect_written one n ≡ is_indirect_written other n
-  same-indirect n low = (λ k. agree.changed n low k && same-blocks n low k)
+      same-strip : places_of_strip one n j ≡ places_of_strip other n j
+      same-strip = ap (λ (l : List ℕ). map (λ k. Data (strip_number n j) k) l) same-records
 
-  same-object : (n : ℕ) → n < object_count → places_of_object one n ≡ places_of_object other n
-  same-object n low = (λ k. map (λ r. Data n r) (same-records n low k) ++ (if same-indirect n low k then Indirect n ∷ [] else []))
+      same-changed : is_strip_changed one n j ≡ is_strip_changed other n j
+      same-changed = any-same (λ k. not (is_unchanged (one.state n (record_of_strip j k)))) (λ k. not (is_unchanged (other.state n (record_of_strip j k)))) pointer_numbers
+          (λ i k at. ap (λ s. not (is_unchanged s)) (same-state i k at))
+
+      same-after : has_strip_after one n j ≡ has_strip_after other n j
+      same-after = any-same (has_record_after one n j) (has_record_after other n j) pointer_numbers
+          (λ i k at. (λ x. has_block_after (same-state i k at x) (agree.blocks (strip_number n j) k (strip-low n j low j_low) (in-first pointer_count i k at) x)))
+
+      same-kept : is_strip_kept one n j ≡ is_strip_kept other n j
+      same-kept = (λ x. if same-changed x then same-after x else agree.strips (strip_number n j) (strip-low n j low j_low) x)
+
+      same-indirect : is_indirect_written one n j ≡ is_indirect_written other n j
+      same-indirect = (λ x. (if agree.long n low x then same-changed x else (j == 0) && agree.changed n low x) && same-after x)
+
+    same-strips : flat_map (places_of_strip one n) pointer_numbers ≡ flat_map (places_of_strip other n) pointer_numbers
+    same-strips = flat_map-same (places_of_strip one n) (places_of_strip other n) pointer_numbers (λ i j at. same-strip j (in-first pointer_count i j at))
+
+    same-indirects : filter (is_indirect_written one n) pointer_numbers ≡ filter (is_indirect_written other n) pointer_numbers
+    same-indirects = filter_same (is_indirect_written one n) (is_indirect_written other n) pointer_numbers (λ i j at. same-indirect j (in-first pointer_count i j at))
+
+    same-top : is_top_written one n ≡ is_top_written other n
+    same-top = (λ x. (agree.long n low x && agree.changed n low x)
+        && any-same (is_strip_kept one n) (is_strip_kept other n) pointer_numbers (λ i j at. same-kept j (in-first pointer_count i j at)) x)
+
+    same-object : places_of_object one n ≡ places_of_object other n
+    same-object = (λ x. same-strips x ++ map (λ j. Indirect (strip_number n j)) (same-indirects x) ++ (if same-top x then Top n ∷ [] else []))
 
   same-touched : (d : ℕ) → d < pointer_count → is_directory_touched one d ≡ is_directory_touched other d
   same-touched d low = any-same one.is_touched other.is_touched (object_numbers d) (λ i n at. agree.touched n (in-directory d i n low at))
@@ -97,21 +124,25 @@ module _ (one other : GroupChanges) (agree : AgreeInRange one other) where
 
 -- what is told of the operations of a group that take place
 pub record AreToldOf (told : GroupChanges) (ops : List Op) (synced after : Contents) (had : Place → Bool) : Type 0 where
-  pub states : (n r : ℕ) → n < object_count → r < pointer_count → told.state n r ≡ record_state n r ops synced Unchanged
-  pub blocks : (n r : ℕ) → n < object_count → r < pointer_count → told.had_block n r ≡ had (Data n r)
+  pub states : (n r : ℕ) → n < object_count → r < record_count → told.state n r ≡ record_state n r ops synced Unchanged
+  pub blocks : (m k : ℕ) → m < indirect_count → k < pointer_count → told.had_block (Data m k) ≡ had (Data m k)
+  pub strips : (m : ℕ) → m < indirect_count → told.had_block (Indirect m) ≡ had (Indirect m)
   pub changed : (n : ℕ) → n < object_count → told.is_changed n ≡ list_any (is_change_of n) ops
   pub touched : (n : ℕ) → n < object_count → told.is_touched n ≡ list_any (is_on n) ops
   pub present : (n : ℕ) → n < object_count → told.is_present n ≡ is_some (finite.get after.objects n)
+  pub long : (n : ℕ) → n < object_count → told.is_long n ≡ is_long_object (finite.get after.objects n)
 
 -- the places that their sync writes are told by it
 pub written-places : (told : GroupChanges) (ops : List Op) (synced after : Contents) (had : Place → Bool) → apply_all ops synced ≡ Ok after → AreToldOf told ops synced after had
     → written_places ops synced had ≡ written_by told
-written-places told ops synced after had takes_place are = written_by-same _ told (record {
+written-places told ops synced after had takes_place are = written_by-same (group_changes ops synced had) told (record {
   states = λ n r low below. sym (are.states n r low below);
-  blocks = λ n r low below. sym (are.blocks n r low below);
+  blocks = λ m k low below. sym (are.blocks m k low below);
+  strips = λ m low. sym (are.strips m low);
   changed = λ n low. sym (are.changed n low);
   touched = λ n low. sym (are.touched n low);
   present = λ n low. ap (λ (c : Contents). is_some (finite.get c.objects n)) (contents-after_all ops synced after takes_place) ∙ sym (are.present n low);
+  long = λ n low. ap (λ (c : Contents). is_long_object (finite.get c.objects n)) (contents-after_all ops synced after takes_place) ∙ sym (are.long n low);
 })
 
 -- the ranges of operations one after another

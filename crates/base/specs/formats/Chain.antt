@@ -6,7 +6,7 @@ use Rattle.base.specs.formats.Limits.{log_block_room}
 use Rattle.base.specs.formats.Fields.{part, number_at}
 use Rattle.base.specs.formats.Geometry.{block_size, IsBlockAddress}
 use Rattle.base.specs.formats.Blocks.{Frame, IsBlock}
-use Rattle.base.specs.formats.Records.{Record, IsAllowed, size_of, bytes_of_record, bytes_of_records}
+use Rattle.base.specs.formats.Records.{Record, IsAllowed, IsOneLevelRecord, size_of, bytes_of_record, bytes_of_records}
 
 -- the place of a log block and its number in the chain
 pub record Header : Type 0 where
@@ -62,13 +62,14 @@ AreParts room bytes (b ∷ bs) =
     ((room < length bytes) × (b.used ≡ take room bytes) × AreParts room (drop room bytes) bs)
     ⊎ ((length bytes ≤ room) × (b.used ≡ bytes) × (bs ≡ []))
 
--- one block of whole records, one at least
-pub record IsShortPiece (blocks : List LogBlock) (records : List Record) : Type 0 where
+-- One block of whole records, one at least. In version 1 none of them reaches past the length of one level.
+pub record IsShortPiece (version : ℕ) (blocks : List LogBlock) (records : List Record) : Type 0 where
   pub block : LogBlock
   pub blocks_are : blocks ≡ block ∷ []
   pub some : 0 < length records
   pub allowed : All IsAllowed records
   pub spelled : block.used ≡ bytes_of_records records
+  pub one_level : version ≤ 1 → All IsOneLevelRecord records
 
 -- the blocks of one record that one block can't hold
 pub record IsLongPiece (blocks : List LogBlock) (records : List Record) : Type 0 where
@@ -80,7 +81,7 @@ pub record IsLongPiece (blocks : List LogBlock) (records : List Record) : Type 0
 
 -- these blocks are a whole piece with these records: a long record is one from version 2 on
 abbrev pub IsWholePiece : ℕ → List LogBlock → List Record → Type 0
-IsWholePiece version blocks records = IsShortPiece blocks records ⊎ ((1 < version) × IsLongPiece blocks records)
+IsWholePiece version blocks records = IsShortPiece version blocks records ⊎ ((1 < version) × IsLongPiece blocks records)
 
 -- a piece of a chain: where it begins, the addresses of its other blocks, the block that it names as the next, and its
 -- records

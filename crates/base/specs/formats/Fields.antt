@@ -23,7 +23,7 @@ pointer_at bytes at = record { address = number_at bytes at; birth = number_at b
 abbrev pub no_pointer : Pointer
 no_pointer = record { address = 0; birth = 0; check = replicate 32 0 }
 
--- the pointer of this number in the payload of a root or an indirect block, and the entry of this number in a
+-- the pointer of this number in the payload of a root, a top or an indirect block, and the entry of this number in a
 -- directory's
 abbrev pub pointer_in : List ℕ → ℕ → Pointer
 pointer_in payload k = pointer_at payload (48 * k)
@@ -31,7 +31,8 @@ pointer_in payload k = pointer_at payload (48 * k)
 abbrev pub entry_in : List ℕ → ℕ → List ℕ
 entry_in payload k = part payload (64 * k) 64
 
--- whether the object of an entry is present, its length, and the pointer to its indirect block
+-- how many levels of indirect blocks the object of an entry has, where 0 says that it is absent; its length, and the
+-- pointer to its top or to its one indirect block
 abbrev pub entry_present : List ℕ → ℕ
 entry_present entry = number_at entry 0
 

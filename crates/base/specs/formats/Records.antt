@@ -1,10 +1,12 @@
 -- Log records: their one spelling and their limits.
-use Rattle.std.specs.Prelude.{ℕ, ◌≡◌, ◌≤◌, Bool, true, List, ◌∷◌, ◌++◌, map, length, nat_lt}
+use Rattle.std.specs.Prelude.{ℕ, ◌≡◌, ◌≤◌, ◌+◌, Bool, true, List, ◌∷◌, ◌++◌, map, length, nat_le, nat_lt}
 use Rattle.std.specs.List.{flat_map, list_all}
 use Rattle.std.specs.Int.{to_le_bytes, w16, w32, w64}
 use Rattle.base.specs.declared.operation.Op.{Op}
 use Rattle.base.specs.declared.operation.Op.TheVariants.{Create, Remove, Write, SetLength, SetName}
-use Rattle.base.specs.formats.Limits.{last_number, max_log_record}
+use Rattle.base.specs.declared.operation.Shape.{Shape}
+use Rattle.base.specs.declared.operation.Shape.TheVariants as shape
+use Rattle.base.specs.formats.Limits.{last_number, max_log_record, one_level_length}
 use Rattle.base.specs.formats.Names.{is_name}
 use Rattle.base.specs.history.Plans.{shape_of, is_plan_allowed, log_record_size}
 
@@ -47,6 +49,21 @@ pub record IsAllowed (r : Record) : Type 0 where
   pub shapes : is_plan_allowed (map shape_of r.ops) ≡ true
   pub contents : list_all is_content_allowed r.ops ≡ true
   pub size : size_of r ≤ max_log_record
+
+-- whether a shape ends within the bytes that one level of indirect blocks holds
+abbrev pub is_one_level_shape : Shape → Bool
+is_one_level_shape (shape.Create n) = true
+is_one_level_shape (shape.Remove n) = true
+is_one_level_shape (shape.Write n offset count) = nat_le (offset + count) one_level_length
+is_one_level_shape (shape.SetLength n new) = nat_le new one_level_length
+is_one_level_shape (shape.SetName count) = true
+
+-- each operation of a record does: version 1 has no other records
+abbrev pub is_one_level_op : Op → Bool
+is_one_level_op op = is_one_level_shape (shape_of op)
+
+abbrev pub IsOneLevelRecord : Record → Type 0
+IsOneLevelRecord r = list_all is_one_level_op r.ops ≡ true
 
 -- the front of the bytes is a record, and the rest is what follows it
 pub record IsDecoded (bytes : List ℕ) (r : Record) (rest : List ℕ) : Type 0 where

@@ -7,7 +7,7 @@ use Rattle.base.specs.declared.operation.Op.TheVariants.{Create, Remove, Write, 
 use Rattle.base.specs.declared.operation.Shape.{Shape}
 use Rattle.base.specs.declared.operation.Shape.TheVariants as shape
 use Rattle.base.specs.declared.range.ObjectRange.{ObjectRange}
-use Rattle.base.specs.formats.Limits.{object_count, name_number, max_length, record_size}
+use Rattle.base.specs.formats.Limits.{object_count, name_number, max_length, one_level_length, record_size}
 use Rattle.base.specs.formats.Names.{is_name_length}
 use Rattle.base.specs.history.Contents.{Contents, length_of}
 
@@ -108,12 +108,16 @@ log_record_size plan = 22 + sum_by size_of_shape plan
 abbrev pub records_touched : ℕ → ℕ → ℕ
 records_touched offset count = (offset + count - 1) / record_size - offset / record_size + 1
 
+-- how many indirect blocks of an object of two levels lie above these
+abbrev pub strips_touched : ℕ → ℕ → ℕ
+strips_touched offset count = (offset + count - 1) / one_level_length - offset / one_level_length + 1
+
 -- the most blocks that a sync takes for an operation of this shape
 abbrev pub estimate_of_shape : Shape → ℕ
 estimate_of_shape (shape.Create n) = 2
 estimate_of_shape (shape.Remove n) = 2
-estimate_of_shape (shape.Write n offset count) = records_touched offset count + 3
-estimate_of_shape (shape.SetLength n new) = 4
+estimate_of_shape (shape.Write n offset count) = records_touched offset count + strips_touched offset count + 3
+estimate_of_shape (shape.SetLength n new) = 5
 estimate_of_shape (shape.SetName count) = 1
 
 abbrev pub estimate_of : List Shape → ℕ

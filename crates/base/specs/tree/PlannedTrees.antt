@@ -8,10 +8,10 @@ use Rattle.base.specs.formats.Limits.{record_size, pointer_count, entry_count}
 use Rattle.base.specs.formats.Fields.{part, pointer_in, entry_in, no_pointer}
 use Rattle.base.specs.formats.Geometry.{block_size, IsBlockAddress}
 use Rattle.base.specs.formats.Blocks.{Frame, IsBlock}
-use Rattle.base.specs.tree.Places.{Place, IsPlace, kind_of, number_of_place, object_of_indirect, record_start}
-use Rattle.base.specs.tree.Places.Place.{Root, Directory, Indirect, Data}
+use Rattle.base.specs.tree.Places.{Place, IsPlace, kind_of, number_of_place, object_of_indirect, strip_number, record_number, record_start}
+use Rattle.base.specs.tree.Places.Place.{Root, Directory, Top, Indirect, Data}
 use Rattle.base.specs.tree.Tree.{record_bytes}
-use Rattle.base.specs.tree.PlacedTrees.{IsEntryFor, padded_record}
+use Rattle.base.specs.tree.PlacedTrees.{IsEntryFor, IsLong, NeedsNoTop, HasNonePast, padded_record}
 
 -- a block that a sync writes: its address, and its bytes
 pub record NewBlock : Type 0 where
@@ -28,7 +28,7 @@ pub record IsNewAt (blocks : List NewBlock) (frame : Frame) (place : Place) (poi
   pub check : part block.content 32 32 ≡ pointer.check
   pub sealed : IsBlock block.content (kind_of place) frame.guid frame.group (number_of_place place) payload
 
--- an object is there as before, with as many bytes
+-- an object is there as before, with as many bytes, or absent as before
 abbrev pub SameEntry : Option (List ℕ) → Option (List ℕ) → Type 0
 SameEntry before after = option_map length before ≡ option_map length after
 
@@ -48,28 +48,37 @@ module _ (blocks : List NewBlock) (frame : Frame) (old new : Place → Pointer) 
   abbrev pub StaysAt : Place → Type 0
   StaysAt Root = (new Root ≡ old Root) × ((d : ℕ) → d < pointer_count → new (Directory d) ≡ old (Directory d))
   StaysAt (Directory d) = (new (Directory d) ≡ old (Directory d)) × ((k : ℕ) → k < entry_count
-      → (new (Indirect (entry_count * d + k)) ≡ old (Indirect (entry_count * d + k))) × SameEntry (map.get before (entry_count * d + k)) (map.get after (entry_count * d + k)))
-  StaysAt (Indirect n) = (new (Indirect n) ≡ old (Indirect n)) × ((r : ℕ) → r < pointer_count → new (Data n r) ≡ old (Data n r))
+      → (new (Indirect (entry_count * d + k)) ≡ old (Indirect (entry_count * d + k))) × (new (Top (entry_count * d + k)) ≡ old (Top (entry_count * d + k)))
+      × SameEntry (map.get before (entry_count * d + k)) (map.get after (entry_count * d + k)))
+  StaysAt (Top n) = (new (Top n) ≡ old (Top n)) × SameEntry (map.get before n) (map.get after n)
+      × ((j : ℕ) → j < pointer_count → new (Indirect (strip_number n j)) ≡ old (Indirect (strip_number n j)))
+  StaysAt (Indirect m) = (new (Indirect m) ≡ old (Indirect m)) × ((k : ℕ) → k < pointer_count → new (Data m k) ≡ old (Data m k))
   StaysAt (Data m k) = (new (Data m k) ≡ old (Data m k))
-      × SameRecord (old (Data m k)) k (map.get before (object_of_indirect m)) (map.get after (object_of_indirect m))
+      × SameRecord (old (Data m k)) (record_number m k) (map.get before (object_of_indirect m)) (map.get after (object_of_indirect m))
 
   -- a place is written: it has a new block, which says what it has to say after
   abbrev pub IsWrittenAt : Place → Type 0
   IsWrittenAt Root = (payload : List ℕ) × IsNewAt blocks frame Root (new Root) payload × ((d : ℕ) → d < pointer_count → pointer_in payload d ≡ new (Directory d))
   IsWrittenAt (Directory d) = (payload : List ℕ) × IsNewAt blocks frame (Directory d) (new (Directory d)) payload
-      × ((k : ℕ) → k < entry_count → IsEntryFor frame (entry_in payload k) (new (Indirect (entry_count * d + k))) (map.get after (entry_count * d + k)))
-  IsWrittenAt (Indirect n) = (payload : List ℕ) × IsNewAt blocks frame (Indirect n) (new (Indirect n)) payload
-      × ((r : ℕ) → r < pointer_count → pointer_in payload r ≡ new (Data n r))
+      × ((k : ℕ) → k < entry_count
+      → IsEntryFor frame (entry_in payload k) (new (Top (entry_count * d + k))) (new (Indirect (entry_count * d + k))) (map.get after (entry_count * d + k)))
+  IsWrittenAt (Top n) = IsLong (map.get after n) × (payload : List ℕ) × IsNewAt blocks frame (Top n) (new (Top n)) payload
+      × ((j : ℕ) → j < pointer_count
+      → (pointer_in payload j ≡ new (Indirect (strip_number n j))) × HasNonePast (map.get after n) j (new (Indirect (strip_number n j))))
+  IsWrittenAt (Indirect m) = (payload : List ℕ) × IsNewAt blocks frame (Indirect m) (new (Indirect m)) payload
+      × ((k : ℕ) → k < pointer_count → pointer_in payload k ≡ new (Data m k))
   IsWrittenAt (Data m k) = IfSome (map.get after (object_of_indirect m))
-      (λ bytes. (record_start m k < length bytes) × IsNewAt blocks frame (Data m k) (new (Data m k)) (padded_record k bytes))
+      (λ bytes. (record_start m k < length bytes) × IsNewAt blocks frame (Data m k) (new (Data m k)) (padded_record (record_number m k) bytes))
 
-  -- a place has no block any more, and nothing below it has one: its objects are absent, or its record has only zeros
+  -- a place has no block any more, and there is nothing that it alone would name: its objects are absent, its strips need
+  -- no top, or its record has only zeros
   abbrev pub HasNoneAt : Place → Type 0
   HasNoneAt Root = (new Root ≡ no_pointer) × ((d : ℕ) → d < pointer_count → new (Directory d) ≡ no_pointer)
   HasNoneAt (Directory d) = (new (Directory d) ≡ no_pointer) × ((k : ℕ) → k < entry_count
       → (map.get after (entry_count * d + k) ≡ None) × (new (Indirect (entry_count * d + k)) ≡ no_pointer))
-  HasNoneAt (Indirect n) = (new (Indirect n) ≡ no_pointer) × ((r : ℕ) → r < pointer_count → new (Data n r) ≡ no_pointer)
-  HasNoneAt (Data m k) = (new (Data m k) ≡ no_pointer) × IsZeroRecord k (map.get after (object_of_indirect m))
+  HasNoneAt (Top n) = (new (Top n) ≡ no_pointer) × ((j : ℕ) → j < pointer_count → NeedsNoTop (map.get after n) j (new (Indirect (strip_number n j))))
+  HasNoneAt (Indirect m) = (new (Indirect m) ≡ no_pointer) × ((k : ℕ) → k < pointer_count → new (Data m k) ≡ no_pointer)
+  HasNoneAt (Data m k) = (new (Data m k) ≡ no_pointer) × IsZeroRecord (record_number m k) (map.get after (object_of_indirect m))
 
   -- what becomes of a place
   abbrev pub IsPlannedAt : Place → Type 0

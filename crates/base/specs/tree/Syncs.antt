@@ -1,5 +1,5 @@
 -- Which blocks the sync of a group writes, and in how many steps, whatever its operations are.
-use Rattle.std.specs.Prelude.{ℕ, ◌+◌, ◌*◌, ◌==◌, ◌&&◌, Bool, true, false, List, [], ◌∷◌, ◌++◌, map, filter, length, nat_lt, nat_le, Ok, Err, if◌then◌else◌}
+use Rattle.std.specs.Prelude.{ℕ, ◌+◌, ◌*◌, ◌==◌, ◌&&◌, Bool, true, false, not, Option, List, [], ◌∷◌, ◌++◌, map, filter, length, nat_lt, nat_le, Ok, Err, if◌then◌else◌}
 use Rattle.std.specs.List.{list_any, flat_map, range_with_len}
 use Rattle.std.specs.Option.{option_map_or}
 use Rattle.std.specs.FinMap as finite
@@ -7,10 +7,10 @@ use Rattle.base.specs.declared.record_state.RecordState.{RecordState}
 use Rattle.base.specs.declared.record_state.RecordState.TheVariants.{Unchanged, Dirty, Hole}
 use Rattle.base.specs.declared.operation.Op.{Op}
 use Rattle.base.specs.declared.operation.Op.TheVariants.{Create, Remove, Write, SetLength, SetName}
-use Rattle.base.specs.formats.Limits.{object_count, record_count, record_size, pointer_count, entry_count}
+use Rattle.base.specs.formats.Limits.{object_count, max_length, one_level_length, record_size, pointer_count, entry_count}
 use Rattle.base.specs.history.Contents.{Contents, apply, length_of}
-use Rattle.base.specs.tree.Places.{Place}
-use Rattle.base.specs.tree.Places.Place.{Root, Directory, Indirect, Data}
+use Rattle.base.specs.tree.Places.{Place, strip_number, record_of_strip}
+use Rattle.base.specs.tree.Places.Place.{Root, Directory, Top, Indirect, Data}
 
 -- whether a record has a byte of a write
 abbrev pub is_record_touched : ℕ → ℕ → ℕ → Bool
@@ -69,14 +69,27 @@ is_dirty Unchanged = false
 is_dirty Dirty = true
 is_dirty Hole = false
 
+abbrev pub is_unchanged : RecordState → Bool
+is_unchanged Unchanged = true
+is_unchanged Dirty = false
+is_unchanged Hole = false
+
 -- whether a record has a block after the sync, from whether it had one before
 abbrev pub has_block_after : RecordState → Bool → Bool
 has_block_after Unchanged before = before
 has_block_after Dirty before = true
 has_block_after Hole before = false
 
-abbrev pub record_numbers : List ℕ
-record_numbers = range_with_len 0 record_count
+-- the numbers of the pointers of a block
+abbrev pub pointer_numbers : List ℕ
+pointer_numbers = range_with_len 0 pointer_count
+
+-- whether an object of this length has two levels of indirect blocks, and whether an object does
+abbrev pub is_long_length : ℕ → Bool
+is_long_length length = nat_lt one_level_length length && nat_le length max_length
+
+abbrev pub is_long_object : Option (List ℕ) → Bool
+is_long_object object = option_map_or (λ bytes. is_long_length (length bytes)) object false
 
 -- a test of what is below: the objects of a directory
 abbrev pub object_numbers : ℕ → List ℕ
@@ -87,26 +100,47 @@ object_numbers d = range_with_len (entry_count * d) entry_count
 abbrev pub other_step_count : List Op → ℕ
 other_step_count ops = 6 + (if list_any is_rename ops then 6 else 0)
 
--- What a group makes of the objects of a tree: of each record its state, and whether it had a block; of each object
--- whether it was written or its length set, whether it had any operation, and whether it is there after them.
+-- what a group makes of the objects of a tree
 pub record GroupChanges : Type 0 where
+  -- the state of a record, by its object and its number there
   pub state : ℕ → ℕ → RecordState
-  pub had_block : ℕ → ℕ → Bool
+  -- which places had a block
+  pub had_block : Place → Bool
+  -- whether an object was written or its length set, had any operation, is there after them, and has two levels then
   pub is_changed : ℕ → Bool
   pub is_touched : ℕ → Bool
   pub is_present : ℕ → Bool
+  pub is_long : ℕ → Bool
 
 -- what a sync writes, from what its group makes of the objects
 module _ (group : GroupChanges) where
-  abbrev pub is_record_written : ℕ → ℕ → Bool
-  is_record_written n r = is_dirty (group.state n r)
+  -- whether the k-th record of strip j of object n is written, and whether it has a block after
+  abbrev pub is_record_written : ℕ → ℕ → ℕ → Bool
+  is_record_written n j k = is_dirty (group.state n (record_of_strip j k))
 
-  abbrev pub has_record_after : ℕ → ℕ → Bool
-  has_record_after n r = has_block_after (group.state n r) (group.had_block n r)
+  abbrev pub has_record_after : ℕ → ℕ → ℕ → Bool
+  has_record_after n j k = has_block_after (group.state n (record_of_strip j k)) (group.had_block (Data (strip_number n j) k))
 
-  -- an indirect block is written where its object had a write or a set length, and some record has a block
-  abbrev pub is_indirect_written : ℕ → Bool
-  is_indirect_written n = group.is_changed n && list_any (has_record_after n) record_numbers
+  -- whether some record of a strip is written or cut off, and whether some has a block after
+  abbrev pub is_strip_changed : ℕ → ℕ → Bool
+  is_strip_changed n j = list_any (λ k. not (is_unchanged (group.state n (record_of_strip j k)))) pointer_numbers
+
+  abbrev pub has_strip_after : ℕ → ℕ → Bool
+  has_strip_after n j = list_any (has_record_after n j) pointer_numbers
+
+  -- An indirect block is written where some record below it has a block, and the strip changed. In an object of one level
+  -- there is only the first one, which is written where the object had a write or a set length.
+  abbrev pub is_indirect_written : ℕ → ℕ → Bool
+  is_indirect_written n j = (if group.is_long n then is_strip_changed n j else (j == 0) && group.is_changed n) && has_strip_after n j
+
+  -- whether a strip of an object of two levels has an indirect block after: one that is unchanged keeps the one that it
+  -- had
+  abbrev pub is_strip_kept : ℕ → ℕ → Bool
+  is_strip_kept n j = if is_strip_changed n j then has_strip_after n j else group.had_block (Indirect (strip_number n j))
+
+  -- a top is written where an object of two levels had a write or a set length, and some strip has an indirect block
+  abbrev pub is_top_written : ℕ → Bool
+  is_top_written n = (group.is_long n && group.is_changed n) && list_any (is_strip_kept n) pointer_numbers
 
   abbrev pub is_directory_touched : ℕ → Bool
   is_directory_touched d = list_any group.is_touched (object_numbers d)
@@ -122,9 +156,15 @@ module _ (group : GroupChanges) where
   abbrev pub is_root_written : Bool
   is_root_written = is_root_touched && list_any group.is_present (range_with_len 0 object_count)
 
-  -- the places that are written of one object: its records, and then its indirect block
+  -- the places that are written of the records of a strip
+  abbrev pub places_of_strip : ℕ → ℕ → List Place
+  places_of_strip n j = map (λ k. Data (strip_number n j) k) (filter (is_record_written n j) pointer_numbers)
+
+  -- those of one object: its records, then its indirect blocks, and then its top
   abbrev pub places_of_object : ℕ → List Place
-  places_of_object n = map (λ r. Data n r) (filter (is_record_written n) record_numbers) ++ (if is_indirect_written n then Indirect n ∷ [] else [])
+  places_of_object n = flat_map (places_of_strip n) pointer_numbers
+      ++ map (λ j. Indirect (strip_number n j)) (filter (is_indirect_written n) pointer_numbers)
+      ++ (if is_top_written n then Top n ∷ [] else [])
 
   -- all places that are written, in the order in which they take the lowest free addresses
   abbrev pub written_by : List Place
@@ -136,10 +176,11 @@ module _ (group : GroupChanges) where
 abbrev pub group_changes : List Op → Contents → (Place → Bool) → GroupChanges
 group_changes ops synced had_block = record {
   state = λ n r. record_state n r ops synced Unchanged;
-  had_block = λ n r. had_block (Data n r);
+  had_block = had_block;
   is_changed = λ n. list_any (is_change_of n) ops;
   is_touched = λ n. list_any (is_on n) ops;
   is_present = λ n. finite.contains_key (contents_after_all ops synced).objects n;
+  is_long = λ n. is_long_object (finite.get (contents_after_all ops synced).objects n);
 }
 
 -- the places that the sync of these operations writes

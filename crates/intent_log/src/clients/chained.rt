@@ -5,7 +5,8 @@ ghost use Rattle.base.specs.disk.Disk.{bytes_of};
 ghost use Rattle.base.specs.formats.Chain.{LogPiece};
 ghost use Rattle.base.specs.formats.Geometry.{IsBlockAddress, block_address};
 ghost use Rattle.base.specs.formats.Records as base_record;
-ghost use Rattle.base.specs.formats.Records.{IsAllowed};
+ghost use Rattle.base.specs.formats.Records.{IsAllowed, IsOneLevelRecord};
+ghost use Rattle.base.specs.formats.Versions.{number_of_version};
 ghost use Rattle.transactions.specs.Records.{record_fields};
 ghost use Rattle.transactions.specs.declared.record.Record.{Record};
 ghost use Rattle.intent_log.specs.Chains.{HasOneRecord};
@@ -51,7 +52,26 @@ fn a_block_of_one_record_is_read<D: SectorDevice>(
     ensures { IsTrue D.keeps_model → (r : base_record.Record)
         → HasOneRecord (bytes_of (D.disk device.old).now) frame.now header.now.import_number
         header.now.address header.now.number r
+        → (number_of_version header.now.version ≤ 1 → IsOneLevelRecord r)
         → IfOk result (λ pieces. 0 < length pieces.items) }
+{
+    chain(alloc, device, frame, header)
+}
+
+// In version 1 a block begins no chain if its one record reaches past the length of one level.
+fn version_1_has_no_record_past_one_level<D: SectorDevice>(
+    alloc: Global,
+    device: &mut D,
+    frame: &Frame,
+    header: &ChainHeader,
+) -> Result<Vec<LoggedPiece>, PoolError>
+    requires fits { block_address frame.now.blocks ≤ D.size device.old }
+    requires number { header.now.number ≤ 2 ^ 60 }
+    requires version { header.now.version ≡ Version.One }
+    ensures { IsTrue D.keeps_model → (r : base_record.Record)
+        → HasOneRecord (bytes_of (D.disk device.old).now) frame.now header.now.import_number
+        header.now.address header.now.number r
+        → (IsOneLevelRecord r → ⊥) → IfOk result (λ pieces. pieces.items ≡ []) }
 {
     chain(alloc, device, frame, header)
 }
@@ -69,7 +89,8 @@ fn a_chain_goes_on_with_the_next_number<D: SectorDevice>(
     ensures { IsTrue D.keeps_model → IfOk result (λ pieces. (piece : LogPiece)
         (r : base_record.Record) → pieces.items ≡ piece ∷ []
         → HasOneRecord (bytes_of (D.disk device.old).now) frame.now header.now.import_number
-        piece.next (header.now.number + 1 + length piece.behind) r → ⊥) }
+        piece.next (header.now.number + 1 + length piece.behind) r
+        → (number_of_version header.now.version ≤ 1 → IsOneLevelRecord r) → ⊥) }
 {
     chain(alloc, device, frame, header)
 }

@@ -12,7 +12,7 @@ ghost use Rattle.base.specs.formats.Limits.{payload_size};
 ghost use Rattle.base.specs.tree.Places.{Place};
 ghost use Rattle.base.specs.tree.Places.Place.{Data};
 ghost use Rattle.base.specs.tree.Tree.{IsRecord};
-ghost use Rattle.object_maps.specs.Cached.{HoldsObject};
+ghost use Rattle.object_maps.specs.Cached.{HoldsStrip};
 ghost use Rattle.object_maps.specs.CachedDevices.{cache_of, device_in};
 ghost use Rattle.object_maps.specs.Kinds.{kind_number};
 
@@ -194,7 +194,7 @@ fn an_indirect_block_has_the_pointer_of_a_record<B: BlockReader>(
     requires fits { block_address frame.now.blocks ≤ B.size reader.old }
     requires size { length payload.old ≡ payload_size }
     ensures { IsTrue B.keeps_model → (pointers : Place → Pointer) (bytes : List ℕ)
-        → HoldsObject (bytes_of (B.disk reader.old).now) frame.now 7 indirect.now pointers bytes
+        → HoldsStrip (bytes_of (B.disk reader.old).now) frame.now 7 indirect.now pointers bytes
         → OnOk result (pointer_in payload.new 3 ≡ pointers (Data 7 3)) }
 {
     read_indirect(reader, frame, 7, indirect, payload)
@@ -294,7 +294,7 @@ fn zeros_are_no_pointer(frame: &Frame, payload: &[u8]) -> Result<Pointer, PoolEr
     ensures pointer { IfOk result (λ p. p ≡ no_pointer) }
     ensures undamaged { IfErr result (λ _. ⊥) }
 {
-    record_pointer(frame, payload, 3, 20_000)
+    record_pointer(frame, payload, 7, 3, 20_000)
 }
 
 // At an object's end there is no record any more. A pointer to one is damage, told with the address that it names.
@@ -305,7 +305,7 @@ fn a_record_past_the_end_is_damage(frame: &Frame, payload: &[u8]) -> Result<Poin
     ensures named { IfErr result
         (λ e. e ≡ error.Damaged 5 (pointer_in payload.now 3).address) }
 {
-    record_pointer(frame, payload, 3, 3 * RECORD_SIZE)
+    record_pointer(frame, payload, 7, 3, 3 * RECORD_SIZE)
 }
 
 // What the device has in place of a block is told with the block's kind and address.

@@ -1,41 +1,30 @@
-//! What callers rest on of a tree in memory: each object has its own map.
+//! What callers rest on of a tree in memory: each object has its own entry.
 
 ghost use Rattle.std.specs.Prelude.{ℕ, ◌≡◌, ◌∷◌, [], IfOk, List, None, Some, false};
 ghost use Rattle.std.specs.Ordering.{nat_cmp};
 ghost use Rattle.std.specs.FinMap as finite;
 ghost use Rattle.std.specs.FinMap.{FinMap};
-ghost use Rattle.base.specs.tree.Places.Place.{Indirect};
-ghost use Rattle.object_maps.specs.declared.tree.ObjectMap.{ObjectMap};
+ghost use Rattle.base.specs.formats.Fields.{no_pointer};
+ghost use Rattle.base.specs.tree.Places.Place.{Top};
+ghost use Rattle.object_maps.specs.declared.tree.ObjectEntry.{ObjectEntry};
 ghost use Rattle.object_maps.specs.Lengths.{HasLengthsOf, lengths_of};
-ghost use Rattle.object_maps.specs.Pointers.{map_among, pointers_of};
+ghost use Rattle.object_maps.specs.Pointers.{entry_among, pointers_of, pointers_of_entry};
 ghost use Rattle.object_maps.specs.Sources.{AreWithin};
 
-use crate::tree::{ObjectEntry, ObjectMap, Tree, empty_entries};
+use crate::tree::{ObjectEntry, Tree, empty_entries};
 use base::{ObjectId, Pointer};
 use std::alloc::{AllocError, Global};
 use std::collections::BTreeMap;
 
-// The pointer to a record is the one at its index.
-fn a_record_has_the_pointer_at_its_index(
-    map: &ObjectMap,
-    first: Pointer,
-    second: Pointer,
-) -> Pointer
-    requires { map.now.records.items ≡ first ∷ second ∷ [] }
-    ensures { result ≡ second }
+// An object that has a new entry has its length and its pointer.
+fn an_entry_that_is_set_stays(tree: &mut Tree, entries: BTreeMap<ObjectId, ObjectEntry>)
+    ensures length { (e : ObjectEntry) → entry_among entries 7 ≡ Some e
+        → lengths_of tree.new 7 ≡ e.length }
+    ensures top { (e : ObjectEntry) → entry_among entries 7 ≡ Some e
+        → pointers_of tree.new (Top 7) ≡ (pointers_of_entry e).top }
+    ensures others { entry_among entries 8 ≡ None → lengths_of tree.new 8 ≡ lengths_of tree.old 8 }
 {
-    map.record(1)
-}
-
-// An object that has a new map has its length and its pointer.
-fn a_map_that_is_set_stays(tree: &mut Tree, maps: BTreeMap<ObjectId, ObjectMap>)
-    ensures length { (m : ObjectMap) → map_among maps 7 ≡ Some m
-        → lengths_of tree.new 7 ≡ m.length }
-    ensures pointer { (m : ObjectMap) → map_among maps 7 ≡ Some m
-        → pointers_of tree.new (Indirect 7) ≡ m.indirect }
-    ensures others { map_among maps 8 ≡ None → lengths_of tree.new 8 ≡ lengths_of tree.old 8 }
-{
-    tree.set_all(maps)
+    tree.set_all(entries)
 }
 
 // Entries that are made for a tree have no object, the last one included.
@@ -46,12 +35,19 @@ fn no_object_is_in_new_entries(alloc: Global) -> Result<bool, AllocError>
     Ok(entries[5_291].length.is_some())
 }
 
-// What is kept of a map has its length and its indirect block.
-fn an_entry_has_the_indirect_block_of_its_map(map: ObjectMap) -> ObjectEntry
-    ensures length { result.length ≡ map.length }
-    ensures indirect { result.indirect ≡ map.indirect }
+// An object of one level has no top, and one of two levels has the pointer of its entry for it.
+fn an_object_of_one_byte_has_no_top(entry: &ObjectEntry) -> Pointer
+    requires { entry.now.length ≡ Some 1 }
+    ensures { result ≡ no_pointer }
 {
-    map.into_entry()
+    entry.top()
+}
+
+fn a_long_object_has_a_top(entry: &ObjectEntry) -> Pointer
+    requires { entry.now.length ≡ Some 338689 }
+    ensures { result ≡ entry.now.pointer }
+{
+    entry.top()
 }
 
 // The last object that there may be is listed, with its length.

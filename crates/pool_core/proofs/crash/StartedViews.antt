@@ -32,7 +32,7 @@ use Rattle.base.specs.stored.LabelConfigs.{WritesName}
 use Rattle.base.specs.stored.Stored.{IsStored, IsSyncing, IsUnwritten, NewTree, frame_at}
 use Rattle.base.specs.tree.PlacedTrees.{HoldsTree}
 use Rattle.base.specs.tree.Places.{IsInTree, IsPlace, Place, kind_of}
-use Rattle.base.specs.tree.Places.Place.{Data, Directory, Indirect, Root}
+use Rattle.base.specs.tree.Places.Place.{Data, Directory, Indirect, Root, Top}
 use Rattle.base.specs.tree.PlannedTrees.{NewBlock}
 use Rattle.base.proofs.common.KeptLists.{All-each, at_filter, at_within}
 use Rattle.base.proofs.crash.LogStarts.{IsCutAt, cut_at, drop-at}
@@ -103,6 +103,7 @@ distinct_blocks (b ∷ bs) apart = (
 no_config : (place : Place) → kind_of place ≢ 1
 no_config Root = λ same. omega (arith, same)
 no_config (Directory d) = λ same. omega (arith, same)
+no_config (Top n) = λ same. omega (arith, same)
 no_config (Indirect n) = λ same. omega (arith, same)
 no_config (Data n r) = λ same. omega (arith, same)
 
@@ -134,7 +135,7 @@ module _ (now : List ℕ) (s : Shown) (p : Past) (pointers : Place → Pointer) 
 
   news : HoldsTree after (frame_at s y.group) new.pointers y.plan.contents.objects
   news =
-      planned-written now (frame_at s s.line.synced) (frame_at s y.group) new.blocks pointers new.pointers y.synced.objects y.plan.contents.objects refl refl later olds y.planned.planned no_others y.are y.leaves room
+      planned-written now (frame_at s s.line.synced) (frame_at s y.group) new.blocks pointers new.pointers y.synced.objects y.plan.contents.objects refl refl later (omega arith) olds y.planned.planned no_others y.are y.leaves room
 
   -- each block of its tree is one of the tree before, or one that it takes
   pub kept_or_taken : (place : Place) → IsPlace place → new.pointers place ≢ no_pointer
@@ -168,7 +169,7 @@ module _ (now : List ℕ) (s : Shown) (p : Past) (pointers : Place → Pointer) 
       → ((address : ℕ) → IsBlockAddress s.blocks address → IsUnwritten new.blocks address → part image address block_size ≡ part now address block_size)
       → HoldsTree image (frame_at s y.group) new.pointers y.plan.contents.objects
   tree_made image stand others =
-      planned-holds now image (frame_at s s.line.synced) (frame_at s y.group) refl refl later new.blocks (λ i b at. record { in_area = y.are.in_area i b at; stands = stand i b at })
+      planned-holds now image (frame_at s s.line.synced) (frame_at s y.group) refl refl later (omega arith) new.blocks (λ i b at. record { in_area = y.are.in_area i b at; stands = stand i b at })
       pointers new.pointers y.synced.objects y.plan.contents.objects olds y.planned.planned
       (λ place in_range same some. elim (stored-placed now s pointers p x place in_range) as (λ _. part image (pointers place).address block_size ≡ part now (pointers place).address block_size) [
         | inl none ↦ absurd (some none)

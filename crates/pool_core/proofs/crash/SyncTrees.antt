@@ -61,7 +61,7 @@ module _ (base : List ℕ) (m : Moment) (run : SyncRun) (v : SyncViews) (taken :
       (v.old.pointers place).address (in_area place in_range some) (unwritten place in_range some)
 
   pub old_now : HoldsTree (bytes_of m) frame v.old.pointers v.old.synced.objects
-  old_now = holds-elsewhere base (bytes_of m) frame frame refl refl (omega arith) v.old.pointers v.old.synced.objects trees.old same
+  old_now = holds-elsewhere base (bytes_of m) frame frame refl refl (omega arith) (omega arith) v.old.pointers v.old.synced.objects trees.old same
 
   module _ (s : Shown) (root : v.old.pointers Root ≡ s.root) (of_sync : taken ≡ taken_of s.sync) where
     pub old_kept : HasKeptBlocks (bytes_of m) s v.old
@@ -92,7 +92,7 @@ module _ (base : List ℕ) (m : Moment) (run : SyncRun) (v : SyncViews) (taken :
 
     pub trees_with : (r : Result (Unit {0}) PoolError) → AreSyncTrees (base_with r l base) run (with_log_block l v) taken
     trees_with (Ok u) = record {
-      old = holds-elsewhere base (put l.block.address l.content base) frame frame refl refl (omega arith) v.old.pointers v.old.synced.objects trees.old beside;
+      old = holds-elsewhere base (put l.block.address l.content base) frame frame refl refl (omega arith) (omega arith) v.old.pointers v.old.synced.objects trees.old beside;
       new = trees.new;
       blocks = trees.blocks;
     }

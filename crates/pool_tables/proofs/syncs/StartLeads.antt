@@ -21,7 +21,7 @@ use Rattle.base.specs.tree.Syncs.{other_step_count, written_places}
 use Rattle.base.proofs.formats.Geometry.{IsGeometry-IsSize}
 use Rattle.base.proofs.steps.KeptGroups.{none_there, quiesced_is}
 use Rattle.base.proofs.steps.WaitingGroups.{next-group}
-use Rattle.object_maps.specs.declared.tree.ObjectMap.{ObjectMap}
+use Rattle.object_maps.specs.declared.tree.ObjectEntry.{ObjectEntry}
 use Rattle.object_maps.specs.declared.tree.Tree.{Tree}
 use Rattle.extents.specs.Patches.{ArePatchesOf}
 use Rattle.extents.specs.Unsynced.{changes_at, name_at}
@@ -33,9 +33,10 @@ use Rattle.tree_plans.specs.declared.planner.TreePlan.{TreePlan}
 use Rattle.tree_plans.specs.Marks.{pending_ops}
 use Rattle.tree_plans.specs.Plans.{address_of, new_block}
 use Rattle.group_plans.specs.GroupPlans.{IsShortOfBlocks, plan_pointers}
-use Rattle.group_plans.specs.Operations.{TakesPlace}
+use Rattle.group_plans.specs.Operations.{AreSized, TakesPlace}
 use Rattle.group_plans.specs.Pointers.{lengths_after, pointers_after}
-use Rattle.group_plans.proofs.GroupChanges.{lengths_told, makes_holes}
+use Rattle.group_plans.proofs.GroupChanges.{lengths_told}
+use Rattle.group_plans.proofs.GroupTrees.{entries_name}
 use Rattle.group_plans.proofs.PlannedBlocks.{addresses_are}
 use Rattle.pool_tables.specs.declared.pool.PoolTables.{PoolTables}
 use Rattle.pool_tables.specs.declared.pool.RunningSync.{RunningSync}
@@ -48,7 +49,7 @@ use Rattle.pool_tables.proofs.syncs.SameSyncs.{taken_count}
 use Rattle.pool_tables.proofs.syncs.Starts.{steps-given}
 use Rattle.pool_tables.proofs.syncs.PlannedContents.{LeadsTo, changes_lead, next_above}
 use Rattle.pool_tables.proofs.syncs.PlannedCounts.{enough_blocks, taken_fit, takes_for_each, takes_in_order}
-use Rattle.pool_tables.proofs.syncs.PlannedGroups.{group_takes_place, ops_are, planned_sync}
+use Rattle.pool_tables.proofs.syncs.PlannedGroups.{bounded_sized, group_takes_place, ops_are, planned_sync}
 
 -- a device of so many blocks has one size
 one_geometry : (m n : ℕ) → IsGeometry m → IsGeometry n → block_count m ≡ block_count n → m ≡ n
@@ -58,11 +59,11 @@ one_geometry m n first second same =
     omega (arith, a.least, a.whole, b.least, b.whole, same)
 
 -- a sync that has made no call yet
-pub nothing_made : (tree : Tree) (r : RunningSync) (root : Pointer) (directories : Vec Pointer) (maps : BTreeMap ObjectId ObjectMap) (blocks : Vec PlannedBlock) → r.root ≡ root → r.directories ≡ directories → r.maps ≡ maps
+pub nothing_made : (tree : Tree) (r : RunningSync) (root : Pointer) (directories : Vec Pointer) (entries : BTreeMap ObjectId ObjectEntry) (blocks : Vec PlannedBlock) → r.root ≡ root → r.directories ≡ directories → r.entries ≡ entries
     → r.run.blocks ≡ blocks → r.run.done ≡ 0
-    → new_tree_of tree r ≡ record { pointers = pointers_after root directories.items maps tree; blocks = map new_block blocks.items; slot = r.run.uberblock; stages = config_of r.run.stages; done = 0 }
-nothing_made tree r root directories maps blocks root_is directories_are maps_are blocks_are none =
-    λ k. record { pointers = pointers_after (root_is k) (directories_are k).items (maps_are k) tree; blocks = map new_block (blocks_are k).items; slot = r.run.uberblock; stages = config_of r.run.stages; done = none k }
+    → new_tree_of tree r ≡ record { pointers = pointers_after root directories.items entries tree; blocks = map new_block blocks.items; slot = r.run.uberblock; stages = config_of r.run.stages; done = 0 }
+nothing_made tree r root directories entries blocks root_is directories_are entries_are blocks_are none =
+    λ k. record { pointers = pointers_after (root_is k) (directories_are k).items (entries_are k) tree; blocks = map new_block (blocks_are k).items; slot = r.run.uberblock; stages = config_of r.run.stages; done = none k }
 
 -- the blocks that it writes are those of its plan
 pub blocks_kept : (r : RunningSync) (planned : Vec PlannedBlock) (told : List PlannedBlock) → r.run.blocks ≡ planned → told ≡ r.run.blocks.items → told ≡ planned.items
@@ -105,6 +106,10 @@ module _ (past : Past) (pool : PoolTables) (group : ℕ) (may : MayStart group p
   pub oldest_leads : LeadsTo (pool_shown pool) past group pool.log.records (contents_after_oldest pool)
   oldest_leads = changes_lead (pool_shown pool) past explained group idle middle pool.log.records refl (changes_at pool.changes 0) (name_at pool.changes 0) oldest_changes oldest_name
 
+  -- no object is too long then
+  pub oldest_sized : AreSized (contents_after_oldest pool).objects
+  oldest_sized = bounded_sized (contents_after_oldest pool) oldest_leads.bounded
+
   -- and take place; the history has the same ones
   pub oldest_ops : ops_of_group group past.entries ≡ pending_ops group pool.log.records
   oldest_ops = ops_are (pool_shown pool) past explained group group_above pool.log.records refl
@@ -115,7 +120,7 @@ module _ (past : Past) (pool : PoolTables) (group : ℕ) (may : MayStart group p
   -- Whatever the device holds: it takes no more blocks than its operations are estimated at.
   pub group_fits : (p : TreePlan) → MakesOldestTree pool group p → length (map address_of p.blocks.items) ≤ estimate_of (map shape_of (ops_of_group group past.entries))
   group_fits p makes =
-      let fits = taken_fit (pool_shown pool) past explained group pool.log.records oldest_ops (contents_after_oldest pool) pool.tree.entries.items oldest_takes_place makes.0
+      let fits = taken_fit (pool_shown pool) past explained group pool.log.records oldest_ops (contents_after_oldest pool) pool.tree.entries.items oldest_takes_place oldest_sized makes.0
       (plan_pointers pool.tree p) (map new_block p.blocks.items) p.freed.items makes.1.places in
       subst (λ (n : ℕ). n ≤ estimate_of (map shape_of (ops_of_group group past.entries))) (length-map p.blocks.items new_block ∙ sym (length-map p.blocks.items address_of)) fits
 
@@ -126,13 +131,13 @@ module _ (past : Past) (pool : PoolTables) (group : ℕ) (may : MayStart group p
       ∙ ap (λ (n : ℕ). length (map address_of p.blocks.items) + n) (steps-given (pending_ops group pool.log.records) ∙ ap other_step_count (sym oldest_ops))
 
   -- its lengths are those after the group
-  pub group_lengths : (p : TreePlan) → MakesOldestTree pool group p → AreLengthsOf (contents_after_oldest pool) (lengths_after p.maps pool.tree)
-  group_lengths p makes = lengths_told group pool.log.records pool.tree.entries.items (synced_of pool) (contents_after_oldest pool) oldest_takes_place (lengths_after p.maps pool.tree) makes.1.lengths
+  pub group_lengths : (p : TreePlan) → MakesOldestTree pool group p → AreLengthsOf (contents_after_oldest pool) (lengths_after p.entries pool.tree)
+  group_lengths p makes = lengths_told group pool.log.records pool.tree.entries.items (synced_of pool) (contents_after_oldest pool) oldest_takes_place (lengths_after p.entries pool.tree) makes.1.lengths
 
   -- and its plan is not short of blocks
   pub never_short : (old : Place → Pointer) → IsShortOfBlocks group pool.log.records pool.tree.entries.items old (contents_after_oldest pool).objects (rising pool.free.free) → ⊥
   never_short old short =
-      enough_blocks (pool_shown pool) past explained group pool.log.records oldest_ops (contents_after_oldest pool) pool.tree.entries.items oldest_takes_place old
+      enough_blocks (pool_shown pool) past explained group pool.log.records oldest_ops (contents_after_oldest pool) pool.tree.entries.items oldest_takes_place oldest_sized old
       idle may.0 (rising pool.free.free) (length-rising pool.free.free) short
 
 -- What a device holds: a plan of the group is what a start of its sync asks, with each past.
@@ -140,8 +145,8 @@ module _ (now : List ℕ) (past : Past) (pool : PoolTables) (group moment : ℕ)
   abbrev pub plan : SyncPlan
   plan = begun_plan pool group moment p
 
-  to : LeadsTo (pool_shown pool) past group pool.log.records (contents_after_oldest pool)
-  to = oldest_leads past pool group may x.explained
+  sized : AreSized (contents_after_oldest pool).objects
+  sized = oldest_sized past pool group may x.explained
 
   takes_place : TakesPlace (pending_ops group pool.log.records) pool.tree.entries.items (synced_of pool) (contents_after_oldest pool)
   takes_place = oldest_takes_place past pool group may x.explained
@@ -160,17 +165,17 @@ module _ (now : List ℕ) (past : Past) (pool : PoolTables) (group moment : ℕ)
   pub group_planned : IsPlannedSync (frame_at (pool_shown pool) group) (pointers_of pool.tree) (plan_pointers pool.tree p) (map new_block p.blocks.items) x.kept.stored.synced.objects (contents_after_oldest pool).objects plan
   group_planned =
       let places = objects.made.places in
-      let holes = makes_holes (pending_ops group pool.log.records) pool.tree.entries.items (synced_of pool) (contents_after_oldest pool) takes_place places.objects places.changes in
-      planned_sync now (pool_shown pool) past (pointers_of pool.tree) x.kept.stored x.explained group (group_above past pool group may x.explained) pool.log.records (contents_after_oldest pool) to.bounded pool.tree.entries.items takes_place
-      (plan_pointers pool.tree p) (map new_block p.blocks.items) plan objects.held (addresses_are p.blocks.items) objects.made.whole (places.freed holes) (places.used holes) refl
+      planned_sync now (pool_shown pool) past (pointers_of pool.tree) x.kept.stored x.explained group (group_above past pool group may x.explained) pool.log.records (contents_after_oldest pool) sized pool.tree.entries.items takes_place
+      (entries_name pool.tree (synced_of pool).objects x.explained.trees.synced.lengths)
+      (plan_pointers pool.tree p) (map new_block p.blocks.items) plan objects.held (addresses_are p.blocks.items) objects.made.whole places.freed places.used refl
 
   -- what it takes is what its tree has at the places that it writes, in order
   pub group_takes : map (λ (place : Place). (plan_pointers pool.tree p place).address) (written_places (ops_of_group group past.entries) (synced_of pool) (has_block now (pool_shown pool).root)) ≡ plan.taken
   group_takes =
-      takes_in_order now (pool_shown pool) past (pointers_of pool.tree) x.kept.stored x.explained group pool.log.records (oldest_ops past pool group may x.explained) (contents_after_oldest pool) pool.tree.entries.items takes_place
+      takes_in_order now (pool_shown pool) past (pointers_of pool.tree) x.kept.stored x.explained group pool.log.records (oldest_ops past pool group may x.explained) (contents_after_oldest pool) pool.tree.entries.items takes_place sized
       (plan_pointers pool.tree p) (map new_block p.blocks.items) p.freed.items plan objects.made.places (addresses_are p.blocks.items)
 
   pub group_takes_each : TakesForEach now (record { shown = pool_shown pool; past = past }) group plan
   group_takes_each =
-      takes_for_each now (pool_shown pool) past (pointers_of pool.tree) x.kept.stored x.explained group pool.log.records (oldest_ops past pool group may x.explained) (contents_after_oldest pool) pool.tree.entries.items takes_place
+      takes_for_each now (pool_shown pool) past (pointers_of pool.tree) x.kept.stored x.explained group pool.log.records (oldest_ops past pool group may x.explained) (contents_after_oldest pool) pool.tree.entries.items takes_place sized
       (plan_pointers pool.tree p) (map new_block p.blocks.items) p.freed.items plan objects.made.places (addresses_are p.blocks.items)

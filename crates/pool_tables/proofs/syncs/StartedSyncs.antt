@@ -100,7 +100,7 @@ module _ (keeps : Type 0) (now : List ℕ) (moment : ℕ) (pool : PoolTables) wh
           let blocks = blocks_kept r planned.blocks told begins.blocks told_is in
           let taken : free ≡ after_sync_takes (map address_of planned.blocks.items) pool.free = free_is ∙ ap (λ (l : List PlannedBlock). after_sync_takes (map address_of l) pool.free) blocks in
           let is : (told_started line free r []).shown ≡ shown_started = λ k. record (pool_shown pool) { line = (line_is k).line; free = (taken k).free; sync = Some (plan_is k) } in
-          let made = nothing_made pool.tree r planned.root planned.directories planned.maps planned.blocks begins.root begins.directories begins.maps begins.blocks begins.done in
+          let made = nothing_made pool.tree r planned.root planned.directories planned.entries planned.blocks begins.root begins.directories begins.entries begins.blocks begins.done in
           let running = ap (λ (t : NewTree). Some t) made in
           let shows = ap (λ (q : SyncPlan). Some q) plan_is in
           record {

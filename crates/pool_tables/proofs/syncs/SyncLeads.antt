@@ -207,7 +207,7 @@ synced_leads group o n before after was syncing none same all advances =
     (after.pointers, same, λ past later. (after, record { before = before; running = was; group = group.0; syncing = syncing; advances = advances }, all, refl, none))
 
 -- what the running sync of a pool makes
-pub was_running : (pool : PoolTables) (r : RunningSync) → pool.sync ≡ Some r → option_map (new_tree_of pool.tree) pool.sync ≡ Some (made_by (pointers_after r.root r.directories.items r.maps pool.tree) r.run)
+pub was_running : (pool : PoolTables) (r : RunningSync) → pool.sync ≡ Some r → option_map (new_tree_of pool.tree) pool.sync ≡ Some (made_by (pointers_after r.root r.directories.items r.entries pool.tree) r.run)
 was_running pool r is = ap (λ (o : Option RunningSync). option_map (new_tree_of pool.tree) o) is
 
 -- and its group
@@ -226,15 +226,15 @@ planned_still pool r next same left is = λ k. record (plan_of pool.tree (conten
 
 -- after a refused call it is as before
 pub failed_running : (pool : PoolTables) (r : RunningSync) (next : SyncRun) → pool.sync ≡ Some r → SameSync r.run next → next.done ≡ r.run.done
-    → Some (made_by (pointers_after r.root r.directories.items r.maps pool.tree) next) ≡ option_map (new_tree_of pool.tree) pool.sync
+    → Some (made_by (pointers_after r.root r.directories.items r.entries pool.tree) next) ≡ option_map (new_tree_of pool.tree) pool.sync
 failed_running pool r next is same done =
-    ap (λ (t : NewTree). Some t) (made_same r.run next same (pointers_after r.root r.directories.items r.maps pool.tree) done) ∙ sym (was_running pool r is)
+    ap (λ (t : NewTree). Some t) (made_same r.run next same (pointers_after r.root r.directories.items r.entries pool.tree) done) ∙ sym (was_running pool r is)
 
 -- The running sync of a pool made its next call.
 module _ (pool : PoolTables) (r : RunningSync) (next : SyncRun) (before after : Disk) (is : pool.sync ≡ Some r) (same : SameSync r.run next) (sized : length (bytes_of before.now) ≡ pool.geometry)
     (size : r.run.geometry ≡ pool.geometry) (call : DeviceCall) (at : IsNextCall r.run call) where
   abbrev pointers : Place → Pointer
-  pointers = pointers_after r.root r.directories.items r.maps pool.tree
+  pointers = pointers_after r.root r.directories.items r.entries pool.tree
 
   abbrev IsMade : Type 0
   IsMade = MakesCall r.run call before (Ok tt) after

@@ -1,7 +1,8 @@
 //! The groups of a pool and their syncs. A group closes and is quiesced. When its sync starts, all that it writes is
-//! planned. For that the indirect block of each object that it changes is read, with the records that it changes in
-//! part: the tables keep no pointer to a record of the synced tree. Then it is written out call by call. After the last
-//! call the pool lays its changes into the synced objects, and what the sync replaced is free.
+//! planned. For that the top of each object that it changes is read, if it has one, then the indirect blocks that the
+//! plan looks at, and the records that the group changes in part: the tables keep no pointer below those of the synced
+//! tree's directories. Then it is written out call by call. After the last call the pool lays its changes into the
+//! synced objects, and what the sync replaced is free.
 
 ghost use Rattle.std.specs.Prelude.{◌≡◌, ℕ, List, IfErr, IfOk, IsTrue, OnErr, false, is_some, unwrap_or};
 ghost use Rattle.base.specs.formats.Geometry.{block_count};
@@ -67,9 +68,9 @@ impl PoolTables {
     }
 
     /// Starts the sync of the quiesced group, with this moment in its uberblocks, and takes the blocks that it writes.
-    /// It reads the indirect block of each changed object, rising, and then each record that the group changes in part.
-    /// Refused, in this order, `Suspended` or `NotReady`, then `NoMemory`, `Read` or `Damaged` as they come, and then
-    /// nothing is changed.
+    /// Of each changed object, rising, it reads the top, if the object has two levels, and then the indirect blocks that
+    /// the plan looks at. Then it reads each record that the group changes in part. Refused, in this order, `Suspended`
+    /// or `NotReady`, then `NoMemory`, `Read` or `Damaged` as they come, and then nothing is changed.
     pub fn start_sync<B: BlockReader>(
         &mut self,
         reader: &mut B,
@@ -163,7 +164,7 @@ impl PoolTables {
         let stages = self.label_stages(group);
         let TreePlan {
             blocks,
-            maps,
+            entries,
             directories,
             root,
             freed,
@@ -190,7 +191,7 @@ impl PoolTables {
                 slot(group),
                 stages,
             ),
-            maps,
+            entries,
             directories,
             root,
             freed,
@@ -280,14 +281,14 @@ impl PoolTables {
             moment: _,
             header: _,
             run,
-            maps,
+            entries,
             directories,
             root,
             freed,
         } = running;
         self.tree.root = root;
         self.tree.directories = directories;
-        self.tree.set_all(maps);
+        self.tree.set_all(entries);
         give_all(&mut self.free, self.geometry, &freed);
         run
     }

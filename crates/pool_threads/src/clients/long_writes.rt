@@ -62,7 +62,7 @@ fn a_long_write_past_the_longest_object_does_nothing<D: SectorDevice, W: Wait>(
     offset: u64,
     bytes: &[u8],
 ) -> Result<Receipt, (PoolError, u64)>
-    requires { 338688 < offset + length bytes.now }
+    requires { 28449792 < offset + length bytes.now }
     ensures refused { result ≡ Err (PoolError.BadRange, 0) }
     ensures unchanged { handle.new ≡ handle.old }
 {

@@ -15,8 +15,8 @@ use std::alloc::{AllocError, Global};
 // A plan has a shape, and its writes end at the greatest length at most.
 fn a_write_ends_at_the_greatest_length() {
     prove!(!is_plan_allowed(&[]));
-    prove!(is_plan_allowed(&[Shape::Write(ObjectId(0), 338_680, 8)]));
-    prove!(!is_plan_allowed(&[Shape::Write(ObjectId(0), 338_681, 8)]));
+    prove!(is_plan_allowed(&[Shape::Write(ObjectId(0), 28_449_784, 8)]));
+    prove!(!is_plan_allowed(&[Shape::Write(ObjectId(0), 28_449_785, 8)]));
 }
 
 // A record of 64 KiB is not too large, and one byte more is.
@@ -64,10 +64,18 @@ fn no_shape_of_a_plan_may_be_missing() {
     ));
 }
 
-// A write that touches two records is estimated at five blocks.
-fn a_write_over_two_records_takes_five_blocks() {
-    prove!(estimate(&[Shape::Write(ObjectId(0), 4_000, 64)]) == 5);
-    prove!(charge(&[Shape::Write(ObjectId(0), 4_000, 64)]) == 20_480);
+// A write that touches two records below one indirect block is estimated at six blocks, and one whose two records lie
+// below two indirect blocks at seven.
+#[tactic(auto, unfolding(base::specs::formats::Limits::one_level_length))]
+fn a_write_over_two_records_takes_six_blocks() {
+    prove!(estimate(&[Shape::Write(ObjectId(0), 4_000, 64)]) == 6);
+    prove!(charge(&[Shape::Write(ObjectId(0), 4_000, 64)]) == 24_576);
+    prove!(estimate(&[Shape::Write(ObjectId(0), 338_684, 8)]) == 7);
+}
+
+// A new length is estimated at five blocks.
+fn a_new_length_takes_five_blocks() {
+    prove!(estimate(&[Shape::SetLength(ObjectId(0), 100)]) == 5);
 }
 
 // A plan that sets an object to a greater length does not shrink.

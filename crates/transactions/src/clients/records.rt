@@ -1,11 +1,11 @@
 //! What callers rest on of records: their bytes, and what is read of them.
 
-ghost use Rattle.std.specs.Prelude.{◌≡◌, ◌++◌, ◌∷◌, [], IfOk, IfSome, IsOk};
+ghost use Rattle.std.specs.Prelude.{◌≡◌, ◌++◌, ◌∷◌, [], IfOk, IfSome, IsOk, true};
 ghost use Rattle.base.specs.declared.operation.Op.TheVariants as op;
 ghost use Rattle.transactions.specs.Records.{Decodes};
 ghost use Rattle.transactions.specs.Writing.{HasRoomFor};
 
-use crate::record::{Record, decode_record, encode_into, encode_record};
+use crate::record::{Record, decode_record, encode_into, encode_record, is_one_level};
 use base::PoolError;
 use std::alloc::Global;
 
@@ -38,6 +38,16 @@ fn a_record_with_its_room_is_appended(
     ensures { IsOk result }
 {
     encode_into(out, committed)
+}
+
+// A new length of 338,688 bytes lies within one level, and one byte more does not.
+#[tactic(auto, unfolding(base::specs::formats::Limits::one_level_length))]
+fn a_length_of_338689_bytes_is_not_of_one_level(longest: &Record, longer: &Record) -> bool
+    requires longest { longest.now.ops ≡ op.SetLength (record { 0 = 7 }) 338688 ∷ [] }
+    requires longer { longer.now.ops ≡ op.SetLength (record { 0 = 7 }) 338689 ∷ [] }
+    ensures { result ≡ true }
+{
+    is_one_level(longest) && !is_one_level(longer)
 }
 
 // These bytes are read as that record, and the byte after them comes back, unless memory runs out.

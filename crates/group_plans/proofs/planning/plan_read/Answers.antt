@@ -1,34 +1,29 @@
-use Rattle.std.proofs.Common.{◌≡◌, ◌<◌, ℕ, List, Option, length, subst, sym, ◌∙◌}
+use Rattle.std.proofs.Common.{◌≡◌, ℕ, List, Option, subst, sym, ◌∙◌}
 use Rattle.std.specs.Prelude.{IfErr, IfOk}
 use Rattle.std.specs.Ordering.{nat_cmp}
 use Rattle.std.specs.FinMap.{FinMap}
 use Rattle.std.proofs.Math.Logic.{∥∥₁_map}
 use Rattle.std.proofs.lemmas.Result.{IfErr-weaker, IfOk-weaker, err_from_is_err_and}
-use Rattle.base.specs.declared.error.PoolError.{PoolError}
 use Rattle.base.specs.declared.names.ObjectId.{ObjectId}
-use Rattle.base.specs.declared.pointer.Pointer.{Pointer}
-use Rattle.base.specs.common.Rising.{rising}
 use Rattle.base.specs.disk.Disk.{bytes_of}
 use Rattle.base.specs.formats.Geometry.{block_count}
-use Rattle.base.specs.tree.PlacedTrees.{ArePlaced, HoldsTree}
-use Rattle.base.specs.tree.Places.{Place}
-use Rattle.base.specs.tree.Syncs.{GroupChanges, written_by}
+use Rattle.base.specs.tree.PlacedTrees.{ArePlaced}
+use Rattle.base.proofs.tree.SamePlaces.{holds_as}
 use Rattle.extents.specs.declared.extents.Extents.{Extents}
 use Rattle.object_maps.specs.ContentsShown.{contents_of}
 use Rattle.object_maps.specs.declared.contents.Contents as slots
 use Rattle.object_maps.specs.Pointers.{pointers_of}
 use Rattle.tree_plans.specs.declared.changes.ObjectChanges.{ObjectChanges}
-use Rattle.tree_plans.specs.declared.plan_source.PlanSource.{PlanSource}
 use Rattle.tree_plans.specs.declared.planner.TreePlan.{TreePlan}
+use Rattle.tree_plans.specs.Parts.{AreMapsRead}
 use Rattle.tree_plans.specs.Pointers.{pointers_before}
-use Rattle.tree_plans.specs.TreePlans.{GivesBack, GivesTree, HasLengths, HasMaps, TakesBlocks, TellsFull}
+use Rattle.tree_plans.specs.TreePlans.{GivesBack, GivesTree, HasEntries, HasLengths, TakesBlocks, TellsFull}
 use Rattle.group_plans.specs.GroupPlans.{objects_with}
 use Rattle.group_plans.specs.Prepared.{at_hand, with_records}
-use Rattle.group_plans.specs.ReadPlans.{IsShortFrom}
 use Rattle.group_plans.proofs.PlannedBlocks.{are_blocks}
 use Rattle.group_plans.proofs.PlannedPointers.{before_placed, same_before}
-use Rattle.group_plans.proofs.PreparedPlans.{held_prepare, held_want, of_prepare, of_want, prepared_exact, prepared_length, same_group, want_counts}
-use Rattle.group_plans.proofs.ReadPlans.{IfOk_both, IfOk_five, holds_planned, not_short, not_short_from, plans_tree}
+use Rattle.group_plans.proofs.PreparedPlans.{held_prepare, held_want, maps_as, of_prepare, of_want, prepared_exact, prepared_length, want_counts}
+use Rattle.group_plans.proofs.ReadPlans.{IfOk_both, IfOk_five, holds_planned, not_short, not_short_from, plans_tree, short_of, short_of_tree}
 use Rattle.group_plans.proofs.planning.plan_read.Goals as goal
 
 -- what is told of the objects with records at hand, told of the same changes and contents as before
@@ -44,10 +39,11 @@ returns-in_err-after-clause-refused g c =
 pub returns-in_err-after-clause-sound : goal.returns-in_err-after-clause-sound
 returns-in_err-after-clause-sound g c = λ keeps held exact.
     let source = c.args.read.now in
-    let old : pointers_before source ≡ pointers_of source.tree.now = λ k place. same_before source c.args.objects.now.entries c.requires.none (block_count source.geometry) c.requires.old exact place k in
+    let below = (contents_of c.args.contents.now).objects in
+    let old = same_before source c.args.objects.now.entries c.requires.none (block_count source.geometry) below c.requires.old exact in
     let p = err_from_is_err_and c.from_residual.result c.from_residual.ensures.1 in
     rw (p.1, p.2) (held_prepare _ (c.in_err-after.ensures.sound keeps
-    (subst (λ (f : Place → Pointer). HoldsTree (bytes_of (g.B.SectorDevice.disk c.args.reader.now).now) c.args.before.now f (contents_of c.args.contents.now).objects) (sym old) held)))
+    (holds_as (bytes_of (g.B.SectorDevice.disk c.args.reader.now).now) c.args.before.now (pointers_of source.tree.now) (pointers_before source) old below held.held)))
 
 pub returns-in_err-after-clause-no_space : goal.returns-in_err-after-clause-no_space
 returns-in_err-after-clause-no_space g c =
@@ -71,13 +67,23 @@ returns-clause-fits g c =
     let source = c.args.read.now in
     let blocks : ℕ = block_count source.geometry in
     let placed : ∥ ArePlaced blocks (pointers_before source) ∥₁ =
-    ∥∥₁_map {A = ArePlaced blocks (pointers_of source.tree.now)} {B = ArePlaced blocks (pointers_before source)} c.requires.placed (before_placed source c.args.objects.now.entries c.requires.none blocks c.requires.old) in
+    ∥∥₁_map {A = ArePlaced blocks (pointers_of source.tree.now)} {B = ArePlaced blocks (pointers_before source)} c.requires.placed
+    (before_placed source c.args.objects.now.entries c.requires.none blocks (contents_of c.args.contents.now).objects c.requires.old) in
     IfOk_both c.plan.result
     (λ (p : TreePlan) taken (back : GivesBack source p). record { within = taken.within; freed = are_blocks blocks (ArePlaced blocks (pointers_before source)) p.freed.items placed back.returned })
     c.plan.ensures.taken c.plan.ensures.freed
 
 pub returns-clause-taken : goal.returns-clause-taken
 returns-clause-taken g c = IfOk-weaker c.plan.result _ _ (λ (p : TreePlan) told. told.taken) c.plan.ensures.taken
+
+-- the maps were read for the objects with records at hand as well
+pub plan-requires-clause-maps : goal.plan-requires-clause-maps
+plan-requires-clause-maps g c =
+    let of = c.in_ok-after.ensures in
+    let hand : ℕ → ℕ → Option (List ℕ) = at_hand c.in_ok-after.after.records in
+    moved (λ (o : FinMap nat_cmp (List ℕ)). AreMapsRead c.args.read.now o c.args.objects.now.entries) hand _ _ _ _ (sym of.extents) (sym of.contents)
+    (maps_as c.args.read.now c.args.objects.now.entries (with_records hand (objects_with c.args.extents.now c.args.contents.now)) (objects_with c.args.extents.now c.args.contents.now)
+    (prepared_length hand c.args.extents.now c.args.contents.now) c.requires.maps)
 
 pub returns-clause-tree : goal.returns-clause-tree
 returns-clause-tree g c =
@@ -87,14 +93,14 @@ returns-clause-tree g c =
     let contents : slots.Contents = c.args.contents.now in
     let hand : ℕ → ℕ → Option (List ℕ) = at_hand c.in_ok-after.after.records in
     let of = c.in_ok-after.ensures in
-    IfOk_five c.plan.result (λ (p : TreePlan) taken made lengths maps back. (
+    IfOk_five c.plan.result (λ (p : TreePlan) taken made lengths entries back. (
       pointers_before source,
-      plans_tree source objects c.requires.none c.requires.old c.requires.placed p (with_records hand (objects_with extents contents)) (objects_with extents contents) (prepared_length hand extents contents)
-          taken made lengths maps back,
+      plans_tree source objects c.requires.none (contents_of contents).objects c.requires.old c.requires.placed p (with_records hand (objects_with extents contents)) (objects_with extents contents)
+          (prepared_length hand extents contents) taken made lengths entries back,
     )) (moved (λ (o : FinMap nat_cmp (List ℕ)). IfOk c.plan.result (TakesBlocks source o objects)) hand _ _ _ _ of.extents of.contents c.plan.ensures.taken)
     (moved (λ (o : FinMap nat_cmp (List ℕ)). IfOk c.plan.result (GivesTree source o objects)) hand _ _ _ _ of.extents of.contents c.plan.ensures.tree)
     (moved (λ (o : FinMap nat_cmp (List ℕ)). IfOk c.plan.result (HasLengths source o objects)) hand _ _ _ _ of.extents of.contents c.plan.ensures.lengths)
-    (moved (λ (o : FinMap nat_cmp (List ℕ)). IfOk c.plan.result (HasMaps o objects)) hand _ _ _ _ of.extents of.contents c.plan.ensures.maps)
+    (moved (λ (o : FinMap nat_cmp (List ℕ)). IfOk c.plan.result (HasEntries o objects)) hand _ _ _ _ of.extents of.contents c.plan.ensures.entries)
     c.plan.ensures.freed
 
 pub returns-clause-objects : goal.returns-clause-objects
@@ -103,18 +109,18 @@ returns-clause-objects g c = λ keeps held exact.
     let objects = c.args.objects.now in
     let extents : Extents = c.args.extents.now in
     let contents : slots.Contents = c.args.contents.now in
+    let below = (contents_of contents).objects in
     let hand : ℕ → ℕ → Option (List ℕ) = at_hand c.in_ok-after.after.records in
     let wanted : FinMap nat_cmp (List ℕ) = objects_with extents contents in
     let of = c.in_ok-after.ensures in
-    let old : pointers_before source ≡ pointers_of source.tree.now = λ k place. same_before source objects.entries c.requires.none (block_count source.geometry) c.requires.old exact place k in
+    let old = same_before source objects.entries c.requires.none (block_count source.geometry) below c.requires.old exact in
     let right : with_records hand wanted ≡ wanted = prepared_exact hand extents contents (of.exact keeps
-    (subst (λ (f : Place → Pointer). HoldsTree (bytes_of (g.B.SectorDevice.disk c.args.reader.now).now) c.args.before.now f (contents_of contents).objects) (sym old) held)) in
-    IfOk_five c.plan.result (λ (p : TreePlan) taken made lengths maps back.
-    holds_planned source objects c.requires.none c.requires.old c.requires.placed p wanted old taken made lengths maps back)
+    (holds_as (bytes_of (g.B.SectorDevice.disk c.args.reader.now).now) c.args.before.now (pointers_of source.tree.now) (pointers_before source) old below held.held)) in
+    IfOk_five c.plan.result (λ (p : TreePlan) taken made lengths entries back. holds_planned source objects c.requires.none below c.requires.old c.requires.placed p wanted old taken made lengths entries back)
     (subst (λ (o : FinMap nat_cmp (List ℕ)). IfOk c.plan.result (TakesBlocks source o objects)) right (moved (λ (o : FinMap nat_cmp (List ℕ)). IfOk c.plan.result (TakesBlocks source o objects)) hand _ _ _ _ of.extents of.contents c.plan.ensures.taken))
     (subst (λ (o : FinMap nat_cmp (List ℕ)). IfOk c.plan.result (GivesTree source o objects)) right (moved (λ (o : FinMap nat_cmp (List ℕ)). IfOk c.plan.result (GivesTree source o objects)) hand _ _ _ _ of.extents of.contents c.plan.ensures.tree))
     (subst (λ (o : FinMap nat_cmp (List ℕ)). IfOk c.plan.result (HasLengths source o objects)) right (moved (λ (o : FinMap nat_cmp (List ℕ)). IfOk c.plan.result (HasLengths source o objects)) hand _ _ _ _ of.extents of.contents c.plan.ensures.lengths))
-    (subst (λ (o : FinMap nat_cmp (List ℕ)). IfOk c.plan.result (HasMaps o objects)) right (moved (λ (o : FinMap nat_cmp (List ℕ)). IfOk c.plan.result (HasMaps o objects)) hand _ _ _ _ of.extents of.contents c.plan.ensures.maps))
+    (subst (λ (o : FinMap nat_cmp (List ℕ)). IfOk c.plan.result (HasEntries o objects)) right (moved (λ (o : FinMap nat_cmp (List ℕ)). IfOk c.plan.result (HasEntries o objects)) hand _ _ _ _ of.extents of.contents c.plan.ensures.entries))
     c.plan.ensures.freed
 
 pub returns-clause-refused : goal.returns-clause-refused
@@ -123,13 +129,6 @@ returns-clause-refused g c = of_want c.plan.result c.plan.ensures.refused
 pub returns-clause-sound : goal.returns-clause-sound
 returns-clause-sound g c = λ keeps held exact. held_want c.plan.result c.plan.ensures.refused
 
--- where the plan is short of blocks, so it is for the changes of all objects, of these old pointers
-module _ (source : PlanSource) (objects : List (ObjectId × ObjectChanges)) (hand : ℕ → ℕ → Option (List ℕ)) (extents : Extents) (contents : slots.Contents) (e : PoolError) where
-  short_of : (full : TellsFull source (with_records hand (objects_with extents contents)) objects e) → IsShortFrom (pointers_before source) objects (objects_with extents contents) source.free.now.free e
-  short_of full no_space within =
-      subst (λ (x : GroupChanges). length (rising source.free.now.free) < length (written_by x))
-      (same_group objects (pointers_before source) (with_records hand (objects_with extents contents)) (objects_with extents contents) (prepared_length hand extents contents)) (full.fewer no_space within)
-
 pub returns-clause-no_space : goal.returns-clause-no_space
 returns-clause-no_space g c =
     let source = c.args.read.now in
@@ -137,17 +136,18 @@ returns-clause-no_space g c =
     let extents : Extents = c.args.extents.now in
     let contents : slots.Contents = c.args.contents.now in
     let hand : ℕ → ℕ → Option (List ℕ) = at_hand c.in_ok-after.after.records in
-    IfErr-weaker c.plan.result _ _ (λ e (full : TellsFull source (with_records hand (objects_with extents contents)) objects e) no_space. (pointers_before source, short_of source objects hand extents contents e full no_space))
+    let wanted : FinMap nat_cmp (List ℕ) = objects_with extents contents in
+    IfErr-weaker c.plan.result _ _ (λ e full no_space. (pointers_before source, short_of source objects (with_records hand wanted) wanted (prepared_length hand extents contents) e full no_space))
     (moved (λ (o : FinMap nat_cmp (List ℕ)). IfErr c.plan.result (TellsFull source o objects)) hand _ _ _ _ c.in_ok-after.ensures.extents c.in_ok-after.ensures.contents c.plan.ensures.full)
 
 pub returns-clause-short : goal.returns-clause-short
 returns-clause-short g c = λ keeps held exact.
     let source = c.args.read.now in
-    let objects = c.args.objects.now in
+    let objects : List (ObjectId × ObjectChanges) = c.args.objects.now.entries in
     let extents : Extents = c.args.extents.now in
     let contents : slots.Contents = c.args.contents.now in
     let hand : ℕ → ℕ → Option (List ℕ) = at_hand c.in_ok-after.after.records in
-    let old : pointers_before source ≡ pointers_of source.tree.now = λ k place. same_before source objects.entries c.requires.none (block_count source.geometry) c.requires.old exact place k in
-    IfErr-weaker c.plan.result _ _ (λ e (full : TellsFull source (with_records hand (objects_with extents contents)) objects.entries e).
-    subst (λ (f : Place → Pointer). IsShortFrom f objects.entries (objects_with extents contents) source.free.now.free e) old (short_of source objects.entries hand extents contents e full))
-    (moved (λ (o : FinMap nat_cmp (List ℕ)). IfErr c.plan.result (TellsFull source o objects.entries)) hand _ _ _ _ c.in_ok-after.ensures.extents c.in_ok-after.ensures.contents c.plan.ensures.full)
+    let wanted : FinMap nat_cmp (List ℕ) = objects_with extents contents in
+    let old = same_before source objects c.requires.none (block_count source.geometry) (contents_of contents).objects c.requires.old exact in
+    IfErr-weaker c.plan.result _ _ (λ e full. short_of_tree source objects (with_records hand wanted) wanted (prepared_length hand extents contents) e full old)
+    (moved (λ (o : FinMap nat_cmp (List ℕ)). IfErr c.plan.result (TellsFull source o objects)) hand _ _ _ _ c.in_ok-after.ensures.extents c.in_ok-after.ensures.contents c.plan.ensures.full)

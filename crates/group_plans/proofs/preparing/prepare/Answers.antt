@@ -9,6 +9,7 @@ use Rattle.tree_plans.specs.declared.changes.ObjectChanges.{ObjectChanges}
 use Rattle.tree_plans.specs.Pointers.{entry_of, pointers_before}
 use Rattle.tree_plans.proofs.Walks.{found_of, next_of}
 use Rattle.group_plans.specs.GroupPlans.{objects_with}
+use Rattle.group_plans.specs.OldMaps.{HasReadMap}
 use Rattle.group_plans.specs.Prepared.{AreExact, at_hand}
 use Rattle.group_plans.proofs.RecordReads.{moved, ready_more}
 use Rattle.group_plans.proofs.preparing.prepare.Goals as goal
@@ -21,7 +22,7 @@ prepare_changed-requires-clause-map g c =
     let rest : List (ObjectId × ObjectChanges) = c.next.new.self in
     let split : all ≡ done ++ (e ∷ rest) = c.loop-id.invariant.split ∙ ap (λ (l : List (ObjectId × ObjectChanges)). done ++ l) c.in-Some.ensures.steps in
     let found : entry_of all e.0.0 ≡ Some e.1 = next_of (λ (x : ObjectId × ObjectChanges). entry_of all x.0.0 ≡ Some x.1) all done rest e split (found_of _ (λ a b. unsigned_tied a.0 b.0) c.args.objects.now c.iter-id-items.ensures.found) in
-    λ low. c.requires.maps e.0.0 low (ap is_some found)
+    λ low. moved (λ i x a. HasReadMap (objects_with x a) c.args.source.now.old_maps.now.entries e.0.0 e.1) [] [] _ _ _ _ refl (sym c.loop-id.invariant.extents) (sym c.loop-id.invariant.contents) (c.requires.maps e.0.0 e.1 low found)
 
 pub loop-id-preserved : goal.loop-id-preserved
 loop-id-preserved g c =

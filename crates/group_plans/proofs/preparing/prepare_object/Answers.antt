@@ -1,15 +1,25 @@
-use Rattle.std.proofs.Common.{◌≡◌, ℕ, inl, inr, ap, arith, sym, ◌∙◌}
+use Rattle.std.proofs.Common.{◌≡◌, ◌<◌, ◌/◌, ◌%◌, ℕ, inl, inr, ap, arith, refl, subst, sym, true, ◌∙◌}
+use Rattle.std.specs.Prelude.{is_some}
 use Rattle.std.proofs.lemmas.Bool.{cases_lt}
+use Rattle.std.proofs.lemmas.Result.{err_from_is_err_and}
+use Rattle.base.specs.declared.record_state.RecordState.TheVariants.{Dirty}
 use Rattle.base.specs.disk.Disk.{bytes_of}
-use Rattle.group_plans.specs.Prepared.{at_hand}
-use Rattle.group_plans.proofs.RecordReads.{exact_moved}
+use Rattle.base.specs.tree.Places.{record_of_strip}
+use Rattle.base.proofs.tree.Strips.{record-back, record-count}
+use Rattle.object_maps.specs.ContentsShown.{contents_of}
+use Rattle.tree_plans.specs.Changes.{state_at}
+use Rattle.group_plans.specs.GroupPlans.{objects_with}
+use Rattle.group_plans.specs.Prepared.{AreExact, HoldsMap, at_hand}
+use Rattle.group_plans.proofs.RecordReads.{moved}
 use Rattle.group_plans.proofs.preparing.prepare_object.Goals as goal
 
-pub loop-index-preserved : goal.loop-index-preserved
-loop-index-preserved g c =
-    let inv = c.loop-index.invariant in
-    let ens = c.in_ok-prepare_dirty.ensures in
-    let index : ℕ = c.loop-index.index in
+pub loop-strip-preserved : goal.loop-strip-preserved
+loop-strip-preserved g c =
+    let inv = c.loop-strip.invariant in
+    let ens = c.in_ok-prepare_written.ensures in
+    let strip : ℕ = c.loop-strip.strip in
+    let one = at_hand c.loop-strip.prepared.records in
+    let two = at_hand c.prepare_written.new.prepared.records in
     record {
       size = ens.reads.size ∙ inv.size;
       disk = λ keeps. ens.reads.disk keeps ∙ inv.disk keeps;
@@ -17,13 +27,28 @@ loop-index-preserved g c =
       extents = ens.extents ∙ inv.extents;
       contents = ens.contents ∙ inv.contents;
       kept = λ m s there. ens.kept m s (inv.kept m s there);
-      ready = λ r below dirty. elim (cases_lt r index) [
-        | inl before ↦ ens.kept c.args.id.0 r (inv.ready r before dirty)
+      ready = λ j k below low dirty. elim (cases_lt j strip) [
+        | inl before ↦ ens.kept c.args.id.0 (record_of_strip j k) (inv.ready j k before low dirty)
         | inr last ↦
-            let same : r ≡ index = omega (arith, below, last) in
-            rw same (ens.ready (c.state-state.ensures ∙ rw same at dirty))
+            let same : j ≡ strip = omega (arith, below, last) in
+            rw same (ens.ready k low (rw same at dirty))
       ];
-      exact = λ keeps holds old. exact_moved c.args.frame.now c.args.id.0 index c.record-pointer.result (at_hand c.loop-index.prepared.records) (at_hand c.prepare_dirty.new.prepared.records)
-          _ _ _ _ _ _ (ap (λ d. bytes_of d.now) (inv.disk keeps)) inv.extents inv.contents (ens.exact keeps)
-          (record { pointers = holds.pointers; tree = holds.tree; is = holds.are index c.loop-index-test.true ∙ sym c.record-pointer.ensures }) (inv.exact keeps holds old);
+      exact = λ keeps holds old. moved
+          (λ i x a. HoldsMap i c.args.frame.now (contents_of a).objects c.args.id.0 c.args.changes.now c.args.map.now → AreExact one (objects_with x a) → AreExact two (objects_with x a))
+          _ _ _ _ _ _ (ap (λ d. bytes_of d.now) (inv.disk keeps)) inv.extents inv.contents (ens.exact keeps) holds (inv.exact keeps holds old);
     }
+
+pub returns-in_err-prepare_written-clause-sound : goal.returns-in_err-prepare_written-clause-sound
+returns-in_err-prepare_written-clause-sound g c = λ keeps holds.
+    let inv = c.loop-strip.invariant in
+    let p = err_from_is_err_and c.from_residual.result c.from_residual.ensures.1 in
+    rw (p.1, p.2) (c.in_err-prepare_written.ensures.sound keeps
+    (moved (λ i x a. HoldsMap i c.args.frame.now (contents_of a).objects c.args.id.0 c.args.changes.now c.args.map.now) _ _ c.args.prepared.now.extents.now c.args.prepared.now.extents.now _ _
+    (ap (λ d. bytes_of d.now) (sym (inv.disk keeps))) refl (sym inv.contents) holds))
+
+-- each record of the object lies in one of its strips
+pub returns-clause-ready : goal.returns-clause-ready
+returns-clause-ready g c = λ r below.
+    let hand = at_hand c.loop-strip.prepared.records c.args.id.0 in
+    let low : r / 84 < c.loop-strip.strip = omega (arith, below, record-count, c.loop-strip-test.false) in
+    subst (λ (i : ℕ). state_at c.args.changes.now i ≡ Dirty → is_some (hand i) ≡ true) (record-back r) (c.loop-strip.invariant.ready (r / 84) (r % 84) low (omega arith))

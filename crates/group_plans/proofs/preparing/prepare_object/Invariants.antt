@@ -2,22 +2,24 @@ use Rattle.std.proofs.Common.{◌≡◌, ℕ, ◌<◌, true}
 use Rattle.std.specs.Prelude.{IsTrue, is_some}
 use Rattle.base.specs.declared.record_state.RecordState.TheVariants.{Dirty}
 use Rattle.base.specs.disk.Disk.{bytes_of}
+use Rattle.base.specs.formats.Limits.{pointer_count}
+use Rattle.base.specs.tree.Places.{record_of_strip}
 use Rattle.object_maps.specs.ContentsShown.{contents_of}
 use Rattle.tree_plans.specs.Changes.{state_at}
 use Rattle.group_plans.specs.GroupPlans.{objects_with}
 use Rattle.group_plans.specs.Prepared.{AreExact, HoldsMap, KeepsHand, at_hand}
 use Rattle.group_plans.proofs.preparing.prepare_object.Given as goal
 
-abbrev pub invariant-loop-index : goal.invariant-loop-index
-invariant-loop-index g l = record {
+abbrev pub invariant-loop-strip : goal.invariant-loop-strip
+invariant-loop-strip g l = record {
   size : g.B.SectorDevice.size l.reader ≡ g.B.SectorDevice.size l.fn.reader;
   disk : IsTrue g.B.SectorDevice.keeps_model → g.B.SectorDevice.disk l.reader ≡ g.B.SectorDevice.disk l.fn.reader;
   count : g.B.SectorDevice.refused l.reader ≡ g.B.SectorDevice.refused l.fn.reader;
   extents : l.prepared.extents.now ≡ l.fn.prepared.extents.now;
   contents : l.prepared.contents.now ≡ l.fn.prepared.contents.now;
   kept : KeepsHand (at_hand l.fn.prepared.records) (at_hand l.prepared.records);
-  ready : (r : ℕ) → r < l.index → state_at l.changes r ≡ Dirty → is_some (at_hand l.prepared.records l.id.0 r) ≡ true;
-  exact : IsTrue g.B.SectorDevice.keeps_model → HoldsMap (bytes_of (g.B.SectorDevice.disk l.fn.reader).now) l.frame (contents_of l.fn.prepared.contents.now).objects l.id.0 l.map
+  ready : (j k : ℕ) → j < l.strip → k < pointer_count → state_at l.changes (record_of_strip j k) ≡ Dirty → is_some (at_hand l.prepared.records l.id.0 (record_of_strip j k)) ≡ true;
+  exact : IsTrue g.B.SectorDevice.keeps_model → HoldsMap (bytes_of (g.B.SectorDevice.disk l.fn.reader).now) l.frame (contents_of l.fn.prepared.contents.now).objects l.id.0 l.changes l.map
       → AreExact (at_hand l.fn.prepared.records) (objects_with l.fn.prepared.extents.now l.fn.prepared.contents.now)
       → AreExact (at_hand l.prepared.records) (objects_with l.fn.prepared.extents.now l.fn.prepared.contents.now);
 }

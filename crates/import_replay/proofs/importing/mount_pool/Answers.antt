@@ -70,7 +70,7 @@ returns-clause-imported g c = λ keeps.
     let read = read_behind_flush old mid size u name tree slots chain flushes (c.in_ok-found.ensures.pool keeps) in
     let still = c.read_pool.ensures.reads.disk keeps in
     let bytes : bytes_of before.now ≡ bytes_of old.now = ap (λ (d : Disk). bytes_of d.now) (c.plan_pool.ensures.reads.disk keeps ∙ still) ∙ flushed old mid flushes in
-    let held = loaded_held size u name tree slots chain pool is.replayed mid _ still (c.in_ok-found.ensures.pool keeps) in
+    let held = loaded_held size u name tree slots chain pool is.replayed c.in_ok-found.ensures.loaded.lengths mid _ still (c.in_ok-found.ensures.pool keeps) in
     ok_weaker c.open_pool.result _ _
     (λ m h. is_import _ size u name tree slots chain pool next is (bytes_of old.now) read (keeps, held) c.args.dirty_max c.args.moment m h.0 c.requires.can.allowed.1 _ before after bytes h.1)
     (ok_both c.open_pool.result _ _ c.open_pool.ensures.mounted (c.open_pool.ensures.written keeps))
@@ -95,7 +95,7 @@ returns-clause-written g c = λ keeps.
     let same_long = g.met.B.SectorDevice.sized keeps c.open_pool.new.device ∙ c.open_pool.ensures.device.size ∙ c.plan_pool.ensures.reads.size ∙ c.read_pool.ensures.reads.size ∙ c.flush.ensures.size ∙ c.requires.can.size in
     let first = subst (λ (b : List ℕ). HasFirstStage b u.guid u.group name even) (flushed old mid flushes) (c.in_ok-found.ensures.first keeps) in
     let still = c.read_pool.ensures.reads.disk keeps in
-    let held = loaded_held size u name tree slots chain pool is.replayed mid _ still (c.in_ok-found.ensures.pool keeps) in
+    let held = loaded_held size u name tree slots chain pool is.replayed c.in_ok-found.ensures.loaded.lengths mid _ still (c.in_ok-found.ensures.pool keeps) in
     ok_written old _ mid _ size u name chain next c.args.dirty_max c.args.moment even c.open_pool.result (c.plan_pool.ensures.reads.disk keeps ∙ still) flushes read.long same_long
     read.pool.active first read.chain_is (prepared_over _ size u name tree slots chain pool next is (bytes_of old.now) read (keeps, held))
     c.open_pool.ensures.mounted (c.open_pool.ensures.written keeps)
@@ -171,11 +171,11 @@ returns-in_err-next-clause-refused g c =
     let replayed = c.in_ok-replayed.ensures.replayed in
     passed_on c.from_residual-in_err-next.result x _ c.from_residual-in_err-next.ensures.1
     (next_refused g.B.SectorDevice.keeps_model c.args.moment old mid new x c.in_ok-flush.ensures.disk refused.kind
-    (λ keeps. refused.sound (keeps, loaded_held size u name tree slots chain pool replayed mid _ (c.read_pool.ensures.reads.disk keeps) (c.in_ok-found.ensures.pool keeps)))
+    (λ keeps. refused.sound (keeps, loaded_held size u name tree slots chain pool replayed c.in_ok-found.ensures.loaded.lengths mid _ (c.read_pool.ensures.reads.disk keeps) (c.in_ok-found.ensures.pool keeps)))
     (λ keeps is.
     let read = read_behind_flush old mid size u name tree slots chain (c.in_ok-flush.ensures.disk keeps) (c.in_ok-found.ensures.pool keeps) in
     lacks_room size u name tree slots chain pool c.in_ok-found.found.named c.in_ok-found.ensures.loaded replayed image read (sym c.if-is_past_last.ensures) (refused.full is)
-    (refused.lacks (keeps, loaded_held size u name tree slots chain pool replayed mid _ (c.read_pool.ensures.reads.disk keeps) (c.in_ok-found.ensures.pool keeps)) is))
+    (refused.lacks (keeps, loaded_held size u name tree slots chain pool replayed c.in_ok-found.ensures.loaded.lengths mid _ (c.read_pool.ensures.reads.disk keeps) (c.in_ok-found.ensures.pool keeps)) is))
     (λ keeps. c.plan_pool.ensures.reads.disk keeps ∙ c.read_pool.ensures.reads.disk keeps))
 
 pub returns-clause-refused : goal.returns-clause-refused
@@ -202,7 +202,7 @@ returns-clause-refused g c =
     let read = read_behind_flush old mid size u name tree slots chain flushes (c.in_ok-found.ensures.pool keeps) in
     let first = subst (λ (b : List ℕ). HasFirstStage b u.guid u.group name even) (flushed old mid flushes) (c.in_ok-found.ensures.first keeps) in
     let still = c.read_pool.ensures.reads.disk keeps in
-    let held = loaded_held size u name tree slots chain pool is.replayed mid _ still (c.in_ok-found.ensures.pool keeps) in
+    let held = loaded_held size u name tree slots chain pool is.replayed c.in_ok-found.ensures.loaded.lengths mid _ still (c.in_ok-found.ensures.pool keeps) in
     stopped_import _ size old mid before new u name slots tree chain pool next c.args.moment even e flushes (c.plan_pool.ensures.reads.disk keeps ∙ still) read first is (keeps, held)
     (sym c.if-is_past_last.ensures) (refused.stopped keeps)))
     c.open_pool.ensures.refused
@@ -242,7 +242,7 @@ returns-clause-own g c = λ keeps.
     let mid = g.B.SectorDevice.disk c.flush.new.self in
     let read = c.in_ok-found.ensures.pool keeps in
     let still = c.read_pool.ensures.reads.disk keeps in
-    own_kept _ size u name c.in_ok-found.found.first tree slots chain pool next is (keeps, loaded_held size u name tree slots chain pool is.replayed mid _ still read) c.args.moment
+    own_kept _ size u name c.in_ok-found.found.first tree slots chain pool next is (keeps, loaded_held size u name tree slots chain pool is.replayed c.in_ok-found.ensures.loaded.lengths mid _ still read) c.args.moment
     (g.B.SectorDevice.disk c.args.device.now) mid _ (g.B.SectorDevice.disk c.open_pool.new.device) (c.in_ok-flush.ensures.disk keeps) read (c.in_ok-found.ensures.first keeps)
     (c.plan_pool.ensures.reads.disk keeps ∙ still) (c.open_pool.ensures.views keeps)
 
@@ -262,7 +262,7 @@ returns-clause-starts g c = λ keeps.
     let read = c.in_ok-found.ensures.pool keeps in
     let still = c.read_pool.ensures.reads.disk keeps in
     ok_weaker c.open_pool.result _ _
-    (λ m h. run_started _ size u name c.in_ok-found.found.first tree slots chain pool next is (keeps, loaded_held size u name tree slots chain pool is.replayed mid _ still read) c.args.moment
+    (λ m h. run_started _ size u name c.in_ok-found.found.first tree slots chain pool next is (keeps, loaded_held size u name tree slots chain pool is.replayed c.in_ok-found.ensures.loaded.lengths mid _ still read) c.args.moment
     (g.B.SectorDevice.disk c.args.device.now) mid _ (g.B.SectorDevice.disk c.open_pool.new.device) (c.in_ok-flush.ensures.disk keeps) read (c.in_ok-found.ensures.first keeps)
     (c.plan_pool.ensures.reads.disk keeps ∙ still) (c.open_pool.ensures.views keeps) c.args.dirty_max m h.0 h.1.0 h.1.1.settled)
     (ok_both c.open_pool.result _ _ c.open_pool.ensures.mounted (ok_both c.open_pool.result _ _ (c.open_pool.ensures.behind keeps) (c.open_pool.ensures.written keeps)))

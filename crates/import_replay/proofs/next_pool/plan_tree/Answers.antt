@@ -5,9 +5,9 @@ use Rattle.base.specs.declared.pointer.Pointer.{Pointer}
 use Rattle.base.specs.disk.Disk.{bytes_of}
 use Rattle.base.specs.formats.Blocks.{Frame}
 use Rattle.base.specs.formats.Uberblocks.{Uberblock}
-use Rattle.base.specs.tree.PlacedTrees.{HoldsTree}
 use Rattle.base.specs.tree.Places.{Place}
 use Rattle.group_plans.specs.GroupPlans.{HoldsGroupObjects, IsShortOfBlocks}
+use Rattle.group_plans.specs.OldMaps.{HoldsTreeOf}
 use Rattle.object_maps.specs.ContentsShown.{contents_of}
 use Rattle.object_maps.specs.Pointers.{pointers_of}
 use Rattle.transactions.specs.declared.record.Record.{Record}
@@ -22,13 +22,13 @@ returns-clause-objects g c = λ held.
     let u : Uberblock = fields_of c.args.uberblock.now in
     let now : List ℕ = bytes_of (g.B.SectorDevice.disk c.args.reader.now).now in
     subst (λ (rs : List Record). IfOk c.plan_group.result (HoldsGroupObjects (next_frame u c.args.geometry) pool.tree rs (objects_replayed pool))) c.deref.ensures.value
-    (c.plan_group.ensures.objects held.0 (subst (λ (f : Frame). HoldsTree now f (pointers_of pool.tree) (contents_of pool.synced).objects) (sym c.frame_of-before.ensures) held.1))
+    (c.plan_group.ensures.objects held.0 (subst (λ (f : Frame). HoldsTreeOf now f pool.tree (contents_of pool.synced).objects) (sym c.frame_of-before.ensures) held.1))
 
 pub returns-clause-sound : goal.returns-clause-sound
 returns-clause-sound g c = λ held.
     let pool : ReplayedPool = c.args.pool.now in
     let now : List ℕ = bytes_of (g.B.SectorDevice.disk c.args.reader.now).now in
-    c.plan_group.ensures.sound held.0 (subst (λ (f : Frame). HoldsTree now f (pointers_of pool.tree) (contents_of pool.synced).objects) (sym c.frame_of-before.ensures) held.1)
+    c.plan_group.ensures.sound held.0 (subst (λ (f : Frame). HoldsTreeOf now f pool.tree (contents_of pool.synced).objects) (sym c.frame_of-before.ensures) held.1)
 
 pub returns-clause-short : goal.returns-clause-short
 returns-clause-short g c = λ held.
@@ -36,7 +36,7 @@ returns-clause-short g c = λ held.
     let now : List ℕ = bytes_of (g.B.SectorDevice.disk c.args.reader.now).now in
     subst (λ (rs : List Record). IfErr c.plan_group.result (λ e. e ≡ NoSpace
     → IsShortOfBlocks (c.args.uberblock.now.group.0 + 4) rs pool.tree.entries.items (pointers_of pool.tree) (objects_replayed pool) (rising pool.spare.free)))
-    c.deref.ensures.value (c.plan_group.ensures.short held.0 (subst (λ (f : Frame). HoldsTree now f (pointers_of pool.tree) (contents_of pool.synced).objects) (sym c.frame_of-before.ensures) held.1))
+    c.deref.ensures.value (c.plan_group.ensures.short held.0 (subst (λ (f : Frame). HoldsTreeOf now f pool.tree (contents_of pool.synced).objects) (sym c.frame_of-before.ensures) held.1))
 
 pub returns-clause-no_space : goal.returns-clause-no_space
 returns-clause-no_space g c =

@@ -46,7 +46,7 @@ returns-clause-mounted g c = λ keeps.
     let loaded = c.in_ok-found.loaded in
     let made = c.in_ok-view.ensures in
     is_view c.in_ok-geometry.geometry (fields_of found.uberblock) found.name loaded.tree loaded.slots.items c.in_ok-found.logged.items c.in_ok-pool.pool c.in_ok-pool.ensures.replayed _ (made.frame ∙ c.frame_of-frame.ensures)
-    (g.D.SectorDevice.disk c.args.device.now) (c.in_ok-found.ensures.pool keeps) made.tree made.synced made.changes
+    (g.D.SectorDevice.disk c.args.device.now) (c.in_ok-found.ensures.pool keeps) c.in_ok-found.ensures.loaded.lengths made.tree made.synced made.changes
 
 pub returns-clause-fits : goal.returns-clause-fits
 returns-clause-fits g c =

@@ -1,4 +1,4 @@
-use Rattle.std.proofs.Common.{◌∙◌, ℕ, List, refl, sym, subst}
+use Rattle.std.proofs.Common.{◌∙◌, ℕ, List, refl, sym, subst, arith}
 use Rattle.std.specs.Ordering.{nat_cmp}
 use Rattle.std.specs.FinMap as finite
 use Rattle.std.specs.FinMap.{FinMap}
@@ -6,6 +6,8 @@ use Rattle.std.proofs.lemmas.Result.{err_from_is_err_and}
 use Rattle.base.specs.disk.Disk.{bytes_of}
 use Rattle.object_maps.specs.Lengths.{HaveLengthsOf}
 use Rattle.object_maps.specs.Pointers.{objects_of}
+use Rattle.space.specs.FreeSets.{HasAllOf}
+use Rattle.object_maps.proofs.FreeBlocks.{marked_new}
 use Rattle.object_maps.proofs.LoadedTrees.{no_pointers, whole_tree}
 use Rattle.object_maps.proofs.WalkParts.{first_damage}
 use Rattle.object_maps.proofs.walk.load.Goals as goal
@@ -18,7 +20,7 @@ pub returns-clause-placed : goal.returns-clause-placed
 returns-clause-placed g c =
     let image : List ℕ = bytes_of (g.D.SectorDevice.disk c.args.device.now).now in
     let made = c.in_ok-objects.ensures in
-    let (objects, stands, tree) = c.in_ok-load_tree.ensures.loaded image (λ keeps. refl) c.args.frame.now.blocks finite.empty (made.objects, made.lengths, (let same = c.blocks-2.ensures in rw (sym same) made.marked)) made.empty in
+    let (objects, stands, marks, tree) = c.in_ok-load_tree.ensures.loaded image (λ keeps. refl) finite.empty (made.objects, made.lengths) made.empty in
     let whole = whole_tree g.D.SectorDevice.keeps_model image c.args.frame.now c.args.root c.load_tree.new.directories c.in_ok-directories.directories.items objects
     c.load_tree.new.objects.entries.entries.items c.in_ok-directories.directories.len (c.load_tree.auto.directories ∙ c.deref_mut.ensures.len) tree (objects_of c.load_tree.new.objects.slots.items) stands.0 in
     let of = c.into_tree-tree.ensures in
@@ -28,17 +30,19 @@ pub returns-clause-free : goal.returns-clause-free
 returns-clause-free g c =
     let image : List ℕ = bytes_of (g.D.SectorDevice.disk c.args.device.now).now in
     let made = c.in_ok-objects.ensures in
-    let (objects, stands, tree) = c.in_ok-load_tree.ensures.loaded image (λ keeps. refl) c.args.frame.now.blocks finite.empty (made.objects, made.lengths, (let same = c.blocks-2.ensures in rw (sym same) made.marked)) made.empty in
+    let (objects, stands, marks, tree) = c.in_ok-load_tree.ensures.loaded image (λ keeps. refl) finite.empty (made.objects, made.lengths) made.empty in
     let whole = whole_tree g.D.SectorDevice.keeps_model image c.args.frame.now c.args.root c.load_tree.new.directories c.in_ok-directories.directories.items objects
     c.load_tree.new.objects.entries.entries.items c.in_ok-directories.directories.len (c.load_tree.auto.directories ∙ c.deref_mut.ensures.len) tree (objects_of c.load_tree.new.objects.slots.items) stands.0 in
     let of = c.into_tree-tree.ensures in
-    of.free c.args.frame.now.blocks stands.2
+    of.free c.args.frame.now.blocks (marks c.args.frame.now.blocks
+    (marked_new c.in_ok-objects.objects.entries.entries.items c.args.frame.now.blocks c.in_ok-free.free (λ n. (made.empty.each n (omega arith)).pointers)
+    (c.in_ok-free.ensures.blocks ∙ c.blocks-2.ensures) (subst (λ (n : ℕ). HasAllOf n c.in_ok-free.free.free) c.blocks-2.ensures c.in_ok-free.ensures.all) c.in_ok-free.ensures.idle))
 
 pub returns-clause-objects : goal.returns-clause-objects
 returns-clause-objects g c =
     let image : List ℕ = bytes_of (g.D.SectorDevice.disk c.args.device.now).now in
     let made = c.in_ok-objects.ensures in
-    let (objects, stands, tree) = c.in_ok-load_tree.ensures.loaded image (λ keeps. refl) c.args.frame.now.blocks finite.empty (made.objects, made.lengths, (let same = c.blocks-2.ensures in rw (sym same) made.marked)) made.empty in
+    let (objects, stands, marks, tree) = c.in_ok-load_tree.ensures.loaded image (λ keeps. refl) finite.empty (made.objects, made.lengths) made.empty in
     let whole = whole_tree g.D.SectorDevice.keeps_model image c.args.frame.now c.args.root c.load_tree.new.directories c.in_ok-directories.directories.items objects
     c.load_tree.new.objects.entries.entries.items c.in_ok-directories.directories.len (c.load_tree.auto.directories ∙ c.deref_mut.ensures.len) tree (objects_of c.load_tree.new.objects.slots.items) stands.0 in
     let of = c.into_tree-tree.ensures in
@@ -48,7 +52,7 @@ pub returns-clause-tree : goal.returns-clause-tree
 returns-clause-tree g c =
     let image : List ℕ = bytes_of (g.D.SectorDevice.disk c.args.device.now).now in
     let made = c.in_ok-objects.ensures in
-    let (objects, stands, tree) = c.in_ok-load_tree.ensures.loaded image (λ keeps. refl) c.args.frame.now.blocks finite.empty (made.objects, made.lengths, (let same = c.blocks-2.ensures in rw (sym same) made.marked)) made.empty in
+    let (objects, stands, marks, tree) = c.in_ok-load_tree.ensures.loaded image (λ keeps. refl) finite.empty (made.objects, made.lengths) made.empty in
     let whole = whole_tree g.D.SectorDevice.keeps_model image c.args.frame.now c.args.root c.load_tree.new.directories c.in_ok-directories.directories.items objects
     c.load_tree.new.objects.entries.entries.items c.in_ok-directories.directories.len (c.load_tree.auto.directories ∙ c.deref_mut.ensures.len) tree (objects_of c.load_tree.new.objects.slots.items) stands.0 in
     let of = c.into_tree-tree.ensures in

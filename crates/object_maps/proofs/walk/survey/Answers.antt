@@ -1,7 +1,9 @@
-use Rattle.std.proofs.Common.{◌∙◌, ℕ, List, refl, sym}
+use Rattle.std.proofs.Common.{◌∙◌, ℕ, List, refl, sym, subst, arith}
 use Rattle.std.specs.FinMap as finite
 use Rattle.std.proofs.lemmas.Result.{err_from_is_err_and}
 use Rattle.base.specs.disk.Disk.{bytes_of}
+use Rattle.space.specs.FreeSets.{HasAllOf}
+use Rattle.object_maps.proofs.FreeBlocks.{marked_new}
 use Rattle.object_maps.proofs.LoadedTrees.{no_pointers, whole_tree}
 use Rattle.object_maps.proofs.WalkParts.{first_damage}
 use Rattle.object_maps.proofs.walk.survey.Goals as goal
@@ -14,7 +16,7 @@ pub returns-clause-placed : goal.returns-clause-placed
 returns-clause-placed g c =
     let image : List ℕ = bytes_of (g.D.SectorDevice.disk c.args.device.now).now in
     let made = c.in_ok-entries.ensures in
-    let (objects, stands, tree) = c.in_ok-load_tree.ensures.loaded image (λ keeps. refl) c.args.frame.now.blocks finite.empty (made.lengths, (let same = c.blocks-2.ensures in rw (sym same) made.marked)) made.empty in
+    let (objects, stands, marks, tree) = c.in_ok-load_tree.ensures.loaded image (λ keeps. refl) finite.empty made.lengths made.empty in
     let whole = whole_tree g.D.SectorDevice.keeps_model image c.args.frame.now c.args.root c.load_tree.new.directories c.in_ok-directories.directories.items objects
     c.load_tree.new.objects.entries.items c.in_ok-directories.directories.len (c.load_tree.auto.directories ∙ c.deref_mut.ensures.len) tree objects refl in
     let of = c.into_tree.ensures in
@@ -24,21 +26,23 @@ pub returns-clause-free : goal.returns-clause-free
 returns-clause-free g c =
     let image : List ℕ = bytes_of (g.D.SectorDevice.disk c.args.device.now).now in
     let made = c.in_ok-entries.ensures in
-    let (objects, stands, tree) = c.in_ok-load_tree.ensures.loaded image (λ keeps. refl) c.args.frame.now.blocks finite.empty (made.lengths, (let same = c.blocks-2.ensures in rw (sym same) made.marked)) made.empty in
+    let (objects, stands, marks, tree) = c.in_ok-load_tree.ensures.loaded image (λ keeps. refl) finite.empty made.lengths made.empty in
     let whole = whole_tree g.D.SectorDevice.keeps_model image c.args.frame.now c.args.root c.load_tree.new.directories c.in_ok-directories.directories.items objects
     c.load_tree.new.objects.entries.items c.in_ok-directories.directories.len (c.load_tree.auto.directories ∙ c.deref_mut.ensures.len) tree objects refl in
     let of = c.into_tree.ensures in
-    of.free c.args.frame.now.blocks stands.1
+    of.free c.args.frame.now.blocks (marks c.args.frame.now.blocks
+    (marked_new c.in_ok-entries.entries.entries.items c.args.frame.now.blocks c.in_ok-free.free (λ n. (made.empty.each n (omega arith)).pointers)
+    (c.in_ok-free.ensures.blocks ∙ c.blocks-2.ensures) (subst (λ (n : ℕ). HasAllOf n c.in_ok-free.free.free) c.blocks-2.ensures c.in_ok-free.ensures.all) c.in_ok-free.ensures.idle))
 
 pub returns-clause-objects : goal.returns-clause-objects
 returns-clause-objects g c =
     let image : List ℕ = bytes_of (g.D.SectorDevice.disk c.args.device.now).now in
     let made = c.in_ok-entries.ensures in
-    let (objects, stands, tree) = c.in_ok-load_tree.ensures.loaded image (λ keeps. refl) c.args.frame.now.blocks finite.empty (made.lengths, (let same = c.blocks-2.ensures in rw (sym same) made.marked)) made.empty in
+    let (objects, stands, marks, tree) = c.in_ok-load_tree.ensures.loaded image (λ keeps. refl) finite.empty made.lengths made.empty in
     let whole = whole_tree g.D.SectorDevice.keeps_model image c.args.frame.now c.args.root c.load_tree.new.directories c.in_ok-directories.directories.items objects
     c.load_tree.new.objects.entries.items c.in_ok-directories.directories.len (c.load_tree.auto.directories ∙ c.deref_mut.ensures.len) tree objects refl in
     let of = c.into_tree.ensures in
-    record { objects = objects; bounded = whole.bounded; lengths = rw of.entries (λ n low. stands.0 n); held = λ keeps. rw (of.root, of.directories, of.entries) (whole.held keeps) }
+    record { objects = objects; bounded = whole.bounded; lengths = rw of.entries (λ n low. stands n); held = λ keeps. rw (of.root, of.directories, of.entries) (whole.held keeps) }
 
 pub returns-in_err-load_tree-clause-damage : goal.returns-in_err-load_tree-clause-damage
 returns-in_err-load_tree-clause-damage g c = λ keeps.

@@ -1,7 +1,7 @@
 use Rattle.std.proofs.Common.{ℕ, ◌+◌, ◌*◌, List, arith, ◌∙◌}
 use Rattle.std.specs.FinMap as finite
-use Rattle.tree_plans.specs.Pointers.{maps_before}
-use Rattle.tree_plans.specs.Walks.{IsEntryWritten, indirect_after}
+use Rattle.tree_plans.specs.Pointers.{entry_pointer_of, planned_pointer}
+use Rattle.tree_plans.specs.Walks.{IsEntryWritten}
 use Rattle.tree_plans.proofs.Entries.{entry_in-zeros, length-zeros, one_entry_more}
 use Rattle.tree_plans.proofs.payload.directory_payload.Goals as goal
 
@@ -15,10 +15,10 @@ loop-index-init g c = record {
 pub loop-index-preserved : goal.loop-index-preserved
 loop-index-preserved g c =
     let objects = g.O.ObjectSource.objects c.args.after.now in
-    let P : ℕ → List ℕ → Type 0 = λ k entry. IsEntryWritten entry (indirect_after (maps_before c.args.source.now) c.args.maps.now.entries (63 * c.args.directory + k)) (finite.get objects (63 * c.args.directory + k)) in
+    let P : ℕ → List ℕ → Type 0 = λ k entry. IsEntryWritten entry (planned_pointer (entry_pointer_of c.args.source.now.tree.now.entries.items) c.args.entries.now.entries (63 * c.args.directory + k)) (finite.get objects (63 * c.args.directory + k)) in
     record {
       size = c.put_object.ensures.size;
       written = one_entry_more P c.loop-index.index c.loop-index.payload _ c.loop-index-test.true c.put_object.ensures.others c.loop-index.invariant.written
-          (rw (← c.length.ensures, ← c.planned_indirect-indirect.ensures) c.put_object.ensures.here);
+          (rw (← c.length.ensures, ← c.planned_pointer-pointer.ensures) c.put_object.ensures.here);
       others = λ k from low. c.put_object.ensures.others k low (λ e. omega arith) ∙ c.loop-index.invariant.others k (omega arith) low;
     }

@@ -4,7 +4,7 @@ use Rattle.std.proofs.lemmas.Result.{IfOk-weaker}
 use Rattle.base.specs.declared.record_state.RecordState.TheVariants.{Dirty, Hole}
 use Rattle.base.specs.formats.Fields.{no_pointer}
 use Rattle.checked_blocks.specs.Sealing.{padded}
-use Rattle.tree_plans.specs.Pointers.{maps_before}
+use Rattle.tree_plans.specs.Pointers.{entry_pointer_of}
 use Rattle.tree_plans.specs.Walks.{AreEntriesWritten}
 use Rattle.tree_plans.proofs.Parts.{cleared, directory_done, state_told, taken}
 use Rattle.tree_plans.proofs.Payloads.{padded-full}
@@ -26,5 +26,5 @@ returns-clause-planned g c =
     let was : c.index.result.now ≡ slice_index_or tree.directories.items c.args.index no_pointer = at_any tree.directories.items c.args.index c.index.result.now no_pointer low c.index.ensures in
     let is = state_told _ _ _ Dirty Dirty (rw (c.if-not-touched.false, c.if-not-has_object_in.false) refl) c.has_object_in.ensures refl in
     let payload = c.directory_payload-payload.result in
-    let fits : AreEntriesWritten (maps_before c.args.source.now) c.args.maps.now.entries (g.O.ObjectSource.objects c.args.after.now) c.args.index 63 (padded payload) = rw (padded-full payload c.directory_payload-payload.ensures.size) c.directory_payload-payload.ensures.entries in
+    let fits : AreEntriesWritten (entry_pointer_of c.args.source.now.tree.now.entries.items) c.args.entries.now.entries (g.O.ObjectSource.objects c.args.after.now) c.args.index 63 (padded payload) = rw (padded-full payload c.directory_payload-payload.ensures.size) c.directory_payload-payload.ensures.entries in
     IfOk-weaker c.place.result _ _ (λ pointer done. directory_done _ _ _ _ _ _ _ _ _ was (taken _ _ _ _ _ _ is fits _ _ _ done)) c.place.ensures.taken

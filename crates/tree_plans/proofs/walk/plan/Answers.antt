@@ -1,4 +1,4 @@
-use Rattle.std.proofs.Common.{◌≡◌, ◌⊎◌, List, ap, refl, map, subst, ◌∙◌}
+use Rattle.std.proofs.Common.{◌≡◌, ◌⊎◌, List, ap, refl, map, subst, ◌∙◌, arith}
 use Rattle.std.specs.Prelude.{All}
 use Rattle.base.specs.formats.Geometry.{IsBlockAddress}
 use Rattle.base.specs.formats.Blocks.{Frame}
@@ -8,12 +8,13 @@ use Rattle.tree_plans.specs.Changes.{AreBornBefore}
 use Rattle.base.specs.declared.pointer.Pointer.{Pointer}
 use Rattle.base.specs.tree.Places.{Place}
 use Rattle.tree_plans.specs.declared.planner.PlannedBlock.{PlannedBlock}
+use Rattle.object_maps.specs.Pointers.{pointers_by}
 use Rattle.tree_plans.specs.declared.planner.Planner.{Planner}
 use Rattle.base.specs.formats.Fields.{no_pointer}
 use Rattle.tree_plans.specs.Parts.{group_in}
 use Rattle.tree_plans.specs.Plans.{new_block, progress_of}
-use Rattle.tree_plans.specs.Pointers.{old_pointers, old_tree, planned_map, pointers_from}
-use Rattle.tree_plans.proofs.Planned.{all_freed, freed_in_area, length_planned, map_made, not_touched, root_cases, taken_lowest, tree_placed, tree_planned}
+use Rattle.tree_plans.specs.Pointers.{old_pointers, old_tree, planned_map}
+use Rattle.tree_plans.proofs.Planned.{all_freed, freed_in_area, length_planned, entry_made, not_touched, root_cases, taken_lowest, tree_placed, tree_planned}
 use Rattle.tree_plans.proofs.Uses.{all_whole}
 use Rattle.tree_plans.proofs.Order.{planned_in_order}
 use Rattle.tree_plans.proofs.Room.{handed_on, plan_lacks}
@@ -38,14 +39,14 @@ returns-clause-tree g c =
     let objects = c.args.objects.now.entries in
     let tree = c.in_ok-tree.tree in
     let told = c.in_ok-tree.ensures.planned in
-    let new : Place → Pointer = pointers_from tree.root tree.directories.items (planned_map t.maps tree.maps.entries) in
-    let cases = root_cases s t after objects tree.maps.entries tree.directories.items tree.root told.walked in
+    let new : Place → Pointer = pointers_by tree.root tree.directories.items (planned_map t.maps tree.entries.entries) in
+    let cases = root_cases s t after objects tree.entries.entries tree.directories.items tree.root told.walked in
     record {
       planned = λ before covered changes whole.
           subst (λ (f : Frame). IsTreePlan s.blocks f (old_pointers t) new before after) told.goes.frame
-          (tree_planned s t after objects tree.maps.entries tree.directories.items tree.root told.walked before covered changes whole);
+          (tree_planned s t after objects tree.entries.entries tree.directories.items tree.root told.walked (omega arith) before covered changes whole);
       placed = subst (λ (f : Frame). ArePlaced f.blocks (old_pointers t) → ArePlaced f.blocks new) told.goes.frame
-          (tree_placed s t after objects tree.maps.entries tree.directories.items tree.root told.walked);
+          (tree_placed s t after objects tree.entries.entries tree.directories.items tree.root told.walked);
       used = told.used;
       kept_root = cases.0;
       new_root = λ any. subst (λ (f : Frame). (tree.root.birth ≡ f.group) ⊎ (tree.root ≡ no_pointer)) told.goes.frame (cases.1 any);
@@ -54,10 +55,10 @@ returns-clause-tree g c =
 pub returns-clause-lengths : goal.returns-clause-lengths
 returns-clause-lengths g c =
     length_planned (progress_of c.place_tree.new.planner) (old_tree c.args.source.now) (g.O.ObjectSource.objects c.args.after.now) c.args.objects.now.entries
-    c.in_ok-tree.tree.maps.entries c.in_ok-tree.tree.directories.items c.in_ok-tree.tree.root c.in_ok-tree.ensures.planned.walked
+    c.in_ok-tree.tree.entries.entries c.in_ok-tree.tree.directories.items c.in_ok-tree.tree.root c.in_ok-tree.ensures.planned.walked
 
-pub returns-clause-maps : goal.returns-clause-maps
-returns-clause-maps g c =
+pub returns-clause-entries : goal.returns-clause-entries
+returns-clause-entries g c =
     let s = progress_of c.place_tree.new.planner in
     let t = old_tree c.args.source.now in
     let after = (g.O.ObjectSource.objects c.args.after.now) in
@@ -65,8 +66,8 @@ returns-clause-maps g c =
     let tree = c.in_ok-tree.tree in
     let told = c.in_ok-tree.ensures.planned in
     record {
-      each = map_made s t after objects tree.maps.entries tree.directories.items tree.root told.walked;
-      all = not_touched s t after objects tree.maps.entries tree.directories.items tree.root told.walked;
+      each = entry_made s t after objects tree.entries.entries tree.directories.items tree.root told.walked;
+      all = not_touched s t after objects tree.entries.entries tree.directories.items tree.root told.walked;
     }
 
 pub returns-clause-freed : goal.returns-clause-freed
@@ -77,12 +78,12 @@ returns-clause-freed g c =
     let objects = c.args.objects.now.entries in
     let tree = c.in_ok-tree.tree in
     let told = c.in_ok-tree.ensures.planned in
-    let new : Place → Pointer = pointers_from tree.root tree.directories.items (planned_map t.maps tree.maps.entries) in
+    let new : Place → Pointer = pointers_by tree.root tree.directories.items (planned_map t.maps tree.entries.entries) in
     record {
       returned = subst (λ (f : Frame). ArePlaced f.blocks (old_pointers t) → All (λ address. IsBlockAddress f.blocks address) s.freed) told.goes.frame
-          (freed_in_area s t after objects tree.maps.entries tree.directories.items tree.root told.walked);
+          (freed_in_area s t after objects tree.entries.entries tree.directories.items tree.root told.walked);
       freed = subst (λ (f : Frame). AreBornBefore f.group (old_pointers t) → AreFreed (old_pointers t) new s.freed) told.goes.frame
-          (all_freed s t after objects tree.maps.entries tree.directories.items tree.root told.walked);
+          (all_freed s t after objects tree.entries.entries tree.directories.items tree.root told.walked);
       once = told.once;
     }
 

@@ -2,10 +2,14 @@ use Rattle.std.proofs.Common.{ℕ, List, inl, refl, ◌∙◌, arith}
 use Rattle.std.specs.Ordering.{nat_cmp}
 use Rattle.std.specs.FinMap as finite
 use Rattle.std.specs.FinMap.{FinMap}
+use Rattle.base.proofs.tree.Strips.{record-count}
 use Rattle.extents.specs.Patches.{laid_over}
 use Rattle.extents.specs.Unsynced.{changes_at}
 use Rattle.extents.proofs.SmallObjects.{laid-made, made-hides, made-there}
 use Rattle.extents.proofs.clients.reads.a_byte_of_the_newest_group_is_laid_on.Goals as goal
+
+pub lay_on-requires-clause-index : goal.lay_on-requires-clause-index
+lay_on-requires-clause-index c = omega (arith, record-count)
 
 pub returns : goal.returns
 returns c =

@@ -2,9 +2,13 @@ use Rattle.std.proofs.Common.{ℕ, List, inl, refl, ◌∙◌, arith}
 use Rattle.std.specs.Ordering.{nat_cmp}
 use Rattle.std.specs.FinMap as finite
 use Rattle.std.specs.FinMap.{FinMap}
+use Rattle.base.proofs.tree.Strips.{record-count}
 use Rattle.extents.specs.Tables.{patches_of}
 use Rattle.extents.proofs.SmallObjects.{laid-made, made-hides, made-there}
 use Rattle.extents.proofs.clients.reads.a_written_byte_is_laid_on.Goals as goal
+
+pub lay_on-requires-clause-index : goal.lay_on-requires-clause-index
+lay_on-requires-clause-index c = omega (arith, record-count)
 
 pub returns : goal.returns
 returns c =

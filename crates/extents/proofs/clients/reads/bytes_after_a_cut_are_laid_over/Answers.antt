@@ -1,11 +1,15 @@
 use Rattle.std.proofs.Common.{◌≡◌, ℕ, ◌+◌, ◌*◌, List, [], ◌∷◌, length, get_or, Option, Some, refl, ap, ◌∙◌, arith}
 use Rattle.std.specs.Prelude.{unwrap_or}
+use Rattle.base.proofs.tree.Strips.{record-count}
 use Rattle.extents.specs.Tables.{patches_of}
 use Rattle.extents.proofs.SmallObjects.{cut-three}
 use Rattle.extents.proofs.clients.reads.bytes_after_a_cut_are_laid_over.Goals as goal
 
 abbrev three : List ℕ
 three = 1 ∷ 2 ∷ 3 ∷ []
+
+pub lay_over-requires-clause-index : goal.lay_over-requires-clause-index
+lay_over-requires-clause-index c = omega (arith, record-count)
 
 pub returns-clause-first : goal.returns-clause-first
 returns-clause-first c =

@@ -1,4 +1,4 @@
-use Rattle.std.proofs.Common.{◌≡◌, ◌∙◌, ℕ, List, [], length, Option, Some, None, ap, sym, refl}
+use Rattle.std.proofs.Common.{◌≡◌, ◌∙◌, ℕ, List, [], length, Option, Some, None, ap, sym}
 use Rattle.std.specs.Prelude.{option_map, unwrap_or}
 use Rattle.object_maps.specs.ContentsShown.{object_of}
 use Rattle.extents.specs.Objects.{patch_of}

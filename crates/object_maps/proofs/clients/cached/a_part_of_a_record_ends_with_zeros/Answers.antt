@@ -1,6 +1,7 @@
 use Rattle.std.proofs.Common.{ℕ, List, [], ◌∷◌, refl, arith}
 use Rattle.std.specs.Prelude.{Result, Ok, Err, OnOk}
 use Rattle.base.specs.declared.error.PoolError.{PoolError}
+use Rattle.base.proofs.tree.Strips.{first-low}
 use Rattle.object_maps.proofs.clients.cached.a_part_of_a_record_ends_with_zeros.Goals as goal
 
 then : {P Q : Type 0} (answer : Result (Unit {0}) PoolError) → (P → Q) → OnOk answer P → OnOk answer Q
@@ -21,3 +22,6 @@ returns-clause-after g c = then c.read_part.result (λ each. each 2 (omega (arit
 
 pub returns-clause-refused : goal.returns-clause-refused
 returns-clause-refused g c = c.read_part.ensures.sound c.requires.keeps three refl c.requires.record
+
+pub read_part-requires-clause-number : goal.read_part-requires-clause-number
+read_part-requires-clause-number g c = first-low 7 (omega arith)

@@ -1,4 +1,4 @@
-use Rattle.std.proofs.Common.{List, subst}
+use Rattle.std.proofs.Common.{◌∙◌, List, sym, subst}
 use Rattle.std.specs.List.{list_any}
 use Rattle.base.specs.declared.pointer.Pointer.{Pointer}
 use Rattle.object_maps.specs.FreeBlocks.{BlocksTaken, names_block}
@@ -7,6 +7,5 @@ use Rattle.object_maps.proofs.objects.Entries.into_tree.Goals as goal
 
 pub returns-clause-free : goal.returns-clause-free
 returns-clause-free c = λ blocks marked.
-    let left = tree_left c.args.root c.args.directories.items c.args.self.entries.items blocks c.args.self.free c.take_block.new.free c.take_blocks.new.free marked c.take_block.ensures
-    (subst (λ (l : List Pointer). BlocksTaken (λ k. list_any (names_block k) l) c.take_block.new.free c.take_blocks.new.free) c.deref.ensures.value c.take_blocks.ensures) in
-    record { sized = left.sized; placed = left.placed; idle = left.idle; each = left.each }
+    tree_left c.args.root c.args.directories.items c.args.self.entries.items (sym c.args.directories.ok.0 ∙ c.requires) blocks c.args.free c.take_block.new.free c.take_blocks.new.free marked c.take_block.ensures
+    (subst (λ (l : List Pointer). BlocksTaken (λ k. list_any (names_block k) l) c.take_block.new.free c.take_blocks.new.free) c.deref.ensures.value c.take_blocks.ensures)

@@ -1,8 +1,9 @@
-use Rattle.std.proofs.Common.{◌≡◌, ◌+◌, ◌*◌, List, ℕ}
+use Rattle.std.proofs.Common.{◌≡◌, List, ℕ}
 use Rattle.std.specs.Prelude.{IsTrue}
 use Rattle.base.specs.declared.pointer.Pointer.{Pointer}
 use Rattle.base.specs.disk.Disk.{bytes_of}
 use Rattle.object_maps.specs.DamageLists.{AddsDamages, HasDirectories}
+use Rattle.object_maps.specs.Walking.{directory_index}
 use Rattle.object_maps.proofs.walk.Loader.list_directories.Given as goal
 
 -- the device is as it was, and the damages of so many directories are listed
@@ -13,5 +14,5 @@ invariant-loop-index g l = record {
   count : g.D.SectorDevice.refused l.device ≡ g.D.SectorDevice.refused l.fn.device;
   listed : IsTrue g.D.SectorDevice.keeps_model → (image : List ℕ) (top : Pointer) → bytes_of (g.D.SectorDevice.disk l.fn.device).now ≡ image
       → HasDirectories image top l.payload
-      → AddsDamages image l.self.frame.now top 1 (1 + 5356 * l.index) l.fn.damages.items l.damages.items;
+      → AddsDamages image l.self.frame.now top 1 (directory_index l.index) l.fn.damages.items l.damages.items;
 }

@@ -1,11 +1,13 @@
-use Rattle.std.proofs.Common.{◌+◌, ◌*◌, ◌∙◌, ℕ, List, ap, sym, subst, refl, arith}
+use Rattle.std.proofs.Common.{◌+◌, ◌≤◌, ◌∙◌, ℕ, List, ap, sym, subst, refl, arith}
 use Rattle.std.proofs.lemmas.Result.{on_ok_weaker}
 use Rattle.base.specs.disk.Disk.{Disk, bytes_of}
 use Rattle.base.specs.tree.Places.Place.{Directory}
 use Rattle.base.specs.tree.Tree.{OpensAt}
+use Rattle.object_maps.specs.Walking.{directory_index, objects_index}
 use Rattle.object_maps.proofs.WalkOrder.{sound_one}
 use Rattle.object_maps.proofs.WalkDamages.{sound_at}
-use Rattle.object_maps.proofs.DamageLists.{damages_more, formless_added, missing_added, no_damages}
+use Rattle.object_maps.proofs.DamageLists.{formless_added, missing_added, sound_before}
+use Rattle.object_maps.proofs.WalkParts.{objects_begin}
 use Rattle.object_maps.proofs.walk.Loader.list_directory.Goals as goal
 
 pub returns-in-Err-clause-listed : goal.returns-in-Err-clause-listed
@@ -35,8 +37,8 @@ returns-clause-listed g c = λ keeps image top shows at named.
     (c.in_default.ensures.opens image (λ k. shows) keeps) in
     let here = sound_at image frame top (Directory d) c.args.pointer.now payload at opens (c.if-not-are_entries.ensures.0 refl) in
     on_ok_weaker c.list_entries.result
-    (damages_more image frame top (1 + 5356 * d) (2 + 5356 * d) (1 + 5356 * (d + 1)) c.args.damages.now.items c.args.damages.now.items c.list_entries.new.damages.items
-    (no_damages image frame top (1 + 5356 * d) (2 + 5356 * d) c.args.damages.now.items (omega arith)
-    (sound_one image frame top (Directory d) (1 + 5356 * d) (2 + 5356 * d) c.requires.in_range refl (omega arith) here)))
+    (sound_before image frame top (directory_index d) (objects_index d) (directory_index (d + 1)) c.args.damages.now.items c.list_entries.new.damages.items
+    (subst (λ (i : ℕ). directory_index d ≤ i) (sym (objects_begin d)) (omega arith))
+    (sound_one image frame top (Directory d) (directory_index d) (objects_index d) c.requires.in_range refl (objects_begin d) here))
     (c.list_entries.ensures.listed keeps image top (ap (λ (disk : Disk). bytes_of disk.now) (c.in_default.ensures.reads.disk keeps) ∙ shows)
     (record { pointer = c.args.pointer.now; at = at; opens = opens }))

@@ -3,7 +3,7 @@ use Rattle.std.specs.Prelude.{IsTrue}
 use Rattle.base.specs.declared.pointer.Pointer.{Pointer}
 use Rattle.base.specs.disk.Disk.{bytes_of}
 use Rattle.object_maps.specs.DamageLists.{AddsDamages}
-use Rattle.object_maps.specs.Walking.{IsPayloadOf}
+use Rattle.object_maps.specs.Walking.{IsPayloadOf, objects_index}
 use Rattle.object_maps.proofs.walk.Loader.list_entries.Given as goal
 
 -- the device is as it was, and the damages of so many objects are listed
@@ -14,5 +14,5 @@ invariant-loop-index g l = record {
   count : g.D.SectorDevice.refused l.device ≡ g.D.SectorDevice.refused l.fn.device;
   listed : IsTrue g.D.SectorDevice.keeps_model → (image : List ℕ) (top : Pointer) → bytes_of (g.D.SectorDevice.disk l.fn.device).now ≡ image
       → IsPayloadOf image l.self.frame.now top l.directory l.payload
-      → AddsDamages image l.self.frame.now top (2 + 5356 * l.directory) (2 + 5356 * l.directory + 85 * l.index) l.fn.damages.items l.damages.items;
+      → AddsDamages image l.self.frame.now top (objects_index l.directory) (objects_index l.directory + 7141 * l.index) l.fn.damages.items l.damages.items;
 }

@@ -1,9 +1,11 @@
-use Rattle.std.proofs.Common.{◌+◌, ◌∙◌, ℕ, ap, sym, refl, arith, inl}
+use Rattle.std.proofs.Common.{◌≡◌, ◌+◌, ◌∙◌, ℕ, ap, sym, subst, refl, arith, inl}
 use Rattle.base.specs.disk.Disk.{Disk, bytes_of}
 use Rattle.base.specs.tree.Places.{walk_index_of_indirect}
 use Rattle.base.specs.tree.Places.Place.{Data}
+use Rattle.object_maps.specs.DamageLists.{AddsDamages}
 use Rattle.object_maps.proofs.WalkOrder.{sound_one}
-use Rattle.object_maps.proofs.DamageLists.{damages_then, data_in, no_damages}
+use Rattle.object_maps.proofs.DamageLists.{damages_then, no_damages}
+use Rattle.object_maps.proofs.WalkParts.{data_in}
 use Rattle.object_maps.proofs.walk.Loader.list_records.Goals as goal
 
 pub loop-index-preserved-then-is_none : goal.loop-index-preserved-then-is_none
@@ -38,3 +40,11 @@ loop-index-preserved g c =
           (data_in image top c.args.number c.loop-index.index c.args.size c.args.payload.now c.read_pointer-pointer.result c.loop-index-test.true all c.read_pointer-pointer.ensures
           (λ none. let no = c.if-is_none.ensures.1 none in cc)));
     }
+
+pub returns-clause-listed : goal.returns-clause-listed
+returns-clause-listed g c = λ keeps image top shows all.
+    let w : ℕ = walk_index_of_indirect c.args.number in
+    let e : c.loop-index.index ≡ 84 = omega (arith, c.loop-index.auto.index-end, c.loop-index-test.false) in
+    let last : w + 1 + 84 ≡ w + 85 = omega arith in
+    subst (λ (k : ℕ). AddsDamages image c.args.self.now.frame.now top (w + 1) k c.args.damages.now.items c.loop-index.damages.items) last
+    (subst (λ (k : ℕ). AddsDamages image c.args.self.now.frame.now top (w + 1) (w + 1 + k) c.args.damages.now.items c.loop-index.damages.items) e (c.loop-index.invariant.listed keeps image top shows all))

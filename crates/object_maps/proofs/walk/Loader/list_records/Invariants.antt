@@ -3,7 +3,8 @@ use Rattle.std.specs.Prelude.{IsTrue}
 use Rattle.base.specs.declared.pointer.Pointer.{Pointer}
 use Rattle.base.specs.disk.Disk.{bytes_of}
 use Rattle.base.specs.tree.Places.{walk_index_of_indirect}
-use Rattle.object_maps.specs.DamageLists.{AddsDamages, HasDataOf}
+use Rattle.object_maps.specs.DamageLists.{AddsDamages}
+use Rattle.object_maps.specs.Walking.{AreDataOf}
 use Rattle.object_maps.proofs.walk.Loader.list_records.Given as goal
 
 -- the device is as it was, and the damages of so many records are listed
@@ -13,6 +14,6 @@ invariant-loop-index g l = record {
   disk : IsTrue g.D.SectorDevice.keeps_model → g.D.SectorDevice.disk l.device ≡ g.D.SectorDevice.disk l.fn.device;
   count : g.D.SectorDevice.refused l.device ≡ g.D.SectorDevice.refused l.fn.device;
   listed : IsTrue g.D.SectorDevice.keeps_model → (image : List ℕ) (top : Pointer) → bytes_of (g.D.SectorDevice.disk l.fn.device).now ≡ image
-      → HasDataOf image top l.number l.size l.payload
+      → AreDataOf image top l.number l.payload l.size
       → AddsDamages image l.self.frame.now top (walk_index_of_indirect l.number + 1) (walk_index_of_indirect l.number + 1 + l.index) l.fn.damages.items l.damages.items;
 }

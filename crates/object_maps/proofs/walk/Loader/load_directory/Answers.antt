@@ -4,6 +4,7 @@ use Rattle.std.proofs.lemmas.Result.{MatchResult-weaker, on_ok_weaker, err_from_
 use Rattle.base.specs.disk.Disk.{Disk, bytes_of}
 use Rattle.base.specs.tree.Places.Place.{Directory}
 use Rattle.base.specs.tree.Tree.{OpensAt}
+use Rattle.object_maps.specs.Walking.{directory_index}
 use Rattle.object_maps.proofs.LoadedBlocks.{still_shows}
 use Rattle.object_maps.proofs.LoadedEntries.{directory_loaded}
 use Rattle.object_maps.proofs.WalkDamages.{sound_at, missing_damage, formless_damage}
@@ -21,15 +22,15 @@ returns-clause-loaded g c = λ image shows.
     let old_maps = g.S.ObjectSink.entries c.args.objects.now in
     let maps = g.S.ObjectSink.entries c.load_entries.new.objects in
     on_ok_weaker c.load_entries.result
-    (λ loads blocks before stood empty.
-    let (after, stands, all) = loads blocks before stood empty in
-    (after, stands, directory_loaded keeps_model image frame c.args.directory c.args.pointer.now c.payload_of-payload.result.now before after old_maps maps read.placed opens all))
+    (λ loads before stood empty.
+    let (after, stands, marks, all) = loads before stood empty in
+    (after, stands, marks, directory_loaded keeps_model image frame c.args.directory c.args.pointer.now c.payload_of-payload.result.now before after old_maps maps read.placed opens all))
     (c.load_entries.ensures.loaded image same)
 
 pub returns-in_err-read_block-clause-walked : goal.returns-in_err-read_block-clause-walked
 returns-in_err-read_block-clause-walked g c = λ keeps image top shows at named.
     let p = err_from_is_err_and c.from_residual.result c.from_residual.ensures.1 in
-    rw (p.1, p.2) (missing_damage image c.args.self.now.frame.now top (Directory c.args.directory) (1 + 5356 * c.args.directory) c.args.pointer.now
+    rw (p.1, p.2) (missing_damage image c.args.self.now.frame.now top (Directory c.args.directory) (directory_index c.args.directory) c.args.pointer.now
     c.in_err-read_block.field-0.0 c.requires.in_range refl at named (c.in_err-read_block.ensures.refused keeps image shows))
 
 pub returns-then-not-are_entries-clause-walked : goal.returns-then-not-are_entries-clause-walked
@@ -37,7 +38,7 @@ returns-then-not-are_entries-clause-walked g c = λ keeps image top shows at nam
     let frame = c.args.self.now.frame.now in
     let opens = subst (λ (l : List ℕ). OpensAt image frame (Directory c.args.directory) c.args.pointer.now l) (sym c.payload_of-payload.ensures.payload)
     (c.in_ok-read_block.ensures.opens image (λ k. shows) keeps) in
-    formless_damage image frame top (Directory c.args.directory) (1 + 5356 * c.args.directory) c.args.pointer.now c.payload_of-payload.result.now c.damaged.result c.requires.in_range refl at named
+    formless_damage image frame top (Directory c.args.directory) (directory_index c.args.directory) c.args.pointer.now c.payload_of-payload.result.now c.damaged.result c.requires.in_range refl at named
     opens (λ formed. let no = c.if-not-are_entries.ensures.1 formed in cc) c.damaged.ensures
 
 pub returns-clause-walked : goal.returns-clause-walked

@@ -2,7 +2,7 @@ use Rattle.std.proofs.Common.{◌≡◌, ◌+◌, ◌*◌, List, ℕ}
 use Rattle.std.specs.Prelude.{IsTrue}
 use Rattle.base.specs.declared.pointer.Pointer.{Pointer}
 use Rattle.base.specs.disk.Disk.{bytes_of}
-use Rattle.object_maps.specs.Walking.{AreSound, IsPayloadOf}
+use Rattle.object_maps.specs.Walking.{AreSound, IsPayloadOf, objects_index}
 use Rattle.object_maps.specs.Loaders.{LoadsFrom}
 use Rattle.object_maps.specs.Loading.{Shows, AreLoadedEntries}
 use Rattle.object_maps.proofs.walk.Loader.load_entries.Given as goal
@@ -15,8 +15,8 @@ invariant-loop-index g l = record {
   count : g.D.SectorDevice.refused l.device ≡ g.D.SectorDevice.refused l.fn.device;
   sound : IsTrue g.D.SectorDevice.keeps_model → (image : List ℕ) (top : Pointer) → bytes_of (g.D.SectorDevice.disk l.fn.device).now ≡ image
       → IsPayloadOf image l.self.frame.now top l.directory l.payload
-      → AreSound image l.self.frame.now top (2 + 5356 * l.directory) (2 + 5356 * l.directory + 85 * l.index);
+      → AreSound image l.self.frame.now top (objects_index l.directory) (objects_index l.directory + 7141 * l.index);
   loaded : (image : List ℕ) → Shows g.D.SectorDevice.keeps_model (g.D.SectorDevice.disk l.fn.device) image
-      → LoadsFrom (63 * l.directory) g.S.ObjectSink.stands_for g.S.ObjectSink.entries l.fn.objects l.objects
+      → LoadsFrom (63 * l.directory) g.S.ObjectSink.stands_for g.S.ObjectSink.entries l.fn.objects l.objects l.fn.free l.free
       (AreLoadedEntries g.D.SectorDevice.keeps_model image l.self.frame.now l.directory l.payload l.index);
 }

@@ -12,9 +12,10 @@ use Rattle.object_maps.proofs.WalkParts.{tells_behind, told_by, root_sound, root
 use Rattle.object_maps.proofs.walk.Loader.load_tree.Goals as goal
 
 pub returns-then-is_none-clause-loaded : goal.returns-then-is_none-clause-loaded
-returns-then-is_none-clause-loaded g c = λ image shows blocks before stood empty. (
+returns-then-is_none-clause-loaded g c = λ image shows before stood empty. (
   before,
   stood,
+  (λ blocks marked. marked),
   no_tree g.D.SectorDevice.keeps_model image c.args.self.now.frame.now c.args.root.now c.args.directories.now before (g.S.ObjectSink.entries c.args.objects.now)
       (c.if-is_none.ensures.0 refl) c.requires.no_directories empty,
 )
@@ -28,10 +29,11 @@ returns-clause-loaded g c = λ image shows.
     let opens = λ (keeps : IsTrue keeps_model). subst (λ (l : List ℕ). OpensAt image frame Root c.args.root.now l) (sym c.payload_of-payload.ensures.payload)
     (read.opens image shows keeps) in
     on_ok_weaker c.load_directories.result
-    (λ loads blocks before stood empty.
-    let (after, stands, all) = loads blocks before stood empty in (
+    (λ loads before stood empty.
+    let (after, stands, marks, all) = loads before stood empty in (
       after,
       stands,
+      marks,
       tree_loaded keeps_model image frame c.args.root.now c.read_pointers.new.pointers c.payload_of-payload.result.now after
           (g.S.ObjectSink.entries c.load_directories.new.objects) read.placed opens c.read_pointers.ensures all,
     ))

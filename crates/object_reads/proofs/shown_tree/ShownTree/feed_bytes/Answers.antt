@@ -1,6 +1,7 @@
 use Rattle.std.proofs.Common.{rules, ◌≡◌, ◌+◌, ◌-◌, ◌*◌, ◌∙◌, List, ℕ, length, take, ap, arith}
 use Rattle.std.specs.Prelude.{min}
 use Rattle.std.proofs.lemmas.Result.{err_from_is_err_and}
+use Rattle.base.proofs.tree.Strips.{record-count}
 use Rattle.object_maps.specs.Sources.{object_bytes}
 use Rattle.object_maps.proofs.Records.{records_more, whole_record_read}
 use Rattle.object_reads.specs.ShownTrees.{shown_objects}
@@ -8,9 +9,12 @@ use Rattle.object_reads.proofs.Feeds.{feeds_both}
 use Rattle.object_reads.proofs.SyncedObjects.{stands_still, stood_before}
 use Rattle.object_reads.proofs.shown_tree.ShownTree.feed_bytes.Goals as goal
 
-pub read_part-requires-clause-block : goal.read_part-requires-clause-block
-read_part-requires-clause-block g c = λ stands.
-    c.loop-index.invariant.block (stood_before g.B.SectorDevice c.args.self.now c.args.reader.now c.loop-index.reader c.loop-index.invariant.disk stands)
+pub read_part-requires-clause-index : goal.read_part-requires-clause-index
+read_part-requires-clause-index g c = omega (arith, c.requires.within, c.div_ceil-index-end.ensures, c.loop-index-test.true, record-count)
+
+pub read_part-requires-clause-blocks : goal.read_part-requires-clause-blocks
+read_part-requires-clause-blocks g c = λ stands.
+    c.loop-index.invariant.blocks (stood_before g.B.SectorDevice c.args.self.now c.args.reader.now c.loop-index.reader c.loop-index.invariant.disk stands)
 
 pub returns-in_err-read_part-clause-sound : goal.returns-in_err-read_part-clause-sound
 returns-in_err-read_part-clause-sound g c = λ stands.
@@ -29,7 +33,7 @@ loop-index-preserved g c =
       device = c.in_ok-read_part.ensures.reads.size ∙ so_far.device;
       disk = λ keeps. c.in_ok-read_part.ensures.reads.disk keeps ∙ so_far.disk keeps;
       counted = c.in_ok-read_part.ensures.reads.count ∙ so_far.counted;
-      block = λ stands. c.in_ok-read_part.ensures.block (still stands);
+      blocks = λ stands. c.in_ok-read_part.ensures.blocks (still stands);
       fed = λ stands. feeds_both (take (4032 * i) object) (take c.min-count.result c.read_part.new.into) (take (4032 * (i + 1)) object)
           c.args.hasher.now c.loop-index.hasher c.update.new.self (so_far.fed stands) c.update.ensures
           (records_more object c.read_part.new.into i c.min-count.result count (whole_record_read object c.read_part.new.into i long (c.in_ok-read_part.ensures.exact (still stands))));

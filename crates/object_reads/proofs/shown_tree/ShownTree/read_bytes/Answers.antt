@@ -1,14 +1,18 @@
 use Rattle.std.proofs.Common.{rules, ◌≡◌, ◌+◌, ◌*◌, ◌/◌, ◌%◌, ◌∙◌, length, arith}
 use Rattle.std.proofs.lemmas.Result.{err_from_is_err_and}
+use Rattle.base.proofs.tree.Strips.{record-count}
 use Rattle.object_maps.specs.Sources.{object_bytes}
 use Rattle.object_reads.specs.ShownTrees.{shown_objects}
 use Rattle.object_reads.proofs.ReadParts.{part_read, read_more}
 use Rattle.object_reads.proofs.SyncedObjects.{stands_still, stood_before}
 use Rattle.object_reads.proofs.shown_tree.ShownTree.read_bytes.Goals as goal
 
-pub read_part-requires-clause-block : goal.read_part-requires-clause-block
-read_part-requires-clause-block g c = λ stands.
-    c.loop-done.invariant.block (stood_before g.B.SectorDevice c.args.self.now c.args.reader.now c.loop-done.reader c.loop-done.invariant.disk stands)
+pub read_part-requires-clause-index : goal.read_part-requires-clause-index
+read_part-requires-clause-index g c = omega (arith, c.requires.within, c.loop-done-test.true, c.loop-done.invariant.size, record-count)
+
+pub read_part-requires-clause-blocks : goal.read_part-requires-clause-blocks
+read_part-requires-clause-blocks g c = λ stands.
+    c.loop-done.invariant.blocks (stood_before g.B.SectorDevice c.args.self.now c.args.reader.now c.loop-done.reader c.loop-done.invariant.disk stands)
 
 pub returns-in_err-read_part-clause-sound : goal.returns-in_err-read_part-clause-sound
 returns-in_err-read_part-clause-sound g c = λ stands.
@@ -24,7 +28,7 @@ loop-done-preserved g c =
       device = search (rules, arith);
       disk = λ keeps. c.in_ok-read_part.ensures.reads.disk keeps ∙ c.loop-done.invariant.disk keeps;
       counted = search (rules, arith);
-      block = λ stands. c.in_ok-read_part.ensures.block (still stands);
+      blocks = λ stands. c.in_ok-read_part.ensures.blocks (still stands);
       read = λ stands.
           let at : 4032 * ((c.args.low + c.loop-done.done) / 4032) + (c.args.low + c.loop-done.done) % 4032 ≡ c.args.low + c.loop-done.done = omega arith in
           read_more (object_bytes (shown_objects c.args.self.now) c.args.id.0) c.loop-done.into c.read_part.new.into c.args.low c.loop-done.done c.min-count.result _ _

@@ -3,8 +3,8 @@ use Rattle.std.specs.FinSet as set
 use Rattle.base.specs.formats.Geometry.{block_count}
 use Rattle.space.specs.FreeSets.{FreeSpace}
 use Rattle.pool_tables.specs.Shows.{contents_after_oldest, pool_shown}
-use Rattle.group_plans.proofs.PlannedPointers.{lengths-set}
 use Rattle.pool_tables.proofs.syncs.SameSyncs.{none_planned, none_running, placed_after}
+use Rattle.pool_tables.proofs.syncs.SyncedTrees.{lengths-set}
 use Rattle.pool_tables.proofs.pool.PoolTables.finish_tree.Goals as goal
 
 pub invariant_of-self-3 : goal.invariant_of-self-3
@@ -35,6 +35,6 @@ returns-clause-shown c =
     let s = pool_shown pool in
     let rs = c.args.running in
     let free = ap (λ (f : FreeSpace). f.free) c.give_all.ensures ∙ ap (λ (l : List ℕ). set.union s.free (set.from_list l)) c.deref.ensures.value in
-    let lengths = lengths-set pool.tree c.set_all.new.self rs.maps c.set_all.ensures.lengths in
+    let lengths = lengths-set pool.tree c.set_all.new.self rs.entries c.set_all.ensures.lengths in
     let idle = none_planned c.set_all.new.self pool.tree (contents_after_oldest pool) pool.sync c.requires.none in
     rw c.set_all.ensures.root (λ k. record s { free = free k; root = rs.root; lengths = lengths k; sync = idle k })

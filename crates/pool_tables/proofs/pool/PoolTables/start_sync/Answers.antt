@@ -74,7 +74,7 @@ invariant_of-self g c =
         left = ens.begins.left;
         uberblock = subst (λ (h : Header). WritesUberblock (uberblock_with pool.guid pool.import_number h rs.group.0 rs.moment rs.root) rs.run) (sym (ap (λ (p : SyncPlan). p.header) ens.plan))
             (rw (ens.group, ens.moment, ens.begins.root) ens.uberblock);
-        placed = rw (ens.begins.root, ens.begins.directories, ens.begins.maps) c.in_ok-planned.ensures.tree.1.placed;
+        placed = rw (ens.begins.root, ens.begins.directories, ens.begins.entries) c.in_ok-planned.ensures.tree.1.placed;
       });
       sync_line = ap (λ (g : _). Some g.0) ens.group ∙ sym (ap (λ (l : CountedLine). l.line.syncing) now);
       tree_placed = pool.tree_placed;

@@ -10,7 +10,7 @@ invariant-loop-begin l = IsWalked l.self.table l.pieces.items l.begin
 -- how many offsets there are from the next key on
 abbrev offsets_left : Option (ℕ × Part) → ℕ
 offsets_left None = 0
-offsets_left (Some b) = 338690 - b.0
+offsets_left (Some b) = 28449794 - b.0
 
 abbrev pub decreases-loop-begin : goal.decreases-loop-begin
 decreases-loop-begin l = offsets_left l.begin

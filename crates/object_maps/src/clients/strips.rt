@@ -1,0 +1,80 @@
+//! What callers rest on of strips: their numbers, what is told of them, and the reads of a top.
+
+ghost use Rattle.std.specs.Prelude.{◌≡◌, ◌∷◌, ◌≢◌, ◌≤◌, ℕ, List, [], IfErr, IfOk, IsTrue, OnOk, length};
+ghost use Rattle.base.specs.declared.error.PoolError.TheVariants as error;
+ghost use Rattle.base.specs.declared.pointer.Pointer.{Pointer};
+ghost use Rattle.base.specs.disk.Disk.{bytes_of};
+ghost use Rattle.base.specs.formats.Fields.{no_pointer, pointer_in};
+ghost use Rattle.base.specs.formats.Geometry.{block_address};
+ghost use Rattle.base.specs.formats.Limits.{payload_size};
+ghost use Rattle.base.specs.tree.Places.{Place};
+ghost use Rattle.base.specs.tree.Places.Place.{Indirect};
+ghost use Rattle.object_maps.specs.Cached.{HoldsTop};
+ghost use Rattle.object_maps.specs.Pointers.{strip_in};
+
+use crate::block_reader::{BlockReader, read_top, strip_pointer};
+use crate::strips::{record_number, strip_number, strip_of};
+use crate::told_bytes::{BytesView, StripsView, no_strips, with_bytes, with_strip, zero_bytes};
+use base::{Pointer, PoolError, Told};
+use checked_blocks::Frame;
+
+// The second strip of object 7 has the number 5,299.
+fn a_later_strip_has_its_own_number() -> usize
+    ensures { result ≡ 5299 }
+{
+    strip_number(7, 1)
+}
+
+// By that number it is found, and so is the number of its fourth record.
+fn a_number_tells_the_strip() -> usize
+    ensures { result ≡ 1 }
+{
+    strip_of(5299)
+}
+
+fn a_record_of_a_later_strip_has_its_own_number() -> usize
+    ensures { result ≡ 87 }
+{
+    record_number(5299, 3)
+}
+
+// Bytes that are told at a place stand there.
+fn a_byte_is_told_in_its_place() -> Told<BytesView>
+    ensures { result.value ≡ 0 ∷ 5 ∷ 0 ∷ [] }
+{
+    with_bytes(&zero_bytes(3), 1, &[5])
+}
+
+// A strip that is told has its pointer.
+fn a_told_strip_has_its_pointer(indirect: Pointer) -> Told<StripsView>
+    ensures { (strip_in result.value 4).0 ≡ indirect }
+{
+    with_strip(&no_strips(), 4, indirect, &[])
+}
+
+// The payload of a top has the pointer of each strip.
+fn a_top_has_the_pointer_of_a_strip<B: BlockReader>(
+    reader: &mut B,
+    frame: &Frame,
+    top: &Pointer,
+    payload: &mut [u8],
+) -> Result<(), PoolError>
+    requires fits { block_address frame.now.blocks ≤ B.size reader.old }
+    requires size { length payload.old ≡ payload_size }
+    ensures { IsTrue B.keeps_model → (pointers : Place → Pointer) (bytes : List ℕ)
+        → HoldsTop (bytes_of (B.disk reader.old).now) frame.now 7 top.now pointers bytes
+        → OnOk result (pointer_in payload.new 1 ≡ pointers (Indirect 5299)) }
+{
+    read_top(reader, frame, 7, top, payload)
+}
+
+// An object of 338,689 bytes has two strips. A pointer to a third one is damage, told with the address that it names.
+fn a_strip_past_the_end_is_damage(frame: &Frame, payload: &[u8]) -> Result<Pointer, PoolError>
+    requires size { length payload.now ≡ payload_size }
+    requires there { pointer_in payload.now 2 ≢ no_pointer }
+    ensures refused { IfOk result (λ _. ⊥) }
+    ensures named { IfErr result
+        (λ e. e ≡ error.Damaged 4 (pointer_in payload.now 2).address) }
+{
+    strip_pointer(frame, payload, 2, 338_689)
+}

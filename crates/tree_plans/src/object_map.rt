@@ -1,0 +1,66 @@
+//! The pointers of an object before a group, as far as they were read. A tree in memory has none below the entries of
+//! its directories, so they are read of each object that a group changes: those in its top, if it has one, and those in
+//! the indirect blocks whose strips the group changes.
+
+ghost use Rattle.std.specs.Prelude.{vec_len, ◌≡◌};
+ghost use Rattle.base.specs.formats.Limits.{pointer_count};
+ghost use Rattle.object_maps.specs.Pointers.{pointer_of_list};
+
+use base::Pointer;
+use std::collections::BTreeMap;
+
+/// The pointers of an object before a group, as far as they were read.
+#[derive(Debug, Drop)]
+pub struct ObjectMap {
+    /// The pointer to its top.
+    pub top: Pointer,
+    /// The pointer to the indirect block of each strip, by the strip's index.
+    pub indirects: Vec<Pointer>,
+    /// The pointers in the indirect blocks that were read, by the indexes of their strips.
+    pub strips: BTreeMap<usize, Vec<Pointer>>,
+    ghost all_indirects: { vec_len indirects ≡ pointer_count },
+}
+
+impl ObjectMap {
+    ghost use Rattle.std.specs.Prelude.{◌≡◌, ◌<◌, is_some};
+    ghost use Rattle.base.specs.formats.Limits.{pointer_count};
+    ghost use Rattle.object_maps.specs.Pointers.{pointer_of_list};
+    ghost use Rattle.tree_plans.specs.Plans.{read_record};
+    ghost use Rattle.tree_plans.specs.Pointers.{records_among};
+
+    /// The pointer to the indirect block of a strip.
+    pub fn indirect(&self, strip: usize) -> Pointer
+        requires { strip < pointer_count }
+        ensures { result ≡ pointer_of_list self.now.indirects.items strip }
+    {
+        self.indirects[strip]
+    }
+
+    /// Whether the indirect block of a strip was read.
+    pub fn has_read(&self, strip: usize) -> bool
+        ensures { result ≡ is_some (records_among self.now.strips.entries strip) }
+    {
+        self.strips.contains_key(&strip)
+    }
+
+    /// The pointer to a record, as it was read. A strip without an indirect block has none.
+    pub fn record(&self, strip: usize, index: usize) -> Pointer
+        requires { strip < pointer_count }
+        ensures { result ≡ read_record self.now strip index }
+    {
+        if self.indirects[strip].address == 0 {
+            return Pointer::NONE;
+        }
+        match self.strips.get(&strip) {
+            Some(records) => pointer_at(records, index),
+            None => Pointer::NONE,
+        }
+    }
+}
+
+// The pointer of this number, none past the last one.
+fn pointer_at(pointers: &[Pointer], index: usize) -> Pointer
+    ensures { result ≡ pointer_of_list pointers.now index }
+{
+    pointers.get(index).copied().unwrap_or(Pointer::NONE)
+}
