@@ -68,7 +68,7 @@ fn open_refusal(bytes: &[u8; BLOCK_SIZE]) -> Option<PoolError> {
 
 #[test]
 fn refuses(rt: HostRuntime) {
-    assert_eq!(rt; seal_refusal(7, b""), Some(PoolError::BadRange));
+    assert_eq!(rt; seal_refusal(8, b""), Some(PoolError::BadRange));
     assert_eq!(rt; seal_refusal(1, &[0; 4033]), Some(PoolError::BadRange));
     let damaged = PoolError::Damaged {
         kind: 5,
