@@ -1,8 +1,8 @@
 //! What a group wrote into one record of an object.
 //!
-//! A patch takes the room for a whole record when it is made, so a write takes no memory. Its bytes and marks are laid
-//! out up to the last byte that was written and no further: a short write costs no zeros for the rest of the record, and
-//! a record that was cleared costs nothing to clear again.
+//! A patch takes the room for a whole record when it is made, so a write takes no memory. Its bytes and marks are
+//! laid out up to the last byte that was written and no further: a short write costs no zeros for the rest of the
+//! record, and a record that was cleared costs nothing to clear again.
 
 ghost use Rattle.std.specs.Prelude.{ℕ, ◌≡◌, ◌<◌, ◌≤◌, ◌+◌, ◌↔◌, true, false, All, None, IfOk, IsTrue, get_or, is_some, length, max, replicate, unwrap_or, vec_capacity, vec_len};
 ghost use Rattle.base.specs.disk.Disk.{put};

@@ -97,7 +97,8 @@ module _ (ops : List Op) (maps : List ObjectEntry) (before after : Contents) (x 
     pub states_are : (n r : ℕ) → r < record_count → state_in objects n r ≡ record_state n r ops before Unchanged
     states_are n r below = changes.states before after x.leads x.within n r below (λ sets. x.sizes n (x.numbers n (any_on n ops sets)))
 
-    -- a record that is written belongs to an object that is there, begins within it, and is there by a write or a new length
+    -- a record that is written belongs to an object that is there, begins within it, and is there by a write or a new
+    -- length
     dirty_is : (n r : ℕ) → r < record_count → state_in objects n r ≡ Dirty → HasRecord r (finite.get after.objects n) × (is_changed_in objects n ≡ true)
     dirty_is n r below state = (dirty-record n r ops before after x.leads is, by (is_changed_in objects n) refl (is_some (entry_of objects n)) refl)
       where

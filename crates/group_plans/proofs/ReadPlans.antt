@@ -150,8 +150,8 @@ module _ (source : PlanSource) (changes : BTreeMap ObjectId ObjectChanges)
             (made.planned before (covered_as old told is objects before wanted covered) changes_are (tree_as old told is objects (entry_pointer_of source.tree.now.entries.items) wanted whole)));
       }
 
--- where the plan is short of blocks, so it is for the changes of all objects, of the pointers that were read, and of the
--- tree's if these are they
+-- where the plan is short of blocks, so it is for the changes of all objects, of the pointers that were read, and of
+-- the tree's if these are they
 module _ (source : PlanSource) (objects : List (ObjectId × ObjectChanges)) (after wanted : FinMap nat_cmp (List ℕ)) (lengths_are : (n : ℕ) → object_length after n ≡ object_length wanted n) (e : PoolError)
     (full : TellsFull source after objects e) where
   pub short_of : IsShortFrom (pointers_before source) objects wanted source.free.now.free e

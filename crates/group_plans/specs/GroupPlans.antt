@@ -48,9 +48,9 @@ pub record IsPlannedGroup (group : ℕ) (records : List Record) (entries : List 
   pub planned : (before : FinMap nat_cmp (List ℕ)) → IsCoveredBy objects old before after → AreChanges objects after → AreTreePointers objects (entry_pointer_of entries) old after
       → IsTreePlan bs frame old new before after
 
--- Some changes are those of the group's operations among records, on a tree with these entries. If they are in range, the
--- blocks are those of the places that they write, one for each, in their order. Each one is used. If no old pointer was
--- born in the group or later, what comes back is what the old pointers have and the new ones have not.
+-- Some changes are those of the group's operations among records, on a tree with these entries. If they are in range,
+-- the blocks are those of the places that they write, one for each, in their order. Each one is used. If no old
+-- pointer was born in the group or later, what comes back is what the old pointers have and the new ones have not.
 pub record TakesGroupPlaces (group : ℕ) (records : List Record) (entries : List ObjectEntry) (old new : Place → Pointer) (bs : List NewBlock) (returned : List ℕ) (after : FinMap nat_cmp (List ℕ)) : Type 0 where
   pub objects : List (ObjectId × ObjectChanges)
   pub changes : AreChangesOf (pending_ops group records) entries objects

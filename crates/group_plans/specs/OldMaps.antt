@@ -47,8 +47,8 @@ IsStripOf blocks tree n j pointer = (pointer ≡ (object_pointers tree.entries.i
 abbrev pub AreMapStrips : ℕ → Tree → ℕ → List Pointer → Type 0
 AreMapStrips blocks tree n indirects = (j : ℕ) → j < pointer_count → IsStripOf blocks tree n j (pointer_of_list indirects j)
 
--- the map of object n of a tree, of so many bytes: it has the top that the tree has, and pointers to its indirect blocks
--- and to the records of the strips that were read
+-- the map of object n of a tree, of so many bytes: it has the top that the tree has, and pointers to its indirect
+-- blocks and to the records of the strips that were read
 pub record IsMapBefore (blocks : ℕ) (tree : Tree) (size n : ℕ) (m : ObjectMap) : Type 0 where
   pub low : n < object_count
   pub top : m.top ≡ (object_pointers tree.entries.items n).top
@@ -59,8 +59,8 @@ pub record IsMapBefore (blocks : ℕ) (tree : Tree) (size n : ℕ) (m : ObjectMa
 abbrev pub AreMapsOf : ℕ → Tree → FinMap nat_cmp (List ℕ) → List (ObjectId × ObjectMap) → Type 0
 AreMapsOf blocks tree objects maps = (n : ℕ) (m : ObjectMap) → entry_of maps n ≡ Some m → IsMapBefore blocks tree (size_in objects n) n m
 
--- What was read of strip j of an object, whose indirect block has this pointer: its records if a plan looks at it and it
--- has such a block, and otherwise nothing.
+-- What was read of strip j of an object, whose indirect block has this pointer: its records if a plan looks at it and
+-- it has such a block, and otherwise nothing.
 pub record IsStripRead (blocks : ℕ) (object : OldObject) (j : ℕ) (indirect : Pointer) (o : Option (Vec Pointer)) : Type 0 where
   pub there : is_strip_replaced object.is_long object.changes.now j ≡ true → (is_some o ≡ true) ⊎ (indirect ≡ no_pointer)
   pub only : is_some o ≡ true → is_strip_replaced object.is_long object.changes.now j ≡ true

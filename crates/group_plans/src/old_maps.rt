@@ -378,8 +378,8 @@ fn read_changed<B: BlockReader>(
 // The map before the group of each of these objects that has a place in the tree of the source, which holds the objects
 // of the contents. They are read for rising objects: the top of each, and the indirect blocks that a plan looks at.
 //
-// It is refused `NoMemory`, `Read`, or `Damaged` if a block is none of the tree. A device that keeps the model and holds
-// the tree gives none that is damaged (`sound`), and the maps are those of its objects then (`exact`).
+// It is refused `NoMemory`, `Read`, or `Damaged` if a block is none of the tree. A device that keeps the model and
+// holds the tree gives none that is damaged (`sound`), and the maps are those of its objects then (`exact`).
 pub(crate) fn read_maps<B: BlockReader>(
     reader: &mut B,
     frame: &Frame,

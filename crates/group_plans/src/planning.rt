@@ -51,10 +51,10 @@ pub struct GroupSource<'a> {
 /// are passed over. `extents` are the changes that those of the group make, over the contents of the tree. `before` is
 /// the frame of that tree's blocks.
 ///
-/// Of each object that the group changes, rising, it reads the top, if the object has two levels, and then the indirect
-/// blocks of the strips that the plan looks at, rising: those of which a record changes, and all strips if the object has
-/// one level after the group. Then it reads each record that the group changes in part, for rising objects and in each
-/// for rising records.
+/// Of each object that the group changes, rising, it reads the top, if the object has two levels, and then the
+/// indirect blocks of the strips that the plan looks at, rising: those of which a record changes, and all strips if
+/// the object has one level after the group. Then it reads each record that the group changes in part, for rising
+/// objects and in each for rising records.
 ///
 /// - `fits`: each block that is written or comes back lies in the block area of the device.
 /// - `taken`: the blocks are the lowest free ones, in their order.

@@ -12,12 +12,12 @@
 //!    free. No pointer below these stays. Then it reads the log chain and replays it: the records of groups above u are
 //!    applied, in order (`zil_replay` of `zil.c`). The block of the first record that can't take place is reported as
 //!    `Damaged` with kind 6.
-//! 5. It refuses u + 5 or i + 1 above 2^60. Of each object that the records change, rising, it reads again the top, if
-//!    the object has two levels, and then the indirect blocks that the plan looks at. Then it reads each data block that
-//!    they change in part, for rising objects and in each for rising blocks. The tree that the records leave is planned
-//!    as that of group u + 4. It takes the lowest blocks that neither the old tree nor the chain has, one for each place
-//!    that the records write, in the order of a sync. The lowest block that none of these has becomes the first log
-//!    block. No memory is taken after that.
+//! 5. It refuses u + 5 or i + 1 above 2^60. Of each object that the records change, rising, it reads again the top,
+//!    if the object has two levels, and then the indirect blocks that the plan looks at. Then it reads each data
+//!    block that they change in part, for rising objects and in each for rising blocks. The tree that the records
+//!    leave is planned as that of group u + 4. It takes the lowest blocks that neither the old tree nor the chain
+//!    has, one for each place that the records write, in the order of a sync. The lowest block that none of these has
+//!    becomes the first log block. No memory is taken after that.
 //! 6. It syncs group u + 4 with import number i + 1, the planned blocks, the new root and the new config
 //!    (`sync_group`). Without a record to replay there is no block, and the root stays. The run before may have written
 //!    for the groups u + 1 to u + 3; the jump keeps the new group apart from them.

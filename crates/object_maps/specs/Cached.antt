@@ -75,7 +75,8 @@ IsReadPayload cached image frame kind number pointer payload = Contains cached (
 abbrev pub EndsWithObject : ℕ → ℕ → List ℕ → Type 0
 EndsWithObject size r record_payload = (i : ℕ) → size ≤ record_size * r + i → get_or record_payload i 0 ≡ 0
 
--- and bytes that it may give from an offset on of the payload of the k-th record of strip m, whose object has this length
+-- and bytes that it may give from an offset on of the payload of the k-th record of strip m, whose object has this
+-- length
 abbrev pub IsReadPart : List (ℕ × List ℕ) → List ℕ → Frame → ℕ → ℕ → ℕ → Pointer → ℕ → List ℕ → Type 0
 IsReadPart cached image frame m k size pointer start bytes =
     (payload : List ℕ) × IsReadPayload cached image frame 5 (pointer_count * m + k) pointer payload × EndsWithObject size (record_number m k) payload

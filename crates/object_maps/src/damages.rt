@@ -36,9 +36,9 @@ pub struct BlockDamage {
     pub address: u64,
 }
 
-/// Lists each damage of the tree under a root pointer, in the order of the walk: the root, then each directory, and for
-/// its entries the top and each indirect block with its records, all rising. What lies below a damaged block isn't read,
-/// everything else is. A tree of which nothing is listed is whole.
+/// Lists each damage of the tree under a root pointer, in the order of the walk: the root, then each directory, and
+/// for its entries the top and each indirect block with its records, all rising. What lies below a damaged block
+/// isn't read, everything else is. A tree of which nothing is listed is whole.
 ///
 /// # Errors
 /// `Read` if the device refuses a read, `NoMemory`.

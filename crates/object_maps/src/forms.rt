@@ -1,5 +1,5 @@
-//! The forms of what the blocks of a tree hold (On-Disk Specification, chapter 2): pointers, and entries of objects by the
-//! version of the tree's rules.
+//! The forms of what the blocks of a tree hold (On-Disk Specification, chapter 2): pointers, and entries of objects
+//! by the version of the tree's rules.
 
 ghost use Rattle.std.specs.Prelude.{◌≡◌, ℕ, ◌<◌, ◌↔◌, IsTrue, length};
 ghost use Rattle.base.specs.formats.Limits.{indirect_count, entry_count, payload_size, pointer_count};

@@ -1,5 +1,5 @@
-//! Strips of objects by their numbers: strip `j` of object `n` has the number `n` + 5,292 `j`, and 84 records. An indirect
-//! block has the number of its strip.
+//! Strips of objects by their numbers: strip `j` of object `n` has the number `n` + 5,292 `j`, and 84 records. An
+//! indirect block has the number of its strip.
 
 ghost use Rattle.std.specs.Prelude.{◌≡◌, ◌<◌, ◌*◌};
 ghost use Rattle.base.specs.formats.Limits.{indirect_count, object_count, pointer_count};

@@ -144,8 +144,8 @@ module _ {Dev : Type 0} (D : Ghosts Dev) (t : ShownTree) where
         subst (λ (s : ℕ). HoldsStrip image t.frame s indirect told bytes) (sym m_is)
         (record { objects = synced_objects t; tree = stands.tree; object = object_of_strip j; indirect_is = sym at })
 
-    -- A record of the object is one of the strip that has this number. A pointer that stands at its place names it, and it
-    -- begins where the record of the object does.
+    -- A record of the object is one of the strip that has this number. A pointer that stands at its place names it,
+    -- and it begins where the record of the object does.
     module _ (r m : ℕ) (r_low : r < record_count) (m_is : m ≡ strip_number n (r / 84)) where
       abbrev at_record : Pointer
       at_record = told (Data (strip_number n (r / 84)) (r % 84))

@@ -23,9 +23,9 @@ impl<'a> ShownTree<'a> {
     ghost use Rattle.object_reads.specs.ShownTrees.{StandsOn, shown_objects};
 
     /// The digest of the contents with this name: SHA-256 of the name's length (4 bytes), the name, the number of
-    /// objects (4), and for each object by rising number its number (4), its length (8) and its bytes. All numbers are
-    /// little-endian. The records of an object are read rising, those of a strip after its indirect block, and all after
-    /// the object's top, if it has one. It takes no memory.
+    /// objects (4), and for each object by rising number its number (4), its length (8) and its bytes. All numbers
+    /// are little-endian. The records of an object are read rising, those of a strip after its indirect block, and
+    /// all after the object's top, if it has one. It takes no memory.
     ///
     /// # Errors
     /// `Read` if the device refused a read, `Damaged` if a block is not the one that its pointer names.

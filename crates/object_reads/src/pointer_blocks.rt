@@ -1,5 +1,5 @@
-//! The blocks of an object of the synced tree that have the pointers to its records, as a read goes down to them: the top
-//! of an object of two levels, and then the indirect block of one strip after the other.
+//! The blocks of an object of the synced tree that have the pointers to its records, as a read goes down to them: the
+//! top of an object of two levels, and then the indirect block of one strip after the other.
 
 ghost use Rattle.std.specs.Prelude.{◌≡◌, ◌<◌, ◌≤◌, IfErr, IfOk, None, OnOk, Some, false, length};
 ghost use Rattle.std.specs.FinMap as finite;

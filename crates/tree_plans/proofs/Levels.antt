@@ -1,4 +1,5 @@
--- An object is planned part by part: the records of one strip after another, then its indirect blocks, and then its top.
+-- An object is planned part by part: the records of one strip after another, then its indirect blocks, and then its
+-- top.
 use Rattle.std.proofs.Common.{◌≡◌, ◌==◌, ℕ, zero, suc, ◌+◌, ◌<◌, ◌≤◌, inl, inr, Bool, true, false, ◌&&◌, ◌||◌, List, [], ◌∷◌, ◌++◌, length, map, nat_eq, Option, None, Some, refl, sym, ◌∙◌, ap, subst, arith}
 use Rattle.std.specs.Prelude.{cond, is_some, unwrap_or, vec_len, if◌then◌else◌}
 use Rattle.std.specs.List.{list_any, range_with_len}

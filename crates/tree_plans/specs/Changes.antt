@@ -101,8 +101,8 @@ abbrev pub HasNoByteFrom : ℕ → Option (List ℕ) → Type 0
 HasNoByteFrom j object = IfSome object (λ bytes. length bytes ≤ strip_start j)
 
 -- What is asked of the pointers of a tree, where the entries name these. An object that no operation is on has no
--- indirect block if it is absent, and otherwise an entry that says so. A pointer with address 0 is none. In an object of
--- two levels a strip past its end after the group, which had an indirect block, begins with a hole.
+-- indirect block if it is absent, and otherwise an entry that says so. A pointer with address 0 is none. In an object
+-- of two levels a strip past its end after the group, which had an indirect block, begins with a hole.
 pub record AreTreePointers (objects : List (ObjectId × ObjectChanges)) (below : ℕ → Pointer) (pointers : Place → Pointer) (after : FinMap nat_cmp (List ℕ)) : Type 0 where
   pub absent : (n : ℕ) → n < object_count → entry_of objects n ≡ None → finite.get after n ≡ None → pointers (Indirect n) ≡ no_pointer
   pub entries : (n : ℕ) → n < object_count → entry_of objects n ≡ None → IsEntryPointer (below n) (pointers (Top n)) (pointers (Indirect n)) (finite.get after n)

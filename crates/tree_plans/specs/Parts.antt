@@ -58,8 +58,8 @@ pub record IsMapReadOf (source : PlanSource) (after : FinMap nat_cmp (List ℕ))
 abbrev pub AreMapsRead : PlanSource → FinMap nat_cmp (List ℕ) → List (ObjectId × ObjectChanges) → Type 0
 AreMapsRead source after objects = (id : ObjectId) (changes : ObjectChanges) → id.0 < object_count → entry_of objects id.0 ≡ Some changes → IsMapReadOf source after id changes
 
--- The plan goes over the first strips that were read or have a record to write, and over no others. It has a pointer for
--- each record of these.
+-- The plan goes over the first strips that were read or have a record to write, and over no others. It has a pointer
+-- for each record of these.
 pub record AreMet (object : ChangedObject) (count : ℕ) (strips : List (ℕ × Vec Pointer)) : Type 0 where
   pub whole : (j : ℕ) → IfSome (records_among strips j) (λ (v : Vec Pointer). vec_len v ≡ pointer_count)
   pub below : (j : ℕ) → is_some (records_among strips j) ≡ true → j < count
@@ -152,7 +152,8 @@ pub record PlansIndirect (free : FreeSpace) (object : ChangedObject) (strip : �
   pub uses : UsesOnly (blocks_of old) (blocks_of new) pointer.address
   pub adds : Adds (blocks_of old) (blocks_of new) (address_if (is_dirty (state_over_records object strip records)) pointer)
 
--- what becomes of the indirect block of a strip that the plan doesn't go over, and of one that it does, over its records
+-- what becomes of the indirect block of a strip that the plan doesn't go over, and of one that it does, over its
+-- records
 abbrev pub MadeBy : Planner → ChangedObject → ℕ → Option (Vec Pointer) → Pointer → Type 0
 MadeBy planner object j None pointer = pointer ≡ (old_in object).strip j
 MadeBy planner object j (Some v) pointer = IsStripPlanned (progress_of planner) object.id.0 j (pointer_of_list v.items) (state_over_records object j v.items) ((old_in object).strip j) pointer
@@ -160,8 +161,8 @@ MadeBy planner object j (Some v) pointer = IsStripPlanned (progress_of planner) 
 abbrev pub IsIndirectMade : Planner → ChangedObject → List (ℕ × Vec Pointer) → ℕ → Pointer → Type 0
 IsIndirectMade planner object strips j pointer = MadeBy planner object j (records_among strips j) pointer
 
--- an address is that of the indirect block of a strip that is replaced, by the records that were placed, and so of one of
--- the first strips
+-- an address is that of the indirect block of a strip that is replaced, by the records that were placed, and so of
+-- one of the first strips
 pub record IsOfMadeAt (object : ChangedObject) (strips : List (ℕ × Vec Pointer)) (strip address : ℕ) : Type 0 where
   pub records : Vec Pointer
   pub records_are : records_among strips strip ≡ Some records

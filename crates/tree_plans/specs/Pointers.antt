@@ -36,7 +36,8 @@ strip_with indirects strips told j = (pointer_of_list indirects j, option_map_or
 unfoldable pub strips_with : List Pointer → List (ℕ × Vec Pointer) → List (ℕ × (Pointer × List Pointer)) → List (ℕ × (Pointer × List Pointer))
 strips_with indirects strips told = map (λ j. (j, strip_with indirects strips told j)) pointer_numbers
 
--- what an entry tells of the strips of its object: the pointers that the tree has to their indirect blocks, and in these
+-- what an entry tells of the strips of its object: the pointers that the tree has to their indirect blocks, and in
+-- these
 unfoldable pub entry_strips : ObjectEntry → List (ℕ × (Pointer × List Pointer))
 entry_strips e = map (λ j. (j, ((pointers_of_entry e).strip j, map (λ k. (pointers_of_entry e).record_at j k) pointer_numbers))) pointer_numbers
 
@@ -64,7 +65,8 @@ planned_map maps planned n = option_map_or pointers_of_entry (entry_of planned n
 abbrev pub planned_pointer : (ℕ → Pointer) → List (ObjectId × ObjectEntry) → ℕ → Pointer
 planned_pointer below planned n = option_map_or (λ (e : ObjectEntry). e.pointer) (entry_of planned n) (below n)
 
--- a tree before a plan: its root, its directories, the pointers of its objects, those in their entries, and their lengths
+-- a tree before a plan: its root, its directories, the pointers of its objects, those in their entries, and their
+-- lengths
 pub record OldTree : Type 0 where
   pub root : Pointer
   pub directories : List Pointer

@@ -81,7 +81,7 @@ pub record GivesBack (source : PlanSource) (plan : TreePlan) : Type 0 where
   pub freed : AreBornBefore source.group.0 (pointers_before source) → AreFreed (pointers_before source) (planned_pointers source plan) plan.freed.items
   pub once : AreApart (pointers_before source) → IsDistinct nat_eq plan.freed.items
 
--- a plan that is refused for want of blocks, if the changes are in range: fewer blocks are free than there are places to
--- write
+-- a plan that is refused for want of blocks, if the changes are in range: fewer blocks are free than there are places
+-- to write
 pub record TellsFull (source : PlanSource) (after : FinMap nat_cmp (List ℕ)) (objects : List (ObjectId × ObjectChanges)) (e : PoolError) : Type 0 where
   pub fewer : e ≡ error.NoSpace → AreInRange objects after → length (free_addresses source) < length (places_written source after objects)

@@ -37,8 +37,8 @@ abbrev pub AreEntriesWritten : (ℕ → Pointer) → List (ObjectId × ObjectEnt
 AreEntriesWritten below planned after d count payload = (k : ℕ) → k < count
     → IsEntryWritten (entry_in payload k) (planned_pointer below planned (entry_count * d + k)) (finite.get after (entry_count * d + k))
 
--- What a planned object is made of: its changes, and the pointers that it had. Its length is the one after them, and its
--- entry names its top or its first indirect block.
+-- What a planned object is made of: its changes, and the pointers that it had. Its length is the one after them, and
+-- its entry names its top or its first indirect block.
 pub record IsPlannedFrom (s : Progress) (maps : ℕ → ObjectPointers) (after : FinMap nat_cmp (List ℕ)) (objects : List (ObjectId × ObjectChanges)) (n : ℕ) (new : ObjectEntry) : Type 0 where
   pub low : n < object_count
   pub changes : ObjectChanges

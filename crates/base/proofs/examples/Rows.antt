@@ -56,8 +56,8 @@ third_write = refl
 a_create : nat_lt 40960 (40960 + charge_of (shape.Create (object 1) ∷ [])) ≡ true
 a_create = refl
 
--- a write right behind 338,688 bytes is estimated at 5 blocks, and one over their end at 7: it touches two records and two
--- indirect blocks
+-- a write right behind 338,688 bytes is estimated at 5 blocks, and one over their end at 7: it touches two records
+-- and two indirect blocks
 behind_one_level : estimate_of (shape.Write (object 1) 338688 4 ∷ []) ≡ 5
 unfolding one_level_length
 behind_one_level = refl

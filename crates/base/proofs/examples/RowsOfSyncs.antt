@@ -61,8 +61,8 @@ no_record = refl
 no_strip : has_strip_after (group_changes (op.Create (object 1) ∷ []) empty_pool (λ place. false)) 1 0 ≡ false
 no_strip = refl
 
--- An object of 338,688 bytes, which has a block for its last record, is written right behind them. So it has two levels:
--- the record, the second indirect block and the top are written, and the first indirect block isn't.
+-- An object of 338,688 bytes, which has a block for its last record, is written right behind them. So it has two
+-- levels: the record, the second indirect block and the top are written, and the first indirect block isn't.
 abbrev has_last_record : Place → Bool
 has_last_record Root = true
 has_last_record (Directory d) = d == 0

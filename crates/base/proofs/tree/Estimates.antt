@@ -1,11 +1,11 @@
 -- A sync writes at most as many blocks as its operations are estimated at: each block is one that some operation may
 -- change.
 use Rattle.std.proofs.Common.{◌≡◌, ℕ, ◌≢◌, ◌+◌, ◌*◌, ◌/◌, ◌<◌, ◌≤◌, Bool, true, false, not, ◌&&◌, List, [], ◌∷◌, ◌++◌, length, map, filter, refl, sym, ◌∙◌, ap, arith, length-append}
-use Rattle.std.specs.Prelude.{◌==◌, nat_lt, nat_le, sum_by, Option, Some, None, if◌then◌else◌}
+use Rattle.std.specs.Prelude.{◌==◌, nat_lt, nat_le, sum_by, Option, if◌then◌else◌}
 use Rattle.std.specs.Option.{option_map_or}
 use Rattle.std.specs.FinMap as finite
 use Rattle.std.specs.List.{list_any, flat_map, range_with_len, count_by}
-use Rattle.std.proofs.lemmas.Bool.{and_parts, not-true, eqb-true, ne_eqb, ltb-true, leb-true, leb-false, true≢false}
+use Rattle.std.proofs.lemmas.Bool.{and_parts, not-true, eqb-true, ne_eqb, ltb-true, leb-false, true≢false}
 use Rattle.std.proofs.lemmas.List.{length-map}
 use Rattle.std.proofs.lemmas.List.Sums.{length-filter, sum_by-le-sum_by, sum_by-cons}
 use Rattle.std.proofs.lemmas.List.Folds.{fold-map}
@@ -19,7 +19,7 @@ use Rattle.base.specs.tree.Places.{Place, record_of_strip, strip_number}
 use Rattle.base.specs.tree.Places.Place.{Root, Directory, Top, Indirect, Data}
 use Rattle.base.specs.declared.record_state.RecordState.{RecordState}
 use Rattle.base.specs.declared.record_state.RecordState.TheVariants.{Unchanged, Dirty, Hole}
-use Rattle.base.specs.tree.Syncs.{is_record_touched, state_after_cut, state_after_op, contents_after, contents_after_all, record_state, is_on, is_change_of, is_rename, is_dirty, pointer_numbers, object_numbers}
+use Rattle.base.specs.tree.Syncs.{is_record_touched, state_after_op, contents_after, contents_after_all, record_state, is_on, is_change_of, is_rename, is_dirty, pointer_numbers, object_numbers}
 use Rattle.base.specs.tree.Syncs as syncs
 use Rattle.base.specs.steps.Space.{SyncsFit}
 use Rattle.base.proofs.common.KeptLists.{any_at, any_found}

@@ -54,10 +54,6 @@ pub not_both : (o : Option (List ℕ)) → IsShort o → IsLong o → ⊥
 not_both None short long = long
 not_both (Some bytes) short long = absurd (omega (arith, short, long))
 
-pub long-or_short : (o : Option (List ℕ)) → IsShort o ⊎ IsLong o
-long-or_short None = inl tt
-long-or_short (Some bytes) = elim (cases_lt one_level_length (length bytes)) as (λ _. IsShort (Some bytes) ⊎ IsLong (Some bytes)) [ inl long ↦ inr long | inr short ↦ inl short ]
-
 -- a pointer whose block opens is one
 pub opens-some : (image : List ℕ) (frame : Frame) (kind number : ℕ) (p : Pointer) (payload : List ℕ) → Opens image frame kind number p payload → p ≢ no_pointer
 opens-some image frame kind number p payload o = λ e. opens-address image frame kind number p payload o (ap (λ (q : Pointer). q.address) e)

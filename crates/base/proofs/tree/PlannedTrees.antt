@@ -12,13 +12,12 @@ use Rattle.base.specs.formats.Limits.{object_count, indirect_count, one_level_le
 use Rattle.base.specs.formats.Fields.{part, entry_in, no_pointer}
 use Rattle.base.specs.formats.Geometry.{block_size, IsBlockAddress}
 use Rattle.base.specs.formats.Blocks.{Frame, IsBlock, Opens}
-use Rattle.base.specs.tree.Places.{Place, IsPlace, kind_of, number_of_place, object_of_indirect, strip_of, strip_number, record_number, record_start}
+use Rattle.base.specs.tree.Places.{Place, IsPlace, kind_of, number_of_place, object_of_indirect, strip_number, record_number, record_start}
 use Rattle.base.specs.tree.Places.Place.{Root, Directory, Top, Indirect, Data}
 use Rattle.base.specs.tree.Tree.{OpensAt, IsRecord, record_bytes}
 use Rattle.base.specs.tree.PlacedTrees.{IsOneLevelEntry, IsTwoLevelEntry, IsEntryFor, IsShort, IsLong, NeedsNoTop, HasNonePast, padded_record, StandsAt, HoldsTree}
 use Rattle.base.specs.tree.PlannedTrees.{NewBlock, IsNewAt, SameEntry, SameRecord, IsZeroRecord, IsPlannedAt, IsTreePlan, SameBlock, IsBlockWritten}
 use Rattle.base.proofs.tree.PlacedTrees.{opens-some, absent-data}
-use Rattle.base.proofs.tree.Strips.{later-record}
 use Rattle.base.proofs.common.KeptLists.{get_or-zeros}
 
 -- a part of a part
@@ -51,11 +50,6 @@ past-record : (r : ℕ) (bytes : List ℕ) → length bytes ≤ record_size * r 
 past-record r bytes past =
     let short : length (record_bytes r bytes) ≡ 0 = omega (arith, past, length-take record_size (drop (record_size * r) bytes), length-drop (record_size * r) bytes) in
     nil_from_length (record_bytes r bytes) short ∙ ap (λ (n : ℕ). replicate n 0) (sym short)
-
--- an object of one level has only zeros in the records of later strips
-pub later-zeros : (m k : ℕ) (o : Option (List ℕ)) → strip_of m ≢ 0 → IsShort o → IsZeroRecord (record_number m k) o
-later-zeros m k None later short = tt
-later-zeros m k (Some bytes) later short = past-record (record_number m k) bytes (omega (arith, later-record m k later, short))
 
 -- an entry of an object that has as many bytes
 absent-stays : (b a : Option (List ℕ)) → SameEntry b a → b ≡ None → a ≡ None

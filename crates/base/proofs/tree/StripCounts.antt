@@ -16,8 +16,8 @@ use Rattle.base.specs.tree.Places.{record_of_strip, strip_start}
 use Rattle.base.specs.tree.Syncs.{has_block_after, is_unchanged, is_record_touched, state_after_cut, state_after_op, contents_after, record_state, pointer_numbers}
 use Rattle.base.proofs.tree.Sums.{as_one, sum_by-none, sum_by-sum_by, count_within}
 
--- Some record of a strip changed, and some has a block after, by the states of the records of its object and by which of
--- the strip's pointers had a block.
+-- Some record of a strip changed, and some has a block after, by the states of the records of its object and by which
+-- of the strip's pointers had a block.
 abbrev pub is_changed_by : (ℕ → RecordState) → ℕ → Bool
 is_changed_by state j = list_any (λ k. not (is_unchanged (state (record_of_strip j k)))) pointer_numbers
 

@@ -1,10 +1,10 @@
 -- A place is told by its index in the walk: a directory before its objects, the top of an object before its strips, an
 -- indirect block before its records.
 use Rattle.std.proofs.Common.{◌≡◌, ℕ, ◌+◌, ◌-◌, ◌*◌, ◌/◌, ◌%◌, ◌<◌, ◌≤◌, refl, sym, ◌∙◌, ap, arith}
-use Rattle.base.specs.formats.Limits.{object_count, indirect_count, entry_count, strip_stride, object_stride, directory_stride}
+use Rattle.base.specs.formats.Limits.{indirect_count, entry_count, strip_stride, object_stride, directory_stride}
 use Rattle.base.specs.tree.Places.{Place, IsPlace, object_of_indirect, strip_of, strip_number, walk_index_of_object, walk_index_of_indirect, walk_index_of}
 use Rattle.base.specs.tree.Places.Place.{Root, Directory, Top, Indirect, Data}
-use Rattle.base.proofs.tree.Strips.{strip-object, strip-which, number-strip, number-back}
+use Rattle.base.proofs.tree.Strips.{number-strip, number-back}
 
 -- the index of a place below a directory: which directory it is, which entry, and which place of the object
 abbrev index_below : ℕ → ℕ → ℕ → ℕ
@@ -39,9 +39,6 @@ index_within d k low =
     let q : (entry_count * d + k) / entry_count ≡ d = omega (arith, low) in
     let m : (entry_count * d + k) % entry_count ≡ k = omega (arith, low) in
     (λ i. 2 + directory_stride * q i + object_stride * m i)
-
-pub strip_index : (n j : ℕ) → n < object_count → walk_index_of_indirect (strip_number n j) ≡ walk_index_of_object n + 1 + strip_stride * j
-strip_index n j low = (λ i. walk_index_of_object (strip-object n j low i) + 1 + strip_stride * strip-which n j low i)
 
 -- which place of its object an indirect block is, or one of its records
 abbrev place_of_strip : ℕ → ℕ → ℕ
@@ -119,7 +116,7 @@ same_place (Data m k) (Data o l) ha hb e =
     let records : k ≡ l = omega (arith, rows) in
     (λ i. Data (strips i) (records i))
 
--- a place is one of an object: its top, or one of its strips; and one is of a strip: its indirect block, or a record
+-- a place is one of an object: its top, the indirect block of a strip, or a record
 abbrev pub IsOfObject : ℕ → Place → Type 0
 IsOfObject n Root = ⊥
 IsOfObject n (Directory d) = ⊥
@@ -127,14 +124,7 @@ IsOfObject n (Top m) = m ≡ n
 IsOfObject n (Indirect m) = object_of_indirect m ≡ n
 IsOfObject n (Data m k) = object_of_indirect m ≡ n
 
-abbrev pub IsOfStrip : ℕ → Place → Type 0
-IsOfStrip m Root = ⊥
-IsOfStrip m (Directory d) = ⊥
-IsOfStrip m (Top n) = ⊥
-IsOfStrip m (Indirect o) = o ≡ m
-IsOfStrip m (Data o k) = o ≡ m
-
--- those are the places in the walk from the object on, and from the indirect block on
+-- those are the places in the walk from the object on
 by_object : (n o : ℕ) (p : Place) → IsPlace p → o < object_stride → walk_index_of p ≡ walk_index_of_object n + o → IsOfObject n p
 by_object n o Root is low at = no_root (walk_index_of_object n) o (object_some n) at
 by_object n o (Directory d) is low at = no_directory d n o low at
@@ -146,16 +136,6 @@ by_object n o (Data m k) is low at =
 
 pub object_range : (n : ℕ) (p : Place) → IsPlace p → walk_index_of_object n ≤ walk_index_of p → walk_index_of p < walk_index_of_object n + object_stride → IsOfObject n p
 object_range n p is from to = by_object n (walk_index_of p - walk_index_of_object n) p is (omega (arith, from, to)) (omega (arith, from))
-
-by_strip : (m o : ℕ) (p : Place) → IsPlace p → m < indirect_count → o < strip_stride → walk_index_of p ≡ walk_index_of_indirect m + o → IsOfStrip m p
-by_strip m o Root is low o_low at = no_root (walk_index_of_indirect m) o (indirect_some m) at
-by_strip m o (Directory d) is low o_low at = above_strip d m o low o_low at
-by_strip m o (Top n) is low o_low at = no_strip n m o low o_low at
-by_strip m o (Indirect q) is low o_low at = (same_strip q m 0 o is low (omega arith) o_low (omega (arith, at))).0
-by_strip m o (Data q k) is low o_low at = (same_strip q m (1 + k) o is.0 low (omega (arith, is.1)) o_low (omega (arith, at))).0
-
-pub strip_range : (m : ℕ) (p : Place) → IsPlace p → m < indirect_count → walk_index_of_indirect m ≤ walk_index_of p → walk_index_of p < walk_index_of_indirect m + strip_stride → IsOfStrip m p
-strip_range m p is low from to = by_strip m (walk_index_of p - walk_index_of_indirect m) p is low (omega (arith, from, to)) (omega (arith, from))
 
 -- and no others
 pub of_object : (n : ℕ) (p : Place) → IsPlace p → IsOfObject n p → (walk_index_of_object n ≤ walk_index_of p) × (walk_index_of p < walk_index_of_object n + object_stride)

@@ -70,8 +70,8 @@ module _ (blocks : List NewBlock) (frame : Frame) (old new : Place → Pointer) 
   IsWrittenAt (Data m k) = IfSome (map.get after (object_of_indirect m))
       (λ bytes. (record_start m k < length bytes) × IsNewAt blocks frame (Data m k) (new (Data m k)) (padded_record (record_number m k) bytes))
 
-  -- a place has no block any more, and there is nothing that it alone would name: its objects are absent, its strips need
-  -- no top, or its record has only zeros
+  -- a place has no block any more, and there is nothing that it alone would name: its objects are absent, its strips
+  -- need no top, or its record has only zeros
   abbrev pub HasNoneAt : Place → Type 0
   HasNoneAt Root = (new Root ≡ no_pointer) × ((d : ℕ) → d < pointer_count → new (Directory d) ≡ no_pointer)
   HasNoneAt (Directory d) = (new (Directory d) ≡ no_pointer) × ((k : ℕ) → k < entry_count

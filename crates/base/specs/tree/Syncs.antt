@@ -128,8 +128,8 @@ module _ (group : GroupChanges) where
   abbrev pub has_strip_after : ℕ → ℕ → Bool
   has_strip_after n j = list_any (has_record_after n j) pointer_numbers
 
-  -- An indirect block is written where some record below it has a block, and the strip changed. In an object of one level
-  -- there is only the first one, which is written where the object had a write or a set length.
+  -- An indirect block is written where some record below it has a block, and the strip changed. In an object of one
+  -- level there is only the first one, which is written where the object had a write or a set length.
   abbrev pub is_indirect_written : ℕ → ℕ → Bool
   is_indirect_written n j = (if group.is_long n then is_strip_changed n j else (j == 0) && group.is_changed n) && has_strip_after n j
 

@@ -31,8 +31,8 @@ IsStrip image frame m pointer bytes =
     ⊎ ((payload : List ℕ) × OpensAt image frame (Indirect m) pointer payload
     × ((k : ℕ) → k < pointer_count → IsRecord image frame m k (pointer_in payload k) bytes))
 
--- the strips of object n, of two levels: holes without a top, or what the pointers of the top name, none from the end of
--- the object on
+-- the strips of object n, of two levels: holes without a top, or what the pointers of the top name, none from the end
+-- of the object on
 abbrev pub AreStrips : List ℕ → Frame → ℕ → Pointer → List ℕ → Type 0
 AreStrips image frame n pointer bytes =
     ((pointer ≡ no_pointer) × ((j : ℕ) → j < pointer_count → IsStrip image frame (strip_number n j) no_pointer bytes))

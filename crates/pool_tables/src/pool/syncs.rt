@@ -67,10 +67,11 @@ impl PoolTables {
         self.groups.mark_quiesced()
     }
 
-    /// Starts the sync of the quiesced group, with this moment in its uberblocks, and takes the blocks that it writes.
-    /// Of each changed object, rising, it reads the top, if the object has two levels, and then the indirect blocks that
-    /// the plan looks at. Then it reads each record that the group changes in part. Refused, in this order, `Suspended`
-    /// or `NotReady`, then `NoMemory`, `Read` or `Damaged` as they come, and then nothing is changed.
+    /// Starts the sync of the quiesced group, with this moment in its uberblocks, and takes the blocks that it
+    /// writes. Of each changed object, rising, it reads the top, if the object has two levels, and then the indirect
+    /// blocks that the plan looks at. Then it reads each record that the group changes in part. Refused, in this
+    /// order, `Suspended` or `NotReady`, then `NoMemory`, `Read` or `Damaged` as they come, and then nothing is
+    /// changed.
     pub fn start_sync<B: BlockReader>(
         &mut self,
         reader: &mut B,
