@@ -2,7 +2,7 @@
 //! object that the group changes its top is read, if it has one, and then the indirect blocks of those strips that a
 //! plan looks at: strips of which the group changes a record, and all strips if the object has one level after it.
 
-ghost use Rattle.std.specs.Prelude.{◌≡◌, ◌<◌, ◌≤◌, ◌⊎◌, ℕ, List, IfErr, IfOk, IsTrue, None, OnOk, false, is_some, length, true, vec_len};
+ghost use Rattle.std.specs.Prelude.{◌≡◌, ◌<◌, ◌≤◌, ◌⊎◌, ℕ, List, IfErr, IfOk, IsTrue, None, OnOk, false, is_some, length, vec_len};
 ghost use Rattle.std.specs.Ordering.{nat_cmp};
 ghost use Rattle.std.specs.FinMap.{FinMap};
 ghost use Rattle.base.specs.declared.error.PoolError.TheVariants as error;

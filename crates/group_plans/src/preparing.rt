@@ -12,7 +12,7 @@ ghost use Rattle.device_model.specs.Reading.{OnlyReads};
 ghost use Rattle.object_maps.specs.Cached.{IsReadRefusal};
 ghost use Rattle.object_maps.specs.ContentsShown.{contents_of};
 ghost use Rattle.extents.specs.Tables.{patches_of};
-ghost use Rattle.tree_plans.specs.Changes.{is_strip_dirty, state_at};
+ghost use Rattle.tree_plans.specs.Changes.{state_at};
 ghost use Rattle.tree_plans.specs.Parts.{AreReady};
 ghost use Rattle.tree_plans.specs.Plans.{IsReady};
 ghost use Rattle.tree_plans.specs.Pointers.{pointers_before};

@@ -13,7 +13,7 @@ use Rattle.base.specs.declared.version.Version.TheVariants.{Two}
 use Rattle.base.specs.formats.Versions.{number_of_version}
 use Rattle.base.proofs.formats.Pieces.{length_said, length_said_alone, one_block}
 use Rattle.base.proofs.formats.RecordSizes.{length-bytes_of_record}
-use Rattle.intent_log.specs.Chains.{AreGathered, BeginsNone, HasNoBlock, HasNoLong, HasNoPieceAt, HasNoRecords, HasNoneOfVersion, IsBlockAt, IsLongAt, IsNoRecord, IsPieceAt, IsRecordOf, IsShortOf, MayBegin, NoneStand, frame_of_chain, header_of_chain}
+use Rattle.intent_log.specs.Chains.{AreGathered, BeginsNone, HasNoBlock, HasNoLong, HasNoPieceAt, HasNoneOfVersion, IsBlockAt, IsLongAt, IsNoRecord, IsPieceAt, IsRecordOf, IsShortOf, MayBegin, NoneStand, frame_of_chain, header_of_chain}
 use Rattle.intent_log.specs.declared.chains.ChainHeader.{ChainHeader}
 use Rattle.intent_log.specs.declared.parts.Parts.{Parts}
 

@@ -15,11 +15,11 @@ use Rattle.base.specs.formats.Geometry.{IsBlockAddress}
 use Rattle.base.specs.formats.Blocks.{Frame}
 use Rattle.base.specs.tree.Places.Place.{Directory}
 use Rattle.base.specs.tree.Tree.{OpensAt}
-use Rattle.base.specs.tree.PlacedTrees.{IsEntryFor, IsPlaced}
+use Rattle.base.specs.tree.PlacedTrees.{IsEntryFor}
 use Rattle.object_maps.specs.declared.forms.Entry.{Entry}
 use Rattle.object_maps.specs.declared.tree.ObjectEntry.{ObjectEntry}
 use Rattle.object_maps.specs.Loaders.{IsEntryOf, IsObjectOf}
-use Rattle.object_maps.specs.Pointers.{ObjectPointers, is_long_entry, long_pointers, no_pointers, object_pointers, pointer_of_list, pointers_of_entry, short_pointers}
+use Rattle.object_maps.specs.Pointers.{ObjectPointers, is_long_entry, no_pointers, object_pointers, pointer_of_list, pointers_of_entry}
 use Rattle.object_maps.specs.Loading.{IsLoadedObject, IsLoadedAt, IsEntryAt, IsEmptyAt, AreEmptyFrom, DirectoryStands, SameBut, AreLoadedEntries, IsLoadedDirectory, LoadsDirectory, AreLoadedDirectories}
 use Rattle.base.proofs.history.Objects.{get-stored_same, get-stored_other}
 use Rattle.object_maps.proofs.LoadedObjects.{none_loaded}

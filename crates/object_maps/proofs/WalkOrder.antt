@@ -5,7 +5,6 @@ use Rattle.base.specs.declared.pointer.Pointer.{Pointer}
 use Rattle.base.specs.formats.Limits.{object_count, indirect_count, entry_count, object_stride, directory_stride}
 use Rattle.base.specs.formats.Blocks.{Frame}
 use Rattle.base.specs.tree.Places.{Place, IsPlace, strip_of, strip_number, walk_index_of, walk_index_of_object, walk_index_of_indirect}
-use Rattle.base.specs.tree.Places.Place.{Root, Directory, Top, Indirect, Data}
 use Rattle.base.specs.tree.Damages.{IsSoundAt}
 use Rattle.base.proofs.tree.Strips.{number-strip, strip-object, strip-which}
 use Rattle.base.proofs.tree.WalkIndexes.{same_place}

@@ -14,7 +14,7 @@
 //! Each block takes the lowest free place after the one before it. No flag of the free set changes here, so a plan that
 //! is refused has changed nothing.
 
-ghost use Rattle.std.specs.Prelude.{◌≡◌, ◌<◌, ◌||◌, [], List, Some, false, is_some, length, true, vec_len, IfOk, IfErr, OnOk};
+ghost use Rattle.std.specs.Prelude.{◌≡◌, ◌<◌, ◌||◌, [], List, Some, false, length, true, vec_len, IfOk, IfErr, OnOk};
 ghost use Rattle.base.specs.declared.error.PoolError.TheVariants as error;
 ghost use Rattle.base.specs.declared.names.ObjectId.{ObjectId};
 ghost use Rattle.base.specs.formats.Geometry.{block_count};

@@ -1,4 +1,4 @@
-use Rattle.std.proofs.Common.{◌≡◌, ◌<◌, ◌≤◌, ◌+◌, ◌*◌, ◌∙◌, ℕ, List, length, Some, refl, ap, subst, sym, arith}
+use Rattle.std.proofs.Common.{◌≡◌, ◌<◌, ◌≤◌, ◌+◌, ◌*◌, ◌∙◌, ℕ, List, length, refl, ap, subst, sym, arith}
 use Rattle.std.specs.FinMap as finite
 use Rattle.base.specs.formats.Fields.{entry_in}
 use Rattle.base.specs.disk.Disk.{Disk, bytes_of}
@@ -11,7 +11,6 @@ use Rattle.object_maps.proofs.EntryForms.{entry_absent, entry_there}
 use Rattle.object_maps.proofs.FreeBlocks.{marked_set}
 use Rattle.object_maps.proofs.LoadedBlocks.{still_shows}
 use Rattle.object_maps.proofs.LoadedEntries.{entries_put, entries_skip, entry_for, next_empty, no_entries}
-use Rattle.object_maps.proofs.WalkOrder.{sound_none}
 use Rattle.object_maps.proofs.WalkParts.{directory_end, entry_linked, entry_skip, entry_tells, object_more, objects_begun}
 use Rattle.object_maps.proofs.walk.Loader.load_entries.Goals as goal
 
