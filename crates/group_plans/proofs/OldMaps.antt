@@ -183,10 +183,6 @@ module _ (blocks : ℕ) (object : OldObject) (strip : ℕ) (indirects : List Poi
       ];
     }
 
--- no strip is read at first
-pub no_strip_read : (blocks : ℕ) (object : OldObject) (indirects : List Pointer) → AreStripsRead blocks object 0 indirects []
-no_strip_read blocks object indirects = record { each = λ j low. absurd (omega (arith, low)); below = λ j there. absurd (false≢true there) }
-
 -- a strip that was read as a plan asks for it has pointers with addresses, or none
 placed_none : (blocks : ℕ) (p : Pointer) → IsPlaced blocks p → p.address ≡ 0 → p ≡ no_pointer
 placed_none blocks p (inl none) zero_is = none

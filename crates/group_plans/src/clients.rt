@@ -114,7 +114,7 @@ fn a_map_has_no_pointer_past_the_end<B: BlockReader>(
 }
 
 // If an object has two levels after a group that changes no record of its strip 1, that strip is not read.
-fn an_untouched_strip_of_a_long_object_is_not_read<B: BlockReader>(
+fn an_untouched_strip_of_a_long_object_is_in_no_map<B: BlockReader>(
     reader: &mut B,
     frame: &Frame,
     source: &GroupSource<'_>,

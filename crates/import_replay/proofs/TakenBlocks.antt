@@ -268,9 +268,3 @@ module _ (old new : Disk) (moment dirty_max : ℕ) (m : Mounted) (import : IsImp
           let both = and_parts (if changes.is_long n then is_strip_changed changes n (strip_of strip) else (strip_of strip == 0) && changes.is_changed n) (has_strip_after changes n (strip_of strip))
           (sym (ap (λ (o : ℕ). is_indirect_written changes o (strip_of strip)) of) ∙ is.1) in
           not_either (changes.is_long n) (is_strip_changed changes n (strip_of strip)) (strip_of strip == 0) (changes.is_changed n) (no_strip (strip_of strip)) (no_change n ops none_on) both.0)
-
-      pub other_top : (k : ℕ) → k < block_count m.geometry → (pointer_of now m.tree.root (Top n)).address ≡ block_address k → KeepsBlock old new k
-      other_top k k_low named =
-          not_written k (Top n) k_low low named (λ is.
-          let front = (and_parts (changes.is_long n && changes.is_changed n) _ is.1).0 in
-          false≢true (sym (no_change n ops none_on) ∙ (and_parts (changes.is_long n) (changes.is_changed n) front).1))

@@ -24,10 +24,6 @@ use Rattle.object_maps.proofs.WalkOrder.{index-directory, index-object, index_of
 use Rattle.object_maps.proofs.WalkParts.{first_index, no_top, short_rest}
 use Rattle.object_maps.proofs.WalkDamages.{same_payload, same-kind, same-address, padded-back}
 
--- which is behind the place itself
-behind_one : (w k : ℕ) → w + 1 ≤ w + (1 + k)
-behind_one w k = omega arith
-
 behind_some : (w s : ℕ) → 0 < s → w + 1 ≤ w + s
 behind_some w s some = omega (arith, some)
 

@@ -91,10 +91,6 @@ none_taken address s none = record {
   rest = refl;
 }
 
--- a pointer to nothing names no block
-pub names_none : (k : ℕ) → names_block k no_pointer ≡ false
-names_none k = ne_eqb 0 (block_address k) (λ e. omega (arith, e))
-
 -- so many takes that are named, one after another
 named_kept : (N : ℕ → Type 0) (old new : FreeSpace) → TakesNamed N old new → new.blocks ≡ old.blocks
 named_kept N old new t = ap (λ (s : FreeSpace). s.blocks) t.rest
@@ -198,10 +194,6 @@ idle_kept p old new t idle = record {
   reserved = ap (λ (s : FreeSpace). s.reserved) t.rest ∙ idle.reserved;
   taken = ap (λ (s : FreeSpace). s.taken) t.rest ∙ idle.taken;
 }
-
-placed_kept : (p : ℕ → Bool) (old new : FreeSpace) → BlocksTaken p old new → ((address : ℕ) → IsTrue (set.contains old.free address) → IsBlockAddress old.blocks address)
-    → (address : ℕ) → IsTrue (set.contains new.free address) → IsBlockAddress new.blocks address
-placed_kept p old new t placed address is = subst (λ (n : ℕ). IsBlockAddress n address) (sym (blocks_kept p old new t)) (placed address (t.fewer address is))
 
 named_idle : (N : ℕ → Type 0) (old new : FreeSpace) → TakesNamed N old new → IsIdle old → IsIdle new
 named_idle N old new t idle = record {

@@ -21,9 +21,6 @@ strip-told strips j s = ap (λ (b : Bool). unwrap_or (cond b (Some s) (lookup (n
 pub strip-kept : (strips : List (ℕ × (Pointer × List Pointer))) (j : ℕ) (s : Pointer × List Pointer) (i : ℕ) → i ≢ j → strip_in ((j, s) ∷ strips) i ≡ strip_in strips i
 strip-kept strips j s i other = ap (λ (b : Bool). unwrap_or (cond b (Some s) (lookup (nat_eq i) strips)) (no_pointer, [])) (ne_eqb i j other)
 
-pub tells-strip : (old new : List (ℕ × (Pointer × List Pointer))) (j : ℕ) (s : Pointer × List Pointer) → new ≡ (j, s) ∷ old → TellsStrip j s.0 old new
-tells-strip old new j s is = rw is (ap (λ (t : Pointer × List Pointer). t.0) (strip-told old j s), λ i other. strip-kept old j s i other)
-
 pub strip-is : (old new : List (ℕ × (Pointer × List Pointer))) (j : ℕ) (s : Pointer × List Pointer) → new ≡ (j, s) ∷ old → strip_in new j ≡ s
 strip-is old new j s is = rw is (strip-told old j s)
 

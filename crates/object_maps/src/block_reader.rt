@@ -221,7 +221,7 @@ fn pointer_inside(
 /// The pointer to the indirect block of a strip of an object of this length, in the payload of its top.
 ///
 /// # Errors
-/// `Damaged` if it is none and names no block of the area, or if it names one of a strip from the object's end on.
+/// `Damaged` if it is not none and names no block of the area, or if it names one of a strip from the object's end on.
 pub fn strip_pointer(
     frame: &Frame,
     payload: &[u8],
@@ -246,7 +246,7 @@ pub fn strip_pointer(
 /// length.
 ///
 /// # Errors
-/// `Damaged` if it is none and names no block of the area, or if it names one from the object's end on.
+/// `Damaged` if it is not none and names no block of the area, or if it names one from the object's end on.
 pub fn record_pointer(
     frame: &Frame,
     payload: &[u8],

@@ -122,7 +122,8 @@ fn last_made(ops: &[Op], id: ObjectId) -> Presence
 }
 
 fn made_after(op: &Op, id: ObjectId, made: Presence) -> Presence
-    ensures { (present : Bool) → is_there_noted result present ≡ is_present_after id.0 op.now (is_there_noted made present) }
+    ensures { (present : Bool) → is_there_noted result present
+        ≡ is_present_after id.0 op.now (is_there_noted made present) }
 {
     match op {
         Op::Create(other) if other.0 == id.0 => Presence::Created,

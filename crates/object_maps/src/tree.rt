@@ -27,7 +27,7 @@ pub struct ObjectEntry {
 }
 
 impl ObjectEntry {
-    ghost use Rattle.std.specs.Prelude.{◌≡◌, false};
+    ghost use Rattle.std.specs.Prelude.{◌≡◌};
     ghost use Rattle.object_maps.specs.Pointers.{is_long_entry, pointers_of_entry};
 
     /// Whether the object has two levels of indirect blocks.
@@ -48,18 +48,6 @@ impl ObjectEntry {
             self.pointer
         } else {
             Pointer::NONE
-        }
-    }
-
-    /// The pointer to the indirect block of an object of one level, or to nothing.
-    pub fn indirect(&self) -> Pointer
-        ensures { is_long_entry self.now ≡ false
-            → result ≡ (pointers_of_entry self.now).strip 0 }
-    {
-        if self.is_long() {
-            Pointer::NONE
-        } else {
-            self.pointer
         }
     }
 }

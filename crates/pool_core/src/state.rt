@@ -178,10 +178,11 @@ impl<D: SectorDevice> PoolState<D> {
 
     /// Opens a transaction of the open group that keeps to a plan, of which it takes a copy.
     ///
-    /// The plan is estimated in blocks: 2 for a create or a remove, 4 for a new length. A write is estimated at 3, and
-    /// one more for each piece of 4,032 bytes that it touches. The group is charged 4,096 bytes for each of these
-    /// blocks, and as many blocks are reserved. Both last until the group is synced, or the transaction is aborted. At
-    /// the dirty limit `begin` is refused `Throttled` until a group is synced, or a transaction is aborted.
+    /// The plan is estimated in blocks: 2 for a create or a remove, 5 for a new length, 1 for a new name. A write is
+    /// estimated at 3, and one more for each piece of 4,032 bytes and for each of 338,688 bytes that it touches. The
+    /// group is charged 4,096 bytes for each of these blocks, and as many blocks are reserved. Both last until the
+    /// group is synced, or the transaction is aborted. At the dirty limit `begin` is refused `Throttled` until a group
+    /// is synced, or a transaction is aborted.
     ///
     /// # Errors
     /// In this order:
@@ -192,8 +193,8 @@ impl<D: SectorDevice> PoolState<D> {
     /// - `Busy` if one overlaps a range of an open transaction.
     /// - `TooMany` if 64 transactions are open, or the next name would pass 2^60.
     /// - `Throttled` if the charges of all unsynced groups would pass the import's dirty limit.
-    /// - `NoSpace` if fewer blocks are available than the plan is estimated at. Unless it only removes objects, 16 more
-    ///   have to be available.
+    /// - `NoSpace` if fewer blocks are available than the plan is estimated at. 16 more have to be available, unless it
+    ///   only removes objects and sets lengths to no more than they are.
     /// - `NoMemory`.
     pub fn begin(&mut self, owner: Owner, plan: &Plan) -> Result<(TxId, Group), PoolError>
         ensures step { Begins owner plan.now result (shown self.old) (shown self.new) }
@@ -277,8 +278,9 @@ impl<D: SectorDevice> PoolState<D> {
 
     /// The bytes of a range that lie below the object's length.
     ///
-    /// Of the synced tree the blocks are read in which a byte of the range shows: the indirect block of the object, and
-    /// then its records, rising. A block that was read stays in a cache, and a block that the cache has is not read.
+    /// Of the synced tree those blocks are read in which a byte of the range shows: the top of an object of two levels,
+    /// and then of each strip, rising, its indirect block and its records, rising. A block that was read stays in a
+    /// cache, and a block that the cache has is not read.
     ///
     /// # Errors
     /// In this order:

@@ -1,7 +1,7 @@
 //! A pool that threads share: each takes it whole, makes one step, and releases it.
 //!
 //! **At the dirty limit `transact` makes the steps of a sync itself**, unless other threads run the loops `quiescer`
-//! and `syncer`: then it waits for them. At the default limit the 171st object makes the first sync, if each
+//! and `syncer`: then it waits for them. At the default limit the 147th object makes the first sync, if each
 //! transaction creates one and writes a few bytes to it. Transactions are charged until their group is synced.
 //!
 //! [`Pool::open`] opens the pool on a device, and [`Pool::handle`] gives each thread a [`Handle`]. `transact` of a

@@ -41,7 +41,7 @@ impl<'p, D: SectorDevice> Handle<'p, D> {
     /// of a sync of the open group itself, as `sync_pool` does, and then tries again. While another thread's
     /// transaction is open in a closed group it waits for the end of that transaction. A transaction is charged for
     /// what its sync writes (`PoolState::begin` says how much), until its group is synced. At
-    /// [`DEFAULT_DIRTY_MAX`](base::DEFAULT_DIRTY_MAX) the 171st object makes the first sync, if each transaction
+    /// [`DEFAULT_DIRTY_MAX`](base::DEFAULT_DIRTY_MAX) the 147th object makes the first sync, if each transaction
     /// creates one and writes a few bytes to it.
     ///
     /// **Without space** it does the same: a sync ends reservations, and frees what its transactions have replaced. It

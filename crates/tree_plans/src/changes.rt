@@ -32,8 +32,8 @@ pub struct ObjectChanges {
     first_hole: Option<usize>,
     /// Whether an operation writes it or sets its length.
     pub is_changed: bool,
-    /// Its length after them in bytes, 0 if it is absent.
-    pub length: u64,
+    // Its length after them in bytes, 0 if it is absent.
+    length: u64,
 }
 
 impl ObjectChanges {

@@ -1,6 +1,6 @@
 //! The pointers of an object before a group, as far as they were read. A tree in memory has none below the entries of
 //! its directories, so they are read of each object that a group changes: those in its top, if it has one, and those in
-//! the indirect blocks whose strips the group changes.
+//! the indirect blocks whose strips the group changes, or in all of them if the object has one level after the group.
 
 ghost use Rattle.std.specs.Prelude.{vec_len, ◌≡◌};
 ghost use Rattle.base.specs.formats.Limits.{pointer_count};

@@ -22,7 +22,8 @@ pub struct PlanSource<'a> {
     /// The pointers and lengths before the group.
     pub tree: &'a Tree,
     /// The maps before the group that were read, one of each object that an operation is on: its top's pointers, and
-    /// those in the indirect block of each strip that the group changes. What wasn't read is as the tree tells it.
+    /// those in the indirect block of each strip that the group changes, or of all its strips if the object has one
+    /// level after the group. What wasn't read is as the tree tells it.
     pub old_maps: &'a BTreeMap<ObjectId, ObjectMap>,
     /// The blocks that may be taken.
     pub free: &'a FreeSet,

@@ -9,7 +9,7 @@ use Rattle.tree_plans.specs.Changes.{is_strip_touched}
 use Rattle.tree_plans.specs.Plans.{is_strip_replaced}
 use Rattle.tree_plans.specs.Pointers.{records_among}
 use Rattle.group_plans.specs.OldMaps.{IsReadFor}
-use Rattle.group_plans.proofs.clients.an_untouched_strip_of_a_long_object_is_not_read.Goals as goal
+use Rattle.group_plans.proofs.clients.an_untouched_strip_of_a_long_object_is_in_no_map.Goals as goal
 
 -- what was read only if it is looked at, was not read if it isn't
 not_read : (is_long : Bool) (changes : ObjectChanges) (m : ObjectMap) → IsReadFor is_long changes m → is_long ≡ true → is_strip_touched changes 1 ≡ false → records_among m.strips.entries 1 ≡ None
