@@ -113,7 +113,7 @@ fn a_map_has_no_pointer_past_the_end<B: BlockReader>(
     read_maps(reader, frame, source, extents, contents, objects)
 }
 
-// If an object has two levels after a group that changes no record of its strip 1, that strip is not read.
+// If an object has two levels after a group that changes no record of its strip 1, its map has no pointers in it.
 fn an_untouched_strip_of_a_long_object_is_in_no_map<B: BlockReader>(
     reader: &mut B,
     frame: &Frame,
