@@ -47,8 +47,7 @@ impl<'a> ShownTree<'a> {
     {
         let low = range.low.min(length) as usize;
         let high = range.high.min(length) as usize;
-        let mut bytes = Vec::new(alloc);
-        bytes.resize(high - low, 0)?;
+        let mut bytes = vec![in alloc; 0u8; high - low]?;
         self.read_bytes(reader, id, low, bytes.as_mut_slice())?;
         Ok(Bytes::new(bytes))
     }
