@@ -3,7 +3,7 @@ use Rattle.std.proofs.Common.{◌≡◌, ◌⊎◌, ◌++◌, ◌+◌, ◌<◌, 
 use Rattle.std.specs.Global.{Vec}
 use Rattle.std.specs.Fmt.{decimal}
 use Rattle.std.specs.Io.KnownBytes.{Appends}
-use Rattle.std.specs.Prelude.{IfErr, IfOk, None, OnOk, Option, Some, codes}
+use Rattle.std.specs.Prelude.{IfErr, IfOk, OnOk, Option, Some, codes}
 use Rattle.std.proofs.lemmas.List.{drop_more}
 use Rattle.base.specs.declared.error.PoolError.{PoolError}
 use Rattle.base.specs.crash.Mount.{MountsTo}

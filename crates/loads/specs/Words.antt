@@ -1,6 +1,5 @@
 -- The writes of a load's streams, and the bytes that each stream has for itself.
 use Rattle.std.specs.Prelude.{ℕ, ◌≡◌, ◌+◌, ◌*◌, ◌/◌, ◌%◌, ◌^◌, ◌≤◌, ◌<◌, ◌⊎◌, nat_lt, if◌then◌else◌}
-use Rattle.base.specs.declared.names.ObjectId.{ObjectId}
 use Rattle.base.specs.declared.range.ObjectRange.{ObjectRange}
 
 -- where a stream's write begins, by the number drawn for it: half of the writes go to the shared object 16

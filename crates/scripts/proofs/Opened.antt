@@ -1,20 +1,14 @@
 -- A pool that an import gave is opened as it was imported, at once or at the second time, and none of its transactions
 -- is open.
 use Rattle.std.proofs.Common.{◌≡◌, ◌∙◌, ap, sym, subst}
-use Rattle.std.specs.Prelude.{IsTrue, List, [], true}
+use Rattle.std.specs.Prelude.{IsTrue, [], true}
 use Rattle.base.specs.disk.Disk.{Disk}
-use Rattle.base.specs.steps.Shown.{Shown}
 use Rattle.device_model.specs.MemState.{MemState}
 use Rattle.import_replay.specs.Mounts.{shown_of_import}
 use Rattle.import_replay.specs.declared.mounted.Mounted.{Mounted}
 use Rattle.pool_threads.specs.Handles.{IsReadyBehind, OpensBehind, ShowsMounted}
 use Rattle.pool_threads.specs.Views.{SeenPool, view_behind_disk, viewed_state}
 use Rattle.scripts.specs.OwnPools.{MemPool}
-use Rattle.scripts.specs.Plans.{ArePlansOf, plan_named}
-use Rattle.scripts.specs.declared.begun_plans.BegunPlan.{BegunPlan}
-use Rattle.base.specs.steps.Refusals.{transaction_of}
-use Rattle.base.specs.steps.Groups.{Admission}
-use Rattle.std.specs.Option.{option_map}
 
 module _ (old : Disk) (m : Mounted) (device : MemState) (s : MemPool) (ready : IsReadyBehind old m device s) (v : SeenPool) (is : v ≡ view_behind_disk s old) where
   pub opens_so : OpensBehind (IsTrue true) old (shown_of_import m).dirty_max v

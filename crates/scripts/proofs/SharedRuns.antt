@@ -23,7 +23,7 @@ use Rattle.scripts.proofs.CommandSteps.{by_command}
 use Rattle.scripts.proofs.JoinedRuns.{runs_join}
 use Rattle.scripts.specs.Callers.{AsksNext, LastOfMem, StepsTo}
 use Rattle.scripts.specs.Plans.{plan_seen}
-use Rattle.scripts.specs.SharedPools.{IsDeviceIn, IsMountShared, LooksAt, view_in}
+use Rattle.scripts.specs.SharedPools.{IsDeviceIn, IsMountShared, view_in}
 use Rattle.scripts.specs.SharedRuns.{BeginsShared, GoesSafely, IsRunOf, StepsSafely}
 use Rattle.scripts.specs.declared.shared_pool.SharedPool.{SharedPool}
 use Rattle.word_lock.specs.Seats.{seen}

@@ -1,15 +1,17 @@
 //! What callers rely on of the commands on objects, on labels, and of scripts.
 
-ghost use Rattle.std.specs.Prelude.{ℕ, ◌≡◌, ◌≢◌, ◌≤◌, ◌⊎◌, [], ◌∷◌, IfOk, IsOk, IsTrue, Ok, Some, codes, length, slice_get};
+ghost use Rattle.std.specs.Prelude.{ℕ, ◌≡◌, ◌≢◌, ◌≤◌, ◌⊎◌, [], ◌∷◌, IfOk, IsOk, IsTrue, List, None, Ok, Some, codes, length, slice_get};
 ghost use Rattle.std.specs.FinMap as finite;
 ghost use Rattle.base.specs.crash.Mount.{MountsTo};
 ghost use Rattle.base.specs.declared.operation.Op.TheVariants.{Create, Remove, SetLength, Write};
 ghost use Rattle.base.specs.disk.Disk.{bytes_of};
 ghost use Rattle.base.specs.history.Contents.{Contents};
 ghost use Rattle.base.specs.history.History.{Entry, apply_all};
+ghost use Rattle.base.specs.history.Sequences.{in_turn};
 ghost use Rattle.base.specs.steps.Seen.{IsKnownDurable};
 ghost use Rattle.commands.specs.Committed.{HappensOn};
-ghost use Rattle.commands.specs.Puts.{PutsLeaveBytes};
+ghost use Rattle.commands.specs.Puts.{PutsLeaveBytes, put_transactions};
+ghost use Rattle.commands.specs.declared.changes.Start.TheVariants.{Empties};
 
 use super::{BRIEF, OPTIONS};
 use crate::arguments::{
@@ -119,6 +121,16 @@ fn a_look_at_the_labels_writes_nothing_to_the_device<
 fn what_a_put_commits_leaves_its_bytes()
     ensures { PutsLeaveBytes }
 {}
+
+// Whatever object 7 had, a put without an offset empties it and leaves the bytes alone, and object 8 stays as it was.
+fn a_put_without_an_offset_leaves_its_bytes_alone()
+    ensures { (bytes : List ℕ) (before after : Contents)
+        → in_turn apply_all (put_transactions Empties (record { 0 = 7 }) None bytes) before
+        ≡ Ok after → (finite.get after.objects 7 ≡ Some bytes)
+        × (finite.get after.objects 8 ≡ finite.get before.objects 8) }
+{
+    what_a_put_commits_leaves_its_bytes();
+}
 
 // Object 7 is made or emptied, and gets both bytes, in one entry that was not there before and that no crash loses.
 fn a_put_of_two_bytes_is_one_durable_entry<

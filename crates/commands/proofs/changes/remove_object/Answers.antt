@@ -1,7 +1,7 @@
-use Rattle.std.proofs.Common.{Err, Ok, inl, inr, subst, sym}
+use Rattle.std.proofs.Common.{Err, Ok, inr, subst, sym}
 use Rattle.std.specs.Prelude.{IfOk}
 use Rattle.pool_threads.specs.Handles.{shared_of}
-use Rattle.commands.specs.Committed.{RemovesFrom, RemovesOrFails}
+use Rattle.commands.specs.Committed.{RemovesOrFails}
 use Rattle.commands.proofs.changes.remove_object.Goals as goal
 
 pub returns-in-Ok-remove_and_sync-clause-removed : goal.returns-in-Ok-remove_and_sync-clause-removed

@@ -1,4 +1,4 @@
-use Rattle.std.proofs.Common.{rules, ◌<◌, ◌*◌, Err, Ok, ap, arith, length, min, subst, sym, ◌∙◌, ℕ}
+use Rattle.std.proofs.Common.{rules, ◌<◌, ◌*◌, Err, Ok, ap, length, min, subst, sym, ◌∙◌, ℕ}
 use Rattle.commands.specs.Committed.{MakesFirst}
 use Rattle.commands.specs.Puts.{rest_transactions}
 use Rattle.commands.proofs.Pieces.{few_enough, some_bytes, wrote_all, wrote_some}
