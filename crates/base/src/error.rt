@@ -75,7 +75,8 @@ pub enum PoolError {
     /// No such transaction is open.
     #[error("no such transaction is open")]
     NoSuchTransaction,
-    /// The transaction groups are not ready for this step.
+    /// The transaction groups are not ready for this step. No record is pending for a log block, or no log block
+    /// awaits a flush.
     #[error("the transaction groups are not ready for this step")]
     NotReady,
     /// No such lock is held, or another owner holds it.

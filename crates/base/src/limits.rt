@@ -49,7 +49,7 @@ pub const MAX_LOCKS: usize = 256;
 /// The most transactions that may be open.
 pub const MAX_TRANSACTIONS: usize = 64;
 
-/// The blocks that are reserved for syncs, and for plans that free blocks.
+/// The blocks that are kept back for plans that shrink: each other plan has to leave them.
 pub const KEPT_BACK: u64 = 16;
 
 /// The least limit of a pool's unsynced bytes that an import accepts.
@@ -68,8 +68,10 @@ pub const GREATEST_DIRTY_MAX: u64 = 1_099_511_627_776;
 /// `NoSpace` until a group is synced.
 pub const DEFAULT_DIRTY_MAX: u64 = 4_194_304;
 
-/// The greatest number of tree blocks that an import lets a pool keep in memory. The least is one.
+/// The greatest number of tree blocks that an import lets a pool keep in memory once they were read, and of those that
+/// syncs wrote. The least is one.
 pub const GREATEST_CACHE_BLOCKS: u64 = 4096;
 
-/// How many tree blocks a pool keeps in memory where no number is given: 1 MiB of them.
+/// How many tree blocks that were read a pool keeps in memory if no number is given, and how many that syncs wrote:
+/// 1 MiB of each.
 pub const DEFAULT_CACHE_BLOCKS: u64 = 256;

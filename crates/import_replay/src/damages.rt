@@ -26,7 +26,7 @@ pub enum Soundness {
     /// It is: this is what an import would mount.
     Whole(Inspected),
     /// It isn't: these are the damages of its tree, in the order of the walk. If the tree has none, it is the one
-    /// damage of the log, of kind 6, with the address of the block of the first record that can't take place.
+    /// damage of the log, of kind 6, with the address of the first block of the first record that can't take place.
     Damaged(Vec<BlockDamage>),
 }
 

@@ -9,9 +9,9 @@
 //! 3. It reads the labels: the active uberblock, and the config that is chosen for it, which has the pool's name.
 //! 4. It reads the tree, each block checked against its pointer. The first block that fails is reported as `Damaged`.
 //!    What stays in memory of the tree: the pointers down to what its directories name, and which blocks it leaves
-//!    free. No pointer below these stays. Then it reads the log chain and replays it: the records of groups above u are
-//!    applied, in order (`zil_replay` of `zil.c`). The block of the first record that can't take place is reported as
-//!    `Damaged` with kind 6.
+//!    free. No pointer below these stays. Then it reads the log chain and replays it: the records of groups above u
+//!    are applied, in order (`zil_replay` of `zil.c`). The first block of the first record that can't take place is
+//!    reported as `Damaged` with kind 6.
 //! 5. It refuses u + 5 or i + 1 above 2^60. Of each object that the records change, rising, it reads again the top,
 //!    if the object has two levels, and then the indirect blocks that the plan looks at. Then it reads each data
 //!    block that they change in part, for rising objects and in each for rising blocks. The tree that the records
@@ -64,7 +64,7 @@ use std::alloc::Global;
 use std::num::NonZeroUsize;
 use uberblocks::Uberblock;
 
-/// Imports the pool on a device, which then keeps 256 tree blocks in memory at most. See `import_with`.
+/// Imports the pool on a device, which then keeps at most 256 tree blocks in memory that were read. See `import_with`.
 pub fn import<D: SectorDevice>(
     alloc: Global,
     device: D,
@@ -109,10 +109,10 @@ pub fn import<D: SectorDevice>(
 /// In this order:
 /// - `BadGeometry`, and `BadRange` if the limit is not 4,096 to 2^40 bytes, or the number of blocks not 1 to 4,096. The
 ///   device is as it was.
-/// - `NoPool`; `Damaged` with the first damage of the tree, or with kind 6 and the address of the block of the first
-///   log record that can't take place; `TooMany` if u + 5 or i + 1 would pass 2^60; `NoSpace` if the blocks of the
-///   records and the first log block find no room. `NoMemory` and `Read` when they happen. A device that gives a block
-///   otherwise when it is read again is refused `Damaged` as well. The device is flushed and else as it was.
+/// - `NoPool`; `Damaged` with the first damage of the tree, or with kind 6 and the address of the first block of the
+///   first log record that can't take place; `TooMany` if u + 5 or i + 1 would pass 2^60; `NoSpace` if the blocks of
+///   the records and the first log block find no room. `NoMemory` and `Read` when they happen. A device that gives a
+///   block otherwise when it is read again is refused `Damaged` as well. The device is flushed and else as it was.
 /// - `Write` and `Flush`, if the device refused such a call. The calls before it are made.
 pub fn import_with<D: SectorDevice>(
     alloc: Global,

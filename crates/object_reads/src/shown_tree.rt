@@ -1,7 +1,7 @@
 //! The synced tree of a pool, as the changes of the unsynced groups show: parts of the records of its objects.
 //!
-//! A block is read only if a byte of it shows. As records are read rising, the top of an object is read once for all of
-//! its strips, and an indirect block once for all records of its strip.
+//! No block is read for a part of a record that the changes of one group hide. As records are read rising, the top of
+//! an object is read once for all of its strips, and an indirect block once for all records of its strip.
 
 ghost use Rattle.std.specs.Prelude.{◌≡◌, ◌+◌, ◌*◌, ◌<◌, ◌≤◌, IfErr, OnOk, is_some, length, true};
 ghost use Rattle.std.specs.FinMap as finite;

@@ -24,8 +24,8 @@ use pool_tables::Progress;
 
 impl<D: SectorDevice> PoolState<D> {
     /// Makes one step. Three steps make one device call: that of a sync makes the next call of its sync, a log write
-    /// writes a block, and a log flush flushes. A read and a digest read the tree blocks that they need. The others
-    /// make no call.
+    /// writes a block, and a log flush flushes. A read, a digest and the start of a sync read the tree blocks that
+    /// they need. The others make no call.
     ///
     /// Over a device that keeps the model it keeps the crash rule, whatever the device answers: from each past with
     /// which a crash leaves a cut of the entries, at each moment of the step and after it a crash still does. What the

@@ -22,8 +22,9 @@ use std::alloc::Global;
 
 /// A pool that runs on a device, which it owns. One step at a time changes it.
 ///
-/// After the device refused a write or a flush the pool is suspended. It still returns its name and its status, and
-/// each other later step is refused `Suspended`. A step that is refused for another reason leaves the pool unchanged.
+/// After the device refused a write or a flush the pool is suspended. It still returns its name, its status and
+/// whether a commit is durable, and each other later step is refused `Suspended`. A step that is refused for another
+/// reason leaves the pool unchanged.
 #[derive(Debug, Drop)]
 pub struct PoolState<D: SectorDevice> {
     // with the tree blocks that were read last
@@ -57,7 +58,7 @@ impl<D: SectorDevice> PoolState<D> {
     ghost use Rattle.pool_core.specs.Starts.{StartsInOrder};
     ghost use Rattle.pool_tables.specs.SyncStarts.{StartsHeldOver};
 
-    /// The pool that an import gave. It keeps so many tree blocks as the import's cache may have. It takes no memory.
+    /// The pool that an import gave. Its cache has room for as many tree blocks as the import's. It takes no memory.
     pub fn new(imported: Imported<D>) -> Self
         ensures shown { shown result ≡ shown_of_import imported.mounted }
         ensures device { device_of result ≡ imported.device }
@@ -278,9 +279,9 @@ impl<D: SectorDevice> PoolState<D> {
 
     /// The bytes of a range that lie below the object's length.
     ///
-    /// Of the synced tree those blocks are read in which a byte of the range shows: the top of an object of two levels,
-    /// and then of each strip, rising, its indirect block and its records, rising. A block that was read stays in a
-    /// cache, and a block that the cache has is not read.
+    /// Of the synced tree it reads the top of an object of two levels, and then of each strip, rising, the indirect
+    /// block and the records, rising. No block is read for a part that the changes of one group hide. A block that
+    /// was read stays in a cache, and a block that the cache has is not read.
     ///
     /// # Errors
     /// In this order:
@@ -459,7 +460,8 @@ impl<D: SectorDevice> PoolState<D> {
     /// `zil.c`). Pending are the commits of unsynced groups that no log block has. A record of more than 4,008 bytes
     /// begins a block of its own and has 4,008 bytes in each block but its last one, which holds nothing else. While
     /// such a record is begun, its next part is written. Returns how many records end in the block: 0 if a record goes
-    /// on. They are durable after a flush (`log_flush`). The cost is that of the block, whatever is pending.
+    /// on. They are durable after a flush (`log_flush`). The cost is that of the block and of the records that it
+    /// encodes, whatever else is pending.
     ///
     /// # Errors
     /// In this order:

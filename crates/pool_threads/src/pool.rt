@@ -36,8 +36,8 @@ impl<D: SectorDevice> Pool<D> {
     ghost use Rattle.pool_threads.specs.Handles.{IsLastState, IsLaterState, IsLeftByOpen, IsNewHandle, IsReadyBehind, LeavesSame, OpensBehind, ShowsImport, ShowsMounted, StartsBehind, WasOf, kin_left, moment_in, opened_in, opened_of, opening_view, shared_of};
     ghost use Rattle.pool_threads.specs.Views.{Explains, SeenPool};
 
-    /// Opens the pool on a device, as often as one likes: this is the way in for a program. It keeps 256 tree blocks in
-    /// memory at most, that is 1.1 MB. See `open_with`.
+    /// Opens the pool on a device, as often as one likes: this is the way in for a program. It keeps at most 256 tree
+    /// blocks that were read in memory, and as many that syncs wrote: 2.1 MB. See `open_with`.
     pub fn open(
         alloc: Global,
         device: D,
@@ -68,9 +68,9 @@ impl<D: SectorDevice> Pool<D> {
     /// takes the device.
     ///
     /// The dirty limit is the most bytes that unsynced transactions may be charged, as `DEFAULT_DIRTY_MAX` of `base`;
-    /// `PoolState::begin` says what is charged. At most `cache_blocks` blocks of 4,096 bytes stay in memory, 1 to
-    /// 4,096. The moment is a time in seconds, or 0 if no clock is read. It is stored in the uberblocks of this import,
-    /// and in those of the syncs that handles start.
+    /// `PoolState::begin` says what is charged. At most `cache_blocks` blocks of 4,096 bytes stay in memory once they
+    /// were read, 1 to 4,096, and as many that syncs wrote. The moment is a time in seconds, or 0 if no clock is
+    /// read. It is stored in the uberblocks of this import, and in those of the syncs that handles start.
     ///
     /// For proofs: if the device keeps the model, the contents are what the run left that its disk holds, whichever
     /// that was, and the crash rule is followed from there on.

@@ -14,7 +14,7 @@ Examples:
 Exit status:
   0  the command was done
   1  the engine refused it: 'ztxg: refused N NAME' on standard error;
-     or a check found no pool that is whole
+     a check found no pool that is whole; or a script stopped at a refusal
   2  a fault of the command line, or a line of a script that is no command
   3  a file that can't be used: 'ztxg: cannot use FILE' on standard error;
      or a script that can't be read, or output that can't be written
@@ -48,7 +48,7 @@ Refusals, with status 1:
    1 NoMemory              there is no memory
    2 Read                  the device refused a read
    6 NoPool                no label has a valid uberblock with a config
-   7 Damaged KIND ADDRESS  a block is not what the pool's tree says of it
+   7 Damaged KIND ADDRESS  a block is not what the pool's tree or log says
    8 BadGeometry           FILE's size is none that a pool may have";
 
 /// What stands after the help of `ls`.
@@ -61,7 +61,7 @@ Refusals, with status 1:
    1 NoMemory              there is no memory
    2 Read                  the device refused a read
    6 NoPool                no label has a valid uberblock with a config
-   7 Damaged KIND ADDRESS  a block is not what the pool's tree says of it
+   7 Damaged KIND ADDRESS  a block is not what the pool's tree or log says
    8 BadGeometry           FILE's size is none that a pool may have";
 
 /// What stands after the help of `get`.
@@ -104,7 +104,8 @@ Refusals, with status 1:
    8 BadGeometry           FILE's size is none that a pool may have
   11 BadRange              OBJECT, O or the input is outside its limits; FILE
                            is left as it was
-  16 NoSpace               the pool has not enough blocks, also after a sync
+  16 NoSpace               the pool has not enough blocks, also after a sync;
+                           or the log's records find none
   22 TooMany               a group or an import is at its last number, 2^60";
 
 /// What stands after the help of `rm`.
@@ -123,6 +124,7 @@ Refusals, with status 1:
    8 BadGeometry           FILE's size is none that a pool may have
    9 NoObject              there is no such object
   11 BadRange              OBJECT is outside its limits
+  16 NoSpace               the log's records find no blocks
   22 TooMany               a group or an import is at its last number, 2^60";
 
 /// What stands after the help of `labels`.
@@ -163,7 +165,8 @@ Refusals, with status 1, and then nothing is printed on standard output:
    7 Damaged KIND ADDRESS  a block is not what the pool's tree or log says
    8 BadGeometry           FILE's size is none that a pool may have
   11 BadRange              D or C is outside its limits
-  16 NoSpace               a write finds no blocks, also after 8 syncs
+  16 NoSpace               a write finds no blocks, also after 8 syncs; or the
+                           log's records find none
   17 Throttled             D is below the charge of one transaction
   22 TooMany               a group or an import is at its last number, 2^60";
 
@@ -188,6 +191,7 @@ Refusals, with status 1:
    7 Damaged KIND ADDRESS  a block is not what the pool's tree or log says
    8 BadGeometry           FILE's size is none that a pool may have
   11 BadRange              D or C is outside its limits
+  16 NoSpace               the log's records find no blocks
   22 TooMany               a group or an import is at its last number, 2^60";
 
 /// What stands after the help of `check`.
