@@ -44,9 +44,10 @@ pub struct Inspected {
 /// and sees what a read returns, flushed or not. The log records that an import would apply are replayed on the name
 /// and the lengths alone.
 ///
-/// # Errors In this order: `BadGeometry`, before any device call; `NoPool`; `Damaged` with the first damage of the
-/// tree, or with kind 6 and the address of the first block of the first log record that can't take place. `NoMemory`
-/// and `Read` when they happen, `Read` exactly if the device refused a read.
+/// # Errors
+/// In this order: `BadGeometry`, before any device call; `NoPool`; `Damaged` with the first damage of the tree, or with
+/// kind 6 and the address of the first block of the first log record that can't take place. `NoMemory` and `Read` when
+/// they happen, `Read` exactly if the device refused a read.
 pub fn inspect<D: SectorDevice>(alloc: Global, device: &mut D) -> Result<Inspected, PoolError>
     // The disk is as it was, and the device refused no call but a read.
     ensures reads { OnlyReads D.SectorDevice result device.old device.new }

@@ -44,9 +44,10 @@ pub struct View {
 /// also if it is refused, and sees what a read returns, flushed or not. No object's bytes stay in memory, but those of
 /// the log records that an import would apply.
 ///
-/// # Errors In this order: `BadGeometry`, before any device call; `NoPool`; `Damaged` with the first damage of the
-/// tree, or with kind 6 and the address of the first block of the first log record that can't take place. `NoMemory`
-/// and `Read` when they happen.
+/// # Errors
+/// In this order: `BadGeometry`, before any device call; `NoPool`; `Damaged` with the first damage of the tree, or with
+/// kind 6 and the address of the first block of the first log record that can't take place. `NoMemory` and `Read` when
+/// they happen.
 pub fn view_pool<D: SectorDevice>(alloc: Global, device: &mut D) -> Result<View, PoolError>
     // The disk is as it was, and the device refused no call but a read.
     ensures reads { OnlyReads D.SectorDevice result device.old device.new }

@@ -21,11 +21,12 @@ use std::thread::{Threads, map_vec};
 /// It stops the pool's loops at its end, so it serves once for a pool. No other thread may lock the objects 0 to 16
 /// for long, or have a transaction open for long: it waits for them.
 ///
-/// # Errors `BadRange` if the order is outside its limits; then no step was made. Else the first refusal of these
-/// that is not `Suspended`, or else `Suspended`: that of the loop that syncs (`NoMemory`, `Read`, `Damaged`, `Write`,
-/// `Flush`), that of the loop that quiesces, that of the first worker by number. A worker hands on what a call of its
-/// handle refused: `Throttled` only if the dirty limit is below the charge of one transaction, `NoSpace` if a write
-/// found none after 8 syncs. `NoMemory` is returned too if no threads can be made for the loops.
+/// # Errors
+/// `BadRange` if the order is outside its limits; then no step was made. Else the first refusal of these that is not
+/// `Suspended`, or else `Suspended`: that of the loop that syncs (`NoMemory`, `Read`, `Damaged`, `Write`, `Flush`),
+/// that of the loop that quiesces, that of the first worker by number. A worker hands on what a call of its handle
+/// refused: `Throttled` only if the dirty limit is below the charge of one transaction, `NoSpace` if a write found none
+/// after 8 syncs. `NoMemory` is returned too if no threads can be made for the loops.
 pub fn load<D: SectorDevice + Send, G: Gate + Sync, R: Threads + Wait + Sync>(
     rt: &R,
     alloc: Global,

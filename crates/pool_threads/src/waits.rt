@@ -35,10 +35,11 @@ impl<'p, D: SectorDevice> Handle<'p, D> {
     /// It waits for that transaction alone. One that was committed before may be of a later group, so the newest
     /// receipt doesn't promise the older ones: `fsync_all` does.
     ///
-    /// # Errors Those of the tests in this order, `Suspended`, or `BadRange` if no such transaction was committed,
-    /// unless the transaction is durable. Else those of a step that it makes: `NoMemory`; `Read` or `Damaged` if a
-    /// block that a sync needs can't be read; `Write` or `Flush`, after which the pool is suspended; `NotReady` only
-    /// if the open group is 2^60. The transaction may be durable or not then.
+    /// # Errors
+    /// Those of the tests in this order, `Suspended`, or `BadRange` if no such transaction was committed, unless the
+    /// transaction is durable. Else those of a step that it makes: `NoMemory`; `Read` or `Damaged` if a block that a
+    /// sync needs can't be read; `Write` or `Flush`, after which the pool is suspended; `NotReady` only if the open
+    /// group is 2^60. The transaction may be durable or not then.
     pub fn fsync<'a, 'b, W: Wait>(
         &'a mut self,
         rt: &'b W,
@@ -113,9 +114,10 @@ impl<'p, D: SectorDevice> Handle<'p, D> {
     /// Each group up to that one is synced. Transactions that are open in these groups have to end first: it waits for
     /// them.
     ///
-    /// # Errors Those of a step that it makes: `Suspended`; `NoMemory`; `Read` or `Damaged` if a block that a sync
-    /// needs can't be read; `Write` or `Flush`, after which the pool is suspended; `NotReady` only if the open group
-    /// is 2^60. The groups that were synced by then stay so.
+    /// # Errors
+    /// Those of a step that it makes: `Suspended`; `NoMemory`; `Read` or `Damaged` if a block that a sync needs can't
+    /// be read; `Write` or `Flush`, after which the pool is suspended; `NotReady` only if the open group is 2^60. The
+    /// groups that were synced by then stay so.
     pub fn sync_pool<'a, 'b, W: Wait>(&'a mut self, rt: &'b W) -> Result<Group, PoolError>
         ensures synced { SyncsPool result self.old self.new }
         ensures whole { IfOk result (λ g. g.0 ≤ (state_seen self.new).shown.line.synced) }
