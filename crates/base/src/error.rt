@@ -75,7 +75,7 @@ pub enum PoolError {
     /// No such transaction is open.
     #[error("no such transaction is open")]
     NoSuchTransaction,
-    /// The transaction groups are not ready for this step. No record is pending for a log block, or no log block
+    /// The transaction groups are not ready for this step, or no record is pending for a log block, or no log block
     /// awaits a flush.
     #[error("the transaction groups are not ready for this step")]
     NotReady,
