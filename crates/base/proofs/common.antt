@@ -1,3 +1,4 @@
 pub mod Sequences
 pub mod Sieves
 pub mod KeptLists
+pub mod Zeros

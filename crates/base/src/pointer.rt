@@ -1,6 +1,10 @@
 //! Pointers to blocks (On-Disk Specification, chapter 2): where a block lies, when it was born, and the check of its
 //! bytes.
 
+ghost use Rattle.std.specs.Prelude.{◌≡◌, ◌↔◌, IsTrue, replicate};
+
+use crate::fields::read_u64;
+
 /// The place, birth group and check of a block (On-Disk Specification, chapter 2). All zeros: none.
 #[derive(Clone, Copy, Debug, PartialEq, Eq)]
 pub struct Pointer {
@@ -27,6 +31,18 @@ impl Pointer {
     pub fn is_none(&self) -> bool
         ensures { IsTrue result ↔ (self.now ≡ no_pointer) }
     {
-        *self == Pointer::NONE
+        self.address == 0 && self.birth == 0 && is_no_check(&self.check)
     }
+}
+
+// Whether a check is 32 zeros, by its four words.
+fn is_no_check(check: &[u8; 32]) -> bool
+    ensures { IsTrue result ↔ (check.now ≡ replicate 32 0) }
+{
+    for word in 0..4 {
+        if read_u64(check, 8 * word) != 0 {
+            return false;
+        }
+    }
+    true
 }

@@ -14,7 +14,7 @@ ghost use Rattle.object_maps.specs.ContentsShown.{contents_of};
 ghost use Rattle.extents.specs.Tables.{patches_of};
 ghost use Rattle.tree_plans.specs.Changes.{state_at};
 ghost use Rattle.tree_plans.specs.Parts.{AreReady};
-ghost use Rattle.tree_plans.specs.Plans.{IsReady};
+ghost use Rattle.tree_plans.specs.Plans.{IsReady, read_record};
 ghost use Rattle.tree_plans.specs.Pointers.{pointers_before};
 ghost use Rattle.group_plans.specs.GroupPlans.{objects_with};
 ghost use Rattle.group_plans.specs.OldMaps.{AreMapsReadFor, HasReadMap};
@@ -138,13 +138,13 @@ fn prepare_record<B: BlockReader>(
     prepared.put(place.id, place.number(), &mut payload)
 }
 
-// Puts a record at hand as it is after the group, if it changes.
+// Puts a record at hand as it is after the group, if it changes. Its object has this map before the group.
 fn prepare_dirty<B: BlockReader>(
     reader: &mut B,
     frame: &Frame,
     prepared: &mut PreparedObjects<'_>,
     place: RecordPlace,
-    pointer: &Pointer,
+    map: &ObjectMap,
     state: RecordState,
 ) -> Result<(), PoolError>
     requires fits { block_address frame.now.blocks ≤ B.size reader.old }
@@ -159,17 +159,22 @@ fn prepare_dirty<B: BlockReader>(
     ensures kept { KeepsHand (at_hand prepared.old.records) (at_hand prepared.new.records) }
     ensures refused { IfErr result IsPrepareRefusal }
     ensures exact { IsTrue B.keeps_model → HoldsRecord (bytes_of (B.disk reader.old).now) frame.now
-        (contents_of prepared.old.contents.now).objects place pointer.now
+        (contents_of prepared.old.contents.now).objects place
+        (read_record map.now place.strip place.index)
         → AreExact (at_hand prepared.old.records)
         (objects_with prepared.old.extents.now prepared.old.contents.now)
         → OnOk result (AreExact (at_hand prepared.new.records)
         (objects_with prepared.old.extents.now prepared.old.contents.now)) }
     ensures sound { IsTrue B.keeps_model → HoldsRecord (bytes_of (B.disk reader.old).now) frame.now
-        (contents_of prepared.old.contents.now).objects place pointer.now
+        (contents_of prepared.old.contents.now).objects place
+        (read_record map.now place.strip place.index)
         → IfErr result IsPlainRefusal }
 {
     match state {
-        RecordState::Dirty => prepare_record(reader, frame, prepared, place, pointer),
+        RecordState::Dirty => {
+            let pointer = map.record(place.strip, place.index);
+            prepare_record(reader, frame, prepared, place, &pointer)
+        }
         RecordState::Unchanged | RecordState::Hole => Ok(()),
     }
 }
@@ -207,9 +212,8 @@ fn prepare_strip<B: BlockReader>(
 {
     for index in 0..POINTER_COUNT {
         let place = RecordPlace { id, strip, index };
-        let pointer = map.record(strip, index);
         let state = changes.state(place.number());
-        prepare_dirty(reader, frame, prepared, place, &pointer, state)?;
+        prepare_dirty(reader, frame, prepared, place, map, state)?;
     }
     Ok(())
 }
@@ -279,7 +283,7 @@ fn prepare_object<B: BlockReader>(
         (contents_of prepared.old.contents.now).objects id.0 changes.now map.now
         → IfErr result IsPlainRefusal }
 {
-    for strip in 0..POINTER_COUNT {
+    for strip in 0..changes.written_end() {
         prepare_written(reader, frame, prepared, id, strip, map, changes)?;
     }
     Ok(())

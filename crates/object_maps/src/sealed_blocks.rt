@@ -13,7 +13,7 @@ pub struct SealedBlocks {
     alloc: Global,
     count: NonZeroUsize,
     // made for the first block that is put
-    blocks: Option<LruCache<u64, Block>>,
+    blocks: Option<LruCache<u64, Box<Block>>>,
 }
 
 impl SealedBlocks {
@@ -28,6 +28,10 @@ impl SealedBlocks {
 
     /// Puts the block at an address. If there is no memory for it, it isn't kept.
     pub fn put(&mut self, address: u64, block: Block) {
+        // so that the cache moves a pointer, and not the block
+        let Ok(block) = Box::new(self.alloc, block) else {
+            return;
+        };
         if let Some(blocks) = &mut self.blocks {
             let _ = blocks.put(address, block);
             return;
@@ -42,7 +46,10 @@ impl SealedBlocks {
     /// The block that was put last at an address, if it is kept.
     pub fn block_at(&self, address: u64) -> Option<&Block> {
         match &self.blocks {
-            Some(blocks) => blocks.peek(&address),
+            Some(blocks) => match blocks.peek(&address) {
+                Some(block) => Some(&**block),
+                None => None,
+            },
             None => None,
         }
     }

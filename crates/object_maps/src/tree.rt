@@ -7,7 +7,7 @@ ghost use Rattle.base.specs.formats.Limits.{object_count, pointer_count};
 ghost use Rattle.object_maps.specs.EmptyEntries.{IsEmptyEntry};
 
 use crate::told_bytes::{StripsView, no_strips};
-use base::{OBJECT_COUNT, ONE_LEVEL_LENGTH, ObjectId, POINTER_COUNT, Pointer, Told};
+use base::{OBJECT_COUNT, ObjectId, POINTER_COUNT, Pointer, Told, has_two_levels};
 use std::alloc::{AllocError, Global};
 use std::collections::BTreeMap;
 
@@ -35,7 +35,7 @@ impl ObjectEntry {
         ensures { result ≡ is_long_entry self.now }
     {
         match self.length {
-            Some(length) => length > ONE_LEVEL_LENGTH,
+            Some(length) => has_two_levels(length),
             None => false,
         }
     }

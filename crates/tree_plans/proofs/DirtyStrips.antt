@@ -1,7 +1,9 @@
 -- Whether a strip has a record to write is found by the part of the dirty records that lies in it.
-use Rattle.std.proofs.Common.{◌≡◌, ℕ, ◌+◌, ◌-◌, ◌*◌, ◌<◌, ◌≤◌, ◌⊎◌, inl, inr, Bool, true, false, not, List, Option, Some, None, refl, sym, ◌∙◌, ap, subst, arith}
+use Rattle.std.proofs.Common.{◌≡◌, ℕ, ◌+◌, ◌-◌, ◌*◌, ◌/◌, ◌<◌, ◌≤◌, ◌⊎◌, inl, inr, Bool, true, false, not, List, [], ◌∷◌, btree_set_len, length, Option, Some, None, refl, sym, ◌∙◌, ap, subst, arith}
 use Rattle.std.specs.Prelude.{IfSome, is_some, nat_le, slice_get, if◌then◌else◌}
-use Rattle.std.specs.BTreeSet.{IsKeyInRange, IsKeyRangeOf, contains}
+use Rattle.std.specs.BTreeSet.{IsKeyInRange, IsKeyRangeOf, IsUpperBound, contains}
+use Rattle.std.specs.List.{list_any}
+use Rattle.std.specs.BTreeMap.{is_at}
 use Rattle.std.specs.BTreeMap.Range.{IsLeBy, IsLtBy}
 use Rattle.std.specs.Map.Iter.{TakesFirst}
 use Rattle.std.specs.Option.{option_map_or}
@@ -111,3 +113,29 @@ dirty_touches changes j past = any-same (λ k. is_dirty (state_at changes (recor
 pub no_first : (o : Option ℕ) (P : ℕ → Type 0) → ((x : ℕ) → o ≡ Some x → ⊥) → IfSome o P
 no_first None P none = tt
 no_first (Some x) P none = absurd (none x refl)
+
+-- a strip past the last record that is written has none
+pub none_past : (changes : ObjectChanges) (last j : ℕ) → IsUpperBound nat_cmp changes.dirty last → last / pointer_count + 1 ≤ j → is_strip_dirty changes j ≡ false
+none_past changes last j bound past = none_dirty changes j (λ r from _. absent r (omega (arith, past, from)))
+  where
+    absent : (r : ℕ) → last < r → contains nat_cmp changes.dirty r ≡ false
+    absent r above = by (contains nat_cmp changes.dirty r) refl
+      where
+        less : nat_cmp last r ≡ Less
+        less = rw (lt-ltb last r above) refl
+
+        by : (b : Bool) → contains nat_cmp changes.dirty r ≡ b → b ≡ false
+        by false _ = refl
+        by true there = absurd (true≢false (rw less at (bound r there)))
+
+-- no strip has one if none is written
+pub none_of_none : (changes : ObjectChanges) (j : ℕ) → btree_set_len changes.dirty ≡ 0 → is_strip_dirty changes j ≡ false
+none_of_none changes j none = none_dirty changes j (λ r _ _. absent (is_at (nat_cmp r)) changes.dirty.keys none)
+  where
+    absent : (p : ℕ → Bool) (keys : List ℕ) → length keys ≡ 0 → list_any p keys ≡ false
+    absent p [] _ = refl
+    absent p (k ∷ keys) some = absurd (omega (arith, some))
+
+-- a record that is written lies in such a strip
+pub dirty_strip : (changes : ObjectChanges) (r : ℕ) → state_at changes r ≡ Dirty → is_strip_dirty changes (r / pointer_count) ≡ true
+dirty_strip changes r dirty = dirty_there changes (r / pointer_count) r (omega arith) (omega arith) (sym (dirty-contains changes r) ∙ ap is_dirty dirty)

@@ -93,6 +93,17 @@ impl ObjectChanges {
             .is_some()
     }
 
+    /// The strips from this index on have no record that the sync writes. It is at most 84.
+    pub fn written_end(&self) -> usize
+        ensures low { result ≤ pointer_count }
+        ensures past { (j : ℕ) → result ≤ j → j < pointer_count → is_strip_dirty self.now j ≡ false }
+    {
+        match self.dirty.last() {
+            Some(last) => POINTER_COUNT.min(*last / POINTER_COUNT + 1),
+            None => 0,
+        }
+    }
+
     /// The object is created or removed. It takes no memory.
     pub fn clear(&mut self)
         ensures records { (r : ℕ) → r < record_count → state_at self.new r ≡ state.Hole }

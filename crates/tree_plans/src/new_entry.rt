@@ -6,17 +6,16 @@ ghost use Rattle.object_maps.specs.Pointers.{pointer_of_list};
 ghost use Rattle.tree_plans.specs.Changes.{is_long_size};
 ghost use Rattle.tree_plans.specs.Pointers.{entry_strips, strips_with};
 
-use base::{ONE_LEVEL_LENGTH, Pointer, Told};
+use base::{Pointer, Told, has_two_levels};
 use object_maps::{ObjectEntry, StripsView};
 use std::collections::BTreeMap;
 
 /// Whether an object of this length has two levels of indirect blocks.
-#[tactic(auto, unfolding(base::specs::formats::Limits::one_level_length))]
 pub fn is_long(length: Option<u64>) -> bool
     ensures { result ≡ is_long_size length }
 {
     match length {
-        Some(length) => length > ONE_LEVEL_LENGTH,
+        Some(length) => has_two_levels(length),
         None => false,
     }
 }

@@ -22,7 +22,7 @@ pub struct ObjectMap {
 }
 
 impl ObjectMap {
-    ghost use Rattle.std.specs.Prelude.{◌≡◌, ◌<◌, is_some};
+    ghost use Rattle.std.specs.Prelude.{◌≡◌, ◌<◌, ℕ, is_some};
     ghost use Rattle.base.specs.formats.Limits.{pointer_count};
     ghost use Rattle.object_maps.specs.Pointers.{pointer_of_list};
     ghost use Rattle.tree_plans.specs.Plans.{read_record};
@@ -48,18 +48,26 @@ impl ObjectMap {
         requires { strip < pointer_count }
         ensures { result ≡ read_record self.now strip index }
     {
+        pointer_at(self.records(strip), index)
+    }
+
+    // The pointers to the records of a strip, as they were read: none for a strip without an indirect block.
+    pub(crate) fn records(&self, strip: usize) -> &[Pointer]
+        requires { strip < pointer_count }
+        ensures { (k : ℕ) → pointer_of_list result.now k ≡ read_record self.now strip k }
+    {
         if self.indirects[strip].address == 0 {
-            return Pointer::NONE;
+            return &[];
         }
         match self.strips.get(&strip) {
-            Some(records) => pointer_at(records, index),
-            None => Pointer::NONE,
+            Some(records) => records,
+            None => &[],
         }
     }
 }
 
 // The pointer of this number, none past the last one.
-fn pointer_at(pointers: &[Pointer], index: usize) -> Pointer
+pub(crate) fn pointer_at(pointers: &[Pointer], index: usize) -> Pointer
     ensures { result ≡ pointer_of_list pointers.now index }
 {
     pointers.get(index).copied().unwrap_or(Pointer::NONE)

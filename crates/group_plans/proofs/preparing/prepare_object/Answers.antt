@@ -1,13 +1,15 @@
-use Rattle.std.proofs.Common.{◌≡◌, ◌<◌, ◌/◌, ◌%◌, ℕ, inl, inr, ap, arith, refl, subst, sym, true, ◌∙◌}
+use Rattle.std.proofs.Common.{◌≡◌, ◌<◌, ◌/◌, ◌%◌, ℕ, inl, inr, ap, arith, refl, subst, sym, true, true≢false, ◌∙◌}
 use Rattle.std.specs.Prelude.{is_some}
 use Rattle.std.proofs.lemmas.Bool.{cases_lt}
 use Rattle.std.proofs.lemmas.Result.{err_from_is_err_and}
 use Rattle.base.specs.declared.record_state.RecordState.TheVariants.{Dirty}
 use Rattle.base.specs.disk.Disk.{bytes_of}
 use Rattle.base.specs.tree.Places.{record_of_strip}
+use Rattle.base.specs.tree.Syncs.{is_dirty}
 use Rattle.base.proofs.tree.Strips.{record-back, record-count}
 use Rattle.object_maps.specs.ContentsShown.{contents_of}
 use Rattle.tree_plans.specs.Changes.{state_at}
+use Rattle.tree_plans.proofs.Order.{passes_at}
 use Rattle.group_plans.specs.GroupPlans.{objects_with}
 use Rattle.group_plans.specs.Prepared.{AreExact, HoldsMap, at_hand}
 use Rattle.group_plans.proofs.RecordReads.{moved}
@@ -46,9 +48,15 @@ returns-in_err-prepare_written-clause-sound g c = λ keeps holds.
     (moved (λ i x a. HoldsMap i c.args.frame.now (contents_of a).objects c.args.id.0 c.args.changes.now c.args.map.now) _ _ c.args.prepared.now.extents.now c.args.prepared.now.extents.now _ _
     (ap (λ d. bytes_of d.now) (sym (inv.disk keeps))) refl (sym inv.contents) holds))
 
--- each record of the object lies in one of its strips
+-- each record of the object lies in one of its strips, and none that is written past the last one
 pub returns-clause-ready : goal.returns-clause-ready
-returns-clause-ready g c = λ r below.
+returns-clause-ready g c = λ r below dirty.
     let hand = at_hand c.loop-strip.prepared.records c.args.id.0 in
-    let low : r / 84 < c.loop-strip.strip = omega (arith, below, record-count, c.loop-strip-test.false) in
-    subst (λ (i : ℕ). state_at c.args.changes.now i ≡ Dirty → is_some (hand i) ≡ true) (record-back r) (c.loop-strip.invariant.ready (r / 84) (r % 84) low (omega arith))
+    let changes = c.args.changes.now in
+    let inside : r / 84 < 84 = omega (arith, below, record-count) in
+    elim (cases_lt (r / 84) c.loop-strip.strip) [
+      | inl low ↦ subst (λ (i : ℕ). state_at changes i ≡ Dirty → is_some (hand i) ≡ true) (record-back r) (c.loop-strip.invariant.ready (r / 84) (r % 84) low (omega arith)) dirty
+      | inr high ↦
+          let written = passes_at (λ k. is_dirty (state_at changes (record_of_strip (r / 84) k))) 0 84 (r % 84) (omega arith) (omega arith) (ap (λ (i : ℕ). is_dirty (state_at changes i)) (record-back r) ∙ ap is_dirty dirty) in
+          absurd (true≢false (sym written ∙ c.written_end-strip-end.ensures.past (r / 84) (omega (arith, high, c.loop-strip-test.false)) inside))
+    ]

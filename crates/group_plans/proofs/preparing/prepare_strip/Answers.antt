@@ -4,6 +4,7 @@ use Rattle.std.proofs.lemmas.Result.{err_from_is_err_and}
 use Rattle.base.specs.disk.Disk.{bytes_of}
 use Rattle.base.specs.tree.Places.{record_of_strip}
 use Rattle.object_maps.specs.ContentsShown.{contents_of}
+use Rattle.tree_plans.specs.Plans.{read_record}
 use Rattle.tree_plans.specs.declared.place.RecordPlace.{RecordPlace}
 use Rattle.group_plans.specs.GroupPlans.{objects_with}
 use Rattle.group_plans.specs.Prepared.{AreExact, HoldsRecord, at_hand}
@@ -32,9 +33,9 @@ loop-index-preserved g c =
             rw same (ens.ready (rw c.number.ensures at c.state-state.ensures ∙ rw same at dirty))
       ];
       exact = λ keeps holds old. moved
-          (λ i x a. HoldsRecord i c.args.frame.now (contents_of a).objects place c.record-pointer.result → AreExact one (objects_with x a) → AreExact two (objects_with x a))
+          (λ i x a. HoldsRecord i c.args.frame.now (contents_of a).objects place (read_record c.args.map.now c.args.strip index) → AreExact one (objects_with x a) → AreExact two (objects_with x a))
           _ _ _ _ _ _ (ap (λ d. bytes_of d.now) (inv.disk keeps)) inv.extents inv.contents (ens.exact keeps)
-          (record { pointers = holds.pointers; tree = holds.tree; is = holds.are index c.loop-index-test.true ∙ sym c.record-pointer.ensures }) (inv.exact keeps holds old);
+          (record { pointers = holds.pointers; tree = holds.tree; is = holds.are index c.loop-index-test.true }) (inv.exact keeps holds old);
     }
 
 pub returns-in_err-prepare_dirty-clause-sound : goal.returns-in_err-prepare_dirty-clause-sound
@@ -43,6 +44,6 @@ returns-in_err-prepare_dirty-clause-sound g c = λ keeps holds.
     let place : RecordPlace = record { id = c.args.id; strip = c.args.strip; index = c.loop-index.index } in
     let p = err_from_is_err_and c.from_residual.result c.from_residual.ensures.1 in
     rw (p.1, p.2) (c.in_err-prepare_dirty.ensures.sound keeps
-    (moved (λ i x a. HoldsRecord i c.args.frame.now (contents_of a).objects place c.record-pointer.result) _ _ c.args.prepared.now.extents.now c.args.prepared.now.extents.now _ _
+    (moved (λ i x a. HoldsRecord i c.args.frame.now (contents_of a).objects place (read_record c.args.map.now c.args.strip c.loop-index.index)) _ _ c.args.prepared.now.extents.now c.args.prepared.now.extents.now _ _
     (ap (λ d. bytes_of d.now) (sym (inv.disk keeps))) refl (sym inv.contents)
-    (record { pointers = holds.pointers; tree = holds.tree; is = holds.are c.loop-index.index c.loop-index-test.true ∙ sym c.record-pointer.ensures })))
+    (record { pointers = holds.pointers; tree = holds.tree; is = holds.are c.loop-index.index c.loop-index-test.true })))
