@@ -10,7 +10,7 @@ ghost use Rattle.base.specs.history.History.{Entry, apply_all};
 ghost use Rattle.base.specs.history.Sequences.{in_turn};
 ghost use Rattle.base.specs.steps.Seen.{IsKnownDurable};
 ghost use Rattle.commands.specs.Committed.{HappensOn};
-ghost use Rattle.commands.specs.Puts.{PutsLeaveBytes, put_transactions};
+ghost use Rattle.commands.specs.Puts.{put_transactions};
 ghost use Rattle.commands.specs.declared.changes.Start.TheVariants.{Empties};
 
 use super::{BRIEF, OPTIONS};
@@ -20,6 +20,7 @@ use crate::arguments::{
 use crate::changes::{run_put, run_remove};
 use crate::failure::NotesRefusals;
 use crate::label_lines::run_labels;
+use crate::laws::puts_leave_bytes;
 use crate::pool_files::run_list;
 use crate::program::run_opened;
 use crate::reads::run_get;
@@ -117,19 +118,14 @@ fn a_look_at_the_labels_writes_nothing_to_the_device<
     opened
 }
 
-// Whatever contents they are applied to, the transactions of a put leave the object with its bytes.
-fn what_a_put_commits_leaves_its_bytes()
-    ensures { PutsLeaveBytes }
-{}
-
-// Whatever object 7 had, a put without an offset empties it and leaves the bytes alone, and object 8 stays as it was.
-fn a_put_without_an_offset_leaves_its_bytes_alone()
+// Whatever object 7 had, it has the bytes of the put and no others then, and object 8 stays as it was.
+fn a_put_without_an_offset_leaves_only_its_bytes()
     ensures { (bytes : List ℕ) (before after : Contents)
         → in_turn apply_all (put_transactions Empties (record { 0 = 7 }) None bytes) before
         ≡ Ok after → (finite.get after.objects 7 ≡ Some bytes)
         × (finite.get after.objects 8 ≡ finite.get before.objects 8) }
 {
-    what_a_put_commits_leaves_its_bytes();
+    puts_leave_bytes();
 }
 
 // Object 7 is made or emptied, and gets both bytes, in one entry that was not there before and that no crash loses.
