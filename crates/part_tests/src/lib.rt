@@ -21,6 +21,8 @@ mod held_ranges;
 #[cfg(test)]
 mod label_configs;
 #[cfg(test)]
+mod lanes;
+#[cfg(test)]
 mod limits;
 #[cfg(test)]
 mod names;

@@ -1,0 +1,4 @@
+pub mod Vectors
+pub mod Messages
+pub mod Digests
+mod Majority

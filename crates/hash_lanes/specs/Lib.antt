@@ -1,0 +1,2 @@
+pub mod Lanes
+pub use Rattle.sha2.specs.Sha256
