@@ -1,6 +1,6 @@
 -- What a sealed block is, byte by byte.
-use Rattle.std.proofs.Common.{◌≡◌, ℕ, ◌^◌, ◌<◌, List, [], ◌++◌, length, take, drop, replicate, Option, Some, None, refl, sym, ◌∙◌, ap, append_assoc, arith}
-use Rattle.std.proofs.lemmas.List.{take_at, drop_at, length-append, take-append-drop, drop-drop}
+use Rattle.std.proofs.Common.{◌≡◌, ℕ, ◌^◌, ◌<◌, List, [], ◌++◌, length, take, drop, replicate, Option, Some, None, ◌≤◌, refl, sym, subst, ◌∙◌, ap, append_assoc, arith}
+use Rattle.std.proofs.lemmas.List.{take_at, drop_at, length-append, length-replicate, length-take-le, take-append-drop, drop-drop}
 use Rattle.std.proofs.Math.Seq.{take-add}
 use Rattle.std.specs.List.{All}
 use Rattle.std.specs.Option.{IfSome}
@@ -51,6 +51,29 @@ sealed-by_digest head payload lh =
     check-part head check payload lh lc
     ∙ sym (ap (λ (l : List ℕ). sha256 (l ++ replicate 32 0 ++ drop 64 (head ++ check ++ payload))) (front head check payload lh)
     ∙ ap (λ (l : List ℕ). sha256 (head ++ replicate 32 0 ++ l)) (back head check payload lh lc))
+
+-- bytes with zeros in the place of the check are those before it, the zeros, and those behind it
+pub clear-parts : (bytes : List ℕ) → part bytes 32 32 ≡ replicate 32 0 → bytes ≡ take 32 bytes ++ (replicate 32 0 ++ drop 64 bytes)
+clear-parts bytes clear =
+    sym (take-append-drop 32 bytes)
+    ∙ ap (λ (l : List ℕ). take 32 bytes ++ l) (sym (take-append-drop 32 (drop 32 bytes)) ∙ ap (λ (l : List ℕ). l ++ drop 32 (drop 32 bytes)) clear ∙ ap (λ (l : List ℕ). replicate 32 0 ++ l) (drop-drop 32 32 bytes))
+
+-- and with their digest there they are sealed
+pub clear-sealed : (bytes : List ℕ) → 32 ≤ length bytes → part bytes 32 32 ≡ replicate 32 0 → IsSealed (take 32 bytes ++ sha256 bytes ++ drop 64 bytes)
+clear-sealed bytes long clear =
+    let same : take 32 bytes ++ replicate 32 0 ++ drop 64 bytes ≡ bytes = append_assoc (take 32 bytes) (replicate 32 0) (drop 64 bytes) ∙ sym (clear-parts bytes clear) in
+    subst (λ (l : List ℕ). IsSealed (take 32 bytes ++ sha256 l ++ drop 64 bytes)) same (sealed-by_digest (take 32 bytes) (drop 64 bytes) (length-take-le 32 bytes long))
+
+-- the bytes of a block with zeros in the place of its check, by parts
+pub unsealed-parts : (bytes head payload : List ℕ) → length head ≡ 32 → bytes ≡ head ++ (replicate 32 0 ++ payload)
+    → (part bytes 32 32 ≡ replicate 32 0) × (take 32 bytes ++ sha256 bytes ++ drop 64 bytes ≡ head ++ sha256 (head ++ replicate 32 0 ++ payload) ++ payload)
+unsealed-parts bytes head payload lh is =
+    let flat_is : bytes ≡ head ++ replicate 32 0 ++ payload = is ∙ sym (append_assoc head (replicate 32 0) payload) in (
+      ap (λ (l : List ℕ). part l 32 32) flat_is ∙ check-part head (replicate 32 0) payload lh (length-replicate {A = ℕ} 32 0),
+      ap (λ (l : List ℕ). take 32 l ++ sha256 l ++ drop 64 l) flat_is
+          ∙ ap (λ (l : List ℕ). l ++ sha256 (head ++ replicate 32 0 ++ payload) ++ drop 64 (head ++ replicate 32 0 ++ payload)) (front head (replicate 32 0) payload lh)
+          ∙ ap (λ (l : List ℕ). head ++ sha256 (head ++ replicate 32 0 ++ payload) ++ l) (back head (replicate 32 0) payload lh (length-replicate {A = ℕ} 32 0)),
+    )
 
 -- four fields and what lies behind them
 flat : (a b c d check payload : List ℕ) → a ++ b ++ c ++ d ++ check ++ payload ≡ a ++ (b ++ (c ++ (d ++ (check ++ payload))))

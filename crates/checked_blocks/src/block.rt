@@ -4,14 +4,17 @@
 //! block itself (On-Disk Specification, chapters 1, 2 and 7). Here each block carries its check, the SHA-256 digest
 //! (FIPS 180-4) of the block with zeros in its place, and a pointer has a copy of it.
 
-ghost use Rattle.std.specs.Prelude.{◌≡◌, ◌<◌, ◌≤◌, ◌^◌, ◌↔◌, IsOk, IfOk, IfErr, length};
+ghost use Rattle.std.specs.Prelude.{◌≡◌, ◌<◌, ◌≤◌, ◌^◌, ◌↔◌, ◌++◌, ◌∷◌, [], IsOk, IfOk, IfErr, drop, length, replicate, take};
+ghost use Rattle.sha2.specs.Sha256.{sha256};
 ghost use Rattle.base.specs.formats.Blocks.{IsBlock, block_head_bytes, sealed_block};
 ghost use Rattle.base.specs.disk.Disk.{put};
+ghost use Rattle.base.specs.formats.Fields.{part};
 ghost use Rattle.base.specs.formats.Geometry.{block_size};
 ghost use Rattle.base.specs.formats.Limits.{payload_size};
 ghost use Rattle.checked_blocks.specs.Sealing.{IsKind, padded, zeros};
 
 use base::{BLOCK_SIZE, Group, PoolError, write_bytes, write_u64};
+use hash_lanes::digest_four;
 use sha2::{Digest, Sha256};
 use std::marker::Model;
 
@@ -55,6 +58,13 @@ impl Block {
         &self.bytes
     }
 
+    /// A block of the same bytes.
+    pub fn copy(&self) -> Block
+        ensures { result ≡ self.now }
+    {
+        Block { bytes: self.bytes }
+    }
+
     /// The check field, bytes 32 to 64, by which a pointer names the block.
     pub fn check(&self) -> [u8; 32]
         ensures { result ≡ part self.now 32 32 }
@@ -83,15 +93,90 @@ pub fn seal(
     ensures ok { IsOk result ↔ (IsKind kind × (length payload.now ≤ payload_size)) }
     ensures refused { IfErr result (λ e. e ≡ PoolError.BadRange) }
 {
+    let bytes = unsealed(kind, guid, group, number, payload)?;
+    let check = Sha256::digest(&bytes[..]);
+    Ok(with_check(bytes, check))
+}
+
+/// What one of several blocks has of its own.
+#[derive(Clone, Copy, Debug)]
+pub struct Content<'a> {
+    /// Its number.
+    pub number: u64,
+    /// Its payload, at most 4,032 bytes.
+    pub payload: &'a [u8],
+}
+
+/// Four blocks of this kind, pool and group, each as `seal` makes it of its number and its payload. Their checks are made
+/// side by side, in about half the time.
+///
+/// # Errors
+/// `BadRange` exactly if the kind is none of 1 to 7 or one of the payloads has more than 4,032 bytes.
+pub fn seal_four(
+    kind: u64,
+    guid: u64,
+    group: Group,
+    first: &Content<'_>,
+    second: &Content<'_>,
+    third: &Content<'_>,
+    fourth: &Content<'_>,
+) -> Result<[Block; 4], PoolError>
+    ensures sealed { IfOk result (λ blocks. blocks
+        ≡ sealed_block kind guid group.0 first.now.number (padded first.now.payload.now)
+        ∷ sealed_block kind guid group.0 second.now.number (padded second.now.payload.now)
+        ∷ sealed_block kind guid group.0 third.now.number (padded third.now.payload.now)
+        ∷ sealed_block kind guid group.0 fourth.now.number (padded fourth.now.payload.now) ∷ []) }
+    ensures ok { IsOk result ↔ (IsKind kind × (length first.now.payload.now ≤ payload_size)
+        × (length second.now.payload.now ≤ payload_size) × (length third.now.payload.now ≤ payload_size)
+        × (length fourth.now.payload.now ≤ payload_size)) }
+    ensures refused { IfErr result (λ e. e ≡ PoolError.BadRange) }
+{
+    let a = unsealed(kind, guid, group, first.number, first.payload)?;
+    let b = unsealed(kind, guid, group, second.number, second.payload)?;
+    let c = unsealed(kind, guid, group, third.number, third.payload)?;
+    let d = unsealed(kind, guid, group, fourth.number, fourth.payload)?;
+    let [e, f, g, h] = digest_four(&a, &b, &c, &d);
+    Ok([
+        with_check(a, e),
+        with_check(b, f),
+        with_check(c, g),
+        with_check(d, h),
+    ])
+}
+
+// The bytes of a block, with zeros in place of its check.
+fn unsealed(
+    kind: u64,
+    guid: u64,
+    group: Group,
+    number: u64,
+    payload: &[u8],
+) -> Result<[u8; BLOCK_SIZE], PoolError>
+    ensures clear { IfOk result (λ bytes. part bytes 32 32 ≡ replicate 32 0) }
+    ensures whole { IfOk result (λ bytes. take 32 bytes ++ sha256 bytes ++ drop 64 bytes
+        ≡ sealed_block kind guid group.0 number (padded payload.now)) }
+    ensures fits { IfOk result (λ _. (group.0 < 2 ^ 64) × (length payload.now ≤ payload_size)) }
+    ensures ok { IsOk result ↔ (IsKind kind × (length payload.now ≤ payload_size)) }
+    ensures refused { IfErr result (λ e. e ≡ PoolError.BadRange) }
+{
     if !(1..=7).contains(&kind) || payload.len() > PAYLOAD_SIZE {
         return Err(PoolError::BadRange);
     }
     let mut bytes = zero_block();
     write_head(&mut bytes, kind, guid, group.0, number);
     write_bytes(&mut bytes, HEAD_SIZE, payload);
-    let check = Sha256::digest(&bytes[..]);
+    Ok(bytes)
+}
+
+// The block of these bytes, with their digest in place of the zeros where its check belongs.
+fn with_check(bytes: [u8; BLOCK_SIZE], check: [u8; 32]) -> Block
+    requires clear { part bytes 32 32 ≡ replicate 32 0 }
+    requires check { check ≡ sha256 bytes }
+    ensures { result ≡ take 32 bytes ++ sha256 bytes ++ drop 64 bytes }
+{
+    let mut bytes = bytes;
     write_bytes(&mut bytes, 32, &check);
-    Ok(Block { bytes })
+    Block { bytes }
 }
 
 fn zero_block() -> [u8; BLOCK_SIZE]

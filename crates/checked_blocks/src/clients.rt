@@ -5,7 +5,7 @@ ghost use Rattle.std.specs.Prelude.{◌≡◌, IsErrOf, IsOk, length};
 ghost use Rattle.base.specs.formats.Blocks.{IsSealed};
 ghost use Rattle.base.specs.formats.Fields.{number_at, part};
 
-use crate::block::{Block, seal};
+use crate::block::{Block, Content, seal, seal_four};
 use crate::expected::Expected;
 use crate::frame::Frame;
 use crate::payload::{Payload, open};
@@ -64,6 +64,38 @@ fn a_sealed_block_of_another_group_does_not_open_itself(
         group: Some(Group(9)),
         check: None,
     })
+}
+
+// A block that is sealed with three others is the one that is sealed alone.
+fn the_third_of_four_blocks_is_as_sealed_alone(payload: &[u8]) -> Result<(), PoolError>
+    requires { length payload.now ≡ 4032 }
+    ensures { IsOk result }
+{
+    let other = Content {
+        number: 1,
+        payload: &[],
+    };
+    let third = Content { number: 3, payload };
+    let [_, _, block, _] = seal_four(5, 77, Group(9), &other, &other, &third, &other)?;
+    let alone = seal(5, 77, Group(9), 3, payload)?;
+    prove!(block == alone);
+    Ok(())
+}
+
+fn no_four_blocks_have_a_payload_of_4033_bytes(payload: &[u8]) -> Result<[Block; 4], PoolError>
+    requires { length payload.now ≡ 4033 }
+    ensures { IsErrOf result PoolError.BadRange }
+{
+    let long = Content { number: 3, payload };
+    let short = Content {
+        number: 1,
+        payload: &[],
+    };
+    seal_four(5, 77, Group(9), &short, &short, &short, &long)
+}
+
+fn a_copy_of_a_block_has_its_bytes(block: &Block) {
+    prove!(block.copy() == *block);
 }
 
 fn no_block_has_kind_8() -> Result<Block, PoolError>

@@ -10,7 +10,7 @@ mod kind;
 mod laws;
 mod payload;
 
-pub use block::{Block, HEAD_SIZE, PAYLOAD_SIZE, seal};
+pub use block::{Block, Content, HEAD_SIZE, PAYLOAD_SIZE, seal, seal_four};
 pub use expected::Expected;
 pub use frame::{BLOCK_AREA, Frame};
 pub use kind::Kind;
