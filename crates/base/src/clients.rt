@@ -8,7 +8,9 @@ ghost use Rattle.base.specs.declared.operation.Shape.TheVariants as shape;
 use crate::bytes::Bytes;
 use crate::error::PoolError;
 use crate::field_laws::pointers_read_back;
-use crate::fields::{are_zeros, read_pointer, read_u64, write_bytes, write_pointer, write_u64};
+use crate::fields::{
+    are_all, are_zeros, read_pointer, read_u64, write_bytes, write_pointer, write_u64,
+};
 use crate::levels::has_two_levels;
 use crate::limits::{
     DEFAULT_CACHE_BLOCKS, DEFAULT_DIRTY_MAX, GREATEST_CACHE_BLOCKS, GREATEST_DIRTY_MAX,
@@ -65,6 +67,9 @@ fn only_zeros_are_zeros() {
     let zeros = are_zeros(&[0, 0, 0]);
     let one = are_zeros(&[0, 1, 0]);
     prove!(zeros && !one);
+    let nines = are_all(&[9, 9], 9);
+    let another = are_all(&[9, 8], 9);
+    prove!(nines && !another);
 }
 
 fn a_pointer_with_a_birth_is_no_empty_one() {

@@ -21,14 +21,21 @@ pub fn read_u64(bytes: &[u8], at: usize) -> u64
     LittleEndian::read_u64(&bytes[at..])
 }
 
-/// Whether all of these bytes are zero: the first one is, and each other is as the one before it.
+/// Whether each of these bytes is this one: the first one is, and each other is as the one before it.
+pub fn are_all(bytes: &[u8], value: u8) -> bool
+    ensures { IsTrue result ↔ (bytes.now ≡ replicate (length bytes.now) value) }
+{
+    match bytes.split_first() {
+        Some((first, rest)) => *first == value && rest == &bytes[..rest.len()],
+        None => true,
+    }
+}
+
+/// Whether all of these bytes are zero.
 pub fn are_zeros(bytes: &[u8]) -> bool
     ensures { IsTrue result ↔ (bytes.now ≡ replicate (length bytes.now) 0) }
 {
-    match bytes.split_first() {
-        Some((first, rest)) => *first == 0 && rest == &bytes[..rest.len()],
-        None => true,
-    }
+    are_all(bytes, 0)
 }
 
 /// Writes a number's 8 bytes at a place.

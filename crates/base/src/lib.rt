@@ -30,7 +30,7 @@ mod version;
 pub use bytes::Bytes;
 pub use error::PoolError;
 pub use fields::{
-    POINTER_SIZE, are_zeros, read_pointer, read_u64, write_bytes, write_pointer, write_u64,
+    POINTER_SIZE, are_all, are_zeros, read_pointer, read_u64, write_bytes, write_pointer, write_u64,
 };
 pub use levels::has_two_levels;
 pub use limits::{

@@ -9,7 +9,7 @@ ghost use Rattle.base.specs.disk.Disk.{put};
 ghost use Rattle.base.specs.formats.Limits.{record_size};
 ghost use Rattle.extents.specs.Marks.{is_mark, laid_byte, with_zeros};
 
-use base::RECORD_SIZE;
+use base::{RECORD_SIZE, are_all};
 use std::alloc::{AllocError, Global};
 
 // What marks a byte that was written. Others are marked by 0.
@@ -82,9 +82,7 @@ impl RecordPatch {
         if self.mask.len() < start + count {
             return count == 0;
         }
-        self.mask[start..start + count]
-            .iter()
-            .all(|mark| *mark == WRITTEN)
+        are_all(&self.mask[start..start + count], WRITTEN)
     }
 
     /// Lays the bytes that were written from the offset `start` of the record on over others.

@@ -1,7 +1,7 @@
 -- What becomes of a tree told by places, in another image: it stands where its blocks do, and so does what a sync makes
 -- of it.
 use Rattle.std.proofs.Common.{◌≡◌, ℕ, zero, ◌+◌, ◌-◌, ◌*◌, ◌<◌, ◌≤◌, List, [], ◌++◌, length, get_or, take, drop, replicate, refl, ap, sym, subst, ◌∙◌, arith, ◌⊎◌, inl, inr, length-take, length-drop}
-use Rattle.std.specs.Prelude.{Option, Some, None, IfSome, slice_get, ◌≢◌}
+use Rattle.std.specs.Prelude.{Option, Some, None, IfSome, slice_get}
 use Rattle.std.proofs.lemmas.Bool.{cases_lt}
 use Rattle.std.proofs.lemmas.List.{ext_get_or, length-replicate, drop-drop, drop-take, take-take, get_or_append_left, get_or-append_right, nil_from_length}
 use Rattle.std.specs.Ordering.{nat_cmp}
