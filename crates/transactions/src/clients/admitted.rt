@@ -100,20 +100,23 @@ fn a_plan_is_blocked_where_it_overlaps(table: &OpenTransactions)
     prove!(!table.is_blocked(&[Shape::Write(ObjectId(7), 10, 1)]));
 }
 
-// A lock that has all bytes of an open write is in use.
-fn a_lock_of_an_open_write_is_in_use(table: &OpenTransactions) -> bool
+// A lock is in use if it has all bytes of one of two open writes, and not if it has only those between them.
+fn a_lock_of_one_of_two_open_writes_is_in_use(table: &OpenTransactions)
     requires { table.now.transactions ≡ record {
       tx = 3;
       group = 9;
       owner = 1;
-      plan = shape.Write (record { 0 = 7 }) 0 10 ∷ [];
+      plan = shape.Write (record { 0 = 7 }) 0 10 ∷ shape.Write (record { 0 = 7 }) 50 10 ∷ [];
     } ∷ [] }
-    ensures { result ≡ true }
 {
-    table.is_lock_in_use(&ObjectRange {
+    prove!(table.is_lock_in_use(&ObjectRange {
         object: ObjectId(7),
         range: Range { low: 0, high: 10 },
-    })
+    }));
+    prove!(!table.is_lock_in_use(&ObjectRange {
+        object: ObjectId(7),
+        range: Range { low: 10, high: 50 },
+    }));
 }
 
 // A transaction that ends is open no more, and the other one of its group is.
