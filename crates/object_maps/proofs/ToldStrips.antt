@@ -18,9 +18,6 @@ use Rattle.object_maps.specs.Pointers.{TellsStrip, is_long_entry, long_pointers,
 pub strip-told : (strips : List (ℕ × (Pointer × List Pointer))) (j : ℕ) (s : Pointer × List Pointer) → strip_in ((j, s) ∷ strips) j ≡ s
 strip-told strips j s = ap (λ (b : Bool). unwrap_or (cond b (Some s) (lookup (nat_eq j) strips)) (no_pointer, [])) (eq-eqb j j refl)
 
-pub strip-kept : (strips : List (ℕ × (Pointer × List Pointer))) (j : ℕ) (s : Pointer × List Pointer) (i : ℕ) → i ≢ j → strip_in ((j, s) ∷ strips) i ≡ strip_in strips i
-strip-kept strips j s i other = ap (λ (b : Bool). unwrap_or (cond b (Some s) (lookup (nat_eq i) strips)) (no_pointer, [])) (ne_eqb i j other)
-
 pub strip-is : (old new : List (ℕ × (Pointer × List Pointer))) (j : ℕ) (s : Pointer × List Pointer) → new ≡ (j, s) ∷ old → strip_in new j ≡ s
 strip-is old new j s is = rw is (strip-told old j s)
 

@@ -1,6 +1,6 @@
 //! Payloads of tree blocks that were read from a device, by their addresses. The least recently used one goes first.
 
-ghost use Rattle.std.specs.Prelude.{◌≡◌, ◌≢◌, ◌⊎◌, [], IfSome, IsTrue, Some, false, length, nat_eq};
+ghost use Rattle.std.specs.Prelude.{◌≡◌, ◌≢◌, ◌⊎◌, [], IfOk, IfSome, IsTrue, Some, false, length, nat_eq};
 ghost use Rattle.std.specs.NonZero.{non_zero_usize_get};
 ghost use Rattle.std.specs.List.{IsDistinct};
 ghost use Rattle.std.specs.Map.{keys_of, lookup, remove_entry};
@@ -8,7 +8,7 @@ ghost use Rattle.lru.specs.LruCache.{lru_cache, promoted, put_entries};
 
 use base::Bytes;
 use lru::LruCache;
-use std::alloc::Global;
+use std::alloc::{AllocError, Global};
 use std::marker::Model;
 use std::num::NonZeroUsize;
 
@@ -20,6 +20,8 @@ pub struct BlockCache {
     count: NonZeroUsize,
     // made for the first block that is put
     blocks: Option<LruCache<u64, Bytes>>,
+    // the payload that went last, whose memory is for the next one
+    spare: Option<Bytes>,
 }
 
 impl Model for BlockCache {
@@ -45,6 +47,7 @@ impl BlockCache {
             alloc,
             count,
             blocks: None,
+            spare: None,
         }
     }
 
@@ -96,11 +99,13 @@ impl BlockCache {
         ensures { (self.new ≡ self.old) ⊎ (self.new
             ≡ lru_cache (put_entries nat_eq self.old address payload.now) self.old.cap) }
     {
-        let Ok(payload) = Bytes::from_slice(self.alloc, payload) else {
+        let Ok(payload) = filled(self.alloc, self.spare.take(), payload) else {
             return;
         };
         if let Some(blocks) = &mut self.blocks {
-            let _ = blocks.put(address, payload);
+            if let Ok(Some((_, room))) = blocks.push(address, payload) {
+                self.spare = Some(room);
+            }
             return;
         }
         let Ok(mut blocks) = LruCache::new(self.alloc, self.count) else {
@@ -131,4 +136,17 @@ impl BlockCache {
             blocks.clear();
         }
     }
+}
+
+// The bytes of a payload, in the memory of these ones if there are some.
+fn filled(alloc: Global, spare: Option<Bytes>, payload: &[u8]) -> Result<Bytes, AllocError>
+    ensures { IfOk result (λ bytes. bytes ≡ payload.now) }
+{
+    let Some(spare) = spare else {
+        return Bytes::from_slice(alloc, payload);
+    };
+    let mut room = spare.into_vec();
+    room.clear();
+    room.extend_from_slice(payload)?;
+    Ok(Bytes::new(room))
 }

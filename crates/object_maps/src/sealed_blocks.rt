@@ -12,8 +12,10 @@ use std::num::NonZeroUsize;
 pub struct SealedBlocks {
     alloc: Global,
     count: NonZeroUsize,
-    // made for the first block that is put
+    // made for the first block that is put; in boxes, so that it moves pointers, and not blocks
     blocks: Option<LruCache<u64, Box<Block>>>,
+    // the box of the block that went last, for the next one
+    spare: Option<Box<Block>>,
 }
 
 impl SealedBlocks {
@@ -23,24 +25,24 @@ impl SealedBlocks {
             alloc,
             count,
             blocks: None,
+            spare: None,
         }
     }
 
     /// Puts the block at an address. If there is no memory for it, it isn't kept.
     pub fn put(&mut self, address: u64, block: Block) {
-        // so that the cache moves a pointer, and not the block
-        let Ok(block) = Box::new(self.alloc, block) else {
-            return;
-        };
-        if let Some(blocks) = &mut self.blocks {
-            let _ = blocks.put(address, block);
-            return;
+        if self.blocks.is_none() {
+            self.blocks = LruCache::new(self.alloc, self.count).ok();
         }
-        let Ok(mut blocks) = LruCache::new(self.alloc, self.count) else {
+        let Some(blocks) = &mut self.blocks else {
             return;
         };
-        let _ = blocks.put(address, block);
-        self.blocks = Some(blocks);
+        let Some(block) = boxed(self.alloc, self.spare.take(), block) else {
+            return;
+        };
+        if let Ok(Some((_, room))) = blocks.push(address, block) {
+            self.spare = Some(room);
+        }
     }
 
     /// The block that was put last at an address, if it is kept.
@@ -52,5 +54,16 @@ impl SealedBlocks {
             },
             None => None,
         }
+    }
+}
+
+// The block in a box, in this one if there is one.
+fn boxed(alloc: Global, spare: Option<Box<Block>>, block: Block) -> Option<Box<Block>> {
+    match spare {
+        Some(mut room) => {
+            *room = block;
+            Some(room)
+        }
+        None => Box::new(alloc, block).ok(),
     }
 }

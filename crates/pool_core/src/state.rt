@@ -437,7 +437,7 @@ impl<D: SectorDevice> PoolState<D> {
 
     /// Makes the next device call of the running sync. It is never refused memory. With the last call its group is
     /// synced: the blocks that it replaced come back, and its charges and reservations end. Those that it wrote stay in
-    /// memory, twice as many as the cache may have, so that a read of them needs no hash.
+    /// memory, as many as the cache may have, so that a read of them needs no hash.
     ///
     /// # Errors
     /// In this order:

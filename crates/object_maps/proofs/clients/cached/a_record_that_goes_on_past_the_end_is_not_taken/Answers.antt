@@ -1,4 +1,4 @@
-use Rattle.std.proofs.Common.{◌≡◌, ◌+◌, ◌∙◌, ap, get_or, inl, inr, arith}
+use Rattle.std.proofs.Common.{◌≡◌, ap, get_or, inl, inr, arith}
 use Rattle.std.proofs.lemmas.Result.{on_ok_weaker}
 use Rattle.std.specs.Prelude.{List, ℕ}
 use Rattle.object_maps.proofs.CachedBlocks.{none-in-empty}

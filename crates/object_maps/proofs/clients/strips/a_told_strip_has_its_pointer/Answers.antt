@@ -1,4 +1,4 @@
-use Rattle.std.proofs.Common.{◌≡◌, List, ℕ, ap}
+use Rattle.std.proofs.Common.{List, ℕ, ap}
 use Rattle.base.specs.declared.pointer.Pointer.{Pointer}
 use Rattle.object_maps.specs.Pointers.{strip_in}
 use Rattle.object_maps.proofs.clients.strips.a_told_strip_has_its_pointer.Goals as goal

@@ -1,4 +1,4 @@
-use Rattle.std.proofs.Common.{◌≡◌, ◌<◌, ◌≤◌, ◌+◌, ◌*◌, ◌∙◌, ℕ, List, length, refl, ap, subst, sym, arith}
+use Rattle.std.proofs.Common.{◌≡◌, ◌<◌, ◌+◌, ◌*◌, ◌∙◌, ℕ, List, length, refl, ap, subst, sym, arith}
 use Rattle.std.specs.FinMap as finite
 use Rattle.base.specs.formats.Fields.{entry_in}
 use Rattle.base.specs.disk.Disk.{Disk, bytes_of}
