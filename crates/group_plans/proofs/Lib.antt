@@ -5,6 +5,7 @@ pub mod GroupObjects
 pub mod GroupTrees
 pub mod GroupCounts
 pub mod RecordsAtHand
+mod SealedRecords
 pub mod RecordReads
 pub mod PreparedPlans
 pub mod OldMaps

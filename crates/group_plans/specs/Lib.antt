@@ -6,3 +6,4 @@ pub mod Prepared
 pub mod OldMaps
 pub mod Operations
 pub mod Laws
+pub mod SealedRecords

@@ -7,6 +7,7 @@ mod old_maps;
 mod planning;
 mod prepared;
 mod preparing;
+mod sealed_objects;
 
 pub use laws::{
     allowed_ops_take_place, estimates_add, groups_leave_objects, plans_fit_estimates,

@@ -192,7 +192,11 @@ fn read_strips<B: BlockReader>(
 {
     let mut strips = BTreeMap::new(alloc);
     for strip in 0..POINTER_COUNT {
-        let read = read_strip(alloc, reader, frame, object, strip, &indirects[strip])?;
+        let indirect = &indirects[strip];
+        if indirect.is_none() {
+            continue;
+        }
+        let read = read_strip(alloc, reader, frame, object, strip, indirect)?;
         put_strip(&mut strips, strip, read)?;
     }
     Ok(strips)

@@ -2,7 +2,7 @@
 //! object, `read_maps` reads the tops and the indirect blocks of these objects, `prepare` the records that change in
 //! part, and `plan` takes a free block for each place that changes.
 
-ghost use Rattle.std.specs.Prelude.{◌≡◌, ◌≤◌, ℕ, IfErr, IfOk, IsTrue, false, is_some};
+ghost use Rattle.std.specs.Prelude.{◌≡◌, ◌≤◌, ℕ, IfErr, IfOk, IsTrue, false, is_some, true};
 ghost use Rattle.base.specs.disk.Disk.{bytes_of};
 ghost use Rattle.base.specs.formats.Geometry.{block_address, block_count};
 ghost use Rattle.base.specs.tree.PlacedTrees.{ArePlaced};
@@ -12,13 +12,20 @@ ghost use Rattle.object_maps.specs.Pointers.{pointers_of};
 ghost use Rattle.base.specs.tree.Places.{Place};
 ghost use Rattle.base.specs.declared.pointer.Pointer.{Pointer};
 ghost use Rattle.tree_plans.specs.Changes.{written_frame};
+ghost use Rattle.tree_plans.specs.Parts.{AreMapsRead, AreReady};
+ghost use Rattle.tree_plans.specs.Plans.{IsWant};
 ghost use Rattle.tree_plans.specs.Pointers.{entry_of};
+ghost use Rattle.tree_plans.specs.TreePlans.{GivesBack, GivesTree, HasEntries, HasLengths, TakesBlocks, TellsFull};
 ghost use Rattle.group_plans.specs.OldMaps.{AreMapsOf, AreMapsOfObjects, AreMapsReadFor, HoldsTreeOf};
+ghost use Rattle.group_plans.specs.Prepared.{at_hand};
+ghost use Rattle.group_plans.specs.SealedRecords.{prepared_objects};
 ghost use Rattle.group_plans.specs.ReadPlans.{HoldsPlanned, IsShortFor, IsShortFrom, PlansTree};
 ghost use Rattle.group_plans.specs.GroupPlans.{FitsIn, HoldsGroupObjects, IsHeldRefusal, IsPlanRefusal, IsRefusedShort, IsTreeShort, MakesReadTree, TakesLowest, frame_of, objects_with};
 
 use crate::old_maps::read_maps;
+use crate::prepared::PreparedObjects;
 use crate::preparing::prepare;
+use crate::sealed_objects::SealedObjects;
 use base::{Group, ObjectId, PoolError};
 use checked_blocks::Frame;
 use extents::Extents;
@@ -165,5 +172,30 @@ fn plan_read<B: BlockReader>(
         → IfErr result IsHeldRefusal }
 {
     let after = prepare(reader, before, read, objects, extents, contents)?;
+    plan_sealed(read, &after, objects)
+}
+
+// Plans the tree of objects whose records are at hand, once these are sealed.
+fn plan_sealed(
+    read: &PlanSource<'_>,
+    prepared: &PreparedObjects<'_>,
+    objects: &BTreeMap<ObjectId, ObjectChanges>,
+) -> Result<TreePlan, PoolError>
+    requires free { read.now.free.now.blocks ≡ block_count read.now.geometry }
+    requires ready { AreReady (λ n r. is_some (at_hand prepared.now.records n r) ≡ true)
+        objects.now.entries }
+    requires maps { AreMapsRead read.now (prepared_objects prepared.now) objects.now.entries }
+    ensures taken { IfOk result
+        (TakesBlocks read.now (prepared_objects prepared.now) objects.now) }
+    ensures tree { IfOk result (GivesTree read.now (prepared_objects prepared.now) objects.now) }
+    ensures lengths { IfOk result
+        (HasLengths read.now (prepared_objects prepared.now) objects.now) }
+    ensures entries { IfOk result (HasEntries (prepared_objects prepared.now) objects.now) }
+    ensures freed { IfOk result (GivesBack read.now) }
+    ensures full { IfErr result
+        (TellsFull read.now (prepared_objects prepared.now) objects.now.entries) }
+    ensures refused { IfErr result IsWant }
+{
+    let after = SealedObjects::new(read.alloc, prepared, read.guid, read.group)?;
     plan(read, &after, objects)
 }

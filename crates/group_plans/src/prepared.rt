@@ -9,7 +9,7 @@ ghost use Rattle.group_plans.specs.Prepared.{AreCut, IsCut, KeepsFront, KeepsHan
 
 use base::{Bytes, ObjectId, PoolError, RECORD_SIZE};
 use extents::{Extents, Laid};
-use object_maps::{Contents, ObjectSource, RECORD_COUNT, RecordSource};
+use object_maps::{Contents, ObjectSource, RECORD_COUNT};
 use std::alloc::Global;
 use std::collections::BTreeMap;
 
@@ -26,7 +26,7 @@ pub(crate) struct PreparedObjects<'a> {
 
 // The number of a record among those of all objects.
 #[tactic(auto, unfolding(base::specs::formats::Limits::record_count))]
-fn record_number(id: ObjectId, index: usize) -> u64
+pub(crate) fn record_number(id: ObjectId, index: usize) -> u64
     requires { index < record_count }
     ensures { result ≡ record_count * id.0 + index }
 {
@@ -93,24 +93,5 @@ impl<'a> PreparedObjects<'a> {
         let bytes = Bytes::from_slice(self.alloc, payload)?;
         self.records.insert(record_number(id, index), bytes)?;
         Ok(())
-    }
-}
-
-impl<'a> ObjectSource for PreparedObjects<'a> {
-    ghost objects = { λ s. with_records (at_hand s.records) (objects_with s.extents.now s.contents.now) };
-
-    fn length(&self, id: ObjectId) -> Option<u64> {
-        Laid::new(self.extents, self.contents).length(id)
-    }
-}
-
-impl<'a> RecordSource for PreparedObjects<'a> {
-    ghost has_record = { λ s n r. is_some (at_hand s.records n r) ≡ true };
-
-    fn copy_record(&self, id: ObjectId, index: usize, into: &mut [u8]) {
-        let Some(payload) = self.records.get(&record_number(id, index)) else {
-            unreachable!()
-        };
-        into.copy_from_slice(payload.as_slice());
     }
 }

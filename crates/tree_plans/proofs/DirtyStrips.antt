@@ -135,7 +135,3 @@ none_of_none changes j none = none_dirty changes j (λ r _ _. absent (is_at (nat
     absent : (p : ℕ → Bool) (keys : List ℕ) → length keys ≡ 0 → list_any p keys ≡ false
     absent p [] _ = refl
     absent p (k ∷ keys) some = absurd (omega (arith, some))
-
--- a record that is written lies in such a strip
-pub dirty_strip : (changes : ObjectChanges) (r : ℕ) → state_at changes r ≡ Dirty → is_strip_dirty changes (r / pointer_count) ≡ true
-dirty_strip changes r dirty = dirty_there changes (r / pointer_count) r (omega arith) (omega arith) (sym (dirty-contains changes r) ∙ ap is_dirty dirty)

@@ -15,4 +15,5 @@ pub mod Levels
 mod NewObjects
 mod Passes
 mod DirtyStrips
+mod PassedStrips
 pub mod Promises

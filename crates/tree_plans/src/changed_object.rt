@@ -25,7 +25,7 @@ pub struct ChangedObject<'a> {
 }
 
 impl ChangedObject<'_> {
-    ghost use Rattle.std.specs.Prelude.{◌≡◌, ◌<◌, ◌&&◌, ◌||◌, is_some, not};
+    ghost use Rattle.std.specs.Prelude.{◌≡◌, ◌<◌, ◌≤◌, ◌&&◌, ◌||◌, ℕ, false, is_some, not};
     ghost use Rattle.std.specs.List.{list_any};
     ghost use Rattle.base.specs.formats.Limits.{pointer_count};
     ghost use Rattle.tree_plans.specs.Changes.{has_address, is_strip_dirty, is_strip_touched, may_have_blocks};
@@ -83,5 +83,16 @@ impl ChangedObject<'_> {
             || is_strip_dirty self.now.changes.now strip) }
     {
         self.old.has_read(strip) || self.changes.writes_strip(strip)
+    }
+
+    /// The plan goes over no strip from this index on. It is at most 84.
+    pub fn met_end(&self) -> usize
+        ensures low { result ≤ pointer_count }
+        ensures unread { (j : ℕ) → result ≤ j → j < pointer_count
+            → is_some (records_among self.now.old.now.strips.entries j) ≡ false }
+        ensures clean { (j : ℕ) → result ≤ j → j < pointer_count
+            → is_strip_dirty self.now.changes.now j ≡ false }
+    {
+        self.old.read_end().max(self.changes.written_end())
     }
 }

@@ -96,7 +96,8 @@ impl ObjectChanges {
     /// The strips from this index on have no record that the sync writes. It is at most 84.
     pub fn written_end(&self) -> usize
         ensures low { result ≤ pointer_count }
-        ensures past { (j : ℕ) → result ≤ j → j < pointer_count → is_strip_dirty self.now j ≡ false }
+        ensures past { (j : ℕ) → result ≤ j → j < pointer_count
+            → is_strip_dirty self.now j ≡ false }
     {
         match self.dirty.last() {
             Some(last) => POINTER_COUNT.min(*last / POINTER_COUNT + 1),

@@ -11,6 +11,7 @@ mod payload;
 mod place;
 mod plan_source;
 mod planner;
+mod sealed_source;
 mod walk;
 
 pub use changes::{ObjectChanges, changed_objects};
@@ -19,4 +20,5 @@ pub use object_map::ObjectMap;
 pub use place::RecordPlace;
 pub use plan_source::PlanSource;
 pub use planner::{PlannedBlock, TreePlan};
+pub use sealed_source::SealedSource;
 pub use walk::plan;

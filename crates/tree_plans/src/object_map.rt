@@ -6,7 +6,7 @@ ghost use Rattle.std.specs.Prelude.{vec_len, ◌≡◌};
 ghost use Rattle.base.specs.formats.Limits.{pointer_count};
 ghost use Rattle.object_maps.specs.Pointers.{pointer_of_list};
 
-use base::Pointer;
+use base::{POINTER_COUNT, Pointer};
 use std::collections::BTreeMap;
 
 /// The pointers of an object before a group, as far as they were read.
@@ -22,7 +22,7 @@ pub struct ObjectMap {
 }
 
 impl ObjectMap {
-    ghost use Rattle.std.specs.Prelude.{◌≡◌, ◌<◌, ℕ, is_some};
+    ghost use Rattle.std.specs.Prelude.{◌≡◌, ◌<◌, ◌≤◌, ℕ, false, is_some};
     ghost use Rattle.base.specs.formats.Limits.{pointer_count};
     ghost use Rattle.object_maps.specs.Pointers.{pointer_of_list};
     ghost use Rattle.tree_plans.specs.Plans.{read_record};
@@ -41,6 +41,18 @@ impl ObjectMap {
         ensures { result ≡ is_some (records_among self.now.strips.entries strip) }
     {
         self.strips.contains_key(&strip)
+    }
+
+    /// The indirect block of no strip from this index on was read. It is at most 84.
+    pub fn read_end(&self) -> usize
+        ensures low { result ≤ pointer_count }
+        ensures past { (j : ℕ) → result ≤ j → j < pointer_count
+            → is_some (records_among self.now.strips.entries j) ≡ false }
+    {
+        match self.strips.last_key_value() {
+            Some((last, _)) => POINTER_COUNT.min(last.saturating_add(1)),
+            None => 0,
+        }
     }
 
     /// The pointer to a record, as it was read. A strip without an indirect block has none.

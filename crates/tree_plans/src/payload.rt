@@ -91,8 +91,8 @@ fn levels_of(size: u64) -> u64
     if is_long(Some(size)) { 2 } else { 1 }
 }
 
-/// A payload of zeros.
-pub fn empty_payload() -> [u8; PAYLOAD_SIZE]
+// A payload of zeros.
+fn empty_payload() -> [u8; PAYLOAD_SIZE]
     ensures { result ≡ zeros payload_size }
 {
     [0; PAYLOAD_SIZE]

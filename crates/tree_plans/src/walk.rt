@@ -36,8 +36,9 @@ use crate::payload::{directory_payload, payload_of};
 use crate::place::BlockPlace;
 use crate::plan_source::PlanSource;
 use crate::planner::{Planner, TreePlan};
+use crate::sealed_source::SealedSource;
 use base::{ENTRY_COUNT, OBJECT_COUNT, ObjectId, POINTER_COUNT, Pointer, PoolError, RecordState};
-use object_maps::{ObjectEntry, ObjectSource, RecordSource};
+use object_maps::{ObjectEntry, ObjectSource};
 use std::collections::BTreeMap;
 
 // Whether an operation is on an object of a directory.
@@ -95,11 +96,11 @@ fn state_of(touched: bool, left: bool) -> RecordState
 /// free block. Live blocks are not overwritten (On-Disk Specification, chapter 2): what is replaced, or has no place
 /// any more, comes back by its address.
 ///
-/// `after` gives the objects after the group. The records that are written are at hand (`ready`), and the maps of the
-/// objects that operations are on were read (`maps`): in each map the pointers in the indirect block of each strip of
-/// which a record changes, and for an object of one level after the group those of all its strips. The pointers before
-/// are those maps' and otherwise the tree's. The work for an object goes with the strips that were read or have a
-/// record to write.
+/// `after` gives the objects after the group. The records that are written are at hand as sealed blocks (`ready`).
+/// The maps of the objects that operations are on were read (`maps`): in each map the pointers in the indirect block of
+/// each strip of which a record changes, and for an object of one level after the group those of all its strips. The
+/// pointers before are those maps' and otherwise the tree's. The work for an object goes with the strips that were read
+/// or have a record to write.
 ///
 /// - `taken`: the blocks are whole and the lowest free ones. If each object that an operation is on has a number below
 ///   5,292, and only records of strips that may have blocks are written (`AreInRange`), they stand in the order of the
@@ -116,7 +117,7 @@ fn state_of(touched: bool, left: bool) -> RecordState
 /// # Errors
 /// - `NoSpace`: if the changes are in range, only if fewer blocks are free than there are places to write (`full`).
 /// - `NoMemory`.
-pub fn plan<O: RecordSource>(
+pub fn plan<O: SealedSource>(
     source: &PlanSource<'_>,
     after: &O,
     objects: &BTreeMap<ObjectId, ObjectChanges>,
@@ -161,7 +162,7 @@ struct NewTree {
 }
 
 // The objects, the directories, the root.
-fn place_tree<O: RecordSource>(
+fn place_tree<O: SealedSource>(
     planner: &mut Planner,
     source: &PlanSource<'_>,
     after: &O,
@@ -227,7 +228,7 @@ fn place_root<O: ObjectSource>(
     }
 }
 
-fn place_objects<O: RecordSource>(
+fn place_objects<O: SealedSource>(
     planner: &mut Planner,
     source: &PlanSource<'_>,
     after: &O,
@@ -254,7 +255,7 @@ fn place_objects<O: RecordSource>(
 }
 
 // An object that operations are on.
-fn place_changed<O: RecordSource>(
+fn place_changed<O: SealedSource>(
     planner: &mut Planner,
     source: &PlanSource<'_>,
     after: &O,

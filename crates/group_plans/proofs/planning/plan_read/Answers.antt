@@ -60,7 +60,7 @@ returns-in_err-after-clause-short g c = λ keeps held exact.
 pub returns-clause-reads : goal.returns-clause-reads
 returns-clause-reads g c =
     let reads = c.in_ok-after.ensures.reads in
-    record { size = reads.size; disk = reads.disk; count = reads.count ∙ sym (want_counts c.plan.result c.plan.ensures.refused _) }
+    record { size = reads.size; disk = reads.disk; count = reads.count ∙ sym (want_counts c.plan_sealed.result c.plan_sealed.ensures.refused _) }
 
 pub returns-clause-fits : goal.returns-clause-fits
 returns-clause-fits g c =
@@ -69,16 +69,16 @@ returns-clause-fits g c =
     let placed : ∥ ArePlaced blocks (pointers_before source) ∥₁ =
     ∥∥₁_map {A = ArePlaced blocks (pointers_of source.tree.now)} {B = ArePlaced blocks (pointers_before source)} c.requires.placed
     (before_placed source c.args.objects.now.entries c.requires.none blocks (contents_of c.args.contents.now).objects c.requires.old) in
-    IfOk_both c.plan.result
+    IfOk_both c.plan_sealed.result
     (λ (p : TreePlan) taken (back : GivesBack source p). record { within = taken.within; freed = are_blocks blocks (ArePlaced blocks (pointers_before source)) p.freed.items placed back.returned })
-    c.plan.ensures.taken c.plan.ensures.freed
+    c.plan_sealed.ensures.taken c.plan_sealed.ensures.freed
 
 pub returns-clause-taken : goal.returns-clause-taken
-returns-clause-taken g c = IfOk-weaker c.plan.result _ _ (λ (p : TreePlan) told. told.taken) c.plan.ensures.taken
+returns-clause-taken g c = IfOk-weaker c.plan_sealed.result _ _ (λ (p : TreePlan) told. told.taken) c.plan_sealed.ensures.taken
 
 -- the maps were read for the objects with records at hand as well
-pub plan-requires-clause-maps : goal.plan-requires-clause-maps
-plan-requires-clause-maps g c =
+pub plan_sealed-requires-clause-maps : goal.plan_sealed-requires-clause-maps
+plan_sealed-requires-clause-maps g c =
     let of = c.in_ok-after.ensures in
     let hand : ℕ → ℕ → Option (List ℕ) = at_hand c.in_ok-after.after.records in
     moved (λ (o : FinMap nat_cmp (List ℕ)). AreMapsRead c.args.read.now o c.args.objects.now.entries) hand _ _ _ _ (sym of.extents) (sym of.contents)
@@ -93,15 +93,15 @@ returns-clause-tree g c =
     let contents : slots.Contents = c.args.contents.now in
     let hand : ℕ → ℕ → Option (List ℕ) = at_hand c.in_ok-after.after.records in
     let of = c.in_ok-after.ensures in
-    IfOk_five c.plan.result (λ (p : TreePlan) taken made lengths entries back. (
+    IfOk_five c.plan_sealed.result (λ (p : TreePlan) taken made lengths entries back. (
       pointers_before source,
       plans_tree source objects c.requires.none (contents_of contents).objects c.requires.old c.requires.placed p (with_records hand (objects_with extents contents)) (objects_with extents contents)
           (prepared_length hand extents contents) taken made lengths entries back,
-    )) (moved (λ (o : FinMap nat_cmp (List ℕ)). IfOk c.plan.result (TakesBlocks source o objects)) hand _ _ _ _ of.extents of.contents c.plan.ensures.taken)
-    (moved (λ (o : FinMap nat_cmp (List ℕ)). IfOk c.plan.result (GivesTree source o objects)) hand _ _ _ _ of.extents of.contents c.plan.ensures.tree)
-    (moved (λ (o : FinMap nat_cmp (List ℕ)). IfOk c.plan.result (HasLengths source o objects)) hand _ _ _ _ of.extents of.contents c.plan.ensures.lengths)
-    (moved (λ (o : FinMap nat_cmp (List ℕ)). IfOk c.plan.result (HasEntries o objects)) hand _ _ _ _ of.extents of.contents c.plan.ensures.entries)
-    c.plan.ensures.freed
+    )) (moved (λ (o : FinMap nat_cmp (List ℕ)). IfOk c.plan_sealed.result (TakesBlocks source o objects)) hand _ _ _ _ of.extents of.contents c.plan_sealed.ensures.taken)
+    (moved (λ (o : FinMap nat_cmp (List ℕ)). IfOk c.plan_sealed.result (GivesTree source o objects)) hand _ _ _ _ of.extents of.contents c.plan_sealed.ensures.tree)
+    (moved (λ (o : FinMap nat_cmp (List ℕ)). IfOk c.plan_sealed.result (HasLengths source o objects)) hand _ _ _ _ of.extents of.contents c.plan_sealed.ensures.lengths)
+    (moved (λ (o : FinMap nat_cmp (List ℕ)). IfOk c.plan_sealed.result (HasEntries o objects)) hand _ _ _ _ of.extents of.contents c.plan_sealed.ensures.entries)
+    c.plan_sealed.ensures.freed
 
 pub returns-clause-objects : goal.returns-clause-objects
 returns-clause-objects g c = λ keeps held exact.
@@ -116,18 +116,18 @@ returns-clause-objects g c = λ keeps held exact.
     let old = same_before source objects.entries c.requires.none (block_count source.geometry) below c.requires.old exact in
     let right : with_records hand wanted ≡ wanted = prepared_exact hand extents contents (of.exact keeps
     (holds_as (bytes_of (g.B.SectorDevice.disk c.args.reader.now).now) c.args.before.now (pointers_of source.tree.now) (pointers_before source) old below held.held)) in
-    IfOk_five c.plan.result (λ (p : TreePlan) taken made lengths entries back. holds_planned source objects c.requires.none below c.requires.old c.requires.placed p wanted old taken made lengths entries back)
-    (subst (λ (o : FinMap nat_cmp (List ℕ)). IfOk c.plan.result (TakesBlocks source o objects)) right (moved (λ (o : FinMap nat_cmp (List ℕ)). IfOk c.plan.result (TakesBlocks source o objects)) hand _ _ _ _ of.extents of.contents c.plan.ensures.taken))
-    (subst (λ (o : FinMap nat_cmp (List ℕ)). IfOk c.plan.result (GivesTree source o objects)) right (moved (λ (o : FinMap nat_cmp (List ℕ)). IfOk c.plan.result (GivesTree source o objects)) hand _ _ _ _ of.extents of.contents c.plan.ensures.tree))
-    (subst (λ (o : FinMap nat_cmp (List ℕ)). IfOk c.plan.result (HasLengths source o objects)) right (moved (λ (o : FinMap nat_cmp (List ℕ)). IfOk c.plan.result (HasLengths source o objects)) hand _ _ _ _ of.extents of.contents c.plan.ensures.lengths))
-    (subst (λ (o : FinMap nat_cmp (List ℕ)). IfOk c.plan.result (HasEntries o objects)) right (moved (λ (o : FinMap nat_cmp (List ℕ)). IfOk c.plan.result (HasEntries o objects)) hand _ _ _ _ of.extents of.contents c.plan.ensures.entries))
-    c.plan.ensures.freed
+    IfOk_five c.plan_sealed.result (λ (p : TreePlan) taken made lengths entries back. holds_planned source objects c.requires.none below c.requires.old c.requires.placed p wanted old taken made lengths entries back)
+    (subst (λ (o : FinMap nat_cmp (List ℕ)). IfOk c.plan_sealed.result (TakesBlocks source o objects)) right (moved (λ (o : FinMap nat_cmp (List ℕ)). IfOk c.plan_sealed.result (TakesBlocks source o objects)) hand _ _ _ _ of.extents of.contents c.plan_sealed.ensures.taken))
+    (subst (λ (o : FinMap nat_cmp (List ℕ)). IfOk c.plan_sealed.result (GivesTree source o objects)) right (moved (λ (o : FinMap nat_cmp (List ℕ)). IfOk c.plan_sealed.result (GivesTree source o objects)) hand _ _ _ _ of.extents of.contents c.plan_sealed.ensures.tree))
+    (subst (λ (o : FinMap nat_cmp (List ℕ)). IfOk c.plan_sealed.result (HasLengths source o objects)) right (moved (λ (o : FinMap nat_cmp (List ℕ)). IfOk c.plan_sealed.result (HasLengths source o objects)) hand _ _ _ _ of.extents of.contents c.plan_sealed.ensures.lengths))
+    (subst (λ (o : FinMap nat_cmp (List ℕ)). IfOk c.plan_sealed.result (HasEntries o objects)) right (moved (λ (o : FinMap nat_cmp (List ℕ)). IfOk c.plan_sealed.result (HasEntries o objects)) hand _ _ _ _ of.extents of.contents c.plan_sealed.ensures.entries))
+    c.plan_sealed.ensures.freed
 
 pub returns-clause-refused : goal.returns-clause-refused
-returns-clause-refused g c = of_want c.plan.result c.plan.ensures.refused
+returns-clause-refused g c = of_want c.plan_sealed.result c.plan_sealed.ensures.refused
 
 pub returns-clause-sound : goal.returns-clause-sound
-returns-clause-sound g c = λ keeps held exact. held_want c.plan.result c.plan.ensures.refused
+returns-clause-sound g c = λ keeps held exact. held_want c.plan_sealed.result c.plan_sealed.ensures.refused
 
 pub returns-clause-no_space : goal.returns-clause-no_space
 returns-clause-no_space g c =
@@ -137,8 +137,8 @@ returns-clause-no_space g c =
     let contents : slots.Contents = c.args.contents.now in
     let hand : ℕ → ℕ → Option (List ℕ) = at_hand c.in_ok-after.after.records in
     let wanted : FinMap nat_cmp (List ℕ) = objects_with extents contents in
-    IfErr-weaker c.plan.result _ _ (λ e full no_space. (pointers_before source, short_of source objects (with_records hand wanted) wanted (prepared_length hand extents contents) e full no_space))
-    (moved (λ (o : FinMap nat_cmp (List ℕ)). IfErr c.plan.result (TellsFull source o objects)) hand _ _ _ _ c.in_ok-after.ensures.extents c.in_ok-after.ensures.contents c.plan.ensures.full)
+    IfErr-weaker c.plan_sealed.result _ _ (λ e full no_space. (pointers_before source, short_of source objects (with_records hand wanted) wanted (prepared_length hand extents contents) e full no_space))
+    (moved (λ (o : FinMap nat_cmp (List ℕ)). IfErr c.plan_sealed.result (TellsFull source o objects)) hand _ _ _ _ c.in_ok-after.ensures.extents c.in_ok-after.ensures.contents c.plan_sealed.ensures.full)
 
 pub returns-clause-short : goal.returns-clause-short
 returns-clause-short g c = λ keeps held exact.
@@ -149,5 +149,5 @@ returns-clause-short g c = λ keeps held exact.
     let hand : ℕ → ℕ → Option (List ℕ) = at_hand c.in_ok-after.after.records in
     let wanted : FinMap nat_cmp (List ℕ) = objects_with extents contents in
     let old = same_before source objects c.requires.none (block_count source.geometry) (contents_of contents).objects c.requires.old exact in
-    IfErr-weaker c.plan.result _ _ (λ e full. short_of_tree source objects (with_records hand wanted) wanted (prepared_length hand extents contents) e full old)
-    (moved (λ (o : FinMap nat_cmp (List ℕ)). IfErr c.plan.result (TellsFull source o objects)) hand _ _ _ _ c.in_ok-after.ensures.extents c.in_ok-after.ensures.contents c.plan.ensures.full)
+    IfErr-weaker c.plan_sealed.result _ _ (λ e full. short_of_tree source objects (with_records hand wanted) wanted (prepared_length hand extents contents) e full old)
+    (moved (λ (o : FinMap nat_cmp (List ℕ)). IfErr c.plan_sealed.result (TellsFull source o objects)) hand _ _ _ _ c.in_ok-after.ensures.extents c.in_ok-after.ensures.contents c.plan_sealed.ensures.full)

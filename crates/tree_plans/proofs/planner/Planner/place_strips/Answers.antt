@@ -1,7 +1,8 @@
-use Rattle.std.proofs.Common.{◌≡◌, arith, inl, rules, ◌∙◌}
+use Rattle.std.proofs.Common.{◌≡◌, ◌+◌, ◌-◌, ◌<◌, ℕ, arith, inl, rules, ◌∙◌}
 use Rattle.tree_plans.specs.Plans.{is_dirty_in, records_with}
 use Rattle.tree_plans.specs.Parts.{old_in}
 use Rattle.tree_plans.proofs.Order.{strips_begun}
+use Rattle.tree_plans.proofs.PassedStrips.{all_passed}
 use Rattle.tree_plans.proofs.Progress.{goes_nowhere}
 use Rattle.tree_plans.proofs.Room.{handed_on, lacks_strip}
 use Rattle.tree_plans.proofs.planner.Planner.place_strips.Goals as goal
@@ -32,18 +33,30 @@ loop-strip-preserved g c = record {
   done = c.in_ok-place_strip.ensures.planned.done _ c.loop-strip.invariant.met c.loop-strip.invariant.done;
 }
 
+-- past the last strip that the plan goes over nothing changes
 pub returns-clause-met : goal.returns-clause-met
 returns-clause-met g c =
-    let done : c.loop-strip.strip ≡ 84 = omega arith in
-    rw done at c.loop-strip.invariant.met
+    let inv = c.loop-strip.invariant in
+    let end = c.met_end-strip-end.ensures in
+    let n : ℕ = c.loop-strip.strip in
+    let past = c.loop-strip-test.false in
+    let all : n + (84 - n) ≡ 84 = omega (arith, end.low) in
+    rw all at (all_passed _ c.args.object.now _ c.requires.read _ _ _ n (84 - n) (omega (arith, all)) (λ j from. end.unread j (omega (arith, from, past))) (λ j from. end.clean j (omega (arith, from, past)))
+    (record { met = inv.met; done = inv.done })).met
 
 pub returns-clause-planned : goal.returns-clause-planned
 returns-clause-planned g c =
-    let done : c.loop-strip.strip ≡ 84 = omega arith in
-    rw done at c.loop-strip.invariant.done
+    let inv = c.loop-strip.invariant in
+    let end = c.met_end-strip-end.ensures in
+    let n : ℕ = c.loop-strip.strip in
+    let past = c.loop-strip-test.false in
+    let all : n + (84 - n) ≡ 84 = omega (arith, end.low) in
+    rw all at (all_passed _ c.args.object.now _ c.requires.read _ _ _ n (84 - n) (omega (arith, all)) (λ j from. end.unread j (omega (arith, from, past))) (λ j from. end.clean j (omega (arith, from, past)))
+    (record { met = inv.met; done = inv.done })).done
 
 pub returns-in_err-place_strip-clause-full : goal.returns-in_err-place_strip-clause-full
 returns-in_err-place_strip-clause-full g c =
     let object = c.args.object.now in
-    handed_on c.from_residual.result _ _ c.from_residual.ensures.1 (λ no_space. lacks_strip _ _ _ (is_dirty_in object) (records_with (old_in object) c.loop-strip.strips.entries) c.loop-strip.strip 84 c.loop-strip-test.true
+    let low : c.loop-strip.strip < 84 = omega (arith, c.loop-strip-test.true, c.met_end-strip-end.ensures.low) in
+    handed_on c.from_residual.result _ _ c.from_residual.ensures.1 (λ no_space. lacks_strip _ _ _ (is_dirty_in object) (records_with (old_in object) c.loop-strip.strips.entries) c.loop-strip.strip 84 low
     c.loop-strip.invariant.done.goes c.loop-strip.invariant.done.adds (c.in_err-place_strip.ensures.full no_space))
