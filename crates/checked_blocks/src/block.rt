@@ -107,8 +107,8 @@ pub struct Content<'a> {
     pub payload: &'a [u8],
 }
 
-/// Four blocks of this kind, pool and group, each as `seal` makes it of its number and its payload. Their checks are made
-/// side by side, in about half the time.
+/// Four blocks of this kind, pool and group, each as `seal` makes it of its number and its payload. Their checks are
+/// made side by side, in about half the time.
 ///
 /// # Errors
 /// `BadRange` exactly if the kind is none of 1 to 7 or one of the payloads has more than 4,032 bytes.

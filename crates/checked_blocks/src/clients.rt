@@ -8,7 +8,7 @@ ghost use Rattle.base.specs.formats.Fields.{number_at, part};
 use crate::block::{Block, Content, seal, seal_four};
 use crate::expected::Expected;
 use crate::frame::Frame;
-use crate::payload::{Payload, open};
+use crate::payload::{Payload, ReadBlock, are_expected, open};
 use base::{BLOCK_SIZE, Group, PoolError, Version};
 
 fn a_sealed_block_opens_and_gives_its_payload(payload: &[u8]) -> Result<(), PoolError>
@@ -182,6 +182,38 @@ fn bytes_that_are_not_sealed_do_not_open(block: &[u8; BLOCK_SIZE]) -> Result<Pay
             check: None,
         },
     )
+}
+
+// A block that is judged with three others is judged as it is alone.
+fn the_second_of_four_blocks_is_accepted_as_alone(
+    block: &[u8; BLOCK_SIZE],
+    other: &[u8; BLOCK_SIZE],
+    expected: &Expected,
+) {
+    let beside = ReadBlock {
+        block: other,
+        expected,
+    };
+    let read = ReadBlock { block, expected };
+    let (_, second, _, _) = are_expected(&beside, &read, &beside, &beside);
+    let alone = open(block, expected).is_ok();
+    prove!(second == alone);
+}
+
+fn bytes_that_are_not_sealed_are_not_expected(
+    block: &[u8; BLOCK_SIZE],
+    other: &[u8; BLOCK_SIZE],
+    expected: &Expected,
+)
+    requires { IsSealed block.now → ⊥ }
+{
+    let beside = ReadBlock {
+        block: other,
+        expected,
+    };
+    let read = ReadBlock { block, expected };
+    let (_, _, _, fourth) = are_expected(&beside, &beside, &beside, &read);
+    prove!(!fourth);
 }
 
 fn two_blocks_have_two_addresses() {

@@ -15,4 +15,4 @@ pub use expected::Expected;
 pub use frame::{BLOCK_AREA, Frame};
 pub use kind::Kind;
 pub use laws::{opened_blocks_are_sealed, sealed_blocks_open};
-pub use payload::{Payload, open};
+pub use payload::{Payload, ReadBlock, are_expected, open};

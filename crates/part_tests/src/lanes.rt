@@ -1,7 +1,7 @@
 //! Four blocks side by side: their digests, as Python's hashlib makes them, and the blocks that are sealed so.
 
 use base::{Group, PoolError};
-use checked_blocks::{Content, seal, seal_four};
+use checked_blocks::{Content, Expected, ReadBlock, are_expected, seal, seal_four};
 use hash_lanes::digest_four;
 
 const DIGESTS: [[u8; 32]; 4] = [
@@ -59,4 +59,41 @@ fn are_sealed_alike() -> Result<[bool; 4], PoolError> {
 #[test]
 fn four_blocks_are_sealed_as_each_alone(rt: HostRuntime) {
     assert_eq!(rt; are_sealed_alike(), Ok([true; 4]));
+}
+
+// Which of four blocks are accepted: the second has another byte, and the fourth another number than it should have.
+fn accepted() -> Result<(bool, bool, bool, bool), PoolError> {
+    let block = seal(5, 77, Group(9), 84, b"abcd")?;
+    let expected = Expected {
+        address: 4194304,
+        kind: 5,
+        guid: 77,
+        number: 84,
+        group: Some(Group(9)),
+        check: Some(block.check()),
+    };
+    let other = Expected {
+        number: 85,
+        ..expected
+    };
+    let mut torn = *block.as_bytes();
+    torn[4095] = 1;
+    let good = ReadBlock {
+        block: block.as_bytes(),
+        expected: &expected,
+    };
+    let torn = ReadBlock {
+        block: &torn,
+        expected: &expected,
+    };
+    let misplaced = ReadBlock {
+        block: block.as_bytes(),
+        expected: &other,
+    };
+    Ok(are_expected(&good, &torn, &good, &misplaced))
+}
+
+#[test]
+fn four_blocks_are_accepted_as_each_alone(rt: HostRuntime) {
+    assert_eq!(rt; accepted(), Ok((true, false, true, false)));
 }
