@@ -17,6 +17,7 @@ pub mod EntryForms
 pub mod LoadedTrees
 pub mod WalkOrder
 pub mod WalkDamages
+pub mod ReadAheads
 pub mod WalkParts
 pub mod DamageLists
 pub mod HeldTrees

@@ -12,12 +12,14 @@ ghost use Rattle.base.specs.tree.Places.{IsPlace, pointer_of, record_start, walk
 ghost use Rattle.base.specs.tree.Places.Place.{Directory, Data};
 ghost use Rattle.device_model.specs.Reading.{OnlyReads};
 ghost use Rattle.object_maps.specs.DamageLists.{AddsDamages, AddsTold, HasDirectories, IsListRefusal, ListsDamages};
-ghost use Rattle.object_maps.specs.Loaders.{AreRecordForms, IsEntryPayload, OnWalk};
+ghost use Rattle.object_maps.specs.Loaders.{AreRecordForms, IsEntryPayload, OnImage, OnWalk};
 ghost use Rattle.object_maps.specs.Loading.{IsLoadRefusal};
+ghost use Rattle.object_maps.specs.ReadAhead.{IsReadAhead};
 ghost use Rattle.object_maps.specs.Walking.{AreDataOf, AreStripsOf, IsDataOf, IsIndirectOf, IsObjectAt, IsPayloadOf, IsTopOf, directory_index, objects_index};
 
 use crate::forms::{Entry, are_entries, are_records, are_strips, have_form, read_entry};
-use crate::strips::{data_number, record_number, strip_number};
+use crate::read_ahead::ReadAhead;
+use crate::strips::{record_number, strip_number};
 use crate::walk::{BlockPlace, Loader, damaged, new_buffer, payload_of};
 use base::{
     ENTRY_COUNT, POINTER_COUNT, POINTER_SIZE, Pointer, PoolError, RECORD_SIZE, are_zeros,
@@ -351,12 +353,14 @@ impl Loader<'_> {
             (walk_index_of_indirect number + 1) (walk_index_of_indirect number + strip_stride)
             damages.old.items damages.new.items)) }
     {
+        let mut ahead = ReadAhead::new();
         for index in 0..POINTER_COUNT {
+            self.read_ahead(device, number, index, payload, &mut ahead)?;
             let pointer = read_pointer(payload, POINTER_SIZE * index);
             if pointer.is_none() {
                 continue;
             }
-            self.list_record(device, number, index, &pointer, size, damages)?;
+            self.list_record(device, number, index, &pointer, &ahead, size, damages)?;
         }
         Ok(())
     }
@@ -368,12 +372,15 @@ impl Loader<'_> {
         number: usize,
         index: usize,
         pointer: &Pointer,
+        ahead: &ReadAhead,
         size: usize,
         damages: &mut Vec<BlockDamage>,
     ) -> Result<(), PoolError>
         requires fits { block_address self.now.frame.now.blocks ≤ D.size device.old }
         requires place { IsPlace (Data number index) }
         requires within { record_start number index < size }
+        requires ahead { OnImage D.keeps_model (D.disk device.old)
+            (λ image. IsReadAhead D.keeps_model image self.now.frame.now ahead.now) }
         ensures reads { OnlyReads D.SectorDevice result device.old device.new }
         ensures cause { IfErr result IsListRefusal }
         ensures listed { OnWalk D.keeps_model (D.disk device.old) (λ image top.
@@ -383,11 +390,7 @@ impl Loader<'_> {
             damages.old.items damages.new.items)) }
     {
         let mut buffer = new_buffer();
-        let place = BlockPlace {
-            kind: Kind::Data,
-            number: data_number(number, index),
-        };
-        if let Err(error) = self.read_block(device, place, pointer, None, &mut buffer) {
+        if let Err(error) = self.read_record(device, number, index, pointer, ahead, &mut buffer) {
             return add_damage(error, damages);
         }
         let count = (size - RECORD_SIZE * record_number(number, index)).min(RECORD_SIZE);

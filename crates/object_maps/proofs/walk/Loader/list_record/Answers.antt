@@ -15,14 +15,14 @@ pub returns-in-Err-clause-listed : goal.returns-in-Err-clause-listed
 returns-in-Err-clause-listed g c = λ keeps image top shows named_by.
     on_ok_weaker c.add_damage.result
     (missing_added image c.args.self.now.frame.now top (Data c.args.number c.args.index) _ _ c.args.pointer.now c.in-Err.error c.args.damages.now.items c.add_damage.new.damages.items
-    c.requires.place refl refl named_by.at named_by.there (subst (λ (n : ℕ). TellsBlock image c.args.self.now.frame.now 5 n c.args.pointer.now c.in-Err.error) c.data_number.ensures (c.in-Err.ensures.refused keeps image shows)))
+    c.requires.place refl refl named_by.at named_by.there (c.in-Err.ensures.refused keeps image shows))
     c.add_damage.ensures.added
 
 pub returns-then-not-are_zeros-clause-listed : goal.returns-then-not-are_zeros-clause-listed
 returns-then-not-are_zeros-clause-listed g c = λ keeps image top shows named_by.
     let payload : List ℕ = c.payload_of.result.now in
     let opens = subst (λ (l : List ℕ). OpensAt image c.args.self.now.frame.now (Data c.args.number c.args.index) c.args.pointer.now l) (sym c.payload_of.ensures.payload)
-    (subst (λ (n : ℕ). Opens image c.args.self.now.frame.now 5 n c.args.pointer.now (drop 64 c.read_block.new.buffer)) c.data_number.ensures (c.in_default.ensures.opens image (λ k. shows) keeps)) in
+    (c.in_default.ensures.opens image (λ k. shows) keeps) in
     let is : 4032 * c.record_number.result ≡ record_start c.args.number c.args.index = ap (λ (r : ℕ). 4032 * r) c.record_number.ensures.record in
     let not = rw (take_rest payload c.min-count.result) at c.if-not-are_zeros.ensures.1 in
     on_ok_weaker c.add_damage-then-not-are_zeros.result
@@ -35,7 +35,7 @@ pub returns-clause-listed : goal.returns-clause-listed
 returns-clause-listed g c = λ keeps image top shows named_by.
     let payload : List ℕ = c.payload_of.result.now in
     let opens = subst (λ (l : List ℕ). OpensAt image c.args.self.now.frame.now (Data c.args.number c.args.index) c.args.pointer.now l) (sym c.payload_of.ensures.payload)
-    (subst (λ (n : ℕ). Opens image c.args.self.now.frame.now 5 n c.args.pointer.now (drop 64 c.read_block.new.buffer)) c.data_number.ensures (c.in_default.ensures.opens image (λ k. shows) keeps)) in
+    (c.in_default.ensures.opens image (λ k. shows) keeps) in
     let is : 4032 * c.record_number.result ≡ record_start c.args.number c.args.index = ap (λ (r : ℕ). 4032 * r) c.record_number.ensures.record in
     let zeros = rw (take_rest payload c.min-count.result) at (c.if-not-are_zeros.ensures.0 refl) in
     no_damages image c.args.self.now.frame.now top _ _ c.args.damages.now.items (omega arith)

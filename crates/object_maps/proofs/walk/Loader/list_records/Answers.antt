@@ -3,19 +3,44 @@ use Rattle.base.specs.disk.Disk.{Disk, bytes_of}
 use Rattle.base.specs.tree.Places.{walk_index_of_indirect}
 use Rattle.base.specs.tree.Places.Place.{Data}
 use Rattle.object_maps.specs.DamageLists.{AddsDamages}
-use Rattle.object_maps.proofs.WalkOrder.{sound_one}
+use Rattle.object_maps.proofs.LoadedBlocks.{still_shows}
+use Rattle.object_maps.proofs.WalkOrder.{sound_none, sound_one}
 use Rattle.object_maps.proofs.DamageLists.{damages_then, no_damages}
 use Rattle.object_maps.proofs.WalkParts.{data_in}
 use Rattle.object_maps.proofs.walk.Loader.list_records.Goals as goal
 
+pub loop-index-init : goal.loop-index-init
+loop-index-init g c = record {
+  size = refl;
+  disk = λ keeps. refl;
+  count = refl;
+  ahead = λ image shows. c.new-ahead.ensures g.D.SectorDevice.keeps_model image c.args.self.now.frame.now;
+  listed = λ keeps image top shows all.
+      let start : ℕ = walk_index_of_indirect c.args.number + 1 in
+      no_damages image c.args.self.now.frame.now top start (start + 0) c.args.damages.now.items (omega arith)
+      (sound_none image c.args.self.now.frame.now top start (start + 0) (omega arith));
+}
+
+pub read_ahead-requires-clause-ahead : goal.read_ahead-requires-clause-ahead
+read_ahead-requires-clause-ahead g c = λ image shows.
+    let i = c.loop-index.invariant in
+    i.ahead image (λ k. ap (λ (d : Disk). bytes_of d.now) (sym (i.disk k)) ∙ shows k)
+
+pub list_record-requires-clause-ahead : goal.list_record-requires-clause-ahead
+list_record-requires-clause-ahead g c = λ image shows.
+    let read = c.in_ok-read_ahead.ensures in
+    read.ahead image (λ k. ap (λ (d : Disk). bytes_of d.now) (sym (read.reads.disk k)) ∙ shows k)
+
 pub loop-index-preserved-then-is_none : goal.loop-index-preserved-then-is_none
 loop-index-preserved-then-is_none g c =
     let i = c.loop-index.invariant in
+    let read = c.in_ok-read_ahead.ensures in
     let here : ℕ = walk_index_of_indirect c.args.number + 1 + c.loop-index.index in
     record {
-      size = i.size;
-      disk = i.disk;
-      count = i.count;
+      size = read.reads.size ∙ i.size;
+      disk = λ keeps. read.reads.disk keeps ∙ i.disk keeps;
+      count = read.reads.count ∙ i.count;
+      ahead = λ image shows. read.ahead image (still_shows g.D.SectorDevice.keeps_model (g.D.SectorDevice.disk c.args.device.now) (g.D.SectorDevice.disk c.loop-index.device) image i.disk shows);
       listed = λ keeps image top shows all.
           damages_then image c.args.self.now.frame.now top (walk_index_of_indirect c.args.number + 1) here here (here + 1) (walk_index_of_indirect c.args.number + 1 + (c.loop-index.index + 1))
           c.args.damages.now.items c.loop-index.damages.items c.loop-index.damages.items refl (omega arith) (i.listed keeps image top shows all)
@@ -27,16 +52,18 @@ loop-index-preserved-then-is_none g c =
 pub loop-index-preserved : goal.loop-index-preserved
 loop-index-preserved g c =
     let i = c.loop-index.invariant in
+    let read = c.in_ok-read_ahead.ensures in
     let call = c.in_ok-list_record.ensures in
     let here : ℕ = walk_index_of_indirect c.args.number + 1 + c.loop-index.index in
     record {
-      size = call.reads.size ∙ i.size;
-      disk = λ keeps. call.reads.disk keeps ∙ i.disk keeps;
-      count = call.reads.count ∙ i.count;
+      size = call.reads.size ∙ read.reads.size ∙ i.size;
+      disk = λ keeps. call.reads.disk keeps ∙ read.reads.disk keeps ∙ i.disk keeps;
+      count = call.reads.count ∙ read.reads.count ∙ i.count;
+      ahead = λ image shows. read.ahead image (still_shows g.D.SectorDevice.keeps_model (g.D.SectorDevice.disk c.args.device.now) (g.D.SectorDevice.disk c.loop-index.device) image i.disk shows);
       listed = λ keeps image top shows all.
           damages_then image c.args.self.now.frame.now top (walk_index_of_indirect c.args.number + 1) here here (here + 1) (walk_index_of_indirect c.args.number + 1 + (c.loop-index.index + 1))
           c.args.damages.now.items c.loop-index.damages.items c.list_record.new.damages.items refl (omega arith) (i.listed keeps image top shows all)
-          (call.listed keeps image top (ap (λ (d : Disk). bytes_of d.now) (i.disk keeps) ∙ shows)
+          (call.listed keeps image top (ap (λ (d : Disk). bytes_of d.now) (read.reads.disk keeps ∙ i.disk keeps) ∙ shows)
           (data_in image top c.args.number c.loop-index.index c.args.size c.args.payload.now c.read_pointer-pointer.result c.loop-index-test.true all c.read_pointer-pointer.ensures
           (λ none. let no = c.if-is_none.ensures.1 none in cc)));
     }

@@ -33,16 +33,16 @@ returns-clause-loaded g c = λ image shows.
     let is : 4032 * c.record_number-at.result ≡ record_start c.args.number c.args.index = ap (λ (r : ℕ). 4032 * r) c.record_number-at.ensures.record in
     record_taken g.D.SectorDevice.keeps_model image c.args.self.now.frame.now c.args.number c.args.index c.args.size c.min-count.result c.args.pointer.now payload c.args.bytes.now.value
     c.with_bytes.result.value c.payload_of-payload.ensures.length c.requires.size c.requires.within (c.min-count.ensures ∙ ap (λ (i : ℕ). min (c.args.size - i) 4032) is) zeros
-    (c.with_bytes.ensures.put ∙ ap (λ (i : ℕ). put i (take c.min-count.result payload) c.args.bytes.now.value) is) c.in_ok-read_block.ensures.placed
+    (c.with_bytes.ensures.put ∙ ap (λ (i : ℕ). put i (take c.min-count.result payload) c.args.bytes.now.value) is) c.in_ok-read_record.ensures.placed
     (λ keeps. subst (λ (l : List ℕ). OpensAt image c.args.self.now.frame.now (Data c.args.number c.args.index) c.args.pointer.now l)
-    (sym c.payload_of-payload.ensures.payload) (subst (λ (n : ℕ). Opens image c.args.self.now.frame.now 5 n c.args.pointer.now (drop 64 c.read_block.new.buffer)) c.data_number.ensures (c.in_ok-read_block.ensures.opens image shows keeps)))
+    (sym c.payload_of-payload.ensures.payload) (c.in_ok-read_record.ensures.opens image shows keeps))
 
-pub returns-in_err-read_block-clause-walked : goal.returns-in_err-read_block-clause-walked
-returns-in_err-read_block-clause-walked g c = λ keeps image top shows named_by.
+pub returns-in_err-read_record-clause-walked : goal.returns-in_err-read_record-clause-walked
+returns-in_err-read_record-clause-walked g c = λ keeps image top shows named_by.
     let p = err_from_is_err_and c.from_residual.result c.from_residual.ensures.1 in
     rw (p.1, p.2) (missing_damage image c.args.self.now.frame.now top (Data c.args.number c.args.index) (walk_index_of (Data c.args.number c.args.index)) c.args.pointer.now
-    c.in_err-read_block.field-0.0 c.requires.place refl named_by.at named_by.there
-    (subst (λ (n : ℕ). TellsBlock image c.args.self.now.frame.now 5 n c.args.pointer.now c.in_err-read_block.field-0.0) c.data_number.ensures (c.in_err-read_block.ensures.refused keeps image shows)))
+    c.in_err-read_record.field-0.0 c.requires.place refl named_by.at named_by.there
+    (c.in_err-read_record.ensures.refused keeps image shows))
 
 pub returns-then-not-are_zeros-clause-walked : goal.returns-then-not-are_zeros-clause-walked
 returns-then-not-are_zeros-clause-walked g c = λ keeps image top shows named_by.
@@ -50,7 +50,7 @@ returns-then-not-are_zeros-clause-walked g c = λ keeps image top shows named_by
     let frame = c.args.self.now.frame.now in
     let is : 4032 * c.record_number-at.result ≡ record_start c.args.number c.args.index = ap (λ (r : ℕ). 4032 * r) c.record_number-at.ensures.record in
     let opens = subst (λ (l : List ℕ). OpensAt image frame (Data c.args.number c.args.index) c.args.pointer.now l) (sym c.payload_of-payload.ensures.payload)
-    (subst (λ (n : ℕ). Opens image frame 5 n c.args.pointer.now (drop 64 c.read_block.new.buffer)) c.data_number.ensures (c.in_ok-read_block.ensures.opens image (λ k. shows) keeps)) in
+    (c.in_ok-read_record.ensures.opens image (λ k. shows) keeps) in
     let not = rw (take_rest payload c.min-count.result) at c.if-not-are_zeros.ensures.1 in
     record_damage image frame top c.args.number c.args.index c.args.size c.min-count.result c.args.pointer.now payload c.damaged.result c.requires.place.0 c.requires.place.1
     named_by opens c.payload_of-payload.ensures.length (c.min-count.ensures ∙ ap (λ (i : ℕ). min (c.args.size - i) 4032) is) (λ zeros. let no = not zeros in cc) c.damaged.ensures
@@ -61,7 +61,7 @@ returns-clause-walked g c = λ keeps image top shows named_by.
     let frame = c.args.self.now.frame.now in
     let is : 4032 * c.record_number-at.result ≡ record_start c.args.number c.args.index = ap (λ (r : ℕ). 4032 * r) c.record_number-at.ensures.record in
     let opens = subst (λ (l : List ℕ). OpensAt image frame (Data c.args.number c.args.index) c.args.pointer.now l) (sym c.payload_of-payload.ensures.payload)
-    (subst (λ (n : ℕ). Opens image frame 5 n c.args.pointer.now (drop 64 c.read_block.new.buffer)) c.data_number.ensures (c.in_ok-read_block.ensures.opens image (λ k. shows) keeps)) in
+    (c.in_ok-read_record.ensures.opens image (λ k. shows) keeps) in
     let zeros = rw (take_rest payload c.min-count.result) at (c.if-not-are_zeros.ensures.0 refl) in
     record_sound image frame top c.args.number c.args.index c.args.size c.min-count.result c.args.pointer.now payload c.requires.place.0 c.requires.place.1
     named_by opens c.payload_of-payload.ensures.length (c.min-count.ensures ∙ ap (λ (i : ℕ). min (c.args.size - i) 4032) is) zeros

@@ -3,6 +3,7 @@ use Rattle.std.specs.Prelude.{IsTrue}
 use Rattle.base.specs.declared.pointer.Pointer.{Pointer}
 use Rattle.base.specs.disk.Disk.{bytes_of}
 use Rattle.base.specs.tree.Places.{strip_of, walk_index_of_indirect}
+use Rattle.object_maps.specs.ReadAhead.{IsReadAhead}
 use Rattle.object_maps.specs.Walking.{AreSound, AreDataOf}
 use Rattle.object_maps.specs.Loading.{Shows, AreLoadedRecords, KeepsOthers}
 use Rattle.object_maps.proofs.walk.Loader.load_records.Given as goal
@@ -13,6 +14,7 @@ invariant-loop-index g l = record {
   size : g.D.SectorDevice.size l.device ≡ g.D.SectorDevice.size l.fn.device;
   disk : IsTrue g.D.SectorDevice.keeps_model → g.D.SectorDevice.disk l.device ≡ g.D.SectorDevice.disk l.fn.device;
   count : g.D.SectorDevice.refused l.device ≡ g.D.SectorDevice.refused l.fn.device;
+  ahead : (image : List ℕ) → Shows g.D.SectorDevice.keeps_model (g.D.SectorDevice.disk l.fn.device) image → IsReadAhead g.D.SectorDevice.keeps_model image l.self.frame.now l.ahead;
   kept : KeepsOthers (strip_of l.number) l.fn.bytes.value l.bytes.value;
   sound : IsTrue g.D.SectorDevice.keeps_model → (image : List ℕ) (top : Pointer) → bytes_of (g.D.SectorDevice.disk l.fn.device).now ≡ image
       → AreDataOf image top l.number l.payload l.size
