@@ -128,7 +128,8 @@ impl<'a, 'b> SealedObjects<'a, 'b> {
 
     // Keeps the block of the record of a key.
     fn keep(&mut self, key: u64, block: Block) -> Result<(), PoolError>
-        requires { IsSealedAs self.old.guid self.old.group.0 self.old.prepared.now.records key block }
+        requires { IsSealedAs self.old.guid self.old.group.0
+            self.old.prepared.now.records key block }
         ensures guid { self.new.guid ≡ self.old.guid }
         ensures group { self.new.group ≡ self.old.group }
         ensures prepared { self.new.prepared.now ≡ self.old.prepared.now }
