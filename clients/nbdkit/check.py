@@ -145,6 +145,8 @@ def options(tank):
         "size=1777102848": "at most 1777098752 bytes",
         "size=5000": "a multiple of 4096",
         "size=0": "a multiple of 4096",
+        "dirty=1048575": "no dirty limit",
+        "dirty=1048577M": "no dirty limit",
         "colour=red": "no option colour",
         "ro=true": "no disk yet",
         "program=/": "can't be started",
@@ -164,7 +166,21 @@ def options(tank):
     assert "no disk" in tank.refusal("size=64M")
     tank.pool.unlink()
     assert "No such file" in tank.refusal("size=64M")
-    return "eleven refusals, and the size is kept"
+    return "thirteen refusals, and the size is kept"
+
+
+def dirty_limit(tank):
+    for words, limit in ((), 4 * MIB), (("dirty=1M",), MIB), (("dirty=1T",), 1 << 40):
+        process = tank.start("size=8M", *words)
+        (program,) = processes_of(process.pid)
+        asked = pathlib.Path(f"/proc/{program}/cmdline").read_bytes().split(b"\0")
+        assert asked[asked.index(b"--dirty") + 1] == b"%d" % limit, asked
+        with tank.disk() as disk:
+            disk.write(0, b"d" * 64 * KIB)
+            disk.flush()
+            assert disk.read(0, 64 * KIB) == b"d" * 64 * KIB
+        tank.stop(process)
+    return "three limits"
 
 
 def the_greatest_disk(tank):
@@ -498,8 +514,8 @@ def killed_program(tank):
 
 
 TESTS = (
-    options, the_greatest_disk, patterns, random_steps, copies, verified, file_system, read_only, growth, extents,
-    transactions, whole_blocks, full_pool, refused_device, killed_nbdkit, killed_program,
+    options, dirty_limit, the_greatest_disk, patterns, random_steps, copies, verified, file_system, read_only, growth,
+    extents, transactions, whole_blocks, full_pool, refused_device, killed_nbdkit, killed_program,
 )  # fmt: skip
 
 

@@ -6,6 +6,7 @@
 
 #include <errno.h>
 #include <inttypes.h>
+#include <stdio.h>
 #include <stdlib.h>
 #include <string.h>
 
@@ -14,7 +15,12 @@
 /* The seconds that the program waits for a file that the process of a killed nbdkit still has. */
 #define WAIT_SECONDS "30"
 
+/* The least dirty limit, which has room for the longest write of the disk, and the most that the program takes. */
+#define LEAST_DIRTY (INT64_C(1) << 20)
+#define MOST_DIRTY (INT64_C(1) << 40)
+
 static char *file, *program;
+static int64_t dirty_limit = 4 << 20; /* the most bytes that unsynced transactions may be charged */
 static int64_t wanted_size; /* 0 if it is not given */
 static int is_read_only;
 
@@ -52,15 +58,27 @@ static int set_size(const char *value) {
     return 0;
 }
 
+static int set_dirty_limit(const char *value) {
+    dirty_limit = nbdkit_parse_size(value);
+    if (dirty_limit < 0) return -1;
+    if (dirty_limit < LEAST_DIRTY || dirty_limit > MOST_DIRTY) {
+        nbdkit_error("dirty=%s is no dirty limit: give %" PRId64 " to %" PRId64 " bytes", value, LEAST_DIRTY,
+                     MOST_DIRTY);
+        return -1;
+    }
+    return 0;
+}
+
 static int topzerad_config(const char *key, const char *value) {
     if (!strcmp(key, "file")) return set_path(&file, nbdkit_realpath(value));
     if (!strcmp(key, "program")) return set_path(&program, program_path(value));
     if (!strcmp(key, "size")) return set_size(value);
+    if (!strcmp(key, "dirty")) return set_dirty_limit(value);
     if (!strcmp(key, "ro")) {
         is_read_only = nbdkit_parse_bool(value);
         return is_read_only < 0 ? -1 : 0;
     }
-    nbdkit_error("there is no option %s: the options are file, size, program and ro", key);
+    nbdkit_error("there is no option %s: the options are file, size, program, dirty and ro", key);
     return -1;
 }
 
@@ -140,7 +158,9 @@ static void close_pool(void) {
 
 /* Starts the process once nbdkit has forked: it has to be a child of the process that waits for its end. */
 static int topzerad_after_fork(void) {
-    const char *const words[] = {program, "serve", file, "--wait", WAIT_SECONDS, NULL};
+    char dirty[24];
+    snprintf(dirty, sizeof dirty, "%" PRId64, dirty_limit);
+    const char *const words[] = {program, "serve", file, "--wait", WAIT_SECONDS, "--dirty", dirty, NULL};
     if (topzerad_open_with(&pool, words)) {
         nbdkit_error("%s can't be started: %m", program);
         return -1;
@@ -237,6 +257,7 @@ static struct nbdkit_plugin plugin = {
     .config_help = "file=POOL     (required) a file that `ztxg create` made\n"
                    "size=BYTES    the size of the disk: it is made or grows to it\n"
                    "program=PATH  the program, if not given ztxg\n"
+                   "dirty=BYTES   what may wait for a sync, if not given 4M\n"
                    "ro=true       the disk can only be read\n",
     .unload = topzerad_unload,
     .after_fork = topzerad_after_fork,
