@@ -34,9 +34,9 @@ use Rattle.sync.specs.CallOrder.{stage_after}
 use Rattle.sync.specs.Made.{HasDistinctBlocks}
 use Rattle.sync.specs.Phases.{IsWrittenNext}
 use Rattle.sync.specs.Runs.{call_count}
-use Rattle.sync.specs.Calls.{IsNextCall, MakesCall, Target, WritesTarget, block_target, calls_of, config_target, first_labels, last_labels, refusal_of, target_of}
+use Rattle.sync.specs.Calls.{IsNextCall, MakesCall, Target, block_target, calls_of, config_target, first_labels, last_labels, refusal_of, target_of}
 use Rattle.sync.proofs.CallPlaces.{count_calls}
-use Rattle.sync.proofs.Targets.{call_of_target, mapped}
+use Rattle.sync.proofs.Targets.{WritesTarget, call_of_target, mapped}
 use Rattle.sync.specs.DiskCalls.{IsStoppedIn, MakesDiskCall, Refuses, after_disk_call, after_disk_calls, refusal_of_call}
 use Rattle.import_replay.specs.CreateCalls.{each_label, write_config, write_uberblock}
 use Rattle.import_replay.specs.LabelSyncs.{ImportWrites, IsGroupSync, calls_of_import, is_even, write_block, write_stage}
