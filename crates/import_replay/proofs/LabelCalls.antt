@@ -1,19 +1,25 @@
 -- The calls of the sync of an import, and what they make of the disk.
-use Rattle.std.proofs.Common.{◌≡◌, ℕ, ◌+◌, true, List, [], ◌∷◌, ◌++◌, length, map, take, nat_eq, Option, Some, None, Ok, Err, refl, sym, ◌∙◌, ap, subst, arith}
+use Rattle.std.proofs.Common.{◌≡◌, ℕ, suc, ◌+◌, Bool, true, false, List, [], ◌∷◌, ◌++◌, length, map, take, drop, nat_eq, Option, Some, None, Result, Ok, Err, refl, sym, ◌∙◌, ap, subst, arith}
 use Rattle.std.specs.Prelude.{◌≢◌, All, is_some, slice_get, vec_len}
-use Rattle.std.specs.List.{IsDistinct}
+use Rattle.std.specs.List.{IsDistinct, range_with_len}
 use Rattle.std.specs.Option.{option_map}
-use Rattle.std.proofs.lemmas.List.{take_all, take_more}
-use Rattle.std.proofs.lemmas.Option.{get_or_from_slice_get, slice_get_within}
+use Rattle.std.proofs.lemmas.List.{length-map, map-append, take-append-drop, take_all, take_more}
+use Rattle.std.proofs.lemmas.Option.{get_or_from_slice_get, slice_get-map, slice_get_within}
+use Rattle.std.proofs.lemmas.Simd.{map-map}
+use Rattle.std.proofs.Math.Seq.{drop-cons}
 use Rattle.base.specs.crash.Views.{IsLogContent}
+use Rattle.base.specs.crash.SyncCalls.{DiskCall}
+use Rattle.base.specs.crash.SyncCalls.DiskCall.{Put, Settle}
 use Rattle.base.specs.declared.error.PoolError.{PoolError}
+use Rattle.base.specs.declared.error.PoolError.TheVariants as refusal
 use Rattle.base.specs.disk.Calls.{Writes}
-use Rattle.base.specs.disk.Disk.{Disk, written}
+use Rattle.base.specs.disk.Disk.{Disk}
 use Rattle.base.specs.formats.Chain.{LogBlock}
 use Rattle.base.specs.formats.Fields.{number_at}
 use Rattle.base.specs.formats.Geometry.{config_place, slot_of, slot_place}
+use Rattle.base.specs.formats.Labels.{even_labels, odd_labels}
 use Rattle.base.specs.formats.Uberblocks.{slot_size}
-use Rattle.base.specs.disk.SyncOrder.{DeviceCall, calls_in_order, import_calls}
+use Rattle.base.specs.disk.SyncOrder.{DeviceCall, calls_in_order, import_calls, label_stage}
 use Rattle.base.specs.disk.SyncOrder.DeviceCall.{Block, Config as ConfigCall, Uberblock as UberblockCall, Flush}
 use Rattle.base.proofs.common.KeptLists.{All-at}
 use Rattle.labels.specs.Configs.{config_block}
@@ -28,26 +34,85 @@ use Rattle.sync.specs.CallOrder.{stage_after}
 use Rattle.sync.specs.Made.{HasDistinctBlocks}
 use Rattle.sync.specs.Phases.{IsWrittenNext}
 use Rattle.sync.specs.Runs.{call_count}
-use Rattle.sync.specs.Calls.{IsNextCall, MakesCall, Target, WritesTarget, block_target, calls_of, config_target, first_labels, last_labels, refusal_of, target_of}
+use Rattle.sync.specs.Calls.{IsNextCall, MakesCall, Target, block_target, calls_of, config_target, first_labels, last_labels, refusal_of, target_of}
 use Rattle.sync.proofs.CallPlaces.{count_calls}
-use Rattle.sync.proofs.Targets.{call_of_target, mapped}
-use Rattle.import_replay.specs.LabelSyncs.{ImportWrites, IsGroupSync, IsStoppedSync, LeavesBlock, LeavesRefused, after_block, after_call, after_calls, calls_of_import, is_even}
+use Rattle.sync.proofs.Targets.{WritesTarget, call_of_target, mapped}
+use Rattle.sync.specs.DiskCalls.{IsStoppedIn, MakesDiskCall, Refuses, after_disk_call, after_disk_calls, refusal_of_call}
+use Rattle.import_replay.specs.CreateCalls.{each_label, write_config, write_uberblock}
+use Rattle.import_replay.specs.LabelSyncs.{ImportWrites, IsGroupSync, calls_of_import, is_even, write_block, write_stage}
+use Rattle.import_replay.proofs.CreateCalls.{made_then}
+
+-- a call of the sync, as one of the disk
+abbrev block_call : Option PlannedBlock → DiskCall
+block_call None = Put 0 []
+block_call (Some b) = write_block b
+
+abbrev disk_call : ImportWrites → DeviceCall → DiskCall
+disk_call w (Block k) = block_call (slice_get w.blocks k)
+disk_call w (ConfigCall label) = write_config w.size w.config label
+disk_call w (UberblockCall label) = write_uberblock w.size w.u label
+disk_call w Flush = Settle
+
+-- each block, at its place in the order
+blocks_called : (blocks : List PlannedBlock) (f : ℕ → DiskCall) (from : ℕ) → ((k : ℕ) → f (from + k) ≡ block_call (slice_get blocks k))
+    → map f (range_with_len from (length blocks)) ≡ map write_block blocks
+blocks_called [] f from each = refl
+blocks_called (b ∷ blocks) f from each =
+    ap (λ (call : DiskCall). call ∷ map f (range_with_len (from + 1) (length blocks))) (ap f (omega arith) ∙ each 0)
+    ∙ ap (λ (calls : List DiskCall). write_block b ∷ calls) (blocks_called blocks f (from + 1) (λ k. ap f (omega arith) ∙ each (suc k)))
+
+map_stages : {A B : Type 0} (f : A → B) (blocks flush first ubers last : List A)
+    → map f (blocks ++ flush ++ first ++ ubers ++ flush ++ last) ≡ map f blocks ++ map f flush ++ map f first ++ map f ubers ++ map f flush ++ map f last
+map_stages f blocks flush first ubers last =
+    map-append f (blocks ++ flush ++ first ++ ubers ++ flush) last
+    ∙ ap (λ l. l ++ map f last) (map-append f (blocks ++ flush ++ first ++ ubers) flush
+    ∙ ap (λ l. l ++ map f flush) (map-append f (blocks ++ flush ++ first) ubers
+    ∙ ap (λ l. l ++ map f ubers) (map-append f (blocks ++ flush) first
+    ∙ ap (λ l. l ++ map f first) (map-append f blocks flush))))
+
+-- the calls of an import, one by one
+disk_calls_are : (w : ImportWrites) (even_first : Bool) → map (disk_call w) (import_calls (length w.blocks) even_first) ≡ calls_of_import w even_first
+disk_calls_are w even_first = in_stages even_first
+  where
+    blocks : List DeviceCall
+    blocks = map (λ k. Block k) (range_with_len 0 (length w.blocks))
+
+    blocks_are : map (disk_call w) blocks ≡ map write_block w.blocks
+    blocks_are = map-map (disk_call w) (λ k. Block k) (range_with_len 0 (length w.blocks)) ∙ blocks_called w.blocks (λ k. block_call (slice_get w.blocks k)) 0 (λ k. ap (λ n. block_call (slice_get w.blocks n)) (omega arith))
+
+    ubers : List DeviceCall
+    ubers = map (λ l. UberblockCall l) (range_with_len 0 4)
+
+    in_stages : (even : Bool) → map (disk_call w) (import_calls (length w.blocks) even) ≡ calls_of_import w even
+    in_stages true =
+        map_stages (disk_call w) blocks (Flush ∷ []) (label_stage even_labels) ubers (label_stage odd_labels)
+        ∙ ap (λ (l : List DiskCall). l ++ Settle ∷ [] ++ write_stage w even_labels ++ each_label (write_uberblock w.size w.u) ++ Settle ∷ [] ++ write_stage w odd_labels) blocks_are
+    in_stages false =
+        map_stages (disk_call w) blocks (Flush ∷ []) (label_stage odd_labels) ubers (label_stage even_labels)
+        ∙ ap (λ (l : List DiskCall). l ++ Settle ∷ [] ++ write_stage w odd_labels ++ each_label (write_uberblock w.size w.u) ++ Settle ∷ [] ++ write_stage w even_labels) blocks_are
 
 -- a block is written, or there is none
-block_made : (o : Option PlannedBlock) (old new : Disk) → WritesTarget (option_map block_target o) old (Ok tt) new → new ≡ after_block o old
-block_made None old new made = absurd made
-block_made (Some b) old new made = made
+block_made : (o : Option PlannedBlock) (old : Disk) (r : Result (Unit {0}) PoolError) (new : Disk) → WritesTarget (option_map block_target o) old r new → MakesDiskCall (block_call o) old r new
+block_made None old r new made = absurd made
+block_made (Some b) old r new made = made
 
-block_left : (o : Option PlannedBlock) (e : PoolError) (old new : Disk) → WritesTarget (option_map block_target o) old (Err e) new → LeavesBlock o e old new
-block_left None e old new made = absurd made
-block_left (Some b) e old new made = made
+-- and its refusal is that of a write
+block_refused : (o : Option PlannedBlock) → refusal.Write ≡ refusal_of_call (block_call o)
+block_refused None = refl
+block_refused (Some b) = refl
+
+call_refused : (w : ImportWrites) (c : DeviceCall) → refusal_of c ≡ refusal_of_call (disk_call w c)
+call_refused w (Block k) = block_refused (slice_get w.blocks k)
+call_refused w (ConfigCall label) = refl
+call_refused w (UberblockCall label) = refl
+call_refused w Flush = refl
 
 module _ (w : ImportWrites) (first : Stage) (run : SyncRun) (is : IsGroupSync w first run) where
   pub block_count_is : vec_len run.blocks ≡ length w.blocks
   block_count_is = let long = ap length is.blocks in omega (arith, run.blocks.ok.0, long)
 
   -- its calls are those of an import with so many blocks
-  pub calls_are : calls_of run ≡ calls_of_import w (is_even first)
+  pub calls_are : calls_of run ≡ import_calls (length w.blocks) (is_even first)
   calls_are =
       ap (λ n. calls_in_order n (is_some run.stages) (first_labels run.stages) (last_labels run.stages)) block_count_is
       ∙ ap (λ (s : Option LabelStages). calls_in_order (length w.blocks) (is_some s) (first_labels s) (last_labels s)) is.stages
@@ -57,77 +122,74 @@ module _ (w : ImportWrites) (first : Stage) (run : SyncRun) (is : IsGroupSync w 
       by_stage Even = refl
       by_stage Odd = refl
 
-  -- a good call makes of the disk what it has to
-  pub call_makes : (c : DeviceCall) (old new : Disk) → MakesCall run c old (Ok tt) new → new ≡ after_call w c old
-  call_makes (Block k) old new made =
-      subst (λ (bs : List PlannedBlock). new ≡ after_block (slice_get bs k) old) is.blocks (block_made (slice_get run.blocks.items k) old new made)
-  call_makes (ConfigCall label) old new made =
-      subst (λ (s : Option LabelStages). WritesTarget (option_map (config_target run.geometry label) s) old (Ok tt) new) is.stages made
-      ∙ ap (λ n. written (config_place n label) (config_block w.config) true old) is.geometry
-  call_makes (UberblockCall label) old new made =
-      made
-      ∙ ap (λ n. written (slot_place n label run.slot) run.uberblock true old) is.geometry
-      ∙ ap (λ n. written (slot_place w.size label n) run.uberblock true old) is.slot
-      ∙ ap (λ (bytes : List ℕ). written (slot_place w.size label (slot_of w.u.group)) bytes true old) is.uberblock
-  call_makes Flush old new made = made
+  -- each call makes of the disk what it has to
+  call_makes : (c : DeviceCall) (old : Disk) (r : Result (Unit {0}) PoolError) (new : Disk) → MakesCall run c old r new → MakesDiskCall (disk_call w c) old r new
+  call_makes (Block k) old r new made =
+      subst (λ (bs : List PlannedBlock). MakesDiskCall (block_call (slice_get bs k)) old r new) is.blocks (block_made (slice_get run.blocks.items k) old r new made)
+  call_makes (ConfigCall label) old r new made =
+      subst (λ n. Writes old (config_place n label) (config_block w.config) r new) is.geometry
+      (subst (λ (s : Option LabelStages). WritesTarget (option_map (config_target run.geometry label) s) old r new) is.stages made)
+  call_makes (UberblockCall label) old r new made =
+      subst (λ (bytes : List ℕ). Writes old (slot_place w.size label (slot_of w.u.group)) bytes r new) is.uberblock
+      (subst (λ n. Writes old (slot_place w.size label n) run.uberblock r new) is.slot (subst (λ n. Writes old (slot_place n label run.slot) run.uberblock r new) is.geometry made))
+  call_makes Flush old r new made = made
 
-  -- and so does one that the device refused
-  call_leaves : (c : DeviceCall) (e : PoolError) (old new : Disk) → MakesCall run c old (Err e) new → LeavesRefused w c e old new
-  call_leaves (Block k) e old new made =
-      subst (λ (bs : List PlannedBlock). LeavesBlock (slice_get bs k) e old new) is.blocks (block_left (slice_get run.blocks.items k) e old new made)
-  call_leaves (ConfigCall label) e old new made =
-      subst (λ n. Writes old (config_place n label) (config_block w.config) (Err e) new) is.geometry
-      (subst (λ (s : Option LabelStages). WritesTarget (option_map (config_target run.geometry label) s) old (Err e) new) is.stages made)
-  call_leaves (UberblockCall label) e old new made =
-      subst (λ (bytes : List ℕ). Writes old (slot_place w.size label (slot_of w.u.group)) bytes (Err e) new) is.uberblock
-      (subst (λ n. Writes old (slot_place w.size label n) run.uberblock (Err e) new) is.slot (subst (λ n. Writes old (slot_place n label run.slot) run.uberblock (Err e) new) is.geometry made))
-  call_leaves Flush e old new made = made
+  -- and stands at its place
+  call_there : (c : DeviceCall) → IsNextCall run c → slice_get (calls_of_import w (is_even first)) run.done ≡ Some (disk_call w c)
+  call_there c at =
+      ap (λ (l : List DiskCall). slice_get l run.done) (sym (disk_calls_are w (is_even first)))
+      ∙ slice_get-map (disk_call w) (import_calls (length w.blocks) (is_even first)) run.done
+      ∙ ap (option_map (disk_call w)) (ap (λ (l : List DeviceCall). slice_get l run.done) (sym calls_are) ∙ at)
 
--- one call more
-after_one_more : (w : ImportWrites) (calls : List DeviceCall) (c : DeviceCall) (disk : Disk) → after_calls w (calls ++ c ∷ []) disk ≡ after_call w c (after_calls w calls disk)
-after_one_more w [] c disk = refl
-after_one_more w (b ∷ calls) c disk = after_one_more w calls c (after_call w b disk)
+module _ (calls : List DiskCall) (k : ℕ) (call : DiskCall) (at : slice_get calls k ≡ Some call) (start old new : Disk) (before : old ≡ after_disk_calls (take k calls) start) where
+  -- one call more
+  one_made : new ≡ after_disk_call call old → new ≡ after_disk_calls (take (k + 1) calls) start
+  one_made made =
+      made_then (take k calls) (call ∷ []) (Ok tt) start old new before made
+      ∙ ap (λ (l : List DiskCall). after_disk_calls l start)
+      (sym (take_more calls k call (slice_get_within calls k call at) ∙ ap (λ d. take k calls ++ d ∷ []) (get_or_from_slice_get calls k call call at)))
 
-calls_so_far : (w : ImportWrites) (calls : List DeviceCall) (k : ℕ) (c : DeviceCall) (start old new : Disk)
-    → slice_get calls k ≡ Some c → old ≡ after_calls w (take k calls) start → new ≡ after_call w c old → new ≡ after_calls w (take (k + 1) calls) start
-calls_so_far w calls k c start old new at before made =
-    made
-    ∙ ap (after_call w c) before
-    ∙ sym (after_one_more w (take k calls) c start)
-    ∙ ap (λ (l : List DeviceCall). after_calls w l start) (sym one_more)
-  where
-    one_more : take (k + 1) calls ≡ take k calls ++ c ∷ []
-    one_more = take_more calls k c (slice_get_within calls k c at) ∙ ap (λ d. take k calls ++ d ∷ []) (get_or_from_slice_get calls k c c at)
+  -- one that the device refuses
+  one_refused : (e : PoolError) → Refuses call e old new → IsStoppedIn calls e start new
+  one_refused e refuses = record {
+    made = take k calls;
+    refused = call;
+    left_out = drop (suc k) calls;
+    order = sym (take-append-drop k calls)
+        ∙ ap (λ (l : List DiskCall). take k calls ++ l)
+        (drop-cons calls k call (slice_get_within calls k call at) ∙ ap (λ (d : DiskCall). d ∷ drop (suc k) calls) (get_or_from_slice_get calls k call call at));
+    refuses = subst (λ (d : Disk). Refuses call e d new) before refuses;
+  }
 
 module _ (w : ImportWrites) (first : Stage) (run : SyncRun) (is : IsGroupSync w first run) where
-  abbrev calls : List DeviceCall
+  abbrev calls : List DiskCall
   calls = calls_of_import w (is_even first)
 
   -- the disk after one call more
-  pub after_next : (start old new : Disk) (c : DeviceCall) → IsNextCall run c → old ≡ after_calls w (take run.done calls) start
-      → MakesCall run c old (Ok tt) new → (done : ℕ) → done ≡ run.done + 1 → new ≡ after_calls w (take done calls) start
+  pub after_next : (start old new : Disk) (c : DeviceCall) → IsNextCall run c → old ≡ after_disk_calls (take run.done calls) start
+      → MakesCall run c old (Ok tt) new → (done : ℕ) → done ≡ run.done + 1 → new ≡ after_disk_calls (take done calls) start
   after_next start old new c at before made done more =
-      calls_so_far w calls run.done c start old new
-      (ap (λ (l : List DeviceCall). slice_get l run.done) (sym (calls_are w first run is)) ∙ at) before (call_makes w first run is c old new made)
-      ∙ ap (λ n. after_calls w (take n calls) start) (sym more)
+      one_made calls run.done (disk_call w c) (call_there w first run is c at) start old new before (by_call (disk_call w c) (call_makes w first run is c old (Ok tt) new made))
+      ∙ ap (λ n. after_disk_calls (take n calls) start) (sym more)
+    where
+      by_call : (d : DiskCall) → MakesDiskCall d old (Ok tt) new → new ≡ after_disk_call d old
+      by_call (Put place content) made = made
+      by_call Settle made = made
 
   -- a call that the device refused stops the sync
-  pub stopped_at : (start old new : Disk) (c : DeviceCall) (e : PoolError) → IsNextCall run c → old ≡ after_calls w (take run.done calls) start
-      → MakesCall run c old (Err e) new → e ≡ refusal_of c → IsStoppedSync w (is_even first) e start new
-  stopped_at start old new c e at before made refusal = record {
-    done = run.done;
-    call = c;
-    there = ap (λ (l : List DeviceCall). slice_get l run.done) (sym (calls_are w first run is)) ∙ at;
-    refusal = refusal;
-    left = subst (λ (d : Disk). LeavesRefused w c e d new) before (call_leaves w first run is c e old new made);
-  }
+  pub stopped_at : (start old new : Disk) (c : DeviceCall) (e : PoolError) → IsNextCall run c → old ≡ after_disk_calls (take run.done calls) start
+      → MakesCall run c old (Err e) new → e ≡ refusal_of c → IsStoppedIn calls e start new
+  stopped_at start old new c e at before made refusal =
+      one_refused calls run.done (disk_call w c) (call_there w first run is c at) start old new before e (refusal ∙ call_refused w c, call_makes w first run is c old (Err e) new made)
 
   -- at the end all calls are made
   pub whole : run.done ≡ call_count run → take run.done calls ≡ calls
   whole all = take_all run.done calls (omega (arith, all, count))
     where
       count : length calls ≡ call_count run
-      count = ap (λ (l : List DeviceCall). length l) (sym (calls_are w first run is)) ∙ count_calls (vec_len run.blocks) run.stages
+      count = ap (λ (l : List DiskCall). length l) (sym (disk_calls_are w (is_even first)))
+          ∙ length-map (import_calls (length w.blocks) (is_even first)) (disk_call w)
+          ∙ ap (λ (l : List DeviceCall). length l) (sym (calls_are w first run is)) ∙ count_calls (vec_len run.blocks) run.stages
 
   -- no two blocks have one place
   pub distinct_blocks : HasDistinctBlocks run

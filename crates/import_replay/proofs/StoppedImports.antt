@@ -8,9 +8,10 @@ use Rattle.base.specs.formats.Chain.{LogPiece}
 use Rattle.base.specs.formats.Uberblocks.{Uberblock}
 use Rattle.object_maps.specs.declared.contents.Slot.{Slot}
 use Rattle.object_maps.specs.declared.tree.Tree.{Tree}
+use Rattle.sync.specs.DiskCalls.{IsStoppedIn}
 use Rattle.import_replay.specs.Found.{HasFirstStage}
 use Rattle.import_replay.specs.ImportStops.{IsImportStopped, next_writes, writes_of_next}
-use Rattle.import_replay.specs.LabelSyncs.{ImportWrites, IsStoppedSync}
+use Rattle.import_replay.specs.LabelSyncs.{ImportWrites, calls_of_import}
 use Rattle.import_replay.specs.NextPools.{AreMadeOver, ArePartsFor, parts_of}
 use Rattle.import_replay.specs.ReadPools.{IsReadPool}
 use Rattle.import_replay.specs.declared.next_pool.NextPool.{NextPool}
@@ -21,7 +22,7 @@ use Rattle.import_replay.proofs.NextPools.{IsPrepared, prepared_mounts, prepared
 pub stopped_import : (holds : Type 0) (size : ℕ) (old mid before new : Disk) (u : Uberblock) (name : List ℕ) (slots : List Slot) (tree : Tree) (chain : List LogPiece) (pool : ReplayedPool) (next : NextPool) (moment : ℕ) (even_first : Bool) (e : PoolError)
     → Flushes old (Ok tt) mid → before ≡ mid → IsReadPool (bytes_of old.now) size u name tree slots chain → HasFirstStage (bytes_of old.now) u.guid u.group name even_first
     → IsPrepared holds size u name tree slots chain pool next → holds → is_past_last u.group u.import_number ≡ false
-    → IsStoppedSync (writes_of_next size u moment next) even_first e before new → IsImportStopped old new moment e
+    → IsStoppedIn (calls_of_import (writes_of_next size u moment next) even_first) e before new → IsImportStopped old new moment e
 stopped_import holds size old mid before new u name slots tree chain pool next moment even_first e flushed same read first is held within stopped =
     let parts = prepared_parts holds size u name tree slots chain pool next is (bytes_of old.now) read held in
     inr (record {
@@ -37,8 +38,8 @@ stopped_import holds size old mid before new u name slots tree chain pool next m
       are = subst (λ (n : ℕ). ArePartsFor n (parts_of next)) (sym read.long) parts;
       made = subst (λ (n : ℕ). AreMadeOver (bytes_of old.now) u chain n next.blocks.items (parts_of next)) (sym read.long) (prepared_over holds size u name tree slots chain pool next is (bytes_of old.now) read held);
       mounts = prepared_mounts holds size u name tree slots chain pool next is (bytes_of old.now) read held;
-      stopped = subst (λ (n : ℕ). IsStoppedSync (writes n) even_first e (certain (bytes_of old.now) old) new) (sym read.long)
-          (subst (λ (d : Disk). IsStoppedSync (writes size) even_first e d new) (same ∙ flushed) stopped);
+      stopped = subst (λ (n : ℕ). IsStoppedIn (calls_of_import (writes n) even_first) e (certain (bytes_of old.now) old) new) (sym read.long)
+          (subst (λ (d : Disk). IsStoppedIn (calls_of_import (writes size) even_first) e d new) (same ∙ flushed) stopped);
     })
   where
     writes : ℕ → ImportWrites

@@ -29,7 +29,7 @@ use Rattle.base.specs.formats.Limits.{indirect_count, object_count, pointer_coun
 use Rattle.base.specs.formats.Uberblocks.{Uberblock}
 use Rattle.base.specs.history.Contents.{Contents}
 use Rattle.base.specs.tree.Places.{IsInTree, IsPlace, Place, has_block, object_of_indirect, pointer_of, record_of_strip, strip_of}
-use Rattle.base.specs.tree.Places.Place.{Data, Indirect, Root, Top}
+use Rattle.base.specs.tree.Places.Place.{Data, Indirect, Root}
 use Rattle.base.specs.tree.Syncs.{GroupChanges, group_changes, has_strip_after, is_change_of, is_dirty, is_indirect_written, is_on, is_record_written, is_strip_changed, is_unchanged, pointer_numbers, record_state}
 use Rattle.base.proofs.common.KeptLists.{any_found, any_none, at_take, none_any}
 use Rattle.base.proofs.crash.LogFronts.{take-at}

@@ -10,13 +10,14 @@ use Rattle.base.specs.formats.Uberblocks.{Uberblock, IsActive}
 use Rattle.base.specs.formats.Versions.{written_version}
 use Rattle.base.proofs.disk.Regions.{flushed_clean}
 use Rattle.object_maps.specs.Pointers.{pointers_of}
+use Rattle.sync.specs.DiskCalls.{after_disk_calls}
 use Rattle.sync.specs.Made.{BlocksWritten}
 use Rattle.tree_plans.specs.Plans.{address_of}
 use Rattle.import_replay.specs.Found.{HasFirstStage}
 use Rattle.import_replay.specs.ImportStops.{writes_of_next}
 use Rattle.import_replay.specs.ImportSyncs.{IsImportSynced, IsImportWritten, uberblock_of_import, writes_of_import}
 use Rattle.import_replay.specs.Labelled.{HasOtherSlots, HoldUberblock}
-use Rattle.import_replay.specs.LabelSyncs.{ImportWrites, IsGroupSynced, after_calls, calls_of_import}
+use Rattle.import_replay.specs.LabelSyncs.{ImportWrites, IsGroupSynced, calls_of_import}
 use Rattle.import_replay.specs.Mounts.{IsMountedFrom}
 use Rattle.import_replay.specs.NextPools.{AreMadeOver, PoolParts, parts_of}
 use Rattle.import_replay.specs.TakenBlocks.{AreForEachPlace}
@@ -69,7 +70,7 @@ module _ (size : ℕ) (old mid new : Disk) (u : Uberblock) (name : List ℕ) (ch
     few = over.few;
     lowest = over.lowest;
     each = subst (λ (q : PoolParts). AreForEachPlace (bytes_of old.now) u chain (pointers_of q.tree) (map address_of next.blocks.items)) (sym from.parts) over.each;
-    synced = mine.synced ∙ ap (λ (d : Disk). after_calls (writes_of_import moment next.blocks.items m) (calls_of_import (writes_of_import moment next.blocks.items m) even_first) d) flushed;
+    synced = mine.synced ∙ ap (λ (d : Disk). after_disk_calls (calls_of_import (writes_of_import moment next.blocks.items m) even_first) d) flushed;
     written = subst (λ (b : List ℕ). BlocksWritten b m.geometry next.blocks.items (length next.blocks.items) (bytes_of new.now)) (flushed_clean old mid flushed).1 mine.blocks_written;
   }
 

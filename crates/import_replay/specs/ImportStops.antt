@@ -12,9 +12,10 @@ use Rattle.base.specs.formats.Versions.{written_version}
 use Rattle.base.specs.formats.Uberblocks.{Uberblock}
 use Rattle.object_maps.specs.ContentsShown.{contents_of}
 use Rattle.tree_plans.specs.declared.planner.PlannedBlock.{PlannedBlock}
+use Rattle.sync.specs.DiskCalls.{IsStoppedIn}
 use Rattle.import_replay.specs.Found.{HasFirstStage}
 use Rattle.import_replay.specs.ImportRefusals.{HasSoundPool}
-use Rattle.import_replay.specs.LabelSyncs.{ImportWrites, IsStoppedSync}
+use Rattle.import_replay.specs.LabelSyncs.{ImportWrites, calls_of_import}
 use Rattle.import_replay.specs.NextPools.{AreMadeOver, ArePartsFor, PoolParts}
 use Rattle.import_replay.specs.declared.next_pool.NextPool.{NextPool}
 
@@ -50,7 +51,7 @@ pub record IsStoppedInLabels (old new : Disk) (moment : ℕ) (e : PoolError) : T
   pub are : ArePartsFor (disk_size old) parts
   pub made : AreMadeOver (bytes_of old.now) u chain (disk_size old) blocks parts
   pub mounts : Mounts (bytes_of old.now) u chain (contents_of parts.contents)
-  pub stopped : IsStoppedSync (next_writes (disk_size old) u parts.contents.name parts.tree.root moment parts.log_address blocks) even_first e (certain (bytes_of old.now) old) new
+  pub stopped : IsStoppedIn (calls_of_import (next_writes (disk_size old) u parts.contents.name parts.tree.root moment parts.log_address blocks) even_first) e (certain (bytes_of old.now) old) new
 
 -- the device refused a write or a flush of an import: its first flush, which left the disk as it was, or a call of its
 -- sync

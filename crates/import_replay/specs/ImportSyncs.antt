@@ -4,17 +4,17 @@ use Rattle.base.specs.crash.Mount.{IsChainOf, records_above}
 use Rattle.base.specs.disk.Disk.{Disk, bytes_of, certain}
 use Rattle.base.specs.formats.Chain.{LogPiece}
 use Rattle.base.specs.formats.Labels.{Config}
-use Rattle.base.specs.disk.SyncOrder.{import_calls}
 use Rattle.base.specs.formats.Uberblocks.{Uberblock, IsActive}
 use Rattle.base.specs.formats.Versions.{written_version}
 use Rattle.object_maps.specs.Pointers.{pointers_of}
+use Rattle.sync.specs.DiskCalls.{after_disk_calls}
 use Rattle.sync.specs.Made.{BlocksWritten}
 use Rattle.tree_plans.specs.Plans.{address_of}
 use Rattle.tree_plans.specs.declared.planner.PlannedBlock.{PlannedBlock}
 use Rattle.import_replay.specs.PlacedRecords.{placed_estimate}
 use Rattle.import_replay.specs.Found.{HasFirstStage}
 use Rattle.import_replay.specs.Labelled.{HoldLabels}
-use Rattle.import_replay.specs.LabelSyncs.{ImportWrites, after_calls}
+use Rattle.import_replay.specs.LabelSyncs.{ImportWrites, calls_of_import}
 use Rattle.import_replay.specs.NextPools.{IsUnusedBlock}
 use Rattle.import_replay.specs.TakenBlocks.{AreForEachPlace, AreLowestSpare}
 use Rattle.import_replay.specs.declared.mounted.Mounted.{Mounted}
@@ -62,7 +62,7 @@ pub record IsImportSynced (old new : Disk) (moment : ℕ) (m : Mounted) : Type 0
   pub few : length blocks ≤ placed_estimate (records_above u.group chain)
   pub lowest : AreLowestSpare (bytes_of old.now) u chain (map address_of blocks)
   pub each : AreForEachPlace (bytes_of old.now) u chain (pointers_of m.tree) (map address_of blocks)
-  pub synced : new ≡ after_calls (writes_of_import moment blocks m) (import_calls (length blocks) even_first) (certain (bytes_of old.now) old)
+  pub synced : new ≡ after_disk_calls (calls_of_import (writes_of_import moment blocks m) even_first) (certain (bytes_of old.now) old)
   pub written : BlocksWritten (bytes_of old.now) m.geometry blocks (length blocks) (bytes_of new.now)
 
 -- the labels hold what was mounted

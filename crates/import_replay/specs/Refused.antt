@@ -4,11 +4,12 @@ use Rattle.base.specs.declared.error.PoolError.{PoolError}
 use Rattle.base.specs.declared.error.PoolError.TheVariants.{BadGeometry, BadRange}
 use Rattle.base.specs.disk.Disk.{Disk, bytes_of, certain}
 use Rattle.device_model.specs.declared.device.SectorDevice.{Ghosts}
-use Rattle.import_replay.specs.CreateCalls.{IsStoppedIn, create_calls}
+use Rattle.sync.specs.DiskCalls.{IsStoppedIn}
+use Rattle.import_replay.specs.CreateCalls.{create_calls}
 use Rattle.import_replay.specs.CreateRefusals.{IsCreateRefusal}
 use Rattle.import_replay.specs.ImportRefusals.{FindsOwn, IsImportRefusal, IsReason, IsInspectionRefusal, IsMountRefusal, IsReadingRefusal, IsSyncRefusal}
 use Rattle.import_replay.specs.ImportStops.{IsImportStopped}
-use Rattle.import_replay.specs.LabelSyncs.{ImportWrites, IsStoppedSync}
+use Rattle.import_replay.specs.LabelSyncs.{ImportWrites, calls_of_import}
 
 -- A create was refused: by size or name the device is as it was. If the device refused a call, those before it are
 -- made, and none after it.
@@ -20,7 +21,7 @@ pub record IsCreateRefused {Dev : Type 0} (D : Ghosts Dev) (name : List ℕ) (gu
 -- The device refused a call of the sync of an import, which writes this.
 pub record IsOpenRefused (keeps : Bool) (w : ImportWrites) (even_first : Bool) (old new : Disk) (e : PoolError) : Type 0 where
   pub kind : IsSyncRefusal e
-  pub stopped : IsTrue keeps → IsStoppedSync w even_first e old new
+  pub stopped : IsTrue keeps → IsStoppedIn (calls_of_import w even_first) e old new
 
 -- An import that had begun was refused. Before its first write the disk is as it was and flushed; if the device refused
 -- a write or a flush, the disk is what the calls before that made of it.

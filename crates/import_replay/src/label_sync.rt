@@ -1,11 +1,12 @@
 //! The sync of an import.
 
 ghost use Rattle.std.specs.Prelude.{◌≡◌, ◌<◌, IfErr, IsTrue, OnOk};
+ghost use Rattle.sync.specs.DiskCalls.{IsStoppedIn};
 ghost use Rattle.sync.specs.Runs.{call_count};
 ghost use Rattle.uberblocks.specs.Slots.{IsWithinLimits, fields_of};
 ghost use Rattle.import_replay.specs.Devices.{IsSizedFor, WritesAndFlushes};
 ghost use Rattle.import_replay.specs.ImportViews.{EndsBehind, KeepsViews};
-ghost use Rattle.import_replay.specs.LabelSyncs.{AreApartIn, IsGroupSync, IsGroupSynced, IsStoppedSync, import_writes, is_even};
+ghost use Rattle.import_replay.specs.LabelSyncs.{AreApartIn, IsGroupSync, IsGroupSynced, calls_of_import, import_writes, is_even};
 
 use base::PoolError;
 use device_model::SectorDevice;
@@ -32,7 +33,8 @@ pub(crate) fn sync_group<D: SectorDevice>(
         (IsGroupSynced (import_writes geometry config.now uberblock.now blocks) (is_even first)
         (D.disk device.old) (D.disk device.new)) }
     ensures stopped { IsTrue D.keeps_model → IfErr result (λ e.
-        IsStoppedSync (import_writes geometry config.now uberblock.now blocks) (is_even first) e
+        IsStoppedIn (calls_of_import
+        (import_writes geometry config.now uberblock.now blocks) (is_even first)) e
         (D.disk device.old) (D.disk device.new)) }
     ensures views { IsTrue D.keeps_model
         → KeepsViews (import_writes geometry config.now uberblock.now blocks) first

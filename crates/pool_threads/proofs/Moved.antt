@@ -21,8 +21,9 @@ use Rattle.pool_tables.specs.NextCalls.{MakesNextIf}
 use Rattle.pool_tables.specs.declared.pool.RunningSync.{RunningSync}
 use Rattle.pool_threads.specs.Views.{MovesDisk}
 use Rattle.base.specs.crash.LeftDisks.{GoesOnFrom}
-use Rattle.sync.specs.Calls.{MakesCall, Target, WritesTarget, target_of}
+use Rattle.sync.specs.Calls.{MakesCall, Target, target_of}
 use Rattle.sync.specs.declared.run.SyncRun.{SyncRun}
+use Rattle.sync.proofs.Targets.{WritesTarget}
 
 abbrev Any : List ℕ → Type 0
 Any image = Unit {0}

@@ -18,7 +18,7 @@ use Rattle.base.proofs.disk.Fairness.{hands_wrote, hands_settled}
 use Rattle.base.proofs.disk.Moments.{starts, each_write, each_flush}
 use Rattle.base.proofs.tree.PlacedTrees.{holds-placed}
 use Rattle.sync.specs.declared.run.SyncRun.{SyncRun}
-use Rattle.sync.specs.Calls.{Target, target_of, IsNextCall, MakesCall, TargetFits, WritesTarget}
+use Rattle.sync.specs.Calls.{Target, target_of, IsNextCall, MakesCall, TargetFits}
 use Rattle.sync.specs.Made.{HasMade}
 use Rattle.sync.specs.Phases.{SyncViews, LeadsViews, HasPhaseOf, IsWrittenNext, KeepsPhases, calls_before_slots, new_config_label}
 use Rattle.sync.specs.Runs.{SameSync}
@@ -31,7 +31,7 @@ use Rattle.sync.proofs.PhaseSteps.{Keeps, first_write, first_flush, last_flush, 
 use Rattle.sync.proofs.QuietCalls.{front_quiet, back_quiet, slot_spared}
 use Rattle.sync.proofs.SlotSteps.{slot_write, slot_flush, switched_write}
 use Rattle.sync.proofs.SparedPlaces.{own_slot_spares}
-use Rattle.sync.proofs.Targets.{IsSound, call_in_labels, target_of_call}
+use Rattle.sync.proofs.Targets.{IsSound, WritesTarget, call_in_labels, target_of_call}
 
 -- The tree of a view that is laid has its blocks in the area.
 laid_placed : (size t flushed : ℕ) (m : Moment) (v : View) → IsLaid size t flushed m v → ArePlaced (block_count size) v.pointers

@@ -12,7 +12,7 @@ use Rattle.base.specs.disk.SyncOrder.{DeviceCall}
 use Rattle.base.specs.disk.SyncOrder.DeviceCall.{Block, Config, Uberblock, Flush}
 use Rattle.base.proofs.disk.Moments.{both, each_flush, latest, starts, weaker}
 use Rattle.sync.specs.declared.run.SyncRun.{SyncRun}
-use Rattle.sync.specs.Calls.{IsNextCall, MakesCall, Target, TargetFits, WritesTarget, target_of}
+use Rattle.sync.specs.Calls.{IsNextCall, MakesCall, Target, TargetFits, target_of}
 use Rattle.sync.specs.Phases.{HasPhaseOf, HoldsLogs, IsLoggedPhase, IsSyncPhase, LeadsViews, SyncViews, all_flushed, is_flush, views_after}
 use Rattle.sync.specs.Runs.{SameSync}
 use Rattle.sync.proofs.HeldLogs.{logs_settled, write_holds}
@@ -20,7 +20,7 @@ use Rattle.sync.proofs.KeptWrites.{done_after}
 use Rattle.sync.proofs.LogFlushes.{phase_raised_of}
 use Rattle.sync.proofs.PhaseSteps.{phase_now, sized_now}
 use Rattle.sync.proofs.SlotSteps.{flushed_now}
-use Rattle.sync.proofs.Targets.{InLabels, IsSound}
+use Rattle.sync.proofs.Targets.{InLabels, IsSound, WritesTarget}
 
 -- the same sync holds the same logs
 holds_on : (run new : SyncRun) (v : SyncViews) (m : Moment) → SameSync run new → HoldsLogs run v false m → HoldsLogs new v false m

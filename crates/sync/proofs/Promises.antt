@@ -11,7 +11,8 @@ use Rattle.base.specs.formats.Geometry.{block_address}
 use Rattle.base.proofs.disk.Regions.{flushed_clean}
 use Rattle.tree_plans.specs.declared.planner.PlannedBlock.{PlannedBlock}
 use Rattle.sync.specs.declared.run.SyncRun.{SyncRun}
-use Rattle.sync.specs.Calls.{IsNextCall, MakesCall, MakesNextCall, WritesTarget, block_target, first_labels, last_labels, plain_answer, refusal_of}
+use Rattle.sync.specs.Calls.{IsNextCall, MakesCall, MakesNextCall, block_target, first_labels, last_labels, plain_answer, refusal_of}
+use Rattle.sync.proofs.Targets.{WritesTarget}
 
 -- the call of a place in the order of a sync, if it has so many blocks
 abbrev call_at : SyncRun → ℕ → ℕ → Option DeviceCall

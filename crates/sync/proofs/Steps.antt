@@ -8,9 +8,9 @@ use Rattle.base.specs.disk.SyncOrder.{DeviceCall}
 use Rattle.base.specs.disk.SyncOrder.DeviceCall.{Block, Config, Uberblock, Flush}
 use Rattle.base.proofs.disk.Regions.{flushed_clean}
 use Rattle.sync.specs.declared.run.SyncRun.{SyncRun}
-use Rattle.sync.specs.Calls.{Target, target_of, IsNextCall, MakesCall, WritesTarget, TargetFits}
+use Rattle.sync.specs.Calls.{Target, target_of, IsNextCall, MakesCall, TargetFits}
 use Rattle.sync.specs.Made.{AreWritten, targets_of, HasMade, HasDistinctBlocks}
-use Rattle.sync.proofs.Targets.{IsSound, target_of_call, targets_parted}
+use Rattle.sync.proofs.Targets.{IsSound, WritesTarget, target_of_call, targets_parted}
 use Rattle.sync.proofs.Written.{written_more, nothing_more}
 
 -- what is written after a call that answers so

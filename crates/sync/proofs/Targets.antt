@@ -1,10 +1,14 @@
 -- What a sync's calls write, and that no two of them write one byte.
-use Rattle.std.proofs.Common.{◌≡◌, ◌⊎◌, inl, inr, ℕ, zero, suc, ◌+◌, ◌-◌, ◌<◌, ◌≤◌, false, List, [], ◌∷◌, map, Option, Some, None, refl, sym, ◌∙◌, ap, subst, arith, vec_len}
+use Rattle.std.proofs.Common.{◌≡◌, ◌⊎◌, inl, inr, ℕ, zero, suc, ◌+◌, ◌-◌, ◌<◌, ◌≤◌, false, List, [], ◌∷◌, map, Option, Some, None, Result, refl, sym, ◌∙◌, ap, subst, arith, vec_len}
 use Rattle.std.specs.Prelude.{All, slice_get, is_some, nat_eq}
 use Rattle.std.specs.List.{AllByRecursion, IsDistinct}
-use Rattle.std.specs.Option.{option_map}
+use Rattle.std.specs.Option.{IsSomeAnd, option_map}
 use Rattle.std.proofs.lemmas.Bool.{cases_eq, cases_lt, cases_order, eqb-false}
 use Rattle.std.proofs.lemmas.Option.{slice_get-map}
+use Rattle.base.specs.crash.SyncCalls.{DiskCall}
+use Rattle.base.specs.crash.SyncCalls.DiskCall.{Put}
+use Rattle.base.specs.declared.error.PoolError.{PoolError}
+use Rattle.base.specs.disk.Disk.{Disk}
 use Rattle.base.specs.formats.Geometry.{IsGeometry, IsWritable, block_address, block_count, block_size, label_place, slot_place}
 use Rattle.base.specs.disk.SyncOrder.{DeviceCall, calls_in_order}
 use Rattle.base.specs.disk.SyncOrder.DeviceCall.{Block, Config, Uberblock, Flush}
@@ -17,6 +21,7 @@ use Rattle.sync.specs.declared.run.LabelStages.{LabelStages}
 use Rattle.sync.specs.declared.run.SyncRun.{SyncRun}
 use Rattle.sync.specs.CallOrder.{calls_behind_staged_blocks}
 use Rattle.sync.specs.Calls.{Target, block_target, config_target, target_of, calls_of, first_labels, last_labels}
+use Rattle.sync.specs.DiskCalls.{MakesDiskCall}
 use Rattle.sync.specs.Made.{IsTarget, targets_of, HasDistinctBlocks}
 use Rattle.sync.proofs.CallPlaces.{block_stands, others_stand}
 use Rattle.base.proofs.common.KeptLists.{All-at}
@@ -64,6 +69,10 @@ call_of_target run k t at = mapped (target_of run) (slice_get (calls_of run) k) 
 -- the target of a call
 pub target_of_call : (run : SyncRun) (k : ℕ) (call : DeviceCall) → slice_get (calls_of run) k ≡ Some call → slice_get (targets_of run) k ≡ Some (target_of run call)
 target_of_call run k call at = slice_get-map (target_of run) (calls_of run) k ∙ ap (λ (o : Option DeviceCall). option_map (target_of run) o) at
+
+-- the target is put
+abbrev pub WritesTarget : Option Target → Disk → Result (Unit {0}) PoolError → Disk → Type 0
+WritesTarget o old result new = IsSomeAnd (option_map (λ (t : Target). Put t.place t.content) o) (λ (c : DiskCall). MakesDiskCall c old result new)
 
 -- The size is one of a device, and each block and the slot have their places.
 pub record IsSound (run : SyncRun) : Type 0 where

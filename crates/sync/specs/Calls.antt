@@ -1,10 +1,11 @@
 -- What each call of a sync does.
 use Rattle.std.specs.Prelude.{ℕ, ⊤, true, ◌≡◌, ◌+◌, ◌<◌, ◌≤◌, List, [], Option, Some, None, Result, Ok, Err, IfErr, IfSome, is_some, length, slice_get, vec_len}
-use Rattle.std.specs.Option.{option_map}
+use Rattle.std.specs.Option.{IsSomeAnd, option_map}
+use Rattle.base.specs.crash.SyncCalls.{DiskCall}
+use Rattle.base.specs.crash.SyncCalls.DiskCall.{Put, Settle}
 use Rattle.base.specs.declared.error.PoolError.{PoolError}
 use Rattle.base.specs.declared.error.PoolError.TheVariants as refusal
 use Rattle.base.specs.disk.Disk.{Disk}
-use Rattle.base.specs.disk.Calls.{Writes, Flushes}
 use Rattle.base.specs.formats.Geometry.{block_address, block_size, config_place, slot_place}
 use Rattle.base.specs.disk.SyncOrder.{DeviceCall, calls_in_order}
 use Rattle.base.specs.disk.SyncOrder.DeviceCall.{Block, Config, Uberblock, Flush}
@@ -12,6 +13,7 @@ use Rattle.labels.specs.Stages.{labels_of}
 use Rattle.tree_plans.specs.declared.planner.PlannedBlock.{PlannedBlock}
 use Rattle.sync.specs.declared.run.LabelStages.{LabelStages}
 use Rattle.sync.specs.declared.run.SyncRun.{SyncRun}
+use Rattle.sync.specs.DiskCalls.{MakesDiskCall}
 use Rattle.sync.specs.CallOrder.{stage_after}
 
 -- the labels of the first stage
@@ -56,17 +58,14 @@ target_among size blocks stages slot uberblock Flush = None
 abbrev pub target_of : SyncRun → DeviceCall → Option Target
 target_of run = target_among run.geometry run.blocks.items run.stages run.slot run.uberblock
 
--- the target is written
-abbrev pub WritesTarget : Option Target → Disk → Result (Unit {0}) PoolError → Disk → Type 0
-WritesTarget (Some t) old result new = Writes old t.place t.content result new
-WritesTarget None old result new = ⊥
+-- the call of the disk that a call of the sync is: a flush settles, and any other puts its target
+abbrev pub disk_call_of : SyncRun → DeviceCall → Option DiskCall
+disk_call_of run Flush = Some Settle
+disk_call_of run call = option_map (λ t. Put t.place t.content) (target_of run call)
 
--- a call writes its target, and a flush flushes
+-- it is made, with this answer
 abbrev pub MakesCall : SyncRun → DeviceCall → Disk → Result (Unit {0}) PoolError → Disk → Type 0
-MakesCall run (Block k) old result new = WritesTarget (target_of run (Block k)) old result new
-MakesCall run (Config label) old result new = WritesTarget (target_of run (Config label)) old result new
-MakesCall run (Uberblock label) old result new = WritesTarget (target_of run (Uberblock label)) old result new
-MakesCall run Flush old result new = Flushes old result new
+MakesCall run call old result new = IsSomeAnd (disk_call_of run call) (λ c. MakesDiskCall c old result new)
 
 -- the sync has what the call takes
 abbrev pub HasCall : SyncRun → DeviceCall → Type 0
@@ -77,10 +76,8 @@ HasCall run Flush = ⊤
 
 -- the refusal of a call that the device fails
 abbrev pub refusal_of : DeviceCall → PoolError
-refusal_of (Block k) = refusal.Write
-refusal_of (Config label) = refusal.Write
-refusal_of (Uberblock label) = refusal.Write
 refusal_of Flush = refusal.Flush
+refusal_of call = refusal.Write
 
 -- the bytes of a call's target are as many as it has, and it lies on the device
 abbrev pub TargetFits : SyncRun → DeviceCall → Type 0

@@ -23,9 +23,10 @@ use Rattle.base.proofs.disk.Regions.{flushed_clean}
 use Rattle.labels.specs.declared.stage.Stage.TheVariants.{Even}
 use Rattle.sync.specs.declared.run.LabelStages.{LabelStages}
 use Rattle.sync.specs.declared.run.SyncRun.{SyncRun}
-use Rattle.sync.specs.Calls.{IsNextCall, MakesCall, Target, WritesTarget, block_target, config_target, first_labels, last_labels, target_of}
+use Rattle.sync.specs.Calls.{IsNextCall, MakesCall, Target, block_target, config_target, first_labels, last_labels, target_of}
 use Rattle.sync.specs.Runs.{SameSync, call_count, other_calls}
 use Rattle.sync.proofs.CallPlaces.{block_stands, others_stand}
+use Rattle.sync.proofs.Targets.{WritesTarget}
 use Rattle.tree_plans.specs.declared.planner.PlannedBlock.{PlannedBlock}
 use Rattle.tree_plans.specs.Plans.{new_block}
 use Rattle.object_maps.specs.Pointers.{pointers_of}

@@ -4,7 +4,8 @@ use Rattle.std.proofs.lemmas.List.{length-replicate}
 use Rattle.base.specs.disk.Disk.{bytes_of}
 use Rattle.base.specs.formats.Geometry.{block_address, block_count}
 use Rattle.import_replay.specs.Cleared.{AreBlocksCleared, AreTailsCleared, zeros}
-use Rattle.import_replay.specs.CreateCalls.{after_calls, clear_block}
+use Rattle.sync.specs.DiskCalls.{after_disk_calls}
+use Rattle.import_replay.specs.CreateCalls.{clear_block}
 use Rattle.import_replay.proofs.CreateCalls.{block_of_zeros, next_made, next_refused, stops_with, write_done, write_refused}
 use Rattle.import_replay.proofs.FirstWrites.{zeros_written}
 use Rattle.import_replay.proofs.LabelWrites.{after_write, block_beside, block_next}
@@ -63,4 +64,4 @@ returns-clause-cleared g c = λ keeps cleared.
 pub returns-clause-ordered : goal.returns-clause-ordered
 returns-clause-ordered g c = λ keeps.
     let end : c.loop-index.index ≡ block_count c.args.geometry = omega (arith, c.blocks-index-end.ensures) in
-    subst (λ (n : ℕ). g.D.SectorDevice.disk c.loop-index.device ≡ after_calls (map clear_block (range_with_len 0 n)) (g.D.SectorDevice.disk c.args.device.now)) end (c.loop-index.invariant.ordered keeps)
+    subst (λ (n : ℕ). g.D.SectorDevice.disk c.loop-index.device ≡ after_disk_calls (map clear_block (range_with_len 0 n)) (g.D.SectorDevice.disk c.args.device.now)) end (c.loop-index.invariant.ordered keeps)

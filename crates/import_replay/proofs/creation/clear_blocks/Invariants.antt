@@ -3,7 +3,8 @@ use Rattle.std.specs.Prelude.{IsTrue, map}
 use Rattle.std.specs.List.{range_with_len}
 use Rattle.base.specs.disk.Disk.{Disk, bytes_of}
 use Rattle.import_replay.specs.Cleared.{AreTailsCleared, AreBlocksCleared}
-use Rattle.import_replay.specs.CreateCalls.{after_calls, clear_block}
+use Rattle.sync.specs.DiskCalls.{after_disk_calls}
+use Rattle.import_replay.specs.CreateCalls.{clear_block}
 use Rattle.import_replay.specs.Outside.{WritesPoolBytes}
 use Rattle.import_replay.specs.OwnCreations.{AddsZeros}
 use Rattle.import_replay.proofs.creation.clear_blocks.Given as goal
@@ -16,7 +17,7 @@ invariant-loop-index g l = record {
   refused : g.D.SectorDevice.refused l.device ≡ g.D.SectorDevice.refused l.fn.device;
   blocks : IsTrue g.D.SectorDevice.keeps_model → AreBlocksCleared l.index (bytes_of (g.D.SectorDevice.disk l.device).now);
   tails : IsTrue g.D.SectorDevice.keeps_model → AreTailsCleared l.geometry 4 (bytes_of (g.D.SectorDevice.disk l.fn.device).now) → AreTailsCleared l.geometry 4 (bytes_of (g.D.SectorDevice.disk l.device).now);
-  ordered : IsTrue g.D.SectorDevice.keeps_model → g.D.SectorDevice.disk l.device ≡ after_calls (map clear_block (range_with_len 0 l.index)) (g.D.SectorDevice.disk l.fn.device);
+  ordered : IsTrue g.D.SectorDevice.keeps_model → g.D.SectorDevice.disk l.device ≡ after_disk_calls (map clear_block (range_with_len 0 l.index)) (g.D.SectorDevice.disk l.fn.device);
   outside : IsTrue g.D.SectorDevice.keeps_model → (start : Disk) → WritesPoolBytes l.geometry start (g.D.SectorDevice.disk l.fn.device) → WritesPoolBytes l.geometry start (g.D.SectorDevice.disk l.device);
   first : IsTrue g.D.SectorDevice.keeps_model → AddsZeros (g.D.SectorDevice.disk l.fn.device) (g.D.SectorDevice.disk l.device);
 }

@@ -2,7 +2,8 @@ use Rattle.std.proofs.Common.{ℕ, ◌≡◌, ◌+◌, ◌∙◌, List, length, 
 use Rattle.std.specs.List.{range_with_len}
 use Rattle.base.specs.formats.Geometry.{label_place}
 use Rattle.import_replay.specs.Cleared.{AreTailsCleared, zeros}
-use Rattle.import_replay.specs.CreateCalls.{after_calls, clear_tail}
+use Rattle.sync.specs.DiskCalls.{after_disk_calls}
+use Rattle.import_replay.specs.CreateCalls.{clear_tail}
 use Rattle.import_replay.proofs.CreateCalls.{next_made, next_refused, stops_with, write_done, write_refused}
 use Rattle.import_replay.proofs.FirstWrites.{tail_written}
 use Rattle.import_replay.proofs.LabelWrites.{after_write, cleared_next, length-zeros}
@@ -50,4 +51,4 @@ loop-label-preserved g c = record {
 pub returns-clause-ordered : goal.returns-clause-ordered
 returns-clause-ordered g c = λ keeps.
     let end : c.loop-label.label ≡ 4 = omega arith in
-    subst (λ (n : ℕ). g.D.SectorDevice.disk c.loop-label.device ≡ after_calls (map (clear_tail c.args.geometry) (range_with_len 0 n)) (g.D.SectorDevice.disk c.args.device.now)) end (c.loop-label.invariant.ordered keeps)
+    subst (λ (n : ℕ). g.D.SectorDevice.disk c.loop-label.device ≡ after_disk_calls (map (clear_tail c.args.geometry) (range_with_len 0 n)) (g.D.SectorDevice.disk c.args.device.now)) end (c.loop-label.invariant.ordered keeps)

@@ -1,7 +1,8 @@
 use Rattle.std.proofs.Common.{rules, ◌≡◌, ◌∙◌, List, ℕ, refl, sym, subst}
 use Rattle.base.specs.disk.Disk.{bytes_of, moments}
 use Rattle.base.specs.formats.Geometry.{IsGeometry}
-use Rattle.import_replay.specs.CreateCalls.{IsStoppedIn, after_calls, create_calls}
+use Rattle.sync.specs.DiskCalls.{IsStoppedIn, after_disk_calls}
+use Rattle.import_replay.specs.CreateCalls.{create_calls}
 use Rattle.import_replay.specs.Creations.{IsNewPool, IsCreatedOn}
 use Rattle.import_replay.specs.Labelled.{IsLabelled}
 use Rattle.import_replay.specs.Outside.{WritesPoolBytes}
@@ -26,8 +27,8 @@ returns-in-Ok-initialize-clause-created g c = λ keeps.
       created = created;
       settled = settled_from (λ (image : List ℕ). IsCreatedOn image name c.args.guid) now.now (done.settled keeps) created;
       written = settled_from (λ (image : List ℕ). IsNewPool image name c.args.guid c.args.moment) now.now (done.settled keeps) (new_pool_from size _ name c.args.guid c.args.moment sized long labelled);
-      called = subst (λ (n : ℕ). now ≡ after_calls (create_calls n name c.args.guid c.args.moment) start) (c.in-Ok.ensures.size ∙ c.sectors.ensures.size)
-          (subst (λ (l : List ℕ). now ≡ after_calls (create_calls size l c.args.guid c.args.moment) start) c.in-Some.ensures.name.0 (done.ordered keeps));
+      called = subst (λ (n : ℕ). now ≡ after_disk_calls (create_calls n name c.args.guid c.args.moment) start) (c.in-Ok.ensures.size ∙ c.sectors.ensures.size)
+          (subst (λ (l : List ℕ). now ≡ after_disk_calls (create_calls size l c.args.guid c.args.moment) start) c.in-Some.ensures.name.0 (done.ordered keeps));
     }
 
 pub returns-in-Ok-initialize-clause-own : goal.returns-in-Ok-initialize-clause-own

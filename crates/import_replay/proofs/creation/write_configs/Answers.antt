@@ -4,7 +4,8 @@ use Rattle.base.specs.formats.Geometry.{config_place}
 use Rattle.labels.specs.Configs.{config_block}
 use Rattle.import_replay.specs.Creations.{first_config}
 use Rattle.import_replay.specs.Cleared.{IsCleared}
-use Rattle.import_replay.specs.CreateCalls.{after_calls, write_config}
+use Rattle.sync.specs.DiskCalls.{after_disk_calls}
+use Rattle.import_replay.specs.CreateCalls.{write_config}
 use Rattle.import_replay.specs.Labelled.{HoldConfig}
 use Rattle.import_replay.specs.OwnCreations.{AreConfigsHanded}
 use Rattle.import_replay.proofs.CreateCalls.{next_made, next_refused, stops_with, write_done, write_refused}
@@ -75,4 +76,4 @@ returns-clause-handed g c = λ keeps t began.
 pub returns-clause-ordered : goal.returns-clause-ordered
 returns-clause-ordered g c = λ keeps.
     let end : c.loop-label.label ≡ 4 = omega arith in
-    subst (λ (n : ℕ). g.D.SectorDevice.disk c.loop-label.device ≡ after_calls (map (write_config c.args.geometry (first_config c.args.name c.args.guid c.args.geometry)) (range_with_len 0 n)) (g.D.SectorDevice.disk c.args.device.now)) end (c.loop-label.invariant.ordered keeps)
+    subst (λ (n : ℕ). g.D.SectorDevice.disk c.loop-label.device ≡ after_disk_calls (map (write_config c.args.geometry (first_config c.args.name c.args.guid c.args.geometry)) (range_with_len 0 n)) (g.D.SectorDevice.disk c.args.device.now)) end (c.loop-label.invariant.ordered keeps)

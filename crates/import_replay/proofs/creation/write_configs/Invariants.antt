@@ -5,7 +5,8 @@ use Rattle.base.specs.disk.Disk.{Disk, bytes_of, moments}
 use Rattle.import_replay.specs.Creations.{first_config}
 use Rattle.import_replay.specs.Cleared.{IsCleared}
 use Rattle.import_replay.specs.Labelled.{HoldConfig}
-use Rattle.import_replay.specs.CreateCalls.{after_calls, write_config}
+use Rattle.sync.specs.DiskCalls.{after_disk_calls}
+use Rattle.import_replay.specs.CreateCalls.{write_config}
 use Rattle.import_replay.specs.Outside.{WritesPoolBytes}
 use Rattle.labels.specs.Configs.{config_block}
 use Rattle.import_replay.specs.OwnCreations.{AddsConfig, AreConfigsHanded}
@@ -19,7 +20,7 @@ invariant-loop-label g l = record {
   refused : g.D.SectorDevice.refused l.device ≡ g.D.SectorDevice.refused l.fn.device;
   cleared : IsTrue g.D.SectorDevice.keeps_model → IsCleared l.geometry (bytes_of (g.D.SectorDevice.disk l.fn.device).now) → IsCleared l.geometry (bytes_of (g.D.SectorDevice.disk l.device).now);
   configs : IsTrue g.D.SectorDevice.keeps_model → HoldConfig l.geometry l.label (first_config l.fn.name l.guid l.geometry) (bytes_of (g.D.SectorDevice.disk l.device).now);
-  ordered : IsTrue g.D.SectorDevice.keeps_model → g.D.SectorDevice.disk l.device ≡ after_calls (map (write_config l.geometry (first_config l.fn.name l.guid l.geometry)) (range_with_len 0 l.label)) (g.D.SectorDevice.disk l.fn.device);
+  ordered : IsTrue g.D.SectorDevice.keeps_model → g.D.SectorDevice.disk l.device ≡ after_disk_calls (map (write_config l.geometry (first_config l.fn.name l.guid l.geometry)) (range_with_len 0 l.label)) (g.D.SectorDevice.disk l.fn.device);
   outside : IsTrue g.D.SectorDevice.keeps_model → (start : Disk) → WritesPoolBytes l.geometry start (g.D.SectorDevice.disk l.fn.device) → WritesPoolBytes l.geometry start (g.D.SectorDevice.disk l.device);
   first : IsTrue g.D.SectorDevice.keeps_model → AddsConfig (config_block (first_config l.fn.name l.guid l.geometry)) (g.D.SectorDevice.disk l.fn.device) (g.D.SectorDevice.disk l.device);
   handed : IsTrue g.D.SectorDevice.keeps_model → (t : ℕ) → t ≤ moments (g.D.SectorDevice.disk l.fn.device)

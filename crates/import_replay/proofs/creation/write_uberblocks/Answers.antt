@@ -6,7 +6,8 @@ use Rattle.base.specs.formats.Geometry.{slot_of, slot_place}
 use Rattle.base.specs.formats.Limits.{first_group}
 use Rattle.import_replay.specs.Creations.{first_config, first_uberblock}
 use Rattle.import_replay.specs.Cleared.{IsCleared}
-use Rattle.import_replay.specs.CreateCalls.{after_calls, write_uberblock}
+use Rattle.sync.specs.DiskCalls.{after_disk_calls}
+use Rattle.import_replay.specs.CreateCalls.{write_uberblock}
 use Rattle.import_replay.specs.Labelled.{HoldConfig, HoldUberblock}
 use Rattle.import_replay.specs.OwnCreations.{AreSlotsHanded}
 use Rattle.import_replay.proofs.CreateCalls.{next_made, next_refused, stops_with, write_done, write_refused}
@@ -92,4 +93,4 @@ returns-clause-handed g c = λ keeps t began.
 pub returns-clause-ordered : goal.returns-clause-ordered
 returns-clause-ordered g c = λ keeps.
     let end : c.loop-label.label ≡ 4 = omega arith in
-    subst (λ (n : ℕ). g.D.SectorDevice.disk c.loop-label.device ≡ after_calls (map (write_uberblock c.args.geometry (first_uberblock c.args.guid c.args.moment)) (range_with_len 0 n)) (g.D.SectorDevice.disk c.args.device.now)) end (c.loop-label.invariant.ordered keeps)
+    subst (λ (n : ℕ). g.D.SectorDevice.disk c.loop-label.device ≡ after_disk_calls (map (write_uberblock c.args.geometry (first_uberblock c.args.guid c.args.moment)) (range_with_len 0 n)) (g.D.SectorDevice.disk c.args.device.now)) end (c.loop-label.invariant.ordered keeps)

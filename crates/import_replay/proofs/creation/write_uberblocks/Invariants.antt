@@ -5,7 +5,8 @@ use Rattle.base.specs.disk.Disk.{Disk, bytes_of, moments}
 use Rattle.import_replay.specs.Creations.{first_config, first_uberblock}
 use Rattle.import_replay.specs.Cleared.{IsCleared}
 use Rattle.import_replay.specs.Labelled.{HoldConfig, HoldUberblock}
-use Rattle.import_replay.specs.CreateCalls.{after_calls, write_uberblock}
+use Rattle.sync.specs.DiskCalls.{after_disk_calls}
+use Rattle.import_replay.specs.CreateCalls.{write_uberblock}
 use Rattle.import_replay.specs.Outside.{WritesPoolBytes}
 use Rattle.uberblocks.specs.Slots.{slot_bytes}
 use Rattle.import_replay.specs.OwnCreations.{AddsSlot, AreConfigsHanded, AreSlotsHanded}
@@ -21,7 +22,7 @@ invariant-loop-label g l = record {
   configs : IsTrue g.D.SectorDevice.keeps_model → (name : List ℕ) → HoldConfig l.geometry 4 (first_config name l.guid l.geometry) (bytes_of (g.D.SectorDevice.disk l.fn.device).now)
       → HoldConfig l.geometry 4 (first_config name l.guid l.geometry) (bytes_of (g.D.SectorDevice.disk l.device).now);
   uberblocks : IsTrue g.D.SectorDevice.keeps_model → HoldUberblock l.geometry l.label (first_uberblock l.guid l.moment) (bytes_of (g.D.SectorDevice.disk l.device).now);
-  ordered : IsTrue g.D.SectorDevice.keeps_model → g.D.SectorDevice.disk l.device ≡ after_calls (map (write_uberblock l.geometry (first_uberblock l.guid l.moment)) (range_with_len 0 l.label)) (g.D.SectorDevice.disk l.fn.device);
+  ordered : IsTrue g.D.SectorDevice.keeps_model → g.D.SectorDevice.disk l.device ≡ after_disk_calls (map (write_uberblock l.geometry (first_uberblock l.guid l.moment)) (range_with_len 0 l.label)) (g.D.SectorDevice.disk l.fn.device);
   outside : IsTrue g.D.SectorDevice.keeps_model → (start : Disk) → WritesPoolBytes l.geometry start (g.D.SectorDevice.disk l.fn.device) → WritesPoolBytes l.geometry start (g.D.SectorDevice.disk l.device);
   first : IsTrue g.D.SectorDevice.keeps_model → AddsSlot (slot_bytes (first_uberblock l.guid l.moment)) (g.D.SectorDevice.disk l.fn.device) (g.D.SectorDevice.disk l.device);
   handed : IsTrue g.D.SectorDevice.keeps_model → (t : ℕ) → t ≤ moments (g.D.SectorDevice.disk l.fn.device)

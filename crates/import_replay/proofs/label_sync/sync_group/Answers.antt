@@ -1,11 +1,12 @@
 use Rattle.std.proofs.Common.{rules, ◌≡◌, ◌∙◌, List, take, ap, refl, sym}
+use Rattle.base.specs.crash.SyncCalls.{DiskCall}
 use Rattle.base.specs.declared.error.PoolError.{PoolError}
 use Rattle.base.specs.disk.Disk.{bytes_of}
-use Rattle.base.specs.disk.SyncOrder.{DeviceCall}
+use Rattle.sync.specs.DiskCalls.{IsStoppedIn, after_disk_calls}
 use Rattle.sync.specs.Runs.{call_count}
 use Rattle.sync.proofs.Blocks.{nothing_made}
 use Rattle.import_replay.specs.ImportRefusals.{IsSyncRefusal}
-use Rattle.import_replay.specs.LabelSyncs.{ImportWrites, IsStoppedSync, after_calls, calls_of_import, import_writes, is_even}
+use Rattle.import_replay.specs.LabelSyncs.{ImportWrites, calls_of_import, import_writes, is_even}
 use Rattle.import_replay.proofs.LabelCalls.{after_next, distinct_blocks, stopped_at, whole}
 use Rattle.import_replay.proofs.LabelViews.{import_begins, moments_next, rest_next, since_next}
 use Rattle.import_replay.proofs.LabelSyncs.{sync_goes_on, sync_left, sync_refused}
@@ -32,7 +33,7 @@ returns-in_err-next-clause-stopped g c = λ keeps.
     let start = g.D.SectorDevice.disk c.args.device.now in
     let old = g.D.SectorDevice.disk c.loop-run.device in
     let new = g.D.SectorDevice.disk c.next.new.device in
-    passed_on c.from_residual.result x (λ (e : PoolError). IsStoppedSync w (is_even c.args.first) e start new) c.from_residual.ensures.1
+    passed_on c.from_residual.result x (λ (e : PoolError). IsStoppedIn (calls_of_import w (is_even c.args.first)) e start new) c.from_residual.ensures.1
     (stopped_at w c.args.first c.loop-run.run i.run start old new call.call x call.next (i.called keeps) (call.made keeps) call.refusal)
 
 pub loop-run-init : goal.loop-run-init
@@ -46,7 +47,7 @@ loop-run-init g c =
       run = told.sync;
       left = told.left;
       count = refl;
-      called = λ keeps. ap (λ k. after_calls w (take k (calls_of_import w (is_even c.args.first))) start) (sym told.none);
+      called = λ keeps. ap (λ k. after_disk_calls (take k (calls_of_import w (is_even c.args.first))) start) (sym told.none);
       views = λ keeps created flushed at v tree may. import_begins w c.args.first created flushed at v tree start may run told.sync told.none;
       made = λ keeps. nothing_made (bytes_of start.now) run told.none;
     }
@@ -94,7 +95,7 @@ returns-clause-written g c = λ keeps.
     let made = (c.next.ensures.written keeps).made (distinct_blocks w first c.loop-run.run i.run) base (i.made keeps) in
     record {
       synced = after_next w first c.loop-run.run i.run start old new call.call call.next (i.called keeps) (call.made keeps) c.next.new.self.done c.in_ok-next.ensures.counts.done
-          ∙ ap (λ (l : List DeviceCall). after_calls w l start) (whole w first c.next.new.self run all);
+          ∙ ap (λ (l : List DiskCall). after_disk_calls l start) (whole w first c.next.new.self run all);
       labelled = hold_labels w first c.next.new.self run base (bytes_of new.now) made all;
       other_slots = other_slots w first c.next.new.self run base (bytes_of new.now) made all c.requires.sized.geometry;
       length_is = made.size;

@@ -1,9 +1,10 @@
 use Rattle.std.proofs.Common.{◌≡◌, ◌<◌, ◌-◌, IsTrue, take}
 use Rattle.base.specs.disk.Disk.{bytes_of}
+use Rattle.sync.specs.DiskCalls.{after_disk_calls}
 use Rattle.sync.specs.Made.{HasMade}
 use Rattle.sync.specs.Runs.{call_count}
 use Rattle.import_replay.specs.ImportViews.{ForEachView}
-use Rattle.import_replay.specs.LabelSyncs.{ImportWrites, IsGroupSync, after_calls, calls_of_import, import_writes, is_even}
+use Rattle.import_replay.specs.LabelSyncs.{ImportWrites, IsGroupSync, calls_of_import, import_writes, is_even}
 use Rattle.import_replay.proofs.LabelViews.{HasImportSince}
 use Rattle.import_replay.proofs.label_sync.sync_group.Given as goal
 
@@ -18,7 +19,7 @@ invariant-loop-run g l =
       left : l.run.done < call_count l.run;
       count : g.D.SectorDevice.refused l.device ≡ g.D.SectorDevice.refused l.fn.device;
       called : IsTrue g.D.SectorDevice.keeps_model
-          → g.D.SectorDevice.disk l.device ≡ after_calls w (take l.run.done (calls_of_import w (is_even l.fn.first))) (g.D.SectorDevice.disk l.fn.device);
+          → g.D.SectorDevice.disk l.device ≡ after_disk_calls (take l.run.done (calls_of_import w (is_even l.fn.first))) (g.D.SectorDevice.disk l.fn.device);
       views : IsTrue g.D.SectorDevice.keeps_model
           → ForEachView w l.fn.first (g.D.SectorDevice.disk l.fn.device)
           (λ created flushed at v tree. HasImportSince w created flushed at v tree l.run (g.D.SectorDevice.disk l.fn.device) (g.D.SectorDevice.disk l.device));
