@@ -26,7 +26,7 @@ use Rattle.device_model.specs.declared.device.SectorDevice.{Ghosts}
 use Rattle.pool_threads.specs.declared.handle.Handle.{Handle}
 use Rattle.pool_threads.specs.Answers.{state_seen}
 use Rattle.pool_threads.specs.Handles.{view_seen}
-use Rattle.pool_threads.specs.Transacts.{Locks, LocksAndBegins, MakesTransaction, TransactsOrLacks, plan_of}
+use Rattle.pool_threads.specs.Transacts.{Locks, LocksAndBegins, MakesTransaction, TransactsOrLacks, plan_of_ops}
 use Rattle.pool_threads.specs.Views.{GrowsTo, SeenPool, viewed_state}
 use Rattle.pool_threads.specs.Waits.{AreDurable, SyncsPool, SyncsUpTo, result_of}
 use Rattle.pool_threads.proofs.Along.{GoesAlong, along_made, along_on, along_same}
@@ -99,7 +99,7 @@ durable_by_sync s looked after x onward synced = λ o e there.
 
 module _ {Dev : Type 0} {G : Ghosts Dev} where
   sound_transacted : (ops : List Op) (r : Receipt) (old new : Handle Dev G) → TransactsOrLacks command_owner ops (Ok r) old new → IsSound (view_seen new)
-  sound_transacted ops r old new (inl u) = sound_after (IsTrue G.keeps_model) (lock_ranges (plan_of ops)) (plan_of ops) ops r u.made.took (view_seen new) u.made.made
+  sound_transacted ops r old new (inl u) = sound_after (IsTrue G.keeps_model) (lock_ranges (plan_of_ops ops)) (plan_of_ops ops) ops r u.made.took (view_seen new) u.made.made
   sound_transacted ops r old new (inr (lacks, same)) = absurd (let no_way : Ok r ≡ Err NoMemory = lacks in cc)
 
   pub along_first : (all : List (List Op)) (count : ℕ) (result : Result (Unit {0}) PoolError) (old new : Handle Dev G) → MakesFirst all count result old new → GoesAlong old new

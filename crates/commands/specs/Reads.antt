@@ -11,12 +11,12 @@ use Rattle.object_maps.specs.Sources.{range_in}
 use Rattle.commands.specs.declared.arguments.GetArguments.{GetArguments}
 
 -- the range that is asked for, up to the greatest length
-abbrev pub high_of : ℕ → Option ℕ → ℕ
-high_of offset None = max_length
-high_of offset (Some length) = min (offset + length) max_length
+abbrev pub asked_high : ℕ → Option ℕ → ℕ
+asked_high offset None = max_length
+asked_high offset (Some length) = min (offset + length) max_length
 
-abbrev pub range_of : GetArguments → Range
-range_of given = record { low = given.offset; high = high_of given.offset given.length }
+abbrev pub asked_range : GetArguments → Range
+asked_range given = record { low = given.offset; high = asked_high given.offset given.length }
 
 -- these are the bytes of a range of an object in the contents that the image mounts
 abbrev pub IsMountedRange : List ℕ → ℕ → Range → List ℕ → Type 0

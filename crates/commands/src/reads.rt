@@ -5,7 +5,7 @@ ghost use Rattle.std.specs.Prelude.{◌≡◌, ◌≢◌, ◌≤◌, Err, IfErr,
 ghost use Rattle.base.specs.disk.Disk.{bytes_of};
 ghost use Rattle.device_model.specs.Reading.{OnlyReads};
 ghost use Rattle.commands.specs.Checks.{StaysOpened};
-ghost use Rattle.commands.specs.Reads.{IsMountedRange, IsReadersRefusal, WritesMounted, range_of};
+ghost use Rattle.commands.specs.Reads.{IsMountedRange, IsReadersRefusal, WritesMounted, asked_range};
 
 use crate::arguments::GetArguments;
 use crate::failure::{Failure, NotesRefusals, Verbosity, report_failure};
@@ -34,7 +34,7 @@ pub fn run_get<D: SectorDevice + NotesRefusals, W: Write, E: Write>(
     ensures unusable { IsErr opened → result.0 ≡ 3 }
     ensures written { result.0 ≡ 0 → IfOk opened (λ device. IsTrue D.keeps_model
         → WritesMounted (bytes_of (D.disk device).now) arguments.entry.object
-        (range_of arguments.entry) (W.contents out.old) (W.contents out.new)) }
+        (asked_range arguments.entry) (W.contents out.old) (W.contents out.new)) }
     ensures range { result.0 ≤ 3 }
     ensures no_usage { result.0 ≢ 2 }
 {
@@ -73,7 +73,7 @@ fn get_bytes<D: SectorDevice + NotesRefusals>(
     ensures unusable { IfErr opened (λ cause. result.0 ≡ Err (Failure.Unusable cause)) }
     ensures bytes { IfOk opened (λ device. IsTrue D.keeps_model → IfOk result.0
         (IsMountedRange (bytes_of (D.disk device).now) arguments.entry.object
-        (range_of arguments.entry))) }
+        (asked_range arguments.entry))) }
 {
     let device = match opened {
         Ok(device) => device,
@@ -114,7 +114,7 @@ impl GetArguments<'_> {
     // The range that is asked for, up to the last byte that an object may have. It has no byte if the offset is there
     // or above it.
     fn range(&self) -> Range
-        ensures { result ≡ range_of self.now }
+        ensures { result ≡ asked_range self.now }
     {
         let high = match self.length {
             Some(length) => self.offset.saturating_add(length).min(MAX_LENGTH),

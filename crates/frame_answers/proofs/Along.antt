@@ -15,9 +15,9 @@ use Rattle.pool_threads.specs.declared.handle.Handle.{Handle}
 use Rattle.pool_threads.specs.Handles.{HasLooked, moment_of}
 use Rattle.pool_threads.specs.Objects.{IsListRefusal}
 use Rattle.pool_threads.specs.Serves.{AreDue, MakesDue}
-use Rattle.pool_threads.specs.Transacts.{TransactsOrLacks, plan_of}
+use Rattle.pool_threads.specs.Transacts.{TransactsOrLacks, plan_of_ops}
 use Rattle.pool_threads.specs.Views.{GrowsTo, SeenPool, grows_onward, grows_same}
-use Rattle.pool_threads.specs.Waits.{EndsFsync, EndsSyncing, FsyncsAll, SyncsPool, SyncsUpTo, WritesLog}
+use Rattle.pool_threads.specs.Waits.{EndsFsync, EndsSyncing, FsyncsAll, SyncsPool, SyncsUpTo, WritesLogInTurn}
 use Rattle.pool_threads.proofs.Along.{GoesAlong, along_on, along_same}
 use Rattle.pool_threads.proofs.TransactsSeen.{at_last_along}
 use Rattle.pool_threads.proofs.Turned.{grows_by_one}
@@ -46,7 +46,7 @@ module _ {Dev : Type 0} {G : Ghosts Dev} where
   along_looked old new l = record { same_pool = l.same_pool; onward = l.onward; met_none = l.met_none }
 
   pub along_transacts : (owner : Owner) (ops : List Op) (result : Result Receipt PoolError) (old new : Handle Dev G) → TransactsOrLacks owner ops result old new → GoesAlong old new
-  along_transacts owner ops result old new (inl u) = at_last_along owner (lock_ranges (plan_of ops)) (plan_of ops) ops result old new u
+  along_transacts owner ops result old new (inl u) = at_last_along owner (lock_ranges (plan_of_ops ops)) (plan_of_ops ops) ops result old new u
   along_transacts owner ops result old new (inr (lacks, same)) = along_same old new same
 
   pub along_lists : (e : PoolError) (old new : Handle Dev G) → IsListRefusal e old new → GoesAlong old new
@@ -63,7 +63,7 @@ module _ {Dev : Type 0} {G : Ghosts Dev} where
   pub along_syncs : (answer : Result Group PoolError) (old new : Handle Dev G) → SyncsPool answer old new → GoesAlong old new
   along_syncs answer old new s = along_on old s.looked new (along_looked old s.looked s.looks) (along_up_to s.group s.result s.looked new s.syncs)
 
-  along_writes : (r : Option declared_reply.Reply) (old new : Handle Dev G) → WritesLog r old new → GoesAlong old new
+  along_writes : (r : Option declared_reply.Reply) (old new : Handle Dev G) → WritesLogInTurn r old new → GoesAlong old new
   along_writes r old new w = record {
     same_pool = w.same_pool;
     onward = grows_onward (IsTrue G.keeps_model) (seen old.seat) w.made.took (seen new.seat) w.made.onward (served_grows (IsTrue G.keeps_model) duty.CommitLog r w.made.took (seen new.seat) w.made.made);

@@ -10,11 +10,11 @@ use Rattle.base.specs.formats.Limits.{object_count}
 use Rattle.base.specs.history.Contents.{Contents, length_of}
 use Rattle.frames.specs.declared.listing.Listed.{Listed}
 use Rattle.frame_answers.specs.Calls.{listed_below}
-use Rattle.pool_threads.specs.Objects.{object_at, objects_from, objects_of}
+use Rattle.pool_threads.specs.Objects.{object_at, objects_among, objects_from}
 
 module _ (c : Contents) where
   abbrev among : ℕ → ℕ → List (ObjectId × ℕ)
-  among from k = objects_of c (range_with_len from k)
+  among from k = objects_among c (range_with_len from k)
 
   -- no more than their numbers
   few : (k from : ℕ) → length (among from k) ≤ k

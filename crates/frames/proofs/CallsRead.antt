@@ -3,7 +3,7 @@ use Rattle.std.proofs.Common.{◌≡◌, ℕ, ◌^◌, ◌⊎◌, Bool, true, fa
 use Rattle.std.specs.Int.{w32, w64, to_le_bytes}
 use Rattle.std.proofs.lemmas.Bool.{eqb-true}
 use Rattle.transactions.proofs.Fields.{IsBytes, Takes, Takes-then, wide32, wide64}
-use Rattle.frames.specs.Reading.{◌>>=◌, byte_in, call_in, durable_in, field_in, length_in, log_record_in, objects_in, read_in, request_in, transact_durably_in, transact_in}
+use Rattle.frames.specs.Reading.{◌>>=◌, call_in, durable_in, field_in, length_in, log_record_in, objects_in, one_byte_in, read_in, request_in, transact_durably_in, transact_in}
 use Rattle.frames.specs.Requests.{IsCallAllowed, IsRequestAllowed, bytes_of_call, bytes_of_request, number_of_call}
 use Rattle.frames.specs.declared.request.Call.{Call}
 use Rattle.frames.specs.declared.request.Call.TheVariants as call
@@ -127,8 +127,8 @@ call_takes n bytes x fits e =
 pub request_takes : (bytes : List ℕ) (x : Request × List ℕ) → IsBytes bytes → request_in bytes ≡ Ok x → Takes bytes (bytes_of_request x.0) x.1 × IsRequestAllowed x.0
 unfolding request_in
 request_takes bytes x fits e =
-    let a = bind_ok (field_in w64 bytes) (λ number. byte_in number.1 >>= λ tag. call_in tag.0 tag.1 >>= λ asked. Ok (record { number = number.0; call = asked.0 }, asked.1)) x e in
-    let b = bind_ok (byte_in a.0.1) (λ tag. call_in tag.0 tag.1 >>= λ asked. Ok (record { number = a.0.0; call = asked.0 }, asked.1)) x a.2 in
+    let a = bind_ok (field_in w64 bytes) (λ number. one_byte_in number.1 >>= λ tag. call_in tag.0 tag.1 >>= λ asked. Ok (record { number = number.0; call = asked.0 }, asked.1)) x e in
+    let b = bind_ok (one_byte_in a.0.1) (λ tag. call_in tag.0 tag.1 >>= λ asked. Ok (record { number = a.0.0; call = asked.0 }, asked.1)) x a.2 in
     let c = bind_ok (call_in b.0.0 b.0.1) (λ asked. Ok (record { number = a.0.0; call = asked.0 }, asked.1)) x b.2 in
     let t0 = field_takes w64 (2 ^ 64) wide64 bytes a.0.0 a.0.1 fits a.1 in
     let t1 = byte_takes a.0.1 b.0.0 b.0.1 t0.0.rest_fits b.1 in
@@ -177,6 +177,6 @@ unfolding request_in
 request_again r rest allowed =
     let fields_on : List ℕ = bytes_of_call r.call ++ rest in
     let tag_on : List ℕ = number_of_call r.call ∷ fields_on in
-    bind-ok (field_in w64 (to_le_bytes w64 r.number ++ tag_on)) (λ number. byte_in number.1 >>= λ tag. call_in tag.0 tag.1 >>= λ asked. Ok (record { number = number.0; call = asked.0 }, asked.1)) (r.number, tag_on)
+    bind-ok (field_in w64 (to_le_bytes w64 r.number ++ tag_on)) (λ number. one_byte_in number.1 >>= λ tag. call_in tag.0 tag.1 >>= λ asked. Ok (record { number = number.0; call = asked.0 }, asked.1)) (r.number, tag_on)
     (field_again w64 (2 ^ 64) wide64 r.number tag_on allowed.number)
     ∙ bind-ok (call_in (number_of_call r.call) fields_on) (λ asked. Ok (record { number = r.number; call = asked.0 }, asked.1)) (r.call, rest) (call_again r.call rest allowed.call)

@@ -9,7 +9,7 @@ use Rattle.transactions.specs.Records.{record_fields}
 use Rattle.transactions.specs.declared.record.Record.{Record}
 use Rattle.transactions.proofs.Fields.{IsBytes, IsWide, Takes, number_again, number_takes}
 use Rattle.transactions.proofs.RecordsRead.{record_again, record_takes}
-use Rattle.frames.specs.Reading.{byte_in, declared_record, field_in, log_record_in, or_error}
+use Rattle.frames.specs.Reading.{declared_record, field_in, log_record_in, one_byte_in, or_error}
 use Rattle.frames.specs.declared.error.FrameError.TheVariants as error
 use Rattle.frames.proofs.Steps.{bind_ok, bind-ok, ok_is, there}
 
@@ -21,7 +21,7 @@ pub field_again : (w : Width) (limit : ℕ) (wide : IsWide w limit) (n : ℕ) (r
 unfolding field_in
 field_again w limit wide n rest lt = ap (or_error error.CutOff) (number_again w limit wide n rest lt)
 
-pub byte_takes : (bytes : List ℕ) (b : ℕ) (rest : List ℕ) → IsBytes bytes → byte_in bytes ≡ Ok (b, rest) → Takes bytes (b ∷ []) rest
+pub byte_takes : (bytes : List ℕ) (b : ℕ) (rest : List ℕ) → IsBytes bytes → one_byte_in bytes ≡ Ok (b, rest) → Takes bytes (b ∷ []) rest
 byte_takes [] b rest fits e = absurd cc
 byte_takes (c ∷ bytes) b rest fits e =
     let same = ok_is (c, bytes) (b, rest) e in

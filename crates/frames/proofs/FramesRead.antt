@@ -7,7 +7,7 @@ use Rattle.std.proofs.lemmas.List.{append-nil, nil_from_length}
 use Rattle.std.proofs.lemmas.List.Concat.{flat_map-cons}
 use Rattle.transactions.proofs.Fields.{IsBytes, Takes, Takes-then, wide16, wide32}
 use Rattle.frames.specs.Limits.{frame_head, frame_version, max_frame, requests_kind}
-use Rattle.frames.specs.Reading.{◌>>=◌, Fails, field_in, frame_in, head_in, is_length_refused, refused_if, requests_in}
+use Rattle.frames.specs.Reading.{◌>>=◌, Fails, error_if, field_in, frame_in, head_in, is_length_refused, requests_in}
 use Rattle.frames.specs.Requests.{AreAllowed, IsFrameOf, bytes_of_all, bytes_of_frame, bytes_of_request, bytes_of_requests, room_of_answers}
 use Rattle.frames.specs.declared.error.FrameError.{FrameError}
 use Rattle.frames.specs.declared.error.FrameError.TheVariants as error
@@ -42,12 +42,12 @@ record HasHead (bytes : List ℕ) (count : ℕ) (rest : List ℕ) : Type 0 where
 head_takes : (bytes : List ℕ) (x : ℕ × List ℕ) → IsBytes bytes → head_in bytes ≡ Ok x → HasHead bytes x.0 x.1
 unfolding head_in
 head_takes bytes x fits e =
-    let a = bind_ok (field_in w32 bytes) (λ size. refused_if (is_length_refused size.0 bytes) error.BadLength >>= λ sized. field_in w16 size.1 >>= λ version. refused_if (not (eqb version.0 frame_version)) error.BadVersion >>= λ known. field_in w16 version.1 >>= λ kind. refused_if (not (eqb kind.0 requests_kind)) error.BadKind >>= λ asking. field_in w32 kind.1) x e in
-    let b = bind_ok (refused_if (is_length_refused a.0.0 bytes) error.BadLength) (λ sized. field_in w16 a.0.1 >>= λ version. refused_if (not (eqb version.0 frame_version)) error.BadVersion >>= λ known. field_in w16 version.1 >>= λ kind. refused_if (not (eqb kind.0 requests_kind)) error.BadKind >>= λ asking. field_in w32 kind.1) x a.2 in
-    let c = bind_ok (field_in w16 a.0.1) (λ version. refused_if (not (eqb version.0 frame_version)) error.BadVersion >>= λ known. field_in w16 version.1 >>= λ kind. refused_if (not (eqb kind.0 requests_kind)) error.BadKind >>= λ asking. field_in w32 kind.1) x b.2 in
-    let d = bind_ok (refused_if (not (eqb c.0.0 frame_version)) error.BadVersion) (λ known. field_in w16 c.0.1 >>= λ kind. refused_if (not (eqb kind.0 requests_kind)) error.BadKind >>= λ asking. field_in w32 kind.1) x c.2 in
-    let f = bind_ok (field_in w16 c.0.1) (λ kind. refused_if (not (eqb kind.0 requests_kind)) error.BadKind >>= λ asking. field_in w32 kind.1) x d.2 in
-    let g = bind_ok (refused_if (not (eqb f.0.0 requests_kind)) error.BadKind) (λ asking. field_in w32 f.0.1) x f.2 in
+    let a = bind_ok (field_in w32 bytes) (λ size. error_if (is_length_refused size.0 bytes) error.BadLength >>= λ sized. field_in w16 size.1 >>= λ version. error_if (not (eqb version.0 frame_version)) error.BadVersion >>= λ known. field_in w16 version.1 >>= λ kind. error_if (not (eqb kind.0 requests_kind)) error.BadKind >>= λ asking. field_in w32 kind.1) x e in
+    let b = bind_ok (error_if (is_length_refused a.0.0 bytes) error.BadLength) (λ sized. field_in w16 a.0.1 >>= λ version. error_if (not (eqb version.0 frame_version)) error.BadVersion >>= λ known. field_in w16 version.1 >>= λ kind. error_if (not (eqb kind.0 requests_kind)) error.BadKind >>= λ asking. field_in w32 kind.1) x a.2 in
+    let c = bind_ok (field_in w16 a.0.1) (λ version. error_if (not (eqb version.0 frame_version)) error.BadVersion >>= λ known. field_in w16 version.1 >>= λ kind. error_if (not (eqb kind.0 requests_kind)) error.BadKind >>= λ asking. field_in w32 kind.1) x b.2 in
+    let d = bind_ok (error_if (not (eqb c.0.0 frame_version)) error.BadVersion) (λ known. field_in w16 c.0.1 >>= λ kind. error_if (not (eqb kind.0 requests_kind)) error.BadKind >>= λ asking. field_in w32 kind.1) x c.2 in
+    let f = bind_ok (field_in w16 c.0.1) (λ kind. error_if (not (eqb kind.0 requests_kind)) error.BadKind >>= λ asking. field_in w32 kind.1) x d.2 in
+    let g = bind_ok (error_if (not (eqb f.0.0 requests_kind)) error.BadKind) (λ asking. field_in w32 f.0.1) x f.2 in
     let lengths = or_parts (not (eqb a.0.0 (length bytes))) (nat_lt max_frame a.0.0) (passes (is_length_refused a.0.0 bytes) error.BadLength b.0 b.1) in
     let version-is : c.0.0 ≡ frame_version = eqb-true c.0.0 frame_version (not_false (eqb c.0.0 frame_version) (passes (not (eqb c.0.0 frame_version)) error.BadVersion d.0 d.1)) in
     let kind-is : f.0.0 ≡ requests_kind = eqb-true f.0.0 requests_kind (not_false (eqb f.0.0 requests_kind) (passes (not (eqb f.0.0 requests_kind)) error.BadKind g.0 g.1)) in
@@ -71,10 +71,10 @@ head_takes bytes x fits e =
 pub frame_takes : (bytes : List ℕ) (requests : List Request) → IsBytes bytes → frame_in bytes ≡ Ok requests → IsFrameOf bytes requests
 unfolding frame_in
 frame_takes bytes requests fits e =
-    let a = bind_ok (head_in bytes) (λ head. requests_in head.0 head.1 >>= λ found. refused_if (not (eqb (length found.1) 0)) error.Surplus >>= λ ended. refused_if (nat_lt max_frame (room_of_answers found.0)) error.AnswersTooLong >>= λ fitting. Ok found.0) requests e in
-    let b = bind_ok (requests_in a.0.0 a.0.1) (λ found. refused_if (not (eqb (length found.1) 0)) error.Surplus >>= λ ended. refused_if (nat_lt max_frame (room_of_answers found.0)) error.AnswersTooLong >>= λ fitting. Ok found.0) requests a.2 in
-    let c = bind_ok (refused_if (not (eqb (length b.0.1) 0)) error.Surplus) (λ ended. refused_if (nat_lt max_frame (room_of_answers b.0.0)) error.AnswersTooLong >>= λ fitting. Ok b.0.0) requests b.2 in
-    let d = bind_ok (refused_if (nat_lt max_frame (room_of_answers b.0.0)) error.AnswersTooLong) (λ fitting. Ok b.0.0) requests c.2 in
+    let a = bind_ok (head_in bytes) (λ head. requests_in head.0 head.1 >>= λ found. error_if (not (eqb (length found.1) 0)) error.Surplus >>= λ ended. error_if (nat_lt max_frame (room_of_answers found.0)) error.AnswersTooLong >>= λ fitting. Ok found.0) requests e in
+    let b = bind_ok (requests_in a.0.0 a.0.1) (λ found. error_if (not (eqb (length found.1) 0)) error.Surplus >>= λ ended. error_if (nat_lt max_frame (room_of_answers found.0)) error.AnswersTooLong >>= λ fitting. Ok found.0) requests a.2 in
+    let c = bind_ok (error_if (not (eqb (length b.0.1) 0)) error.Surplus) (λ ended. error_if (nat_lt max_frame (room_of_answers b.0.0)) error.AnswersTooLong >>= λ fitting. Ok b.0.0) requests b.2 in
+    let d = bind_ok (error_if (nat_lt max_frame (room_of_answers b.0.0)) error.AnswersTooLong) (λ fitting. Ok b.0.0) requests c.2 in
     let head = head_takes bytes a.0 fits a.1 in
     let t = requests_take a.0.0 a.0.1 b.0 head.fits b.1 in
     let nothing : b.0.1 ≡ [] = nil_from_length b.0.1 (eqb-true (length b.0.1) 0 (not_false (eqb (length b.0.1) 0) (passes (not (eqb (length b.0.1) 0)) error.Surplus c.0 c.1))) in
@@ -103,12 +103,12 @@ head_again count items small few =
     let same : not (eqb size (length bytes)) ≡ false = true_not (eqb size (length bytes)) (eq-eqb size (length bytes) (sym (length-said size count items))) in
     let within : nat_lt max_frame size ≡ false = le-ltb max_frame size small in
     let sized : is_length_refused size bytes ≡ false = rw (same, within) refl in
-    bind-ok (field_in w32 bytes) (λ size. refused_if (is_length_refused size.0 bytes) error.BadLength >>= λ sized. field_in w16 size.1 >>= λ version. refused_if (not (eqb version.0 frame_version)) error.BadVersion >>= λ known. field_in w16 version.1 >>= λ kind. refused_if (not (eqb kind.0 requests_kind)) error.BadKind >>= λ asking. field_in w32 kind.1) (size, version_on)
+    bind-ok (field_in w32 bytes) (λ size. error_if (is_length_refused size.0 bytes) error.BadLength >>= λ sized. field_in w16 size.1 >>= λ version. error_if (not (eqb version.0 frame_version)) error.BadVersion >>= λ known. field_in w16 version.1 >>= λ kind. error_if (not (eqb kind.0 requests_kind)) error.BadKind >>= λ asking. field_in w32 kind.1) (size, version_on)
     (field_again w32 (2 ^ 32) wide32 size version_on (omega (arith, small)))
-    ∙ ap (λ (b : Bool). refused_if b error.BadLength >>= λ sized. field_in w16 version_on >>= λ version. refused_if (not (eqb version.0 frame_version)) error.BadVersion >>= λ known. field_in w16 version.1 >>= λ kind. refused_if (not (eqb kind.0 requests_kind)) error.BadKind >>= λ asking. field_in w32 kind.1) sized
-    ∙ bind-ok (field_in w16 version_on) (λ version. refused_if (not (eqb version.0 frame_version)) error.BadVersion >>= λ known. field_in w16 version.1 >>= λ kind. refused_if (not (eqb kind.0 requests_kind)) error.BadKind >>= λ asking. field_in w32 kind.1) (frame_version, kind_on)
+    ∙ ap (λ (b : Bool). error_if b error.BadLength >>= λ sized. field_in w16 version_on >>= λ version. error_if (not (eqb version.0 frame_version)) error.BadVersion >>= λ known. field_in w16 version.1 >>= λ kind. error_if (not (eqb kind.0 requests_kind)) error.BadKind >>= λ asking. field_in w32 kind.1) sized
+    ∙ bind-ok (field_in w16 version_on) (λ version. error_if (not (eqb version.0 frame_version)) error.BadVersion >>= λ known. field_in w16 version.1 >>= λ kind. error_if (not (eqb kind.0 requests_kind)) error.BadKind >>= λ asking. field_in w32 kind.1) (frame_version, kind_on)
     (field_again w16 (2 ^ 16) wide16 frame_version kind_on (omega arith))
-    ∙ bind-ok (field_in w16 kind_on) (λ kind. refused_if (not (eqb kind.0 requests_kind)) error.BadKind >>= λ asking. field_in w32 kind.1) (requests_kind, count_on)
+    ∙ bind-ok (field_in w16 kind_on) (λ kind. error_if (not (eqb kind.0 requests_kind)) error.BadKind >>= λ asking. field_in w32 kind.1) (requests_kind, count_on)
     (field_again w16 (2 ^ 16) wide16 requests_kind count_on (omega arith))
     ∙ field_again w32 (2 ^ 32) wide32 count items few
 
@@ -127,10 +127,10 @@ frame_again requests allowed =
     let answers = allowed.answers in
     let all : requests_in (length requests) (bytes_of_all requests) ≡ Ok (requests, []) = ap (requests_in (length requests)) (sym (append-nil (bytes_of_all requests))) ∙ requests_again requests [] allowed.each in
     let within : nat_lt max_frame (room_of_answers requests) ≡ false = le-ltb max_frame (room_of_answers requests) answers in
-    bind-ok (head_in (bytes_of_requests requests)) (λ head. requests_in head.0 head.1 >>= λ found. refused_if (not (eqb (length found.1) 0)) error.Surplus >>= λ ended. refused_if (nat_lt max_frame (room_of_answers found.0)) error.AnswersTooLong >>= λ fitting. Ok found.0) (length requests, bytes_of_all requests)
+    bind-ok (head_in (bytes_of_requests requests)) (λ head. requests_in head.0 head.1 >>= λ found. error_if (not (eqb (length found.1) 0)) error.Surplus >>= λ ended. error_if (nat_lt max_frame (room_of_answers found.0)) error.AnswersTooLong >>= λ fitting. Ok found.0) (length requests, bytes_of_all requests)
     (head_again (length requests) (bytes_of_all requests) small (omega (arith, small, few_requests requests)))
-    ∙ bind-ok (requests_in (length requests) (bytes_of_all requests)) (λ found. refused_if (not (eqb (length found.1) 0)) error.Surplus >>= λ ended. refused_if (nat_lt max_frame (room_of_answers found.0)) error.AnswersTooLong >>= λ fitting. Ok found.0) (requests, []) all
-    ∙ ap (λ (b : Bool). refused_if b error.AnswersTooLong >>= λ fitting. Ok requests) within
+    ∙ bind-ok (requests_in (length requests) (bytes_of_all requests)) (λ found. error_if (not (eqb (length found.1) 0)) error.Surplus >>= λ ended. error_if (nat_lt max_frame (room_of_answers found.0)) error.AnswersTooLong >>= λ fitting. Ok found.0) (requests, []) all
+    ∙ ap (λ (b : Bool). error_if b error.AnswersTooLong >>= λ fitting. Ok requests) within
 
 -- so bytes are the frame of one list of requests at most
 pub frames_agree : (bytes : List ℕ) (requests others : List Request) → IsFrameOf bytes requests → IsFrameOf bytes others → requests ≡ others

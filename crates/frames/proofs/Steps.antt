@@ -1,6 +1,6 @@
 -- Steps of reading, each of which gives a value or an error.
 use Rattle.std.proofs.Common.{◌≡◌, Bool, true, false, Option, Some, None, Result, Ok, Err, refl, ap}
-use Rattle.frames.specs.Reading.{◌>>=◌, or_error, refused_if}
+use Rattle.frames.specs.Reading.{◌>>=◌, error_if, or_error}
 use Rattle.frames.specs.declared.error.FrameError.{FrameError}
 
 -- the value of a step that did not fail
@@ -24,6 +24,6 @@ there e (Some y) x h = cc
 there e None x h = absurd cc
 
 -- a test that did not refuse
-pub passes : (b : Bool) (e : FrameError) (x : Unit {0}) → refused_if b e ≡ Ok x → b ≡ false
+pub passes : (b : Bool) (e : FrameError) (x : Unit {0}) → error_if b e ≡ Ok x → b ≡ false
 passes true e x h = absurd cc
 passes false e x h = refl

@@ -40,9 +40,9 @@ unfoldable pub field_in : Width → List ℕ → Result (ℕ × List ℕ) FrameE
 field_in w bytes = or_error error.CutOff (number_in w bytes)
 
 -- a byte,
-abbrev pub byte_in : List ℕ → Result (ℕ × List ℕ) FrameError
-byte_in [] = Err error.CutOff
-byte_in (b ∷ bytes) = Ok (b, bytes)
+abbrev pub one_byte_in : List ℕ → Result (ℕ × List ℕ) FrameError
+one_byte_in [] = Err error.CutOff
+one_byte_in (b ∷ bytes) = Ok (b, bytes)
 
 -- a log record,
 unfoldable pub log_record_in : List ℕ → Result (Record × List ℕ) FrameError
@@ -103,7 +103,7 @@ call_in number bytes =
 unfoldable pub request_in : List ℕ → Result (Request × List ℕ) FrameError
 request_in bytes = do
   number ← field_in w64 bytes
-  tag ← byte_in number.1
+  tag ← one_byte_in number.1
   asked ← call_in tag.0 tag.1
   Ok (record { number = number.0; call = asked.0 }, asked.1)
 
@@ -116,8 +116,8 @@ requests_in (suc n) bytes = do
   Ok (first.0 ∷ others.0, others.1)
 
 -- nothing, unless a test refuses it
-abbrev pub refused_if : Bool → FrameError → Result (Unit {0}) FrameError
-refused_if b e = if b then Err e else Ok tt
+abbrev pub error_if : Bool → FrameError → Result (Unit {0}) FrameError
+error_if b e = if b then Err e else Ok tt
 
 -- whether a frame says another length than it has, or is too long
 abbrev pub is_length_refused : ℕ → List ℕ → Bool
@@ -127,11 +127,11 @@ is_length_refused said bytes = not (said == length bytes) || nat_lt max_frame sa
 unfoldable pub head_in : List ℕ → Result (ℕ × List ℕ) FrameError
 head_in bytes = do
   size ← field_in w32 bytes
-  sized ← refused_if (is_length_refused size.0 bytes) error.BadLength
+  sized ← error_if (is_length_refused size.0 bytes) error.BadLength
   version ← field_in w16 size.1
-  known ← refused_if (not (version.0 == frame_version)) error.BadVersion
+  known ← error_if (not (version.0 == frame_version)) error.BadVersion
   kind ← field_in w16 version.1
-  asking ← refused_if (not (kind.0 == requests_kind)) error.BadKind
+  asking ← error_if (not (kind.0 == requests_kind)) error.BadKind
   field_in w32 kind.1
 
 -- the requests of a frame
@@ -139,8 +139,8 @@ unfoldable pub frame_in : List ℕ → Result (List Request) FrameError
 frame_in bytes = do
   head ← head_in bytes
   requests ← requests_in head.0 head.1
-  ended ← refused_if (not (length requests.1 == 0)) error.Surplus
-  fitting ← refused_if (nat_lt max_frame (room_of_answers requests.0)) error.AnswersTooLong
+  ended ← error_if (not (length requests.1 == 0)) error.Surplus
+  fitting ← error_if (nat_lt max_frame (room_of_answers requests.0)) error.AnswersTooLong
   Ok requests.0
 
 -- these requests are what bytes are decoded as, unless memory runs out

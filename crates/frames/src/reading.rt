@@ -3,7 +3,7 @@
 ghost use Rattle.std.specs.Int.{w16, w32, w64};
 ghost use Rattle.frames.specs.declared.error.FrameError.TheVariants.{CutOff};
 ghost use Rattle.transactions.specs.Reading.{split_at};
-ghost use Rattle.frames.specs.Reading.{Gives, or_error, byte_in, call_in, durable_in, field_in, head_in, length_in, log_record_in, objects_in, read_in, request_in, requests_in, transact_durably_in, transact_in};
+ghost use Rattle.frames.specs.Reading.{Gives, or_error, one_byte_in, call_in, durable_in, field_in, head_in, length_in, log_record_in, objects_in, read_in, request_in, requests_in, transact_durably_in, transact_in};
 
 use crate::error::FrameError;
 use crate::limits::{FRAME_VERSION, MAX_FRAME, REQUESTS};
@@ -45,7 +45,7 @@ fn read_u64(bytes: &[u8]) -> Result<(u64, &[u8]), FrameError>
 }
 
 fn read_byte(bytes: &[u8]) -> Result<(u8, &[u8]), FrameError>
-    ensures { Gives (λ x. (x.0, x.1.now)) result (byte_in bytes.now) }
+    ensures { Gives (λ x. (x.0, x.1.now)) result (one_byte_in bytes.now) }
 {
     let [byte, rest @ ..] = bytes else {
         return Err(FrameError::CutOff);

@@ -22,7 +22,7 @@ use Rattle.pool_tables.specs.Told.{Leads, new_tree_of, state_with}
 use Rattle.pool_tables.specs.declared.pool.RunningSync.{RunningSync}
 use Rattle.pool_core.specs.Calls.{CallsDevice, WritesBlock, answer_in}
 use Rattle.pool_core.specs.KeptSafe.{KeepsSafe, disk_of, on_disk}
-use Rattle.pool_core.specs.LogSafe.{FlushesLog, KeepsSync, WritesLog}
+use Rattle.pool_core.specs.LogSafe.{FlushesLogOnDisk, KeepsSync, WritesLogOnDisk}
 use Rattle.pool_core.specs.States.{CountsRefused, KeepsTreeOf, refused_calls, shown, told}
 use Rattle.pool_core.specs.StepReplies.{StepReplies}
 use Rattle.pool_core.specs.Turns.{MakesStep, Turns}
@@ -99,7 +99,7 @@ module _ {Dev : Type 0} {G : Ghosts Dev} (old new : PoolState Dev G) (same : Kee
         let one = writes past in
         let is = told_past ⊥ [] step.LogWrite (logged answer) (state_with (told old) past) (state_with (told new) one.0) (answer, refl, one.1) in
         let later : Past = past_after step.LogWrite (logged answer) (state_with (told old) past) in
-        let made : WritesLog answer (on_disk old past) (on_disk new later) = record {
+        let made : WritesLogOnDisk answer (on_disk old past) (on_disk new later) = record {
           step = subst (λ (q : Past). steps.LogWrite answer (state_with (told old) past) (state_with (told new) q)) is one.1;
           wrote = wrote keeps;
           same = keeps_sync past later;
@@ -145,7 +145,7 @@ module _ {Dev : Type 0} {G : Ghosts Dev} (old new : PoolState Dev G) (same : Kee
         let one = flushes past in
         let is = told_past ⊥ [] step.LogFlush (flushed answer) (state_with (told old) past) (state_with (told new) one.0) (answer, refl, one.1) in
         let later : Past = past_after step.LogFlush (flushed answer) (state_with (told old) past) in
-        let done : FlushesLog answer (on_disk old past) (on_disk new later) = record {
+        let done : FlushesLogOnDisk answer (on_disk old past) (on_disk new later) = record {
           step = subst (λ (q : Past). steps.LogFlush answer (state_with (told old) past) (state_with (told new) q)) is one.1;
           flushed = made keeps;
           same = keeps_sync past later;

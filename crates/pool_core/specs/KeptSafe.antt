@@ -171,16 +171,16 @@ abbrev pub KeptPoolsAreLaid : Type 0
 KeptPoolsAreLaid = (x : OnDisk) → IsKeptSafe x → IsPoolDisk (disk_size x.disk) x.disk.now x.held.state.shown x.held.state.past
 
 -- a disk between the two, as a crash finds it that stops the calls that lead from the one to the other
-pub record IsStoppedIn (old ended new : Disk) : Type 0 where
+pub record IsStoppedBetween (old ended new : Disk) : Type 0 where
   pub rest : List Moment
   pub joined : new.now ∷ new.past ≡ rest ++ ended.now ∷ ended.past
   pub since : moments old ≤ moments ended
 
 -- so is a disk on which a crash stops a step, with all that was acknowledged before it
 abbrev pub StoppedStepsAreSafe : Type 0
-StoppedStepsAreSafe = (s : declared_step.Step) (r : declared_reply.Reply) (old new : OnDisk) (ended : Disk) → IsSafeStep s r old new → IsStoppedIn old.disk ended new.disk
+StoppedStepsAreSafe = (s : declared_step.Step) (r : declared_reply.Reply) (old new : OnDisk) (ended : Disk) → IsSafeStep s r old new → IsStoppedBetween old.disk ended new.disk
     → AreSafe ended (past_within old new)
 
 abbrev pub StoppedStepsLeaveTheirOwn : Type 0
-StoppedStepsLeaveTheirOwn = (s : declared_step.Step) (r : declared_reply.Reply) (old new : OnDisk) (ended : Disk) → IsKeptSafe old → IsSafeStep s r old new → IsStoppedIn old.disk ended new.disk
+StoppedStepsLeaveTheirOwn = (s : declared_step.Step) (r : declared_reply.Reply) (old new : OnDisk) (ended : Disk) → IsKeptSafe old → IsSafeStep s r old new → IsStoppedBetween old.disk ended new.disk
     → IsRunLeft ended (past_within old new) new.held.state.shown.guid

@@ -16,13 +16,13 @@ pub record KeepsSync (old new : OnDisk) : Type 0 where
   pub run : new.run ≡ old.run
 
 -- a write of the log, whatever it answers
-pub record WritesLog (answer : Result ℕ PoolError) (old new : OnDisk) : Type 0 where
+pub record WritesLogOnDisk (answer : Result ℕ PoolError) (old new : OnDisk) : Type 0 where
   pub step : LogWrite answer old.held.state new.held.state
   pub wrote : WritesLogBlock answer old.held.state.shown new.held.state.shown old.disk new.disk
   pub same : KeepsSync old new
 
 -- and a flush of it
-pub record FlushesLog (answer : Result (Unit {0}) PoolError) (old new : OnDisk) : Type 0 where
+pub record FlushesLogOnDisk (answer : Result (Unit {0}) PoolError) (old new : OnDisk) : Type 0 where
   pub step : LogFlush answer old.held.state new.held.state
   pub flushed : Flushes old.disk answer new.disk
   pub same : KeepsSync old new
@@ -34,7 +34,7 @@ pub record IsKeptSafely (old new : OnDisk) : Type 0 where
   pub own : WereOwn old new
 
 abbrev pub LogWritesAreSafe : Type 0
-LogWritesAreSafe = (answer : Result ℕ PoolError) (old new : OnDisk) → IsKeptSafe old → WritesLog answer old new → IsKeptSafely old new
+LogWritesAreSafe = (answer : Result ℕ PoolError) (old new : OnDisk) → IsKeptSafe old → WritesLogOnDisk answer old new → IsKeptSafely old new
 
 abbrev pub LogFlushesAreSafe : Type 0
-LogFlushesAreSafe = (answer : Result (Unit {0}) PoolError) (old new : OnDisk) → IsKeptSafe old → FlushesLog answer old new → IsKeptSafely old new
+LogFlushesAreSafe = (answer : Result (Unit {0}) PoolError) (old new : OnDisk) → IsKeptSafe old → FlushesLogOnDisk answer old new → IsKeptSafely old new

@@ -11,13 +11,13 @@ use Rattle.object_maps.specs.CachedDevices.{cache_of, device_in}
 use Rattle.pool_core.specs.declared.state.PoolState.{PoolState}
 use Rattle.pool_tables.specs.Told.{ShownPool, told_of}
 use Rattle.pool_tables.specs.declared.pool.PoolTables.{PoolTables}
-use Rattle.pool_tables.specs.Shows.{shown_objects, shown_of}
+use Rattle.pool_tables.specs.Shows.{pool_objects, shown_of}
 use Rattle.pool_tables.specs.KeptTrees.{IsOfNoDevice, KeepsTree}
 
 module _ {Dev : Type 0} {G : Ghosts Dev} where
   -- what is shown of it
   abbrev pub shown : PoolState Dev G → Shown
-  shown state = shown_of (shown_objects state.pool) state.pool
+  shown state = shown_of (pool_objects state.pool) state.pool
 
   -- its device, and the calls that the device refused
   abbrev pub device_of : PoolState Dev G → Dev
@@ -36,7 +36,7 @@ module _ {Dev : Type 0} {G : Ghosts Dev} where
 
   -- what is told of it over these bytes, and over those of its device
   abbrev pub told_over : PoolState Dev G → List ℕ → ShownPool
-  told_over state = told_of (shown_objects state.pool) state.pool
+  told_over state = told_of (pool_objects state.pool) state.pool
 
   abbrev pub told : PoolState Dev G → ShownPool
   told state = told_over state (bytes_of (G.disk (device_of state)).now)

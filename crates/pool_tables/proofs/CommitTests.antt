@@ -17,7 +17,7 @@ use Rattle.object_maps.specs.Judging.{JudgesOver}
 use Rattle.object_maps.specs.Ops.{AreOpsAllowed}
 use Rattle.pool_tables.specs.declared.pool.PoolTables.{PoolTables}
 use Rattle.pool_tables.specs.Entries.{FitsRecord}
-use Rattle.pool_tables.specs.Shows.{pool_shown, shown_objects}
+use Rattle.pool_tables.specs.Shows.{pool_objects, pool_shown}
 use Rattle.pool_tables.proofs.CommitSteps.{IsInPlan}
 use Rattle.pool_tables.proofs.Opens.{found_allowed, found_small}
 use Rattle.pool_tables.proofs.SamePlans.{allowed_ops}
@@ -51,5 +51,5 @@ module _ (tx : ℕ) (ops : List Op) (pool : PoolTables) (a : Admission) (found :
   }
 
 -- what is judged over the objects that a pool shows is judged on its contents
-pub judged : (ops : List Op) (pool : PoolTables) (answer : Result (Unit {0}) PoolError) {objects : FinMap nat_cmp (List ℕ)} → objects ≡ shown_objects pool → JudgesOver ops objects answer → Judges ops (pool_shown pool).contents answer
+pub judged : (ops : List Op) (pool : PoolTables) (answer : Result (Unit {0}) PoolError) {objects : FinMap nat_cmp (List ℕ)} → objects ≡ pool_objects pool → JudgesOver ops objects answer → Judges ops (pool_shown pool).contents answer
 judged ops pool answer are told = subst (λ (o : FinMap nat_cmp (List ℕ)). JudgesOver ops o answer) are told (name_over pool.changes pool.synced.name)

@@ -18,7 +18,7 @@ use Rattle.pool_tables.specs.Entries.{shown_after_entry}
 use Rattle.pool_tables.specs.Meets.{MayCommit, MeetsExplained}
 use Rattle.pool_tables.specs.Unsynced.{AreChangesOfUnsynced, AreNamesOfUnsynced}
 use Rattle.transactions.specs.Records.{record_fields}
-use Rattle.pool_tables.specs.Shows.{pool_shown, shown_contents, shown_objects}
+use Rattle.pool_tables.specs.Shows.{pool_objects, pool_shown, shown_contents}
 use Rattle.pool_tables.proofs.ReadContents.{named_as_explained, read_as_explained}
 
 -- A commit of operations that no test refuses, as the definitions have it.
@@ -46,7 +46,7 @@ entered tx ops group s may bytes pool is past explained =
     let synced = ap (λ (u : Shown). u.line.synced) is in
     let changes : AreChangesOfUnsynced mid.shown.line.synced pool.log.records pool.changes = subst (λ (g : ℕ). AreChangesOfUnsynced g pool.log.records pool.changes) synced pool.unsynced_kept.changed in
     let names : AreNamesOfUnsynced mid.shown.line.synced pool.log.records pool.changes = subst (λ (g : ℕ). AreNamesOfUnsynced g pool.log.records pool.changes) synced pool.unsynced_kept.named in
-    let objects : shown_objects pool ≡ may.after.objects = ap (λ (u : Shown). laid_all pool.changes u.synced_contents.objects) is
+    let objects : pool_objects pool ≡ may.after.objects = ap (λ (u : Shown). laid_all pool.changes u.synced_contents.objects) is
     ∙ read_as_explained mid.shown mid.past x pool.log.records log pool.changes changes in
     let name : name_over pool.changes pool.synced.name ≡ may.after.name = ap (λ (u : Shown). name_over pool.changes u.synced_contents.name) is
     ∙ named_as_explained mid.shown mid.past x pool.log.records log pool.changes changes names in

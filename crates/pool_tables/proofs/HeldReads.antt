@@ -24,7 +24,7 @@ use Rattle.object_reads.proofs.SyncedObjects.{bytes_there}
 use Rattle.object_reads.specs.ShownTrees.{IsRangeRefusal, IsRangeRefusalOnTree, StandsOn}
 use Rattle.pool_tables.specs.declared.pool.PoolTables.{PoolTables}
 use Rattle.pool_tables.specs.GroupPlans.{HoldsSyncedTree}
-use Rattle.pool_tables.specs.Shows.{pool_shown, shown_objects}
+use Rattle.pool_tables.specs.Shows.{pool_objects, pool_shown}
 use Rattle.pool_tables.specs.Told.{held_with, pool_told}
 use Rattle.pool_tables.proofs.ReadSteps.{absent, is_unreadable}
 use Rattle.pool_tables.proofs.syncs.PlannedGroups.{synced_tree}
@@ -107,7 +107,7 @@ tree_held now past p x = record {
 -- what a pool hands its reads
 module _ (p : PoolTables) (t : ShownTree) (framed : t.frame ≡ frame_at (pool_shown p) (pool_shown p).line.synced) (tree : t.tree.now ≡ p.tree) (contents : t.contents.now ≡ p.synced)
     (changes : t.changes.now ≡ p.changes) where
-  pub objects_are : reads.shown_objects t ≡ shown_objects p
+  pub objects_are : reads.shown_objects t ≡ pool_objects p
   objects_are = rw (contents, changes) refl
 
   pub tree_fits : IsGeometry p.geometry → (size : ℕ) → size ≡ p.geometry → block_address t.frame.blocks ≤ size

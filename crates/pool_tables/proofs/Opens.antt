@@ -1,5 +1,5 @@
 -- The open transaction of a name.
-use Rattle.std.proofs.Common.{ℕ, suc, ◌≡◌, ◌<◌, ◌≤◌, ◌^◌, Bool, true, false, cond, List, [], ◌∷◌, nat_lt, refl, sym, subst, ap, ◌∙◌, arith}
+use Rattle.std.proofs.Common.{ℕ, suc, ◌≡◌, ◌<◌, ◌≤◌, Bool, true, false, cond, List, [], ◌∷◌, nat_lt, refl, sym, subst, ap, ◌∙◌, arith}
 use Rattle.std.specs.Prelude.{Some, All, ◌==◌, slice_get}
 use Rattle.std.specs.List.{find}
 use Rattle.std.proofs.lemmas.Bool.{eqb-true}
@@ -37,8 +37,8 @@ module _ (tx : ℕ) (ts : List Admission) (a : Admission) (found : find (λ (x :
   pub found_index : (i : ℕ) × (slice_get ts i ≡ Some a)
   found_index = (_, sym (find_at (λ (x : Admission). x.tx == tx) ts) ∙ found)
 
-pub above_last : (n : ℕ) → 2 ^ 60 < n → nat_lt last_number n ≡ true
+pub above_last : (n : ℕ) → last_number < n → nat_lt last_number n ≡ true
 above_last n h = grind (arith, nat_tests)
 
-pub up_to_last : (n : ℕ) → n ≤ 2 ^ 60 → nat_lt last_number n ≡ false
+pub up_to_last : (n : ℕ) → n ≤ last_number → nat_lt last_number n ≡ false
 up_to_last n h = grind (arith, nat_tests)

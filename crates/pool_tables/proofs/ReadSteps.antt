@@ -1,16 +1,27 @@
 -- When a read is refused by no test, and why it is by one.
-use Rattle.std.proofs.Common.{ℕ, ◌≡◌, ◌∙◌, Bool, true, false, ◌||◌, List, not, nat_le, ap, refl, sym}
-use Rattle.std.proofs.lemmas.Bool.{false≢true, true≢false}
+use Rattle.std.proofs.Common.{ℕ, ◌≡◌, ◌<◌, ◌≤◌, ◌∙◌, Bool, true, false, ◌&&◌, ◌||◌, ◌⊎◌, inl, inr, List, not, nat_le, nat_lt, ap, refl, sym}
+use Rattle.std.proofs.lemmas.Bool.{cases_lt, false≢true, le-leb, le-ltb, lt-leb, lt-ltb, true≢false}
 use Rattle.std.specs.Prelude.{Option, Some, None, is_some, length, option_map}
 use Rattle.std.specs.FinMap as finite
+use Rattle.base.specs.declared.range.Range.{Range}
 use Rattle.base.specs.formats.Limits.{object_count}
 use Rattle.base.specs.steps.Locks.{is_range_allowed, is_covered}
 use Rattle.base.specs.history.Plans.{NumberRange}
-use Rattle.base.specs.steps.Refusals.{read_refusal}
+use Rattle.base.specs.steps.Refusals.{object_range, read_refusal}
 use Rattle.base.specs.steps.Shown.{Shown}
+use Rattle.import_replay.specs.Views.{is_readable}
 
 abbrev pub is_unreadable : NumberRange → Bool
 is_unreadable t = nat_le object_count t.number || not (is_range_allowed t.low t.high)
+
+-- it is the test of a range that may be read, turned about
+pub is_readable-not : (number : ℕ) (range : Range) → is_readable number range ≡ not (is_unreadable (object_range number range.low range.high))
+is_readable-not number range = go (cases_lt number object_count) (is_range_allowed range.low range.high)
+  where
+    go : (number < object_count) ⊎ (object_count ≤ number) → (allowed : Bool) → (nat_lt number object_count && allowed) ≡ not (nat_le object_count number || not allowed)
+    go (inl below) true = rw (lt-ltb number object_count below, lt-leb object_count number below) refl
+    go (inl below) false = rw (lt-ltb number object_count below, lt-leb object_count number below) refl
+    go (inr above) allowed = rw (le-ltb number object_count above, le-leb object_count number above) refl
 
 -- the object of the number, where there is one
 abbrev object_at : NumberRange → Shown → Option (List ℕ)

@@ -25,8 +25,8 @@ use Rattle.throttle.specs.Blocks.{blocks_of}
 abbrev pub geometry_of : PoolTables → ℕ
 geometry_of p = p.geometry
 
-abbrev pub tree_of : PoolTables → Tree
-tree_of p = p.tree
+abbrev pub pool_tree : PoolTables → Tree
+pool_tree p = p.tree
 
 abbrev pub sync_of : PoolTables → Option RunningSync
 sync_of p = p.sync
@@ -91,15 +91,15 @@ shown_of objects p = record {
 }
 
 -- the objects that a pool shows are those of its synced tree with the changes of its unsynced groups laid over
-abbrev pub shown_objects : PoolTables → FinMap nat_cmp (List ℕ)
-shown_objects p = laid_all p.changes (synced_of p).objects
+abbrev pub pool_objects : PoolTables → FinMap nat_cmp (List ℕ)
+pool_objects p = laid_all p.changes (synced_of p).objects
 
 -- with the name that its newest unsynced group gives that gives one, else the synced one
 abbrev pub shown_contents : PoolTables → Contents
-shown_contents p = record { name = name_over p.changes p.synced.name; objects = shown_objects p }
+shown_contents p = record { name = name_over p.changes p.synced.name; objects = pool_objects p }
 
 abbrev pub pool_shown : PoolTables → Shown
-pool_shown p = shown_of (shown_objects p) p
+pool_shown p = shown_of (pool_objects p) p
 
 -- what is shown once the tree of a synced group, which was this one before it, is the pool's
 abbrev pub shown_after_tree : RunningSync → Tree → Shown → Shown

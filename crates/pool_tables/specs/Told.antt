@@ -23,7 +23,7 @@ use Rattle.pool_tables.specs.declared.pool.RunningSync.{RunningSync}
 use Rattle.pool_tables.specs.declared.pool.Progress.{Progress}
 use Rattle.group_plans.specs.Pointers.{pointers_after}
 use Rattle.pool_tables.specs.Progresses.{plain_progress}
-use Rattle.pool_tables.specs.Shows.{shown_objects, shown_of}
+use Rattle.pool_tables.specs.Shows.{pool_objects, shown_of}
 
 -- what is shown of a pool, the bytes of its device, the pointers of its tree, and what its running sync makes
 pub record ShownPool : Type 0 where
@@ -54,7 +54,7 @@ told_of objects p now = record { shown = shown_of objects p; now = now; pointers
 
 -- with the objects that it shows
 abbrev pub pool_told : PoolTables → List ℕ → ShownPool
-pool_told p = told_of (shown_objects p) p
+pool_told p = told_of (pool_objects p) p
 
 -- what is told, with a past
 abbrev pub held_with : ShownPool → Past → Held

@@ -53,11 +53,11 @@ ghost use Rattle.intent_log.specs.RunLogs.{IsLogOf, KeepsHeader};
 ghost use Rattle.throttle.specs.DirtyBytes.{total_of};
 ghost use Rattle.group_plans.specs.Areas.{AreBlocksOf, is_block_of};
 ghost use Rattle.group_plans.specs.Pointers.{pointers_after};
+ghost use Rattle.import_replay.specs.Views.{is_readable};
 ghost use Rattle.pool_tables.specs.Accounts.{AreAccounted, IsFreeSetOf};
 ghost use Rattle.pool_tables.specs.Unsynced.{KeepsUnsynced};
 ghost use Rattle.pool_tables.specs.Running.{IsRunning};
 ghost use Rattle.pool_tables.specs.RunningUberblocks.{uberblock_with};
-ghost use Rattle.pool_tables.specs.Targets.{is_readable};
 
 mod commits;
 mod duties;
@@ -193,7 +193,7 @@ impl PoolTables {
     ghost use Rattle.range_locks.specs.Locks.{grant_of, is_blocked_by_own};
     ghost use Rattle.range_locks.specs.Pieces.{pieces_of};
     ghost use Rattle.pool_tables.specs.Meets.{FindsLength, RefusesIf};
-    ghost use Rattle.pool_tables.specs.Shows.{geometry_of, pool_shown, shown_objects, sync_of, tree_of};
+    ghost use Rattle.pool_tables.specs.Shows.{geometry_of, pool_objects, pool_shown, pool_tree, sync_of};
     ghost use Rattle.pool_tables.specs.KeptTrees.{KeepsTree};
     ghost use Rattle.pool_tables.specs.StepAnswers.{Locks, LocksAppend, Reads, TellsDigest, TellsLength, Unlocks};
     ghost use Rattle.base.specs.disk.Disk.{bytes_of};
@@ -207,7 +207,7 @@ impl PoolTables {
         requires { AreWithin (contents_of mounted.contents).objects }
         ensures geometry { geometry_of result ≡ mounted.geometry }
         ensures shown { pool_shown result ≡ shown_of_import mounted }
-        ensures tree { tree_of result ≡ mounted.tree }
+        ensures tree { pool_tree result ≡ mounted.tree }
         ensures idle { sync_of result ≡ None }
     {
         let Mounted {
@@ -259,7 +259,7 @@ impl PoolTables {
 
     // The objects as the last commit left them.
     fn objects<'a>(&'a self) -> Objects<'a>
-        ensures { ⟦<Objects<'a> as ObjectSource>⟧.objects result ≡ shown_objects self.now }
+        ensures { ⟦<Objects<'a> as ObjectSource>⟧.objects result ≡ pool_objects self.now }
     {
         self.changes.over(&self.synced)
     }

@@ -21,7 +21,7 @@ use Rattle.pool_core.specs.declared.state.PoolState.{PoolState}
 use Rattle.pool_core.specs.NewStates.{IsExplainedAtFirst, IsHeldAtFirst, first_past}
 use Rattle.pool_core.specs.States.{device_of, shown, told}
 use Rattle.pool_threads.proofs.Notes.{viewed_state-view_of}
-use Rattle.pool_threads.specs.Handles.{IsReadyBehind, OpensBehind, ShowsMounted, StartsBehind}
+use Rattle.pool_threads.specs.Handles.{IsReadyToOpen, OpensBehind, ShowsMounted, StartsBehind}
 use Rattle.pool_threads.specs.Views.{CrashRule, Explains, SeenPool, view_behind_disk, view_of, viewed_state}
 use Rattle.pool_threads.specs.Views.CrashRule.{Behind, NotFollowed}
 use Rattle.base.specs.crash.LeftDisks.{IsLeft}
@@ -95,7 +95,7 @@ module _ {Dev : Type 0} {G : Ghosts Dev} (old : Disk) (m : Mounted) (p : PoolSta
 
   -- so it is ready to be opened
   pub ready_behind : (d : Dev) → device_of p ≡ d → (IsTrue G.keeps_model → disk_size (disk_of p) ≡ m.geometry) → BeginsSafe p → ∥ IsExplainedAtFirst (shown p) ∥₁ → ∥ (IsTrue G.keeps_model → IsHeldAtFirst (told p)) ∥₁
-      → IsReadyBehind old m d p
+      → IsReadyToOpen old m d p
   ready_behind d device sized begins explained held = record {
     explains = explained_behind sized begins explained held;
     opens = opens;

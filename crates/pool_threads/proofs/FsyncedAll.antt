@@ -18,7 +18,7 @@ use Rattle.pool_threads.specs.Answers.{Sees, state_seen}
 use Rattle.pool_threads.specs.Handles.{moment_of, turns_of, view_seen}
 use Rattle.pool_threads.specs.Serves.{MakesDue, due_of}
 use Rattle.pool_threads.specs.Views.{GrowsTo, SeenPool, grows_onward, viewed_state}
-use Rattle.pool_threads.specs.Waits.{AreDurable, EndsFsync, IsFsyncAllRefusal, IsLogOutcome, IsSyncingRefusal, LeavesAllDurable, NeedsSync, SyncsPool, SyncsUpTo, WritesLog, result_of}
+use Rattle.pool_threads.specs.Waits.{AreDurable, EndsFsync, IsFsyncAllRefusal, IsLogOutcome, IsSyncingRefusal, LeavesAllDurable, NeedsSync, SyncsPool, SyncsUpTo, WritesLogInTurn, result_of}
 use Rattle.pool_threads.proofs.DurableLogs.{all_durable, settled, settled_after}
 use Rattle.pool_threads.proofs.Served.{grows_by_due, last_made, refused_due}
 use Rattle.pool_threads.proofs.WaitsSeen.{syncs_without_log}
@@ -57,7 +57,7 @@ module _ (keeps : Type 0) (took left : SeenPool) (sound : IsSound left) where
       ∥∥₁_map {B = AreDurable (viewed_state took) (viewed_state left)} sound (λ x. durable_before (viewed_state took) (viewed_state left) onward
       (all_durable (viewed_state left) x (settled_after l.step (viewed_state l.at) (viewed_state left) l.due one)))))
 
-module _ {Dev : Type 0} {G : Ghosts Dev} (old wrote new : Handle Dev G) (r : Option declared_reply.Reply) (writes : WritesLog r old wrote) where
+module _ {Dev : Type 0} {G : Ghosts Dev} (old wrote new : Handle Dev G) (r : Option declared_reply.Reply) (writes : WritesLogInTurn r old wrote) where
   abbrev took : SeenPool
   took = writes.made.took
 

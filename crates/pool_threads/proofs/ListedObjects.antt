@@ -13,7 +13,7 @@ use Rattle.base.specs.steps.Refusals.{first_refusal, refused_if}
 use Rattle.base.specs.steps.Shown.{Shown}
 use Rattle.base.specs.steps.Steps.{Answers, Never, State}
 use Rattle.pool_tables.specs.StepAnswers.{TellsLength}
-use Rattle.pool_threads.specs.Objects.{object_at, objects_from, objects_of}
+use Rattle.pool_threads.specs.Objects.{object_at, objects_among, objects_from}
 use Rattle.pool_threads.specs.Views.{blank_view}
 
 pub below_most : (n m k : ℕ) → k ≡ n → n ≤ m → k ≢ m → n < m
@@ -27,7 +27,7 @@ below_most n m k same few other = go (nat_le m n) refl
 next_object : (n : ℕ) (c : Contents) → n < object_count → objects_from n c ≡ object_at n (length_of c n) ++ objects_from (n + 1) c
 next_object n c low =
     let same : object_count - n ≡ suc (object_count - (n + 1)) = omega arith in
-    ap (λ k. objects_of c (range_with_len n k)) same
+    ap (λ k. objects_among c (range_with_len n k)) same
 
 -- So far these are listed, and then the rest of the first ones.
 abbrev pub IsListedTo : ℕ → ℕ → Contents → List (ObjectId × ℕ) → ℕ → Type 0

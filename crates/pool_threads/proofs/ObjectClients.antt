@@ -7,11 +7,11 @@ use Rattle.base.specs.declared.names.ObjectId.{ObjectId}
 use Rattle.base.specs.formats.Limits.{object_count}
 use Rattle.base.specs.history.Contents.{Contents, length_of}
 use Rattle.base.proofs.common.KeptLists.{Some-injective, at_take, none_at}
-use Rattle.pool_threads.specs.Objects.{object_at, objects_from, objects_of}
+use Rattle.pool_threads.specs.Objects.{object_at, objects_among, objects_from}
 
 module _ (c : Contents) where
   abbrev among : ℕ → ℕ → List (ObjectId × ℕ)
-  among from k = objects_of c (range_with_len from k)
+  among from k = objects_among c (range_with_len from k)
 
   -- the object is there, with this length, and its number is no lower
   abbrev IsThere : ℕ → ObjectId × ℕ → Type 0

@@ -27,7 +27,7 @@ use Rattle.pool_threads.specs.declared.handle.Handle.{Handle}
 use Rattle.pool_threads.specs.Answers.{WaitsWhileNot}
 use Rattle.pool_threads.specs.Fetches.{Fetches, ReadsUnderLock, WaitsToRead}
 use Rattle.pool_threads.specs.Handles.{moment_of, turns_of, view_seen}
-use Rattle.pool_threads.specs.Transacts.{IsEarlierTurn, IsPayingTurn, IsRetried, TransactsOrLacks, is_in_vain, plan_of}
+use Rattle.pool_threads.specs.Transacts.{IsEarlierTurn, IsPayingTurn, IsRetried, TransactsOrLacks, is_in_vain, plan_of_ops}
 use Rattle.pool_threads.specs.Vain.{IsInOwnWay, IsThrottledInVain}
 use Rattle.pool_threads.specs.Views.{SeenPool, viewed_state}
 use Rattle.range_locks.specs.Locks.{blocks_own, is_blocked_by_own}
@@ -162,7 +162,7 @@ module _ {Dev : Type 0} {G : Ghosts Dev} (owner : Owner) (old new : Handle Dev G
   module _ (ops : List Op) where
     abbrev pub EndsNoOwnWait : Turn SeenPool → Type 0
     EndsNoOwnWait t = IsPayingTurn (IsTrue G.keeps_model) (moment_of old) t
-        ⊎ (((i : ℕ) (g : Grant) → slice_get (viewed_state t.left).shown.locks i ≡ Some g → g.owner ≡ owner.0 → All (λ (r : ObjectRange). overlaps g.range (number_range r) ≡ false) (lock_ranges (plan_of ops))) ⊎ LeavesNoneOpen t)
+        ⊎ (((i : ℕ) (g : Grant) → slice_get (viewed_state t.left).shown.locks i ≡ Some g → g.owner ≡ owner.0 → All (λ (r : ObjectRange). overlaps g.range (number_range r) ≡ false) (lock_ranges (plan_of_ops ops))) ⊎ LeavesNoneOpen t)
 
     none_in_way : (s : Shown) (ranges : List ObjectRange) → list_any (λ (r : ObjectRange). is_blocked_by_own owner.0 (number_range r) Writer s.locks) ranges ≡ false
         → (i : ℕ) (g : Grant) → slice_get s.locks i ≡ Some g → g.owner ≡ owner.0 → All (λ (r : ObjectRange). overlaps g.range (number_range r) ≡ false) ranges
@@ -175,22 +175,22 @@ module _ {Dev : Type 0} {G : Ghosts Dev} (owner : Owner) (old new : Handle Dev G
     retried_ways [] e want = inr want
     retried_ways (r ∷ rs) e want = want
 
-    earlier_turn : (t : Turn SeenPool) → IsEarlierTurn (IsTrue G.keeps_model) (moment_of old) owner (lock_ranges (plan_of ops)) (plan_of ops) ops t → EndsNoOwnWait t
+    earlier_turn : (t : Turn SeenPool) → IsEarlierTurn (IsTrue G.keeps_model) (moment_of old) owner (lock_ranges (plan_of_ops ops)) (plan_of_ops ops) ops t → EndsNoOwnWait t
     earlier_turn t (inr paid) = inl paid
-    earlier_turn t (inl (e, (retried, may), made)) = inr (by (retried_ways (lock_ranges (plan_of ops)) e retried))
+    earlier_turn t (inl (e, (retried, may), made)) = inr (by (retried_ways (lock_ranges (plan_of_ops ops)) e retried))
       where
-        is_so : (f : PoolError) → e ≡ f → is_in_vain owner (lock_ranges (plan_of ops)) (plan_of ops) f (viewed_state t.left).shown ≡ false
-        is_so f is = ap (λ (x : PoolError). is_in_vain owner (lock_ranges (plan_of ops)) (plan_of ops) x (viewed_state t.left).shown) (sym is) ∙ may
+        is_so : (f : PoolError) → e ≡ f → is_in_vain owner (lock_ranges (plan_of_ops ops)) (plan_of_ops ops) f (viewed_state t.left).shown ≡ false
+        is_so f is = ap (λ (x : PoolError). is_in_vain owner (lock_ranges (plan_of_ops ops)) (plan_of_ops ops) x (viewed_state t.left).shown) (sym is) ∙ may
 
         by : (e ≡ error.Busy) ⊎ ((e ≡ error.Throttled) ⊎ (e ≡ error.NoSpace))
-            → ((i : ℕ) (g : Grant) → slice_get (viewed_state t.left).shown.locks i ≡ Some g → g.owner ≡ owner.0 → All (λ (r : ObjectRange). overlaps g.range (number_range r) ≡ false) (lock_ranges (plan_of ops))) ⊎ LeavesNoneOpen t
-        by (inl busy) = inl (none_in_way (viewed_state t.left).shown (lock_ranges (plan_of ops)) (is_so error.Busy busy))
-        by (inr (inl throttled)) = inr (none_open owner.0 (viewed_state t.left).shown.transactions (or_parts (is_above_limit (plan_of ops) (viewed_state t.left).shown) (has_one_open owner.0 (viewed_state t.left).shown.transactions) (is_so error.Throttled throttled)).1)
+            → ((i : ℕ) (g : Grant) → slice_get (viewed_state t.left).shown.locks i ≡ Some g → g.owner ≡ owner.0 → All (λ (r : ObjectRange). overlaps g.range (number_range r) ≡ false) (lock_ranges (plan_of_ops ops))) ⊎ LeavesNoneOpen t
+        by (inl busy) = inl (none_in_way (viewed_state t.left).shown (lock_ranges (plan_of_ops ops)) (is_so error.Busy busy))
+        by (inr (inl throttled)) = inr (none_open owner.0 (viewed_state t.left).shown.transactions (or_parts (is_above_limit (plan_of_ops ops) (viewed_state t.left).shown) (has_one_open owner.0 (viewed_state t.left).shown.transactions) (is_so error.Throttled throttled)).1)
         by (inr (inr short)) = inr (none_open owner.0 (viewed_state t.left).shown.transactions (or_parts (dirty_total (viewed_state t.left).shown == 0) (has_one_open owner.0 (viewed_state t.left).shown.transactions) (is_so error.NoSpace short)).1)
 
     pub transact_waits : (result : Result Receipt PoolError) → TransactsOrLacks owner ops result old new
         → IfOk result (λ r. (tries : List (Turn SeenPool)) × (took : SeenPool) × (turns_of new ≡ (turns_of old ++ tries) ++ turn took (view_seen new) ∷ []) × All EndsNoOwnWait tries)
-    transact_waits (Ok r) (inl u) = (u.made.had, u.made.took, u.made.turn, All-weaker (IsEarlierTurn (IsTrue G.keeps_model) (moment_of old) owner (lock_ranges (plan_of ops)) (plan_of ops) ops) EndsNoOwnWait earlier_turn u.made.had u.made.each)
+    transact_waits (Ok r) (inl u) = (u.made.had, u.made.took, u.made.turn, All-weaker (IsEarlierTurn (IsTrue G.keeps_model) (moment_of old) owner (lock_ranges (plan_of_ops ops)) (plan_of_ops ops) ops) EndsNoOwnWait earlier_turn u.made.had u.made.each)
     transact_waits (Ok r) (inr (lacks, same)) = absurd (let no_way : Ok r ≡ Err error.NoMemory = lacks in cc)
     transact_waits (Err e) t = tt
 

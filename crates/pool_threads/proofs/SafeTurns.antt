@@ -8,7 +8,7 @@ use Rattle.base.specs.disk.Disk.{Disk}
 use Rattle.base.specs.history.Past.{Past}
 use Rattle.base.specs.steps.Explains.{Explains, WereSafe}
 use Rattle.base.specs.steps.Steps.{State}
-use Rattle.pool_core.specs.KeptSafe.{IsStoppedIn, past_within}
+use Rattle.pool_core.specs.KeptSafe.{IsStoppedBetween, past_within}
 use Rattle.pool_core.proofs.crash.ExplainedPools.{kept_explained}
 use Rattle.pool_core.proofs.crash.StoppedSteps.{stopped_own}
 use Rattle.pool_threads.specs.Views.{IsFollowed, IsPoolStep, IsSafeBetween, SeenPool, WereSafeBetween, past_between, since, viewed_state}
@@ -36,10 +36,10 @@ module _ (s : declared_step.Step) (r : declared_reply.Reply) (created : ℕ) (v 
       subst (λ (d : Disk). Explains (Unit {0}) d (viewed_state w).shown (since created w.past)) x.disk_after
       (subst (λ (a : State). Explains (Unit {0}) x.after.disk a.shown a.past) x.state_after (kept_explained x.after x.made.kept))
 
-  pub were_left : (ended : Disk) → IsStoppedIn v.disk ended w.disk → IsLeft (past_between created v w) ended
+  pub were_left : (ended : Disk) → IsStoppedBetween v.disk ended w.disk → IsLeft (past_between created v w) ended
   were_left ended stopped =
-      let here : IsStoppedIn x.before.disk ended x.after.disk =
-      subst (λ (d : Disk). IsStoppedIn d ended x.after.disk) (sym x.disk_before) (subst (λ (d : Disk). IsStoppedIn v.disk ended d) (sym x.disk_after) stopped) in
+      let here : IsStoppedBetween x.before.disk ended x.after.disk =
+      subst (λ (d : Disk). IsStoppedBetween d ended x.after.disk) (sym x.disk_before) (subst (λ (d : Disk). IsStoppedBetween v.disk ended d) (sym x.disk_after) stopped) in
       subst (λ (p : Past). IsLeft p ended) within_is (x.after.held.state.shown.guid, stopped_own s r x.before x.after ended x.kept x.made here)
 
 pub stepped_safe : (keeps : Bool) (s : declared_step.Step) (r : declared_reply.Reply) (v w : SeenPool) (created : ℕ) → IsPoolStep (IsTrue keeps) s r v w → IsTrue keeps → IsFollowed v.rule created
@@ -51,5 +51,5 @@ pub stepped_explained : (keeps : Bool) (s : declared_step.Step) (r : declared_re
 stepped_explained keeps s r v w created one k follows = ∥∥₁_map (one.safe k created follows) (is_explained s r created v w)
 
 pub stopped_left : (keeps : Bool) (s : declared_step.Step) (r : declared_reply.Reply) (v w : SeenPool) (created : ℕ) (ended : Disk) → IsPoolStep (IsTrue keeps) s r v w → IsTrue keeps → IsFollowed v.rule created
-    → IsStoppedIn v.disk ended w.disk → ∥ IsLeft (past_between created v w) ended ∥₁
+    → IsStoppedBetween v.disk ended w.disk → ∥ IsLeft (past_between created v w) ended ∥₁
 stopped_left keeps s r v w created ended one k follows stopped = ∥∥₁_map (one.safe k created follows) (λ x. were_left s r created v w x ended stopped)

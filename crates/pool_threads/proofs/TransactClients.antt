@@ -16,7 +16,7 @@ use Rattle.base.specs.declared.step.Reply.TheVariants as reply
 use Rattle.device_model.specs.declared.device.SectorDevice.{Ghosts}
 use Rattle.pool_threads.specs.declared.handle.Handle.{Handle}
 use Rattle.pool_threads.specs.Handles.{turns_of, view_seen}
-use Rattle.pool_threads.specs.Transacts.{AreReleased, LeavesNothing, Locks, TransactsLockedOrLacks, TransactsOrLacks, Unlocks, plan_of}
+use Rattle.pool_threads.specs.Transacts.{AreReleased, LeavesNothing, Locks, TransactsLockedOrLacks, TransactsOrLacks, Unlocks, plan_of_ops}
 use Rattle.pool_threads.specs.Views.{IsPoolStep, SeenPool, viewed_state}
 use Rattle.transactions.specs.LockRanges.{lock_ranges}
 use Rattle.word_lock.specs.declared.rule.Turn.{Turn}
@@ -26,8 +26,8 @@ module _ {Dev : Type 0} {G : Ghosts Dev} (owner : Owner) (ops : List Op) (old ne
   -- the last turn of a transaction that was committed with this receipt, and all its steps
   abbrev pub AllSteps : Receipt → Type 0
   AllSteps r = (tries : List (Turn SeenPool)) × (took : SeenPool) × (turns_of new ≡ (turns_of old ++ tries) ++ turn took (view_seen new) ∷ []) × (ids : List LockId) × (tx : TxId) × (group : Group)
-      × (locked : SeenPool) × (begun : SeenPool) × (done : SeenPool) × Locks (IsTrue G.keeps_model) owner (lock_ranges (plan_of ops)) ids took locked
-      × IsPoolStep (IsTrue G.keeps_model) (step.Begin owner (plan_of ops)) (reply.Began tx group) locked begun × IsPoolStep (IsTrue G.keeps_model) (step.Commit tx ops) (reply.Committed r) begun done
+      × (locked : SeenPool) × (begun : SeenPool) × (done : SeenPool) × Locks (IsTrue G.keeps_model) owner (lock_ranges (plan_of_ops ops)) ids took locked
+      × IsPoolStep (IsTrue G.keeps_model) (step.Begin owner (plan_of_ops ops)) (reply.Began tx group) locked begun × IsPoolStep (IsTrue G.keeps_model) (step.Commit tx ops) (reply.Committed r) begun done
       × Unlocks (IsTrue G.keeps_model) owner ids done (view_seen new)
 
   pub takes_all_steps : (result : Result Receipt PoolError) → TransactsOrLacks owner ops result old new → IfOk result AllSteps
@@ -40,7 +40,7 @@ module _ {Dev : Type 0} {G : Ghosts Dev} (owner : Owner) (ops : List Op) (old ne
   -- so it is under the caller's locks: two steps
   abbrev pub BothSteps : Receipt → Type 0
   BothSteps r = (tries : List (Turn SeenPool)) × (took : SeenPool) × (turns_of new ≡ (turns_of old ++ tries) ++ turn took (view_seen new) ∷ []) × (tx : TxId) × (group : Group) × (begun : SeenPool)
-      × IsPoolStep (IsTrue G.keeps_model) (step.Begin owner (plan_of ops)) (reply.Began tx group) took begun × IsPoolStep (IsTrue G.keeps_model) (step.Commit tx ops) (reply.Committed r) begun (view_seen new)
+      × IsPoolStep (IsTrue G.keeps_model) (step.Begin owner (plan_of_ops ops)) (reply.Began tx group) took begun × IsPoolStep (IsTrue G.keeps_model) (step.Commit tx ops) (reply.Committed r) begun (view_seen new)
 
   pub takes_both_steps : (result : Result Receipt PoolError) → TransactsLockedOrLacks owner ops result old new → IfOk result BothSteps
   takes_both_steps (Ok r) (inl u) =
@@ -56,8 +56,8 @@ module _ {Dev : Type 0} {G : Ghosts Dev} (owner : Owner) (ops : List Op) (old ne
       )
     where
       from : (ids : List LockId) (took locked : SeenPool) {tx : TxId} {group : Group} {begun : SeenPool} → Locks (IsTrue G.keeps_model) owner [] ids took locked
-          → IsPoolStep (IsTrue G.keeps_model) (step.Begin owner (plan_of ops)) (reply.Began tx group) locked begun → IsPoolStep (IsTrue G.keeps_model) (step.Begin owner (plan_of ops)) (reply.Began tx group) took begun
-      from [] took locked {tx} {group} {begun} same one = subst (λ (v : SeenPool). IsPoolStep (IsTrue G.keeps_model) (step.Begin owner (plan_of ops)) (reply.Began tx group) v begun) same one
+          → IsPoolStep (IsTrue G.keeps_model) (step.Begin owner (plan_of_ops ops)) (reply.Began tx group) locked begun → IsPoolStep (IsTrue G.keeps_model) (step.Begin owner (plan_of_ops ops)) (reply.Began tx group) took begun
+      from [] took locked {tx} {group} {begun} same one = subst (λ (v : SeenPool). IsPoolStep (IsTrue G.keeps_model) (step.Begin owner (plan_of_ops ops)) (reply.Began tx group) v begun) same one
       from (id ∷ ids) took locked h one = absurd h
 
       to : (ids : List LockId) (took locked ended left : SeenPool) {tx : TxId} {begun : SeenPool} → Locks (IsTrue G.keeps_model) owner [] ids took locked → Unlocks (IsTrue G.keeps_model) owner ids ended left

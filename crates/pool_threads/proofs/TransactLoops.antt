@@ -18,7 +18,7 @@ use Rattle.pool_threads.specs.declared.handle.Handle.{Handle}
 use Rattle.pool_threads.specs.Answers.{Takes, TakesOne, state_seen}
 use Rattle.pool_threads.specs.Handles.{moment_of}
 use Rattle.pool_threads.specs.Serves.{GoesOnAfter}
-use Rattle.pool_threads.specs.Transacts.{IsEarlierTurn, IsForGood, IsOpenGroupTurn, IsTransactionTurn, MakesRoom, MayPass, Pays, Transacts, TransactsAtLast, TransactsLocked, plan_of}
+use Rattle.pool_threads.specs.Transacts.{IsEarlierTurn, IsForGood, IsOpenGroupTurn, IsTransactionTurn, MakesRoom, MayPass, Pays, Transacts, TransactsAtLast, TransactsLocked, plan_of_ops}
 use Rattle.pool_threads.specs.Views.{Explains, SeenPool, viewed_state}
 use Rattle.pool_threads.proofs.TransactsSeen.{earlier_grows}
 use Rattle.pool_threads.proofs.Tried.{at_last, one_more_turn}
@@ -76,11 +76,11 @@ module _ {Dev : Type 0} {G : Ghosts Dev} (owner : Owner) (ranges : List ObjectRa
 
 module _ {Dev : Type 0} {G : Ghosts Dev} (owner : Owner) (ops : List Op) (result : Result Receipt PoolError) (old new : Handle Dev G) where
   -- a transaction under the ranges of its operations' plan, and one without ranges
-  pub made_of : (ranges : List ObjectRange) (plan : List Shape) → plan ≡ plan_of ops → ranges ≡ lock_ranges plan → TransactsAtLast owner ranges plan ops result old new → Transacts owner ops result old new
+  pub made_of : (ranges : List ObjectRange) (plan : List Shape) → plan ≡ plan_of_ops ops → ranges ≡ lock_ranges plan → TransactsAtLast owner ranges plan ops result old new → Transacts owner ops result old new
   made_of ranges plan plan_is ranges_are u =
       subst (λ (p : List Shape). TransactsAtLast owner (lock_ranges p) p ops result old new) plan_is (subst (λ (rs : List ObjectRange). TransactsAtLast owner rs plan ops result old new) ranges_are u)
 
-  pub locked_of : (plan : List Shape) → plan ≡ plan_of ops → TransactsAtLast owner [] plan ops result old new → TransactsLocked owner ops result old new
+  pub locked_of : (plan : List Shape) → plan ≡ plan_of_ops ops → TransactsAtLast owner [] plan ops result old new → TransactsLocked owner ops result old new
   locked_of plan plan_is u = subst (λ (p : List Shape). TransactsAtLast owner [] p ops result old new) plan_is u
 
 -- what is open of a pool is open by a view that explains it

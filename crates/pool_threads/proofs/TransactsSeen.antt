@@ -24,7 +24,7 @@ use Rattle.pool_tables.specs.declared.duty.Duty.TheVariants as duty
 use Rattle.pool_threads.specs.declared.handle.Handle.{Handle}
 use Rattle.pool_threads.specs.Answers.{IsRefusal, Sees, state_seen}
 use Rattle.pool_threads.specs.Handles.{moment_of}
-use Rattle.pool_threads.specs.Transacts.{BeginsAndEnds, Ends, IsCommitRefusal, IsEarlierTurn, IsLastTurn, IsPayingTurn, IsTransactRefusal, IsTransacted, Locks, LocksAndBegins, LocksAndEnds, MakesTransaction, Transacts, TransactsAtLast, TransactsLocked, TransactsOrLacks, Unlocks, lock_step, plan_of}
+use Rattle.pool_threads.specs.Transacts.{BeginsAndEnds, Ends, IsCommitRefusal, IsEarlierTurn, IsLastTurn, IsPayingTurn, IsTransactRefusal, IsTransacted, Locks, LocksAndBegins, LocksAndEnds, MakesTransaction, Transacts, TransactsAtLast, TransactsLocked, TransactsOrLacks, Unlocks, lock_step, plan_of_ops}
 use Rattle.pool_threads.specs.Views.{GrowsTo, IsPoolStep, SeenPool, grows_onward, grows_same, viewed_state}
 use Rattle.pool_threads.specs.Waits.{IsSyncingRefusal}
 use Rattle.pool_threads.proofs.Along.{GoesAlong, along_same, between_all}
@@ -171,23 +171,23 @@ module _ {Dev : Type 0} {G : Ghosts Dev} (owner : Owner) (ranges : List ObjectRa
 
 module _ {Dev : Type 0} {G : Ghosts Dev} (owner : Owner) (ops : List Op) where
   pub entered_by : (r : Receipt) (old now done new : Handle Dev G) → GoesAlong old now → TransactsOrLacks owner ops (Ok r) now done → GoesAlong done new → Sees (IsTransacted ops r) old new
-  entered_by r old now done new earlier (inl u) later = at_last_entered owner (lock_ranges (plan_of ops)) (plan_of ops) ops r old now done new earlier u later
+  entered_by r old now done new earlier (inl u) later = at_last_entered owner (lock_ranges (plan_of_ops ops)) (plan_of_ops ops) ops r old now done new earlier u later
   entered_by r old now done new earlier (inr (lacks, same)) later = absurd (let no_way : Ok r ≡ Err error.NoMemory = lacks in cc)
 
   -- a transaction goes along, whatever its result is
   pub transact_along : (result : Result Receipt PoolError) (old new : Handle Dev G) → TransactsOrLacks owner ops result old new → GoesAlong old new
-  transact_along result old new (inl u) = at_last_along owner (lock_ranges (plan_of ops)) (plan_of ops) ops result old new u
+  transact_along result old new (inl u) = at_last_along owner (lock_ranges (plan_of_ops ops)) (plan_of_ops ops) ops result old new u
   transact_along result old new (inr (lacks, same)) = along_same old new same
 
   pub refusals_seen : (result : Result Receipt PoolError) (old new : Handle Dev G) → Transacts owner ops result old new → IfErr result (λ e. (e ≡ error.NoMemory) ⊎ Sees (IsTransactRefusal (moment_of old) owner ops e) old new)
   refusals_seen (Ok r) old new u = tt
   refusals_seen (Err e) old new u =
-      inr (∥∥₁_map {B = IsTransactRefusal (moment_of old) owner ops e (state_seen old) (state_seen new)} (at_last_refused owner (lock_ranges (plan_of ops)) (plan_of ops) ops e old new u)
+      inr (∥∥₁_map {B = IsTransactRefusal (moment_of old) owner ops e (state_seen old) (state_seen new)} (at_last_refused owner (lock_ranges (plan_of_ops ops)) (plan_of_ops ops) ops e old new u)
       (λ r. elim r as (λ _. IsTransactRefusal (moment_of old) owner ops e (state_seen old) (state_seen new)) [ inl lock ↦ inl lock.1 | inr other ↦ inr other ]))
 
   -- under locks that the owner had before none is refused
   pub locked_refusals_seen : (result : Result Receipt PoolError) (old new : Handle Dev G) → TransactsLocked owner ops result old new → IfErr result (λ e. (e ≡ error.NoMemory) ⊎ Sees (IsCommitRefusal (moment_of old) owner ops e) old new)
   locked_refusals_seen (Ok r) old new u = tt
   locked_refusals_seen (Err e) old new u =
-      inr (∥∥₁_map {B = IsCommitRefusal (moment_of old) owner ops e (state_seen old) (state_seen new)} (at_last_refused owner [] (plan_of ops) ops e old new u)
+      inr (∥∥₁_map {B = IsCommitRefusal (moment_of old) owner ops e (state_seen old) (state_seen new)} (at_last_refused owner [] (plan_of_ops ops) ops e old new u)
       (λ r. elim r as (λ _. IsCommitRefusal (moment_of old) owner ops e (state_seen old) (state_seen new)) [ inl lock ↦ absurd (lock.0 refl) | inr other ↦ other ]))

@@ -17,7 +17,7 @@ use Rattle.pool_threads.specs.Handles.{moment_of}
 use Rattle.pool_threads.specs.Serves.{GoesOnAfter, IsServedTurn}
 use Rattle.pool_threads.specs.Turns.{AreUnbroken}
 use Rattle.pool_threads.specs.Views.{GrowsTo, SeenPool, grows_onward, grows_same}
-use Rattle.pool_threads.specs.Waits.{EndsAfter, EndsSyncing, IsSyncing, Leads, LooksAt, SyncsInstead, SyncsUpTo, Waits, WaitsOnce, WaitsUntil, WritesLog}
+use Rattle.pool_threads.specs.Waits.{EndsAfter, EndsSyncing, IsSyncTurn, Leads, LooksAt, SyncsInstead, SyncsUpTo, Waits, WaitsOnce, WaitsUntil, WritesLogInTurn}
 use Rattle.pool_threads.proofs.Made.{met_none_on}
 use Rattle.pool_threads.proofs.Served.{grows_by_due}
 use Rattle.pool_threads.proofs.Tried.{at_last, no_turns, one_more_turn, stays_on, unbroken_push}
@@ -131,20 +131,20 @@ module _ {Dev : Type 0} {G : Ghosts Dev} where
   -- a sync up to a group
   module _ (moment : ℕ) (group : Group) (r : Option declared_reply.Reply) where
     abbrev Syncs : Handle Dev G → Handle Dev G → Type 0
-    Syncs = Takes (IsSyncing (IsTrue G.keeps_model) moment group)
+    Syncs = Takes (IsSyncTurn (IsTrue G.keeps_model) moment group)
 
     pub syncs_more : {old now next : Handle Dev G} → GoesOnAfter None r → Syncs old now → Served (duty.SyncUpTo group moment) r now next → Syncs old next
     syncs_more passed t m = one_more_turn _ t (served_as (λ u made. (r, passed, made)) m) (served_grows (duty.SyncUpTo group moment) r m)
 
     pub syncs_to_end : {old now new : Handle Dev G} → GoesOnAfter None r → Syncs old now → Served (duty.SyncUpTo group moment) r now new → group.0 ≤ (state_seen new).shown.line.synced
-        → TakesAtLast (IsSyncing (IsTrue G.keeps_model) moment group) (EndsSyncing (IsTrue G.keeps_model) moment group (Ok tt)) old new
+        → TakesAtLast (IsSyncTurn (IsTrue G.keeps_model) moment group) (EndsSyncing (IsTrue G.keeps_model) moment group (Ok tt)) old new
     syncs_to_end passed t m there = at_last _ t (record {
       same_pool = m.same_pool;
       made = record { took = m.made.took; onward = m.made.onward; made = ((r, passed, m.made.made), there); turn = m.made.turn; met_none = m.made.met_none; alone = m.made.alone };
     })
 
     pub syncs_refused : (e : PoolError) {old now new : Handle Dev G} → Syncs old now → r ≡ Some (reply.Refused e) → Served (duty.SyncUpTo group moment) r now new
-        → TakesAtLast (IsSyncing (IsTrue G.keeps_model) moment group) (EndsSyncing (IsTrue G.keeps_model) moment group (Err e)) old new
+        → TakesAtLast (IsSyncTurn (IsTrue G.keeps_model) moment group) (EndsSyncing (IsTrue G.keeps_model) moment group (Err e)) old new
     syncs_refused e t is m = at_last _ t (refused_as (duty.SyncUpTo group moment) r e is m)
 
   -- turns that lead on: one, some, and one at last
@@ -157,7 +157,7 @@ module _ {Dev : Type 0} {G : Ghosts Dev} where
   abbrev pub TakesAnyAtLast : Handle Dev G → Handle Dev G → Type 0
   TakesAnyAtLast = TakesAtLast (LeadsOn (IsTrue G.keeps_model)) (LeadsOn (IsTrue G.keeps_model))
 
-  log_turn : (r : Option declared_reply.Reply) {old new : Handle Dev G} → WritesLog r old new → TakesAnyOne old new
+  log_turn : (r : Option declared_reply.Reply) {old new : Handle Dev G} → WritesLogInTurn r old new → TakesAnyOne old new
   log_turn r m = served_as (λ t made. served_leads (IsTrue G.keeps_model) duty.CommitLog r t made) m
 
   pub more_leads_on : {old now next : Handle Dev G} → TakesAny old now → TakesAnyOne now next → TakesAny old next
@@ -261,18 +261,18 @@ module _ {Dev : Type 0} {G : Ghosts Dev} where
       led_to_end result y e {new} is failed same l = ended (Ok false) result is (e, as_result result e same, subst (λ (z : Result (Unit {0}) PoolError). Leads receipt z next new) failed l)
 
     -- one who leads writes and flushes the log
-    pub logged : (r : Option declared_reply.Reply) {old new : Handle Dev G} → GoesOnAfter None r → WritesLog r old new → Leads receipt (Ok tt) old new
+    pub logged : (r : Option declared_reply.Reply) {old new : Handle Dev G} → GoesOnAfter None r → WritesLogInTurn r old new → Leads receipt (Ok tt) old new
     logged r passed m = inl (r, passed, m)
 
-    pub log_refused : (r : Option declared_reply.Reply) (e : PoolError) {old new : Handle Dev G} → r ≡ Some (reply.Refused e) → (e ≡ NoLogSpace → ⊥) → WritesLog r old new → Leads receipt (Err e) old new
+    pub log_refused : (r : Option declared_reply.Reply) (e : PoolError) {old new : Handle Dev G} → r ≡ Some (reply.Refused e) → (e ≡ NoLogSpace → ⊥) → WritesLogInTurn r old new → Leads receipt (Err e) old new
     log_refused r e is other m = inl (other, refused_as duty.CommitLog r e is m)
 
     -- or groups were synced up to the receipt's
-    pub synced_instead : (r : Option declared_reply.Reply) (e : PoolError) {old now new : Handle Dev G} (result : Result (Unit {0}) PoolError) → r ≡ Some (reply.Refused e) → e ≡ NoLogSpace → WritesLog r old now → SyncsUpTo receipt.group result now new
+    pub synced_instead : (r : Option declared_reply.Reply) (e : PoolError) {old now new : Handle Dev G} (result : Result (Unit {0}) PoolError) → r ≡ Some (reply.Refused e) → e ≡ NoLogSpace → WritesLogInTurn r old now → SyncsUpTo receipt.group result now new
         → Leads receipt result old new
     synced_instead r e {old} {now} {new} result is full m u = by result u
       where
-        refused : WritesLog (Some (reply.Refused NoLogSpace)) old now
+        refused : WritesLogInTurn (Some (reply.Refused NoLogSpace)) old now
         refused = refused_as duty.CommitLog r NoLogSpace (is ∙ ap (λ (f : PoolError). Some (reply.Refused f)) full) m
 
         by : (x : Result (Unit {0}) PoolError) → SyncsUpTo receipt.group x now new → Leads receipt x old new

@@ -256,7 +256,7 @@ pub record OpensBehind (keeps : Type 0) (old : Disk) (dirty_max : ℕ) (v : Seen
 -- The pool that an import of this disk gave, to be opened: the view of it in which nothing has happened since explains
 -- it, and follows the crash rule after whichever run left the disk. It shows what was mounted, over the device that the
 -- import left.
-pub record IsReadyBehind {Dev : Type 0} {G : Ghosts Dev} (old : Disk) (m : Mounted) (device : Dev) (s : PoolState Dev G) : Type 0 where
+pub record IsReadyToOpen {Dev : Type 0} {G : Ghosts Dev} (old : Disk) (m : Mounted) (device : Dev) (s : PoolState Dev G) : Type 0 where
   pub explains : Explains s (view_behind_disk s old)
   pub opens : OpensBehind (IsTrue G.keeps_model) old (shown_of_import m).dirty_max (view_behind_disk s old)
   pub shown_is : shown s ≡ shown_of_import m

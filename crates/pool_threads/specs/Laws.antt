@@ -3,7 +3,7 @@ use Rattle.std.specs.Prelude.{ℕ, Bool, IsTrue}
 use Rattle.base.specs.declared.step.Step as declared_step
 use Rattle.base.specs.declared.step.Reply as declared_reply
 use Rattle.base.specs.disk.Disk.{Disk}
-use Rattle.pool_core.specs.KeptSafe.{IsStoppedIn}
+use Rattle.pool_core.specs.KeptSafe.{IsStoppedBetween}
 use Rattle.pool_threads.specs.Views.{IsFollowed, IsPoolStep, SeenPool, WereSafeBetween, past_between, since, viewed_state}
 use Rattle.base.specs.crash.LeftDisks.{IsLeft}
 use Rattle.base.specs.steps.Explains.{Explains}
@@ -23,4 +23,4 @@ SteppedPoolsAreExplained = (keeps : Bool) (s : declared_step.Step) (r : declared
 -- and if a crash stops the step, a run with its past left the disk, from which an import goes on
 abbrev pub StoppedPoolsAreLeft : Type 0
 StoppedPoolsAreLeft = (keeps : Bool) (s : declared_step.Step) (r : declared_reply.Reply) (v w : SeenPool) (created : ℕ) (ended : Disk) → IsPoolStep (IsTrue keeps) s r v w → IsTrue keeps → IsFollowed v.rule created
-    → IsStoppedIn v.disk ended w.disk → ∥ IsLeft (past_between created v w) ended ∥₁
+    → IsStoppedBetween v.disk ended w.disk → ∥ IsLeft (past_between created v w) ended ∥₁

@@ -17,12 +17,12 @@ object_at n None = []
 object_at n (Some length) = (record { 0 = n }, length) ∷ []
 
 -- the objects of these numbers that are there, each with its length
-abbrev pub objects_of : Contents → List ℕ → List (ObjectId × ℕ)
-objects_of c numbers = flat_map (λ n. object_at n (length_of c n)) numbers
+abbrev pub objects_among : Contents → List ℕ → List (ObjectId × ℕ)
+objects_among c numbers = flat_map (λ n. object_at n (length_of c n)) numbers
 
 -- all from this number on, rising
 abbrev pub objects_from : ℕ → Contents → List (ObjectId × ℕ)
-objects_from from c = objects_of c (range_with_len from (object_count - from))
+objects_from from c = objects_among c (range_with_len from (object_count - from))
 
 module _ {Dev : Type 0} {G : Ghosts Dev} where
   -- in one turn and no other the handle looked, and these are the first objects from a number on that it saw then, of a

@@ -41,8 +41,8 @@ abbrev pub lock_step : Owner → ObjectRange → declared_step.Step
 lock_step owner r = step.Lock owner r.object r.range Writer
 
 -- the plan of operations
-abbrev pub plan_of : List Op → List Shape
-plan_of ops = map shape_of ops
+abbrev pub plan_of_ops : List Op → List Shape
+plan_of_ops ops = map shape_of ops
 
 module _ (keeps : Type 0) where
   -- these ranges were locked in order, with these locks
@@ -173,11 +173,11 @@ module _ {Dev : Type 0} {G : Ghosts Dev} where
 
   -- so it was of operations, under locks of the ranges of their plan
   abbrev pub Transacts : Owner → List Op → Result Receipt PoolError → Handle Dev G → Handle Dev G → Type 0
-  Transacts owner ops = TransactsAtLast owner (lock_ranges (plan_of ops)) (plan_of ops) ops
+  Transacts owner ops = TransactsAtLast owner (lock_ranges (plan_of_ops ops)) (plan_of_ops ops) ops
 
   -- so it was under locks that the owner had before
   abbrev pub TransactsLocked : Owner → List Op → Result Receipt PoolError → Handle Dev G → Handle Dev G → Type 0
-  TransactsLocked owner ops = TransactsAtLast owner [] (plan_of ops) ops
+  TransactsLocked owner ops = TransactsAtLast owner [] (plan_of_ops ops) ops
 
   -- it did so, or made no step for want of memory
   abbrev pub TransactsOrLacks : Owner → List Op → Result Receipt PoolError → Handle Dev G → Handle Dev G → Type 0
@@ -203,7 +203,7 @@ IsTransacted ops r before after = (tx : TxId) × IsCommitted tx.0 ops r.ordinal.
 -- a refusal of the begin or of the commit of a transaction, or of a step of a sync with this moment
 abbrev pub IsCommitRefusal : ℕ → Owner → List Op → PoolError → State → State → Type 0
 IsCommitRefusal moment owner ops e before after =
-    IsRefusal (step.Begin owner (plan_of ops)) e before after
+    IsRefusal (step.Begin owner (plan_of_ops ops)) e before after
     ⊎ (((tx : TxId) × IsRefusal (step.Commit tx ops) e before after) ⊎ ((group : Group) × IsSyncingRefusal moment group e before after))
 
 -- a refusal of a lock, or one of those

@@ -31,11 +31,11 @@ pub record FindsReceipt (receipt : Receipt) (result : Result Bool PoolError) (t 
 
 -- A turn of a sync up to a group, with this moment: what is due for it, and nothing is refused. In the last one the
 -- group is synced, or a step is refused.
-abbrev pub IsSyncing : Type 0 → ℕ → Group → Turn SeenPool → Type 0
-IsSyncing keeps moment group = IsDutyTurn keeps (duty.SyncUpTo group moment) None
+abbrev pub IsSyncTurn : Type 0 → ℕ → Group → Turn SeenPool → Type 0
+IsSyncTurn keeps moment group = IsDutyTurn keeps (duty.SyncUpTo group moment) None
 
 abbrev pub EndsSyncing : Type 0 → ℕ → Group → Result (Unit {0}) PoolError → Turn SeenPool → Type 0
-EndsSyncing keeps moment group (Ok done) t = IsSyncing keeps moment group t × (group.0 ≤ (viewed_state t.left).shown.line.synced)
+EndsSyncing keeps moment group (Ok done) t = IsSyncTurn keeps moment group t × (group.0 ≤ (viewed_state t.left).shown.line.synced)
 EndsSyncing keeps moment group (Err e) t = IsRefusedTurn keeps (duty.SyncUpTo group moment) e t
 
 -- the transaction of the receipt is durable then, and stays so
@@ -93,26 +93,26 @@ result_of group (Err e) = Err e
 module _ {Dev : Type 0} {G : Ghosts Dev} where
   -- the handle synced groups up to this one, and had no other turn
   abbrev pub SyncsUpTo : Group → Result (Unit {0}) PoolError → Handle Dev G → Handle Dev G → Type 0
-  SyncsUpTo group result old = TakesAtLast (IsSyncing (IsTrue G.keeps_model) (moment_of old) group) (EndsSyncing (IsTrue G.keeps_model) (moment_of old) group result) old
+  SyncsUpTo group result old = TakesAtLast (IsSyncTurn (IsTrue G.keeps_model) (moment_of old) group) (EndsSyncing (IsTrue G.keeps_model) (moment_of old) group result) old
 
   -- in one turn and no other the handle looked at a receipt with this result
   abbrev pub LooksAt : Receipt → Result Bool PoolError → Handle Dev G → Handle Dev G → Type 0
   LooksAt receipt found = TakesOne (FindsReceipt receipt found)
 
   -- in one turn and no other it made the steps that were due for the log, the last with this reply
-  abbrev pub WritesLog : Option declared_reply.Reply → Handle Dev G → Handle Dev G → Type 0
-  WritesLog r = TakesOne (IsServedTurn (IsTrue G.keeps_model) duty.CommitLog r)
+  abbrev pub WritesLogInTurn : Option declared_reply.Reply → Handle Dev G → Handle Dev G → Type 0
+  WritesLogInTurn r = TakesOne (IsServedTurn (IsTrue G.keeps_model) duty.CommitLog r)
 
   -- the log found no space, and then the handle synced groups up to the receipt's, with this result
   pub record SyncsInstead (receipt : Receipt) (result : Result (Unit {0}) PoolError) (old new : Handle Dev G) : Type 0 where
     pub full : Handle Dev G
-    pub refused : WritesLog (Some (reply.Refused NoLogSpace)) old full
+    pub refused : WritesLogInTurn (Some (reply.Refused NoLogSpace)) old full
     pub syncs : SyncsUpTo receipt.group result full new
 
   -- What a handle does that leads, with this result: it writes and flushes the log, or syncs groups instead.
   abbrev pub Leads : Receipt → Result (Unit {0}) PoolError → Handle Dev G → Handle Dev G → Type 0
-  Leads receipt (Ok done) old new = ((r : Option declared_reply.Reply) × GoesOnAfter None r × WritesLog r old new) ⊎ SyncsInstead receipt (Ok done) old new
-  Leads receipt (Err e) old new = ((e ≢ NoLogSpace) × WritesLog (Some (reply.Refused e)) old new) ⊎ SyncsInstead receipt (Err e) old new
+  Leads receipt (Ok done) old new = ((r : Option declared_reply.Reply) × GoesOnAfter None r × WritesLogInTurn r old new) ⊎ SyncsInstead receipt (Ok done) old new
+  Leads receipt (Err e) old new = ((e ≢ NoLogSpace) × WritesLogInTurn (Some (reply.Refused e)) old new) ⊎ SyncsInstead receipt (Err e) old new
 
   -- A round of a wait: a look, which finds the transaction not durable; and then the handle leads, or another does.
   pub record WaitsOnce (receipt : Receipt) (old new : Handle Dev G) : Type 0 where
@@ -163,7 +163,7 @@ module _ {Dev : Type 0} {G : Ghosts Dev} where
   pub record FsyncsAll (result : Result (Unit {0}) PoolError) (old new : Handle Dev G) : Type 0 where
     pub reply : Option declared_reply.Reply
     pub wrote : Handle Dev G
-    pub writes : WritesLog reply old wrote
+    pub writes : WritesLogInTurn reply old wrote
     pub outcome : Option (Result (Unit {0}) PoolError)
     pub is_outcome : IsLogOutcome reply outcome
     pub ends : EndsFsync outcome result wrote new

@@ -1,6 +1,6 @@
 //! The view of a pool as it is opened.
 ghost use Rattle.std.specs.Prelude.{◌≡◌, IsTrue};
-ghost use Rattle.pool_threads.specs.Handles.{IsReadyBehind, StartsBehind};
+ghost use Rattle.pool_threads.specs.Handles.{IsReadyToOpen, StartsBehind};
 ghost use Rattle.pool_threads.specs.Views.{SeenPool, view_behind_disk};
 
 use crate::rule::PoolView;
@@ -36,7 +36,7 @@ pub(crate) fn state_behind<D: SectorDevice>(
 ) -> PoolState<D>
     requires { IsTrue D.keeps_model → StartsBehind (D.disk before.now.value)
         imported.mounted (D.disk imported.device) }
-    ensures { IsReadyBehind (D.disk before.now.value) imported.mounted imported.device result }
+    ensures { IsReadyToOpen (D.disk before.now.value) imported.mounted imported.device result }
 {
     PoolState::new(imported)
 }

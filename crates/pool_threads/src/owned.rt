@@ -1,7 +1,7 @@
 //! A pool of one owner.
 ghost use Rattle.std.specs.Prelude.{◌≡◌, IfErr, IfOk, IfSome, IsSome, IsTrue};
 ghost use Rattle.import_replay.specs.Mounts.{shown_of_import};
-ghost use Rattle.pool_threads.specs.Handles.{IsBackIn, IsFirstSeen, IsLastState, IsReadyBehind, OpensBehind, ShowsMounted, StartsBehind, WasOf, kin_left, moment_in, opening_view, owned_of};
+ghost use Rattle.pool_threads.specs.Handles.{IsBackIn, IsFirstSeen, IsLastState, IsReadyToOpen, OpensBehind, ShowsMounted, StartsBehind, WasOf, kin_left, moment_in, opening_view, owned_of};
 ghost use Rattle.pool_threads.specs.Views.{Explains, view_behind_disk};
 
 use crate::first::{state_behind, view_behind};
@@ -48,7 +48,7 @@ impl<D: SectorDevice> OwnedPool<D> {
         ensures first { IfOk result (λ p. IsFirstSeen (owned_of p.0) p.1) }
         ensures moment { IfOk result (λ p. moment_in (owned_of p.0) ≡ moment) }
         ensures refused { IfErr result (λ e. e.0 ≡ PoolError.NoMemory) }
-        ensures given_back { IfErr result (λ e. IsReadyBehind (D.disk before.now.value)
+        ensures given_back { IfErr result (λ e. IsReadyToOpen (D.disk before.now.value)
             imported.mounted imported.device e.1) }
     {
         OwnedPool::of_state(state_behind(imported, before), moment, before)

@@ -33,7 +33,7 @@ impl<D: SectorDevice> Pool<D> {
     ghost use Rattle.import_replay.specs.Mounts.{shown_of_import};
     ghost use Rattle.pool_core.specs.States.{device_of, shown};
     ghost use Rattle.pool_threads.specs.Finishes.{Finishes};
-    ghost use Rattle.pool_threads.specs.Handles.{IsLastState, IsLaterState, IsLeftByOpen, IsNewHandle, IsReadyBehind, LeavesSame, OpensBehind, ShowsImport, ShowsMounted, StartsBehind, WasOf, kin_left, moment_in, opened_in, opened_of, opening_view, shared_of};
+    ghost use Rattle.pool_threads.specs.Handles.{IsLastState, IsLaterState, IsLeftByOpen, IsNewHandle, IsReadyToOpen, LeavesSame, OpensBehind, ShowsImport, ShowsMounted, StartsBehind, WasOf, kin_left, moment_in, opened_in, opened_of, opening_view, shared_of};
     ghost use Rattle.pool_threads.specs.Views.{Explains, SeenPool};
 
     /// Opens the pool on a device, as often as one likes: this is the way in for a program. It keeps at most 256 tree
@@ -248,7 +248,7 @@ impl<D: SectorDevice> Pool<D> {
         ensures told { IfOk result (λ p. opened_in p ≡ opened_of imported.mounted) }
         ensures moment { IfOk result (λ p. moment_in (shared_of p) ≡ moment) }
         ensures refused { IfErr result (λ e. e.0 ≡ PoolError.NoMemory) }
-        ensures given_back { IfErr result (λ e. IsReadyBehind (D.disk before.now.value)
+        ensures given_back { IfErr result (λ e. IsReadyToOpen (D.disk before.now.value)
             imported.mounted imported.device e.1) }
     {
         let opened = Opened::of(&imported.mounted);

@@ -9,8 +9,8 @@ use Rattle.import_replay.specs.Mounts.{shown_of_import}
 use Rattle.import_replay.specs.declared.mounted.Mounted.{Mounted}
 
 -- an import of these bytes shows the contents that they mount
-abbrev pub ShowsMounted : List ℕ → Contents → Type 0
-ShowsMounted now shown = (contents : Contents) → MountsTo now contents → shown ≡ contents
+abbrev pub ShowsMountedContents : List ℕ → Contents → Type 0
+ShowsMountedContents now shown = (contents : Contents) → MountsTo now contents → shown ≡ contents
 
 -- the active uberblock of these bytes has this moment
 pub record HasMoment (now : List ℕ) (moment : ℕ) : Type 0 where

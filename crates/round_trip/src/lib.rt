@@ -17,7 +17,7 @@ ghost use Rattle.import_replay.specs.OwnCreations.{first_contents};
 ghost use Rattle.import_replay.specs.RunStarts.{StartsRun};
 ghost use Rattle.base.specs.crash.LeftDisks.{GoesOnFrom};
 ghost use Rattle.object_maps.specs.ContentsShown.{contents_of};
-ghost use Rattle.round_trip.specs.Rounds.{IsOpened, ShowsMounted};
+ghost use Rattle.round_trip.specs.Rounds.{IsOpened, ShowsMountedContents};
 
 mod clients;
 mod crashes;
@@ -65,7 +65,8 @@ pub fn open<D: SectorDevice + Drop>(
     moment: u64,
 ) -> Result<Imported<D>, PoolError>
     ensures found { IsTrue D.keeps_model → IfOk result
-        (λ i. ShowsMounted (bytes_of (D.disk device).now) (contents_of i.mounted.contents)) }
+        (λ i. ShowsMountedContents (bytes_of (D.disk device).now)
+            (contents_of i.mounted.contents)) }
     ensures opened { IsTrue D.keeps_model → IfOk result
         (λ i. IsOpened (bytes_of (D.disk device).now) (bytes_of (D.disk i.device).now) moment) }
     ensures own { IsTrue D.keeps_model

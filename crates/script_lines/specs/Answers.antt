@@ -10,6 +10,6 @@ abbrev pub imported_answer : Group → ℕ → Answer
 imported_answer synced records = answer.Imported synced (record { 0 = synced.0 + 1 }) records
 
 -- whether an answer is a refusal
-abbrev pub is_refusal : Answer → Bool
-is_refusal (answer.Reply (Refused e)) = true
-is_refusal _ = false
+abbrev pub is_refusal_answer : Answer → Bool
+is_refusal_answer (answer.Reply (Refused e)) = true
+is_refusal_answer _ = false

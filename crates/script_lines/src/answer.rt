@@ -25,7 +25,7 @@ pub enum Answer {
 }
 
 impl Answer {
-    ghost use Rattle.script_lines.specs.Answers.{imported_answer, is_refusal};
+    ghost use Rattle.script_lines.specs.Answers.{imported_answer, is_refusal_answer};
 
     /// The answer to an import that synced this group and replayed so many log records. The group after it is open.
     pub fn imported(synced: Group, records: u64) -> Answer
@@ -48,7 +48,7 @@ impl Answer {
 
     /// Whether it is a refusal.
     pub fn is_refusal(&self) -> bool
-        ensures { result ≡ is_refusal self.now }
+        ensures { result ≡ is_refusal_answer self.now }
     {
         matches!(self, Answer::Reply(Reply::Refused(_)))
     }

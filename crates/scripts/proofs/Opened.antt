@@ -6,11 +6,11 @@ use Rattle.base.specs.disk.Disk.{Disk}
 use Rattle.device_model.specs.MemState.{MemState}
 use Rattle.import_replay.specs.Mounts.{shown_of_import}
 use Rattle.import_replay.specs.declared.mounted.Mounted.{Mounted}
-use Rattle.pool_threads.specs.Handles.{IsReadyBehind, OpensBehind, ShowsMounted}
+use Rattle.pool_threads.specs.Handles.{IsReadyToOpen, OpensBehind, ShowsMounted}
 use Rattle.pool_threads.specs.Views.{SeenPool, view_behind_disk, viewed_state}
 use Rattle.scripts.specs.OwnPools.{MemPool}
 
-module _ (old : Disk) (m : Mounted) (device : MemState) (s : MemPool) (ready : IsReadyBehind old m device s) (v : SeenPool) (is : v ≡ view_behind_disk s old) where
+module _ (old : Disk) (m : Mounted) (device : MemState) (s : MemPool) (ready : IsReadyToOpen old m device s) (v : SeenPool) (is : v ≡ view_behind_disk s old) where
   pub opens_so : OpensBehind (IsTrue true) old (shown_of_import m).dirty_max v
   opens_so = subst (λ (w : SeenPool). OpensBehind (IsTrue true) old (shown_of_import m).dirty_max w) (sym is) ready.opens
 

@@ -52,9 +52,9 @@ module _ {Dev R P : Type 0} (V : sector.Ghosts Dev) (G : mounted.Ghosts P Dev R)
   KeepsOverImport dirty_max old new = IsTrue V.keeps_model → (past : Past) → IsRunIn past old → FindsRun past dirty_max new
 
 -- the run of a pool goes on in the pool
-abbrev pub GoesOn : {Dev R P : Type 0} (G : mounted.Ghosts P Dev R) → Past → Place Dev P → Place Dev P → Type 0
-GoesOn G past (Pool old) (Pool new) = G.goes_on past old new
-GoesOn G past old new = ⊥
+abbrev pub GoesOnInPool : {Dev R P : Type 0} (G : mounted.Ghosts P Dev R) → Past → Place Dev P → Place Dev P → Type 0
+GoesOnInPool G past (Pool old) (Pool new) = G.goes_on past old new
+GoesOnInPool G past old new = ⊥
 
 module _ {R P : Type 0} (G : mounted.Ghosts P MemState R) where
   -- what each run left is left by a crash of this device that is fair, and by one that is none
@@ -66,5 +66,5 @@ module _ {R P : Type 0} (G : mounted.Ghosts P MemState R) where
   -- import and a crash keep is said with what they do, of one device.)
   abbrev pub KeepsRun : Command → Place MemState P → Result Answer BadCommand → Place MemState P → Type 0
   KeepsRun (command.Fail fault n) old told new = (past : Past) → IsRunIn ghosts G past old → IsRunIn ghosts G past new
-  KeepsRun (command.Pool asked) old (Ok told) new = (past : Past) → IsRunIn ghosts G past old → GoesOn G past old new
+  KeepsRun (command.Pool asked) old (Ok told) new = (past : Past) → IsRunIn ghosts G past old → GoesOnInPool G past old new
   KeepsRun asked old told new = Unit {0}

@@ -43,7 +43,7 @@ pub type OwnSession<'r> = Session<'r, (), MemDevice, PoolState<MemDevice>>;
 pub type SharedSession<'r, W> = Session<'r, W, MemDevice, SharedPool>;
 
 impl<'r, R, D: SectorDevice + Drop, P: MountedPool<D, R>> Session<'r, R, D, P> {
-    ghost use Rattle.scripts.specs.Kept.{GoesOn, IsRunIn};
+    ghost use Rattle.scripts.specs.Kept.{GoesOnInPool, IsRunIn};
     ghost use Rattle.scripts.specs.Places.{AsksIn, IsTakenFrom, has_device, has_pool};
     ghost use Rattle.scripts.specs.Sessions.{CreatesOnTaken, ImportsIn, IsSameRun};
 
@@ -123,7 +123,7 @@ impl<'r, R, D: SectorDevice + Drop, P: MountedPool<D, R>> Session<'r, R, D, P> {
             (P.asks command self.old.moment) self.old.place told self.new.place) }
         ensures kept { IsTrue D.keeps_model → OnOk result ((past : Past)
             → IsRunIn D.SectorDevice P.MountedPool past self.old.place
-            → GoesOn P.MountedPool past self.old.place self.new.place) }
+            → GoesOnInPool P.MountedPool past self.old.place self.new.place) }
         ensures unchanged { IsErr result → self.new.place ≡ self.old.place }
         ensures same_run { IsSameRun self.old self.new }
     {

@@ -24,7 +24,7 @@ use Rattle.base.proofs.steps.KeptTables.{steps_keep_tables}
 use Rattle.base.proofs.stored.StoredSteps.{kept-state}
 use Rattle.pool_tables.specs.LogBlocks.{PutsLogBlock}
 use Rattle.pool_core.specs.KeptSafe.{IsKeptSafe, LeavesOwn, OnDisk}
-use Rattle.pool_core.specs.LogSafe.{FlushesLog, IsKeptSafely, LogFlushesAreSafe, LogWritesAreSafe, WritesLog}
+use Rattle.pool_core.specs.LogSafe.{FlushesLogOnDisk, IsKeptSafely, LogFlushesAreSafe, LogWritesAreSafe, WritesLogOnDisk}
 use Rattle.pool_core.proofs.crash.LogFlushes as flushes
 use Rattle.pool_core.proofs.crash.LogWrites as writes
 use Rattle.pool_core.proofs.crash.OwnMoments.{were_left}
@@ -110,7 +110,7 @@ stood_safely x y disk past then = record {
 }
 
 -- A write of the log.
-module _ (answer : Result ℕ PoolError) (x y : OnDisk) (safe : IsKeptSafe x) (h : WritesLog answer x y) where
+module _ (answer : Result ℕ PoolError) (x y : OnDisk) (safe : IsKeptSafe x) (h : WritesLogOnDisk answer x y) where
   abbrev s : Shown
   s = x.held.state.shown
 
@@ -195,7 +195,7 @@ module _ (x y : OnDisk) (safe : IsKeptSafe x) where
   fewer marks has = All-each (λ (k : ℕ). get_or marks k false ≡ true) before.past.acknowledged (λ i k at.
       All-at (λ (n : ℕ). get_or marks n false ≡ true) (before.past.acknowledged ++ ordinals_awaiting before.shown.log) i k has (at_front before.past.acknowledged (ordinals_awaiting before.shown.log) i k at))
 
-  module _ (h : FlushesLog (Ok tt) x y) where
+  module _ (h : FlushesLogOnDisk (Ok tt) x y) where
     done : (refusal.log_flush_refusal before.shown ≡ None) × (y.held.state ≡ state_after_log_flush before)
     done = ok-none (refusal.log_flush_refusal before.shown) tt before y.held.state (λ _. y.held.state ≡ state_after_log_flush before) (λ e. (e ≡ error.Flush) × (y.held.state ≡ suspended_state before)) h.step
 
@@ -241,7 +241,7 @@ module _ (x y : OnDisk) (safe : IsKeptSafe x) where
   abbrev stopped : State
   stopped = suspended_state before
 
-  refused : (e : PoolError) → FlushesLog (Err e) x y → IsKeptSafely x y
+  refused : (e : PoolError) → FlushesLogOnDisk (Err e) x y → IsKeptSafely x y
   refused e h = go (refusal.log_flush_refusal before.shown) h.step
     where
       bytes : y.held.now ≡ x.held.now

@@ -12,11 +12,11 @@ use Rattle.base.specs.steps.Explains.{AreSafe}
 use Rattle.base.specs.steps.Runs.{Step}
 use Rattle.base.specs.steps.Steps.{State}
 use Rattle.base.proofs.steps.StepEffects.{StepDoes, step_does}
-use Rattle.pool_core.specs.KeptSafe.{IsKeptSafe, IsSafeStep, IsStoppedIn, LeavesOwn, OnDisk, past_within}
+use Rattle.pool_core.specs.KeptSafe.{IsKeptSafe, IsSafeStep, IsStoppedBetween, LeavesOwn, OnDisk, past_within}
 use Rattle.pool_core.proofs.crash.SafeMoments.{IsSafeMoment}
 
 -- what each moment from the one disk to the other has, a disk between them has
-pub moment_in : (P : Moment → Type 0) (old ended new : Disk) → EachMoment P old new → IsStoppedIn old ended new → P ended.now
+pub moment_in : (P : Moment → Type 0) (old ended new : Disk) → EachMoment P old new → IsStoppedBetween old ended new → P ended.now
 moment_in P old ended new each stopped = go each.later stopped.rest each.each (sym each.joined ∙ stopped.joined)
   where
     go : (later rest : List Moment) → AllByRecursion P later → later ++ old.now ∷ old.past ≡ rest ++ ended.now ∷ ended.past → P ended.now
@@ -41,12 +41,12 @@ step_created keeps bytes s r old new h =
     ]
 
 module _ (s : declared_step.Step) (r : declared_reply.Reply) (old new : OnDisk) (ended : Disk) where
-  pub stopped_safe : IsSafeStep s r old new → IsStoppedIn old.disk ended new.disk → AreSafe ended (past_within old new)
+  pub stopped_safe : IsSafeStep s r old new → IsStoppedBetween old.disk ended new.disk → AreSafe ended (past_within old new)
   stopped_safe one stopped =
       let here : IsSafeMoment (disk_size old.disk) (past_within old new) ended.now = moment_in (IsSafeMoment (disk_size old.disk) (past_within old new)) old.disk ended new.disk one.were stopped in
       subst (λ (n : ℕ). IsSafeMoment n (past_within old new) ended.now) (sym here.bytes.size_is) here
 
-  pub stopped_own : IsKeptSafe old → IsSafeStep s r old new → IsStoppedIn old.disk ended new.disk → IsRunLeft ended (past_within old new) new.held.state.shown.guid
+  pub stopped_own : IsKeptSafe old → IsSafeStep s r old new → IsStoppedBetween old.disk ended new.disk → IsRunLeft ended (past_within old new) new.held.state.shown.guid
   stopped_own safe one stopped =
       let guid : ℕ = new.held.state.shown.guid in
       let p : Past = past_within old new in

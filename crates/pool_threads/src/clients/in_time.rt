@@ -9,7 +9,7 @@ ghost use Rattle.base.specs.steps.Refusals.{append_range, object_range};
 ghost use Rattle.base.specs.steps.Seen.{IsThrottledForGood};
 ghost use Rattle.pool_threads.specs.Answers.{state_seen};
 ghost use Rattle.pool_threads.specs.Handles.{moment_of, turns_of, view_seen};
-ghost use Rattle.pool_threads.specs.Transacts.{IsPayingTurn, plan_of};
+ghost use Rattle.pool_threads.specs.Transacts.{IsPayingTurn, plan_of_ops};
 ghost use Rattle.pool_threads.specs.Views.{SeenPool, viewed_state};
 ghost use Rattle.transactions.specs.LockRanges.{lock_ranges};
 ghost use Rattle.word_lock.specs.declared.rule.Turn.{Turn};
@@ -148,7 +148,7 @@ fn a_transact_waits_for_other_owners_alone<D: SectorDevice, W: Wait>(
         × All (λ t. IsPayingTurn (IsTrue D.keeps_model) (moment_of handle.old) t
         ⊎ (((i : ℕ) (g : Grant) → slice_get (viewed_state t.left).shown.locks i ≡ Some g
         → g.owner ≡ 3
-        → All (λ r. overlaps g.range (number_range r) ≡ false) (lock_ranges (plan_of ops)))
+        → All (λ r. overlaps g.range (number_range r) ≡ false) (lock_ranges (plan_of_ops ops)))
         ⊎ ((i : ℕ) (a : Admission)
         → slice_get (viewed_state t.left).shown.transactions i ≡ Some a → a.owner ≢ 3))) tries) }
 {

@@ -9,7 +9,7 @@ ghost use Rattle.base.specs.steps.Groups.{Admission};
 ghost use Rattle.base.specs.steps.Shown.{dirty_total};
 ghost use Rattle.pool_threads.specs.Answers.{Sees, state_seen};
 ghost use Rattle.pool_threads.specs.Handles.{kin_of, turns_of, view_seen};
-ghost use Rattle.pool_threads.specs.Transacts.{IsTransacted, Locks, Unlocks, plan_of};
+ghost use Rattle.pool_threads.specs.Transacts.{IsTransacted, Locks, Unlocks, plan_of_ops};
 ghost use Rattle.pool_threads.specs.Views.{IsPoolStep, SeenPool, viewed_state};
 ghost use Rattle.transactions.specs.LockRanges.{lock_ranges};
 ghost use Rattle.word_lock.specs.declared.rule.Turn.{Turn};
@@ -43,8 +43,8 @@ fn a_transact_locks_begins_commits_and_unlocks_in_one_turn<D: SectorDevice, W: W
         ≡ (turns_of handle.old ++ tries) ++ turn took (view_seen handle.new) ∷ [])
         × (ids : List LockId) × (tx : TxId) × (group : Group)
         × (locked : SeenPool) × (begun : SeenPool) × (done : SeenPool)
-        × Locks (IsTrue D.keeps_model) owner (lock_ranges (plan_of ops)) ids took locked
-        × IsPoolStep (IsTrue D.keeps_model) (step.Begin owner (plan_of ops))
+        × Locks (IsTrue D.keeps_model) owner (lock_ranges (plan_of_ops ops)) ids took locked
+        × IsPoolStep (IsTrue D.keeps_model) (step.Begin owner (plan_of_ops ops))
         (reply.Began tx group) locked begun
         × IsPoolStep (IsTrue D.keeps_model) (step.Commit tx ops) (reply.Committed r) begun done
         × Unlocks (IsTrue D.keeps_model) owner ids done (view_seen handle.new)) }
@@ -141,7 +141,7 @@ fn a_transact_under_the_callers_locks_makes_two_steps_in_one_turn<D: SectorDevic
         × (turns_of handle.new
         ≡ (turns_of handle.old ++ tries) ++ turn took (view_seen handle.new) ∷ [])
         × (tx : TxId) × (group : Group) × (begun : SeenPool)
-        × IsPoolStep (IsTrue D.keeps_model) (step.Begin owner (plan_of ops))
+        × IsPoolStep (IsTrue D.keeps_model) (step.Begin owner (plan_of_ops ops))
         (reply.Began tx group) took begun
         × IsPoolStep (IsTrue D.keeps_model) (step.Commit tx ops) (reply.Committed r)
         begun (view_seen handle.new)) }

@@ -2,7 +2,7 @@ use Rattle.std.proofs.Common.{ℕ, List, ap, subst, ◌∙◌}
 use Rattle.base.specs.declared.range.Range.{Range}
 use Rattle.base.specs.disk.Calls.{with_refusal}
 use Rattle.base.specs.disk.Disk.{bytes_of}
-use Rattle.commands.specs.Reads.{IsMountedRange, range_of}
+use Rattle.commands.specs.Reads.{IsMountedRange, asked_range}
 use Rattle.commands.proofs.OnlyRead.{range_of_opened, stays_opened}
 use Rattle.commands.proofs.reads.get_bytes.Goals as goal
 
@@ -11,7 +11,7 @@ returns-in-Ok-read-clause-bytes g c =
     let D = g.D.SectorDevice in
     let object : ℕ = c.args.arguments.object in
     let bytes : List ℕ = c.in-Ok-read.bytes in
-    range_of_opened D c.args.opened c.in-Ok.device c.in-Ok.is object (range_of c.args.arguments) bytes
+    range_of_opened D c.args.opened c.in-Ok.device c.in-Ok.is object (asked_range c.args.arguments) bytes
     (λ keeps. subst (λ (range : Range). IsMountedRange (bytes_of (D.disk c.in-Ok.device).now) object range bytes) c.range.ensures
     (subst (λ device. IsMountedRange (bytes_of (D.disk device).now) object c.range.result bytes) c.new-reader.ensures.device (c.in-Ok-read.ensures.bytes keeps)))
 

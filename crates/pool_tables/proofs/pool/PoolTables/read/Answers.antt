@@ -4,7 +4,7 @@ use Rattle.base.specs.steps.Refusals.{object_range}
 use Rattle.pool_tables.specs.Shows.{pool_shown}
 use Rattle.pool_tables.proofs.Flags.{from_not_false, from_not_true}
 use Rattle.pool_tables.proofs.HeldReads.{held_stands, is_absent, is_bad, is_open, is_suspended, objects_are, read_refused, read_told, tree_fits}
-use Rattle.pool_tables.proofs.ReadSteps.{has_length, read_passes}
+use Rattle.pool_tables.proofs.ReadSteps.{has_length, is_readable-not, read_passes}
 use Rattle.pool_tables.proofs.pool.PoolTables.read.Goals as goal
 
 pub returns-in_err-check_running-clause-step : goal.returns-in_err-check_running-clause-step
@@ -30,21 +30,21 @@ returns-then-not-is_readable-clause-step g c =
     let owner = c.args.owner.0 in
     let t = object_range c.args.object.0 c.args.range.low c.args.range.high in
     let s = pool_shown c.args.self.now in
-    λ past. (past, read_refused owner t s ⊥ _ past (is_bad owner t s c.in_ok-check_running.ensures (from_not_false _ _ c.is_readable.ensures.allowed c.if-not-is_readable.true)))
+    λ past. (past, read_refused owner t s ⊥ _ past (is_bad owner t s c.in_ok-check_running.ensures (from_not_false _ _ (c.is_readable.ensures.allowed ∙ is_readable-not c.args.object.0 c.args.range) c.if-not-is_readable.true)))
 
 pub returns-then-not-is_readable-clause-held : goal.returns-then-not-is_readable-clause-held
 returns-then-not-is_readable-clause-held g c =
     let owner = c.args.owner.0 in
     let t = object_range c.args.object.0 c.args.range.low c.args.range.high in
     let s = pool_shown c.args.self.now in
-    λ keeps past h. read_refused owner t s (Unit {0}) _ past (is_bad owner t s c.in_ok-check_running.ensures (from_not_false _ _ c.is_readable.ensures.allowed c.if-not-is_readable.true))
+    λ keeps past h. read_refused owner t s (Unit {0}) _ past (is_bad owner t s c.in_ok-check_running.ensures (from_not_false _ _ (c.is_readable.ensures.allowed ∙ is_readable-not c.args.object.0 c.args.range) c.if-not-is_readable.true))
 
 pub returns-then-not-covers-clause-step : goal.returns-then-not-covers-clause-step
 returns-then-not-covers-clause-step g c =
     let owner = c.args.owner.0 in
     let t = object_range c.args.object.0 c.args.range.low c.args.range.high in
     let s = pool_shown c.args.self.now in
-    let readable = from_not_true _ _ c.is_readable.ensures.allowed c.if-not-is_readable.false in
+    let readable = from_not_true _ _ (c.is_readable.ensures.allowed ∙ is_readable-not c.args.object.0 c.args.range) c.if-not-is_readable.false in
     λ past. (past, read_refused owner t s ⊥ _ past (is_open owner t s c.in_ok-check_running.ensures readable (sym c.covers.ensures ∙ c.if-not-covers.true)))
 
 pub returns-then-not-covers-clause-held : goal.returns-then-not-covers-clause-held
@@ -52,7 +52,7 @@ returns-then-not-covers-clause-held g c =
     let owner = c.args.owner.0 in
     let t = object_range c.args.object.0 c.args.range.low c.args.range.high in
     let s = pool_shown c.args.self.now in
-    let readable = from_not_true _ _ c.is_readable.ensures.allowed c.if-not-is_readable.false in
+    let readable = from_not_true _ _ (c.is_readable.ensures.allowed ∙ is_readable-not c.args.object.0 c.args.range) c.if-not-is_readable.false in
     λ keeps past h. read_refused owner t s (Unit {0}) _ past (is_open owner t s c.in_ok-check_running.ensures readable (sym c.covers.ensures ∙ c.if-not-covers.true))
 
 pub returns-in_default-clause-step : goal.returns-in_default-clause-step
@@ -60,7 +60,7 @@ returns-in_default-clause-step g c =
     let owner = c.args.owner.0 in
     let t = object_range c.args.object.0 c.args.range.low c.args.range.high in
     let s = pool_shown c.args.self.now in
-    let readable = from_not_true _ _ c.is_readable.ensures.allowed c.if-not-is_readable.false in
+    let readable = from_not_true _ _ (c.is_readable.ensures.allowed ∙ is_readable-not c.args.object.0 c.args.range) c.if-not-is_readable.false in
     let covered = sym c.covers.ensures ∙ c.if-not-covers.false in
     λ past. (past, read_refused owner t s ⊥ _ past (is_absent owner t s c.in_ok-check_running.ensures readable covered (has_length _ _ _ c.shown_length.ensures c.in_default.is)))
 
@@ -69,7 +69,7 @@ returns-in_default-clause-held g c =
     let owner = c.args.owner.0 in
     let t = object_range c.args.object.0 c.args.range.low c.args.range.high in
     let s = pool_shown c.args.self.now in
-    let readable = from_not_true _ _ c.is_readable.ensures.allowed c.if-not-is_readable.false in
+    let readable = from_not_true _ _ (c.is_readable.ensures.allowed ∙ is_readable-not c.args.object.0 c.args.range) c.if-not-is_readable.false in
     let covered = sym c.covers.ensures ∙ c.if-not-covers.false in
     λ keeps past h. read_refused owner t s (Unit {0}) _ past (is_absent owner t s c.in_ok-check_running.ensures readable covered (has_length _ _ _ c.shown_length.ensures c.in_default.is))
 
@@ -90,7 +90,7 @@ returns-clause-step g c =
     let owner = c.args.owner.0 in
     let t = object_range c.args.object.0 c.args.range.low c.args.range.high in
     let s = pool_shown c.args.self.now in
-    let readable = from_not_true _ _ c.is_readable.ensures.allowed c.if-not-is_readable.false in
+    let readable = from_not_true _ _ (c.is_readable.ensures.allowed ∙ is_readable-not c.args.object.0 c.args.range) c.if-not-is_readable.false in
     let covered = sym c.covers.ensures ∙ c.if-not-covers.false in
     let there = has_length _ _ _ c.shown_length.ensures c.in-Some.is in
     let passes = read_passes owner t s c.in_ok-check_running.ensures readable covered there in
@@ -103,7 +103,7 @@ returns-clause-held g c =
     let owner = c.args.owner.0 in
     let t = object_range c.args.object.0 c.args.range.low c.args.range.high in
     let s = pool_shown c.args.self.now in
-    let readable = from_not_true _ _ c.is_readable.ensures.allowed c.if-not-is_readable.false in
+    let readable = from_not_true _ _ (c.is_readable.ensures.allowed ∙ is_readable-not c.args.object.0 c.args.range) c.if-not-is_readable.false in
     let covered = sym c.covers.ensures ∙ c.if-not-covers.false in
     let there = has_length _ _ _ c.shown_length.ensures c.in-Some.is in
     let passes = read_passes owner t s c.in_ok-check_running.ensures readable covered there in

@@ -3,7 +3,7 @@ use Rattle.pool_threads.proofs.TransactLoops.{made_of}
 use Rattle.pool_threads.proofs.TransactsRelease.{leaves_nothing, nothing_left}
 use Rattle.pool_threads.proofs.TransactsSeen.{refusals_seen, at_last_along, at_last_seen}
 use Rattle.pool_threads.proofs.TransactsShort.{short_at_last}
-use Rattle.pool_threads.specs.Transacts.{plan_of}
+use Rattle.pool_threads.specs.Transacts.{plan_of_ops}
 use Rattle.transactions.specs.LockRanges.{lock_ranges}
 use Rattle.pool_threads.proofs.handle.Handle.transact.Goals as goal
 
@@ -24,7 +24,7 @@ returns-clause-made g c =
 pub returns-clause-committed : goal.returns-clause-committed
 returns-clause-committed g c =
     let u = made_of c.args.owner c.args.ops c.transact_at_last.result c.args.self.now c.transact_at_last.new.self c.deref.result.now c.in_ok-plan.plan c.in_ok-plan.ensures (c.deref.ensures.value ∙ c.in_ok-ranges.ensures ∙ ap lock_ranges c.as_slice.ensures) c.transact_at_last.ensures in
-    at_last_seen c.args.owner (lock_ranges (plan_of c.args.ops)) (plan_of c.args.ops) c.args.ops c.transact_at_last.result c.args.self.now c.transact_at_last.new.self u
+    at_last_seen c.args.owner (lock_ranges (plan_of_ops c.args.ops)) (plan_of_ops c.args.ops) c.args.ops c.transact_at_last.result c.args.self.now c.transact_at_last.new.self u
 
 pub returns-clause-refused : goal.returns-clause-refused
 returns-clause-refused g c =
@@ -34,19 +34,19 @@ returns-clause-refused g c =
 pub returns-clause-short : goal.returns-clause-short
 returns-clause-short g c =
     let u = made_of c.args.owner c.args.ops c.transact_at_last.result c.args.self.now c.transact_at_last.new.self c.deref.result.now c.in_ok-plan.plan c.in_ok-plan.ensures (c.deref.ensures.value ∙ c.in_ok-ranges.ensures ∙ ap lock_ranges c.as_slice.ensures) c.transact_at_last.ensures in
-    short_at_last c.args.owner (lock_ranges (plan_of c.args.ops)) (plan_of c.args.ops) c.args.ops c.transact_at_last.result c.args.self.now c.transact_at_last.new.self u
+    short_at_last c.args.owner (lock_ranges (plan_of_ops c.args.ops)) (plan_of_ops c.args.ops) c.args.ops c.transact_at_last.result c.args.self.now c.transact_at_last.new.self u
 
 pub returns-clause-same_pool : goal.returns-clause-same_pool
 returns-clause-same_pool g c =
     let u = made_of c.args.owner c.args.ops c.transact_at_last.result c.args.self.now c.transact_at_last.new.self c.deref.result.now c.in_ok-plan.plan c.in_ok-plan.ensures (c.deref.ensures.value ∙ c.in_ok-ranges.ensures ∙ ap lock_ranges c.as_slice.ensures) c.transact_at_last.ensures in
-    (at_last_along c.args.owner (lock_ranges (plan_of c.args.ops)) (plan_of c.args.ops) c.args.ops c.transact_at_last.result c.args.self.now c.transact_at_last.new.self u).same_pool
+    (at_last_along c.args.owner (lock_ranges (plan_of_ops c.args.ops)) (plan_of_ops c.args.ops) c.args.ops c.transact_at_last.result c.args.self.now c.transact_at_last.new.self u).same_pool
 
 pub returns-clause-met_none : goal.returns-clause-met_none
 returns-clause-met_none g c =
     let u = made_of c.args.owner c.args.ops c.transact_at_last.result c.args.self.now c.transact_at_last.new.self c.deref.result.now c.in_ok-plan.plan c.in_ok-plan.ensures (c.deref.ensures.value ∙ c.in_ok-ranges.ensures ∙ ap lock_ranges c.as_slice.ensures) c.transact_at_last.ensures in
-    (at_last_along c.args.owner (lock_ranges (plan_of c.args.ops)) (plan_of c.args.ops) c.args.ops c.transact_at_last.result c.args.self.now c.transact_at_last.new.self u).met_none
+    (at_last_along c.args.owner (lock_ranges (plan_of_ops c.args.ops)) (plan_of_ops c.args.ops) c.args.ops c.transact_at_last.result c.args.self.now c.transact_at_last.new.self u).met_none
 
 pub returns-clause-released : goal.returns-clause-released
 returns-clause-released g c =
     let u = made_of c.args.owner c.args.ops c.transact_at_last.result c.args.self.now c.transact_at_last.new.self c.deref.result.now c.in_ok-plan.plan c.in_ok-plan.ensures (c.deref.ensures.value ∙ c.in_ok-ranges.ensures ∙ ap lock_ranges c.as_slice.ensures) c.transact_at_last.ensures in
-    leaves_nothing c.args.owner (lock_ranges (plan_of c.args.ops)) (plan_of c.args.ops) c.args.ops c.transact_at_last.result c.args.self.now c.transact_at_last.new.self u
+    leaves_nothing c.args.owner (lock_ranges (plan_of_ops c.args.ops)) (plan_of_ops c.args.ops) c.args.ops c.transact_at_last.result c.args.self.now c.transact_at_last.new.self u

@@ -1,6 +1,6 @@
 use Rattle.std.proofs.Common.{sym, subst}
 use Rattle.pool_threads.proofs.Firsts.{if_err, if_ok, shows_mounted}
-use Rattle.pool_threads.specs.Handles.{IsReadyBehind, OpensBehind}
+use Rattle.pool_threads.specs.Handles.{IsReadyToOpen, OpensBehind}
 use Rattle.pool_threads.proofs.owned.OwnedPool.of_import.Goals as goal
 
 pub of_state-requires : goal.of_state-requires
@@ -23,4 +23,4 @@ returns-clause-refused g c = if_err _ _ c.of_state.result c.of_state.ensures.ref
 pub returns-clause-given_back : goal.returns-clause-given_back
 returns-clause-given_back g c =
     if_err _ _ c.of_state.result c.of_state.ensures.refused
-    (λ e given. subst (IsReadyBehind _ _ _) (sym given.1) c.state_behind.ensures)
+    (λ e given. subst (IsReadyToOpen _ _ _) (sym given.1) c.state_behind.ensures)

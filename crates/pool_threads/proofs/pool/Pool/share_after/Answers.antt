@@ -1,6 +1,6 @@
 use Rattle.std.proofs.Common.{◌∙◌, sym, subst}
 use Rattle.pool_threads.proofs.Firsts.{if_err, if_ok, shows_mounted}
-use Rattle.pool_threads.specs.Handles.{IsReadyBehind, OpensBehind}
+use Rattle.pool_threads.specs.Handles.{IsReadyToOpen, OpensBehind}
 use Rattle.pool_threads.specs.Views.{Explains}
 use Rattle.pool_threads.proofs.pool.Pool.share_after.Goals as goal
 
@@ -27,4 +27,4 @@ returns-clause-refused g c = if_err _ _ c.with_view.result c.with_view.ensures.r
 pub returns-clause-given_back : goal.returns-clause-given_back
 returns-clause-given_back g c =
     if_err _ _ c.with_view.result c.with_view.ensures.refused
-    (λ e given. subst (IsReadyBehind _ _ _) (sym given.1) c.state_behind-state.ensures)
+    (λ e given. subst (IsReadyToOpen _ _ _) (sym given.1) c.state_behind-state.ensures)
