@@ -66,7 +66,7 @@ pub fn open<D: SectorDevice + Drop>(
 ) -> Result<Imported<D>, PoolError>
     ensures found { IsTrue D.keeps_model → IfOk result
         (λ i. ShowsMountedContents (bytes_of (D.disk device).now)
-            (contents_of i.mounted.contents)) }
+        (contents_of i.mounted.contents)) }
     ensures opened { IsTrue D.keeps_model → IfOk result
         (λ i. IsOpened (bytes_of (D.disk device).now) (bytes_of (D.disk i.device).now) moment) }
     ensures own { IsTrue D.keeps_model
