@@ -7,10 +7,10 @@ FILE is made, or made anew, and stays; without one the pool lies in a temporary 
 
 Then there are nine rounds, each of four processes, one after the other: `ztxg show FILE`, `ztxg check FILE`, a script
 that imports the pool, and HASH_BLOCKS, which reads the same blocks one by one and makes of each the digest that its
-check is compared with. So a ratio says what the walk of a tree costs beside the hashes that it can't do without. A
-time is user and system seconds of the process. The memory is the most that was resident: it has to be under 6 MiB.
-What they print has to be the pool's. Then a script imports the pool, reads, writes and syncs, and has the digest, for
-its memory alone: under 8 MiB.
+check is compared with. So a ratio says what the walk of a tree costs beside hashes that are made one by one. It is
+below 1, since a walk hashes four data blocks side by side. A time is user and system seconds of the process. The memory
+is the most that was resident: it has to be under 6 MiB. What they print has to be the pool's. Then a script imports the
+pool, reads, writes and syncs, and has the digest, for its memory alone: under 8 MiB.
 
 At last `ztxg serve FILE` answers a frame of each call, and one of reads from more objects than its cache has tree
 blocks for. Its memory is printed, what is resident then and the most that was: under 8 MiB.
@@ -63,7 +63,7 @@ NAME, GUID, CREATED, GROUP, IMPORT = b"tank", 77, 4, 9, 1
 
 ROUNDS = 9
 # Of each process: the greatest ratio of its time to that of the hash, and the bytes that its memory stays under.
-BOUNDS = {"show": (1.2, 6 * MIB), "check": (1.2, 6 * MIB), "import": (1.1, 6 * MIB)}
+BOUNDS = {"show": (0.8, 6 * MIB), "check": (0.8, 6 * MIB), "import": (0.8, 6 * MIB)}
 MEMORY_IN_USE = 8 * MIB
 # More objects than the cache of `serve` has tree blocks for.
 READS = 300
