@@ -63,7 +63,7 @@ NAME, GUID, CREATED, GROUP, IMPORT = b"tank", 77, 4, 9, 1
 
 ROUNDS = 9
 # Of each process: the greatest ratio of its time to that of the hash, and the bytes that its memory stays under.
-BOUNDS = {"show": (0.8, 6 * MIB), "check": (0.8, 6 * MIB), "import": (0.8, 6 * MIB)}
+BOUNDS = {"show": (0.95, 6 * MIB), "check": (0.95, 6 * MIB), "import": (0.95, 6 * MIB)}
 MEMORY_IN_USE = 8 * MIB
 # More objects than the cache of `serve` has tree blocks for.
 READS = 300
