@@ -6,7 +6,7 @@
 //! 2. If a piece is refused, the pieces before it stay, and are synced as those of a whole put are.
 
 ghost use Rattle.std.specs.Io.KnownBytes.{Appends};
-ghost use Rattle.std.specs.Prelude.{ℕ, ◌≡◌, ◌≢◌, ◌≤◌, ◌<◌, ◌+◌, ◌*◌, ◌/◌, ◌^◌, ◌∷◌, [], false, true, length, min, Err, IfErr, IfOk, IsErr, Result};
+ghost use Rattle.std.specs.Prelude.{ℕ, ◌≡◌, ◌≢◌, ◌≤◌, ◌<◌, ◌+◌, ◌*◌, ◌/◌, ◌^◌, ◌∷◌, [], false, true, length, min, take, Err, IfErr, IfOk, IfSome, IsErr, Result};
 ghost use Rattle.base.specs.declared.error.PoolError as declared_error;
 ghost use Rattle.base.specs.declared.operation.Op.TheVariants.{Remove};
 ghost use Rattle.base.specs.declared.step.Reply.TheVariants as reply;
@@ -43,7 +43,10 @@ const STANDARD_INPUT: &str = "-";
 ///
 /// # Errors
 /// That of a read, or of a request for memory.
-pub fn read_input<R: Read + Drop>(alloc: Global, input: R) -> io::Result<Vec<u8>> {
+pub fn read_input<R: Read + Drop>(alloc: Global, input: R) -> io::Result<Vec<u8>>
+    ensures all { IfOk result (λ bytes. IfSome (R.remaining input) (λ left.
+        bytes.items ≡ take (max_length + 1) left)) }
+{
     let mut bytes = Vec::new(alloc);
     let _ = input.take(MAX_LENGTH + 1).read_to_end(&mut bytes)?;
     Ok(bytes)
@@ -134,6 +137,7 @@ pub fn run_put<R: Wait + AllocGlobal, D: SectorDevice + NotesRefusals + Drop, W:
     ensures unwritten { result ≡ 3 → IfOk input (λ bytes. IfOk opened (λ device. PutsAll
         D.SectorDevice device (record { 0 = arguments.entry.object }) arguments.entry.offset
         bytes.items)) }
+    ensures unprinted { result ≡ 1 → W.contents out.new ≡ W.contents out.old }
     ensures range { result ≤ 3 }
     ensures no_usage { result ≢ 2 }
 {
@@ -425,6 +429,7 @@ pub fn run_remove<
         arguments.entry.moment (record { 0 = arguments.entry.object })) }
     ensures unwritten { result ≡ 3 → IfOk opened (λ device. RemovesOn D.SectorDevice device
         (record { 0 = arguments.entry.object })) }
+    ensures unprinted { result ≡ 1 → W.contents out.new ≡ W.contents out.old }
     ensures range { result ≤ 3 }
     ensures no_usage { result ≢ 2 }
 {

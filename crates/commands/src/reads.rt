@@ -1,7 +1,7 @@
 //! The command `get`: the bytes of an object of the pool in a file, as an import would mount them. It only reads.
 
 ghost use Rattle.std.specs.Io.KnownBytes.{Appends};
-ghost use Rattle.std.specs.Prelude.{◌≡◌, ◌≢◌, ◌≤◌, Err, IfErr, IfOk, IsErr, IsOkAnd, IsTrue, OnOk};
+ghost use Rattle.std.specs.Prelude.{◌≡◌, ◌≢◌, ◌≤◌, Err, IfErr, IfOk, IsErr, IsOk, IsOkAnd, IsTrue, OnOk};
 ghost use Rattle.base.specs.disk.Disk.{bytes_of};
 ghost use Rattle.device_model.specs.Reading.{OnlyReads};
 ghost use Rattle.commands.specs.Checks.{StaysOpened};
@@ -35,6 +35,7 @@ pub fn run_get<D: SectorDevice + NotesRefusals, W: Write, E: Write>(
     ensures written { result.0 ≡ 0 → IfOk opened (λ device. IsTrue D.keeps_model
         → WritesMounted (bytes_of (D.disk device).now) arguments.entry.object
         (asked_range arguments.entry) (W.contents out.old) (W.contents out.new)) }
+    ensures unprinted { result.0 ≡ 1 → W.contents out.new ≡ W.contents out.old }
     ensures range { result.0 ≤ 3 }
     ensures no_usage { result.0 ≢ 2 }
 {
@@ -53,6 +54,8 @@ fn write_read<W: Write>(read: Result<Bytes, Failure>, out: &mut W) -> Result<(),
     ensures written { OnOk result
         (IsOkAnd read (Appends (W.contents out.old) (W.contents out.new))) }
     ensures failed { IfErr read (λ failure. result ≡ Err failure) }
+    ensures unwritten { IsOk read → IfErr result (λ failure. failure ≡ Failure.Unwritten) }
+    ensures unprinted { IsErr read → W.contents out.new ≡ W.contents out.old }
 {
     let bytes = match read {
         Ok(bytes) => bytes,

@@ -1,11 +1,13 @@
 -- What a handle does for the frames of an input, and what becomes of the input's and the output's bytes.
-use Rattle.std.specs.Prelude.{ℕ, ◌≡◌, List, [], ◌∷◌, Option, Result, Ok, Err}
+use Rattle.std.specs.Prelude.{ℕ, ◌≡◌, ◌≤◌, All, List, [], ◌∷◌, length, take, Option, Result, Ok, Err}
+use Rattle.std.specs.Int.{from_le_bytes, w32}
 use Rattle.std.specs.List.{flat_map}
 use Rattle.std.specs.Io.KnownBytes.{Appends, Consumes, IsAtEnd}
 use Rattle.base.specs.declared.error.PoolError.{PoolError}
 use Rattle.base.specs.declared.names.Group.{Group}
 use Rattle.base.specs.declared.names.Owner.{Owner}
 use Rattle.device_model.specs.declared.device.SectorDevice.{Ghosts}
+use Rattle.frames.specs.Limits.{frame_head, max_frame}
 use Rattle.pool_threads.specs.declared.handle.Handle.{Handle}
 use Rattle.pool_threads.specs.declared.shared.Shared.{Shared}
 use Rattle.pool_threads.specs.Handles.{IsNewHandle}
@@ -51,8 +53,15 @@ pub record Streams : Type 0 where
   pub input : Option (List ℕ)
   pub output : Option (List ℕ)
 
--- the frames were read from the input, and their answers were written to the output
+-- these bytes are as long as a frame may be, and the first four say how many they are
+pub record IsWhole (frame : List ℕ) : Type 0 where
+  pub least : frame_head ≤ length frame
+  pub most : length frame ≤ max_frame
+  pub said : from_le_bytes w32 (take 4 frame) ≡ length frame
+
+-- the frames were read from the input, each whole, and their answers were written to the output
 pub record Exchanges (xs : List Exchange) (old new : Streams) : Type 0 where
+  pub whole : All (λ (x : Exchange). IsWhole x.frame) xs
   pub reads : Consumes old.input new.input (frames_of xs)
   pub writes : Appends old.output new.output (answers_of xs)
 

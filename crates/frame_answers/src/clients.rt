@@ -7,7 +7,7 @@ ghost use Rattle.base.specs.declared.names.Group as group;
 ghost use Rattle.base.specs.declared.names.Receipt as receipt;
 ghost use Rattle.device_model.specs.declared.device.SectorDevice as device;
 ghost use Rattle.frame_answers.specs.Calls.{durable_receipt, outcome_of};
-ghost use Rattle.frame_answers.specs.Serving.{AnswersFrames, Exchange, answers_of, frames_of, program};
+ghost use Rattle.frame_answers.specs.Serving.{AnswersFrames, Exchange, IsWhole, answers_of, frames_of, program};
 ghost use Rattle.frames.specs.Answers.{bytes_of_answers, bytes_of_refused};
 ghost use Rattle.frames.specs.Requests.{IsFrameOf};
 ghost use Rattle.frames.specs.declared.answer.Answer as answer;
@@ -120,7 +120,8 @@ fn a_serve_only_answers_frames_and_syncs<D: SectorDevice, W: Wait, R: Read, O: W
     serve(rt, alloc, pool, input, output)
 }
 
-// An input of known bytes that ended after a whole frame is those frames, and the output got the answers to them.
+// An input of known bytes that ended after a whole frame is those frames, each of which says its own length, and the
+// output got the answers to them.
 fn a_serve_that_ends_well_answered_all_of_its_input<D: SectorDevice, W: Wait>(
     rt: &W,
     alloc: Global,
@@ -129,7 +130,7 @@ fn a_serve_that_ends_well_answered_all_of_its_input<D: SectorDevice, W: Wait>(
     output: &mut Vec<u8>,
 ) -> Result<Ending, PoolError>
     ensures { result ≡ Ok Ending.Done → (exchanges : List Exchange)
-        × (frames_of exchanges ≡ input.old.now)
+        × All (λ x. IsWhole x.frame) exchanges × (frames_of exchanges ≡ input.old.now)
         × (output.new.items ≡ output.old.items ++ answers_of exchanges) }
 {
     serve(rt, alloc, pool, input, output)

@@ -1,10 +1,11 @@
 //! The frames of an input, one after another, each answered before the next is read.
 
-ghost use Rattle.std.specs.Prelude.{ℕ, ◌≡◌, ◌≤◌, ◌++◌, List, Result, Err, IfErr, IfOk, IsOk, OnOk, length, take, true};
+ghost use Rattle.std.specs.Prelude.{ℕ, ◌≡◌, ◌≤◌, ◌⊎◌, ◌++◌, List, Result, Err, IfErr, IfOk, IsOk, OnOk, length, take, true};
 ghost use Rattle.std.specs.Io.KnownBytes.{Appends, Consumes};
 ghost use Rattle.base.specs.declared.error.PoolError as declared_error;
 ghost use Rattle.base.specs.declared.names.Group as group;
-ghost use Rattle.frame_answers.specs.Serving.{AnswersFrames, EndsWell, Exchange, GoesOnWell, ReadsFrame, ServesFrames, program};
+ghost use Rattle.frame_answers.specs.Serving.{AnswersFrames, EndsWell, Exchange, GoesOnWell, IsWhole, ReadsFrame, ServesFrames, program};
+ghost use Rattle.frames.specs.Limits.{frame_head, max_frame};
 ghost use Rattle.pool_threads.specs.Handles.{shared_of};
 
 use crate::answering::answer_frame;
@@ -137,7 +138,9 @@ fn write_answer<O: Write>(output: &mut O, answer: &[u8]) -> io::Result<()>
 /// Reads a frame in place of the bytes that there were. If its length can't be a frame's, these four bytes are all:
 /// they are refused `BadLength`.
 fn read_frame<R: Read>(input: &mut R, frame: &mut Vec<u8>) -> Result<(), Ending>
-    ensures { ReadsFrame result frame.new.items (R.remaining input.old) (R.remaining input.new) }
+    ensures reads { ReadsFrame result frame.new.items
+        (R.remaining input.old) (R.remaining input.new) }
+    ensures whole { OnOk result ((length frame.new.items ≡ 4) ⊎ IsWhole frame.new.items) }
 {
     frame.clear();
     let mut length = [0; LENGTH_SIZE];
@@ -165,7 +168,7 @@ fn read_frame<R: Read>(input: &mut R, frame: &mut Vec<u8>) -> Result<(), Ending>
 
 /// Whether a frame may have this length.
 fn is_size(size: u32) -> bool
-    ensures { result ≡ true → 4 ≤ size }
+    ensures { result ≡ true → (frame_head ≤ size) × (size ≤ max_frame) }
 {
     size >= FRAME_HEAD as u32 && u64::from(size) <= MAX_FRAME
 }
@@ -188,8 +191,10 @@ fn read_length<R: Read>(input: &mut R, length: &mut [u8; LENGTH_SIZE]) -> Result
 /// Reads what follows the length of a frame.
 fn read_rest<R: Read>(input: &mut R, frame: &mut Vec<u8>) -> io::Result<()>
     requires { 4 ≤ length frame.old.items }
-    ensures { OnOk result ((rest : List ℕ) × (frame.new.items ≡ take 4 frame.old.items ++ rest)
+    ensures reads { OnOk result ((rest : List ℕ)
+        × (frame.new.items ≡ take 4 frame.old.items ++ rest)
         × Consumes (R.remaining input.old) (R.remaining input.new) rest) }
+    ensures size { length frame.new.items ≡ length frame.old.items }
 {
     input.read_exact(&mut frame.as_mut_slice()[LENGTH_SIZE..])
 }

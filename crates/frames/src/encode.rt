@@ -31,6 +31,7 @@ use transactions::{Record, encode_into};
 /// and there is no memory for more.
 pub fn encode_answers(out: &mut Vec<u8>, answers: &[Answer]) -> Result<(), FrameError>
     ensures bytes { OnOk result (out.new.items ≡ out.old.items ++ bytes_of_answers answers.now) }
+    ensures small { OnOk result (size_of_answers answers.now ≤ max_frame) }
     ensures refused { IfErr result (λ e. (e ≡ FrameError.NoMemory)
         ⊎ ((e ≡ FrameError.AnswersTooLong) × (max_frame < size_of_answers answers.now))) }
     ensures room { HasRoomFor out.old (size_of_answers answers.now)

@@ -1,7 +1,10 @@
-use Rattle.std.proofs.Common.{◌++◌}
+use Rattle.std.proofs.Common.{[], ◌++◌, refl}
 use Rattle.frame_answers.specs.Serving.{Streams, program}
-use Rattle.frame_answers.proofs.Served.{answers_then, ends_then, exchanges_then}
+use Rattle.frame_answers.proofs.Served.{answers_then, ends_then, exchanges_none, exchanges_then}
 use Rattle.frame_answers.proofs.serving.answer_all.Goals as goal
+
+pub loop-init : goal.loop-init
+loop-init g c = ([], refl, exchanges_none (record { input = g.R.Read.remaining c.args.input.now; output = g.O.Write.contents c.args.output.now }))
 
 pub returns-in-Err : goal.returns-in-Err
 returns-in-Err g c =
