@@ -12,7 +12,6 @@ pub mod PoolViews
 pub mod CallStages
 pub mod CrashRule
 pub mod LogViews
-pub mod SyncPaths
 pub mod OwnDisks
 pub mod NewViews
 pub mod NewDisks

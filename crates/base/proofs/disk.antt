@@ -1,4 +1,5 @@
 pub mod Put
+pub mod SyncOrder
 pub mod Moments
 pub mod Regions
 pub mod Fairness

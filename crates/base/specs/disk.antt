@@ -1,5 +1,6 @@
 pub mod Disk
 pub mod Calls
+pub mod DiskCalls
 pub mod Fairness
 pub mod Crashes
 pub mod SyncOrder

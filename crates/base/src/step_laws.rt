@@ -1,11 +1,11 @@
 //! What each step keeps of a pool: each function's contract is a law, and its body does nothing.
 
-ghost use Rattle.base.specs.crash.CrashRule.{OwnDisksMount, SteadyImportsMount};
+ghost use Rattle.base.specs.kept.CrashRule.{OwnDisksMount, SteadyImportsMount};
 ghost use Rattle.base.specs.steps.Additions.{PastsAreTold, PastsGrow};
 ghost use Rattle.base.specs.steps.Locks.{BusyIsUnsound};
 ghost use Rattle.base.specs.steps.Tables.{StepsKeepTables, RunsKeepTables, NewPoolsAreExplained};
 ghost use Rattle.base.specs.steps.Readers.{ReadersAreKept};
-ghost use Rattle.base.specs.stored.HeldMounts.{MountsAgree, HeldMounts, IdleMounts};
+ghost use Rattle.base.specs.kept.HeldMounts.{MountsAgree, HeldMounts, IdleMounts};
 ghost use Rattle.base.specs.steps.SyncEnds.{SuspendedPoolsRefuse, SuspendedPoolsStay, SyncsEndOnTime};
 
 /// Each step keeps what is shown of a pool exact, with what is charged and reserved and free blocks enough for it,

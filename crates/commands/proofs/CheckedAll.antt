@@ -6,7 +6,7 @@ use Rattle.std.specs.Io.KnownBytes.{Appends}
 use Rattle.std.specs.Prelude.{IfErr, IfOk, OnOk, Option, Some, codes}
 use Rattle.std.proofs.lemmas.List.{drop_more}
 use Rattle.base.specs.declared.error.PoolError.{PoolError}
-use Rattle.base.specs.crash.Mount.{MountsTo}
+use Rattle.base.specs.tree.Mount.{MountsTo}
 use Rattle.base.specs.declared.error.PoolError.TheVariants.{BadGeometry, Damaged, NoMemory, NoPool, Read}
 use Rattle.base.specs.declared.names.Group.{Group}
 use Rattle.base.specs.disk.Disk.{bytes_of}

@@ -1,5 +1,5 @@
 -- What a command's handle has committed is in its history, in order, and once the pool is synced no crash loses it.
-use Rattle.std.proofs.Common.{◌≡◌, ◌≢◌, ◌+◌, ◌*◌, ◌<◌, ◌≤◌, ◌∷◌, [], ℕ, zero, suc, List, Ok, Err, ap, arith, inl, inr, length, length-append, min, refl, subst, sym, take, true, ◌∙◌}
+use Rattle.std.proofs.Common.{◌≡◌, ◌≢◌, ◌*◌, ◌<◌, ◌≤◌, ◌∷◌, [], ℕ, zero, suc, List, Ok, Err, ap, arith, inl, inr, length, min, refl, subst, sym, take, true, ◌∙◌}
 use Rattle.std.specs.Prelude.{Bool, IsTrue, None, Option, Result, Some, is_ok, slice_get}
 use Rattle.std.proofs.Math.Logic.{∥∥₁_elim, ∥∥₁_map, ∥∥₁_prop}
 use Rattle.std.proofs.Math.Seq.{take-length}
@@ -15,13 +15,12 @@ use Rattle.base.specs.declared.operation.Op.{Op}
 use Rattle.base.specs.declared.operation.Op.TheVariants.{Remove}
 use Rattle.base.specs.declared.operation.Shape.{Shape}
 use Rattle.base.specs.declared.range.ObjectRange.{ObjectRange}
-use Rattle.base.specs.history.Past.{IsPrefixOf}
 use Rattle.base.specs.steps.Tables.{GoesOn, AreTablesExplained}
 use Rattle.base.specs.steps.Steps.{State}
 use Rattle.base.proofs.common.KeptLists.{none_at}
 use Rattle.base.proofs.steps.KeptTables.{runs_keep_tables}
 use Rattle.base.proofs.steps.SeenGroups.{groups_go_up}
-use Rattle.base.proofs.steps.SeenStates.{at-prefix, grown}
+use Rattle.base.proofs.steps.SeenStates.{at-prefix, grown, no-shorter}
 use Rattle.device_model.specs.declared.device.SectorDevice.{Ghosts}
 use Rattle.pool_threads.specs.declared.handle.Handle.{Handle}
 use Rattle.pool_threads.specs.Answers.{state_seen}
@@ -44,9 +43,6 @@ below : {A : Type 0} (xs : List A) (i : ℕ) (x : A) → slice_get xs i ≡ Some
 below [] i x at = absurd (none_at i x at)
 below (y ∷ ys) zero x at = omega arith
 below (y ∷ ys) (suc i) x at = let rest : i < length ys = below ys i x at in omega (arith, rest)
-
-no_shorter : {A : Type 0} (xs ys : List A) → IsPrefixOf xs ys → length xs ≤ length ys
-no_shorter xs ys (more, is) = let same : length ys ≡ length xs + length more = ap length is ∙ length-append xs more in omega (arith, same)
 
 -- entries stay where they are, and no crash loses them once none loses any of the earlier state
 entered_on : (durable later : Type 0) (all : List (List Op)) (from : ℕ) (s t : State) → GoesOn s t → (later → AreDurable s t) → AreEntered durable all from s → AreEntered later all from t
@@ -180,7 +176,7 @@ module _ {Dev : Type 0} {G : Ghosts Dev} where
       ∥∥₁_elim along.onward.goes_on ∥∥₁_prop (λ onward.
       ∥∥₁_map {B = AreEntered durable all (length (state_seen first).past.entries) s} there (λ h.
       entered_from durable all (length (state_seen first).past.entries) (length (state_seen old).past.entries) s
-      (no_shorter (state_seen first).past.entries (state_seen old).past.entries (grown (state_seen first) (state_seen old) onward).entries) h))
+      (no-shorter (state_seen first).past.entries (state_seen old).past.entries (grown (state_seen first) (state_seen old) onward).entries) h))
 
   pub put_stands : (start : Start) (n : ObjectId) (offset : Option ℕ) (bytes : List ℕ) (put : Put) (result : Result (Unit {0}) PoolError) (first old new : Handle Dev G) → GoesAlong first old → PutsFrom start n offset bytes put result old new
       → ∥ AreNewEntries (put.is_synced ≡ true) (take put.transactions (put_transactions start n offset bytes)) (state_seen first) (state_seen new) ∥₁

@@ -1,25 +1,22 @@
 -- What a check finds is so of the image, as an inspection of it says. An image that mounts contents is found clean.
-use Rattle.std.proofs.Common.{◌≡◌, inl, inr, ℕ, List, Result, Ok, Err, IsTrue, refl, subst}
+use Rattle.std.proofs.Common.{◌≡◌, inl, inr, ℕ, List, Result, Ok, Err, IsTrue, refl}
 use Rattle.std.specs.Prelude.{IfErr, IfOk, OnOk}
 use Rattle.base.specs.declared.error.PoolError.{PoolError}
 use Rattle.base.specs.declared.error.PoolError.TheVariants.{BadGeometry, Damaged, NoMemory, NoPool, Read}
-use Rattle.base.specs.crash.Mount.{HasNoPool, IsTreeDamaged, Mounts, frame_of}
+use Rattle.base.specs.tree.Mount.{Mounts}
 use Rattle.base.specs.disk.Disk.{bytes_of}
 use Rattle.base.specs.formats.Chain.{LogPiece}
 use Rattle.base.specs.formats.Geometry.{IsGeometry}
-use Rattle.base.specs.formats.Labels.{HasNoConfig}
 use Rattle.base.specs.formats.Uberblocks.{Uberblock}
 use Rattle.base.specs.history.Contents.{Contents}
-use Rattle.base.specs.tree.Damages.{IsFirstDamage}
 use Rattle.base.proofs.crash.LogChains.{mounted_not_damaged}
-use Rattle.base.proofs.crash.OneMount.{one-active}
-use Rattle.base.proofs.tree.SoundTrees.{no_damage}
 use Rattle.device_model.specs.Reading.{OnlyReads}
 use Rattle.device_model.specs.declared.device.SectorDevice.{Ghosts}
 use Rattle.device_model.specs.declared.held_file.FileRefusal.{FileRefusal}
 use Rattle.import_replay.specs.Inspections.{IsInspectionOf, mount_of}
 use Rattle.import_replay.specs.Refused.{IsInspectionRefused}
 use Rattle.import_replay.specs.declared.inspection.Inspected.{Inspected}
+use Rattle.import_replay.proofs.OwnRefusals.{has_pool, is_sound}
 use Rattle.commands.specs.Checks.{IsCheckRefusal, IsFoundIn, MountsWhole, finding_status, found_of}
 use Rattle.commands.specs.declared.checks.Finding.{Finding}
 use Rattle.commands.specs.declared.checks.Finding.TheVariants as finding
@@ -65,24 +62,9 @@ module _ {Dev : Type 0} (D : Ghosts Dev) where
 
 -- an image that mounts contents
 module _ (image : List ℕ) (u : Uberblock) (chain : List LogPiece) (contents : Contents) (mounts : Mounts image u chain contents) where
-  -- has a pool
-  has_pool : HasNoPool image → ⊥
-  has_pool (inl none) = let active = mounts.found.pool.active in none active.label u active.in_range active.stands
-  has_pool (inr (v, active, none)) =
-      let same : v ≡ u = one-active image v u active mounts.found.pool.active in
-      let chosen = mounts.found.pool.chosen in
-      subst (λ (w : Uberblock). HasNoConfig image w.guid w.group) same none chosen.label mounts.found.pool.config_group mounts.synced.name chosen.in_range chosen.not_above chosen.stands
-
-  -- has no damage in its tree
-  pub is_sound : (kind address : ℕ) → IsTreeDamaged image kind address → ⊥
-  is_sound kind address damaged =
-      let same : damaged.u ≡ u = one-active image damaged.u u damaged.pool.active mounts.found.pool.active in
-      no_damage image (frame_of image u) u.root mounts.synced.objects mounts.found.tree kind address
-      (subst (λ (w : Uberblock). IsFirstDamage image (frame_of image w) w.root kind address) same damaged.damage)
-
-  -- so it is found clean
+  -- is found clean
   pub found_clean : (finding : Finding) → IsFoundIn image finding → finding_status finding ≡ 0
   found_clean (finding.Clean group records) found = refl
-  found_clean (finding.Damaged kind address) (inl damaged) = absurd (is_sound kind address damaged)
+  found_clean (finding.Damaged kind address) (inl damaged) = absurd (is_sound image u chain contents mounts kind address damaged)
   found_clean (finding.Damaged kind address) (inr (is, damaged)) = absurd (mounted_not_damaged image contents address (u, chain, mounts) damaged)
-  found_clean finding.NoPool found = absurd (has_pool found)
+  found_clean finding.NoPool found = absurd (has_pool image u chain contents mounts found)

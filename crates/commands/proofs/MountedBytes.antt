@@ -3,7 +3,7 @@ use Rattle.std.proofs.Common.{◌≡◌, [], ◌∷◌, List, ℕ, Result, Ok, E
 use Rattle.std.specs.FinMap as finite
 use Rattle.std.specs.Io.KnownBytes.{Appends}
 use Rattle.std.specs.Prelude.{IfOk, IsOkAnd}
-use Rattle.base.specs.crash.Mount.{MountsTo}
+use Rattle.base.specs.tree.Mount.{MountsTo}
 use Rattle.base.specs.declared.names.ObjectId.{ObjectId}
 use Rattle.base.specs.declared.range.Range.{Range}
 use Rattle.base.specs.history.Contents.{Contents}

@@ -5,7 +5,7 @@ use Rattle.base.specs.declared.error.PoolError.TheVariants as refusal
 use Rattle.base.specs.declared.error.PoolError.TheVariants.{BadGeometry, NoMemory, Read}
 use Rattle.base.specs.disk.Calls.{with_refusal}
 use Rattle.base.specs.formats.Geometry.{IsGeometry}
-use Rattle.base.specs.crash.Mount.{HasNoPool, IsChainDamaged, IsMounted, Mount, MountsTo}
+use Rattle.base.specs.tree.Mount.{HasNoPool, IsChainDamaged, IsMounted, Mount, MountsTo}
 use Rattle.base.specs.history.Contents.{Contents}
 use Rattle.device_model.specs.declared.device.SectorDevice.{Ghosts}
 use Rattle.device_model.specs.declared.held_file.FileRefusal.{FileRefusal}

@@ -1,7 +1,7 @@
 -- What a command's handle commits, one transaction after another, and what its history then has of it.
 use Rattle.std.specs.Prelude.{ℕ, zero, suc, false, true, ◌≡◌, ◌≢◌, ◌≤◌, ◌⊎◌, ◌*◌, IsTrue, List, [], ◌∷◌, Ok, Option, Err, Result, Some, is_ok, length, min, slice_get}
 use Rattle.std.specs.Io.KnownBytes.{Appends}
-use Rattle.base.specs.crash.Imports.{is_dirty_max_allowed}
+use Rattle.base.specs.kept.Imports.{is_dirty_max_allowed}
 use Rattle.base.specs.declared.error.PoolError.{PoolError}
 use Rattle.base.specs.declared.error.PoolError.TheVariants.{BadGeometry, BadRange}
 use Rattle.base.specs.declared.names.Group.{Group}

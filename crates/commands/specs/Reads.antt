@@ -1,7 +1,7 @@
 -- What `get` writes: bytes of an object in what the image mounts.
 use Rattle.std.specs.Prelude.{ℕ, ◌≡◌, ◌≢◌, ◌+◌, List, Option, None, Some, min}
 use Rattle.std.specs.Io.KnownBytes.{Appends}
-use Rattle.base.specs.crash.Mount.{MountsTo}
+use Rattle.base.specs.tree.Mount.{MountsTo}
 use Rattle.base.specs.declared.error.PoolError.{PoolError}
 use Rattle.base.specs.declared.error.PoolError.TheVariants.{Flush, Write}
 use Rattle.base.specs.declared.range.Range.{Range}

@@ -7,7 +7,7 @@ mod refusals;
 mod served;
 
 ghost use Rattle.std.specs.Prelude.{◌≡◌, ◌≢◌, ℕ, IfOk, IsOk, IsTrue};
-ghost use Rattle.base.specs.crash.Mount.{IsTreeDamaged, MountsTo};
+ghost use Rattle.base.specs.tree.Mount.{IsTreeDamaged, MountsTo};
 ghost use Rattle.base.specs.disk.Disk.{bytes_of};
 ghost use Rattle.base.specs.history.Contents.{Contents};
 ghost use Rattle.commands.specs.Checks.{finding_status};

@@ -33,7 +33,7 @@ ops_with group entries entry =
     go false = refl
 
 -- the patches at each place are sized
-sized_at : (e : Option Extents) (n : ℕ) → IsSized (option_map_or patches_of e (λ _. no_patch) n)
+pub sized_at : (e : Option Extents) (n : ℕ) → IsSized (option_map_or patches_of e (λ _. no_patch) n)
 sized_at None n = sized_in None
 sized_at (Some e) n = patches_sized e n
 

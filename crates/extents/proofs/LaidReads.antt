@@ -1,11 +1,13 @@
 -- What reads of objects give where patches are laid over them: lengths and bytes, from those below.
-use Rattle.std.proofs.Common.{◌≡◌, Bool, ◌||◌, ℕ, ◌+◌, ◌<◌, ◌≤◌, ◌⊎◌, inl, inr, true, false, refl, ap, subst, sym, ◌∙◌, List, [], length, Option, Some, None}
+use Rattle.std.proofs.Common.{◌≡◌, ℕ, ◌+◌, ◌<◌, ◌≤◌, ◌⊎◌, inl, inr, true, false, refl, ap, subst, sym, ◌∙◌, List, [], length, Option, Some, None}
 use Rattle.std.specs.Prelude.{is_some, option_map, unwrap_or}
 use Rattle.std.proofs.lemmas.Bool.{cases_Bool, cases_lt, false≢true}
+use Rattle.std.proofs.Math.Bool.{or-true}
 use Rattle.std.specs.Ordering.{nat_cmp}
 use Rattle.std.specs.FinMap as finite
 use Rattle.std.specs.FinMap.{FinMap}
 use Rattle.base.specs.formats.Limits.{object_count}
+use Rattle.base.proofs.common.Choices.{none_there}
 use Rattle.object_maps.specs.Sources.{AreBytesFrom, object_bytes, object_length}
 use Rattle.extents.specs.declared.basis.Basis.{Basis}
 use Rattle.extents.specs.declared.basis.Basis.TheVariants.{Grown, Cut, Made, Gone}
@@ -79,14 +81,6 @@ module _ (patches : Patches) (below : FinMap nat_cmp (List ℕ)) (n : ℕ) where
   same_object none there = laid_object no_patch none there ∙ patched_nothing (finite.get below n)
 
 -- what the changes of groups, laid over bytes, give
-absent-some : (o : Option (List ℕ)) → is_some o ≡ false → o ≡ None
-absent-some None is = refl
-absent-some (Some bytes) is = absurd (false≢true (sym is))
-
-pub or-true : (b : Bool) → (b || true) ≡ true
-or-true true = refl
-or-true false = refl
-
 made_hides : (basis : Basis) (written : ℕ → Option ℕ) (offset count : ℕ) → is_some (patched (record { basis = basis; written = written }) None) ≡ true → HidesBelow (record { basis = basis; written = written }) offset count
 made_hides (Grown end) written offset count there = absurd (false≢true there)
 made_hides (Cut kept size) written offset count there = absurd (false≢true there)
@@ -115,7 +109,7 @@ over_below patches n offset below old new lays there reads = go (cases_Bool (is_
     go : (is_some (finite.get below n) ≡ true) ⊎ (is_some (finite.get below n) ≡ false) → AreBytesFrom offset (object_bytes (laid_over patches below) n) new
     go (inl some) = lays below there (inr (reads some))
     go (inr none) =
-        let alone : is_some (patched (patches n) None) ≡ true = subst (λ (o : Option (List ℕ)). is_some (patched (patches n) o) ≡ true) (absent-some (finite.get below n) none)
+        let alone : is_some (patched (patches n) None) ≡ true = subst (λ (o : Option (List ℕ)). is_some (patched (patches n) o) ≡ true) (none_there (finite.get below n) none)
         (ap is_some (sym (get-laid_over patches below n (numbered patches below n there))) ∙ there) in
         lays below there (inl (made_hides (patches n).basis (patches n).written offset (length old) alone))
 

@@ -10,7 +10,7 @@ use Rattle.extents.specs.declared.basis.Basis.{Basis}
 use Rattle.extents.specs.declared.basis.Basis.TheVariants.{Grown, Cut, Made, Gone}
 use Rattle.extents.specs.declared.object.ObjectPatch.{ObjectPatch}
 use Rattle.extents.specs.declared.extents.Extents.{Extents}
-use Rattle.object_maps.specs.Sources.{AreWithin}
+use Rattle.tree_blocks.specs.ListedObjects.{AreWithin}
 use Rattle.extents.specs.Laws.{StayWithin}
 use Rattle.extents.specs.Patches.{Patches, IsSized, laid_over, least_length, length_over, patched}
 use Rattle.extents.specs.Tables.{entry_at, patch_in, patches_of}

@@ -2,10 +2,10 @@
 use Rattle.std.proofs.Common.{◌≡◌, ℕ, zero, suc, cond, [], ◌∷◌, ◌&&◌, ◌<◌, ◌≤◌, ◌+◌, ◌-◌, ◌==◌, true, refl, ap, ◌∙◌, arith, ◌⊎◌, inl, inr, bit_and, bit_or, List, ◌++◌, length, get_or, take, drop, replicate, Some}
 use Rattle.std.specs.Prelude.{All, nat_le, nat_lt}
 use Rattle.std.proofs.lemmas.Bool.{or_cases, eqb-true, cases_lt, lt-leb, le-leb, lt-ltb, le-ltb}
-use Rattle.std.proofs.lemmas.List.{get_or-append_right, get_or_append_left, length-append, length-take, length-take-le, length-replicate, get_or-replicate, get_or-take, get_or_past}
+use Rattle.std.proofs.lemmas.List.{length-append, length-take, length-replicate, get_or-replicate, get_or-take, get_or_past}
 use Rattle.std.proofs.lemmas.List.Elements.{All-append, All-take, All-drop, All-replicate}
 use Rattle.base.specs.disk.Disk.{put}
-use Rattle.base.proofs.disk.Put.{get_or-put_other}
+use Rattle.base.proofs.disk.Put.{get_or-put_other, get_or-put_in}
 use Rattle.std.specs.Int.Bits.{and_zero_r, or_zero_l, or_zero_r}
 use Rattle.std.proofs.lemmas.Grind.{and_numeral}
 use Rattle.extents.specs.Marks.{is_mark, laid_byte, byte_in, marked_byte, with_zeros}
@@ -18,14 +18,6 @@ masked_byte mark byte below is b l = go (or_cases (mark == 0) (mark == 255) is)
     go : ((mark == 0) ≡ true) ⊎ ((mark == 255) ≡ true) → bit_or (bit_and byte mark) (bit_and below (255 - mark)) ≡ laid_byte mark byte below
     go (inl e) = let z : mark ≡ 0 = eqb-true mark 0 e in rw (z, and_zero_r, or_zero_l) (and_numeral below 254 refl ∙ (omega arith))
     go (inr e) = let z : mark ≡ 255 = eqb-true mark 255 e in rw (z, and_zero_r, or_zero_r) (and_numeral byte 254 refl ∙ (omega arith))
-
--- what is put at an offset
-get_or-put_in : (place : ℕ) (content bytes : List ℕ) (k : ℕ) → place + length content ≤ length bytes → place ≤ k → k < place + length content
-    → get_or (put place content bytes) k 0 ≡ get_or content (k - place) 0
-get_or-put_in place content bytes k fits from within =
-    let short : length (take place bytes) ≡ place = length-take-le place bytes (omega arith) in
-    get_or-append_right (take place bytes) (content ++ drop (place + length content) bytes) place k 0 short from
-    ∙ get_or_append_left content (drop (place + length content) bytes) 0 (k - place) (omega arith)
 
 -- the bytes that were written once more are
 pub written_bytes : (offset : ℕ) (content bytes mask : List ℕ) → offset + length content ≤ length bytes → offset + length content ≤ length mask

@@ -3,6 +3,7 @@ use Rattle.std.proofs.Common.{◌≡◌, ℕ, ◌+◌, ◌-◌, ◌*◌, ◌<◌
 use Rattle.std.specs.Prelude.{Bool, not, ◌||◌, is_some, nat_lt, option_map, unwrap_or}
 use Rattle.std.proofs.lemmas.List.{get_or_past}
 use Rattle.std.proofs.lemmas.Bool.{cases_lt, lt-ltb, le-ltb}
+use Rattle.std.proofs.Math.Bool.{or-true}
 use Rattle.object_maps.specs.Sources.{AreBytesFrom}
 use Rattle.extents.specs.declared.basis.Basis.{Basis}
 use Rattle.extents.specs.declared.basis.Basis.TheVariants.{Grown, Cut, Made, Gone}
@@ -45,10 +46,6 @@ count_shown shown start size count k is inside = go (cases_lt (start + k) shown)
     go (inl l) = rw (lt-ltb k count (omega arith), lt-ltb (start + k) shown l) refl
     go (inr g) = rw (le-ltb k count (omega arith), le-ltb (start + k) shown g) refl
 
-or_true : (b : Bool) → (b || true) ≡ true
-or_true true = refl
-or_true false = refl
-
 seen_alone : (b shows : Bool) → (b || not shows) ≡ true → shows ≡ true → b ≡ true
 seen_alone true shows either is = refl
 seen_alone false true either is = either
@@ -66,7 +63,7 @@ module _ (basis : Basis) (written : ℕ → Option ℕ) (index start shown count
       go : (k < count) ⊎ (count ≤ k) → nat_lt k count ≡ is_shown basis (4032 * index + (start + k))
           → (is_some (written (4032 * index + (start + k))) || not (is_shown basis (4032 * index + (start + k)))) ≡ true
       go (inl l) shows = rw (covers k l) refl
-      go (inr g) shows = rw (sym shows, le-ltb k count g) (or_true (is_some (written (4032 * index + (start + k)))))
+      go (inr g) shows = rw (sym shows, le-ltb k count g) (or-true (is_some (written (4032 * index + (start + k)))))
 
   -- and where those below are hidden, each byte that shows was written
   pub written_where_hidden : HidesBelow (record { basis = basis; written = written }) (4032 * index + start) size → (k : ℕ) → k < count → is_some (written (4032 * index + (start + k))) ≡ true

@@ -1,6 +1,7 @@
 -- What patches make of an object of three bytes, and of none.
 use Rattle.std.proofs.Common.{◌≡◌, ℕ, ◌<◌, ◌+◌, Bool, true, false, List, [], ◌∷◌, get_or, refl, ap, subst, ◌∙◌, Option, Some, None, arith}
 use Rattle.std.proofs.lemmas.Bool.{false≢true}
+use Rattle.std.proofs.Math.Bool.{or-true}
 use Rattle.std.specs.Prelude.{IsTrue, is_some, unwrap_or}
 use Rattle.std.specs.Ordering.{nat_cmp}
 use Rattle.std.specs.FinMap as finite
@@ -11,7 +12,6 @@ use Rattle.extents.specs.declared.basis.Basis.TheVariants.{Cut, Made}
 use Rattle.extents.specs.Objects.{HidesBelow}
 use Rattle.extents.specs.Patches.{Patch, Patches, filled, laid_over, no_patch, patched}
 use Rattle.extents.proofs.LaidObjects.{get-laid_over}
-use Rattle.extents.proofs.LaidReads.{or-true}
 use Rattle.extents.proofs.PatchedBytes.{filled-in}
 
 -- cut to one byte, and three bytes long again

@@ -6,7 +6,7 @@ use Rattle.base.specs.declared.operation.Op.{Op}
 use Rattle.base.specs.history.Contents.{Contents, name_given_by_all}
 use Rattle.base.specs.history.History.{Entry, IsHistory, apply_all, replay, entries_up_to}
 use Rattle.base.specs.steps.Steps.{ops_of_group}
-use Rattle.object_maps.specs.Sources.{AreWithin}
+use Rattle.tree_blocks.specs.ListedObjects.{AreWithin}
 use Rattle.extents.specs.declared.extents.Extents.{Extents}
 use Rattle.extents.specs.Tables.{AppliesOps, patches_of}
 use Rattle.extents.specs.Patches.{Patch, Patches, IsSized, length_over, ArePatchesOf, AreNumbered, patched, no_patch, with_ops, laid_groups, laid_over}

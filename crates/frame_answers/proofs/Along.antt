@@ -1,5 +1,5 @@
 -- A handle that makes the calls of a frame stays in its pool, and sees what goes on from what it had seen.
-use Rattle.std.proofs.Common.{◌++◌, ◌∷◌, [], List, inl, inr, refl, sym, subst}
+use Rattle.std.proofs.Common.{List, inl, inr}
 use Rattle.std.specs.Prelude.{ℕ, IsTrue, None, Option, Result, Ok, Err, Some}
 use Rattle.base.specs.declared.error.PoolError.{PoolError}
 use Rattle.base.specs.declared.names.Group.{Group}
@@ -9,37 +9,25 @@ use Rattle.base.specs.declared.operation.Op.{Op}
 use Rattle.base.specs.declared.step.Reply as declared_reply
 use Rattle.base.specs.declared.step.Reply.TheVariants as reply
 use Rattle.device_model.specs.declared.device.SectorDevice.{Ghosts}
-use Rattle.pool_tables.specs.declared.duty.Duty.{Duty}
 use Rattle.pool_tables.specs.declared.duty.Duty.TheVariants as duty
 use Rattle.pool_threads.specs.declared.handle.Handle.{Handle}
 use Rattle.pool_threads.specs.Handles.{HasLooked, moment_of}
 use Rattle.pool_threads.specs.Objects.{IsListRefusal}
-use Rattle.pool_threads.specs.Serves.{AreDue, MakesDue}
 use Rattle.pool_threads.specs.Transacts.{TransactsOrLacks, plan_of_ops}
-use Rattle.pool_threads.specs.Views.{GrowsTo, SeenPool, grows_onward, grows_same}
+use Rattle.pool_threads.specs.Views.{GrowsTo, SeenPool, grows_onward}
 use Rattle.pool_threads.specs.Waits.{EndsFsync, EndsSyncing, FsyncsAll, SyncsPool, SyncsUpTo, WritesLogInTurn}
 use Rattle.pool_threads.proofs.Along.{GoesAlong, along_on, along_same}
 use Rattle.pool_threads.proofs.TransactsSeen.{at_last_along}
-use Rattle.pool_threads.proofs.Turned.{grows_by_one}
+use Rattle.pool_threads.proofs.Served.{grows_by_due}
 use Rattle.transactions.specs.LockRanges.{lock_ranges}
 use Rattle.word_lock.specs.declared.rule.Turn.{Turn}
 use Rattle.word_lock.specs.Seats.{seen}
 use Rattle.word_lock.specs.Turns.{turn}
 
-module _ (keeps : Type 0) (d : Duty) where
-  -- steps that were due lead on
-  due_grow : (rs : List declared_reply.Reply) (v w : SeenPool) → AreDue keeps d rs v w → GrowsTo keeps v w
-  due_grow [] v w same = subst (GrowsTo keeps v) (sym same) (grows_same keeps v)
-  due_grow (r ∷ rs) v w (s, middle, due, one, rest) = grows_onward keeps _ _ _ (grows_by_one keeps _ _ _ _ _ refl one) (due_grow rs middle w rest)
-
-  served_grows : (r : Option declared_reply.Reply) (v w : SeenPool) → MakesDue keeps d r v w → GrowsTo keeps v w
-  served_grows None v w made = subst (GrowsTo keeps v) (sym made.1) (grows_same keeps v)
-  served_grows (Some r) v w made = due_grow (made.0 ++ r ∷ []) v w made.2
-
--- so does the last turn of a sync
+-- the last turn of a sync leads on
 syncing_grows : (keeps : Type 0) (moment : ℕ) (group : Group) (result : Result (Unit {0}) PoolError) (t : Turn SeenPool) → EndsSyncing keeps moment group result t → GrowsTo keeps t.took t.left
-syncing_grows keeps moment group (Ok done) t ends = served_grows keeps (duty.SyncUpTo group moment) ends.0.0 t.took t.left ends.0.2
-syncing_grows keeps moment group (Err e) t ends = served_grows keeps (duty.SyncUpTo group moment) (Some (reply.Refused e)) t.took t.left ends
+syncing_grows keeps moment group (Ok done) t ends = grows_by_due keeps (duty.SyncUpTo group moment) ends.0.0 t.took t.left ends.0.2
+syncing_grows keeps moment group (Err e) t ends = grows_by_due keeps (duty.SyncUpTo group moment) (Some (reply.Refused e)) t.took t.left ends
 
 module _ {Dev : Type 0} {G : Ghosts Dev} where
   pub along_looked : (old new : Handle Dev G) → HasLooked old new → GoesAlong old new
@@ -66,7 +54,7 @@ module _ {Dev : Type 0} {G : Ghosts Dev} where
   along_writes : (r : Option declared_reply.Reply) (old new : Handle Dev G) → WritesLogInTurn r old new → GoesAlong old new
   along_writes r old new w = record {
     same_pool = w.same_pool;
-    onward = grows_onward (IsTrue G.keeps_model) (seen old.seat) w.made.took (seen new.seat) w.made.onward (served_grows (IsTrue G.keeps_model) duty.CommitLog r w.made.took (seen new.seat) w.made.made);
+    onward = grows_onward (IsTrue G.keeps_model) (seen old.seat) w.made.took (seen new.seat) w.made.onward (grows_by_due (IsTrue G.keeps_model) duty.CommitLog r w.made.took (seen new.seat) w.made.made);
     met_none = w.made.met_none;
   }
 

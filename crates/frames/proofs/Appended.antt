@@ -1,5 +1,5 @@
 -- Parts that are appended one after the other have room, each after those before it.
-use Rattle.std.proofs.Common.{◌≡◌, ℕ, ◌+◌, ◌*◌, ◌<◌, ◌≤◌, List, [], ◌∷◌, ◌++◌, length, length-append, get_or, take, Option, Some, None, refl, sym, ap, ◌∙◌, append_assoc, arith}
+use Rattle.std.proofs.Common.{◌≡◌, ℕ, ◌+◌, ◌*◌, ◌<◌, ◌≤◌, List, [], ◌∷◌, ◌++◌, length, length-append, get_or, take, Option, Some, None, refl, sym, ap, ◌∙◌, arith}
 use Rattle.std.specs.Prelude.{IfNone}
 use Rattle.std.specs.List.{flat_map}
 use Rattle.std.specs.Global.{Vec}
@@ -64,16 +64,3 @@ pub one_more : {X : Type 0} (f : X → List ℕ) (xs : List X) (i : ℕ) (x : X)
 one_more f xs i x below is old middle new so_far added =
     let end : take (i + 1) xs ≡ take i xs ++ x ∷ [] = take_more xs i x below ∙ ap (λ (y : _). take i xs ++ y ∷ []) (sym is) in
     added ∙ ap (λ (l : List ℕ). l ++ f x) so_far ∙ flat_map_more f old (take i xs) x ∙ ap (λ (l : List _). old ++ flat_map f l) (sym end)
-
--- two parts, one after the other
-pub Appends-then : (a b c : Vec ℕ) (x y : List ℕ) → AppendsBytes a b x → AppendsBytes b c y → AppendsBytes a c (x ++ y)
-Appends-then a b c x y p q =
-    let room_p = p.room in
-    let room_q = q.room in
-    let len_p = p.len in
-    let len_q = q.len in
-    record {
-      items = q.items ∙ ap (λ (l : List ℕ). l ++ y) p.items ∙ append_assoc a.items x y;
-      len = omega (arith, length-append x y);
-      room = omega arith;
-    }

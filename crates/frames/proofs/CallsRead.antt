@@ -1,5 +1,5 @@
 -- A request that is read is the one that was written, and what was written is read again.
-use Rattle.std.proofs.Common.{◌≡◌, ℕ, ◌^◌, ◌⊎◌, Bool, true, false, cond, eqb, List, [], ◌∷◌, ◌++◌, Ok, refl, sym, subst, ◌∙◌, inl, inr}
+use Rattle.std.proofs.Common.{◌≡◌, ℕ, ◌^◌, true, eqb, List, [], ◌∷◌, ◌++◌, Ok, refl, sym, subst, ◌∙◌, inl, inr}
 use Rattle.std.specs.Int.{w32, w64, to_le_bytes}
 use Rattle.std.proofs.lemmas.Bool.{eqb-true}
 use Rattle.transactions.proofs.Fields.{IsBytes, Takes, Takes-then, wide32, wide64}
@@ -10,6 +10,7 @@ use Rattle.frames.specs.declared.request.Call.TheVariants as call
 use Rattle.frames.specs.declared.request.Request.{Request}
 use Rattle.frames.proofs.Steps.{bind_ok, bind-ok, ok, ok_is}
 use Rattle.frames.proofs.Fields.{byte_takes, field_again, field_takes, log_record_again, log_record_takes}
+use Rattle.base.proofs.common.Choices.{chosen}
 
 -- bytes are what the call of this number needs, and a rest
 abbrev TakesCall : ℕ → List ℕ → Call × List ℕ → Type 0
@@ -79,11 +80,6 @@ durable_takes bytes x fits e =
 bare_takes : (number : ℕ) (asked : Call) (bytes : List ℕ) (x : Call × List ℕ) → IsBytes bytes → bytes_of_call asked ≡ [] → number_of_call asked ≡ number → IsCallAllowed asked → ok (asked, bytes) ≡ Ok x → TakesCall number bytes x
 bare_takes number asked bytes x fits nothing numbered allowed e =
     subst (λ (y : Call × List ℕ). TakesCall number bytes y) (ok_is (asked, bytes) x e) (record { parts = rw nothing refl; rest_fits = fits }, numbered, allowed)
-
--- which way a test went
-chosen : {A : Type 0} (b : Bool) (x y z : A) → cond b x y ≡ z → ((b ≡ true) × (x ≡ z)) ⊎ ((b ≡ false) × (y ≡ z))
-chosen true x y z e = inl (refl, e)
-chosen false x y z e = inr (refl, e)
 
 -- what is taken as the call of a number that a test found
 as_found : (n k : ℕ) (bytes : List ℕ) (x : Call × List ℕ) → eqb n k ≡ true → TakesCall k bytes x → TakesCall n bytes x

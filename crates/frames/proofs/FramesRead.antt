@@ -1,8 +1,8 @@
 -- What is read as a frame is spelled so, and what is spelled of requests is read again.
-use Rattle.std.proofs.Common.{◌≡◌, ℕ, ◌+◌, ◌^◌, ◌<◌, ◌≤◌, Bool, true, false, eqb, List, [], ◌∷◌, ◌++◌, length, length-append, Ok, refl, sym, ap, subst, ◌∙◌, arith, inl, inr}
+use Rattle.std.proofs.Common.{◌≡◌, ℕ, ◌+◌, ◌^◌, ◌<◌, ◌≤◌, Bool, false, eqb, List, [], ◌∷◌, ◌++◌, length, length-append, Ok, refl, sym, ap, subst, ◌∙◌, arith, inl, inr}
 use Rattle.std.specs.Prelude.{not, nat_lt}
 use Rattle.std.specs.Int.{w16, w32, to_le_bytes}
-use Rattle.std.proofs.lemmas.Bool.{or_parts, eqb-true, eq-eqb, ltb-false, le-ltb}
+use Rattle.std.proofs.lemmas.Bool.{or_parts, eqb-true, eq-eqb, ltb-false, le-ltb, not-false, not_from_true}
 use Rattle.std.proofs.lemmas.List.{append-nil, nil_from_length}
 use Rattle.std.proofs.lemmas.List.Concat.{flat_map-cons}
 use Rattle.transactions.proofs.Fields.{IsBytes, Takes, Takes-then, wide16, wide32}
@@ -15,14 +15,6 @@ use Rattle.frames.specs.declared.request.Request.{Request}
 use Rattle.frames.proofs.Steps.{bind_ok, bind-ok, ok_is, passes}
 use Rattle.frames.proofs.Fields.{field_again, field_takes}
 use Rattle.frames.proofs.RequestsRead.{requests_again, requests_take}
-
-not_false : (b : Bool) → not b ≡ false → b ≡ true
-not_false true e = refl
-not_false false e = absurd cc
-
-true_not : (b : Bool) → b ≡ true → not b ≡ false
-true_not true e = refl
-true_not false e = absurd cc
 
 -- the bytes of a frame that says this length
 abbrev said : ℕ → ℕ → List ℕ → List ℕ
@@ -49,8 +41,8 @@ head_takes bytes x fits e =
     let f = bind_ok (field_in w16 c.0.1) (λ kind. error_if (not (eqb kind.0 requests_kind)) error.BadKind >>= λ asking. field_in w32 kind.1) x d.2 in
     let g = bind_ok (error_if (not (eqb f.0.0 requests_kind)) error.BadKind) (λ asking. field_in w32 f.0.1) x f.2 in
     let lengths = or_parts (not (eqb a.0.0 (length bytes))) (nat_lt max_frame a.0.0) (passes (is_length_refused a.0.0 bytes) error.BadLength b.0 b.1) in
-    let version-is : c.0.0 ≡ frame_version = eqb-true c.0.0 frame_version (not_false (eqb c.0.0 frame_version) (passes (not (eqb c.0.0 frame_version)) error.BadVersion d.0 d.1)) in
-    let kind-is : f.0.0 ≡ requests_kind = eqb-true f.0.0 requests_kind (not_false (eqb f.0.0 requests_kind) (passes (not (eqb f.0.0 requests_kind)) error.BadKind g.0 g.1)) in
+    let version-is : c.0.0 ≡ frame_version = eqb-true c.0.0 frame_version (not-false (eqb c.0.0 frame_version) (passes (not (eqb c.0.0 frame_version)) error.BadVersion d.0 d.1)) in
+    let kind-is : f.0.0 ≡ requests_kind = eqb-true f.0.0 requests_kind (not-false (eqb f.0.0 requests_kind) (passes (not (eqb f.0.0 requests_kind)) error.BadKind g.0 g.1)) in
     let t0 = field_takes w32 (2 ^ 32) wide32 bytes a.0.0 a.0.1 fits a.1 in
     let t1 = field_takes w16 (2 ^ 16) wide16 a.0.1 c.0.0 c.0.1 t0.0.rest_fits c.1 in
     let t2 = field_takes w16 (2 ^ 16) wide16 c.0.1 f.0.0 f.0.1 t1.0.rest_fits f.1 in
@@ -64,7 +56,7 @@ head_takes bytes x fits e =
           (Takes-then a.0.1 (to_le_bytes w16 frame_version) c.0.1 (to_le_bytes w16 requests_kind ++ (to_le_bytes w32 x.0 ++ items)) end version
           (Takes-then c.0.1 (to_le_bytes w16 requests_kind) f.0.1 (to_le_bytes w32 x.0 ++ items) end kind
           (Takes-then f.0.1 (to_le_bytes w32 x.0) x.1 items end t3.0 t)));
-      sized = eqb-true a.0.0 (length bytes) (not_false (eqb a.0.0 (length bytes)) lengths.0);
+      sized = eqb-true a.0.0 (length bytes) (not-false (eqb a.0.0 (length bytes)) lengths.0);
       small = ltb-false max_frame a.0.0 lengths.1;
     }
 
@@ -77,7 +69,7 @@ frame_takes bytes requests fits e =
     let d = bind_ok (error_if (nat_lt max_frame (room_of_answers b.0.0)) error.AnswersTooLong) (λ fitting. Ok b.0.0) requests c.2 in
     let head = head_takes bytes a.0 fits a.1 in
     let t = requests_take a.0.0 a.0.1 b.0 head.fits b.1 in
-    let nothing : b.0.1 ≡ [] = nil_from_length b.0.1 (eqb-true (length b.0.1) 0 (not_false (eqb (length b.0.1) 0) (passes (not (eqb (length b.0.1) 0)) error.Surplus c.0 c.1))) in
+    let nothing : b.0.1 ≡ [] = nil_from_length b.0.1 (eqb-true (length b.0.1) 0 (not-false (eqb (length b.0.1) 0) (passes (not (eqb (length b.0.1) 0)) error.Surplus c.0 c.1))) in
     let text : List ℕ = said head.size a.0.0 (bytes_of_all b.0.0) in
     let whole : bytes ≡ text = (head.onward (bytes_of_all b.0.0) b.0.1 t.0).parts ∙ ap (λ (l : List ℕ). text ++ l) nothing ∙ append-nil text in
     let long : length bytes ≡ frame_head + length (bytes_of_all b.0.0) = ap (λ (l : List ℕ). length l) whole ∙ length-said head.size a.0.0 (bytes_of_all b.0.0) in
@@ -100,7 +92,7 @@ head_again count items small few =
     let kind_on : List ℕ = to_le_bytes w16 requests_kind ++ count_on in
     let version_on : List ℕ = to_le_bytes w16 frame_version ++ kind_on in
     let bytes : List ℕ = said size count items in
-    let same : not (eqb size (length bytes)) ≡ false = true_not (eqb size (length bytes)) (eq-eqb size (length bytes) (sym (length-said size count items))) in
+    let same : not (eqb size (length bytes)) ≡ false = not_from_true (eqb size (length bytes)) (eq-eqb size (length bytes) (sym (length-said size count items))) in
     let within : nat_lt max_frame size ≡ false = le-ltb max_frame size small in
     let sized : is_length_refused size bytes ≡ false = rw (same, within) refl in
     bind-ok (field_in w32 bytes) (λ size. error_if (is_length_refused size.0 bytes) error.BadLength >>= λ sized. field_in w16 size.1 >>= λ version. error_if (not (eqb version.0 frame_version)) error.BadVersion >>= λ known. field_in w16 version.1 >>= λ kind. error_if (not (eqb kind.0 requests_kind)) error.BadKind >>= λ asking. field_in w32 kind.1) (size, version_on)

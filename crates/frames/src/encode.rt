@@ -5,7 +5,7 @@ ghost use Rattle.std.specs.Int.{to_le_bytes, w16, w32, w64};
 ghost use Rattle.frames.specs.Answers.{bytes_of_answer, bytes_of_answers, bytes_of_listing, bytes_of_outcome, bytes_of_refused, size_of_answers};
 ghost use Rattle.base.specs.declared.error.PoolError.TheVariants as lacking;
 ghost use Rattle.base.specs.formats.Records.{IsAllowed, bytes_of_record};
-ghost use Rattle.frames.specs.Limits.{frame_version, max_frame};
+ghost use Rattle.frames.specs.Limits.{frame_head, frame_version, max_frame};
 ghost use Rattle.frames.specs.Requests.{AreAllowed, IsCallAllowed, IsFrameOf, IsRequestAllowed, bytes_of_all, bytes_of_call, bytes_of_request, number_of_call};
 ghost use Rattle.transactions.specs.Records.{record_fields};
 ghost use Rattle.transactions.specs.Writing.{AppendsBytes, HasRoomFor};
@@ -49,7 +49,7 @@ pub fn encode_answers(out: &mut Vec<u8>, answers: &[Answer]) -> Result<(), Frame
 /// Appends the refusal of a frame. If there is no memory for its 12 bytes, the bytes stay as they are.
 pub fn encode_refusal(out: &mut Vec<u8>, error: FrameError) -> Result<(), AllocError>
     ensures bytes { OnOk result (out.new.items ≡ out.old.items ++ bytes_of_refused error) }
-    ensures room { HasRoomFor out.old 12 → IsOk result }
+    ensures room { HasRoomFor out.old frame_head → IsOk result }
     ensures unchanged { OnErr result (out.new.items ≡ out.old.items) }
 {
     out.reserve(FRAME_HEAD)?;
@@ -84,7 +84,7 @@ pub fn encode_requests(alloc: Global, requests: &[Request]) -> Result<Vec<u8>, F
 
 /// Appends the head of a frame.
 fn write_head(out: &mut Vec<u8>, size: u32, kind: u16, count: u32)
-    requires { HasRoomFor out.old 12 }
+    requires { HasRoomFor out.old frame_head }
     ensures { AppendsBytes out.old out.new (to_le_bytes w32 size ++ to_le_bytes w16 frame_version
         ++ to_le_bytes w16 kind ++ to_le_bytes w32 count) }
 {

@@ -19,8 +19,8 @@ use Rattle.base.specs.tree.Places.{record_of_strip}
 use Rattle.base.specs.tree.Syncs.{is_dirty, is_on, record_state}
 use Rattle.base.proofs.tree.RecordStates.{HasRecord, dirty-record, object-off, state-made, state-off}
 use Rattle.base.proofs.tree.Strips.{one_level-length, record-low}
-use Rattle.object_maps.specs.declared.tree.ObjectEntry.{ObjectEntry}
-use Rattle.object_maps.specs.Lengths.{length_in}
+use Rattle.tree_blocks.specs.declared.tree.ObjectEntry.{ObjectEntry}
+use Rattle.tree_blocks.specs.Lengths.{length_in}
 use Rattle.object_maps.specs.Ops.{AreOpsAllowed, IsOpAllowed}
 use Rattle.transactions.specs.declared.record.Record.{Record}
 use Rattle.tree_plans.specs.declared.changes.ObjectChanges.{ObjectChanges}

@@ -18,12 +18,12 @@ use Rattle.base.specs.history.Contents.{Contents}
 use Rattle.base.specs.history.Plans.{estimate_of, estimate_of_shape, shape_of}
 use Rattle.base.specs.tree.Places.{Place, IsPlace}
 use Rattle.base.specs.tree.Places.Place.{Indirect, Data}
-use Rattle.base.specs.tree.PlannedTrees.{NewBlock}
+use Rattle.base.specs.kept.PlannedTrees.{NewBlock}
 use Rattle.base.specs.tree.Syncs.{is_long_object, written_by, written_places}
 use Rattle.base.proofs.tree.Estimates.{syncs_fit}
 use Rattle.base.proofs.tree.Strips.{long-length}
 use Rattle.base.proofs.tree.WrittenPlaces.{written-places}
-use Rattle.object_maps.specs.declared.tree.ObjectEntry.{ObjectEntry}
+use Rattle.tree_blocks.specs.declared.tree.ObjectEntry.{ObjectEntry}
 use Rattle.transactions.specs.declared.record.Record.{Record}
 use Rattle.tree_plans.specs.declared.changes.ObjectChanges.{ObjectChanges}
 use Rattle.tree_plans.specs.Changes.{changes_of_group, has_address, has_two_levels}

@@ -10,9 +10,9 @@ use Rattle.base.specs.formats.Limits.{max_length, object_count}
 use Rattle.base.specs.history.Contents.{Contents}
 use Rattle.base.specs.tree.Syncs.{is_on}
 use Rattle.base.proofs.tree.RecordStates.{object-off}
-use Rattle.object_maps.specs.declared.tree.ObjectEntry.{ObjectEntry}
+use Rattle.tree_blocks.specs.declared.tree.ObjectEntry.{ObjectEntry}
 use Rattle.object_maps.specs.ContentsShown.{contents_of}
-use Rattle.object_maps.specs.Sources.{AreWithin}
+use Rattle.tree_blocks.specs.ListedObjects.{AreWithin}
 use Rattle.extents.specs.Patches.{AreNumbered}
 use Rattle.extents.specs.Tables.{patches_of}
 use Rattle.extents.proofs.LaidObjects.{group_is_read}

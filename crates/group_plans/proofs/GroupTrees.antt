@@ -16,18 +16,18 @@ use Rattle.base.specs.formats.Blocks.{Frame}
 use Rattle.base.specs.formats.Fields.{no_pointer}
 use Rattle.base.specs.formats.Limits.{object_count, one_level_length, pointer_count, record_count, record_size}
 use Rattle.base.specs.history.Contents.{Contents}
-use Rattle.base.specs.tree.PlacedTrees.{HasNonePast, HoldsTree, IsLong, NeedsNoTop}
+use Rattle.base.specs.kept.PlacedTrees.{HasNonePast, HoldsTree, IsLong, NeedsNoTop}
 use Rattle.base.specs.tree.Places.{Place, object_of_indirect, record_number, record_of_strip, strip_number, strip_of, strip_start}
 use Rattle.base.specs.tree.Places.Place.{Top, Indirect, Data}
-use Rattle.base.specs.tree.PlannedTrees.{IsTreePlan, NewBlock}
+use Rattle.base.specs.kept.PlannedTrees.{IsTreePlan, NewBlock}
 use Rattle.base.specs.tree.Syncs.{is_on, record_state}
 use Rattle.base.proofs.tree.PlacedTrees.{absent-indirect, none-by_address}
 use Rattle.base.proofs.tree.RecordStates.{HasRecord, dirty-record, hole-record, state-gone, state-made, tree-record, unchanged-record}
 use Rattle.base.proofs.tree.Strips.{first-object, first-which, number-strip, record-low}
-use Rattle.object_maps.specs.declared.tree.ObjectEntry.{ObjectEntry}
-use Rattle.object_maps.specs.declared.tree.Tree.{Tree}
-use Rattle.object_maps.specs.Lengths.{HasLengthsOf}
-use Rattle.object_maps.specs.Pointers.{ObjectPointers, is_long_entry, no_pointers, object_pointers, pointers_of, pointers_of_entry}
+use Rattle.tree_blocks.specs.declared.tree.ObjectEntry.{ObjectEntry}
+use Rattle.tree_blocks.specs.declared.tree.Tree.{Tree}
+use Rattle.tree_blocks.specs.Lengths.{HasLengthsOf}
+use Rattle.tree_blocks.specs.Pointers.{ObjectPointers, is_long_entry, no_pointers, object_pointers, pointers_of, pointers_of_entry}
 use Rattle.transactions.specs.declared.record.Record.{Record}
 use Rattle.tree_plans.specs.declared.changes.ObjectChanges.{ObjectChanges}
 use Rattle.tree_plans.specs.Changes.{AreChanges, AreTreePointers, HasNoByteFrom, IsCoveredBy, IsEntryPointer, has_two_levels, is_changed_in, state_in}

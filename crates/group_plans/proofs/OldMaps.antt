@@ -6,7 +6,7 @@ use Rattle.std.specs.Option.{option_map_or}
 use Rattle.std.specs.FinMap as finite
 use Rattle.std.specs.FinMap.{FinMap}
 use Rattle.std.specs.Ordering.{nat_cmp}
-use Rattle.std.proofs.lemmas.Bool.{cases_eq, cases_lt, eq-eqb, false≢true, ltb-true, ne_eqb}
+use Rattle.std.proofs.lemmas.Bool.{cases_eq, cases_lt, eq-eqb, false≢true, ltb-true, ne_eqb, or_parts}
 use Rattle.std.proofs.lemmas.List.{get_or_append_left, get_or-append_right}
 use Rattle.std.proofs.lemmas.Option.{slice_get-get_or}
 use Rattle.base.specs.declared.error.PoolError.{PoolError}
@@ -16,19 +16,20 @@ use Rattle.base.specs.declared.pointer.Pointer.{Pointer}
 use Rattle.base.specs.formats.Blocks.{Frame}
 use Rattle.base.specs.formats.Fields.{no_pointer, pointer_in}
 use Rattle.base.specs.formats.Limits.{object_count, one_level_length, pointer_count}
-use Rattle.base.specs.tree.PlacedTrees.{HasNonePast, IsPlaced, IsShort, NeedsNoTop}
+use Rattle.base.specs.kept.PlacedTrees.{HasNonePast, IsPlaced, IsShort, NeedsNoTop}
 use Rattle.base.specs.tree.Places.{Place, object_of_indirect, strip_number, strip_start}
 use Rattle.base.specs.tree.Places.Place.{Top, Indirect}
 use Rattle.base.proofs.tree.PlacedTrees.{NoneOrOpens, absent-strip, none_or_opens, not_both}
 use Rattle.base.proofs.tree.Strips.{strip-low, strip-object, strip-which}
-use Rattle.object_maps.specs.declared.tree.ObjectEntry.{ObjectEntry}
-use Rattle.object_maps.specs.declared.tree.Tree.{Tree}
+use Rattle.tree_blocks.specs.declared.tree.ObjectEntry.{ObjectEntry}
+use Rattle.tree_blocks.specs.declared.tree.Tree.{Tree}
 use Rattle.object_maps.specs.Cached.{BeginsInside, HoldsStrip, HoldsTop, IsPointerInside}
-use Rattle.object_maps.specs.Lengths.{lengths_of}
-use Rattle.object_maps.specs.Pointers.{ObjectPointers, is_long_entry, no_pointers, object_pointers, pointer_of_list, pointers_of, pointers_of_entry}
+use Rattle.tree_blocks.specs.Lengths.{lengths_of}
+use Rattle.tree_blocks.specs.Pointers.{ObjectPointers, is_long_entry, no_pointers, object_pointers, pointer_of_list, pointers_of, pointers_of_entry}
 use Rattle.tree_plans.specs.declared.changes.ObjectChanges.{ObjectChanges}
-use Rattle.tree_plans.specs.declared.object_map.ObjectMap.{ObjectMap}
-use Rattle.tree_plans.specs.Pointers.{IsPut, entry_of, records_among}
+use Rattle.tree_blocks.specs.declared.object_map.ObjectMap.{ObjectMap}
+use Rattle.tree_plans.specs.Pointers.{IsPut, entry_of}
+use Rattle.tree_blocks.specs.ReadPointers.{records_among}
 use Rattle.group_plans.specs.declared.old_maps.OldObject.{OldObject}
 use Rattle.group_plans.specs.OldMaps.{AreMapsReadFor, AreMapRecords, AreStripsRead, HasReadMap, HoldsStripsOf, HoldsTreeOf, IsReadFor, IsStripRead}
 use Rattle.group_plans.specs.Prepared.{IsPlainRefusal}
@@ -232,11 +233,6 @@ entry_last (x ∷ entries) e n = by (n == x.0.0) (entry_last entries e n)
     by true rest = refl
     by false rest = rest
 
-neither : (a b : Bool) → (a || b) ≡ false → (a ≡ false) × (b ≡ false)
-neither false false is = (refl, refl)
-neither false true is = absurd (false≢true (sym is))
-neither true b is = absurd (false≢true (sym is))
-
 -- what is first found stays found
 found_first : {X : Type 0} (done rest : List (ObjectId × X)) (n : ℕ) (x : X) → entry_of done n ≡ Some x → entry_of (done ++ rest) n ≡ Some x
 found_first [] rest n x at = absurd (cc)
@@ -280,5 +276,5 @@ module _ (done rest : List (ObjectId × ObjectChanges)) (e : ObjectId × ObjectC
 
   pub none_more : ((n : ℕ) → is_some (entry_of done n) ≡ false → is_some (entry_of old n) ≡ false) → (n : ℕ) → is_some (entry_of (done ++ (e ∷ [])) n) ≡ false → is_some (entry_of new n) ≡ false
   none_more none n is =
-      let parts = neither (is_some (entry_of done n)) (n == e.0.0) (sym (entry_last done e n) ∙ is) in
+      let parts = or_parts (is_some (entry_of done n)) (n == e.0.0) (sym (entry_last done e n) ∙ is) in
       ap is_some (others n (λ here. let same : (n == e.0.0) ≡ true = eq-eqb n e.0.0 (sym here) in false≢true (sym parts.1 ∙ same))) ∙ none n parts.0

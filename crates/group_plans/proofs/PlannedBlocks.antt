@@ -6,7 +6,7 @@ use Rattle.std.proofs.Math.Logic.{∥∥₁_elim}
 use mathlib.Core.Bool.{Bool-set}
 use Rattle.std.proofs.lemmas.Bool.{and_from, and_parts, eq-eqb, eqb-true, le-leb, leb-true, lt-ltb, ltb-true}
 use Rattle.base.specs.formats.Geometry.{IsBlockAddress, block_area, block_size}
-use Rattle.base.specs.tree.PlannedTrees.{NewBlock}
+use Rattle.base.specs.kept.PlannedTrees.{NewBlock}
 use Rattle.tree_plans.specs.declared.planner.PlannedBlock.{PlannedBlock}
 use Rattle.tree_plans.specs.Plans.{address_of, new_block}
 use Rattle.group_plans.specs.Areas.{is_block_of}

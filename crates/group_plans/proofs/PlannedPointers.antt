@@ -1,32 +1,33 @@
 -- The pointers and the lengths of a tree before and after a plan, as the plan and as the pool tell them.
 use Rattle.std.proofs.Common.{◌≡◌, ℕ, zero, suc, ◌<◌, inl, inr, Bool, false, cond, List, [], ◌∷◌, length, is_some, refl, ap, subst, sym, ◌∙◌, arith}
-use Rattle.std.specs.Prelude.{IfSome, Option, Some, None, slice_get, if◌then◌else◌}
+use Rattle.std.specs.Prelude.{IfSome, Option, Some, None, slice_get}
 use Rattle.std.specs.Global.{Vec}
 use Rattle.std.specs.Option.{option_map_or}
 use Rattle.std.specs.Ordering.{nat_cmp, is_eq}
 use Rattle.std.specs.FinMap.{FinMap}
 use Rattle.std.specs.Map.{lookup}
-use Rattle.std.proofs.lemmas.Bool.{lt-ltb, true≢false}
+use Rattle.std.proofs.lemmas.Bool.{true≢false}
 use Rattle.base.specs.declared.names.ObjectId.{ObjectId}
 use Rattle.base.specs.declared.pointer.Pointer.{Pointer}
 use Rattle.base.specs.formats.Limits.{object_count, pointer_count}
-use Rattle.base.specs.tree.PlacedTrees.{ArePlaced, IsPlaced}
+use Rattle.base.specs.kept.PlacedTrees.{ArePlaced, IsPlaced}
 use Rattle.base.specs.tree.Places.{Place, IsPlace, object_of_indirect, strip_number, strip_of}
 use Rattle.base.specs.tree.Places.Place.{Root, Directory, Top, Indirect, Data}
 use Rattle.base.proofs.tree.Strips.{number-back, number-object, number-strip}
-use Rattle.object_maps.specs.declared.tree.ObjectEntry.{ObjectEntry}
-use Rattle.object_maps.specs.declared.tree.Tree.{Tree}
-use Rattle.object_maps.specs.Lengths.{lengths_of, with_lengths}
-use Rattle.object_maps.specs.Pointers.{ObjectPointers, entry_among, id_cmp, no_pointers, object_pointers, pointer_of_list, pointers_of, pointers_of_entry, strip_in, told_record}
+use Rattle.tree_blocks.specs.declared.tree.ObjectEntry.{ObjectEntry}
+use Rattle.tree_blocks.specs.declared.tree.Tree.{Tree}
+use Rattle.tree_blocks.specs.Lengths.{lengths_of}
+use Rattle.tree_blocks.specs.Pointers.{ObjectPointers, entry_among, id_cmp, no_pointers, object_pointers, pointer_of_list, pointers_of, pointers_of_entry, strip_in, told_record}
 use Rattle.tree_plans.specs.declared.changes.ObjectChanges.{ObjectChanges}
-use Rattle.tree_plans.specs.declared.object_map.ObjectMap.{ObjectMap}
+use Rattle.tree_blocks.specs.declared.object_map.ObjectMap.{ObjectMap}
 use Rattle.tree_plans.specs.declared.plan_source.PlanSource.{PlanSource}
 use Rattle.tree_plans.specs.declared.planner.TreePlan.{TreePlan}
-use Rattle.tree_plans.specs.Pointers.{entry_of, entry_strips, maps_before, planned_lengths, planned_map, planned_pointers, pointers_before, pointers_in, records_among, told_strips}
+use Rattle.tree_plans.specs.Pointers.{entry_of, entry_strips, maps_before, planned_lengths, planned_map, planned_pointers, pointers_before, pointers_in, told_strips}
+use Rattle.tree_blocks.specs.ReadPointers.{records_among}
 use Rattle.tree_plans.proofs.Levels.{entry-record}
 use Rattle.group_plans.specs.GroupPlans.{plan_pointers}
 use Rattle.group_plans.specs.OldMaps.{AreMapsOf, AreMapsOfObjects, AreRecordsAt, AreMapRecords, IsStripOf, size_in}
-use Rattle.group_plans.specs.Pointers.{lengths_after}
+use Rattle.tree_blocks.specs.SyncedTrees.{lengths_after}
 use Rattle.group_plans.proofs.RecordsAtHand.{same_test}
 use Rattle.group_plans.proofs.ToldStrips.{as_told, told_placed}
 
@@ -199,7 +200,5 @@ module _ (source : PlanSource) (objects : List (ObjectId × ObjectChanges))
     same_after (Data m k) = new_as (object_of_indirect m) (λ o. o.record_at (strip_of m) k)
 
 -- the lengths of the tree of a plan
-pub same_lengths : (source : PlanSource) (plan : TreePlan) (n : ℕ) → n < object_count → lengths_after plan.entries source.tree.now n ≡ planned_lengths source plan n
-same_lengths source plan n below =
-    ap (λ (b : Bool). if b then with_lengths (entry_among plan.entries) (lengths_of source.tree.now) n else None) (lt-ltb n object_count below)
-    ∙ ap (λ (o : Option ObjectEntry). option_map_or (λ (e : ObjectEntry). e.length) o (lengths_of source.tree.now n)) (same_entry plan.entries.entries n)
+pub same_lengths : (source : PlanSource) (plan : TreePlan) (n : ℕ) → lengths_after plan.entries source.tree.now n ≡ planned_lengths source plan n
+same_lengths source plan n = ap (λ (o : Option ObjectEntry). option_map_or (λ (e : ObjectEntry). e.length) o (lengths_of source.tree.now n)) (same_entry plan.entries.entries n)

@@ -20,10 +20,11 @@ use Rattle.object_maps.specs.declared.contents.Contents as slots
 use Rattle.object_maps.specs.ContentsShown.{contents_of}
 use Rattle.object_maps.specs.Sources.{object_length}
 use Rattle.tree_plans.specs.declared.changes.ObjectChanges.{ObjectChanges}
-use Rattle.tree_plans.specs.declared.object_map.ObjectMap.{ObjectMap}
+use Rattle.tree_blocks.specs.declared.object_map.ObjectMap.{ObjectMap}
 use Rattle.tree_plans.specs.declared.plan_source.PlanSource.{PlanSource}
 use Rattle.tree_plans.specs.declared.planner.TreePlan.{TreePlan}
-use Rattle.tree_plans.specs.Changes.{AreInRange, changes_of_group, has_address, is_changed_in, is_long_size, may_have_blocks, state_in}
+use Rattle.tree_plans.specs.Changes.{AreInRange, changes_of_group, has_address, is_changed_in, may_have_blocks, state_in}
+use Rattle.tree_blocks.specs.Entries.{is_long_size}
 use Rattle.tree_plans.specs.Parts.{AreMapsRead, IsReadAsNeeded}
 use Rattle.tree_plans.specs.Plans.{IsWant}
 use Rattle.tree_plans.specs.Pointers.{entry_of}

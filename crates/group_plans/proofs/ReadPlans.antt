@@ -12,13 +12,13 @@ use Rattle.base.specs.declared.names.ObjectId.{ObjectId}
 use Rattle.base.specs.declared.pointer.Pointer.{Pointer}
 use Rattle.base.specs.formats.Blocks.{Frame}
 use Rattle.base.specs.formats.Geometry.{block_count}
-use Rattle.base.specs.stored.Stored.{AreUsed}
-use Rattle.base.specs.tree.PlacedTrees.{ArePlaced}
+use Rattle.base.specs.kept.Stored.{AreUsed}
+use Rattle.base.specs.kept.PlacedTrees.{ArePlaced}
 use Rattle.base.specs.tree.Places.{Place, IsPlace}
-use Rattle.base.specs.tree.PlannedTrees.{AreFreed, IsTreePlan, NewBlock}
+use Rattle.base.specs.kept.PlannedTrees.{AreFreed, IsTreePlan, NewBlock}
 use Rattle.base.specs.tree.Syncs.{GroupChanges, written_by}
-use Rattle.object_maps.specs.Lengths.{length_in}
-use Rattle.object_maps.specs.Pointers.{pointers_of}
+use Rattle.tree_blocks.specs.Lengths.{length_in}
+use Rattle.tree_blocks.specs.Pointers.{pointers_of}
 use Rattle.object_maps.specs.Sources.{object_length}
 use Rattle.tree_plans.specs.declared.changes.ObjectChanges.{ObjectChanges}
 use Rattle.tree_plans.specs.declared.plan_source.PlanSource.{PlanSource}
@@ -29,7 +29,7 @@ use Rattle.tree_plans.specs.Pointers.{entry_of, entry_pointer_of, planned_pointe
 use Rattle.tree_plans.specs.TreePlans.{GivesBack, GivesTree, HasEntries, HasLengths, TakesBlocks, TellsFull}
 use Rattle.tree_plans.specs.Marks.{AreChangesOf, pending_ops}
 use Rattle.transactions.specs.declared.record.Record.{Record}
-use Rattle.object_maps.specs.declared.tree.Tree.{Tree}
+use Rattle.tree_blocks.specs.declared.tree.Tree.{Tree}
 use Rattle.group_plans.specs.Prepared.{IsPrepareRefusal}
 use Rattle.group_plans.specs.GroupPlans.{HoldsGroupObjects, IsRefusedShort, IsTreeShort, MakesGroupTree, plan_pointers}
 use Rattle.group_plans.specs.OldMaps.{AreMapsOf}
@@ -125,7 +125,7 @@ module _ (source : PlanSource) (changes : BTreeMap ObjectId ObjectChanges)
       used = subst (λ (f : Place → Pointer). AreUsed bs f) kept made.used;
       freed = subst (λ (f : Place → Pointer). AreBornBefore source.group.0 old → AreFreed old f p.freed.items) kept back.freed;
       whole = taken.whole;
-      lengths = λ n low. same_lengths source p n low ∙ lengths n low
+      lengths = λ n low. same_lengths source p n ∙ lengths n low
           ∙ ap (λ (o : Option ℕ). if is_some (entry_of objects n) then o else length_in source.tree.now.entries.items n) (lengths_are n);
     }
 

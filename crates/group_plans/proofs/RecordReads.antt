@@ -27,7 +27,7 @@ use Rattle.tree_plans.specs.declared.changes.ObjectChanges.{ObjectChanges}
 use Rattle.tree_plans.specs.Parts.{AreReady}
 use Rattle.tree_plans.specs.Plans.{IsReady}
 use Rattle.tree_plans.specs.Pointers.{entry_of}
-use Rattle.tree_plans.specs.declared.place.RecordPlace.{RecordPlace}
+use Rattle.tree_blocks.specs.declared.place.RecordPlace.{RecordPlace}
 use Rattle.group_plans.specs.Prepared.{AreBelow, AreExact, HoldsRecord, IsCut, IsRecordOf, KeepsFront, PutsRecord, number_of_record}
 use Rattle.group_plans.proofs.OldMaps.{entry_pushed}
 

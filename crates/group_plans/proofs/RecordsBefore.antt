@@ -15,19 +15,20 @@ use Rattle.base.specs.declared.record_state.RecordState.TheVariants.{Unchanged, 
 use Rattle.base.specs.formats.Blocks.{Frame}
 use Rattle.base.specs.formats.Fields.{no_pointer}
 use Rattle.base.specs.formats.Limits.{object_count, pointer_count}
-use Rattle.base.specs.tree.PlacedTrees.{HoldsTree}
+use Rattle.base.specs.kept.PlacedTrees.{HoldsTree}
 use Rattle.base.specs.tree.Places.{record_of_strip, strip_number}
 use Rattle.base.specs.tree.Places.Place.{Data}
 use Rattle.base.specs.tree.Syncs.{is_dirty, is_unchanged, pointer_numbers}
 use Rattle.base.proofs.tree.Strips.{strip-object, strip-which}
-use Rattle.object_maps.specs.Pointers.{object_pointers, pointer_of_list, strip_in, told_record}
+use Rattle.tree_blocks.specs.Pointers.{object_pointers, pointer_of_list, strip_in, told_record}
 use Rattle.tree_plans.specs.declared.changes.ObjectChanges.{ObjectChanges}
-use Rattle.tree_plans.specs.declared.object_map.ObjectMap.{ObjectMap}
+use Rattle.tree_blocks.specs.declared.object_map.ObjectMap.{ObjectMap}
 use Rattle.tree_plans.specs.declared.plan_source.PlanSource.{PlanSource}
 use Rattle.tree_plans.specs.Changes.{has_two_levels, is_strip_dirty, is_strip_touched, state_at}
 use Rattle.tree_plans.specs.Parts.{IsReadAsNeeded}
-use Rattle.tree_plans.specs.Plans.{is_strip_replaced, read_record}
-use Rattle.tree_plans.specs.Pointers.{entry_of, maps_before, pointers_before, pointers_in, records_among, told_strips}
+use Rattle.tree_plans.specs.Plans.{is_strip_replaced}
+use Rattle.tree_blocks.specs.ReadPointers.{read_record, records_among}
+use Rattle.tree_plans.specs.Pointers.{entry_of, maps_before, pointers_before, pointers_in, told_strips}
 use Rattle.group_plans.specs.OldMaps.{HasReadMap}
 use Rattle.group_plans.specs.Prepared.{HoldsMap}
 

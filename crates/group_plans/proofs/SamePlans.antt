@@ -11,7 +11,7 @@ use Rattle.base.specs.formats.Fields.{no_pointer}
 use Rattle.base.specs.formats.Limits.{entry_count}
 use Rattle.base.specs.tree.Places.{Place, IsPlace, object_of_indirect, record_number, strip_number}
 use Rattle.base.specs.tree.Places.Place.{Root, Directory, Top, Indirect, Data}
-use Rattle.base.specs.tree.PlannedTrees.{AreFreed, IsPlannedAt, IsTreePlan, NewBlock, SameRecord}
+use Rattle.base.specs.kept.PlannedTrees.{AreFreed, IsPlannedAt, IsTreePlan, NewBlock, SameRecord}
 use Rattle.base.specs.tree.Syncs.{written_by}
 use Rattle.base.proofs.tree.Strips.{first-low, strip-low}
 use Rattle.base.proofs.tree.WrittenPlaces.{written_by-same}

@@ -1,19 +1,20 @@
 -- Blocks of records at hand.
-use Rattle.std.proofs.Common.{◌≡◌, ℕ, ◌+◌, ◌*◌, ◌/◌, ◌%◌, ◌^◌, ◌<◌, Bool, true, false, cond, List, length, None, Option, Some, refl, ap, sym, subst, ◌∙◌, arith}
+use Rattle.std.proofs.Common.{◌≡◌, ℕ, ◌+◌, ◌*◌, ◌/◌, ◌%◌, ◌^◌, ◌<◌, Bool, true, false, cond, List, length, Some, refl, ap, sym, subst, ◌∙◌, arith}
 use Rattle.std.specs.Map.{lookup}
 use Rattle.std.specs.Prelude.{◌==◌, Err, Ok, OnErr, OnOk, Result, is_some}
 use Rattle.std.specs.BTreeMap as tree
 use Rattle.std.specs.BTreeMap.{BTreeMap, is_at}
 use Rattle.std.specs.Ordering.{nat_cmp}
-use Rattle.std.proofs.lemmas.Bool.{eqb-true, false≢true}
+use Rattle.std.proofs.lemmas.Bool.{eqb-true}
 use Rattle.base.specs.formats.Blocks.{IsBlock, sealed_block}
 use Rattle.base.specs.formats.Limits.{object_count, pointer_count, record_count}
 use Rattle.base.specs.tree.Places.{number_of_place, record_of_strip, strip_number}
 use Rattle.base.specs.tree.Places.Place.{Data}
 use Rattle.base.proofs.tree.Strips.{record-low}
+use Rattle.base.proofs.common.Choices.{some_there}
 use Rattle.checked_blocks.specs.Sealing.{padded}
 use Rattle.checked_blocks.proofs.SealedBlocks.{sealed_block-is}
-use Rattle.tree_plans.proofs.Payloads.{padded-full}
+use Rattle.tree_blocks.proofs.Payloads.{padded-full}
 use Rattle.extents.specs.Tables.{patches_of}
 use Rattle.extents.proofs.LaidObjects.{get-laid_past}
 use Rattle.object_maps.specs.ContentsShown.{contents_of}
@@ -67,10 +68,6 @@ sealed_record guid group n j k payload block guid_low group_low n_low j_low k_lo
     subst (λ (b : List ℕ). IsBlock b 5 guid group number payload) (sym (is ∙ ap (λ (p : List ℕ). sealed_block 5 guid group number p) full))
     (sealed_block-is 5 guid group number payload (omega arith) guid_low group_low (omega (arith, n_low, j_low, k_low)) long)
 
-some_of : (o : Option (List ℕ)) → is_some o ≡ true → (payload : List ℕ) × (o ≡ Some payload)
-some_of None none = absurd (false≢true none)
-some_of (Some payload) some = (payload, refl)
-
 module _ (p : PreparedObjects) (n j k : ℕ) (n_low : n < object_count) (j_low : j < pointer_count) (k_low : k < pointer_count) where
   -- what is found under its key is the record
   pub own_record : (payload : List ℕ) → tree.get nat_cmp p.records (record_count * n + record_of_strip j k) ≡ Some payload → (length payload ≡ 4032) × (payload ≡ object_record (prepared_objects p) n (record_of_strip j k))
@@ -88,7 +85,7 @@ module _ (p : PreparedObjects) (n j k : ℕ) (n_low : n < object_count) (j_low :
       → IsBlock block 5 guid group (number_of_place (Data (strip_number n j) k)) (object_record (prepared_objects p) n (record_of_strip j k))
   kept_block guid group block guid_low group_low ready sealed =
       let r : ℕ = record_of_strip j k in
-      let some = some_of (at_hand p.records n r) ready in
+      let some = some_there (at_hand p.records n r) ready in
       let found : tree.get nat_cmp p.records (record_count * n + r) ≡ Some some.0 = sym (at_own p.records n r (record-low j k j_low k_low)) ∙ some.1 in
       let own = own_record some.0 found in
       let is : block ≡ sealed_block 5 guid group (number_of_place (Data (strip_number n j) k)) (padded some.0) = sealed some.0 found ∙ ap (λ (m : ℕ). sealed_block 5 guid group m (padded some.0)) (own_number n j k j_low k_low) in

@@ -4,9 +4,9 @@ use Rattle.std.proofs.Common.{◌≡◌, ℕ, inl, Bool, true, false, List, refl
 use Rattle.std.specs.Prelude.{◌==◌, if◌then◌else◌}
 use Rattle.base.specs.declared.pointer.Pointer.{Pointer}
 use Rattle.base.specs.formats.Fields.{no_pointer}
-use Rattle.base.specs.tree.PlacedTrees.{IsPlaced}
-use Rattle.object_maps.specs.declared.tree.ObjectEntry.{ObjectEntry}
-use Rattle.object_maps.specs.Pointers.{ObjectPointers, is_long_entry, long_pointers, pointer_of_list, pointers_of_entry, short_pointers, strip_in, told_record}
+use Rattle.base.specs.kept.PlacedTrees.{IsPlaced}
+use Rattle.tree_blocks.specs.declared.tree.ObjectEntry.{ObjectEntry}
+use Rattle.tree_blocks.specs.Pointers.{ObjectPointers, is_long_entry, long_pointers, pointer_of_list, pointers_of_entry, short_pointers, strip_in, told_record}
 
 -- a strip without an indirect block has no records
 abbrev NoneBelow : ObjectPointers → ℕ → ℕ → Type 0

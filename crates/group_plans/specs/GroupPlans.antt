@@ -12,19 +12,19 @@ use Rattle.base.specs.declared.pointer.Pointer.{Pointer}
 use Rattle.base.specs.formats.Blocks.{Frame}
 use Rattle.base.specs.formats.Geometry.{block_count, block_size}
 use Rattle.base.specs.formats.Limits.{object_count}
-use Rattle.base.specs.stored.Stored.{AreUsed}
-use Rattle.base.specs.tree.PlacedTrees.{ArePlaced}
+use Rattle.base.specs.kept.Stored.{AreUsed}
+use Rattle.base.specs.kept.PlacedTrees.{ArePlaced}
 use Rattle.base.specs.tree.Places.{Place}
-use Rattle.base.specs.tree.PlannedTrees.{AreFreed, IsTreePlan, NewBlock}
+use Rattle.base.specs.kept.PlannedTrees.{AreFreed, IsTreePlan, NewBlock}
 use Rattle.base.specs.tree.Syncs.{written_by}
 use Rattle.transactions.specs.declared.record.Record.{Record}
 use Rattle.object_maps.specs.declared.contents.Contents as slots
-use Rattle.object_maps.specs.declared.tree.ObjectEntry.{ObjectEntry}
-use Rattle.object_maps.specs.declared.tree.Tree.{Tree}
+use Rattle.tree_blocks.specs.declared.tree.ObjectEntry.{ObjectEntry}
+use Rattle.tree_blocks.specs.declared.tree.Tree.{Tree}
 use Rattle.object_maps.specs.Cached.{IsReadRefusal}
 use Rattle.object_maps.specs.ContentsShown.{contents_of}
-use Rattle.object_maps.specs.Lengths.{length_in}
-use Rattle.object_maps.specs.Pointers.{pointers_of}
+use Rattle.tree_blocks.specs.Lengths.{length_in}
+use Rattle.tree_blocks.specs.Pointers.{pointers_of}
 use Rattle.extents.specs.declared.extents.Extents.{Extents}
 use Rattle.extents.specs.Patches.{laid_over}
 use Rattle.extents.specs.Tables.{patches_of}
@@ -37,7 +37,7 @@ use Rattle.tree_plans.specs.Marks.{AreChangesOf, pending_ops}
 use Rattle.tree_plans.specs.Plans.{IsWant, address_of, new_block}
 use Rattle.tree_plans.specs.Pointers.{entry_of, entry_pointer_of}
 use Rattle.group_plans.specs.Areas.{AreBlocksOf}
-use Rattle.group_plans.specs.Pointers.{lengths_after, pointers_after}
+use Rattle.tree_blocks.specs.SyncedTrees.{lengths_after, pointers_after}
 
 -- Some changes are those of the group's operations among records, on a tree with these entries. By them these blocks
 -- make the tree after the group from the old one, whatever objects were there before of which the changes cover all

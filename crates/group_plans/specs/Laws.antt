@@ -9,18 +9,18 @@ use Rattle.base.specs.history.Contents.{Contents}
 use Rattle.base.specs.history.History.{apply_all}
 use Rattle.base.specs.history.Plans.{estimate_of, shape_of}
 use Rattle.base.specs.steps.Steps.{AreLengthsOf}
-use Rattle.base.specs.tree.PlacedTrees.{HoldsTree}
+use Rattle.base.specs.kept.PlacedTrees.{HoldsTree}
 use Rattle.base.specs.declared.pointer.Pointer.{Pointer}
 use Rattle.base.specs.tree.Places.{Place}
-use Rattle.base.specs.tree.PlannedTrees.{IsTreePlan}
+use Rattle.base.specs.kept.PlannedTrees.{IsTreePlan}
 use Rattle.object_maps.specs.declared.contents.Contents as slots
-use Rattle.object_maps.specs.declared.tree.ObjectEntry.{ObjectEntry}
-use Rattle.object_maps.specs.declared.tree.Tree.{Tree}
+use Rattle.tree_blocks.specs.declared.tree.ObjectEntry.{ObjectEntry}
+use Rattle.tree_blocks.specs.declared.tree.Tree.{Tree}
 use Rattle.object_maps.specs.ContentsShown.{contents_of}
-use Rattle.object_maps.specs.Lengths.{length_in}
+use Rattle.tree_blocks.specs.Lengths.{length_in}
 use Rattle.object_maps.specs.Ops.{AreOpsAllowed}
-use Rattle.object_maps.specs.Pointers.{pointers_of}
-use Rattle.object_maps.specs.Sources.{AreWithin}
+use Rattle.tree_blocks.specs.Pointers.{pointers_of}
+use Rattle.tree_blocks.specs.ListedObjects.{AreWithin}
 use Rattle.extents.specs.declared.extents.Extents.{Extents}
 use Rattle.extents.specs.Patches.{ArePatchesOf}
 use Rattle.extents.specs.Tables.{patches_of}

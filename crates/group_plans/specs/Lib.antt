@@ -1,4 +1,3 @@
-pub mod Pointers
 pub mod Areas
 pub mod GroupPlans
 pub mod ReadPlans

@@ -9,20 +9,21 @@ use Rattle.base.specs.declared.pointer.Pointer.{Pointer}
 use Rattle.base.specs.formats.Blocks.{Frame}
 use Rattle.base.specs.formats.Fields.{no_pointer}
 use Rattle.base.specs.formats.Limits.{object_count, pointer_count}
-use Rattle.base.specs.tree.PlacedTrees.{HoldsTree, IsPlaced}
+use Rattle.base.specs.kept.PlacedTrees.{HoldsTree, IsPlaced}
 use Rattle.base.specs.tree.Places.{Place, record_start, strip_number}
 use Rattle.base.specs.tree.Places.Place.{Indirect, Data}
-use Rattle.object_maps.specs.declared.tree.Tree.{Tree}
+use Rattle.tree_blocks.specs.declared.tree.Tree.{Tree}
 use Rattle.object_maps.specs.Cached.{BeginsInside}
-use Rattle.object_maps.specs.Lengths.{HasLengthsOf}
-use Rattle.object_maps.specs.Pointers.{object_pointers, pointer_of_list, pointers_of}
+use Rattle.tree_blocks.specs.Lengths.{HasLengthsOf}
+use Rattle.tree_blocks.specs.Pointers.{object_pointers, pointer_of_list, pointers_of}
 use Rattle.object_maps.specs.Sources.{object_length}
 use Rattle.tree_plans.specs.declared.changes.ObjectChanges.{ObjectChanges}
-use Rattle.tree_plans.specs.declared.object_map.ObjectMap.{ObjectMap}
+use Rattle.tree_blocks.specs.declared.object_map.ObjectMap.{ObjectMap}
 use Rattle.tree_plans.specs.Changes.{has_two_levels}
 use Rattle.tree_plans.specs.Parts.{IsReadAsNeeded}
 use Rattle.tree_plans.specs.Plans.{is_strip_replaced}
-use Rattle.tree_plans.specs.Pointers.{entry_of, records_among}
+use Rattle.tree_plans.specs.Pointers.{entry_of}
+use Rattle.tree_blocks.specs.ReadPointers.{records_among}
 use Rattle.group_plans.specs.declared.old_maps.OldObject.{OldObject}
 
 -- the image holds a tree in memory with these objects, and the tree has their lengths

@@ -11,8 +11,8 @@ use Rattle.base.specs.history.History.{apply_all}
 use Rattle.base.specs.history.Plans.{IsRange, ranges}
 use Rattle.base.specs.steps.Steps.{AreLengthsOf}
 use Rattle.base.specs.tree.Syncs.{is_on}
-use Rattle.object_maps.specs.declared.tree.ObjectEntry.{ObjectEntry}
-use Rattle.object_maps.specs.Lengths.{length_in}
+use Rattle.tree_blocks.specs.declared.tree.ObjectEntry.{ObjectEntry}
+use Rattle.tree_blocks.specs.Lengths.{length_in}
 
 -- Operations lead from contents to others. They are within the limits of ranges and of object numbers, and the maps of
 -- the tree before them have the lengths before them.

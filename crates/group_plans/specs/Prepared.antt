@@ -14,16 +14,16 @@ use Rattle.base.specs.declared.pointer.Pointer.{Pointer}
 use Rattle.base.specs.formats.Blocks.{Frame}
 use Rattle.base.specs.tree.Places.{Place, record_of_strip, strip_number}
 use Rattle.base.specs.tree.Places.Place.{Data}
-use Rattle.base.specs.tree.PlacedTrees.{HoldsTree}
+use Rattle.base.specs.kept.PlacedTrees.{HoldsTree}
 use Rattle.object_maps.specs.Cached.{IsReadRefusal}
 use Rattle.object_maps.specs.Sources.{AreBytesFrom, object_bytes, object_record}
 use Rattle.extents.specs.Objects.{HidesBelow}
 use Rattle.extents.specs.Patches.{Patches, objects_up_to}
 use Rattle.tree_plans.specs.declared.changes.ObjectChanges.{ObjectChanges}
-use Rattle.tree_plans.specs.declared.object_map.ObjectMap.{ObjectMap}
-use Rattle.tree_plans.specs.declared.place.RecordPlace.{RecordPlace}
+use Rattle.tree_blocks.specs.declared.object_map.ObjectMap.{ObjectMap}
+use Rattle.tree_blocks.specs.declared.place.RecordPlace.{RecordPlace}
 use Rattle.tree_plans.specs.Changes.{is_strip_dirty}
-use Rattle.tree_plans.specs.Plans.{read_record}
+use Rattle.tree_blocks.specs.ReadPointers.{read_record}
 
 -- record r of object n, if it is among these
 abbrev pub at_hand : BTreeMap ℕ (List ℕ) → ℕ → ℕ → Option (List ℕ)

@@ -12,21 +12,21 @@ use Rattle.base.specs.declared.pointer.Pointer.{Pointer}
 use Rattle.base.specs.formats.Blocks.{Frame}
 use Rattle.base.specs.formats.Geometry.{block_size}
 use Rattle.base.specs.formats.Limits.{object_count}
-use Rattle.base.specs.stored.Stored.{AreUsed}
-use Rattle.base.specs.tree.PlacedTrees.{ArePlaced}
+use Rattle.base.specs.kept.Stored.{AreUsed}
+use Rattle.base.specs.kept.PlacedTrees.{ArePlaced}
 use Rattle.base.specs.tree.Places.{Place}
-use Rattle.base.specs.tree.PlannedTrees.{AreFreed, IsTreePlan, NewBlock}
+use Rattle.base.specs.kept.PlannedTrees.{AreFreed, IsTreePlan, NewBlock}
 use Rattle.base.specs.tree.Syncs.{written_by}
-use Rattle.object_maps.specs.declared.tree.Tree.{Tree}
-use Rattle.object_maps.specs.Lengths.{length_in}
-use Rattle.object_maps.specs.Pointers.{pointers_of}
+use Rattle.tree_blocks.specs.declared.tree.Tree.{Tree}
+use Rattle.tree_blocks.specs.Lengths.{length_in}
+use Rattle.tree_blocks.specs.Pointers.{pointers_of}
 use Rattle.tree_plans.specs.declared.changes.ObjectChanges.{ObjectChanges}
 use Rattle.tree_plans.specs.declared.planner.TreePlan.{TreePlan}
 use Rattle.tree_plans.specs.Changes.{AreBornBefore, AreChanges, AreInRange, AreTreePointers, IsCoveredBy, changes_of_group}
 use Rattle.tree_plans.specs.Plans.{new_block}
 use Rattle.tree_plans.specs.Pointers.{entry_of, entry_pointer_of}
 use Rattle.group_plans.specs.GroupPlans.{plan_pointers}
-use Rattle.group_plans.specs.Pointers.{lengths_after}
+use Rattle.tree_blocks.specs.SyncedTrees.{lengths_after}
 
 -- What a plan makes of a tree, whose pointers before are these, by these changes: what `MakesGroupTree` says of the
 -- changes of a group.

@@ -8,17 +8,18 @@ ghost use Rattle.base.specs.declared.error.PoolError.TheVariants as error;
 ghost use Rattle.base.specs.common.Rising.{rising};
 ghost use Rattle.base.specs.formats.Geometry.{block_address, block_count};
 ghost use Rattle.base.specs.disk.Disk.{bytes_of};
-ghost use Rattle.base.specs.tree.PlacedTrees.{ArePlaced};
+ghost use Rattle.base.specs.kept.PlacedTrees.{ArePlaced};
 ghost use Rattle.base.specs.formats.Fields.{no_pointer};
 ghost use Rattle.base.specs.declared.pointer.Pointer.{Pointer};
 ghost use Rattle.object_maps.specs.ContentsShown.{contents_of};
-ghost use Rattle.object_maps.specs.Pointers.{pointer_of_list, pointers_of};
+ghost use Rattle.tree_blocks.specs.Pointers.{pointer_of_list, pointers_of};
 ghost use Rattle.object_maps.specs.Sources.{object_length};
 ghost use Rattle.tree_plans.specs.declared.changes.ObjectChanges.{ObjectChanges};
-ghost use Rattle.tree_plans.specs.declared.object_map.ObjectMap.{ObjectMap};
+ghost use Rattle.tree_blocks.specs.declared.object_map.ObjectMap.{ObjectMap};
 ghost use Rattle.tree_plans.specs.Changes.{has_two_levels, is_strip_touched};
 ghost use Rattle.tree_plans.specs.Plans.{address_of};
-ghost use Rattle.tree_plans.specs.Pointers.{entry_of, records_among};
+ghost use Rattle.tree_plans.specs.Pointers.{entry_of};
+ghost use Rattle.tree_blocks.specs.ReadPointers.{records_among};
 ghost use Rattle.group_plans.specs.GroupPlans.{objects_with};
 ghost use Rattle.group_plans.specs.OldMaps.{HoldsTreeOf};
 
@@ -30,7 +31,8 @@ use extents::Extents;
 use object_maps::{BlockReader, Contents};
 use std::collections::BTreeMap;
 use transactions::Record;
-use tree_plans::{ObjectChanges, ObjectMap, TreePlan};
+use tree_blocks::ObjectMap;
+use tree_plans::{ObjectChanges, TreePlan};
 
 // Blocks 0, 1 and 4 are free: a plan of two blocks takes blocks 0 and 1.
 fn a_group_takes_the_lowest_free_blocks<B: BlockReader>(

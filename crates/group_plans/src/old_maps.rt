@@ -11,14 +11,15 @@ ghost use Rattle.base.specs.disk.Disk.{bytes_of};
 ghost use Rattle.base.specs.formats.Fields.{no_pointer, pointer_in};
 ghost use Rattle.base.specs.formats.Geometry.{block_address};
 ghost use Rattle.base.specs.formats.Limits.{indirect_count, object_count, payload_size, pointer_count};
-ghost use Rattle.base.specs.tree.PlacedTrees.{IsPlaced};
+ghost use Rattle.base.specs.kept.PlacedTrees.{IsPlaced};
 ghost use Rattle.base.specs.tree.Places.{Place, record_start, strip_number, strip_start};
 ghost use Rattle.base.specs.tree.Places.Place.{Data, Indirect};
 ghost use Rattle.device_model.specs.Reading.{OnlyReads};
 ghost use Rattle.object_maps.specs.Cached.{HoldsStrip, HoldsTop, IsDamage, IsPointerInside};
 ghost use Rattle.object_maps.specs.ContentsShown.{contents_of};
-ghost use Rattle.object_maps.specs.Pointers.{pointer_of_list, pointers_of};
-ghost use Rattle.tree_plans.specs.Pointers.{entry_of, records_among};
+ghost use Rattle.tree_blocks.specs.Pointers.{pointer_of_list, pointers_of};
+ghost use Rattle.tree_plans.specs.Pointers.{entry_of};
+ghost use Rattle.tree_blocks.specs.ReadPointers.{records_among};
 ghost use Rattle.group_plans.specs.GroupPlans.{objects_with};
 ghost use Rattle.group_plans.specs.OldMaps.{AreMapsOf, AreMapsOfObjects, AreMapsReadFor, ArePointersOf, AreRecordsAt, AreMapRecords, AreMapStrips, AreStripsRead, HasReadMap, HoldsStripsOf, HoldsTreeOf, IsMapBefore, IsReadFor, IsStripRead, size_in};
 ghost use Rattle.group_plans.specs.Prepared.{IsPlainRefusal, IsPrepareRefusal};
@@ -28,12 +29,12 @@ use base::{OBJECT_COUNT, ObjectId, POINTER_COUNT, Pointer, PoolError, RECORD_SIZ
 use checked_blocks::Frame;
 use extents::{Extents, Laid};
 use object_maps::{
-    BlockReader, Contents, ObjectSource, Tree, read_indirect, read_top, record_pointer,
-    strip_number, strip_pointer,
+    BlockReader, Contents, ObjectSource, read_indirect, read_top, record_pointer, strip_pointer,
 };
 use std::alloc::Global;
 use std::collections::BTreeMap;
-use tree_plans::{ObjectChanges, ObjectMap, is_long};
+use tree_blocks::{ObjectMap, Tree, is_long, strip_number};
+use tree_plans::ObjectChanges;
 
 // An object whose map is read.
 #[derive(Clone, Copy, Debug)]

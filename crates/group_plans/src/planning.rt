@@ -5,10 +5,10 @@
 ghost use Rattle.std.specs.Prelude.{◌≡◌, ◌≤◌, ℕ, IfErr, IfOk, IsTrue, false, is_some, true};
 ghost use Rattle.base.specs.disk.Disk.{bytes_of};
 ghost use Rattle.base.specs.formats.Geometry.{block_address, block_count};
-ghost use Rattle.base.specs.tree.PlacedTrees.{ArePlaced};
+ghost use Rattle.base.specs.kept.PlacedTrees.{ArePlaced};
 ghost use Rattle.device_model.specs.Reading.{OnlyReads};
 ghost use Rattle.object_maps.specs.ContentsShown.{contents_of};
-ghost use Rattle.object_maps.specs.Pointers.{pointers_of};
+ghost use Rattle.tree_blocks.specs.Pointers.{pointers_of};
 ghost use Rattle.base.specs.tree.Places.{Place};
 ghost use Rattle.base.specs.declared.pointer.Pointer.{Pointer};
 ghost use Rattle.tree_plans.specs.Changes.{written_frame};
@@ -30,11 +30,12 @@ use base::{Group, ObjectId, PoolError};
 use checked_blocks::Frame;
 use extents::Extents;
 use labels::Geometry;
-use object_maps::{BlockReader, Contents, Tree};
+use object_maps::{BlockReader, Contents};
 use space::FreeSet;
 use std::alloc::Global;
 use std::collections::BTreeMap;
 use transactions::Record;
+use tree_blocks::Tree;
 use tree_plans::{ObjectChanges, PlanSource, TreePlan, changed_objects, plan};
 
 /// What the plan of a group is made of, beside the group's changes.

@@ -9,9 +9,10 @@ ghost use Rattle.group_plans.specs.Prepared.{AreCut, IsCut, KeepsFront, KeepsHan
 
 use base::{Bytes, ObjectId, PoolError, RECORD_SIZE};
 use extents::{Extents, Laid};
-use object_maps::{Contents, ObjectSource, RECORD_COUNT};
+use object_maps::{Contents, ObjectSource};
 use std::alloc::Global;
 use std::collections::BTreeMap;
+use tree_blocks::RECORD_COUNT;
 
 // The objects that contents have with the changes of a group laid over them. Some of their records are at hand, and
 // stand in the place of their own.

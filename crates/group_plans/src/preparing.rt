@@ -6,7 +6,7 @@ ghost use Rattle.base.specs.declared.record_state.RecordState.TheVariants.{Dirty
 ghost use Rattle.base.specs.disk.Disk.{bytes_of};
 ghost use Rattle.base.specs.formats.Geometry.{block_address};
 ghost use Rattle.base.specs.formats.Limits.{object_count, pointer_count, record_size};
-ghost use Rattle.base.specs.tree.PlacedTrees.{HoldsTree};
+ghost use Rattle.base.specs.kept.PlacedTrees.{HoldsTree};
 ghost use Rattle.base.specs.tree.Places.{record_of_strip};
 ghost use Rattle.device_model.specs.Reading.{OnlyReads};
 ghost use Rattle.object_maps.specs.Cached.{IsReadRefusal};
@@ -14,7 +14,8 @@ ghost use Rattle.object_maps.specs.ContentsShown.{contents_of};
 ghost use Rattle.extents.specs.Tables.{patches_of};
 ghost use Rattle.tree_plans.specs.Changes.{state_at};
 ghost use Rattle.tree_plans.specs.Parts.{AreReady};
-ghost use Rattle.tree_plans.specs.Plans.{IsReady, read_record};
+ghost use Rattle.tree_plans.specs.Plans.{IsReady};
+ghost use Rattle.tree_blocks.specs.ReadPointers.{read_record};
 ghost use Rattle.tree_plans.specs.Pointers.{pointers_before};
 ghost use Rattle.group_plans.specs.GroupPlans.{objects_with};
 ghost use Rattle.group_plans.specs.OldMaps.{AreMapsReadFor, HasReadMap};
@@ -24,9 +25,10 @@ use crate::prepared::PreparedObjects;
 use base::{OBJECT_COUNT, ObjectId, POINTER_COUNT, Pointer, PoolError, RECORD_SIZE, RecordState};
 use checked_blocks::Frame;
 use extents::Extents;
-use object_maps::{BlockReader, Contents, read_part, strip_number};
+use object_maps::{BlockReader, Contents, read_part};
 use std::collections::BTreeMap;
-use tree_plans::{ObjectChanges, ObjectMap, PlanSource, RecordPlace};
+use tree_blocks::{ObjectMap, RecordPlace, strip_number};
+use tree_plans::{ObjectChanges, PlanSource};
 
 // Reads a record of the synced tree, if it is there and the group does not hide it.
 fn read_below<B: BlockReader>(

@@ -14,10 +14,11 @@ use crate::prepared::{PreparedObjects, record_number};
 use base::{Group, OBJECT_COUNT, ObjectId, POINTER_COUNT, PoolError};
 use checked_blocks::{Block, Content, Kind, seal, seal_four};
 use extents::Laid;
-use object_maps::{ObjectSource, RECORD_COUNT, strip_number};
+use object_maps::ObjectSource;
 use std::alloc::Global;
 use std::collections::BTreeMap;
-use tree_plans::{RecordPlace, SealedSource};
+use tree_blocks::{BlockPlace, RECORD_COUNT, RecordPlace, strip_number};
+use tree_plans::SealedSource;
 
 // The records of all objects.
 const ALL_RECORDS: u64 = (OBJECT_COUNT as usize * RECORD_COUNT) as u64;
@@ -40,8 +41,8 @@ fn block_number(key: u64) -> u64
     ensures { result ≡ data_number key }
 {
     let index = key as usize % RECORD_COUNT;
-    let number = strip_number(key as usize / RECORD_COUNT, index / POINTER_COUNT);
-    (POINTER_COUNT * number + index % POINTER_COUNT) as u64
+    let strip = strip_number(key as usize / RECORD_COUNT, index / POINTER_COUNT);
+    BlockPlace::Data(strip, index % POINTER_COUNT).number()
 }
 
 // Whether a number is this one.

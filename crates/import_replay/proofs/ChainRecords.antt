@@ -3,8 +3,8 @@ use Rattle.std.proofs.Common.{◌≡◌, inl, inr, ℕ, suc, ◌*◌, ◌≤◌,
 use Rattle.std.specs.Prelude.{cond, filter, nat_lt}
 use Rattle.std.specs.List.{flat_map}
 use Rattle.std.proofs.lemmas.List.{length-map}
-use Rattle.base.specs.crash.LogChains.{ArePieces}
-use Rattle.base.specs.crash.Mount.{IsChainOf, Placed, frame_of, header_of, placed_records, records_above}
+use Rattle.base.specs.kept.LogChains.{ArePieces}
+use Rattle.base.specs.tree.Mount.{IsChainOf, Placed, frame_of, header_of, placed_records, records_above}
 use Rattle.base.specs.formats.Blocks.{Frame}
 use Rattle.base.specs.formats.Chain.{AreLogBlocks, Header, IsChain, IsPiece, IsWholePiece, LogBlock, LogPiece, addresses_of, next_header}
 use Rattle.base.specs.formats.Geometry.{IsGeometry}

@@ -4,13 +4,12 @@ use Rattle.std.specs.Prelude.{IfErr, IsErrAnd}
 use Rattle.std.specs.List.{range_with_len}
 use Rattle.std.proofs.lemmas.List.{append_assoc}
 use Rattle.std.proofs.lemmas.List.FromFn.{map-range_with_len_more}
-use Rattle.base.specs.crash.SyncCalls.{DiskCall}
-use Rattle.base.specs.crash.SyncCalls.DiskCall.{Put, Settle}
+use Rattle.base.specs.disk.DiskCalls.{DiskCall, IsStoppedIn, MakesInOrder, Refuses, after_disk_call, after_disk_calls}
+use Rattle.base.specs.disk.DiskCalls.DiskCall.{Put, Settle}
 use Rattle.base.specs.declared.error.PoolError.{PoolError}
 use Rattle.base.specs.declared.error.PoolError.TheVariants as refusal
 use Rattle.base.specs.disk.Calls.{Flushes, Writes}
 use Rattle.base.specs.disk.Disk.{Disk, written}
-use Rattle.sync.specs.DiskCalls.{IsStoppedIn, MakesInOrder, Refuses, after_disk_call, after_disk_calls}
 use Rattle.import_replay.specs.Cleared.{zeros}
 
 after_both : (a b : List DiskCall) (disk : Disk) → after_disk_calls (a ++ b) disk ≡ after_disk_calls b (after_disk_calls a disk)

@@ -1,11 +1,10 @@
 -- The stages of a create: what the calls so far make of the disk, and where a refused call stops them.
 use Rattle.std.proofs.Common.{◌≡◌, ℕ, List, [], ◌∷◌, ◌++◌, Result, Ok, Err}
 use Rattle.std.specs.Prelude.{IsErrAnd}
-use Rattle.base.specs.crash.SyncCalls.{DiskCall}
-use Rattle.base.specs.crash.SyncCalls.DiskCall.{Settle}
+use Rattle.base.specs.disk.DiskCalls.{DiskCall, MakesInOrder, after_disk_calls}
+use Rattle.base.specs.disk.DiskCalls.DiskCall.{Settle}
 use Rattle.base.specs.declared.error.PoolError.{PoolError}
 use Rattle.base.specs.disk.Disk.{Disk}
-use Rattle.sync.specs.DiskCalls.{MakesInOrder, after_disk_calls}
 use Rattle.import_replay.specs.Creations.{first_config, first_uberblock}
 use Rattle.import_replay.specs.CreateCalls.{clear_block, clear_tail, create_calls, each_block, each_label, write_config, write_uberblock}
 use Rattle.import_replay.proofs.CreateCalls.{made_then, stops_early}

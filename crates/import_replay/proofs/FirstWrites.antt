@@ -2,7 +2,7 @@
 use Rattle.std.proofs.Common.{◌≡◌, ◌⊎◌, inl, inr, ℕ, ◌+◌, ◌<◌, ◌≤◌, Bool, true, List, length, replicate, Ok, Err, OnOk, Result, refl, sym, ◌∙◌, ap, subst, arith}
 use Rattle.std.specs.Prelude.{◌==◌, ◌&&◌}
 use Rattle.std.proofs.lemmas.Bool.{and_from, and_parts, cases_lt, eq-eqb, eqb-true}
-use Rattle.base.specs.crash.Views.{View}
+use Rattle.base.specs.kept.Views.{View}
 use Rattle.base.specs.declared.error.PoolError.{PoolError}
 use Rattle.base.specs.disk.Calls.{Flushes}
 use Rattle.base.specs.disk.Disk.{Apart, Disk, HandedSince, HasEarlierWrites, Moment, bytes_of, handed, moments, put, settled, written}
@@ -20,8 +20,9 @@ use Rattle.labels.specs.Configs.{config_block}
 use Rattle.import_replay.specs.Cleared.{zeros}
 use Rattle.import_replay.specs.Creations.{first_config}
 use Rattle.import_replay.proofs.NewLabels.{zeros_number}
-use Rattle.import_replay.proofs.Flushes.{flushed_later, flushed_now}
+use Rattle.import_replay.proofs.Flushes.{flushed_later}
 use Rattle.import_replay.specs.OwnCreations.{AreConfigsHanded, AreSlotsHanded, HasFirstWrites, IsFirstDisk, IsHandedAt}
+use Rattle.sync.proofs.SlotSteps.{flushed_now}
 
 -- before the first write of a create nothing counts
 pub none_written : (disk : Disk) (v : View) → HasEarlierWrites disk → HasFirstWrites (moments disk) v disk

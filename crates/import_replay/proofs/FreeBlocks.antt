@@ -1,36 +1,26 @@
 -- The free blocks of a tree and a chain. And those that a plan leaves.
-use Rattle.std.proofs.Common.{◌≡◌, ℕ, zero, suc, ◌+◌, ◌<◌, Bool, true, false, not, ◌&&◌, ◌||◌, List, [], ◌∷◌, length, take, get_or, Some, None, ◌⊎◌, inl, inr, refl, sym, subst, ap, ◌∙◌, arith}
+use Rattle.std.proofs.Common.{◌≡◌, ℕ, suc, ◌+◌, ◌<◌, Bool, true, false, not, ◌&&◌, ◌||◌, List, [], ◌∷◌, length, take, get_or, Some, inl, inr, refl, sym, subst, ap, ◌∙◌, arith}
 use Rattle.std.specs.Prelude.{Contains, Err, IfErr, IsErr, Ok, Result, slice_get}
 use Rattle.std.specs.List.{list_any}
 use Rattle.std.specs.Ordering.{nat_cmp}
 use Rattle.std.specs.FinSet as set
 use Rattle.std.specs.FinSet.{FinSet, contains-empty, empty_of_len}
-use Rattle.std.proofs.lemmas.Bool.{eq-eqb, eqb-true, false≢true}
+use Rattle.std.proofs.lemmas.Bool.{eq-eqb, eqb-true, false≢true, or_cases}
 use Rattle.std.proofs.lemmas.List.Folds.{list_any-append}
 use Rattle.std.proofs.lemmas.Option.{get_or_from_slice_get, slice_get-get_or}
 use Rattle.base.specs.declared.error.PoolError.{PoolError}
 use Rattle.base.specs.formats.Chain.{LogPiece, addresses_of, chain_addresses}
 use Rattle.base.specs.formats.Geometry.{block_address, IsBlockAddress}
-use Rattle.object_maps.specs.declared.tree.Tree.{Tree}
-use Rattle.object_maps.specs.Pointers.{pointers_of}
+use Rattle.base.proofs.common.KeptLists.{any_at}
+use Rattle.base.proofs.common.Choices.{and_not_parts}
+use Rattle.tree_blocks.specs.declared.tree.Tree.{Tree}
+use Rattle.tree_blocks.specs.Pointers.{pointers_of}
 use Rattle.space.specs.FreeSets.{FreeSpace, IsLowestFree, after_take, is_free}
 use Rattle.tree_plans.specs.declared.planner.PlannedBlock.{PlannedBlock}
 use Rattle.object_maps.specs.FreeBlocks.{AreUnnamed, BlocksTaken, is_block_at}
 use Rattle.object_maps.proofs.FreeBlocks.{address_taken, blocks_kept, taken_more, taken_twice}
 use Rattle.import_replay.specs.FreeBlocks.{AreAllPlanned, AreUnused, IsLowestLeft, IsUsedBy, is_planned, logs_block, plans_block}
 use Rattle.import_replay.proofs.NamedBlocks.{named_or_not}
-
-or_left : (a b : Bool) → a ≡ true → (a || b) ≡ true
-or_left true b h = refl
-or_left false b h = absurd (false≢true h)
-
-or_right : (a b : Bool) → b ≡ true → (a || b) ≡ true
-or_right true b h = refl
-or_right false b h = h
-
-or_cases : (a b : Bool) → (a || b) ≡ true → (a ≡ true) ⊎ (b ≡ true)
-or_cases true b h = inl refl
-or_cases false b h = inr h
 
 -- what passes a test stands somewhere, and the test of a list finds it
 record IsFoundAt {A : Type 0} (p : A → Bool) (xs : List A) : Type 0 where
@@ -46,17 +36,6 @@ found_at p (x ∷ xs) h = elim (or_cases (p x) (list_any p xs) h) as (λ _. IsFo
   | inl here ↦ record { index = 0; item = x; low = omega arith; found = refl; passes = here }
   | inr behind ↦ (let f = found_at p xs behind in record { index = suc f.index; item = f.item; low = (let h = f.low in omega arith); found = f.found; passes = f.passes })
 ]
-
-any_at : {A : Type 0} (p : A → Bool) (xs : List A) (i : ℕ) (x : A) → slice_get xs i ≡ Some x → p x ≡ true → list_any p xs ≡ true
-any_at p [] i x at h = absurd (let e : None ≡ Some x = at in cc)
-any_at p (y ∷ xs) zero x at h = let e : y ≡ x = cc in or_left (p y) (list_any p xs) (ap p e ∙ h)
-any_at p (y ∷ xs) (suc i) x at h = or_right (p y) (list_any p xs) (any_at p xs i x at h)
-
--- what two tests say together
-pub both_are : (a b : Bool) → (a && not b) ≡ true → (a ≡ true) × (b ≡ false)
-both_are true true h = absurd (false≢true h)
-both_are true false h = (refl, refl)
-both_are false b h = absurd (false≢true h)
 
 pub not_both : (a b : Bool) → (a && not b) ≡ false → a ≡ true → b ≡ true
 not_both true true h is = refl
@@ -89,7 +68,7 @@ module _ (t : Tree) (chain : List LogPiece) (blocks : ℕ) (all left : FreeSpace
 
   not_used : (k : ℕ) → k < blocks → is_free k left ≡ true → HasUse (block_address k) → ⊥
   not_used k low free used =
-      let (was, unlogged) = both_are (is_free k all) (list_any (logs_block k) chain) (sym (each k low) ∙ free) in
+      let (was, unlogged) = and_not_parts (is_free k all) (list_any (logs_block k) chain) (sym (each k low) ∙ free) in
       elim used as (λ _. ⊥) [
         | inl named ↦ (unnamed.each k low).0 was named
         | inr there ↦ false≢true (sym unlogged ∙ sym (any-logged k chain) ∙ at-found k (chain_addresses chain) there)
@@ -130,7 +109,7 @@ module _ (planned : List PlannedBlock) (s left : FreeSpace) (taken : BlocksTaken
   lowest_is_left b first =
       let count = blocks_kept (λ k. is_planned k planned) s left taken in
       let within : b < s.blocks = (let low = first.within in omega (arith, low, count)) in
-      let here = both_are (is_free b s) (is_planned b planned) (sym (taken.each b within) ∙ first.free) in
+      let here = and_not_parts (is_free b s) (is_planned b planned) (sym (taken.each b within) ∙ first.free) in
       record {
         within = within;
         free = here.0;

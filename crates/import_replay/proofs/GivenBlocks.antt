@@ -6,7 +6,7 @@ use Rattle.std.proofs.lemmas.List.{take_more}
 use Rattle.std.proofs.lemmas.List.Folds.{list_any-append}
 use Rattle.std.proofs.lemmas.Cmp.{nat_cmp_total}
 use Rattle.std.specs.List.{list_any}
-use Rattle.std.proofs.Math.Bool.{or-true}
+use Rattle.std.proofs.Math.Bool.{or-true, or-false}
 use Rattle.base.proofs.stored.StoredSets.{at-set}
 use Rattle.std.specs.FinSet as set
 use Rattle.std.specs.FinSet.{FinSet, contains-empty, contains-insert, contains-from_list, contains-union, same_set, nat_cmp-IsAntisymmetric}
@@ -14,20 +14,16 @@ use Rattle.base.specs.formats.Geometry.{block_address}
 use Rattle.space.specs.FreeSets.{FreeSpace, after_give}
 use Rattle.import_replay.specs.FreeBlocks.{after_gives}
 
-or_false : (b : Bool) → (b || false) ≡ b
-or_false true = refl
-or_false false = refl
-
 -- a union with no numbers
 pub union_none : (s : FinSet nat_cmp) → s ≡ set.union s (set.from_list [])
 union_none s = same_set nat_cmp_total nat_cmp-IsAntisymmetric _ _ (λ q.
-    sym (contains-union nat_cmp_total s (set.from_list []) q ∙ ap (λ b. set.contains s q || b) (contains-empty nat_cmp q) ∙ or_false (set.contains s q)))
+    sym (contains-union nat_cmp_total s (set.from_list []) q ∙ ap (λ b. set.contains s q || b) (contains-empty nat_cmp q) ∙ or-false (set.contains s q)))
 
-one_more : (xs : List ℕ) (x q : ℕ) → set.contains (set.from_list {R = nat_cmp} (xs ++ x ∷ [])) q ≡ (set.contains (set.from_list {R = nat_cmp} xs) q || eq_by_cmp nat_cmp q x)
+pub one_more : (xs : List ℕ) (x q : ℕ) → set.contains (set.from_list {R = nat_cmp} (xs ++ x ∷ [])) q ≡ (set.contains (set.from_list {R = nat_cmp} xs) q || eq_by_cmp nat_cmp q x)
 one_more xs x q =
     contains-from_list nat_cmp_total (xs ++ x ∷ []) q
     ∙ list_any-append (eq_by_cmp nat_cmp q) xs (x ∷ [])
-    ∙ ap (λ b. list_any (eq_by_cmp nat_cmp q) xs || b) (or_false (eq_by_cmp nat_cmp q x))
+    ∙ ap (λ b. list_any (eq_by_cmp nat_cmp q) xs || b) (or-false (eq_by_cmp nat_cmp q x))
     ∙ sym (ap (λ b. b || eq_by_cmp nat_cmp q x) (contains-from_list nat_cmp_total xs q))
 
 -- and with one number more

@@ -4,7 +4,7 @@ use Rattle.std.proofs.lemmas.Bool.{cases_eq}
 use Rattle.base.specs.formats.Fields.{part}
 use Rattle.base.specs.formats.Geometry.{slot_of, slot_place}
 use Rattle.base.specs.formats.Uberblocks.{Uberblock, IsActive, IsUberblock, StandsIn}
-use Rattle.uberblocks.proofs.Places.{slot_below}
+use Rattle.base.proofs.formats.Geometry.{slot-below}
 use Rattle.uberblocks.proofs.SlotReads.{readings_agree}
 use Rattle.import_replay.specs.Labelled.{HasOtherSlots, HoldUberblock}
 
@@ -29,7 +29,7 @@ module _ (size : ℕ) (image now : List ℕ) (u v : Uberblock) (long : length im
           omega (arith, group)
       by_slot (inr differ) =
           let old : IsUberblock (part image (slot_place size k (slot_of other.group)) 1024) other =
-          subst (λ (l : List ℕ). IsUberblock l other) (others k (slot_of other.group) low (slot_below other.group) differ) here in
+          subst (λ (l : List ℕ). IsUberblock l other) (others k (slot_of other.group) low (slot-below other.group) differ) here in
           let at_most = active.highest k other low (subst (λ n. IsUberblock (part image (slot_place n k (slot_of other.group)) 1024) other) (sym long) old) in
           omega (arith, at_most, above)
 

@@ -5,7 +5,7 @@ use Rattle.std.specs.Ordering.{nat_cmp}
 use Rattle.std.specs.FinMap as finite
 use Rattle.std.specs.FinMap.{FinMap}
 use Rattle.std.specs.FinSet.{FinSet}
-use Rattle.base.specs.crash.Mount.{IsChainDamaged, IsFound, Mounts, apply_records, records_above}
+use Rattle.base.specs.tree.Mount.{IsChainDamaged, IsFound, Mounts, apply_records, records_above}
 use Rattle.base.specs.declared.names.ObjectId.{ObjectId}
 use Rattle.base.specs.declared.pointer.Pointer.{Pointer}
 use Rattle.base.specs.formats.Chain.{LogPiece, chain_addresses}
@@ -18,11 +18,10 @@ use Rattle.base.specs.steps.Groups.{Line}
 use Rattle.base.specs.tree.Tree.{IsTree}
 use Rattle.base.proofs.crash.OneMount.{mounts_agree}
 use Rattle.base.proofs.tree.PlacedTrees.{holds-tree}
-use Rattle.object_maps.specs.declared.tree.Tree.{Tree}
+use Rattle.tree_blocks.specs.declared.tree.Tree.{Tree}
 use Rattle.object_maps.specs.Loading.{IsLimitedObject}
-use Rattle.object_maps.specs.Pointers.{pointers_of}
-use Rattle.object_maps.specs.Sources.{AreWithin}
-use Rattle.object_maps.specs.Surveys.{ListsObjectsOf}
+use Rattle.tree_blocks.specs.Pointers.{pointers_of}
+use Rattle.tree_blocks.specs.ListedObjects.{AreWithin, ListsObjectsOf}
 use Rattle.import_replay.specs.declared.inspection.Inspected.{Inspected}
 use Rattle.log_replay.specs.declared.outline.Outline.{Outline}
 use Rattle.import_replay.specs.FreeBlocks.{AreUnused}

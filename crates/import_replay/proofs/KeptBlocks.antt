@@ -6,13 +6,13 @@ use Rattle.std.specs.Ordering.{nat_cmp}
 use Rattle.std.specs.FinMap.{FinMap}
 use Rattle.std.proofs.lemmas.Bool.{false≢true}
 use Rattle.std.proofs.lemmas.Option.{slice_get_within}
-use Rattle.base.specs.crash.Mount.{IsChainOf, IsUsed, frame_of, header_of}
+use Rattle.base.specs.tree.Mount.{IsChainOf, IsUsed, frame_of, header_of}
 use Rattle.base.specs.declared.pointer.Pointer.{Pointer}
 use Rattle.base.specs.formats.Chain.{LogPiece}
 use Rattle.base.specs.formats.Fields.{no_pointer, number_at, part}
 use Rattle.base.specs.formats.Geometry.{IsBlockAddress, block_address, block_count, block_size}
 use Rattle.base.specs.formats.Uberblocks.{Uberblock}
-use Rattle.base.specs.tree.PlacedTrees.{IsPlaced}
+use Rattle.base.specs.kept.PlacedTrees.{IsPlaced}
 use Rattle.base.specs.tree.Places.{IsInTree}
 use Rattle.base.proofs.common.KeptLists.{All-at}
 use Rattle.base.proofs.crash.OneMount.{one-active, one-chain}
@@ -20,8 +20,8 @@ use Rattle.base.proofs.disk.Put.{part_same}
 use Rattle.base.proofs.disk.WrittenBlocks.{blocks-apart}
 use Rattle.base.proofs.tree.PlacedTrees.{holds-placed, in-tree}
 use Rattle.intent_log.specs.Chains.{IsSoundPiece}
-use Rattle.object_maps.specs.Pointers.{pointers_of}
-use Rattle.object_maps.specs.declared.tree.Tree.{Tree}
+use Rattle.tree_blocks.specs.Pointers.{pointers_of}
+use Rattle.tree_blocks.specs.declared.tree.Tree.{Tree}
 use Rattle.sync.specs.Made.{BlocksWritten}
 use Rattle.tree_plans.specs.declared.planner.PlannedBlock.{PlannedBlock}
 use Rattle.import_replay.specs.LabelSyncs.{AreApartIn}

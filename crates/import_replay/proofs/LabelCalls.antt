@@ -7,9 +7,9 @@ use Rattle.std.proofs.lemmas.List.{length-map, map-append, take-append-drop, tak
 use Rattle.std.proofs.lemmas.Option.{get_or_from_slice_get, slice_get-map, slice_get_within}
 use Rattle.std.proofs.lemmas.Simd.{map-map}
 use Rattle.std.proofs.Math.Seq.{drop-cons}
-use Rattle.base.specs.crash.Views.{IsLogContent}
-use Rattle.base.specs.crash.SyncCalls.{DiskCall}
-use Rattle.base.specs.crash.SyncCalls.DiskCall.{Put, Settle}
+use Rattle.base.specs.kept.Views.{IsLogContent}
+use Rattle.base.specs.disk.DiskCalls.{DiskCall, IsStoppedIn, MakesDiskCall, Refuses, after_disk_call, after_disk_calls, refusal_of_call}
+use Rattle.base.specs.disk.DiskCalls.DiskCall.{Put, Settle}
 use Rattle.base.specs.declared.error.PoolError.{PoolError}
 use Rattle.base.specs.declared.error.PoolError.TheVariants as refusal
 use Rattle.base.specs.disk.Calls.{Writes}
@@ -21,7 +21,7 @@ use Rattle.base.specs.formats.Labels.{even_labels, odd_labels}
 use Rattle.base.specs.formats.Uberblocks.{slot_size}
 use Rattle.base.specs.disk.SyncOrder.{DeviceCall, calls_in_order, import_calls, label_stage}
 use Rattle.base.specs.disk.SyncOrder.DeviceCall.{Block, Config as ConfigCall, Uberblock as UberblockCall, Flush}
-use Rattle.base.proofs.common.KeptLists.{All-at}
+use Rattle.base.proofs.common.KeptLists.{All-at, mapped}
 use Rattle.labels.specs.Configs.{config_block}
 use Rattle.labels.specs.Stages.{labels_of}
 use Rattle.labels.specs.declared.stage.Stage.{Stage}
@@ -36,8 +36,7 @@ use Rattle.sync.specs.Phases.{IsWrittenNext}
 use Rattle.sync.specs.Runs.{call_count}
 use Rattle.sync.specs.Calls.{IsNextCall, MakesCall, Target, block_target, calls_of, config_target, first_labels, last_labels, refusal_of, target_of}
 use Rattle.sync.proofs.CallPlaces.{count_calls}
-use Rattle.sync.proofs.Targets.{WritesTarget, call_of_target, mapped}
-use Rattle.sync.specs.DiskCalls.{IsStoppedIn, MakesDiskCall, Refuses, after_disk_call, after_disk_calls, refusal_of_call}
+use Rattle.sync.proofs.Targets.{WritesTarget, call_of_target}
 use Rattle.import_replay.specs.CreateCalls.{each_label, write_config, write_uberblock}
 use Rattle.import_replay.specs.LabelSyncs.{ImportWrites, IsGroupSync, calls_of_import, is_even, write_block, write_stage}
 use Rattle.import_replay.proofs.CreateCalls.{made_then}

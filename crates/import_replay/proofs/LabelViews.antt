@@ -3,21 +3,20 @@
 -- than the view's does.
 use Rattle.std.proofs.Common.{◌≡◌, inl, inr, ⊎_elim, ℕ, ◌+◌, ◌<◌, ◌≤◌, List, drop, Option, Some, refl, sym, ◌∙◌, ap, subst, arith}
 use Rattle.std.specs.Prelude.{◌≢◌, All, vec_len}
-use Rattle.base.specs.crash.CallStages.{FixedLabels}
-use Rattle.base.specs.crash.CrashRule.{IsImportMoment}
-use Rattle.base.specs.crash.LogRule.{AreChainsUpTo}
-use Rattle.base.specs.crash.Own.{AreConfigsBelowImport, IsAtRest, IsPhase}
-use Rattle.base.specs.crash.Views.{View, AreConfigsUpTo, IsConfigContent, IsView, config_content, view_frame}
+use Rattle.base.specs.kept.CallStages.{FixedLabels}
+use Rattle.base.specs.kept.CrashRule.{IsImportMoment}
+use Rattle.base.specs.kept.LogRule.{AreChainsUpTo}
+use Rattle.base.specs.kept.Own.{AreConfigsBelowImport, IsAtRest, IsPhase}
+use Rattle.base.specs.kept.Views.{View, AreConfigsUpTo, IsConfigContent, IsView, config_content, view_frame}
 use Rattle.base.specs.disk.Disk.{Disk, EachMoment, Moment, Write, bytes_of, handed, moments}
 use Rattle.base.specs.disk.Fairness.{HandsOnly, HasFairBytes}
 use Rattle.base.specs.formats.Blocks.{IsBlock}
 use Rattle.base.specs.formats.Fields.{number_at}
 use Rattle.base.specs.formats.Geometry.{IsGeometry, block_address, config_place}
 use Rattle.base.specs.formats.Labels.{Config}
-use Rattle.base.specs.tree.PlacedTrees.{HoldsTree}
-use Rattle.base.proofs.common.KeptLists.{All-at, All-each, none_at}
+use Rattle.base.specs.kept.PlacedTrees.{HoldsTree}
+use Rattle.base.proofs.common.KeptLists.{All-at, All-each, none_at, take-at}
 use Rattle.base.proofs.crash.CutViews.{cut_none}
-use Rattle.base.proofs.crash.LogFronts.{take-at}
 use Rattle.base.proofs.crash.LogImports.{chains_of_view}
 use Rattle.base.proofs.crash.NewViews.{configs_of_stage, logs_of_import}
 use Rattle.base.proofs.disk.Moments.{both, joins, latest, moments_grow, starts, weaker}

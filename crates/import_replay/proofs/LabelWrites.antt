@@ -1,8 +1,8 @@
 -- What each write of a create makes of the labels.
-use Rattle.std.proofs.Common.{◌≡◌, ℕ, zero, suc, ◌+◌, ◌-◌, ◌*◌, ◌<◌, ◌≤◌, ◌⊎◌, inl, inr, true, List, [], ◌++◌, length, take, drop, get_or, replicate, Result, Ok, Err, sym, ◌∙◌, ap, subst, arith}
+use Rattle.std.proofs.Common.{◌≡◌, ℕ, zero, suc, ◌+◌, ◌-◌, ◌*◌, ◌<◌, ◌≤◌, ◌⊎◌, inl, inr, true, List, [], length, get_or, replicate, Result, Ok, Err, sym, ◌∙◌, ap, subst, arith}
 use Rattle.std.specs.Prelude.{OnOk}
 use Rattle.std.proofs.lemmas.Bool.{cases_lt, cases_order}
-use Rattle.std.proofs.lemmas.List.{length-take-le, get_or_append_left, get_or-append_right, get_or-replicate, get_or_past, length-replicate}
+use Rattle.std.proofs.lemmas.List.{length-replicate}
 use Rattle.base.specs.declared.error.PoolError.{PoolError}
 use Rattle.base.specs.formats.Fields.{part}
 use Rattle.base.specs.disk.Disk.{Disk, bytes_of, put, written, IsInRange}
@@ -10,11 +10,11 @@ use Rattle.base.specs.disk.Calls.{Flushes}
 use Rattle.base.specs.formats.Geometry.{IsGeometry, block_area, block_size, block_address, block_count, label_place, config_place, slot_of, slot_place}
 use Rattle.base.specs.formats.Labels.{Config}
 use Rattle.base.specs.formats.Uberblocks.{Uberblock, IsUberblock}
-use Rattle.base.proofs.disk.Put.{Apart, get_or-put_other, part-put_same, part-put_apart}
+use Rattle.base.proofs.disk.Put.{Apart, get_or-put_other, part-put_same, part-put_apart, get_or-put_in, outside_range}
 use Rattle.base.proofs.disk.Regions.{flushed_clean}
 use Rattle.labels.specs.Configs.{IsConfigBlock}
-use Rattle.base.proofs.formats.Geometry.{labels-apart, label-on_device, blocks-end, IsGeometry-IsSize}
-use Rattle.uberblocks.proofs.Places.{slot_below}
+use Rattle.base.proofs.formats.Geometry.{labels-apart, label-on_device, blocks-end, IsGeometry-IsSize, slot-below}
+use Rattle.base.proofs.common.KeptLists.{get_or-zeros as get_or-nothing}
 use Rattle.import_replay.specs.Creations.{first_config}
 use Rattle.import_replay.specs.Cleared.{zeros, IsInTail, IsInConfig, IsInFirstSlot, AreTailsCleared, AreBlocksCleared, IsCleared}
 use Rattle.import_replay.specs.Labelled.{HoldConfig, HoldUberblock}
@@ -41,24 +41,9 @@ pub length-zeros : (n : ℕ) → length (zeros n) ≡ n
 unfolding zeros
 length-zeros n = length-replicate n 0
 
--- a byte of zeros
-get_or-nothing : (n k : ℕ) → get_or (replicate n 0) k 0 ≡ zero
-get_or-nothing n k = go (cases_lt k n)
-  where
-    go : (k < n) ⊎ (n ≤ k) → get_or (replicate n 0) k 0 ≡ zero
-    go (inl less) = get_or-replicate n k 0 0 less
-    go (inr more) = get_or_past (replicate n 0) k 0 (omega (arith, length-replicate {A = ℕ} n 0, more))
-
 get_or-zeros : (n k : ℕ) → get_or (zeros n) k 0 ≡ zero
 unfolding zeros
 get_or-zeros n k = get_or-nothing n k
-
--- a byte of what was put
-get_or-put_in : (place : ℕ) (content bytes : List ℕ) (i : ℕ) → place + length content ≤ length bytes → place ≤ i → i < place + length content → get_or (put place content bytes) i 0 ≡ get_or content (i - place) 0
-get_or-put_in place content bytes i fits from to =
-    let short : length (take place bytes) ≡ place = length-take-le place bytes (omega (arith, fits)) in
-    get_or-append_right (take place bytes) (content ++ drop (place + length content) bytes) place i 0 short from
-    ∙ get_or_append_left content (drop (place + length content) bytes) 0 (i - place) (omega (arith, from, to))
 
 -- the block that was made of the first config holds it
 pub first_config_block : (block seen name : List ℕ) (config : Config) (guid n size : ℕ) → seen ≡ block → config ≡ first_config name guid n → n ≡ size → IsConfigBlock block config.size config
@@ -190,13 +175,6 @@ module _ (size : ℕ) (is : IsGeometry size) (image : List ℕ) (long : length i
   config_next n block config below_4 block_long holds each =
       each_next (λ (l : List ℕ). IsConfigBlock l size config) (config_place size) 4096 config_inside n block below_4 block_long holds each
 
-  -- a byte before a range, after it or in it
-  sides : (place m i : ℕ) → (IsInRange place m i → ⊥) → (i < place) ⊎ (place + m ≤ i)
-  sides place m i out = elim (cases_lt i place) [
-    | inl before ↦ inl before
-    | inr from ↦ elim (cases_lt i (place + m)) [ inl to ↦ absurd (out (from, to)) | inr behind ↦ inr behind ]
-  ]
-
   -- a part of a label that none of the cleared bytes lies in
   label_beside : (n place m : ℕ) (content : List ℕ) → n < 4 → length content ≡ m → label_place size n ≤ place → place + m ≤ label_place size n + 262144
       → ((i : ℕ) → (IsInConfig size n i → ⊥) → (IsInFirstSlot size n i → ⊥) → IsInRange place m i → ⊥)
@@ -212,7 +190,7 @@ module _ (size : ℕ) (is : IsGeometry size) (image : List ℕ) (long : length i
       go : (label i : ℕ) → label < 4 → IsInTail size label i → (IsInConfig size label i → ⊥) → (IsInFirstSlot size label i → ⊥) → (n ≡ label) ⊎ ((n < label) ⊎ (label < n))
           → (i < place) ⊎ (place + m ≤ i)
       go label i below inside not_config not_slot (inl same) =
-          sides place m i (kept i
+          outside_range place m i (kept i
           (subst (λ (l : ℕ). IsInConfig size l i → ⊥) (sym same) not_config)
           (subst (λ (l : ℕ). IsInFirstSlot size l i → ⊥) (sym same) not_slot))
       go label i below inside not_config not_slot (inr (inl less)) = inr (omega (arith, inside.0, labels-apart size n label is less below, to))
@@ -227,7 +205,7 @@ module _ (size : ℕ) (is : IsGeometry size) (image : List ℕ) (long : length i
   pub uberblock_next : (n : ℕ) (slot : List ℕ) (u : Uberblock) → n < 4 → length slot ≡ 1024 → IsUberblock slot u → HoldUberblock size n u image
       → HoldUberblock size (n + 1) u (put (slot_place size n (slot_of u.group)) slot image)
   uberblock_next n slot u below_4 slot_long holds each =
-      each_next (λ (l : List ℕ). IsUberblock l u) (λ (label : ℕ). slot_place size label (slot_of u.group)) 1024 (slot_inside (slot_of u.group) (slot_below u.group)) n slot below_4 slot_long holds each
+      each_next (λ (l : List ℕ). IsUberblock l u) (λ (label : ℕ). slot_place size label (slot_of u.group)) 1024 (slot_inside (slot_of u.group) (slot-below u.group)) n slot below_4 slot_long holds each
 
   -- which leaves the configs
   pub uberblock_behind : (n : ℕ) (slot : List ℕ) (config : Config) → n < 4 → length slot ≡ 1024 → HoldConfig size 4 config image → HoldConfig size 4 config (put (slot_place size n 4) slot image)

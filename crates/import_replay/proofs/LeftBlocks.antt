@@ -11,24 +11,20 @@ use Rattle.base.specs.declared.pointer.Pointer.{Pointer}
 use Rattle.base.specs.formats.Geometry.{IsBlockAddress, block_address}
 use Rattle.base.specs.tree.Places.{Place}
 use Rattle.base.proofs.common.KeptLists.{All-at}
+use Rattle.base.proofs.common.Choices.{and_not_parts, not_and_parts}
 use Rattle.base.proofs.stored.StoredSets.{IsAt, at-set, set-at}
 use Rattle.group_plans.specs.Areas.{AreBlocksOf, is_block_of}
 use Rattle.group_plans.proofs.PlannedBlocks.{block_of}
 use Rattle.object_maps.specs.FreeBlocks.{AreUnnamed}
-use Rattle.object_maps.specs.Pointers.{pointers_of}
-use Rattle.object_maps.specs.declared.tree.Tree.{Tree}
+use Rattle.tree_blocks.specs.Pointers.{pointers_of}
+use Rattle.tree_blocks.specs.declared.tree.Tree.{Tree}
 use Rattle.object_maps.proofs.FreeBlocks.{blocks_kept, contains-without}
 use Rattle.space.specs.FreeSets.{FreeSpace, IsIdle, is_free}
 use Rattle.tree_plans.specs.declared.planner.PlannedBlock.{PlannedBlock}
 use Rattle.tree_plans.specs.declared.planner.TreePlan.{TreePlan}
 use Rattle.import_replay.specs.FreeBlocks.{AreAllOthers, IsLeftBy, IsNamed, is_planned}
-use Rattle.import_replay.proofs.FreeBlocks.{at_planned, both_are, not_both, planned_at}
+use Rattle.import_replay.proofs.FreeBlocks.{at_planned, not_both, planned_at}
 use Rattle.import_replay.proofs.NamedBlocks.{named_or_not}
-
--- a flag that says two things
-and_cases : (a b : Bool) → (not a && b) ≡ true → (a ≡ false) × (b ≡ true)
-and_cases true b h = absurd (false≢true h)
-and_cases false b h = (refl, h)
 
 and_fails : (a b : Bool) → (not a && b) ≡ false → (a ≡ true) ⊎ (b ≡ false)
 and_fails true b h = inl refl
@@ -76,7 +72,7 @@ module _ (t : Tree) (blocks : ℕ) (old new : FreeSpace) (plan : TreePlan) (log_
   -- where a block is free, it is not that of the log, and was left or comes back
   was_left : (q : ℕ) → set.contains new.free q ≡ true → (nat_eq log_address q ≡ false) × ((set.contains mid.free q ≡ true) ⊎ IsAt freed q)
   was_left q h =
-      let (other, rest) = and_cases (nat_eq log_address q) (set.contains mid.free q || set.contains came_back q) (sym (told q) ∙ h) in (
+      let (other, rest) = not_and_parts (nat_eq log_address q) (set.contains mid.free q || set.contains came_back q) (sym (told q) ∙ h) in (
         other,
         elim (or_cases (set.contains mid.free q) (set.contains came_back q) rest) as (λ _. (set.contains mid.free q ≡ true) ⊎ IsAt freed q) [
           | inl stayed ↦ inl stayed
@@ -108,7 +104,7 @@ module _ (t : Tree) (blocks : ℕ) (old new : FreeSpace) (plan : TreePlan) (log_
       where
         not_stayed : IsBlockAddress blocks q → set.contains mid.free q ≡ true → ⊥
         not_stayed (k, low, at) stayed =
-            let (was, unplanned) = both_are (is_free k old) (is_planned k planned) (sym (kept k low) ∙ ap (λ (a : ℕ). set.contains mid.free a) (sym at) ∙ stayed) in
+            let (was, unplanned) = and_not_parts (is_free k old) (is_planned k planned) (sym (kept k low) ∙ ap (λ (a : ℕ). set.contains mid.free a) (sym at) ∙ stayed) in
             elim (made.named_from q (k, low, at) named) as (λ _. ⊥) [
               | inl before ↦ (unnamed.each k low).0 was (subst (λ (a : ℕ). IsNamed (pointers_of t) a) at before)
               | inr taken ↦ false≢true (sym unplanned ∙ at_planned k planned taken.0 taken.1 taken.2 (taken.3 ∙ at))

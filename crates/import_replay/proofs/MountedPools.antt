@@ -10,24 +10,26 @@ use Rattle.base.specs.formats.Blocks.{Frame}
 use Rattle.base.specs.formats.Chain.{LogPiece, chain_addresses}
 use Rattle.base.specs.steps.Exact.{AreFree, IsBounded, IsInLog}
 use Rattle.base.specs.formats.Geometry.{IsBlockAddress, block_count}
-use Rattle.base.specs.crash.Imports.{IsFirstLogBlock, IsImported, IsImportOf, is_dirty_max_allowed, is_past_last}
+use Rattle.base.specs.kept.Imports.{IsFirstLogBlock, IsImported, IsImportOf, is_dirty_max_allowed, is_past_last}
 use Rattle.base.specs.formats.Limits.{last_number}
 use Rattle.base.specs.history.Contents.{Contents}
 use Rattle.base.specs.formats.Versions.{written_version}
-use Rattle.base.specs.crash.Mount.{HasPool, IsFound, IsUsed, Mounts, apply_records, records_above}
-use Rattle.base.specs.tree.PlacedTrees.{HoldsTree}
+use Rattle.base.specs.tree.Mount.{HasPool, IsFound, IsUsed, Mounts, apply_records, records_above}
+use Rattle.base.specs.kept.PlacedTrees.{HoldsTree}
 use Rattle.base.specs.tree.Places.{Place, IsInTree}
 use Rattle.base.specs.tree.Places.Place.{Root}
 use Rattle.base.specs.steps.Shown.{Shown}
 use Rattle.base.specs.tree.Tree.{IsTree}
 use Rattle.base.specs.formats.Uberblocks.{Uberblock}
 use Rattle.base.proofs.steps.KeptTables.{new_pools_are_explained}
+use Rattle.base.proofs.steps.ListedLengths.{lengths_stay_listed}
 use Rattle.base.proofs.tree.PlacedTrees.{holds-tree, in-tree, told-in_tree}
 use Rattle.object_maps.specs.declared.contents.Slot.{Slot}
-use Rattle.object_maps.specs.declared.tree.Tree.{Tree}
+use Rattle.tree_blocks.specs.declared.tree.Tree.{Tree}
 use Rattle.object_maps.specs.declared.contents.Contents as declared
-use Rattle.object_maps.specs.ContentsShown.{contents_of}
-use Rattle.object_maps.specs.Pointers.{objects_of, pointers_of}
+use Rattle.object_maps.specs.ContentsShown.{contents_of, objects_of}
+use Rattle.tree_blocks.specs.Lengths.{lengths_of}
+use Rattle.tree_blocks.specs.Pointers.{pointers_of}
 use Rattle.sync.specs.Made.{BlocksWritten}
 use Rattle.tree_plans.specs.declared.planner.PlannedBlock.{PlannedBlock}
 use Rattle.import_replay.specs.FreeBlocks.{IsNamed, IsUsedBy}
@@ -121,7 +123,7 @@ module _ (size : ℕ) (u : Uberblock) (p : PoolParts) (dirty_max : ℕ) (m : Mou
     log_number = refl;
     sync = refl;
     synced_are = refl;
-    lengths = λ n below. limited.lengths n below;
+    lengths = lengths_stay_listed (contents_of m.contents) (lengths_of m.tree) limited.lengths;
   }
 
   within_last : u.group + 5 ≤ last_number

@@ -17,13 +17,12 @@ use Rattle.base.specs.history.Contents.{Contents}
 use Rattle.base.specs.disk.Disk.{Moment, bytes_of, CrashLeaves}
 use Rattle.base.specs.formats.Uberblocks.{Uberblock, StandsIn, IsActive, IsUberblock}
 use Rattle.base.specs.formats.Labels.{IsConfig, IsChosen}
-use Rattle.base.specs.crash.Mount.{IsMounted, IsUseCount}
-use Rattle.base.proofs.disk.Put.{length-part}
+use Rattle.base.specs.tree.Mount.{IsMounted, IsUseCount}
+use Rattle.base.proofs.disk.Put.{length-part, part-part}
 use Rattle.base.proofs.disk.Moments.{only_bytes}
 use Rattle.labels.proofs.LabelsOfImage.{IsConfigBlock-IsConfig}
 use Rattle.base.proofs.crash.EmptyPools.{empty_chain, empty_tree}
-use Rattle.base.proofs.formats.Geometry.{slot-on_device}
-use Rattle.uberblocks.proofs.Places.{part-part, slot_below}
+use Rattle.base.proofs.formats.Geometry.{slot-on_device, slot-below}
 use Rattle.uberblocks.proofs.SlotReads.{readings_agree}
 use Rattle.import_replay.specs.Creations.{IsCreatedOn, IsNewPool, first_uberblock, first_config}
 use Rattle.import_replay.specs.Labelled.{IsLabelled}
@@ -93,7 +92,7 @@ module _ (image name : List ℕ) (guid moment : ℕ) (is : IsGeometry (length im
   -- no uberblock stands in another slot
   none_elsewhere : (k : ℕ) (other : Uberblock) → k < 4 → (slot_of other.group ≡ 4 → ⊥) → StandsIn image k other → ⊥
   none_elsewhere k other below not stands =
-      let low = slot_below other.group in
+      let low = slot-below other.group in
       let fits = (slot-on_device (length image) k (slot_of other.group) is below low).within in
       let zeros = zero_number image (slot_place (length image) k (slot_of other.group)) 1024 (omega arith) fits (λ i small.
       labels.0.0 k (slot_place (length image) k (slot_of other.group) + i) below

@@ -1,5 +1,5 @@
 -- The pool that an import replayed and planned may be synced, and what is mounted of it is an import of the image.
-use Rattle.std.proofs.Common.{◌≡◌, ◌⊎◌, inl, inr, ⊎_elim, ℕ, zero, suc, ◌+◌, ◌*◌, ◌<◌, ◌≤◌, Bool, true, false, ◌||◌, cond, List, [], ◌∷◌, length, nat_eq, map, None, Some, refl, sym, ◌∙◌, ap, subst, arith}
+use Rattle.std.proofs.Common.{◌≡◌, ◌⊎◌, inl, inr, ⊎_elim, ℕ, zero, suc, ◌+◌, ◌*◌, ◌<◌, ◌≤◌, Bool, true, false, cond, List, [], ◌∷◌, length, nat_eq, map, None, Some, refl, sym, ◌∙◌, ap, subst, arith}
 use Rattle.std.specs.Prelude.{◌≢◌, ◌==◌, All, IfSome, not, slice_get, take}
 use Rattle.std.specs.FinMap as finite
 use Rattle.std.specs.FinSet as set
@@ -7,14 +7,14 @@ use Rattle.std.specs.FinSet.{FinSet, contains-insert, len-empty, len-insert}
 use Rattle.std.specs.List.{AllByRecursion, IsDistinct}
 use Rattle.std.specs.Ordering.{nat_cmp, eq_by_cmp}
 use Rattle.std.specs.Cmp.{unsigned_tied}
-use Rattle.std.proofs.lemmas.Bool.{cases_lt, eq-eqb, eqb-true, false≢true, ne_eqb, or_cases}
+use Rattle.std.proofs.lemmas.Bool.{cases_lt, eq-eqb, eqb-true, false≢true, ne_eqb, or_cases, or_left, or_right}
 use Rattle.std.proofs.lemmas.Cmp.{nat_cmp_total}
 use Rattle.std.proofs.lemmas.List.{length-map}
 use Rattle.std.proofs.lemmas.List.Elements.{All-weaker}
 use Rattle.std.proofs.Math.Logic.{∥∥₁_map}
 use Rattle.base.specs.common.Rising.{rising}
-use Rattle.base.specs.crash.Imports.{is_dirty_max_allowed, is_past_last}
-use Rattle.base.specs.crash.Mount.{IsChainDamaged, IsUsed, Mounts, records_above}
+use Rattle.base.specs.kept.Imports.{is_dirty_max_allowed, is_past_last}
+use Rattle.base.specs.tree.Mount.{IsChainDamaged, IsUsed, Mounts, records_above}
 use Rattle.base.specs.declared.error.PoolError.{PoolError}
 use Rattle.base.specs.declared.error.PoolError.TheVariants.{Damaged, NoMemory}
 use Rattle.base.specs.declared.operation.Op.{Op}
@@ -27,21 +27,21 @@ use Rattle.base.specs.formats.Names.{IsName}
 use Rattle.base.specs.formats.Uberblocks.{Uberblock}
 use Rattle.base.specs.formats.Versions.{is_version_known, written_version}
 use Rattle.base.specs.history.Contents.{Contents, length_of}
-use Rattle.base.specs.stored.Stored.{AreBlocks, AreUsed}
-use Rattle.base.specs.tree.PlacedTrees.{ArePlaced, HoldsTree, IsPlaced}
+use Rattle.base.specs.kept.Stored.{AreBlocks, AreUsed}
+use Rattle.base.specs.kept.PlacedTrees.{ArePlaced, HoldsTree, IsPlaced}
 use Rattle.base.specs.tree.Places.{IsInTree, Place, has_block}
-use Rattle.base.specs.tree.PlannedTrees.{AreFreed, IsTreePlan, NewBlock}
+use Rattle.base.specs.kept.PlannedTrees.{AreFreed, IsTreePlan, NewBlock}
 use Rattle.base.specs.tree.Syncs.{group_changes, written_places}
 use Rattle.base.specs.tree.Tree.{IsTree}
-use Rattle.base.proofs.common.KeptLists.{at_take}
+use Rattle.base.proofs.common.KeptLists.{at_take, at-map}
 use Rattle.base.proofs.crash.LogRoom.{subset_len, with_all}
 use Rattle.base.proofs.formats.Geometry.{IsGeometry-IsSize}
 use Rattle.base.proofs.history.KeptContents.{bounded-no_others}
 use Rattle.base.proofs.tree.FreedBlocks.{IsNewAddress}
 use Rattle.base.proofs.tree.PlacedTrees.{holds-tree, none_or_opens, pointers-told}
-use Rattle.base.proofs.stored.StoredSets.{IsAt, at-map, map-at, rising-in, rising-rises}
+use Rattle.base.proofs.stored.StoredSets.{IsAt, map-at, rising-in, rising-rises}
 use Rattle.group_plans.specs.GroupPlans.{MakesGroupTree, plan_pointers}
-use Rattle.group_plans.specs.Pointers.{lengths_after}
+use Rattle.tree_blocks.specs.SyncedTrees.{lengths_after}
 use Rattle.group_plans.specs.OldMaps.{HoldsTreeOf}
 use Rattle.group_plans.proofs.GroupChanges.{lengths_told}
 use Rattle.group_plans.proofs.GroupCounts.{AreNamedAs, plans_fit_estimates, short_of_these, short_plans_lack_blocks, takes_at_places}
@@ -49,12 +49,12 @@ use Rattle.group_plans.proofs.GroupTrees.{plans_make_trees}
 use Rattle.group_plans.proofs.PlannedBlocks.{addresses_are}
 use Rattle.intent_log.specs.Chains.{IsSoundPiece}
 use Rattle.log_replay.specs.Replays.{IsPieceAllowed, IsChainAllowed, IsReplayCause, IsReplayRefusal}
-use Rattle.object_maps.specs.ContentsShown.{contents_of}
-use Rattle.object_maps.specs.Lengths.{HasLengthsOf}
+use Rattle.object_maps.specs.ContentsShown.{contents_of, objects_of}
+use Rattle.tree_blocks.specs.Lengths.{HasLengthsOf}
 use Rattle.object_maps.specs.Loading.{IsLimitedObject}
-use Rattle.object_maps.specs.Pointers.{objects_of, pointers_of}
+use Rattle.tree_blocks.specs.Pointers.{pointers_of}
 use Rattle.object_maps.specs.declared.contents.Slot.{Slot}
-use Rattle.object_maps.specs.declared.tree.Tree.{Tree}
+use Rattle.tree_blocks.specs.declared.tree.Tree.{Tree}
 use Rattle.space.proofs.FreeLists.{length-rising}
 use Rattle.sync.specs.Made.{BlocksWritten}
 use Rattle.tree_plans.specs.Changes.{AreBornBefore}
@@ -91,7 +91,7 @@ newest-known version known = elim (or_cases (nat_eq version 1) (nat_eq version 2
 ]
 
 -- blocks at different addresses have different indices
-differ_all : (b : PlannedBlock) (bs : List PlannedBlock) → ((i : ℕ) (c : PlannedBlock) → slice_get bs i ≡ Some c → b.index ≢ c.index)
+pub differ_all : (b : PlannedBlock) (bs : List PlannedBlock) → ((i : ℕ) (c : PlannedBlock) → slice_get bs i ≡ Some c → b.index ≢ c.index)
     → AllByRecursion (λ y. nat_eq b.index y ≡ false) (map (λ (c : PlannedBlock). c.index) bs)
 differ_all b [] differ = tt
 differ_all b (c ∷ bs) differ = (ne_eqb b.index c.index (differ zero c refl), differ_all b bs (λ i d at. differ (suc i) d at))
@@ -104,14 +104,6 @@ distinct_blocks (b ∷ bs) apart = (
   differ_all b bs (λ i c at same. let e = apart zero (suc i) b c refl at same in omega (arith, e)),
   distinct_blocks bs (λ i j c d at_i at_j same. let e = apart (suc i) (suc j) c d at_i at_j same in omega (arith, e)),
 )
-
-or_left : (a b : Bool) → a ≡ true → (a || b) ≡ true
-or_left true b is = refl
-or_left false b is = absurd (false≢true is)
-
-or_right : (a b : Bool) → b ≡ true → (a || b) ≡ true
-or_right true b is = refl
-or_right false b is = is
 
 -- an element of a list is in the set with its elements, which has no more than the list
 at-with_all : (xs : List ℕ) (q : ℕ) → IsAt xs q → set.contains (with_all xs set.empty) q ≡ true

@@ -1,22 +1,15 @@
 -- The writes of a create change only bytes that a pool has.
 use Rattle.std.proofs.Common.{◌≡◌, ◌⊎◌, inl, inr, ℕ, ◌+◌, ◌<◌, ◌≤◌, Bool, true, false, List, length, Result, refl, sym, ◌∙◌, subst, arith}
-use Rattle.std.proofs.lemmas.Bool.{cases_lt}
 use Rattle.base.specs.declared.error.PoolError.{PoolError}
 use Rattle.base.specs.disk.Calls.{Flushes, Writes}
 use Rattle.base.specs.disk.Disk.{Disk, IsInRange, Moment, bytes_of, moments, settled, wrote}
-use Rattle.base.specs.formats.Geometry.{IsGeometry, IsWritable, block_address, block_count, label_place, slot_place}
+use Rattle.base.specs.formats.Geometry.{IsGeometry, IsWritable, label_place, slot_place}
 use Rattle.base.proofs.disk.Moments.{each_flush, each_write, starts}
-use Rattle.base.proofs.disk.Put.{get_or-put_other, length-put}
+use Rattle.base.proofs.disk.Put.{get_or-put_other, length-put, outside_range}
 use Rattle.base.proofs.formats.Geometry.{blocks-end, label-on_device}
 use Rattle.import_replay.specs.Outside.{IsPoolByte, KeepsOutside, WritesPoolBytes}
 
 module _ (Region : ℕ → Type 0) (start : Moment) where
-  beside : (place n i : ℕ) → (IsInRange place n i → ⊥) → (i < place) ⊎ (place + n ≤ i)
-  beside place n i out = elim (cases_lt i place) [
-    | inl before ↦ inl before
-    | inr from ↦ elim (cases_lt i (place + n)) [ inl to ↦ absurd (out (from, to)) | inr behind ↦ inr behind ]
-  ]
-
   -- no byte outside is touched anew
   touched_inside : (place n i : ℕ) (Before After : Type 0) → ((j : ℕ) → IsInRange place n j → Region j) → (Region i → ⊥) → (Before → After) → IsInRange place n i ⊎ Before → After
   touched_inside place n i Before After within out keeps (inl here) = absurd (out (within i here))
@@ -28,7 +21,7 @@ module _ (Region : ℕ → Type 0) (start : Moment) where
   keeps_wrote t place content true m so_far fits within = record {
     bytes = record {
       size = length-put place content (bytes_of m) fits ∙ so_far.bytes.size;
-      others = λ i out. get_or-put_other place content (bytes_of m) i fits (beside place (length content) i (λ here. out (within i here))) ∙ so_far.bytes.others i out;
+      others = λ i out. get_or-put_other place content (bytes_of m) i fits (outside_range place (length content) i (λ here. out (within i here))) ∙ so_far.bytes.others i out;
     };
     touched = λ i out. touched_inside place (length content) i _ _ within out (so_far.touched i out);
   }
@@ -72,10 +65,6 @@ flushes_on size start disk new r so_far flushes =
 -- a part of a label after its boot header
 pub label_writable : (size label at n : ℕ) → label < 4 → 16384 ≤ at → at + n ≤ 262144 → IsWritable size (label_place size label + at) n
 label_writable size label at n low from to = inl (label, low, omega (arith, from), omega (arith, to))
-
--- a block
-pub block_writable : (size k : ℕ) → k < block_count size → IsWritable size (block_address k) 4096
-block_writable size k low = inr (omega arith, omega (arith, low))
 
 -- the slot of the first uberblock
 pub first_slot_writable : (size label : ℕ) → label < 4 → IsWritable size (slot_place size label 4) 1024

@@ -8,10 +8,10 @@ use Rattle.std.specs.FinSet as set
 use Rattle.std.specs.FinSet.{FinSet, contains-empty, contains-insert, len-empty, len-insert}
 use Rattle.std.proofs.lemmas.Bool.{cases_eq, eqb-true, false≢true, or_cases}
 use Rattle.std.proofs.lemmas.Cmp.{nat_cmp_total}
-use Rattle.base.specs.crash.LeftDisks.{IsLeft}
-use Rattle.base.specs.crash.LogRoom.{HasImportRoom}
-use Rattle.base.specs.crash.Own.{AreHandedOrZero, IsCreatedDisk, IsOwnWith}
-use Rattle.base.specs.crash.Views.{View, IsFixed, IsView}
+use Rattle.base.specs.kept.LeftDisks.{IsLeft}
+use Rattle.base.specs.kept.LogRoom.{HasImportRoom}
+use Rattle.base.specs.kept.Own.{AreHandedOrZero, IsCreatedDisk, IsOwnWith}
+use Rattle.base.specs.kept.Views.{View, IsFixed, IsView}
 use Rattle.base.specs.disk.Disk.{Disk, HandedSince, IsTouched, Write, bytes_of, disk_size, handed, moments}
 use Rattle.base.specs.formats.Blocks.{Frame}
 use Rattle.base.specs.formats.Fields.{no_pointer, number_at, part}
@@ -23,7 +23,7 @@ use Rattle.base.specs.history.Past.{new_past}
 use Rattle.base.specs.steps.Explains.{IsLeftBy}
 use Rattle.base.specs.tree.Places.{Place, object_of_indirect}
 use Rattle.base.specs.tree.Places.Place.{Root, Directory, Top, Indirect, Data}
-use Rattle.base.specs.tree.PlacedTrees.{HoldsTree, StandsAt}
+use Rattle.base.specs.kept.PlacedTrees.{HoldsTree, StandsAt}
 use Rattle.base.specs.tree.Tree.{IsRecord}
 use Rattle.base.proofs.crash.CutViews.{cut_none}
 use Rattle.base.proofs.crash.LeftDisks.{own_left}

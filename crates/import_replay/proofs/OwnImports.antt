@@ -6,16 +6,16 @@ use Rattle.std.specs.Ordering.{nat_cmp}
 use Rattle.std.specs.FinSet as set
 use Rattle.std.specs.FinSet.{FinSet, contains-empty, len-empty}
 use Rattle.std.proofs.lemmas.Bool.{false≢true}
-use Rattle.base.specs.crash.CallStages.{FixedLabels}
-use Rattle.base.specs.crash.CrashRule.{AreImportViews, HasSteadyPhases, IsImportMoment, IsOwnOnceFlushed, KeepsOwn}
-use Rattle.base.specs.crash.LogRoom.{HasImportRoom, records_estimate}
-use Rattle.base.specs.crash.LogRule.{AreChainsUpTo, IsLogHeld}
-use Rattle.base.specs.crash.LogSteps.{IsSpareOf}
-use Rattle.base.specs.crash.Mount.{HasPool, Mounts, apply_above}
-use Rattle.base.specs.crash.Own.{AreConfigsBelowImport, IsAtRest, IsOwnWith}
-use Rattle.base.specs.crash.PoolViews.{IsPoolDisk, IsSyncConfig, IsViewOf}
-use Rattle.base.specs.crash.Layout.{header_now}
-use Rattle.base.specs.crash.Views.{AreConfigsUpTo, View, Logged, config_content, ended_in}
+use Rattle.base.specs.kept.CallStages.{FixedLabels}
+use Rattle.base.specs.kept.CrashRule.{AreImportViews, HasSteadyPhases, IsImportMoment, IsOwnOnceFlushed, KeepsOwn}
+use Rattle.base.specs.kept.LogRoom.{HasImportRoom, records_estimate}
+use Rattle.base.specs.kept.LogRule.{AreChainsUpTo, IsLogHeld}
+use Rattle.base.specs.kept.LogSteps.{IsSpareOf}
+use Rattle.base.specs.tree.Mount.{HasPool, Mounts, apply_above}
+use Rattle.base.specs.kept.Own.{AreConfigsBelowImport, IsAtRest, IsOwnWith}
+use Rattle.base.specs.kept.PoolViews.{IsPoolDisk, IsSyncConfig, IsViewOf}
+use Rattle.base.specs.kept.Layout.{header_now}
+use Rattle.base.specs.kept.Views.{AreConfigsUpTo, View, Logged, config_content, ended_in}
 use Rattle.base.specs.disk.Calls.{Flushes}
 use Rattle.base.specs.disk.Disk.{Disk, EachMoment, Moment, bytes_of, certain, disk_size, handed}
 use Rattle.base.specs.disk.Fairness.{HasFairBytes}

@@ -1,8 +1,8 @@
 -- An import that mounts a pool keeps a disk that its pool alone wrote, and a run starts from it: from what it found,
 -- replayed and planned.
 use Rattle.std.proofs.Common.{◌≡◌, ℕ, List, [], Ok, subst}
-use Rattle.base.specs.crash.CrashRule.{KeepsOwn}
-use Rattle.base.specs.crash.Mount.{Mounts}
+use Rattle.base.specs.kept.CrashRule.{KeepsOwn}
+use Rattle.base.specs.tree.Mount.{Mounts}
 use Rattle.base.specs.disk.Calls.{Flushes}
 use Rattle.base.specs.disk.Disk.{Disk, bytes_of}
 use Rattle.base.specs.formats.Chain.{LogPiece}
@@ -10,7 +10,7 @@ use Rattle.base.specs.formats.Uberblocks.{Uberblock}
 use Rattle.labels.specs.declared.stage.Stage.{Stage}
 use Rattle.object_maps.specs.ContentsShown.{contents_of}
 use Rattle.object_maps.specs.declared.contents.Slot.{Slot}
-use Rattle.object_maps.specs.declared.tree.Tree.{Tree}
+use Rattle.tree_blocks.specs.declared.tree.Tree.{Tree}
 use Rattle.import_replay.specs.Found.{HasFirstStage}
 use Rattle.import_replay.specs.ImportStops.{writes_of_next}
 use Rattle.import_replay.specs.ImportViews.{EndsBehind, KeepsViews}

@@ -4,10 +4,10 @@ use Rattle.std.proofs.Common.{◌≡◌, ◌≢◌, inl, inr, ⊎_elim, ℕ, Lis
 use Rattle.std.specs.Prelude.{Contains, slice_get}
 use Rattle.std.specs.List.{flat_map}
 use Rattle.base.specs.declared.error.PoolError.{PoolError}
-use Rattle.base.specs.crash.LogRoom.{records_estimate, records_to_apply}
-use Rattle.base.specs.crash.Mount.{HasNoPool, IsChainOf, IsTreeDamaged, Mounts, MountsTo, frame_of, header_of, records_above}
-use Rattle.base.specs.crash.Own.{IsOwnImage, IsOwnWith}
-use Rattle.base.specs.crash.Views.{IsFoundAs, Logged, ended_in, view_frame}
+use Rattle.base.specs.kept.LogRoom.{records_estimate, records_to_apply}
+use Rattle.base.specs.tree.Mount.{HasNoPool, IsChainOf, IsTreeDamaged, Mounts, MountsTo, frame_of, header_of, records_above}
+use Rattle.base.specs.kept.Own.{IsOwnImage, IsOwnWith}
+use Rattle.base.specs.kept.Views.{IsFoundAs, Logged, ended_in, view_frame}
 use Rattle.base.specs.declared.pointer.Pointer.{Pointer}
 use Rattle.base.specs.disk.Fairness.{passes_check}
 use Rattle.base.specs.disk.Disk.{Disk, Moment, bytes_of, certain, disk_size, settled}
@@ -36,7 +36,7 @@ use Rattle.import_replay.specs.PlacedRecords.{placed_estimate}
 use Rattle.import_replay.proofs.PlacedRecords.{placed-estimate}
 
 module _ (image : List ℕ) (u : Uberblock) (chain : List LogPiece) (contents : Contents) (mounts : Mounts image u chain contents) where
-  has_pool : HasNoPool image → ⊥
+  pub has_pool : HasNoPool image → ⊥
   has_pool (inl none) = let active = mounts.found.pool.active in none active.label u active.in_range active.stands
   has_pool (inr (v, active, none)) =
       let same : v ≡ u = one-active image v u active mounts.found.pool.active in

@@ -2,8 +2,8 @@
 use Rattle.std.proofs.Common.{◌≡◌, ℕ, ◌+◌, Bool, true, false, List, [], ◌∷◌, map, refl, sym, ◌∙◌, ap}
 use Rattle.std.specs.Prelude.{cond, filter, nat_lt}
 use Rattle.std.proofs.lemmas.List.Sums.{sum_by-cons}
-use Rattle.base.specs.crash.LogRoom.{records_estimate}
-use Rattle.base.specs.crash.Mount.{Placed, placed_records, records_above}
+use Rattle.base.specs.kept.LogRoom.{records_estimate}
+use Rattle.base.specs.tree.Mount.{Placed, placed_records, records_above}
 use Rattle.base.specs.formats.Chain.{LogPiece, records_of_chain}
 use Rattle.base.specs.formats.Records.{Record}
 use Rattle.base.specs.history.Plans.{shape_of, estimate_of}

@@ -7,7 +7,7 @@ use Rattle.std.specs.Ordering.{nat_cmp}
 use Rattle.std.specs.FinMap as finite
 use Rattle.std.specs.FinMap.{FinMap}
 use Rattle.std.proofs.lemmas.Option.{slice_get_within}
-use Rattle.base.specs.crash.Mount.{IsUsed, records_above}
+use Rattle.base.specs.tree.Mount.{IsUsed, records_above}
 use Rattle.base.specs.declared.pointer.Pointer.{Pointer}
 use Rattle.base.specs.disk.Disk.{IsInRange}
 use Rattle.base.specs.formats.Chain.{LogPiece}
@@ -15,21 +15,21 @@ use Rattle.base.specs.formats.Fields.{no_pointer, number_at, part}
 use Rattle.base.specs.formats.Geometry.{IsBlockAddress, block_address, block_area, block_count, block_size}
 use Rattle.base.specs.formats.Limits.{object_count}
 use Rattle.base.specs.formats.Uberblocks.{Uberblock}
-use Rattle.base.specs.stored.Stored.{AreBlocks, AreUsed, LeavesTree}
-use Rattle.base.specs.tree.PlacedTrees.{HoldsTree, IsPlaced}
+use Rattle.base.specs.kept.Stored.{AreBlocks, AreUsed, LeavesTree}
+use Rattle.base.specs.kept.PlacedTrees.{HoldsTree, IsPlaced}
 use Rattle.base.specs.tree.Places.{IsInTree, IsPlace, Place, kind_of}
 use Rattle.base.specs.tree.Places.Place.{Data, Directory, Indirect, Root, Top}
-use Rattle.base.specs.tree.PlannedTrees.{AreFreed, IsBlockWritten, IsTreePlan, NewBlock, SameBlock}
-use Rattle.base.proofs.common.KeptLists.{All-each}
+use Rattle.base.specs.kept.PlannedTrees.{AreFreed, IsBlockWritten, IsTreePlan, NewBlock, SameBlock}
+use Rattle.base.proofs.common.KeptLists.{All-each, at-map}
 use Rattle.base.proofs.disk.Put.{part_same}
 use Rattle.base.proofs.disk.WrittenBlocks.{blocks-apart, new-stand, planned-written, put_blocks}
-use Rattle.base.proofs.stored.StoredSets.{at-map, map-at}
+use Rattle.base.proofs.stored.StoredSets.{map-at}
 use Rattle.base.proofs.tree.PlacedTrees.{holds-placed, in-tree, opens-at, told-in_tree}
 use Rattle.base.proofs.tree.FreedBlocks.{IsNewAddress, freed-left, in-new_tree, stays-or_freed}
 use Rattle.base.proofs.tree.PlannedTrees.{planned-holds}
 use Rattle.base.proofs.tree.SamePlaces.{holds_as}
 use Rattle.object_maps.specs.ContentsShown.{contents_of}
-use Rattle.object_maps.specs.Pointers.{pointers_of}
+use Rattle.tree_blocks.specs.Pointers.{pointers_of}
 use Rattle.sync.specs.Made.{BlocksWritten}
 use Rattle.tree_plans.specs.Plans.{address_of, new_block}
 use Rattle.tree_plans.specs.declared.planner.PlannedBlock.{PlannedBlock}

@@ -1,7 +1,7 @@
 -- The damages that are listed for a pool are those of its image.
 use Rattle.std.proofs.Common.{◌≡◌, ◌≢◌, inl, inr, ℕ, zero, suc, List, [], ◌∷◌, length, refl, ap, sym, subst, ◌∙◌, arith}
 use Rattle.std.specs.Prelude.{Contains}
-use Rattle.base.specs.crash.Mount.{HasPool, IsChainDamaged, MountsTo, frame_of}
+use Rattle.base.specs.tree.Mount.{HasPool, IsChainDamaged, MountsTo, frame_of}
 use Rattle.base.specs.declared.error.PoolError.{PoolError}
 use Rattle.base.specs.formats.Blocks.{Frame}
 use Rattle.base.specs.formats.Uberblocks.{IsActive, Uberblock}
@@ -20,7 +20,7 @@ use Rattle.import_replay.proofs.OwnRefusals.{is_sound}
 use Rattle.import_replay.specs.PoolDamages.{HasDamages, HasTreeDamages}
 
 -- no place of a tree has kind 6
-not_of_tree : (place : Place) → kind_of place ≡ 6 → ⊥
+pub not_of_tree : (place : Place) → kind_of place ≡ 6 → ⊥
 not_of_tree Root is = omega (arith, is)
 not_of_tree (Directory d) is = omega (arith, is)
 not_of_tree (Top n) is = omega (arith, is)

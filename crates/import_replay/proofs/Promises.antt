@@ -1,8 +1,8 @@
 -- What the contracts of a create, an import and an inspection say in one concrete case each.
 use Rattle.std.proofs.Common.{◌≡◌, ◌≢◌, ◌⊎◌, inl, inr, ⊎_elim, ℕ, zero, suc, ◌+◌, true, false, List, [], length, Result, Ok, Err, refl, sym, ◌∙◌, ap, subst, arith}
 use Rattle.std.specs.Prelude.{IfErr, IfOk, IsErr, MatchResult, OnOk, slice_index}
-use Rattle.base.specs.crash.Imports.{IsImportOf}
-use Rattle.base.specs.crash.Mount.{IsChainDamaged, Mounts, records_above}
+use Rattle.base.specs.kept.Imports.{IsImportOf}
+use Rattle.base.specs.tree.Mount.{IsChainDamaged, Mounts, records_above}
 use Rattle.base.specs.declared.error.PoolError.{PoolError}
 use Rattle.base.specs.declared.error.PoolError.TheVariants.{BadGeometry, BadRange, Damaged, Flush, NoMemory, NoPool, Write}
 use Rattle.base.specs.disk.Disk.{Disk, bytes_of, certain, certain_with}
@@ -12,14 +12,12 @@ use Rattle.base.specs.formats.Labels.{HasNoConfig}
 use Rattle.base.specs.formats.Uberblocks.{Uberblock, IsActive}
 use Rattle.base.specs.history.Contents.{Contents}
 use Rattle.base.specs.steps.Groups.{Line}
-use Rattle.base.specs.tree.Places.{Place, kind_of}
-use Rattle.base.specs.tree.Places.Place.{Root, Directory, Top, Indirect, Data}
 use Rattle.base.proofs.crash.LogChains.{mounted_not_damaged}
 use Rattle.base.proofs.crash.OneMount.{mounts_agree, one-active}
 use Rattle.base.proofs.disk.Moments.{latest}
 use Rattle.device_model.specs.declared.device.SectorDevice.{Ghosts}
 use Rattle.object_maps.specs.ContentsShown.{contents_of}
-use Rattle.object_maps.specs.Surveys.{listed}
+use Rattle.tree_blocks.specs.ListedObjects.{listed}
 use Rattle.import_replay.specs.CreateRefusals.{IsCreateRefusal}
 use Rattle.import_replay.specs.Creations.{IsCreatedOn, IsNewPool, first_uberblock}
 use Rattle.import_replay.specs.ImportRefusals.{CanImport, IsImportRefusal, IsReason, IsInspectionRefusal, IsReadingRefusal}
@@ -30,6 +28,7 @@ use Rattle.import_replay.specs.Refused.{IsInspectionRefused}
 use Rattle.import_replay.specs.Outside.{IsPoolByte, KeepsOutside, WritesPoolBytes}
 use Rattle.import_replay.specs.declared.inspection.Inspected.{Inspected}
 use Rattle.import_replay.specs.declared.mounted.Mounted.{Mounted}
+use Rattle.import_replay.proofs.PoolDamages.{not_of_tree}
 
 -- what a refusal, or an answer, has of a clause on both
 pub err_of : {A E : Type 0} (r : Result A E) (P : A → Type 0) (S T : E → Type 0) → ((e : E) → S e → T e) → MatchResult r P S → IfErr r T
@@ -166,15 +165,8 @@ module _ (image : List ℕ) (u : Uberblock) (chain : List LogPiece) (contents : 
       ]
 
 -- a refusal with kind 6 is of a record
-tree_kind : (place : Place) → kind_of place ≡ 6 → ⊥
-tree_kind Root is = omega (arith, is)
-tree_kind (Directory d) is = omega (arith, is)
-tree_kind (Top n) is = omega (arith, is)
-tree_kind (Indirect n) is = omega (arith, is)
-tree_kind (Data n r) is = omega (arith, is)
-
 pub record_damaged : (image : List ℕ) (e : PoolError) → IsReason image e → (address : ℕ) → e ≡ Damaged 6 address → IsChainDamaged image address
-record_damaged image e reason address is = ⊎_elim (λ tree. absurd (tree_kind tree.damage.place tree.damage.kind_is)) (λ chain. chain.1) (reason.damaged 6 address is)
+record_damaged image e reason address is = ⊎_elim (λ tree. absurd (not_of_tree tree.damage.place tree.damage.kind_is)) (λ chain. chain.1) (reason.damaged 6 address is)
 
 -- and what is inspected has none
 pub inspected_sound : (image : List ℕ) (i : Inspected) → IsInspectionOf image i → (address : ℕ) → IsChainDamaged image address → ⊥

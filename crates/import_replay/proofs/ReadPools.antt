@@ -4,19 +4,19 @@ use Rattle.std.proofs.Common.{◌≡◌, ℕ, List, length, Ok, sym, subst}
 use Rattle.std.specs.Prelude.{All, Bool, IsTrue}
 use Rattle.std.specs.Ordering.{nat_cmp}
 use Rattle.std.specs.FinMap.{FinMap}
-use Rattle.base.specs.crash.Mount.{HasPool, IsChainOf, IsTreeDamaged, header_of}
+use Rattle.base.specs.tree.Mount.{HasPool, IsChainOf, IsTreeDamaged, header_of}
 use Rattle.base.specs.disk.Calls.{Flushes}
 use Rattle.base.specs.disk.Disk.{Disk, bytes_of}
 use Rattle.base.specs.formats.Blocks.{Frame}
 use Rattle.base.specs.formats.Chain.{IsChain, LogPiece}
 use Rattle.base.specs.formats.Uberblocks.{Uberblock}
 use Rattle.base.specs.tree.Damages.{IsFirstDamage}
-use Rattle.base.specs.tree.PlacedTrees.{ArePlaced, HoldsTree}
+use Rattle.base.specs.kept.PlacedTrees.{ArePlaced, HoldsTree}
 use Rattle.base.proofs.disk.Regions.{flushed_clean}
 use Rattle.intent_log.specs.Chains.{IsSoundPiece}
 use Rattle.object_maps.specs.declared.contents.Slot.{Slot}
-use Rattle.object_maps.specs.declared.tree.Tree.{Tree}
-use Rattle.object_maps.specs.Pointers.{pointers_of}
+use Rattle.tree_blocks.specs.declared.tree.Tree.{Tree}
+use Rattle.tree_blocks.specs.Pointers.{pointers_of}
 use Rattle.object_maps.specs.Surveys.{HasObjects}
 use Rattle.import_replay.specs.ReadPools.{HoldsPool, IsReadPool, IsSurveyedFor, frame_of_size}
 
@@ -64,9 +64,9 @@ is_surveyed keeps image now size frame u name tree chain framed placed sound has
 }
 
 -- what is read after a good flush is of the image before it
-pub flushed : (old mid : Disk) → Flushes old (Ok tt) mid → bytes_of mid.now ≡ bytes_of old.now
-flushed old mid flushes = (flushed_clean old mid flushes).1
+pub same_flushed : (old mid : Disk) → Flushes old (Ok tt) mid → bytes_of mid.now ≡ bytes_of old.now
+same_flushed old mid flushes = (flushed_clean old mid flushes).1
 
 pub read_behind_flush : (old mid : Disk) (size : ℕ) (u : Uberblock) (name : List ℕ) (tree : Tree) (slots : List Slot) (chain : List LogPiece) → Flushes old (Ok tt) mid
     → IsReadPool (bytes_of mid.now) size u name tree slots chain → IsReadPool (bytes_of old.now) size u name tree slots chain
-read_behind_flush old mid size u name tree slots chain flushes read = subst (λ (b : List ℕ). IsReadPool b size u name tree slots chain) (flushed old mid flushes) read
+read_behind_flush old mid size u name tree slots chain flushes read = subst (λ (b : List ℕ). IsReadPool b size u name tree slots chain) (same_flushed old mid flushes) read

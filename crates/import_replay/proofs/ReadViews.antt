@@ -3,14 +3,14 @@
 use Rattle.std.proofs.Common.{◌≡◌, ◌⊎◌, inl, inr, ⊎_elim, ℕ, zero, suc, ◌<◌, ◌≤◌, ◌↔◌, IsTrue, List, [], ◌++◌, length, take, filter, Some, None, refl, sym, ◌∙◌, ap, subst, arith}
 use Rattle.std.specs.Prelude.{Contains}
 use Rattle.std.specs.List.{flat_map}
-use Rattle.base.specs.crash.CallStages.{FixedLabels, IsAtRestAt}
-use Rattle.base.specs.crash.CrashRule.{MountsAs}
-use Rattle.base.specs.crash.LogRoom.{HasImportRoom}
-use Rattle.base.specs.crash.LogRule.{with_front}
-use Rattle.base.specs.crash.LogSteps.{IsSpareOf}
-use Rattle.base.specs.crash.Mount.{HasPool, IsUsed, Mounts}
-use Rattle.base.specs.crash.Own.{AreConfigsBelowImport, IsAtRest, IsOwnWith}
-use Rattle.base.specs.crash.Views.{View, IsFoundAs, IsFixed, IsView, ended_in, view_frame}
+use Rattle.base.specs.kept.CallStages.{FixedLabels, IsAtRestAt}
+use Rattle.base.specs.kept.CrashRule.{MountsAs}
+use Rattle.base.specs.kept.LogRoom.{HasImportRoom}
+use Rattle.base.specs.kept.LogRule.{with_front}
+use Rattle.base.specs.kept.LogSteps.{IsSpareOf}
+use Rattle.base.specs.tree.Mount.{HasPool, IsUsed, Mounts}
+use Rattle.base.specs.kept.Own.{AreConfigsBelowImport, IsAtRest, IsOwnWith}
+use Rattle.base.specs.kept.Views.{View, IsFoundAs, IsFixed, IsView, ended_in, view_frame}
 use Rattle.base.specs.declared.pointer.Pointer.{Pointer}
 use Rattle.base.specs.disk.Disk.{Disk, IsTouched, Moment, Write, bytes_after, bytes_of, disk_size, handed, holds, settled}
 use Rattle.base.specs.disk.Fairness.{HasFairBytes, passes_check}

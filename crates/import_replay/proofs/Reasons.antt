@@ -3,7 +3,7 @@ use Rattle.std.proofs.Common.{◌≡◌, inl, inr, ℕ, List, Result, Ok, Err, I
 use Rattle.std.specs.Prelude.{IsErrAnd}
 use Rattle.base.specs.declared.error.PoolError.{PoolError}
 use Rattle.base.specs.declared.error.PoolError.TheVariants.{Damaged, NoMemory, NoPool, NoSpace, Read, TooMany}
-use Rattle.base.specs.crash.Mount.{HasNoPool, IsChainDamaged, IsTreeDamaged}
+use Rattle.base.specs.tree.Mount.{HasNoPool, IsChainDamaged, IsTreeDamaged}
 use Rattle.base.specs.formats.Uberblocks.{Uberblock, IsActive}
 use Rattle.group_plans.specs.GroupPlans.{IsHeldRefusal}
 use Rattle.intent_log.specs.Chains.{IsChainRefusal}

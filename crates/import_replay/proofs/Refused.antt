@@ -15,7 +15,7 @@ use Rattle.import_replay.specs.NextPools.{IsNextRefused, LacksBlocks, LacksTreeB
 use Rattle.import_replay.specs.Refused.{IsImportRefused, IsInspectionRefused, IsMountRefused}
 use Rattle.import_replay.specs.declared.next_pool.ReplayedPool.{ReplayedPool}
 use Rattle.import_replay.proofs.OwnRefusals.{finds_own}
-use Rattle.import_replay.proofs.ReadPools.{flushed}
+use Rattle.import_replay.proofs.ReadPools.{same_flushed}
 use Rattle.import_replay.proofs.Reasons.{not_both, reason-many, reason-open, reason-plan}
 
 not_full : (e : PoolError) → IsSyncRefusal e → e ≡ NoSpace → ⊥
@@ -65,7 +65,7 @@ module _ (keeps : Bool) (moment : ℕ) (old mid new : Disk) (e : PoolError) wher
     pub reading_refused : IsWalkRefusal e → (IsTrue keeps → IsReason (bytes_of mid.now) e) → (IsTrue keeps → new ≡ mid) → IsMountRefused keeps moment old new e
     reading_refused walk reason same =
         let kinds = of_walk e walk in
-        unwritten kinds.0 kinds.1 (λ keep. (subst (λ (image : List ℕ). IsReason image e) (flushed old mid (flushes keep)) (reason keep))) same
+        unwritten kinds.0 kinds.1 (λ keep. (subst (λ (image : List ℕ). IsReason image e) (same_flushed old mid (flushes keep)) (reason keep))) same
 
     -- there was no memory for the records, or one can't take place
     pub replay_refused : IsReplayCause e → (IsTrue keeps → IsReason (bytes_of old.now) e) → (IsTrue keeps → new ≡ mid) → IsMountRefused keeps moment old new e

@@ -7,7 +7,7 @@ use Rattle.std.specs.List.{flat_map, list_all}
 use Rattle.std.proofs.lemmas.List.{length-map}
 use Rattle.std.proofs.lemmas.List.Elements.{All-append, All-cons, All-head, All-nil, All-tail, All-weaker}
 use Rattle.std.proofs.lemmas.List.Sums.{sum_by-cons}
-use Rattle.base.specs.crash.Mount.{Placed, entry_of_record, records_above}
+use Rattle.base.specs.tree.Mount.{Placed, entry_of_record, records_above}
 use Rattle.base.specs.declared.operation.Op.{Op}
 use Rattle.base.specs.formats.Chain.{LogPiece}
 use Rattle.base.specs.formats.Geometry.{block_count}
@@ -31,7 +31,7 @@ use Rattle.log_replay.proofs.BoundedReplays.{replays_stay_bounded}
 use Rattle.object_maps.specs.ContentsShown.{contents_of}
 use Rattle.object_maps.specs.Ops.{AreOpsAllowed, IsOpAllowed}
 use Rattle.object_maps.specs.declared.contents.Slot.{Slot}
-use Rattle.object_maps.specs.declared.tree.Tree.{Tree}
+use Rattle.tree_blocks.specs.declared.tree.Tree.{Tree}
 use Rattle.transactions.specs.declared.record.Record.{Record}
 use Rattle.transactions.specs.Records.{record_fields}
 use Rattle.tree_plans.specs.Marks.{pending_ops}
@@ -41,7 +41,7 @@ use Rattle.import_replay.specs.ReadPools.{IsLoadedFor}
 use Rattle.import_replay.specs.declared.next_pool.ReplayedPool.{ReplayedPool}
 
 -- transactions in order are their operations in order
-flat_replay : (es : List Entry) (a b : Contents) → replay es a ≡ Ok b → apply_all (flat_map (λ (e : Entry). e.ops) es) a ≡ Ok b
+pub flat_replay : (es : List Entry) (a b : Contents) → replay es a ≡ Ok b → apply_all (flat_map (λ (e : Entry). e.ops) es) a ≡ Ok b
 flat_replay [] a b h = h
 flat_replay (e ∷ es) a b h =
     let p = parted (run e a) (in_turn run es) b h in
@@ -109,7 +109,7 @@ all_allowed [] all = All-nil IsOpAllowed
 all_allowed (x ∷ xs) all =
     All-append IsOpAllowed x.ops (ops_of_records xs) (All-head (λ (r : Record). AreOpsAllowed r.ops) x xs all) (all_allowed xs (All-tail (λ (r : Record). AreOpsAllowed r.ops) x xs all))
 
-sized_object : (o : Option (List ℕ)) (n : ℕ) → IfSome o (λ bytes. (n < object_count) × (length bytes ≤ max_length) × (list_all (λ b. nat_lt b 256) bytes ≡ true)) → IfSome o (λ bytes. length bytes ≤ max_length)
+pub sized_object : (o : Option (List ℕ)) (n : ℕ) → IfSome o (λ bytes. (n < object_count) × (length bytes ≤ max_length) × (list_all (λ b. nat_lt b 256) bytes ≡ true)) → IfSome o (λ bytes. length bytes ≤ max_length)
 sized_object None n h = tt
 sized_object (Some x) n h = h.1
 

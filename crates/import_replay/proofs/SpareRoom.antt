@@ -8,7 +8,7 @@ use Rattle.base.specs.formats.Uberblocks.{Uberblock}
 use Rattle.base.specs.history.Contents.{Contents}
 use Rattle.base.specs.tree.Places.{has_block}
 use Rattle.base.specs.tree.Syncs.{written_places}
-use Rattle.base.specs.crash.Mount.{IsChainOf, IsUsed, Mounts, Placed, frame_of, header_of, records_above}
+use Rattle.base.specs.tree.Mount.{IsChainOf, IsUsed, Mounts, Placed, frame_of, header_of, records_above}
 use Rattle.base.proofs.crash.OneMount.{one-active, one-chain}
 use Rattle.base.proofs.tree.Estimates.{syncs_fit}
 use Rattle.space.proofs.Counts.{one_there}

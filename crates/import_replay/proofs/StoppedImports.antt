@@ -3,12 +3,12 @@ use Rattle.std.proofs.Common.{◌≡◌, inr, ℕ, Bool, false, List, Ok, sym, s
 use Rattle.base.specs.declared.error.PoolError.{PoolError}
 use Rattle.base.specs.disk.Calls.{Flushes}
 use Rattle.base.specs.disk.Disk.{Disk, bytes_of, certain}
-use Rattle.base.specs.crash.Imports.{is_past_last}
+use Rattle.base.specs.kept.Imports.{is_past_last}
 use Rattle.base.specs.formats.Chain.{LogPiece}
 use Rattle.base.specs.formats.Uberblocks.{Uberblock}
+use Rattle.base.specs.disk.DiskCalls.{IsStoppedIn}
 use Rattle.object_maps.specs.declared.contents.Slot.{Slot}
-use Rattle.object_maps.specs.declared.tree.Tree.{Tree}
-use Rattle.sync.specs.DiskCalls.{IsStoppedIn}
+use Rattle.tree_blocks.specs.declared.tree.Tree.{Tree}
 use Rattle.import_replay.specs.Found.{HasFirstStage}
 use Rattle.import_replay.specs.ImportStops.{IsImportStopped, next_writes, writes_of_next}
 use Rattle.import_replay.specs.LabelSyncs.{ImportWrites, calls_of_import}

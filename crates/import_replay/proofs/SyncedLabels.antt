@@ -15,16 +15,15 @@ use Rattle.base.proofs.disk.Put.{part_same}
 use Rattle.labels.specs.Configs.{IsConfigBlock, config_block}
 use Rattle.labels.specs.declared.stage.Stage.{Stage}
 use Rattle.labels.specs.declared.stage.Stage.TheVariants.{Even, Odd}
-use Rattle.base.proofs.formats.Geometry.{IsGeometry-IsSize, blocks-end, labels-apart}
+use Rattle.base.proofs.formats.Geometry.{IsGeometry-IsSize, blocks-end, labels-apart, slot-below}
 use Rattle.tree_plans.specs.declared.planner.PlannedBlock.{PlannedBlock}
-use Rattle.uberblocks.proofs.Places.{slot_below}
 use Rattle.sync.specs.declared.run.LabelStages.{LabelStages}
 use Rattle.sync.specs.declared.run.SyncRun.{SyncRun}
 use Rattle.sync.specs.Calls.{Target, calls_of, config_target, target_of}
 use Rattle.sync.specs.Made.{BlocksWritten, HasMade, IsTarget, targets_of}
 use Rattle.sync.specs.Runs.{call_count, other_calls}
 use Rattle.sync.proofs.Blocks.{blocks_written, call_stands}
-use Rattle.sync.proofs.CallPlaces.{others_stand}
+use Rattle.base.proofs.disk.SyncOrder.{others_stand}
 use Rattle.sync.proofs.Targets.{InLabels, LiesIn, block_lies, call_in_labels, call_of_target, config_lies, is_sound}
 use Rattle.import_replay.specs.Labelled.{HoldConfig, HoldLabels, HoldUberblock, HasOtherSlots}
 use Rattle.import_replay.specs.LabelSyncs.{ImportWrites, IsGroupSync, is_even}
@@ -131,7 +130,7 @@ module _ (w : ImportWrites) (first : Stage) (run : SyncRun) (is : IsGroupSync w 
             lies = subst (λ n. LiesIn n l t × (t.place + t.size ≤ label_place n l + 131072)) is.geometry (config_lies run l t target)
         by_call (UberblockCall l) within target = elim (cases_order label l) [
           | inl same ↦ slots_apart (ap (label_place w.size) same) (cases_order slot (slot_of w.u.group))
-          | inr differ ↦ parts_differ w.size label l geometry low within (λ same. omega (arith, same, differ)) i (omega (arith, from)) (omega (arith, to, slot_low)) (omega (arith, written.0)) (omega (arith, written.1, slot_below w.u.group))
+          | inr differ ↦ parts_differ w.size label l geometry low within (λ same. omega (arith, same, differ)) i (omega (arith, from)) (omega (arith, to, slot_low)) (omega (arith, written.0)) (omega (arith, written.1, slot-below w.u.group))
         ]
           where
             written : IsInRange (slot_place w.size l (slot_of w.u.group)) 1024 i

@@ -15,7 +15,7 @@ use Rattle.std.proofs.lemmas.Cmp.{nat_cmp_total}
 use Rattle.std.proofs.lemmas.List.{length-map}
 use Rattle.std.proofs.lemmas.Option.{slice_get_within}
 use Rattle.base.specs.common.Rising.{as_keys, rising}
-use Rattle.base.specs.crash.Mount.{IsChainOf, IsUsed, Mounts, Placed, frame_of, header_of, records_above}
+use Rattle.base.specs.tree.Mount.{IsChainOf, IsUsed, Mounts, Placed, frame_of, header_of, records_above}
 use Rattle.base.specs.declared.operation.Op.{Op}
 use Rattle.base.specs.declared.operation.Op.TheVariants.{Create, Remove, SetLength, SetName, Write}
 use Rattle.base.specs.declared.pointer.Pointer.{Pointer}
@@ -31,15 +31,14 @@ use Rattle.base.specs.history.Contents.{Contents}
 use Rattle.base.specs.tree.Places.{IsInTree, IsPlace, Place, has_block, object_of_indirect, pointer_of, record_of_strip, strip_of}
 use Rattle.base.specs.tree.Places.Place.{Data, Indirect, Root}
 use Rattle.base.specs.tree.Syncs.{GroupChanges, group_changes, has_strip_after, is_change_of, is_dirty, is_indirect_written, is_on, is_record_written, is_strip_changed, is_unchanged, pointer_numbers, record_state}
-use Rattle.base.proofs.common.KeptLists.{any_found, any_none, at_take, none_any}
-use Rattle.base.proofs.crash.LogFronts.{take-at}
+use Rattle.base.proofs.common.KeptLists.{any_found, any_none, at_take, none_any, take-at, at-map}
 use Rattle.base.proofs.crash.OneMount.{one-active, one-chain}
 use Rattle.base.proofs.disk.Put.{part_same}
-use Rattle.base.proofs.stored.StoredSets.{IsAt, at-map, map-at, rising-in, rising-rises}
+use Rattle.base.proofs.stored.StoredSets.{IsAt, map-at, rising-in, rising-rises, keys-as_keys}
 use Rattle.base.proofs.tree.PlacedTrees.{places-apart, pointers-told, told-in_tree}
 use Rattle.base.proofs.tree.RecordStates.{state-off}
 use Rattle.object_maps.specs.ContentsShown.{contents_of}
-use Rattle.object_maps.specs.Pointers.{pointers_of}
+use Rattle.tree_blocks.specs.Pointers.{pointers_of}
 use Rattle.tree_plans.specs.Plans.{address_of}
 use Rattle.tree_plans.specs.declared.planner.PlannedBlock.{PlannedBlock}
 use Rattle.import_replay.specs.PlacedRecords.{ops_of_placed, placed_estimate}
@@ -50,10 +49,6 @@ use Rattle.import_replay.specs.TakenBlocks.{AreForEachPlace, AreLowestSpare, Cha
 use Rattle.import_replay.specs.declared.mounted.Mounted.{Mounted}
 use Rattle.import_replay.proofs.FreeBlocks.{at_planned, planned_at}
 use Rattle.import_replay.proofs.WrittenPlaces.{IsWrittenAt, each_place, each_written, root_last}
-
-keys-as_keys : (xs : List ℕ) → map (λ (e : ℕ × Unit {0}). e.0) (as_keys xs) ≡ xs
-keys-as_keys [] = refl
-keys-as_keys (x ∷ xs) = ap (λ l. x ∷ l) (keys-as_keys xs)
 
 -- a number of a set stands in its rising list
 in-rising : (numbers : FinSet nat_cmp) (x : ℕ) → set.contains numbers x ≡ true → IsAt (rising numbers) x

@@ -10,16 +10,17 @@ use Rattle.std.specs.FinSet.{FinSet, contains-empty, len-empty, len-remove, same
 use Rattle.std.proofs.lemmas.Bool.{cases_eq, eq-eqb, ne_eqb}
 use Rattle.std.proofs.lemmas.Cmp.{nat_cmp_total}
 use Rattle.std.proofs.lemmas.List.Elements.{All-contains, Contains-append_cases}
-use Rattle.base.specs.crash.Mount.{IsUseCount, IsUsed}
+use Rattle.base.specs.tree.Mount.{IsUseCount, IsUsed}
 use Rattle.base.specs.declared.pointer.Pointer.{Pointer}
 use Rattle.base.specs.formats.Chain.{LogPiece, addresses_of, chain_addresses}
 use Rattle.base.specs.formats.Geometry.{IsBlockAddress, block_address, block_count}
 use Rattle.base.specs.formats.Uberblocks.{Uberblock}
-use Rattle.base.specs.tree.PlacedTrees.{ArePlaced, IsPlaced}
+use Rattle.base.specs.kept.PlacedTrees.{ArePlaced, IsPlaced}
 use Rattle.base.specs.tree.Places.{IsInTree, Place}
+use Rattle.base.proofs.common.Choices.{not_and_parts}
 use Rattle.intent_log.specs.Chains.{IsSoundPiece}
-use Rattle.object_maps.specs.declared.tree.Tree.{Tree}
-use Rattle.object_maps.specs.Pointers.{pointers_of}
+use Rattle.tree_blocks.specs.declared.tree.Tree.{Tree}
+use Rattle.tree_blocks.specs.Pointers.{pointers_of}
 use Rattle.space.proofs.Counts.{one_there}
 use Rattle.import_replay.specs.FreeBlocks.{AreUnused, IsNamed, IsUsedBy}
 use Rattle.import_replay.specs.ReadPools.{HoldsPool, frame_of_size}
@@ -114,10 +115,6 @@ length-used : (n : ℕ) (free : FinSet nat_cmp) → ((address : ℕ) → set.con
 length-used zero free within = let none = none_there free (λ address is. let low = (within address is).1 in omega (arith, low)) in omega (arith, none)
 length-used (suc n) free within = by_flag (set.contains free (block_address n)) refl (length-used n)
   where
-    both : (a b : Bool) → (not a && b) ≡ true → (a ≡ false) × (b ≡ true)
-    both true b h = absurd (let f : false ≡ true = h in cc)
-    both false b h = (refl, h)
-
     below : (address : ℕ) → (address ≡ block_address n → ⊥) → IsBlockAddress (suc n) address → IsBlockAddress n address
     below address other (k, low, at) = (k, lower k low (λ same. other (at ∙ ap (λ (m : ℕ). block_address m) same)), at)
       where
@@ -129,7 +126,7 @@ length-used (suc n) free within = by_flag (set.contains free (block_address n)) 
 
     removed : (address : ℕ) → set.contains (set.remove free (block_address n)) address ≡ true → IsBlockAddress n address
     removed address has =
-        let parts = both (nat_eq (block_address n) address) (set.contains free address) (sym (contains-without free (block_address n) address) ∙ has) in
+        let parts = not_and_parts (nat_eq (block_address n) address) (set.contains free address) (sym (contains-without free (block_address n) address) ∙ has) in
         below address (λ same. let f : true ≡ false = sym (eq-eqb (block_address n) address (sym same)) ∙ parts.0 in cc) (within address parts.1)
 
     by_flag : (b : Bool) → set.contains free (block_address n) ≡ b

@@ -11,7 +11,7 @@ use Rattle.std.proofs.lemmas.Cmp.{nat_cmp_total}
 use Rattle.std.proofs.lemmas.Grind.{flat_map-append}
 use Rattle.std.proofs.lemmas.List.{append-nil}
 use Rattle.std.proofs.lemmas.List.Elements.{All-head, All-tail}
-use Rattle.base.specs.crash.Mount.{MountsTo}
+use Rattle.base.specs.tree.Mount.{MountsTo}
 use Rattle.base.specs.declared.error.PoolError.{PoolError}
 use Rattle.base.specs.declared.error.PoolError.TheVariants.{Damaged, NoMemory, NoObject, Read}
 use Rattle.base.specs.declared.names.ObjectId.{ObjectId}
@@ -36,13 +36,12 @@ use Rattle.extents.proofs.LaidWithin.{patches_sized}
 use Rattle.extents.proofs.PatchedObjects.{patched_nothing}
 use Rattle.extents.proofs.SamePatches.{changes_added, changes_left}
 use Rattle.log_replay.specs.Replays.{IsReplayCause, ops_of_records}
-use Rattle.object_maps.specs.ContentsShown.{contents_of}
-use Rattle.object_maps.specs.Lengths.{HasLengthsOf}
+use Rattle.object_maps.specs.ContentsShown.{contents_of, objects_of}
+use Rattle.tree_blocks.specs.Lengths.{HasLengthsOf}
 use Rattle.object_maps.specs.Ops.{AreOpsAllowed}
-use Rattle.object_maps.specs.Pointers.{objects_of}
 use Rattle.object_maps.specs.Sources.{range_in}
 use Rattle.object_maps.specs.declared.contents.Slot.{Slot}
-use Rattle.object_maps.specs.declared.tree.Tree.{Tree}
+use Rattle.tree_blocks.specs.declared.tree.Tree.{Tree}
 use Rattle.object_reads.specs.ShownTrees.{IsRangeRefusal, IsRangeRefusalOnTree, StandsOn, shown_objects}
 use Rattle.object_reads.specs.declared.shown_tree.ShownTree.{ShownTree}
 use Rattle.transactions.specs.declared.record.Record.{Record}

@@ -4,13 +4,13 @@ use Rattle.std.specs.Prelude.{OnOk}
 use Rattle.base.specs.declared.error.PoolError.{PoolError}
 use Rattle.base.specs.disk.Calls.{Flushes}
 use Rattle.base.specs.disk.Disk.{Disk, bytes_of}
-use Rattle.base.specs.crash.Mount.{IsChainOf}
+use Rattle.base.specs.tree.Mount.{IsChainOf}
 use Rattle.base.specs.formats.Chain.{LogPiece}
 use Rattle.base.specs.formats.Uberblocks.{Uberblock, IsActive}
 use Rattle.base.specs.formats.Versions.{written_version}
 use Rattle.base.proofs.disk.Regions.{flushed_clean}
-use Rattle.object_maps.specs.Pointers.{pointers_of}
-use Rattle.sync.specs.DiskCalls.{after_disk_calls}
+use Rattle.base.specs.disk.DiskCalls.{after_disk_calls}
+use Rattle.tree_blocks.specs.Pointers.{pointers_of}
 use Rattle.sync.specs.Made.{BlocksWritten}
 use Rattle.tree_plans.specs.Plans.{address_of}
 use Rattle.import_replay.specs.Found.{HasFirstStage}

@@ -8,10 +8,9 @@ use Rattle.base.specs.formats.Limits.{indirect_count, object_count, pointer_coun
 use Rattle.base.specs.tree.Places.{IsPlace, Place, object_of_indirect, strip_number, strip_of}
 use Rattle.base.specs.tree.Places.Place.{Data, Directory, Indirect, Root, Top}
 use Rattle.base.specs.tree.Syncs.{GroupChanges, is_directory_written, is_indirect_written, is_record_written, is_root_written, is_top_written, places_of_object, places_of_strip, pointer_numbers, written_by}
-use Rattle.base.proofs.common.KeptLists.{All-at, All-each, at_filter, push-cases}
-use Rattle.base.proofs.stored.StoredSets.{at-map}
+use Rattle.base.proofs.common.KeptLists.{All-at, All-each, at_filter, push-cases, at-map}
 use Rattle.base.proofs.tree.Strips.{strip-low, strip-object, strip-which}
-use Rattle.base.proofs.tree.WrittenPlaces.{in-range}
+use Rattle.base.proofs.tree.WrittenPlaces.{in-first}
 
 -- two functions that agree on a list's elements make the same list of it
 pub map_same : {A B : Type 0} (f g : A → B) (xs : List A) → ((i : ℕ) (x : A) → slice_get xs i ≡ Some x → f x ≡ g x) → map f xs ≡ map g xs
@@ -36,9 +35,6 @@ All-if : (P : Place → Type 0) (b : Bool) (place : Place) → (b ≡ true → P
 All-if P true place is = All-cons P place [] (is refl) (All-nil P)
 All-if P false place is = All-nil P
 
-below : (count i n : ℕ) → slice_get (range_with_len 0 count) i ≡ Some n → n < count
-below count i n at = let to = (in-range 0 count i n at).1 in omega (arith, to)
-
 module _ (group : GroupChanges) where
   -- why a place is written
   abbrev pub IsWrittenAt : Place → Type 0
@@ -56,7 +52,7 @@ module _ (group : GroupChanges) where
   written_of_strip n j low j_low = All-each IsWrittenAt (places_of_strip group n j) (λ i place at.
       let (k, there, same) = at-map (λ k. Data (strip_number n j) k) (filter (is_record_written group n j) pointer_numbers) i place at in
       let (l, stands, passes) = at_filter (is_record_written group n j) pointer_numbers i k there in
-      subst IsWrittenAt same (strip-low n j low j_low, below pointer_count l k stands, of_number (λ a b. is_record_written group a b k) n j low passes))
+      subst IsWrittenAt same (strip-low n j low j_low, in-first pointer_count l k stands, of_number (λ a b. is_record_written group a b k) n j low passes))
 
   abbrev indirects_of : ℕ → List Place
   indirects_of n = map (λ j. Indirect (strip_number n j)) (filter (is_indirect_written group n) pointer_numbers)
@@ -65,24 +61,24 @@ module _ (group : GroupChanges) where
   written_indirects n low = All-each IsWrittenAt (indirects_of n) (λ i place at.
       let (j, there, same) = at-map (λ j. Indirect (strip_number n j)) (filter (is_indirect_written group n) pointer_numbers) i place at in
       let (l, stands, passes) = at_filter (is_indirect_written group n) pointer_numbers i j there in
-      subst IsWrittenAt same (strip-low n j low (below pointer_count l j stands), of_number (is_indirect_written group) n j low passes))
+      subst IsWrittenAt same (strip-low n j low (in-first pointer_count l j stands), of_number (is_indirect_written group) n j low passes))
 
   written_of_object : (n : ℕ) → n < object_count → All IsWrittenAt (places_of_object group n)
   written_of_object n low =
       All-append IsWrittenAt (flat_map (places_of_strip group n) pointer_numbers ++ indirects_of n) (if is_top_written group n then Top n ∷ [] else [])
       (All-append IsWrittenAt (flat_map (places_of_strip group n) pointer_numbers) (indirects_of n)
-      (All-flat IsWrittenAt (places_of_strip group n) pointer_numbers (λ i j at. written_of_strip n j low (below pointer_count i j at)))
+      (All-flat IsWrittenAt (places_of_strip group n) pointer_numbers (λ i j at. written_of_strip n j low (in-first pointer_count i j at)))
       (written_indirects n low))
       (All-if IsWrittenAt (is_top_written group n) (Top n) (λ is. (low, is)))
 
   written_objects : All IsWrittenAt (flat_map (places_of_object group) (range_with_len 0 object_count))
-  written_objects = All-flat IsWrittenAt (places_of_object group) (range_with_len 0 object_count) (λ i n at. written_of_object n (below object_count i n at))
+  written_objects = All-flat IsWrittenAt (places_of_object group) (range_with_len 0 object_count) (λ i n at. written_of_object n (in-first object_count i n at))
 
   written_directories : All IsWrittenAt (map (λ d. Directory d) (filter (is_directory_written group) (range_with_len 0 pointer_count)))
   written_directories = All-each IsWrittenAt (map (λ d. Directory d) (filter (is_directory_written group) (range_with_len 0 pointer_count))) (λ i place at.
       let (d, there, same) = at-map (λ d. Directory d) (filter (is_directory_written group) (range_with_len 0 pointer_count)) i place at in
       let (j, stands, passes) = at_filter (is_directory_written group) (range_with_len 0 pointer_count) i d there in
-      subst IsWrittenAt same (below pointer_count j d stands, passes))
+      subst IsWrittenAt same (in-first pointer_count j d stands, passes))
 
   pub each_written : (i : ℕ) (place : Place) → slice_get (written_by group) i ≡ Some place → IsWrittenAt place
   each_written i place at = All-at IsWrittenAt (written_by group) i place all at

@@ -1,15 +1,14 @@
 -- The device calls of a create, in order.
 use Rattle.std.specs.Prelude.{ℕ, ◌≡◌, ◌+◌, List, [], ◌∷◌, ◌++◌, map}
 use Rattle.std.specs.List.{range_with_len}
-use Rattle.base.specs.crash.SyncCalls.{DiskCall}
-use Rattle.base.specs.crash.SyncCalls.DiskCall.{Put, Settle}
+use Rattle.base.specs.disk.DiskCalls.{DiskCall, after_disk_calls}
+use Rattle.base.specs.disk.DiskCalls.DiskCall.{Put, Settle}
 use Rattle.base.specs.disk.Disk.{CrashLeaves, Disk, bytes_of}
 use Rattle.base.specs.formats.Geometry.{block_address, block_count, block_size, config_place, label_place, slot_of, slot_place}
 use Rattle.base.specs.formats.Labels.{Config}
 use Rattle.base.specs.formats.Uberblocks.{Uberblock}
 use Rattle.labels.specs.Configs.{config_block}
 use Rattle.uberblocks.specs.Slots.{slot_bytes}
-use Rattle.sync.specs.DiskCalls.{after_disk_calls}
 use Rattle.import_replay.specs.Cleared.{zeros}
 use Rattle.import_replay.specs.Creations.{IsCreatedOn, IsNewPool, first_config, first_uberblock}
 

@@ -6,8 +6,8 @@ use Rattle.base.specs.formats.Geometry.{block_count}
 use Rattle.base.specs.formats.Uberblocks.{Uberblock, StandsIn, IsActive}
 use Rattle.base.specs.formats.Versions.{written_version}
 use Rattle.base.specs.formats.Labels.{Config, IsConfig}
-use Rattle.base.specs.crash.Mount.{Mount, IsMounted}
-use Rattle.base.specs.crash.Imports.{IsCreated}
+use Rattle.base.specs.tree.Mount.{Mount, IsMounted}
+use Rattle.base.specs.kept.Imports.{IsCreated}
 use Rattle.import_replay.specs.Cleared.{IsCleared}
 
 -- the image mounts a new pool of this name and guid

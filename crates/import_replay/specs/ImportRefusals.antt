@@ -10,9 +10,9 @@ use Rattle.base.specs.formats.Geometry.{IsBlockAddress, IsGeometry, block_count}
 use Rattle.base.specs.formats.Chain.{LogPiece}
 use Rattle.base.specs.formats.Uberblocks.{Uberblock}
 use Rattle.base.specs.tree.Tree.{IsTree}
-use Rattle.base.specs.crash.Mount.{HasNoPool, HasPool, IsChainDamaged, IsFound, IsTreeDamaged, IsUsed, Mounts, frame_of, records_above}
-use Rattle.base.specs.crash.Imports.{is_dirty_max_allowed, is_past_last}
-use Rattle.base.specs.crash.CrashRule.{IsOwnOnceFlushed}
+use Rattle.base.specs.tree.Mount.{HasNoPool, HasPool, IsChainDamaged, IsFound, IsTreeDamaged, IsUsed, Mounts, frame_of, records_above}
+use Rattle.base.specs.kept.Imports.{is_dirty_max_allowed, is_past_last}
+use Rattle.base.specs.kept.CrashRule.{IsOwnOnceFlushed}
 use Rattle.base.specs.disk.Disk.{Disk}
 use Rattle.base.specs.history.Contents.{Contents}
 use Rattle.import_replay.specs.PlacedRecords.{placed_estimate}

@@ -4,15 +4,16 @@ use Rattle.base.specs.declared.error.PoolError.{PoolError}
 use Rattle.base.specs.declared.error.PoolError.TheVariants.{Flush}
 use Rattle.base.specs.declared.pointer.Pointer.{Pointer}
 use Rattle.base.specs.disk.Disk.{Disk, bytes_of, certain, disk_size}
-use Rattle.base.specs.crash.Imports.{is_past_last}
-use Rattle.base.specs.crash.Mount.{Mounts}
+use Rattle.base.specs.kept.Imports.{is_past_last}
+use Rattle.base.specs.tree.Mount.{Mounts}
 use Rattle.base.specs.formats.Chain.{LogPiece}
 use Rattle.base.specs.formats.Labels.{Config}
 use Rattle.base.specs.formats.Versions.{written_version}
 use Rattle.base.specs.formats.Uberblocks.{Uberblock}
+use Rattle.base.specs.disk.DiskCalls.{IsStoppedIn}
 use Rattle.object_maps.specs.ContentsShown.{contents_of}
 use Rattle.tree_plans.specs.declared.planner.PlannedBlock.{PlannedBlock}
-use Rattle.sync.specs.DiskCalls.{IsStoppedIn}
+use Rattle.sync.specs.GroupLabels.{config_for}
 use Rattle.import_replay.specs.Found.{HasFirstStage}
 use Rattle.import_replay.specs.ImportRefusals.{HasSoundPool}
 use Rattle.import_replay.specs.LabelSyncs.{ImportWrites, calls_of_import}
@@ -21,7 +22,7 @@ use Rattle.import_replay.specs.declared.next_pool.NextPool.{NextPool}
 
 -- the config that an import of this active uberblock and name writes, on a device of so many bytes
 abbrev pub next_config : Uberblock → List ℕ → ℕ → Config
-next_config u name size = record { guid = u.guid; group = u.group + 4; size = size; name = name }
+next_config u name size = config_for u.guid (u.group + 4) size name
 
 -- and the uberblock, with this root, this moment and this first log block
 abbrev pub next_uberblock : Uberblock → Pointer → ℕ → ℕ → Uberblock

@@ -1,13 +1,13 @@
 -- What an import writes to the device, in which order, and what it leaves in the labels.
 use Rattle.std.specs.Prelude.{ℕ, ◌≡◌, ◌≤◌, ◌+◌, All, Bool, List, [], length, map}
-use Rattle.base.specs.crash.Mount.{IsChainOf, records_above}
+use Rattle.base.specs.tree.Mount.{IsChainOf, records_above}
 use Rattle.base.specs.disk.Disk.{Disk, bytes_of, certain}
 use Rattle.base.specs.formats.Chain.{LogPiece}
 use Rattle.base.specs.formats.Labels.{Config}
 use Rattle.base.specs.formats.Uberblocks.{Uberblock, IsActive}
 use Rattle.base.specs.formats.Versions.{written_version}
-use Rattle.object_maps.specs.Pointers.{pointers_of}
-use Rattle.sync.specs.DiskCalls.{after_disk_calls}
+use Rattle.base.specs.disk.DiskCalls.{after_disk_calls}
+use Rattle.tree_blocks.specs.Pointers.{pointers_of}
 use Rattle.sync.specs.Made.{BlocksWritten}
 use Rattle.tree_plans.specs.Plans.{address_of}
 use Rattle.tree_plans.specs.declared.planner.PlannedBlock.{PlannedBlock}

@@ -1,11 +1,11 @@
 -- The views of an import, for crashes: the one that its disk is at rest on, and the one that it writes.
 use Rattle.std.specs.Prelude.{ℕ, ◌≡◌, ◌≢◌, ◌≤◌, ◌+◌, All, List, [], Some, length, slice_get}
-use Rattle.base.specs.crash.CallStages.{FixedLabels, IsAtRestAt}
-use Rattle.base.specs.crash.CrashRule.{IsImportMoment}
-use Rattle.base.specs.crash.LogRule.{with_front}
-use Rattle.base.specs.crash.LogSteps.{IsSpareOf}
-use Rattle.base.specs.crash.Own.{AreConfigsBelowImport, IsAtRest}
-use Rattle.base.specs.crash.Views.{View, view_frame}
+use Rattle.base.specs.kept.CallStages.{FixedLabels, IsAtRestAt}
+use Rattle.base.specs.kept.CrashRule.{IsImportMoment}
+use Rattle.base.specs.kept.LogRule.{with_front}
+use Rattle.base.specs.kept.LogSteps.{IsSpareOf}
+use Rattle.base.specs.kept.Own.{AreConfigsBelowImport, IsAtRest}
+use Rattle.base.specs.kept.Views.{View, view_frame}
 use Rattle.base.specs.declared.pointer.Pointer.{Pointer}
 use Rattle.base.specs.disk.Disk.{Disk, EachMoment, Moment, bytes_of, handed, moments}
 use Rattle.base.specs.disk.Fairness.{HasFairBytes}
@@ -15,7 +15,7 @@ use Rattle.base.specs.formats.Labels.{Config}
 use Rattle.base.specs.formats.Uberblocks.{Uberblock}
 use Rattle.base.specs.formats.Blocks.{Frame}
 use Rattle.base.specs.history.Contents.{Contents}
-use Rattle.base.specs.tree.PlacedTrees.{HoldsTree}
+use Rattle.base.specs.kept.PlacedTrees.{HoldsTree}
 use Rattle.base.specs.tree.Places.{Place}
 use Rattle.base.specs.tree.Places.Place.{Root}
 use Rattle.labels.specs.Configs.{config_block}

@@ -3,14 +3,14 @@ use Rattle.std.specs.Prelude.{ℕ, ◌≡◌, ◌+◌, ◌-◌, List}
 use Rattle.std.specs.Ordering.{nat_cmp}
 use Rattle.std.specs.FinSet as set
 use Rattle.std.specs.FinSet.{FinSet}
-use Rattle.base.specs.crash.Imports.{IsImportOf}
-use Rattle.base.specs.crash.Mount.{IsMounted, Mount}
+use Rattle.base.specs.kept.Imports.{IsImportOf}
+use Rattle.base.specs.tree.Mount.{IsMounted, Mount}
 use Rattle.base.specs.formats.Uberblocks.{Uberblock}
 use Rattle.base.specs.declared.names.ObjectId.{ObjectId}
 use Rattle.base.specs.history.Contents.{Contents}
 use Rattle.base.specs.steps.Exact.{IsBounded}
 use Rattle.base.specs.steps.Shown.{Shown}
-use Rattle.object_maps.specs.Surveys.{listed}
+use Rattle.tree_blocks.specs.ListedObjects.{listed}
 use Rattle.import_replay.specs.declared.inspection.Inspected.{Inspected}
 
 -- it is told of these contents: their name, and the numbers of their objects, rising, each with the object's length

@@ -2,9 +2,10 @@
 use Rattle.std.specs.Prelude.{ℕ, ◌≡◌, ◌<◌, All, Bool, true, false, List, [], ◌∷◌, ◌++◌, Some, if◌then◌else◌, length, map, nat_eq}
 use Rattle.std.specs.Global.{Vec}
 use Rattle.std.specs.List.{IsDistinct}
-use Rattle.base.specs.crash.SyncCalls.{DiskCall}
-use Rattle.base.specs.crash.SyncCalls.DiskCall.{Put, Settle}
+use Rattle.base.specs.disk.DiskCalls.{DiskCall, after_disk_calls}
+use Rattle.base.specs.disk.DiskCalls.DiskCall.{Put, Settle}
 use Rattle.base.specs.disk.Disk.{Disk, bytes_of}
+use Rattle.base.specs.disk.SyncOrder.{in_sync_order}
 use Rattle.base.specs.formats.Geometry.{block_address, block_count, slot_of}
 use Rattle.base.specs.formats.Labels.{Config, even_labels, odd_labels}
 use Rattle.base.specs.formats.Uberblocks.{Uberblock, IsUberblock}
@@ -14,7 +15,7 @@ use Rattle.labels.specs.declared.stage.Stage.TheVariants.{Even, Odd}
 use Rattle.tree_plans.specs.declared.planner.PlannedBlock.{PlannedBlock}
 use Rattle.uberblocks.specs.Slots.{fields_of, slot_bytes}
 use Rattle.uberblocks.specs.declared.uberblock.Uberblock as declared
-use Rattle.sync.specs.DiskCalls.{after_disk_calls}
+use Rattle.sync.specs.GroupLabels.{config_for}
 use Rattle.sync.specs.Made.{BlocksWritten}
 use Rattle.sync.specs.declared.run.SyncRun.{SyncRun}
 use Rattle.import_replay.specs.CreateCalls.{each_label, write_config, write_uberblock}
@@ -33,9 +34,9 @@ pub record ImportWrites : Type 0 where
   pub u : Uberblock
   pub blocks : List PlannedBlock
 
--- the same of values of the engine
-abbrev pub import_writes : ℕ → Config → declared.Uberblock → Vec PlannedBlock → ImportWrites
-import_writes size config u blocks = record { size = size; config = config; u = fields_of u; blocks = blocks.items }
+-- the same of values of the engine: the config is that of the uberblock's group, with this name
+abbrev pub import_writes : ℕ → List ℕ → declared.Uberblock → Vec PlannedBlock → ImportWrites
+import_writes size name u blocks = record { size = size; config = config_for u.guid u.group.0 size name; u = fields_of u; blocks = blocks.items }
 
 -- the blocks lie in the area of a device of so many bytes, and no two have one place
 pub record AreApartIn (size : ℕ) (blocks : List PlannedBlock) : Type 0 where
@@ -50,14 +51,9 @@ write_block b = Put (block_address b.index) b.block
 abbrev pub write_stage : ImportWrites → List ℕ → List DiskCall
 write_stage w labels = map (write_config w.size w.config) labels ++ Settle ∷ []
 
--- The blocks are written, and a flush; then the first label stage, the uberblock of each label and a flush, and the
--- other label stage.
+-- what it writes, in the order of a sync
 abbrev pub calls_in_stages : ImportWrites → (first last : List ℕ) → List DiskCall
-calls_in_stages w first last =
-    map write_block w.blocks ++ Settle ∷ []
-    ++ write_stage w first
-    ++ each_label (write_uberblock w.size w.u) ++ Settle ∷ []
-    ++ write_stage w last
+calls_in_stages w first last = in_sync_order Settle (map write_block w.blocks) (write_stage w first) (each_label (write_uberblock w.size w.u)) (write_stage w last)
 
 -- the calls of such a sync
 abbrev pub calls_of_import : ImportWrites → Bool → List DiskCall

@@ -1,23 +1,24 @@
 -- What an import mounts, as contracts see the pool that it gives.
-use Rattle.std.specs.Prelude.{ℕ, ◌≡◌, ◌+◌, ◌<◌, ◌≤◌, ◌^◌, false, List, [], length, None}
+use Rattle.std.specs.Prelude.{ℕ, ◌≡◌, ◌+◌, ◌<◌, ◌≤◌, false, List, [], length, None}
 use Rattle.std.specs.FinMap as finite
 use Rattle.base.specs.formats.Versions.{written_version}
 use Rattle.base.specs.formats.Blocks.{Frame}
 use Rattle.base.specs.formats.Chain.{LogPiece}
 use Rattle.base.specs.formats.Fields.{number_at, part}
 use Rattle.base.specs.formats.Geometry.{IsBlockAddress, block_count, block_size}
+use Rattle.base.specs.formats.Limits.{first_group, last_number}
 use Rattle.base.specs.steps.Exact.{AreFree, IsBounded}
 use Rattle.base.specs.steps.Tables.{AreTablesExplained}
-use Rattle.base.specs.crash.Imports.{IsImportOf, is_past_last}
-use Rattle.base.specs.crash.Mount.{IsChainOf, IsUsed}
+use Rattle.base.specs.kept.Imports.{IsImportOf, is_past_last}
+use Rattle.base.specs.tree.Mount.{IsChainOf, IsUsed}
 use Rattle.base.specs.history.Past.{new_past}
-use Rattle.base.specs.tree.PlacedTrees.{HoldsTree}
+use Rattle.base.specs.kept.PlacedTrees.{HoldsTree}
 use Rattle.base.specs.tree.Places.{IsInTree}
-use Rattle.base.specs.steps.Shown.{Shown}
+use Rattle.base.specs.steps.Shown.{Shown, listed}
 use Rattle.base.specs.formats.Uberblocks.{Uberblock, IsActive}
 use Rattle.object_maps.specs.ContentsShown.{contents_of}
-use Rattle.object_maps.specs.Lengths.{lengths_of}
-use Rattle.object_maps.specs.Pointers.{pointers_of}
+use Rattle.tree_blocks.specs.Lengths.{lengths_of}
+use Rattle.tree_blocks.specs.Pointers.{pointers_of}
 use Rattle.import_replay.specs.ImportRefusals.{CanImport}
 use Rattle.import_replay.specs.NextPools.{PoolParts}
 use Rattle.import_replay.specs.declared.mounted.Mounted.{Mounted}
@@ -44,7 +45,7 @@ shown_of_import m = record {
   log = record { unsynced = []; begun = None; pending = []; kept = []; next = record { address = m.log_address; number = 0 } };
   root = m.tree.root;
   synced_contents = contents_of m.contents;
-  lengths = lengths_of m.tree;
+  lengths = listed (lengths_of m.tree);
   sync = None;
 }
 
@@ -105,4 +106,4 @@ pub record IsMountedAnew (size dirty_max : ℕ) (m : Mounted) : Type 0 where
   pub made : CanImport size dirty_max
   pub explained : (created : ℕ) → AreTablesExplained (shown_of_import m) (new_past (contents_of m.contents) created dirty_max)
   pub bounded : IsBounded (contents_of m.contents)
-  pub group : (4 ≤ m.group.0) × (m.group.0 < 2 ^ 60)
+  pub group : (first_group ≤ m.group.0) × (m.group.0 < last_number)

@@ -5,7 +5,7 @@ use Rattle.std.specs.FinMap as finite
 use Rattle.std.specs.FinMap.{FinMap}
 use Rattle.std.specs.FinSet.{FinSet}
 use Rattle.base.specs.common.Rising.{rising}
-use Rattle.base.specs.crash.Mount.{IsUsed, records_above}
+use Rattle.base.specs.tree.Mount.{IsUsed, records_above}
 use Rattle.base.specs.declared.error.PoolError.{PoolError}
 use Rattle.base.specs.declared.error.PoolError.TheVariants.{NoSpace}
 use Rattle.base.specs.declared.pointer.Pointer.{Pointer}
@@ -19,23 +19,23 @@ use Rattle.base.specs.formats.Uberblocks.{Uberblock}
 use Rattle.base.specs.formats.Versions.{written_version}
 use Rattle.base.specs.history.Contents as history
 use Rattle.base.specs.formats.Names.{IsName}
-use Rattle.base.specs.tree.PlacedTrees.{ArePlaced}
+use Rattle.base.specs.kept.PlacedTrees.{ArePlaced}
 use Rattle.base.specs.tree.Places.{IsPlace, Place}
 use Rattle.device_model.specs.declared.device.SectorDevice.{Ghosts}
 use Rattle.extents.specs.Synced.{patched_contents}
 use Rattle.extents.specs.Tables.{name_of, patches_of}
 use Rattle.group_plans.specs.GroupPlans.{FitsIn, HoldsGroupObjects, IsHeldRefusal, IsPlanRefusal, IsShortOfBlocks, MakesReadTree, TakesLowest, objects_with, plan_pointers}
 use Rattle.group_plans.specs.OldMaps.{HoldsTreeOf}
-use Rattle.group_plans.specs.Pointers.{lengths_after}
+use Rattle.tree_blocks.specs.SyncedTrees.{lengths_after}
 use Rattle.log_replay.specs.Replays.{IsReplay}
-use Rattle.object_maps.specs.ContentsShown.{contents_of}
+use Rattle.object_maps.specs.ContentsShown.{contents_of, objects_of}
 use Rattle.object_maps.specs.FreeBlocks.{AreUnnamed}
-use Rattle.object_maps.specs.Lengths.{HasLengthsOf, lengths_of}
+use Rattle.tree_blocks.specs.Lengths.{HasLengthsOf, lengths_of}
 use Rattle.object_maps.specs.Loading.{IsLimitedObject}
-use Rattle.object_maps.specs.Pointers.{objects_of, pointers_of}
+use Rattle.tree_blocks.specs.Pointers.{pointers_of}
 use Rattle.object_maps.specs.declared.contents.Contents as declared
 use Rattle.object_maps.specs.declared.contents.Slot.{Slot}
-use Rattle.object_maps.specs.declared.tree.Tree.{Tree}
+use Rattle.tree_blocks.specs.declared.tree.Tree.{Tree}
 use Rattle.space.specs.FreeSets.{IsIdle}
 use Rattle.tree_plans.specs.Plans.{address_of}
 use Rattle.tree_plans.specs.declared.planner.PlannedBlock.{PlannedBlock}

@@ -2,8 +2,8 @@
 -- handed.
 use Rattle.std.specs.Prelude.{ℕ, ◌≡◌, ◌≤◌, ◌<◌, List, [], length}
 use Rattle.std.specs.FinMap as map
-use Rattle.base.specs.crash.Own.{AreFirstWrites}
-use Rattle.base.specs.crash.Views.{View}
+use Rattle.base.specs.kept.Own.{AreFirstWrites}
+use Rattle.base.specs.kept.Views.{View}
 use Rattle.base.specs.disk.Disk.{Disk, HandedSince, bytes_of, handed, moments}
 use Rattle.base.specs.formats.Fields.{no_pointer, part}
 use Rattle.base.specs.formats.Geometry.{block_size, config_place, slot_of, slot_place}

@@ -1,7 +1,7 @@
 -- The records of a chain that an import applies: what they are estimated at, and their operations.
 use Rattle.std.specs.Prelude.{ℕ, List, map, sum_by}
 use Rattle.std.specs.List.{flat_map}
-use Rattle.base.specs.crash.Mount.{Placed}
+use Rattle.base.specs.tree.Mount.{Placed}
 use Rattle.base.specs.declared.operation.Op.{Op}
 use Rattle.base.specs.history.Plans.{shape_of, estimate_of}
 

@@ -1,6 +1,6 @@
 -- What is found of a pool: that it is whole, or its damages.
 use Rattle.std.specs.Prelude.{ℕ, ◌≡◌, ◌≢◌, ◌⊎◌, List, [], ◌∷◌}
-use Rattle.base.specs.crash.Mount.{HasPool, IsChainDamaged, frame_of}
+use Rattle.base.specs.tree.Mount.{HasPool, IsChainDamaged, frame_of}
 use Rattle.base.specs.declared.error.PoolError.{PoolError}
 use Rattle.base.specs.declared.error.PoolError.TheVariants as refusal
 use Rattle.base.specs.formats.Uberblocks.{Uberblock}

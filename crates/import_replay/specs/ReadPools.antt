@@ -4,18 +4,19 @@ use Rattle.std.specs.Prelude.{ℕ, ◌≡◌, All, Bool, IsTrue, List, length, I
 use Rattle.std.specs.Ordering.{nat_cmp}
 use Rattle.std.specs.FinMap as finite
 use Rattle.std.specs.FinMap.{FinMap}
-use Rattle.base.specs.crash.Mount.{HasPool, IsChainOf}
+use Rattle.base.specs.tree.Mount.{HasPool, IsChainOf}
 use Rattle.base.specs.formats.Blocks.{Frame}
 use Rattle.base.specs.formats.Chain.{LogPiece}
 use Rattle.base.specs.formats.Geometry.{block_count}
 use Rattle.base.specs.formats.Uberblocks.{Uberblock}
-use Rattle.base.specs.tree.PlacedTrees.{ArePlaced, HoldsTree}
+use Rattle.base.specs.kept.PlacedTrees.{ArePlaced, HoldsTree}
 use Rattle.intent_log.specs.Chains.{IsSoundPiece}
 use Rattle.object_maps.specs.declared.contents.Slot.{Slot}
-use Rattle.object_maps.specs.declared.tree.Tree.{Tree}
-use Rattle.object_maps.specs.Lengths.{HasLengthsOf}
+use Rattle.tree_blocks.specs.declared.tree.Tree.{Tree}
+use Rattle.tree_blocks.specs.Lengths.{HasLengthsOf}
 use Rattle.object_maps.specs.Loading.{IsLimitedObject}
-use Rattle.object_maps.specs.Pointers.{objects_of, pointers_of}
+use Rattle.object_maps.specs.ContentsShown.{objects_of}
+use Rattle.tree_blocks.specs.Pointers.{pointers_of}
 
 -- the frame of an active uberblock, on a device of so many blocks
 abbrev pub frame_with : Uberblock → ℕ → Frame

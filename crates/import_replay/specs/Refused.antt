@@ -3,8 +3,8 @@ use Rattle.std.specs.Prelude.{ℕ, ◌≡◌, ◌⊎◌, Bool, IsTrue, List}
 use Rattle.base.specs.declared.error.PoolError.{PoolError}
 use Rattle.base.specs.declared.error.PoolError.TheVariants.{BadGeometry, BadRange}
 use Rattle.base.specs.disk.Disk.{Disk, bytes_of, certain}
+use Rattle.base.specs.disk.DiskCalls.{IsStoppedIn}
 use Rattle.device_model.specs.declared.device.SectorDevice.{Ghosts}
-use Rattle.sync.specs.DiskCalls.{IsStoppedIn}
 use Rattle.import_replay.specs.CreateCalls.{create_calls}
 use Rattle.import_replay.specs.CreateRefusals.{IsCreateRefusal}
 use Rattle.import_replay.specs.ImportRefusals.{FindsOwn, IsImportRefusal, IsReason, IsInspectionRefusal, IsMountRefusal, IsReadingRefusal, IsSyncRefusal}

@@ -1,7 +1,7 @@
 -- What an import gives to the run after it, of a disk that its pool alone wrote.
 use Rattle.std.specs.Prelude.{ℕ, ◌≡◌, []}
-use Rattle.base.specs.crash.CrashRule.{IsOwnOnceFlushed}
-use Rattle.base.specs.crash.PoolViews.{IsPoolDisk}
+use Rattle.base.specs.kept.CrashRule.{IsOwnOnceFlushed}
+use Rattle.base.specs.kept.PoolViews.{IsPoolDisk}
 use Rattle.base.specs.disk.Disk.{Disk, Moment}
 use Rattle.base.specs.history.Contents.{Contents}
 use Rattle.base.specs.history.Past.{new_past}

@@ -2,8 +2,8 @@
 use Rattle.std.specs.Prelude.{ℕ, List, None, length}
 use Rattle.base.specs.formats.Geometry.{IsGeometry}
 use Rattle.base.specs.history.Past.{new_past}
-use Rattle.base.specs.stored.LabelConfigs.{HoldConfigs}
-use Rattle.base.specs.stored.ShownLabels.{ShowsSynced}
+use Rattle.base.specs.kept.LabelConfigs.{HoldConfigs}
+use Rattle.base.specs.kept.ShownLabels.{ShowsSynced}
 use Rattle.object_maps.specs.ContentsShown.{contents_of}
 use Rattle.import_replay.specs.Mounts.{shown_of_import}
 use Rattle.import_replay.specs.declared.mounted.Mounted.{Mounted}

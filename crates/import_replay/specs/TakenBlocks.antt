@@ -4,7 +4,7 @@ use Rattle.std.specs.Ordering.{nat_cmp}
 use Rattle.std.specs.FinSet as set
 use Rattle.std.specs.FinSet.{FinSet}
 use Rattle.base.specs.common.Rising.{rising}
-use Rattle.base.specs.crash.Mount.{IsFound, IsUsed, records_above}
+use Rattle.base.specs.tree.Mount.{IsFound, IsUsed, records_above}
 use Rattle.base.specs.declared.pointer.Pointer.{Pointer}
 use Rattle.base.specs.disk.Disk.{Disk, bytes_of}
 use Rattle.base.specs.formats.Chain.{LogPiece}

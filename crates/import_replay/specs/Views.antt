@@ -2,7 +2,7 @@
 use Rattle.std.specs.Prelude.{ℕ, ◌≡◌, ◌≤◌, ◌⊎◌, ◌&&◌, ◌++◌, All, Bool, false, List, nat_lt}
 use Rattle.std.specs.Ordering.{nat_cmp}
 use Rattle.std.specs.FinMap.{FinMap}
-use Rattle.base.specs.crash.Mount.{MountsTo}
+use Rattle.base.specs.tree.Mount.{MountsTo}
 use Rattle.base.specs.declared.error.PoolError.{PoolError}
 use Rattle.base.specs.declared.error.PoolError.TheVariants.{BadRange, NoObject}
 use Rattle.base.specs.declared.names.ObjectId.{ObjectId}
@@ -12,15 +12,15 @@ use Rattle.base.specs.formats.Geometry.{block_address}
 use Rattle.base.specs.formats.Limits.{object_count}
 use Rattle.base.specs.history.Contents.{Contents}
 use Rattle.base.specs.steps.Locks.{is_range_allowed}
-use Rattle.base.specs.tree.PlacedTrees.{HoldsTree}
+use Rattle.base.specs.kept.PlacedTrees.{HoldsTree}
 use Rattle.extents.specs.declared.unsynced.UnsyncedExtents.{UnsyncedExtents}
 use Rattle.extents.specs.Patches.{ArePatchesOf, no_patch}
 use Rattle.extents.specs.Unsynced.{changes_at, laid_all}
 use Rattle.log_replay.specs.Replays.{ops_of_records}
 use Rattle.object_maps.specs.ContentsShown.{contents_of}
-use Rattle.object_maps.specs.Lengths.{HasLengthsOf}
+use Rattle.tree_blocks.specs.Lengths.{HasLengthsOf}
 use Rattle.object_maps.specs.Ops.{AreOpsAllowed}
-use Rattle.object_maps.specs.Pointers.{pointers_of}
+use Rattle.tree_blocks.specs.Pointers.{pointers_of}
 use Rattle.object_reads.specs.ShownTrees.{IsRangeRefusal}
 use Rattle.transactions.specs.declared.record.Record.{Record}
 use Rattle.import_replay.specs.declared.viewing.View.{View}

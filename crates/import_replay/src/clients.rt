@@ -7,7 +7,7 @@ ghost use Rattle.std.specs.List.{list_any};
 ghost use Rattle.base.specs.disk.Disk.{bytes_of};
 ghost use Rattle.base.specs.formats.Uberblocks as image;
 ghost use Rattle.base.specs.formats.Uberblocks.{IsActive};
-ghost use Rattle.base.specs.crash.Mount.{IsChainDamaged, IsUsed, Mounts, MountsTo, frame_of, records_above};
+ghost use Rattle.base.specs.tree.Mount.{IsChainDamaged, IsUsed, Mounts, MountsTo, frame_of, records_above};
 ghost use Rattle.base.specs.formats.Chain.{LogPiece};
 ghost use Rattle.base.specs.formats.Geometry.{IsBlockAddress, block_address, block_count};
 ghost use Rattle.base.specs.history.Contents.{Contents};
@@ -16,7 +16,7 @@ ghost use Rattle.base.specs.tree.Places.{IsInTree, Place, data_pointer, indirect
 ghost use Rattle.base.specs.tree.Syncs.{is_on};
 ghost use Rattle.group_plans.specs.Areas.{AreBlocksOf};
 ghost use Rattle.object_maps.specs.ContentsShown.{contents_of};
-ghost use Rattle.object_maps.specs.Surveys.{listed};
+ghost use Rattle.tree_blocks.specs.ListedObjects.{listed};
 ghost use Rattle.object_maps.specs.declared.damages.BlockDamage.{BlockDamage};
 ghost use Rattle.space.specs.FreeSets.{is_free};
 ghost use Rattle.import_replay.specs.PlacedRecords.{ops_of_placed};

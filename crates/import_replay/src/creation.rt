@@ -2,11 +2,11 @@
 
 ghost use Rattle.std.specs.Prelude.{◌≡◌, ◌≤◌, IfErr, IfOk, IsTrue, List, MatchResult, OnOk, [], ℕ};
 ghost use Rattle.base.specs.disk.Calls.{with_refusal};
-ghost use Rattle.base.specs.crash.Own.{IsOwnWith};
+ghost use Rattle.base.specs.kept.Own.{IsOwnWith};
 ghost use Rattle.base.specs.disk.Disk.{Disk, HasEarlierWrites, bytes_of, moments};
+ghost use Rattle.base.specs.disk.DiskCalls.{MakesInOrder};
 ghost use Rattle.labels.specs.Configs.{config_block};
 ghost use Rattle.uberblocks.specs.Slots.{slot_bytes};
-ghost use Rattle.sync.specs.DiskCalls.{MakesInOrder};
 ghost use Rattle.import_replay.specs.Cleared.{AreTailsCleared, IsCleared, zeros};
 ghost use Rattle.import_replay.specs.CreateCalls.{IsPoolCreated, create_calls};
 ghost use Rattle.import_replay.specs.CreateCalls.{clear_block, clear_tail, each_block, each_label, write_config, write_uberblock};

@@ -1,7 +1,7 @@
 //! Whether the pool of a device is whole, and if it isn't, each damage of its tree. It is found by reads alone.
 
 ghost use Rattle.std.specs.Prelude.{IfErr, IfOk, IsTrue, OnOk};
-ghost use Rattle.base.specs.crash.Mount.{IsChainDamaged};
+ghost use Rattle.base.specs.tree.Mount.{IsChainDamaged};
 ghost use Rattle.base.specs.disk.Disk.{bytes_of};
 ghost use Rattle.base.specs.formats.Geometry.{IsGeometry};
 ghost use Rattle.device_model.specs.Reading.{OnlyReads};

@@ -6,7 +6,7 @@ ghost use Rattle.base.specs.formats.Fields.{part};
 ghost use Rattle.base.specs.formats.Geometry.{slot_place};
 ghost use Rattle.base.specs.formats.Labels.{HasNoCandidate};
 ghost use Rattle.base.specs.formats.Names.{IsName};
-ghost use Rattle.base.specs.crash.Mount.{HasPool};
+ghost use Rattle.base.specs.tree.Mount.{HasPool};
 ghost use Rattle.base.specs.formats.Uberblocks.{IsActive};
 ghost use Rattle.device_model.specs.Reading.{OnlyReads};
 ghost use Rattle.uberblocks.specs.Rings.{array_size, ring_size};

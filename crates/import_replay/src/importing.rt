@@ -30,8 +30,8 @@
 //! contents. If the device refuses a call, the calls before it are made, and the import can be made again.
 
 ghost use Rattle.std.specs.Prelude.{◌≡◌, ◌<◌, ◌*◌, [], false, true, IfErr, IfOk, IsTrue, MatchResult, OnOk};
-ghost use Rattle.base.specs.crash.CrashRule.{KeepsOwn};
-ghost use Rattle.base.specs.crash.Imports as numbers;
+ghost use Rattle.base.specs.kept.CrashRule.{KeepsOwn};
+ghost use Rattle.base.specs.kept.Imports as numbers;
 ghost use Rattle.base.specs.disk.Calls.{with_refusal};
 ghost use Rattle.base.specs.disk.Disk.{bytes_of};
 ghost use Rattle.base.specs.formats.Geometry.{IsGeometry, sector_size};
@@ -58,7 +58,7 @@ use base::{
     LEAST_DIRTY_MAX, PoolError, WRITTEN_VERSION,
 };
 use device_model::SectorDevice;
-use labels::{Geometry, LabelConfig};
+use labels::Geometry;
 use object_maps::{BlockCache, BlockReader, CachedDevice};
 use std::alloc::Global;
 use std::num::NonZeroUsize;
@@ -277,28 +277,30 @@ fn open_pool<D: SectorDevice>(
         (writes_of_next geometry (fields_of found.now.uberblock) moment next) found.now.first
         (D.disk device.old) (D.disk device.new)) }
 {
+    let NextPool {
+        blocks,
+        tree,
+        contents,
+        free,
+        log_address,
+        records,
+    } = next;
     let uberblock = Uberblock {
         version: WRITTEN_VERSION,
         group: Group(found.uberblock.group.0 + 4),
         guid: found.uberblock.guid,
         moment,
-        root: next.tree.root,
+        root: tree.root,
         import_number: found.uberblock.import_number + 1,
-        log_address: next.log_address,
+        log_address,
         log_number: 0,
     };
-    let config = LabelConfig::new(
-        uberblock.guid,
-        uberblock.group,
-        geometry.size(),
-        next.contents.name.copy(),
-    );
     sync_group(
         device,
         geometry,
         &uberblock,
-        &config,
-        next.blocks,
+        &contents.name,
+        blocks,
         found.first,
     )?;
     Ok(Mounted {
@@ -307,11 +309,11 @@ fn open_pool<D: SectorDevice>(
         guid: uberblock.guid,
         group: uberblock.group,
         import_number: uberblock.import_number,
-        contents: next.contents,
-        tree: next.tree,
-        free: next.free,
-        log_address: next.log_address,
-        records: next.records,
+        contents,
+        tree,
+        free,
+        log_address,
+        records,
         dirty_max,
     })
 }

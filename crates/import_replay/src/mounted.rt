@@ -3,15 +3,16 @@
 ghost use Rattle.std.specs.Prelude.{◌≡◌, ◌<◌, ◌≤◌};
 ghost use Rattle.base.specs.formats.Geometry.{IsBlockAddress, IsGeometry, block_count};
 ghost use Rattle.base.specs.formats.Limits.{first_group, last_number};
-ghost use Rattle.base.specs.tree.PlacedTrees.{ArePlaced};
-ghost use Rattle.object_maps.specs.Pointers.{pointers_of};
+ghost use Rattle.base.specs.kept.PlacedTrees.{ArePlaced};
+ghost use Rattle.tree_blocks.specs.Pointers.{pointers_of};
 ghost use Rattle.space.specs.FreeSets.{IsIdle};
 
 use base::Group;
 use labels::Geometry;
-use object_maps::{Contents, Tree};
+use object_maps::Contents;
 use space::FreeSet;
 use std::alloc::Global;
+use tree_blocks::Tree;
 
 /// What an import mounted and wrote.
 #[derive(Debug, Drop)]

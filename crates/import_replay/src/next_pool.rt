@@ -8,19 +8,19 @@
 //! are taken, and what the plan replaces comes back. So the new tree isn't walked.
 
 ghost use Rattle.std.specs.Prelude.{◌≡◌, ◌<◌, ℕ, false, IfErr, IfOk};
-ghost use Rattle.base.specs.crash.Imports as numbers;
-ghost use Rattle.base.specs.crash.Mount.{records_above};
+ghost use Rattle.base.specs.kept.Imports as numbers;
+ghost use Rattle.base.specs.tree.Mount.{records_above};
 ghost use Rattle.base.specs.formats.Geometry.{block_count};
 ghost use Rattle.base.specs.formats.Limits.{object_count};
-ghost use Rattle.base.specs.tree.PlacedTrees.{ArePlaced};
+ghost use Rattle.base.specs.kept.PlacedTrees.{ArePlaced};
 ghost use Rattle.base.specs.tree.Places.{IsPlace, Place};
 ghost use Rattle.device_model.specs.Reading.{OnlyReads};
 ghost use Rattle.group_plans.specs.GroupPlans.{FitsIn, IsHeldRefusal, IsPlanRefusal, TakesLowest, plan_pointers};
-ghost use Rattle.group_plans.specs.Pointers.{lengths_after};
+ghost use Rattle.tree_blocks.specs.SyncedTrees.{lengths_after};
 ghost use Rattle.log_replay.specs.Replays.{IsChainAllowed, IsReplayCause, IsReplayRefusal};
 ghost use Rattle.object_maps.specs.FreeBlocks.{AreUnnamed};
-ghost use Rattle.object_maps.specs.Lengths.{lengths_of};
-ghost use Rattle.object_maps.specs.Pointers.{pointers_of};
+ghost use Rattle.tree_blocks.specs.Lengths.{lengths_of};
+ghost use Rattle.tree_blocks.specs.Pointers.{pointers_of};
 ghost use Rattle.uberblocks.specs.Slots.{fields_of};
 ghost use Rattle.import_replay.specs.Devices.{IsSizedFor};
 ghost use Rattle.import_replay.specs.NextPools.{HoldsLoaded, HoldsNextObjects, IsNextRefused, IsPlannedFrom, IsReplayedPool, MakesReadNext, TellsShortPlan, TellsShortTree, synced_with};
@@ -33,9 +33,10 @@ use group_plans::{GroupSource, plan_group};
 use intent_log::LoggedPiece;
 use labels::Geometry;
 use log_replay::{Replayed, replay};
-use object_maps::{BlockReader, Contents, Loaded, Tree};
+use object_maps::{BlockReader, Contents, Loaded};
 use space::FreeSet;
 use std::alloc::Global;
+use tree_blocks::Tree;
 use tree_plans::{PlannedBlock, TreePlan};
 use uberblocks::Uberblock;
 
@@ -213,8 +214,6 @@ fn with_plan(mut tree: Tree, planned: TreePlan) -> (Tree, Vec<PlannedBlock>)
         root,
         freed: _,
     } = planned;
-    tree.root = root;
-    tree.directories = directories;
-    tree.set_all(entries);
+    tree.lay(root, directories, entries);
     (tree, blocks)
 }

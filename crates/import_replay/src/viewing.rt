@@ -4,9 +4,9 @@
 //! import would apply stay in memory as changes, and a read lays them over the blocks that it reads. So a read has the
 //! bytes of the object in what the image mounts.
 
-ghost use Rattle.std.specs.Prelude.{◌≡◌, ◌<◌, ◌≤◌, ◌++◌, ◌∷◌, [], List, All, Err, Some, IsTrue, IfErr, IfOk, OnOk};
+ghost use Rattle.std.specs.Prelude.{◌≡◌, ◌<◌, ◌≤◌, ◌++◌, ◌∷◌, [], List, All, Err, Some, true, IsTrue, IfErr, IfOk, OnOk};
 ghost use Rattle.std.specs.FinMap as finite;
-ghost use Rattle.base.specs.crash.Mount.{MountsTo};
+ghost use Rattle.base.specs.tree.Mount.{MountsTo};
 ghost use Rattle.base.specs.declared.error.PoolError.TheVariants as error;
 ghost use Rattle.base.specs.declared.operation.Op.{Op as Operation};
 ghost use Rattle.base.specs.disk.Disk.{bytes_of};
@@ -26,10 +26,11 @@ use checked_blocks::Frame;
 use device_model::SectorDevice;
 use extents::UnsyncedExtents;
 use labels::Geometry;
-use object_maps::{BlockReader, Contents, ObjectSource, Tree};
+use object_maps::{BlockReader, Contents, ObjectSource};
 use object_reads::ShownTree;
 use std::alloc::{AllocError, Global};
 use transactions::Record;
+use tree_blocks::Tree;
 
 /// A pool as an import would mount it. It doesn't hold the device: each read is handed a `BlockReader`.
 #[derive(Debug, Drop)]
@@ -151,6 +152,8 @@ impl View {
         ensures absent { IfErr result (λ e. e ≡ error.NoObject
             → object_length (objects_seen self.now) object.0 ≡ None) }
         ensures outside { is_readable object.0 range ≡ false → result ≡ Err error.BadRange }
+        ensures missing { is_readable object.0 range ≡ true → object_length (objects_seen self.now) object.0 ≡ None
+            → result ≡ Err error.NoObject }
         ensures refused { IfErr result (IsViewRefusal object range) }
         ensures sound { IsTrue B.keeps_model → IsViewOf (bytes_of (B.disk reader.old).now) self.now
             → IfErr result (λ e. (kind address : ℕ) → e ≢ error.Damaged kind address) }

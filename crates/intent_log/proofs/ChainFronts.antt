@@ -8,6 +8,7 @@ use Rattle.base.specs.formats.Fields.{number_at, part}
 use Rattle.base.specs.formats.Geometry.{block_address, block_size}
 use Rattle.base.specs.formats.Blocks.{Frame}
 use Rattle.base.specs.formats.Chain.{Header, LogBlock, LogPiece, IsPiece, IsLogBlock, IsChain, AreLogBlocks, addresses_of, after_blocks, next_block, next_header}
+use Rattle.base.proofs.formats.Pieces.{after-number}
 
 module _ (image : List ℕ) (frame : Frame) (chain : ℕ) where
   -- these pieces follow one another from a header up to another
@@ -87,10 +88,6 @@ module _ (image : List ℕ) (frame : Frame) (chain : ℕ) where
   and_more header [] cs are more = more
   and_more header (b ∷ bs) cs (first, rest) more = (first, and_more (next_block header b) bs cs rest more)
 
-  number-after : (header : Header) (bs : List LogBlock) → (after_blocks header bs).number ≡ header.number + length bs
-  number-after header [] = omega arith
-  number-after header (b ∷ bs) = omega (arith, number-after (next_block header b) bs)
-
   -- the blocks of a front: each adds one to the number
   record HasBlocks (header end : Header) : Type 0 where
     pub blocks : List LogBlock
@@ -103,7 +100,7 @@ module _ (image : List ℕ) (frame : Frame) (chain : ℕ) where
       let later = blocks_of_front (next_header header b) bs end rest in
       let first = piece.blocks in
       let many : length first ≡ length (addresses_of b) = sym (length-map first (λ (x : LogBlock). x.address)) ∙ ap (λ (l : List ℕ). length l) piece.addresses in
-      let number = number-after header first in
+      let number = after-number header first in
       let next : after_blocks header first ≡ next_header header b = λ i. record { address = piece.next_is i; number = (number ∙ ap (λ (n : ℕ). header.number + n) many) i } in
       let counted = later.counted in
       record {

@@ -6,6 +6,7 @@ use Rattle.std.proofs.lemmas.Bool.{le-ltb}
 use Rattle.std.proofs.lemmas.Bool.Decides.{nat_tests}
 use Rattle.std.proofs.lemmas.List.{append-nil, take_all, drop_all, take-append-drop, map-append}
 use Rattle.std.proofs.lemmas.List.Folds.{list_any-append}
+use Rattle.std.proofs.Math.Bool.{or-false}
 use Rattle.base.specs.declared.names.Receipt.{Receipt}
 use Rattle.base.specs.formats.Chain.{Header}
 use Rattle.base.specs.steps.Logs.{Committed, KeptBlock, begins_unfinished, begun_committed, blocks_before, has_record, header_at, is_needed, is_same, committed_of}
@@ -178,14 +179,10 @@ none_flushed : (r : Receipt) (bs : List code.KeptBlock) → list_any (is_in_flus
 none_flushed r [] = refl
 none_flushed r (b ∷ bs) = none_flushed r bs
 
-or_false : (x : Bool) → (x || false) ≡ x
-or_false true = refl
-or_false false = refl
-
 pub flushed_has : (r : Receipt) (f : ℕ) (bs : List code.KeptBlock) → list_any (has_receipt r) (take f bs) ≡ list_any (is_in_flushed r) (shown_blocks f bs)
 flushed_has r f bs =
     sym (list_any-append (is_in_flushed r) (map (shown_block true) (take f bs)) (map (shown_block false) (drop f bs))
-    ∙ (λ i. any_flushed r (take f bs) i || none_flushed r (drop f bs) i) ∙ or_false (list_any (has_receipt r) (take f bs)))
+    ∙ (λ i. any_flushed r (take f bs) i || none_flushed r (drop f bs) i) ∙ or-false (list_any (has_receipt r) (take f bs)))
 
 -- contracts see as many blocks as there are, with numbers up to the next one
 length-shown : (f : ℕ) (bs : List code.KeptBlock) → length (shown_blocks f bs) ≡ length bs

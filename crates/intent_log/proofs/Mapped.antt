@@ -1,11 +1,8 @@
 -- Searches of a list whose elements are seen by a function.
-use Rattle.std.proofs.Common.{◌≡◌, Bool, true, false, cond, ◌||◌, ◌&&◌, List, [], ◌∷◌, map, filter, refl, ap}
+use Rattle.std.proofs.Common.{◌≡◌, Bool, true, false, cond, ◌&&◌, List, [], ◌∷◌, map, filter, refl, ap}
 use Rattle.std.specs.Prelude.{Some, option_map}
-use Rattle.std.specs.List.{list_any, list_all, find}
-
-pub list_any-map : {X Y : Type 0} (p : Y → Bool) (f : X → Y) (xs : List X) → list_any p (map f xs) ≡ list_any (λ x. p (f x)) xs
-list_any-map p f [] = refl
-list_any-map p f (x ∷ xs) = ap (λ b. p (f x) || b) (list_any-map p f xs)
+use Rattle.std.specs.List.{list_all, find}
+use Rattle.base.proofs.common.KeptLists.{any_map}
 
 pub list_all-map : {X Y : Type 0} (p : Y → Bool) (f : X → Y) (xs : List X) → list_all p (map f xs) ≡ list_all (λ x. p (f x)) xs
 list_all-map p f [] = refl
@@ -27,4 +24,4 @@ filter-map {X} {Y} p f (x ∷ xs) = go (p (f x)) (filter-map p f xs)
     go true h = ap (λ l. f x ∷ l) h
     go false h = h
 
-pub ruleset mapped = (list_any-map, list_all-map, find-map, filter-map)
+pub ruleset mapped = (any_map, list_all-map, find-map, filter-map)

@@ -4,6 +4,7 @@ use Rattle.std.specs.List.{list_any, slice_range}
 use Rattle.std.proofs.lemmas.Bool.{cases_lt}
 use Rattle.std.proofs.lemmas.List.{get_or_append_left, get_or_default, get_or_push}
 use Rattle.std.proofs.lemmas.List.Folds.{list_any-append, list_any_more, list_any_none}
+use Rattle.std.proofs.Math.Bool.{or-true, or-false}
 use Rattle.base.specs.declared.names.Receipt.{Receipt}
 use Rattle.intent_log.specs.Kept.{AreRising, ReachBelow, ReachUpTo}
 use Rattle.intent_log.specs.Receipts.{ends_of}
@@ -73,23 +74,15 @@ newest_of r last flushed newest bs next within at =
     ∙ list_any_more (has_receipt r) bs last newest (omega (arith, next, within))
     ∙ ap (λ (b : code.KeptBlock). list_any (has_receipt r) (take last bs) || has_receipt r b) (sym at)
 
-or_true : (x : Bool) → (x || true) ≡ true
-or_true true = refl
-or_true false = refl
-
-or_false : (x : Bool) → (x || false) ≡ x
-or_false true = refl
-or_false false = refl
-
 pub newest_has : (r : Receipt) (last flushed : ℕ) (newest : code.KeptBlock) (bs : List code.KeptBlock) → last + 1 ≡ flushed → flushed ≤ length bs → newest ≡ get_or bs last newest
     → has_receipt r newest ≡ true → list_any (has_receipt r) (take flushed bs) ≡ true
 newest_has r last flushed newest bs next within at has =
-    newest_of r last flushed newest bs next within at ∙ ap (λ (x : Bool). list_any (has_receipt r) (take last bs) || x) has ∙ or_true (list_any (has_receipt r) (take last bs))
+    newest_of r last flushed newest bs next within at ∙ ap (λ (x : Bool). list_any (has_receipt r) (take last bs) || x) has ∙ or-true (list_any (has_receipt r) (take last bs))
 
 pub newest_has_not : (r : Receipt) (last flushed : ℕ) (newest : code.KeptBlock) (bs : List code.KeptBlock) → last + 1 ≡ flushed → flushed ≤ length bs → newest ≡ get_or bs last newest
     → has_receipt r newest ≡ false → list_any (has_receipt r) (take flushed bs) ≡ list_any (has_receipt r) (take last bs)
 newest_has_not r last flushed newest bs next within at other =
-    newest_of r last flushed newest bs next within at ∙ ap (λ (x : Bool). list_any (has_receipt r) (take last bs) || x) other ∙ or_false (list_any (has_receipt r) (take last bs))
+    newest_of r last flushed newest bs next within at ∙ ap (λ (x : Bool). list_any (has_receipt r) (take last bs) || x) other ∙ or-false (list_any (has_receipt r) (take last bs))
 
 -- the blocks behind the first one
 pub rises_behind : (b : code.KeptBlock) (bs : List code.KeptBlock) → AreRising (b ∷ bs) → AreRising bs

@@ -11,12 +11,12 @@ use Rattle.std.proofs.lemmas.Grind.{flat_map-append}
 use Rattle.std.proofs.lemmas.List.{append-nil, map-append}
 use Rattle.std.proofs.lemmas.List.Elements.{All-drop, All-map, All-nil, All-push, All-take, All-weaker, filter-append}
 use Rattle.std.proofs.lemmas.List.Folds.{flat_map-map, list_any-append}
-use Rattle.base.specs.crash.Layout.{kept_from}
-use Rattle.base.specs.crash.LogSteps.{IsHeaderIn}
+use Rattle.base.specs.kept.Layout.{kept_from}
+use Rattle.base.specs.kept.LogSteps.{IsHeaderIn}
 use Rattle.base.specs.formats.Chain.{Header}
 use Rattle.base.specs.formats.Records.{Record}
 use Rattle.base.specs.steps.Logs.{AreBalanced, Begun, Committed, IsTaken, KeptBlock, Log, Taken, begins_record, begun_committed, committed_above, committed_in, committed_of, header_for, is_begun_in, is_same, log_after_commit, log_after_flush, log_after_sync, log_after_write, reaches_above}
-use Rattle.base.proofs.common.KeptLists.{All-each, at_filter}
+use Rattle.base.proofs.common.KeptLists.{All-each, at_filter, any_map}
 use Rattle.base.proofs.common.Sieves.{filter_all}
 use Rattle.base.proofs.crash.LogHeaders.{header_for-in, header_in-flush, header_in-write, kept_block, kept_from-flush}
 use Rattle.base.proofs.history.LogOrder.{above_again, dropped, filter-noted}
@@ -24,7 +24,6 @@ use Rattle.base.proofs.steps.BegunLogs.{writes_keep_balance, writes_keep_balance
 use Rattle.base.proofs.steps.KeptFlushes.{flushed_balanced}
 use Rattle.base.proofs.steps.KeptSyncs.{AreNumbered, header_balanced, header_first}
 use Rattle.intent_log.specs.RunLogs.{IsLogOf, KeepsHeader, is_unsynced_in}
-use Rattle.intent_log.proofs.Mapped.{list_any-map}
 
 -- the log of a run that begins
 pub first_log : (synced : ℕ) (next : Header) → IsLogOf synced (record { unsynced = []; begun = None; pending = []; kept = []; next = next })
@@ -206,7 +205,7 @@ unsynced_named synced c log above x =
     (λ k. same log.pending k || (in-blocks c log.kept ∙ among_above synced c (committed_in log) above) k)
     ∙ or-swap (list_any (is_same c) (map committed_of log.pending)) (list_any (is_same c) (committed_above synced (committed_in log)))
     ∙ sym (list_any-append (is_same c) (committed_above synced (committed_in log)) (map committed_of log.pending))
-    ∙ ap (list_any (is_same c)) (sym x.in_order) ∙ list_any-map (is_same c) committed_of log.unsynced
+    ∙ ap (list_any (is_same c)) (sym x.in_order) ∙ any_map (is_same c) committed_of log.unsynced
   where
     same : (rs : List Record) → list_any (λ (r : Record). (r.ordinal == c.ordinal) && (r.group == c.group)) rs ≡ list_any (is_same c) (map committed_of rs)
     same [] = refl

@@ -1,7 +1,7 @@
 -- What is true of the log of a run, and stays so from call to call.
 use Rattle.std.specs.Prelude.{ℕ, ◌≡◌, ◌<◌, ◌++◌, false, All, Bool, List, None, filter, map, nat_le, nat_lt}
 use Rattle.std.specs.List.{list_any}
-use Rattle.base.specs.crash.LogSteps.{IsHeaderIn}
+use Rattle.base.specs.kept.LogSteps.{IsHeaderIn}
 use Rattle.base.specs.formats.Chain.{Header}
 use Rattle.base.specs.formats.Records.{Record}
 use Rattle.base.specs.steps.Logs.{AreBalanced, Committed, KeptBlock, Log, begun_committed, committed_above, committed_in, committed_of, is_same, reaches_above}

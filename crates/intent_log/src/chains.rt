@@ -16,6 +16,7 @@ ghost use Rattle.std.specs.Prelude.{◌≡◌, ◌↔◌, ◌≤◌, ◌<◌, �
 ghost use Rattle.std.specs.List.{list_all};
 ghost use Rattle.base.specs.disk.Disk.{bytes_of};
 ghost use Rattle.base.specs.formats.Geometry.{block_address};
+ghost use Rattle.base.specs.formats.Limits.{last_number};
 ghost use Rattle.base.specs.formats.Records.{is_one_level_op};
 ghost use Rattle.device_model.specs.Reading.{OnlyReads};
 ghost use Rattle.transactions.specs.Records.{record_fields};
@@ -118,7 +119,7 @@ pub fn chain<D: SectorDevice>(
     header: &ChainHeader,
 ) -> Result<Vec<LoggedPiece>, PoolError>
     requires fits { block_address frame.now.blocks ≤ D.size device.old }
-    requires number { header.now.number ≤ 2 ^ 60 }
+    requires number { header.now.number ≤ last_number }
     ensures reads { OnlyReads D.SectorDevice result device.old device.new }
     ensures cause { IfErr result IsChainRefusal }
     ensures chain { IsTrue D.keeps_model → IfOk result

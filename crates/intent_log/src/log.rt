@@ -170,6 +170,7 @@ impl Log {
     pub fn pack_next(&self, alloc: Global, place: &NewBlock) -> Result<NextLogBlock, PoolError>
         requires { ((length self.now.pending == 0) && is_none self.now.begun) ≡ false }
         ensures packs { IfOk result (IsNextBlock place.now self.now) }
+        ensures part { is_none self.now.begun ≡ false → IsOk result }
         ensures refused { IfErr result (λ e. e ≡ PoolError.NoMemory) }
     {
         if let Some(begun) = &self.begun {

@@ -4,7 +4,7 @@ ghost use Rattle.std.specs.Prelude.{◌≡◌, ◌≤◌, IfErr, IfOk, IfSome, I
 ghost use Rattle.base.specs.disk.Disk.{bytes_of};
 ghost use Rattle.base.specs.formats.Chain.{IsLogPayload};
 ghost use Rattle.base.specs.formats.Geometry.{block_address};
-ghost use Rattle.base.specs.formats.Limits.{log_block_room};
+ghost use Rattle.base.specs.formats.Limits.{log_block_room, payload_size};
 ghost use Rattle.device_model.specs.Reading.{OnlyReads};
 ghost use Rattle.intent_log.specs.Chains.{HasNoBlock, HasNoPayload, IsBlockAt, IsChainRefusal, IsLogExpected, IsSoundBlock};
 
@@ -79,7 +79,7 @@ fn read_payload(
     header: &ChainHeader,
     payload: &[u8],
 ) -> Result<Option<LogBlock>, PoolError>
-    requires { length payload.now ≡ 4032 }
+    requires { length payload.now ≡ payload_size }
     ensures read { IfOk result (λ found. IfSome found
         (IsLogPayload payload.now header.now.import_number)) }
     ensures none { IfOk result (λ found. IfNone found

@@ -5,7 +5,7 @@
 //! A record whose group is synced before that is never encoded.
 
 ghost use Rattle.std.specs.Prelude.{◌≡◌, ◌<◌, ◌≤◌, ◌+◌, ◌^◌, All, IfErr, IfOk, length, map, take};
-ghost use Rattle.base.specs.formats.Limits.{log_block_room};
+ghost use Rattle.base.specs.formats.Limits.{log_block_room, payload_size};
 ghost use Rattle.base.specs.formats.Records.{IsAllowed, bytes_of_record, size_of};
 ghost use Rattle.transactions.specs.Records.{record_fields};
 ghost use Rattle.intent_log.specs.Packing.{HoldsBytes, HoldsUsed, IsEncoded, IsFirstPart, IsPackedAs, log_bytes};
@@ -144,7 +144,7 @@ fn encode_front(alloc: Global, pending: &[Record]) -> Result<Encoded, PoolError>
 
 // The block that holds these bytes of records.
 fn seal_records(place: &NewBlock, records: &[u8]) -> Block
-    requires { length records.now ≤ 4008 }
+    requires { length records.now ≤ log_block_room }
     ensures { HoldsBytes place.now result records.now }
 {
     let payload = payload_of(place.header.import_number, place.next, records);
@@ -160,7 +160,7 @@ fn seal_records(place: &NewBlock, records: &[u8]) -> Block
 
 // Chain number, next address, used length and the records, and then zeros.
 fn payload_of(chain: u64, next: u64, records: &[u8]) -> [u8; PAYLOAD_SIZE]
-    requires { length records.now ≤ 4008 }
+    requires { length records.now ≤ log_block_room }
     ensures payload { take (24 + length records.now) result ≡ log_bytes chain next records.now }
     ensures chain_fits { chain < 2 ^ 64 }
     ensures next_fits { next < 2 ^ 64 }
@@ -174,7 +174,7 @@ fn payload_of(chain: u64, next: u64, records: &[u8]) -> [u8; PAYLOAD_SIZE]
 }
 
 fn zero_payload() -> [u8; PAYLOAD_SIZE]
-    ensures { length result ≡ 4032 }
+    ensures { length result ≡ payload_size }
 {
     [0; PAYLOAD_SIZE]
 }

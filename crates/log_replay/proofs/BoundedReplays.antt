@@ -4,7 +4,7 @@ use Rattle.std.specs.Prelude.{All, nat_lt}
 use Rattle.std.specs.List.{list_all}
 use Rattle.std.proofs.lemmas.Bool.{and_parts}
 use Rattle.std.proofs.lemmas.List.Elements.{All-append, All-filter, All-head, All-map, All-nil, All-tail}
-use Rattle.base.specs.crash.Mount.{Placed, apply_records, entry_of_record, placed_records, records_above}
+use Rattle.base.specs.tree.Mount.{Placed, apply_records, entry_of_record, placed_records, records_above}
 use Rattle.base.specs.formats.Chain.{LogPiece}
 use Rattle.base.specs.formats.Records as formats
 use Rattle.base.specs.formats.Records.{IsAllowed}

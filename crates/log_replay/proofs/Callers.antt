@@ -4,13 +4,13 @@ use Rattle.std.specs.Prelude.{Result, option_map, unwrap_or}
 use Rattle.std.specs.FinMap as finite
 use Rattle.base.specs.declared.error.PoolError.{PoolError}
 use Rattle.base.specs.declared.error.PoolError.TheVariants.{Damaged, Exists, NoMemory}
-use Rattle.base.specs.crash.Mount.{apply_records, records_above}
+use Rattle.base.specs.tree.Mount.{apply_records, records_above}
 use Rattle.base.specs.history.Contents.{Contents, with_object}
 use Rattle.base.proofs.history.Objects.{get-stored_same}
 use Rattle.extents.specs.Patches.{laid_over}
 use Rattle.extents.specs.Synced.{patched_contents}
 use Rattle.extents.specs.Tables.{name_of, patches_of}
-use Rattle.object_maps.specs.Lengths.{lengths_of}
+use Rattle.tree_blocks.specs.Lengths.{lengths_of}
 use Rattle.log_replay.specs.declared.outline.Outline.{Outline}
 use Rattle.log_replay.specs.declared.replaying.Replayed.{Replayed}
 use Rattle.log_replay.specs.Outlines.{IsOutlineOf, ReplaysOutline}

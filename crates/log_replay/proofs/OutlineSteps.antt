@@ -19,7 +19,8 @@ use Rattle.base.specs.steps.Exact.{IsBounded}
 use Rattle.base.proofs.common.Sequences.{joined}
 use Rattle.base.proofs.history.KeptContents.{operations_keep}
 use Rattle.base.proofs.history.Objects.{get-stored_other, get-stored_same, reach}
-use Rattle.object_maps.specs.Lengths.{lengths_of}
+use Rattle.base.proofs.history.Writes.{length-resize}
+use Rattle.tree_blocks.specs.Lengths.{lengths_of}
 use Rattle.transactions.specs.Records.{is_op_allowed}
 use Rattle.log_replay.specs.Outlines.{LeadsOutline}
 use Rattle.log_replay.specs.declared.outline.Outline.{Outline}
@@ -61,9 +62,6 @@ module _ (op : Op) (id : ObjectId) (f : List ℕ → List ℕ) (is : (c : Conten
       by : (o : Option (List ℕ)) → lengths_of old.tree id.0 ≡ option_map length o → (p : Option (List ℕ)) × (changed f o ≡ Ok p) × (lengths_of new.tree id.0 ≡ option_map length p)
       by None e = absurd (let no : Some size ≡ None = sym there ∙ e in cc)
       by (Some bytes) e = let same : length bytes ≡ size = (let s : Some size ≡ Some (length bytes) = sym there ∙ e in cc) in (Some (f bytes), refl, long bytes same)
-
-length-resize : (n : ℕ) (bytes : List ℕ) → length (resize n bytes) ≡ n
-length-resize n bytes = grind (arith, common_steps)
 
 length-write : (offset : ℕ) (new bytes : List ℕ) → length (bytes_after_write offset new bytes) ≡ max (length bytes) (offset + length new)
 length-write offset new bytes = grind (arith, common_steps)

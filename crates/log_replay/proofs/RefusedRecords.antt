@@ -3,7 +3,7 @@ use Rattle.std.proofs.Common.{◌≡◌, ℕ, List, [], ◌∷◌, ◌++◌, map
 use Rattle.std.specs.Prelude.{Result}
 use Rattle.std.proofs.lemmas.List.{map-append}
 use Rattle.base.specs.declared.error.PoolError.{PoolError}
-use Rattle.base.specs.crash.Mount.{Placed, apply_records, entry_of_record}
+use Rattle.base.specs.tree.Mount.{Placed, apply_records, entry_of_record}
 use Rattle.base.specs.history.Contents.{Contents}
 use Rattle.base.specs.history.History.{Entry, apply_all, run}
 use Rattle.base.specs.history.Sequences.{and_then, in_turn}

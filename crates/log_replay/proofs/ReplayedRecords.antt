@@ -5,7 +5,7 @@ use Rattle.std.proofs.lemmas.Grind.{flat_map-append}
 use Rattle.std.proofs.lemmas.List.{map-append}
 use Rattle.std.proofs.lemmas.List.Elements.{All-nil, All-push}
 use Rattle.base.specs.declared.error.PoolError.{PoolError}
-use Rattle.base.specs.crash.Mount.{Placed, apply_records, entry_of_record}
+use Rattle.base.specs.tree.Mount.{Placed, apply_records, entry_of_record}
 use Rattle.base.specs.formats.Records as formats
 use Rattle.base.specs.history.Contents.{Contents}
 use Rattle.base.specs.history.History.{Entry, apply_all, run}

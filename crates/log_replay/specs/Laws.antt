@@ -1,6 +1,6 @@
 -- What holds of each replay of a chain.
 use Rattle.std.specs.Prelude.{ℕ, ◌≡◌, List, Ok}
-use Rattle.base.specs.crash.Mount.{Placed, apply_records, records_above}
+use Rattle.base.specs.tree.Mount.{Placed, apply_records, records_above}
 use Rattle.base.specs.formats.Chain.{LogPiece}
 use Rattle.base.specs.history.Contents.{Contents}
 use Rattle.base.specs.steps.Exact.{IsBounded}

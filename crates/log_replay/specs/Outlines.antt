@@ -1,12 +1,12 @@
 -- What is known of a pool's contents without the bytes of its objects, which is their name and the length of each
 -- object, and what the records of a chain make of it.
 use Rattle.std.specs.Prelude.{ℕ, ◌≡◌, List, length, min, Result, Ok, Err}
-use Rattle.base.specs.crash.Mount.{Placed, apply_records}
+use Rattle.base.specs.tree.Mount.{Placed, apply_records}
 use Rattle.base.specs.declared.error.PoolError.{PoolError}
 use Rattle.base.specs.declared.error.PoolError.TheVariants.{Damaged}
 use Rattle.base.specs.history.Contents.{Contents}
 use Rattle.base.specs.steps.Exact.{IsBounded}
-use Rattle.object_maps.specs.Lengths.{HasLengthsOf}
+use Rattle.tree_blocks.specs.Lengths.{HasLengthsOf}
 use Rattle.log_replay.specs.declared.outline.Outline.{Outline}
 use Rattle.log_replay.specs.Replays.{IsRecordRefused}
 

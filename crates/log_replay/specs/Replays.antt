@@ -5,7 +5,7 @@ use Rattle.std.specs.List.{flat_map}
 use Rattle.base.specs.declared.error.PoolError.{PoolError}
 use Rattle.base.specs.declared.error.PoolError.TheVariants.{Damaged, NoMemory}
 use Rattle.base.specs.declared.operation.Op.{Op}
-use Rattle.base.specs.crash.Mount.{Placed, apply_records, records_above}
+use Rattle.base.specs.tree.Mount.{Placed, apply_records, records_above}
 use Rattle.base.specs.formats.Chain.{LogPiece}
 use Rattle.base.specs.formats.Records as formats
 use Rattle.base.specs.formats.Records.{IsAllowed}

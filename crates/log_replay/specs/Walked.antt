@@ -1,6 +1,6 @@
 -- How far a replay has come in the records of a chain.
 use Rattle.std.specs.Prelude.{ℕ, ◌≡◌, ◌++◌, List, [], ◌∷◌, All, filter, map, nat_lt}
-use Rattle.base.specs.crash.Mount.{Placed, records_above}
+use Rattle.base.specs.tree.Mount.{Placed, records_above}
 use Rattle.base.specs.formats.Chain.{LogPiece}
 use Rattle.base.specs.formats.Records.{IsAllowed}
 use Rattle.base.specs.history.Contents.{Contents}

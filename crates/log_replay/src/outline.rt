@@ -6,8 +6,8 @@
 
 use base::{Group, ObjectId, Op, PoolError, PoolName};
 use intent_log::LoggedPiece;
-use object_maps::Tree;
 use transactions::Record;
+use tree_blocks::Tree;
 
 /// The name of a pool, and a tree that has the length of each of its objects.
 #[derive(Debug, Drop)]
@@ -20,12 +20,12 @@ pub struct Outline {
 
 impl Outline {
     ghost use Rattle.std.specs.Prelude.{◌≡◌, ◌≢◌, ◌<◌, ◌∷◌, [], ℕ, All, true};
-    ghost use Rattle.base.specs.crash.Mount.{records_above};
+    ghost use Rattle.base.specs.tree.Mount.{records_above};
     ghost use Rattle.base.specs.formats.Limits.{object_count};
     ghost use Rattle.base.specs.formats.Records.{IsAllowed};
     ghost use Rattle.base.specs.history.Contents.{apply};
     ghost use Rattle.base.specs.history.History.{apply_all};
-    ghost use Rattle.object_maps.specs.Lengths.{lengths_of};
+    ghost use Rattle.tree_blocks.specs.Lengths.{lengths_of};
     ghost use Rattle.transactions.specs.Records.{is_op_allowed, record_fields};
     ghost use Rattle.log_replay.specs.Outlines.{LeadsOutline, ReplaysOutline};
     ghost use Rattle.log_replay.specs.Replays.{IsPieceAllowed, IsChainAllowed};

@@ -1,7 +1,7 @@
 //! The records of a chain, applied to the contents that the tree of the active group holds.
 
 ghost use Rattle.std.specs.Prelude.{ℕ, ◌≡◌, ◌≤◌, ◌++◌, ◌∷◌, [], List, IfErr, IfOk, IsErr, OnOk};
-ghost use Rattle.base.specs.crash.Mount.{Placed, records_above};
+ghost use Rattle.base.specs.tree.Mount.{Placed, records_above};
 ghost use Rattle.base.specs.formats.Limits.{last_number};
 ghost use Rattle.extents.specs.Patches.{laid_over};
 ghost use Rattle.extents.specs.Tables.{AppliesOps, patches_of};

@@ -3,8 +3,7 @@ use Rattle.std.proofs.Common.{◌≡◌, ℕ, zero, suc, ◌+◌, ◌<◌, ◌�
 use Rattle.std.specs.Prelude.{All, IfOk, IsTrue, Result, Ok, Err, nat_lt, ◌==◌, if◌then◌else◌}
 use Rattle.std.specs.List.{list_any}
 use Rattle.std.specs.Option.{option_map_or}
-use Rattle.std.specs.Ordering.{nat_cmp, eq_by_cmp}
-use Rattle.std.specs.Cmp.{unsigned_tied, nat_eq_equiv}
+use Rattle.std.specs.Ordering.{nat_cmp}
 use Rattle.std.specs.FinSet as set
 use Rattle.std.specs.FinSet.{FinSet, contains-remove}
 use Rattle.std.proofs.Math.ListN.{set as list_set}
@@ -20,13 +19,14 @@ use Rattle.base.specs.formats.Limits.{object_count, one_level_length, pointer_co
 use Rattle.base.specs.tree.Places.{Place, IsPlace, object_of_indirect, strip_number, strip_of}
 use Rattle.base.specs.tree.Places.Place.{Root, Directory, Top, Indirect, Data}
 use Rattle.base.proofs.tree.Strips.{number-object, number-strip, strip-low, strip-object, strip-which}
-use Rattle.object_maps.specs.declared.tree.ObjectEntry.{ObjectEntry}
-use Rattle.object_maps.specs.declared.tree.Tree.{Tree}
-use Rattle.object_maps.specs.EmptyEntries.{IsEmptyEntry}
+use Rattle.base.proofs.stored.StoredSets.{tied}
+use Rattle.tree_blocks.specs.declared.tree.ObjectEntry.{ObjectEntry}
+use Rattle.tree_blocks.specs.declared.tree.Tree.{Tree}
+use Rattle.tree_blocks.specs.EmptyEntries.{IsEmptyEntry}
 use Rattle.object_maps.specs.FreeBlocks.{AreFreeBut, AreMarked, AreUnnamed, BlocksTaken, Names, ObjectNames, StripNames, TakesNamed, is_block_at, names_block}
-use Rattle.object_maps.specs.Pointers.{ObjectPointers, no_pointers, object_pointers, pointer_of_list, pointers_by, pointers_of_entry, short_pointers}
-use Rattle.object_maps.proofs.ToldStrips.{entry-short}
-use Rattle.object_maps.proofs.SetEntries.{entry-set_same, entry-set_other}
+use Rattle.tree_blocks.specs.Pointers.{ObjectPointers, no_pointers, object_pointers, pointer_of_list, pointers_by, pointers_of_entry, short_pointers}
+use Rattle.tree_blocks.proofs.ToldStrips.{entry-short}
+use Rattle.tree_blocks.proofs.SetEntries.{entry-set_same, entry-set_other}
 use Rattle.space.specs.FreeSets.{AreBlockAddresses, FreeSpace, HasAllOf, IsIdle, after_take, is_free}
 
 -- two takes one after another
@@ -54,9 +54,6 @@ pub taken_more : {A : Type 0} (p : ℕ → A → Bool) (xs : List A) (i : ℕ) (
 taken_more p xs i x old mid new low is first second =
     taken_same _ _ old new (λ k. sym (list_any_more (p k) xs i x low ∙ ap (λ y. list_any (p k) (take i xs) || p k y) (sym is)))
     (taken_twice (λ j. list_any (p j) (take i xs)) (λ j. p j x) old mid new first second)
-
-tied : (q k : ℕ) → eq_by_cmp nat_cmp q k ≡ nat_eq k q
-tied q k = unsigned_tied q k ∙ nat_eq_equiv.symm q k
 
 pub contains-without : (numbers : FinSet nat_cmp) (n q : ℕ) → set.contains (set.remove numbers n) q ≡ (not (nat_eq n q) && set.contains numbers q)
 contains-without numbers n q = contains-remove nat_cmp_total numbers n q ∙ ap (λ (b : Bool). not b && set.contains numbers q) (tied q n)

@@ -10,7 +10,7 @@ use Rattle.base.specs.declared.error.PoolError.TheVariants.{Damaged, NoMemory, R
 use Rattle.base.specs.formats.Fields.{number_at, entry_in, entry_length, entry_present, no_pointer}
 use Rattle.base.specs.formats.Blocks.{Frame, payload_at}
 use Rattle.base.specs.tree.Damages.{IsFirstDamage, IsSoundAt}
-use Rattle.base.specs.tree.PlacedTrees.{HoldsTree, padded_record}
+use Rattle.base.specs.kept.PlacedTrees.{HoldsTree, padded_record}
 use Rattle.base.specs.tree.Places.{Place, IsPlace, directory_pointer, kind_of, pointer_of, walk_index_of}
 use Rattle.base.specs.tree.Places.Place.{Root, Directory, Top, Indirect, Data}
 use Rattle.base.specs.tree.Tree.{IsEntry, IsRecord, IsTree}

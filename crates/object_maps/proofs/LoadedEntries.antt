@@ -1,13 +1,13 @@
 -- Objects of directories as they are loaded, one after another.
-use Rattle.std.proofs.Common.{◌≡◌, ℕ, ◌+◌, ◌*◌, ◌<◌, ◌≤◌, ◌≢◌, Bool, true, false, List, length, replicate, get_or, refl, ap, sym, subst, ◌∙◌, arith, ◌⊎◌, inl, inr, Some, None}
-use Rattle.std.specs.Prelude.{IsTrue, Option, slice_get, nat_lt}
+use Rattle.std.proofs.Common.{◌≡◌, ℕ, ◌+◌, ◌*◌, ◌<◌, ◌≤◌, ◌≢◌, Bool, List, length, replicate, get_or, refl, ap, sym, subst, ◌∙◌, arith, ◌⊎◌, inl, inr, Some, None}
+use Rattle.std.specs.Prelude.{IsTrue, Option, slice_get}
 use Rattle.std.specs.Option.{option_map_or}
 use Rattle.std.specs.Ordering.{nat_cmp}
 use Rattle.std.specs.FinMap as finite
 use Rattle.std.specs.FinMap.{FinMap}
 use Rattle.std.proofs.Math.ListN.{set}
 use Rattle.std.proofs.lemmas.List.{get_or_default}
-use Rattle.std.proofs.lemmas.Bool.{cases_eq, lt-ltb, le-ltb}
+use Rattle.std.proofs.lemmas.Bool.{cases_eq}
 use Rattle.base.specs.declared.pointer.Pointer.{Pointer}
 use Rattle.base.specs.formats.Limits.{entry_count, max_length, one_level_length}
 use Rattle.base.specs.formats.Fields.{entry_in, entry_present, entry_length, entry_pointer, no_pointer}
@@ -15,23 +15,17 @@ use Rattle.base.specs.formats.Geometry.{IsBlockAddress}
 use Rattle.base.specs.formats.Blocks.{Frame}
 use Rattle.base.specs.tree.Places.Place.{Directory}
 use Rattle.base.specs.tree.Tree.{OpensAt}
-use Rattle.base.specs.tree.PlacedTrees.{IsEntryFor}
-use Rattle.object_maps.specs.declared.forms.Entry.{Entry}
-use Rattle.object_maps.specs.declared.tree.ObjectEntry.{ObjectEntry}
-use Rattle.object_maps.specs.Loaders.{IsEntryOf, IsObjectOf}
-use Rattle.object_maps.specs.Pointers.{ObjectPointers, is_long_entry, no_pointers, object_pointers, pointer_of_list, pointers_of_entry}
+use Rattle.base.specs.kept.PlacedTrees.{IsEntryFor}
+use Rattle.tree_blocks.specs.declared.forms.Entry.{Entry}
+use Rattle.tree_blocks.specs.declared.tree.ObjectEntry.{ObjectEntry}
+use Rattle.object_maps.specs.Loaders.{IsObjectOf}
+use Rattle.tree_blocks.specs.Forms.{IsEntryOf}
+use Rattle.tree_blocks.specs.Pointers.{ObjectPointers, no_pointers, object_pointers, pointer_of_list, pointers_of_entry}
 use Rattle.object_maps.specs.Loading.{IsLoadedObject, IsLoadedAt, IsEntryAt, IsEmptyAt, AreEmptyFrom, DirectoryStands, SameBut, AreLoadedEntries, IsLoadedDirectory, LoadsDirectory, AreLoadedDirectories}
 use Rattle.base.proofs.history.Objects.{get-stored_same, get-stored_other}
 use Rattle.object_maps.proofs.LoadedObjects.{none_loaded}
-use Rattle.object_maps.proofs.SetEntries.{entry-set_same, entry-set_other}
-use Rattle.object_maps.proofs.ToldStrips.{entry-long, entry-short}
-
--- whether an entry is that of an object of two levels is told by its length
-pub long-by_length : (m : ObjectEntry) (size : ℕ) → m.length ≡ Some size → one_level_length < size → is_long_entry m ≡ true
-long-by_length m size is long = ap (λ (o : Option ℕ). option_map_or (λ (s : ℕ). nat_lt one_level_length s) o false) is ∙ lt-ltb one_level_length size long
-
-pub short-by_length : (m : ObjectEntry) (size : ℕ) → m.length ≡ Some size → size ≤ one_level_length → is_long_entry m ≡ false
-short-by_length m size is short = ap (λ (o : Option ℕ). option_map_or (λ (s : ℕ). nat_lt one_level_length s) o false) is ∙ le-ltb one_level_length size short
+use Rattle.tree_blocks.proofs.SetEntries.{entry-set_same, entry-set_other}
+use Rattle.tree_blocks.proofs.ToldStrips.{entry-long, entry-short, long-by_length, short-by_length}
 
 -- the entry of an object that is kept is what its directory has of it
 pub entry_for : (frame : Frame) (entry : List ℕ) (e : Entry) (bytes : List ℕ) (m : ObjectEntry) → e.present ≡ entry_present entry → e.length ≡ entry_length entry → e.pointer ≡ entry_pointer entry

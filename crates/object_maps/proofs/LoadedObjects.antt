@@ -10,10 +10,10 @@ use Rattle.base.specs.formats.Blocks.{Frame}
 use Rattle.base.specs.tree.Places.{record_number, strip_number}
 use Rattle.base.specs.tree.Places.Place.{Top, Indirect}
 use Rattle.base.specs.tree.Tree.{IsRecord, OpensAt}
-use Rattle.base.specs.tree.PlacedTrees.{IsPlaced, NeedsNoTop}
+use Rattle.base.specs.kept.PlacedTrees.{IsPlaced, NeedsNoTop}
 use Rattle.base.proofs.tree.Strips.{first-strip, later-record, strip-which}
-use Rattle.object_maps.specs.Pointers.{ObjectPointers, long_pointers, no_pointers, short_pointers, strip_in, told_record}
-use Rattle.object_maps.specs.Loaders.{AreStripForms}
+use Rattle.tree_blocks.specs.Pointers.{ObjectPointers, long_pointers, no_pointers, short_pointers, strip_in, told_record}
+use Rattle.tree_blocks.specs.Forms.{AreStripForms}
 use Rattle.object_maps.specs.Loading.{AreLoadedLevels, AreLoadedStrips, HasZeroRecord, IndirectStands, IsLoadedObject, IsLoadedStrip, IsObjectContent, LevelsStand, TopStands}
 use Rattle.object_maps.proofs.LoadedRecords.{past_zeros, strip_hole}
 

@@ -1,10 +1,10 @@
 -- Records of an object as they are loaded, strip by strip.
-use Rattle.std.proofs.Common.{◌≡◌, ℕ, zero, suc, ◌+◌, ◌-◌, ◌*◌, ◌<◌, ◌≤◌, ◌≢◌, min, Bool, true, false, ◌&&◌, List, [], ◌∷◌, ◌++◌, length, take, drop, replicate, get_or, refl, ap, sym, subst, ◌∙◌, arith, ◌⊎◌, inl, inr}
+use Rattle.std.proofs.Common.{◌≡◌, ℕ, zero, suc, ◌+◌, ◌-◌, ◌*◌, ◌<◌, ◌≤◌, ◌≢◌, min, Bool, List, [], ◌∷◌, ◌++◌, length, take, drop, replicate, get_or, refl, ap, sym, subst, ◌∙◌, arith, ◌⊎◌, inl, inr}
 use Rattle.std.specs.Prelude.{IsTrue, nat_lt}
 use Rattle.std.specs.List.{list_all}
 use Rattle.std.proofs.lemmas.List.{ext_get_or, get_or-take, get_or-drop, get_or-replicate, get_or_past, length-replicate, length-take, length-take-le, length-drop, take_all, take-append-drop, drop_all}
 use Rattle.std.proofs.lemmas.List.Folds.{list_all-append}
-use Rattle.std.proofs.lemmas.Bool.{cases_lt, cases_eq, false≢true}
+use Rattle.std.proofs.lemmas.Bool.{cases_lt, cases_eq, and_parts, and_from}
 use Rattle.base.specs.declared.pointer.Pointer.{Pointer}
 use Rattle.base.specs.formats.Limits.{object_count, record_size, pointer_count}
 use Rattle.base.specs.formats.Fields.{part, pointer_in, no_pointer}
@@ -14,13 +14,13 @@ use Rattle.base.specs.formats.Blocks.{Frame}
 use Rattle.base.specs.tree.Places.{record_number, record_start, strip_number, strip_of}
 use Rattle.base.specs.tree.Places.Place.{Indirect, Data}
 use Rattle.base.specs.tree.Tree.{OpensAt, IsRecord, record_bytes}
-use Rattle.base.specs.tree.PlacedTrees.{IsPlaced}
+use Rattle.base.specs.kept.PlacedTrees.{IsPlaced}
 use Rattle.base.specs.tree.Damages.{IsRecordPointerForm}
 use Rattle.base.proofs.tree.Strips.{strip-which}
 use Rattle.base.proofs.disk.Put.{length-put, part-put_same, part-put_apart}
-use Rattle.object_maps.specs.Pointers.{TellsStrip, payload_pointers, strip_in, told_record}
+use Rattle.tree_blocks.specs.Pointers.{TellsStrip, payload_pointers, strip_in, told_record}
 use Rattle.object_maps.specs.Loading.{AreBytes, AreLoadedRecords, AreLoadedStrips, HasZeroRecord, IsLoadedRecord, IsLoadedStrip, KeepsOthers}
-use Rattle.object_maps.proofs.ToldStrips.{payload_pointer, told-none, told-some}
+use Rattle.tree_blocks.proofs.ToldStrips.{payload_pointer, told-none, told-some}
 
 -- bytes that are all zero
 zeros-by : (xs : List ℕ) → ((i : ℕ) → i < length xs → get_or xs i 0 ≡ 0) → xs ≡ replicate (length xs) 0
@@ -89,28 +89,20 @@ past_zeros bytes r past =
     absurd (omega (arith, below, empty)))
 
 -- parts of bytes are bytes
-and_split : (a b : Bool) → (a && b) ≡ true → (a ≡ true) × (b ≡ true)
-and_split true b h = (refl, h)
-and_split false b h = absurd (false≢true h)
-
-and_join : (a b : Bool) → a ≡ true → b ≡ true → (a && b) ≡ true
-and_join true b x y = y
-and_join false b x y = absurd (false≢true x)
-
 bytes-take : (n : ℕ) (xs : List ℕ) → AreBytes xs → AreBytes (take n xs)
 bytes-take zero xs h = refl
 bytes-take (suc n) [] h = refl
 bytes-take (suc n) (x ∷ xs) h =
-    let both = and_split (nat_lt x 256) (list_all (λ b. nat_lt b 256) xs) h in
-    and_join (nat_lt x 256) (list_all (λ b. nat_lt b 256) (take n xs)) both.0 (bytes-take n xs both.1)
+    let both = and_parts (nat_lt x 256) (list_all (λ b. nat_lt b 256) xs) h in
+    and_from (nat_lt x 256) (list_all (λ b. nat_lt b 256) (take n xs)) both.0 (bytes-take n xs both.1)
 
 bytes-drop : (n : ℕ) (xs : List ℕ) → AreBytes xs → AreBytes (drop n xs)
 bytes-drop zero xs h = h
 bytes-drop (suc n) [] h = refl
-bytes-drop (suc n) (x ∷ xs) h = bytes-drop n xs (and_split (nat_lt x 256) (list_all (λ b. nat_lt b 256) xs) h).1
+bytes-drop (suc n) (x ∷ xs) h = bytes-drop n xs (and_parts (nat_lt x 256) (list_all (λ b. nat_lt b 256) xs) h).1
 
 bytes-append : (xs ys : List ℕ) → AreBytes xs → AreBytes ys → AreBytes (xs ++ ys)
-bytes-append xs ys x y = list_all-append (λ b. nat_lt b 256) xs ys ∙ and_join (list_all (λ b. nat_lt b 256) xs) (list_all (λ b. nat_lt b 256) ys) x y
+bytes-append xs ys x y = list_all-append (λ b. nat_lt b 256) xs ys ∙ and_from (list_all (λ b. nat_lt b 256) xs) (list_all (λ b. nat_lt b 256) ys) x y
 
 pub bytes-put : (at : ℕ) (content bytes : List ℕ) → AreBytes content → AreBytes bytes → AreBytes (put at content bytes)
 bytes-put at content bytes new old =

@@ -15,12 +15,12 @@ use Rattle.base.specs.formats.Blocks.{Frame}
 use Rattle.base.specs.tree.Places.{Place, IsPlace, object_of_indirect, strip_number, strip_of}
 use Rattle.base.specs.tree.Places.Place.{Root, Directory, Top, Indirect, Data}
 use Rattle.base.specs.tree.Tree.{IsRecord, OpensAt}
-use Rattle.base.specs.tree.PlacedTrees.{ArePlaced, HasNonePast, HoldsTree, IsEntryFor, NeedsNoTop, StandsAt}
+use Rattle.base.specs.kept.PlacedTrees.{ArePlaced, HasNonePast, HoldsTree, IsEntryFor, NeedsNoTop, StandsAt}
 use Rattle.base.proofs.tree.Strips.{first-object, first-which, number-back, number-object, number-strip, strip-object, strip-which}
-use Rattle.object_maps.specs.declared.tree.ObjectEntry.{ObjectEntry}
-use Rattle.object_maps.specs.Pointers.{ObjectPointers, object_pointers, pointer_of_list, pointers_at}
-use Rattle.object_maps.specs.EmptyEntries.{IsEmptyEntry}
-use Rattle.object_maps.specs.Lengths.{length_in, HaveLengthsOf}
+use Rattle.tree_blocks.specs.declared.tree.ObjectEntry.{ObjectEntry}
+use Rattle.tree_blocks.specs.Pointers.{ObjectPointers, object_pointers, pointer_of_list, pointers_at}
+use Rattle.tree_blocks.specs.EmptyEntries.{IsEmptyEntry}
+use Rattle.tree_blocks.specs.Lengths.{length_in, HaveLengthsOf}
 use Rattle.object_maps.proofs.FreeBlocks.{none_of_empty}
 use Rattle.object_maps.specs.Loading.{AreEmptyFrom, AreLoadedDirectories, DirectoryStands, IndirectStands, IsLimitedObject, IsLoadedAt, IsLoadedTree, IsObjectContent, LevelsStand}
 use Rattle.object_maps.proofs.LoadedEntries.{no_directory}

@@ -1,9 +1,9 @@
 -- Data blocks that are read ahead.
-use Rattle.std.proofs.Common.{◌≡◌, ℕ, zero, suc, Bool, true, false, ◌&&◌, ap, nat_eq, List, [], ◌∷◌, length, drop, get_or, Option, Some, None, refl, subst, sym, ◌∙◌}
+use Rattle.std.proofs.Common.{◌≡◌, ℕ, zero, suc, Bool, true, false, ◌&&◌, ap, nat_eq, List, [], ◌∷◌, length, get_or, Option, Some, None, refl, subst, sym, ◌∙◌}
 use Rattle.std.specs.Prelude.{IsTrue}
 use Rattle.std.specs.Bool.{then_some}
 use Rattle.std.specs.Cmp.Lexicographic.{pointwise, same_text}
-use Rattle.std.proofs.lemmas.Bool.{eqb-true, false≢true}
+use Rattle.std.proofs.lemmas.Bool.{eqb-true, and_parts}
 use Rattle.base.specs.declared.pointer.Pointer.{Pointer}
 use Rattle.std.proofs.lemmas.Option.{none-some, same_Some}
 use Rattle.base.specs.formats.Blocks.{Frame}
@@ -16,10 +16,6 @@ use Rattle.object_maps.specs.ReadAhead.{AreReadRecords, IsRead, IsReadRecord}
 use Rattle.object_maps.proofs.LoadedBlocks.{block_opens}
 
 -- pointers that a test finds the same are
-both : (a b : Bool) → (a && b) ≡ true → (a ≡ true) × (b ≡ true)
-both true b h = (refl, h)
-both false b h = absurd (false≢true h)
-
 of_parts : (p q : Pointer) → p.address ≡ q.address → p.birth ≡ q.birth → p.check ≡ q.check → p ≡ q
 of_parts p q e f g =
     ap (λ (a : ℕ). record { address = a; birth = p.birth; check = p.check }) e
@@ -28,8 +24,8 @@ of_parts p q e f g =
 
 pub same_pointer : (p q : Pointer) → true ≡ (nat_eq p.address q.address && (nat_eq p.birth q.birth && pointwise nat_eq p.check q.check)) → p ≡ q
 same_pointer p q same =
-    let address = both (nat_eq p.address q.address) (nat_eq p.birth q.birth && pointwise nat_eq p.check q.check) (sym same) in
-    let birth = both (nat_eq p.birth q.birth) (pointwise nat_eq p.check q.check) address.1 in
+    let address = and_parts (nat_eq p.address q.address) (nat_eq p.birth q.birth && pointwise nat_eq p.check q.check) (sym same) in
+    let birth = and_parts (nat_eq p.birth q.birth) (pointwise nat_eq p.check q.check) address.1 in
     of_parts p q (eqb-true p.address q.address address.0) (eqb-true p.birth q.birth birth.0) (same_text p.check q.check (sym birth.1))
 
 pub placed_same : (frame : Frame) (p q : Pointer) → p ≡ q → IsBlockAddress frame.blocks p.address → IsBlockAddress frame.blocks q.address

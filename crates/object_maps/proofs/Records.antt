@@ -1,12 +1,11 @@
 -- The bytes of an object in its records: a record by its bytes, and parts that are read record by record.
 use Rattle.std.proofs.Common.{◌≡◌, ℕ, ◌+◌, ◌-◌, ◌≤◌, ◌<◌, ◌*◌, ◌⊎◌, inl, inr, List, ◌++◌, length, take, drop, replicate, refl, ap, sym, ◌∙◌, arith, length-take, length-drop, length-append, get_or, get_or-take, get_or-drop}
 use Rattle.std.specs.Prelude.{min}
-use Rattle.std.proofs.lemmas.List.{ext_get_or, get_or_past, get_or_append_left, get_or-append_right, length-replicate, drop-drop}
+use Rattle.std.proofs.lemmas.List.{ext_get_or, get_or_past, get_or_append_left, get_or-append_right, length-replicate}
 use Rattle.std.proofs.lemmas.Bool.{cases_lt}
 use Rattle.std.proofs.Math.Seq.{take-add, take-append_seam}
-use Rattle.base.specs.formats.Fields.{part}
 use Rattle.base.specs.formats.Limits.{record_size}
-use Rattle.base.specs.tree.PlacedTrees.{padded_record}
+use Rattle.base.specs.kept.PlacedTrees.{padded_record}
 use Rattle.base.specs.tree.Tree.{record_bytes}
 use Rattle.base.proofs.common.KeptLists.{get_or-zeros}
 use Rattle.object_maps.specs.Sources.{AreBytesFrom}
@@ -64,10 +63,6 @@ module _ (object into copied filled post : List ℕ) (offset low count : ℕ) (i
           get_or-append_right (take count (copied ++ drop count into)) (filled ++ post) count k 0 front from
           ∙ get_or_append_left filled post 0 (k - count) (rw size (omega (arith, inside, from))) ∙ zeros (k - count) (rw size (omega (arith, inside, from)))
           ∙ sym (get_or_past object (offset + k) 0 (omega (arith, is_low, is_count, inside, from)))
-
--- a part and the one after it
-pub part-split : (bytes : List ℕ) (at m n : ℕ) → part bytes at (m + n) ≡ part bytes at m ++ part bytes (at + m) n
-part-split bytes at m n = take-add m n (drop at bytes) ∙ ap (λ (l : List ℕ). part bytes at m ++ take n l) (drop-drop m at bytes)
 
 -- the front of a record, as far as the object reaches
 pub take-padded_record : (bytes : List ℕ) (r count : ℕ) → count ≡ min record_size (length bytes - record_size * r) → take count (padded_record r bytes) ≡ record_bytes r bytes

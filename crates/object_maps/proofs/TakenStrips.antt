@@ -6,9 +6,9 @@ use Rattle.base.specs.declared.pointer.Pointer.{Pointer}
 use Rattle.base.specs.formats.Fields.{no_pointer}
 use Rattle.base.specs.formats.Limits.{pointer_count}
 use Rattle.object_maps.specs.FreeBlocks.{BlocksTaken, Names, ObjectNames, StripNames, StripsName, TakesNamed, is_block_at, payload_names}
-use Rattle.object_maps.specs.Pointers.{TellsStrip, long_pointers, payload_pointers, pointer_of_list, short_pointers, strip_in, told_record}
+use Rattle.tree_blocks.specs.Pointers.{TellsStrip, long_pointers, payload_pointers, pointer_of_list, short_pointers, strip_in, told_record}
 use Rattle.object_maps.proofs.FreeBlocks.{AnyNames, any-named, names-by, none-named, takes_as, takes_by, takes_none, takes_twice}
-use Rattle.object_maps.proofs.ToldStrips.{length-pointers, told-none, told-some}
+use Rattle.tree_blocks.proofs.ToldStrips.{length-pointers, told-none, told-some}
 use Rattle.space.specs.FreeSets.{FreeSpace}
 
 -- the pointers of an indirect block and the one to it are those of its strip

@@ -13,9 +13,9 @@ use Rattle.base.specs.tree.Tree.{OpensAt}
 use Rattle.base.specs.tree.Damages.{IsPointerForm, IsSoundAt, IsRecordPointerForm, IsFirstDamage}
 use Rattle.base.proofs.tree.LevelPointers.{number_below-none, number_below-opens, top-one, top-two, indirect-two, indirect-first, indirect-later, zero_entry, zero_present}
 use Rattle.base.proofs.tree.Strips.{first-object, first-which, first-low, strip-low, strip-object, strip-which}
-use Rattle.object_maps.specs.declared.forms.Entry.{Entry}
-use Rattle.object_maps.specs.Loaders.{AreRecordForms, AreStripForms}
-use Rattle.object_maps.specs.Pointers.{pointer_of_list}
+use Rattle.tree_blocks.specs.declared.forms.Entry.{Entry}
+use Rattle.tree_blocks.specs.Forms.{AreRecordForms, AreStripForms}
+use Rattle.tree_blocks.specs.Pointers.{pointer_of_list}
 use Rattle.object_maps.specs.Walking.{AreSound, IsDamageFrom, Walks, TellsDamage, IsDataOf, AreDataOf, AreStripsOf, IsIndirectOf, IsObjectAt, IsTopOf, IsPayloadOf, AreDirectoriesOf, directory_index, objects_index}
 use Rattle.object_maps.proofs.WalkOrder.{object-stride, index_within, index_of_strip, index-directory, index-objects, sound_none, sound_more, sound_one, damage_behind}
 use Rattle.object_maps.proofs.WalkDamages.{below_block, sound_at, formless_damage, damage_at, there, same-kind, same-address}

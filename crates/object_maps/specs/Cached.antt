@@ -13,7 +13,7 @@ use Rattle.base.specs.formats.Geometry.{IsBlockAddress, block_size}
 use Rattle.base.specs.formats.Limits.{one_level_length, pointer_count, record_size}
 use Rattle.base.specs.tree.Places.{Place, object_of_indirect, record_number}
 use Rattle.base.specs.tree.Places.Place.{Top, Indirect}
-use Rattle.base.specs.tree.PlacedTrees.{HoldsTree}
+use Rattle.base.specs.kept.PlacedTrees.{HoldsTree}
 
 -- each entry is the payload of the image's block at its address, which is that of a whole block
 abbrev pub AgreesWith : List ℕ → List (ℕ × List ℕ) → Type 0

@@ -6,9 +6,9 @@ use Rattle.base.specs.declared.pointer.Pointer.{Pointer}
 use Rattle.base.specs.formats.Geometry.{block_address}
 use Rattle.base.specs.formats.Limits.{object_count, pointer_count}
 use Rattle.base.specs.tree.Places.{Place, IsPlace}
-use Rattle.object_maps.specs.declared.tree.ObjectEntry.{ObjectEntry}
-use Rattle.object_maps.specs.declared.tree.Tree.{Tree}
-use Rattle.object_maps.specs.Pointers.{ObjectPointers, object_pointers, payload_pointers, pointers_of, strip_in, told_record}
+use Rattle.tree_blocks.specs.declared.tree.ObjectEntry.{ObjectEntry}
+use Rattle.tree_blocks.specs.declared.tree.Tree.{Tree}
+use Rattle.tree_blocks.specs.Pointers.{ObjectPointers, object_pointers, payload_pointers, pointers_of, strip_in, told_record}
 use Rattle.space.specs.FreeSets.{AreBlockAddresses, FreeSpace, IsIdle, is_free}
 
 -- whether this is the address of the k-th block

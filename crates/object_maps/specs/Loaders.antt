@@ -1,16 +1,11 @@
 -- What the parts of a load say: of the objects that are loaded so far, and of the image that the device has.
-use Rattle.std.specs.Prelude.{ℕ, ◌≡◌, ◌<◌, ◌≤◌, ◌⊎◌, Bool, IsTrue, List, length, Some}
+use Rattle.std.specs.Prelude.{ℕ, ◌≡◌, Bool, IsTrue, List, length, Some}
 use Rattle.std.specs.Ordering.{nat_cmp}
 use Rattle.std.specs.FinMap.{FinMap}
 use Rattle.base.specs.declared.pointer.Pointer.{Pointer}
 use Rattle.base.specs.disk.Disk.{Disk, bytes_of}
-use Rattle.base.specs.formats.Blocks.{Frame}
-use Rattle.base.specs.formats.Fields.{entry_in, pointer_in}
-use Rattle.base.specs.formats.Limits.{entry_count, max_length, one_level_length, payload_size, pointer_count}
-use Rattle.base.specs.tree.Damages.{IsEntryForm, IsRecordPointerForm}
-use Rattle.base.specs.tree.Places.{record_start, strip_start}
-use Rattle.object_maps.specs.declared.tree.ObjectEntry.{ObjectEntry}
-use Rattle.object_maps.specs.declared.forms.Entry.{Entry}
+use Rattle.tree_blocks.specs.declared.tree.ObjectEntry.{ObjectEntry}
+use Rattle.tree_blocks.specs.declared.forms.Entry.{Entry}
 use Rattle.object_maps.specs.FreeBlocks.{AreMarked}
 use Rattle.object_maps.specs.Loading.{AreEmptyFrom, Shows}
 use Rattle.space.specs.FreeSets.{FreeSpace}
@@ -32,25 +27,6 @@ LoadsFrom start stands_for entries old new free left P =
     → (after : FinMap nat_cmp (List ℕ)) × stands_for new after
     × ((blocks : ℕ) → AreMarked (entries old) blocks free → AreMarked (entries new) blocks left)
     × P before after (entries old) (entries new)
-
--- the payload of a directory has the size of one, and each of its entries is absent and all zeros, or present and
--- within its limits
-pub record IsEntryPayload (frame : Frame) (payload : List ℕ) : Type 0 where
-  pub size : length payload ≡ payload_size
-  pub each : (k : ℕ) → k < entry_count → IsEntryForm frame (entry_in payload k)
-
--- the pointers in the indirect block of strip m, of an object of so many bytes: from its end on there are none
-abbrev pub AreRecordForms : ℕ → ℕ → List ℕ → Type 0
-AreRecordForms m size payload = (k : ℕ) → k < pointer_count → IsRecordPointerForm size (record_start m k) (pointer_in payload k)
-
--- and those in a top
-abbrev pub AreStripForms : ℕ → List ℕ → Type 0
-AreStripForms size payload = (j : ℕ) → j < pointer_count → IsRecordPointerForm size (strip_start j) (pointer_in payload j)
-
--- the entry of an object that is there says its levels and its length
-abbrev pub IsEntryOf : Frame → Entry → Type 0
-IsEntryOf frame entry = ((entry.present ≡ 1) × (entry.length ≤ one_level_length))
-    ⊎ ((1 < frame.version) × (entry.present ≡ 2) × (one_level_length < entry.length) × (entry.length ≤ max_length))
 
 -- an object has the length and the pointer that its entry has
 pub record IsObjectOf (entry : Entry) (bytes : List ℕ) (kept : ObjectEntry) : Type 0 where

@@ -14,9 +14,9 @@ use Rattle.base.specs.formats.Blocks.{Frame}
 use Rattle.base.specs.tree.Places.{record_number, strip_number, strip_start}
 use Rattle.base.specs.tree.Places.Place.{Root, Directory, Top, Indirect}
 use Rattle.base.specs.tree.Tree.{OpensAt, IsRecord, record_bytes}
-use Rattle.base.specs.tree.PlacedTrees.{HasNonePast, IsEntryFor, IsLong, IsPlaced, NeedsNoTop}
-use Rattle.object_maps.specs.declared.tree.ObjectEntry.{ObjectEntry}
-use Rattle.object_maps.specs.Pointers.{ObjectPointers, no_pointers, object_pointers, pointer_of_list, strip_in, told_record}
+use Rattle.base.specs.kept.PlacedTrees.{HasNonePast, IsEntryFor, IsLong, IsPlaced, NeedsNoTop}
+use Rattle.tree_blocks.specs.declared.tree.ObjectEntry.{ObjectEntry}
+use Rattle.tree_blocks.specs.Pointers.{ObjectPointers, no_pointers, object_pointers, pointer_of_list, strip_in, told_record}
 
 -- a device that keeps the model has this image now
 abbrev pub Shows : Bool → Disk → List ℕ → Type 0

@@ -1,20 +1,14 @@
 -- What reads of objects give: the length of an object, one of its records, bytes from an offset on, and a range of its
 -- bytes.
-use Rattle.std.specs.Prelude.{ℕ, ◌≡◌, ◌≤◌, ◌<◌, ◌+◌, List, [], get_or, length, Option, IfSome, option_map, unwrap_or}
+use Rattle.std.specs.Prelude.{ℕ, ◌≡◌, ◌<◌, ◌+◌, List, [], get_or, length, Option, option_map, unwrap_or}
 use Rattle.std.specs.Ordering.{nat_cmp}
 use Rattle.std.specs.FinMap as finite
 use Rattle.std.specs.FinMap.{FinMap}
 use Rattle.base.specs.declared.names.ObjectId.{ObjectId}
 use Rattle.base.specs.declared.range.Range.{Range}
-use Rattle.base.specs.formats.Limits.{object_count, max_length}
 use Rattle.base.specs.steps.Refusals.{object_range}
 use Rattle.base.specs.steps.Steps as steps
-use Rattle.base.specs.tree.PlacedTrees.{padded_record}
-
--- objects within the limits of a pool: each has a number below the count of objects, and is no longer than the greatest
--- length
-abbrev pub AreWithin : FinMap nat_cmp (List ℕ) → Type 0
-AreWithin objects = (n : ℕ) → IfSome (finite.get objects n) (λ bytes. (n < object_count) × (length bytes ≤ max_length))
+use Rattle.base.specs.kept.PlacedTrees.{padded_record}
 
 -- the length of object n, None if there is no such object
 abbrev pub object_length : FinMap nat_cmp (List ℕ) → ℕ → Option ℕ

@@ -9,8 +9,8 @@ use Rattle.base.specs.tree.Places.{Place, IsPlace, kind_of, walk_index_of, point
 use Rattle.base.specs.tree.Places.Place.{Directory, Indirect, Data}
 use Rattle.base.specs.formats.Limits.{pointer_count, directory_stride}
 use Rattle.base.specs.tree.Tree.{OpensAt}
-use Rattle.object_maps.specs.Pointers.{pointer_of_list}
-use Rattle.object_maps.specs.declared.forms.Entry.{Entry}
+use Rattle.tree_blocks.specs.Pointers.{pointer_of_list}
+use Rattle.tree_blocks.specs.declared.forms.Entry.{Entry}
 use Rattle.base.specs.tree.Damages.{IsSoundAt, length_in}
 
 -- the places of the walk from one index up to another are sound

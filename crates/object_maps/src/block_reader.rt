@@ -12,20 +12,21 @@ ghost use Rattle.base.specs.formats.Blocks.{Opens};
 ghost use Rattle.base.specs.formats.Fields.{no_pointer, pointer_in};
 ghost use Rattle.base.specs.formats.Geometry.{block_address};
 ghost use Rattle.base.specs.formats.Limits.{object_count, indirect_count, payload_size, pointer_count, record_size};
-ghost use Rattle.base.specs.tree.PlacedTrees.{IsPlaced};
-ghost use Rattle.base.specs.tree.Places.{Place, record_number, record_start, strip_number, strip_start};
+ghost use Rattle.base.specs.kept.PlacedTrees.{IsPlaced};
+ghost use Rattle.base.specs.tree.Places.{IsPlace, Place, kind_of, number_of_place, record_number, record_start, strip_number, strip_start};
 ghost use Rattle.base.specs.tree.Places.Place.{Indirect, Data};
 ghost use Rattle.base.specs.tree.Tree.{IsRecord};
 ghost use Rattle.device_model.specs.Reading.{OnlyReads};
 ghost use Rattle.object_maps.specs.Cached.{BeginsInside, HasNoneAt, HoldsStrip, HoldsTop, IsBlockRefusal, IsPointerInside, IsReadPart, IsReadPayload, OnlyLeft};
 ghost use Rattle.object_maps.specs.Kinds.{kind_number};
+ghost use Rattle.tree_blocks.specs.BlockPlaces.{place_of};
 ghost use Rattle.object_maps.specs.Sources.{AreBytesFrom};
 
-use crate::strips::{data_number, record_number};
-use crate::walk::{BlockPlace, damaged};
-use base::{POINTER_COUNT, POINTER_SIZE, Pointer, PoolError, RECORD_SIZE, are_zeros, read_pointer};
+use crate::walk::damaged;
+use base::{ObjectId, POINTER_COUNT, Pointer, PoolError, RECORD_SIZE, are_zeros};
 use checked_blocks::{Block, Frame, Kind, PAYLOAD_SIZE};
 use device_model::SectorDevice;
+use tree_blocks::{BlockPlace, pointer_in, record_number};
 
 /// A device whose tree blocks are read.
 pub trait BlockReader: SectorDevice {
@@ -44,20 +45,21 @@ pub trait BlockReader: SectorDevice {
         into: &mut [u8],
     ) -> Result<(), PoolError>
         requires fits { block_address frame.now.blocks ≤ Self.size self.old }
+        requires place { IsPlace (place_of place) }
         requires size { length into.old ≡ payload_size }
         ensures reads { OnlyReads Self.SectorDevice result self.old self.new }
         ensures size { length into.new ≡ payload_size }
         ensures refused { IfErr result
-            (IsBlockRefusal (kind_number place.kind) pointer.now.address) }
+            (IsBlockRefusal (kind_of (place_of place)) pointer.now.address) }
         ensures taken { IsTrue Self.keeps_model → OnOk result (IsReadPayload
             (Self.cached self.old) (bytes_of (Self.disk self.old).now) frame.now
-            (kind_number place.kind) place.number pointer.now into.new) }
+            (kind_of (place_of place)) (number_of_place (place_of place)) pointer.now into.new) }
         ensures exact { IsTrue Self.keeps_model → (payload : List ℕ)
-            → Opens (bytes_of (Self.disk self.old).now) frame.now (kind_number place.kind)
-            place.number pointer.now payload → OnOk result (into.new ≡ payload) }
+            → Opens (bytes_of (Self.disk self.old).now) frame.now (kind_of (place_of place))
+            (number_of_place (place_of place)) pointer.now payload → OnOk result (into.new ≡ payload) }
         ensures sound { IsTrue Self.keeps_model → (payload : List ℕ)
-            → Opens (bytes_of (Self.disk self.old).now) frame.now (kind_number place.kind)
-            place.number pointer.now payload → IfErr result (λ e. e ≡ error.Read) };
+            → Opens (bytes_of (Self.disk self.old).now) frame.now (kind_of (place_of place))
+            (number_of_place (place_of place)) pointer.now payload → IfErr result (λ e. e ≡ error.Read) };
 
     /// Takes a sealed block that was written to an address. A read of it there may compare its bytes in place of making
     /// its check. It makes no device call, and without memory the block isn't kept.
@@ -85,11 +87,12 @@ fn read_pointers<B: BlockReader>(
     payload: &mut [u8],
 ) -> Result<(), PoolError>
     requires fits { block_address frame.now.blocks ≤ B.size reader.old }
+    requires place { IsPlace (place_of place) }
     requires size { length payload.old ≡ payload_size }
     ensures reads { OnlyReads B.SectorDevice result reader.old reader.new }
     ensures size { length payload.new ≡ payload_size }
     ensures refused { IfErr result
-        (IsBlockRefusal (kind_number place.kind) pointer.now.address) }
+        (IsBlockRefusal (kind_of (place_of place)) pointer.now.address) }
     ensures hole { pointer.now ≡ no_pointer
         → OnOk result ((k : ℕ) → k < payload_size → get_or payload.new k 0 ≡ 0) }
     ensures whole { pointer.now ≡ no_pointer → IfErr result (λ _. ⊥) }
@@ -97,13 +100,13 @@ fn read_pointers<B: BlockReader>(
         → OnOk result ((k : ℕ) → k < pointer_count → pointer_in payload.new k ≡ no_pointer) }
     ensures taken { IsTrue B.keeps_model → pointer.now ≢ no_pointer → OnOk result (IsReadPayload
         (B.cached reader.old) (bytes_of (B.disk reader.old).now) frame.now
-        (kind_number place.kind) place.number pointer.now payload.new) }
+        (kind_of (place_of place)) (number_of_place (place_of place)) pointer.now payload.new) }
     ensures exact { IsTrue B.keeps_model → pointer.now ≢ no_pointer → (held : List ℕ)
-        → Opens (bytes_of (B.disk reader.old).now) frame.now (kind_number place.kind)
-        place.number pointer.now held → OnOk result (payload.new ≡ held) }
+        → Opens (bytes_of (B.disk reader.old).now) frame.now (kind_of (place_of place))
+        (number_of_place (place_of place)) pointer.now held → OnOk result (payload.new ≡ held) }
     ensures sound { IsTrue B.keeps_model → pointer.now ≢ no_pointer → (held : List ℕ)
-        → Opens (bytes_of (B.disk reader.old).now) frame.now (kind_number place.kind)
-        place.number pointer.now held → IfErr result (λ e. e ≡ error.Read) }
+        → Opens (bytes_of (B.disk reader.old).now) frame.now (kind_of (place_of place))
+        (number_of_place (place_of place)) pointer.now held → IfErr result (λ e. e ≡ error.Read) }
 {
     if pointer.is_none() {
         payload.fill(0);
@@ -143,10 +146,7 @@ pub fn read_top<B: BlockReader>(
         → HoldsTop (bytes_of (B.disk reader.old).now) frame.now number top.now pointers bytes
         → IfErr result (λ e. e ≡ error.Read) }
 {
-    let place = BlockPlace {
-        kind: Kind::Top,
-        number: number as u64,
-    };
+    let place = BlockPlace::Top(ObjectId(number as u32));
     read_pointers(reader, frame, place, top, payload)
 }
 
@@ -182,10 +182,7 @@ pub fn read_indirect<B: BlockReader>(
         → HoldsStrip (bytes_of (B.disk reader.old).now) frame.now number indirect.now pointers bytes
         → IfErr result (λ e. e ≡ error.Read) }
 {
-    let place = BlockPlace {
-        kind: Kind::Indirect,
-        number: number as u64,
-    };
+    let place = BlockPlace::Indirect(number);
     read_pointers(reader, frame, place, indirect, payload)
 }
 
@@ -208,7 +205,7 @@ fn pointer_inside(
     ensures sound { IsPointerInside frame.now.blocks size start (pointer_in payload.now index)
         → IfErr result (λ _. ⊥) }
 {
-    let pointer = read_pointer(payload, POINTER_SIZE * index);
+    let pointer = pointer_in(payload, index);
     if pointer.is_none() {
         return Ok(pointer);
     }
@@ -311,10 +308,7 @@ pub fn read_part<B: BlockReader>(
         return Ok(());
     }
     let mut payload = [0; PAYLOAD_SIZE];
-    let place = BlockPlace {
-        kind: Kind::Data,
-        number: data_number(number, index),
-    };
+    let place = BlockPlace::Data(number, index);
     reader.read_payload(frame, place, pointer, &mut payload)?;
     let end = RECORD_SIZE.min(size.saturating_sub(RECORD_SIZE * record_number(number, index)));
     if !are_zeros(&payload[end..]) {

@@ -5,6 +5,5 @@ mod cached;
 mod damages;
 mod judged;
 mod loads;
-mod maps;
 mod reads;
 mod strips;

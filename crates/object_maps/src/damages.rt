@@ -12,22 +12,22 @@ ghost use Rattle.base.specs.tree.Places.{IsPlace, pointer_of, record_start, walk
 ghost use Rattle.base.specs.tree.Places.Place.{Directory, Data};
 ghost use Rattle.device_model.specs.Reading.{OnlyReads};
 ghost use Rattle.object_maps.specs.DamageLists.{AddsDamages, AddsTold, HasDirectories, IsListRefusal, ListsDamages};
-ghost use Rattle.object_maps.specs.Loaders.{AreRecordForms, IsEntryPayload, OnImage, OnWalk};
+ghost use Rattle.object_maps.specs.Loaders.{OnImage, OnWalk};
+ghost use Rattle.tree_blocks.specs.Forms.{AreRecordForms, IsEntryPayload};
 ghost use Rattle.object_maps.specs.Loading.{IsLoadRefusal};
 ghost use Rattle.object_maps.specs.ReadAhead.{IsReadAhead};
 ghost use Rattle.object_maps.specs.Walking.{AreDataOf, AreStripsOf, IsDataOf, IsIndirectOf, IsObjectAt, IsPayloadOf, IsTopOf, directory_index, objects_index};
 
-use crate::forms::{Entry, are_entries, are_records, are_strips, have_form, read_entry};
 use crate::read_ahead::ReadAhead;
-use crate::strips::{record_number, strip_number};
-use crate::walk::{BlockPlace, Loader, damaged, new_buffer, payload_of};
-use base::{
-    ENTRY_COUNT, POINTER_COUNT, POINTER_SIZE, Pointer, PoolError, RECORD_SIZE, are_zeros,
-    read_pointer,
-};
+use crate::walk::{Loader, damaged, new_buffer, payload_of};
+use base::{ENTRY_COUNT, ObjectId, POINTER_COUNT, Pointer, PoolError, RECORD_SIZE, are_zeros};
 use checked_blocks::{Frame, Kind};
 use device_model::SectorDevice;
 use std::alloc::Global;
+use tree_blocks::{
+    BlockPlace, Entry, are_entries, are_records, are_strips, have_form, pointer_in, read_entry,
+    record_number, strip_number,
+};
 
 /// A block that is damaged, as `PoolError::Damaged` names it.
 #[derive(Clone, Copy, Debug, PartialEq, Eq)]
@@ -102,10 +102,7 @@ impl Loader<'_> {
             return Ok(());
         }
         let mut buffer = new_buffer();
-        let place = BlockPlace {
-            kind: Kind::Root,
-            number: 0,
-        };
+        let place = BlockPlace::Root;
         if let Err(error) = self.read_block(device, place, root, None, &mut buffer) {
             return add_damage(error, damages);
         }
@@ -133,7 +130,7 @@ impl Loader<'_> {
             1 (directory_index pointer_count) damages.old.items damages.new.items)) }
     {
         for index in 0..POINTER_COUNT {
-            let pointer = read_pointer(payload, POINTER_SIZE * index);
+            let pointer = pointer_in(payload, index);
             if pointer.is_none() {
                 continue;
             }
@@ -161,10 +158,7 @@ impl Loader<'_> {
             damages.old.items damages.new.items)) }
     {
         let mut buffer = new_buffer();
-        let place = BlockPlace {
-            kind: Kind::Directory,
-            number: directory as u64,
-        };
+        let place = BlockPlace::Directory(directory);
         if let Err(error) = self.read_block(device, place, pointer, None, &mut buffer) {
             return add_damage(error, damages);
         }
@@ -253,10 +247,7 @@ impl Loader<'_> {
             return Ok(());
         }
         let mut buffer = new_buffer();
-        let place = BlockPlace {
-            kind: Kind::Top,
-            number: number as u64,
-        };
+        let place = BlockPlace::Top(ObjectId(number as u32));
         if let Err(error) = self.read_block(device, place, pointer, None, &mut buffer) {
             return add_damage(error, damages);
         }
@@ -288,7 +279,7 @@ impl Loader<'_> {
             damages.old.items damages.new.items)) }
     {
         for index in 0..POINTER_COUNT {
-            let pointer = read_pointer(payload, POINTER_SIZE * index);
+            let pointer = pointer_in(payload, index);
             let strip = strip_number(number, index);
             self.list_strip(device, strip, &pointer, size, damages)?;
         }
@@ -318,10 +309,7 @@ impl Loader<'_> {
             return Ok(());
         }
         let mut buffer = new_buffer();
-        let place = BlockPlace {
-            kind: Kind::Indirect,
-            number: number as u64,
-        };
+        let place = BlockPlace::Indirect(number);
         if let Err(error) = self.read_block(device, place, indirect, None, &mut buffer) {
             return add_damage(error, damages);
         }
@@ -356,7 +344,7 @@ impl Loader<'_> {
         let mut ahead = ReadAhead::new();
         for index in 0..POINTER_COUNT {
             self.read_ahead(device, number, index, payload, &mut ahead)?;
-            let pointer = read_pointer(payload, POINTER_SIZE * index);
+            let pointer = pointer_in(payload, index);
             if pointer.is_none() {
                 continue;
             }

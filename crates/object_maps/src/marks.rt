@@ -5,9 +5,10 @@ ghost use Rattle.std.specs.List.{list_any};
 ghost use Rattle.base.specs.formats.Limits.{payload_size};
 ghost use Rattle.object_maps.specs.FreeBlocks.{BlocksTaken, is_block_at, names_block, payload_names};
 
-use base::{BLOCK_SIZE, POINTER_COUNT, POINTER_SIZE, Pointer, read_pointer};
+use base::{BLOCK_SIZE, POINTER_COUNT, Pointer};
 use checked_blocks::BLOCK_AREA;
 use space::FreeSet;
+use tree_blocks::pointer_in;
 
 // Takes the block at an address, if there is one and it is free.
 pub(crate) fn take_block(free: &mut FreeSet, address: u64)
@@ -32,7 +33,7 @@ pub(crate) fn take_named(free: &mut FreeSet, payload: &[u8])
     ensures { BlocksTaken (λ k. payload_names k payload.now) free.old free.new }
 {
     for index in 0..POINTER_COUNT {
-        let pointer = read_pointer(payload, POINTER_SIZE * index);
+        let pointer = pointer_in(payload, index);
         take_block(free, pointer.address);
     }
 }

@@ -18,11 +18,11 @@ ghost use Rattle.checked_blocks.proofs.NamedBlocks.{IsNamed};
 ghost use Rattle.object_maps.specs.ReadAhead.{AreReadRecords, IsRead, IsReadAhead, IsReadable};
 ghost use Rattle.object_maps.specs.Walking.{TellsBlock};
 
-use crate::strips::data_number;
-use crate::walk::{BlockPlace, Loader, expected, new_buffer};
-use base::{BLOCK_SIZE, POINTER_SIZE, Pointer, PoolError, read_pointer};
+use crate::walk::{Loader, expected, new_buffer};
+use base::{BLOCK_SIZE, Pointer, PoolError};
 use checked_blocks::{Expected, Kind, ReadBlock, are_expected};
 use device_model::SectorDevice;
+use tree_blocks::{BlockPlace, pointer_in};
 
 // How many records are read at a time.
 const COUNT: usize = 4;
@@ -67,7 +67,7 @@ fn room_for(number: u64, pointer: Pointer) -> ReadRecord
 
 impl Loader<'_> {
     // Whether a block may be where a pointer says, and as old.
-    fn can_read(&self, pointer: &Pointer) -> bool
+    pub(crate) fn can_read(&self, pointer: &Pointer) -> bool
         ensures { IsTrue result ↔ IsReadable self.now.frame.now pointer.now }
     {
         self.frame.is_block_address(pointer.address) && pointer.birth <= self.frame.group().0
@@ -109,8 +109,8 @@ impl Loader<'_> {
         device.read(pointer.address, &mut buffer[..])
     }
 
-    // Reads the four records of a strip from this index on ahead, if it is a multiple of four and each of them may have a
-    // block.
+    // Reads the four records of a strip from this index on ahead, if it is a multiple of four and each of them may
+    // have a block.
     pub(crate) fn read_ahead<D: SectorDevice>(
         &self,
         device: &mut D,
@@ -132,17 +132,17 @@ impl Loader<'_> {
         if !index.is_multiple_of(COUNT) {
             return Ok(());
         }
-        let first = read_pointer(payload, POINTER_SIZE * index);
-        let second = read_pointer(payload, POINTER_SIZE * (index + 1));
-        let third = read_pointer(payload, POINTER_SIZE * (index + 2));
-        let fourth = read_pointer(payload, POINTER_SIZE * (index + 3));
+        let first = pointer_in(payload, index);
+        let second = pointer_in(payload, index + 1);
+        let third = pointer_in(payload, index + 2);
+        let fourth = pointer_in(payload, index + 3);
         if !self.can_read_all(&first, &second, &third, &fourth) {
             return Ok(());
         }
-        let mut first = room_for(data_number(number, index), first);
-        let mut second = room_for(data_number(number, index + 1), second);
-        let mut third = room_for(data_number(number, index + 2), third);
-        let mut fourth = room_for(data_number(number, index + 3), fourth);
+        let mut first = room_for(BlockPlace::Data(number, index).number(), first);
+        let mut second = room_for(BlockPlace::Data(number, index + 1).number(), second);
+        let mut third = room_for(BlockPlace::Data(number, index + 2).number(), third);
+        let mut fourth = room_for(BlockPlace::Data(number, index + 3).number(), fourth);
         self.fill(device, &first.pointer, &mut first.block)?;
         self.fill(device, &second.pointer, &mut second.block)?;
         self.fill(device, &third.pointer, &mut third.block)?;
@@ -194,14 +194,11 @@ impl Loader<'_> {
     fn expected_record(&self, read: &ReadRecord) -> Expected
         ensures { IsNamed result self.now.frame.now 5 read.now.number read.now.pointer }
     {
-        let place = BlockPlace {
-            kind: Kind::Data,
-            number: read.number,
-        };
-        expected(self.frame, place, &read.pointer)
+        expected(self.frame, Kind::Data as u64, read.number, &read.pointer)
     }
 
-    // Reads the block of a record into the buffer, if it wasn't read ahead. Refused Damaged if it is none of this record.
+    // Reads the block of a record into the buffer, if it wasn't read ahead. Refused Damaged if it is none of this
+    // record.
     pub(crate) fn read_record<D: SectorDevice>(
         &self,
         device: &mut D,
@@ -227,12 +224,10 @@ impl Loader<'_> {
             → bytes_of (D.disk device.old).now ≡ image → IfErr result (TellsBlock image
             self.now.frame.now 5 (number_of_place (Data number index)) pointer.now) }
     {
-        let place = BlockPlace {
-            kind: Kind::Data,
-            number: data_number(number, index),
-        };
+        let place = BlockPlace::Data(number, index);
+        let block_number = place.number();
         if let Some(read) = ahead.records[index % COUNT]
-            && read.number == place.number
+            && read.number == block_number
             && read.pointer == *pointer
         {
             *buffer = read.block;

@@ -1,5 +1,5 @@
 -- What a device that holds the synced tree has of one object.
-use Rattle.std.proofs.Common.{◌≡◌, ◌≢◌, ◌*◌, ◌/◌, ◌%◌, ◌<◌, ◌∙◌, inl, inr, ℕ, List, length, get_or, Option, Some, None, is_some, true, false, Bool, refl, sym, ap, subst, arith}
+use Rattle.std.proofs.Common.{◌≡◌, ◌≢◌, ◌*◌, ◌/◌, ◌%◌, ◌<◌, ◌∙◌, inl, inr, ℕ, List, length, get_or, Option, Some, None, true, false, Bool, refl, sym, ap, subst, arith}
 use Rattle.std.specs.Prelude.{IsTrue, nat_lt, option_map, slice_get, if◌then◌else◌}
 use Rattle.std.specs.Option.{option_map_or}
 use Rattle.std.specs.FinMap as finite
@@ -11,25 +11,20 @@ use Rattle.base.specs.formats.Fields.{no_pointer}
 use Rattle.base.specs.formats.Limits.{object_count, one_level_length, pointer_count, record_count}
 use Rattle.base.specs.tree.Places.{Place, object_of_indirect, record_start, strip_number, strip_of, strip_start}
 use Rattle.base.specs.tree.Places.Place.{Top, Indirect, Data}
-use Rattle.base.specs.tree.PlacedTrees.{HasNonePast, HoldsTree, IsLong, NeedsNoTop}
+use Rattle.base.specs.kept.PlacedTrees.{HasNonePast, HoldsTree, IsLong, NeedsNoTop}
 use Rattle.base.specs.tree.Tree.{IsRecord}
 use Rattle.base.proofs.tree.PlacedTrees.{holds-placed, not_both, record_at}
 use Rattle.base.proofs.tree.Strips.{record-count, strip-low, strip-object, strip-which}
 use Rattle.device_model.specs.declared.device.SectorDevice.{Ghosts}
 use Rattle.object_maps.specs.Cached.{HoldsStrip, HoldsTop, IsPointerInside}
-use Rattle.object_maps.specs.Lengths.{length_in}
-use Rattle.object_maps.specs.Pointers.{ObjectPointers, is_long_entry, no_pointers, object_pointers, pointers_of, pointers_of_entry}
-use Rattle.object_maps.specs.declared.tree.ObjectEntry.{ObjectEntry}
-use Rattle.object_maps.specs.declared.tree.Tree.{Tree}
+use Rattle.tree_blocks.specs.Lengths.{length_in}
+use Rattle.tree_blocks.specs.Pointers.{ObjectPointers, is_long_entry, no_pointers, object_pointers, pointers_of, pointers_of_entry}
+use Rattle.tree_blocks.specs.declared.tree.ObjectEntry.{ObjectEntry}
+use Rattle.tree_blocks.specs.declared.tree.Tree.{Tree}
 use Rattle.object_maps.proofs.ObjectReads.{records_formed}
-use Rattle.object_maps.proofs.ToldStrips.{entry-short}
+use Rattle.tree_blocks.proofs.ToldStrips.{entry-short}
 use Rattle.object_reads.specs.declared.shown_tree.ShownTree.{ShownTree}
 use Rattle.object_reads.specs.ShownTrees.{StandsOn, synced_objects}
-
--- an object that is there has its bytes, as many as its length says
-pub bytes_there : (o : Option (List ℕ)) → is_some o ≡ true → (bytes : List ℕ) × (o ≡ Some bytes)
-bytes_there (Some bytes) there = (bytes, refl)
-bytes_there None there = absurd (false≢true there)
 
 pub bytes_long : (o : Option (List ℕ)) (size : ℕ) → Some size ≡ option_map length o → (bytes : List ℕ) × (o ≡ Some bytes) × (length bytes ≡ size)
 bytes_long (Some bytes) size is = (bytes, refl, cc)

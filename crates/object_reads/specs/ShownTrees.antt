@@ -9,12 +9,12 @@ use Rattle.base.specs.formats.Fields.{pointer_in}
 use Rattle.base.specs.formats.Limits.{pointer_count}
 use Rattle.base.specs.tree.Places.{strip_number}
 use Rattle.base.specs.tree.Places.Place.{Indirect, Data}
-use Rattle.base.specs.tree.PlacedTrees.{HoldsTree}
+use Rattle.base.specs.kept.PlacedTrees.{HoldsTree}
 use Rattle.device_model.specs.declared.device.SectorDevice.{Ghosts}
 use Rattle.object_maps.specs.Cached.{IsReadRefusal}
 use Rattle.object_maps.specs.ContentsShown.{contents_of}
-use Rattle.object_maps.specs.Lengths.{HasLengthsOf}
-use Rattle.object_maps.specs.Pointers.{pointers_of}
+use Rattle.tree_blocks.specs.Lengths.{HasLengthsOf}
+use Rattle.tree_blocks.specs.Pointers.{pointers_of}
 use Rattle.extents.specs.Unsynced.{laid_all}
 use Rattle.object_reads.specs.declared.pointer_blocks.PointerBlocks.{PointerBlocks}
 use Rattle.object_reads.specs.declared.shown_tree.ShownTree.{ShownTree}

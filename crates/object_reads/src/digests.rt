@@ -11,7 +11,8 @@ ghost use Rattle.device_model.specs.Reading.{OnlyReads};
 ghost use Rattle.object_maps.specs.Cached.{IsReadRefusal};
 ghost use Rattle.object_maps.specs.Digests.{Feeds, text_at};
 ghost use Rattle.object_maps.specs.Judging.{with_name};
-ghost use Rattle.object_maps.specs.Sources.{AreWithin, object_bytes};
+ghost use Rattle.object_maps.specs.Sources.{object_bytes};
+ghost use Rattle.tree_blocks.specs.ListedObjects.{AreWithin};
 
 use crate::pointer_blocks::PointerBlocks;
 use crate::shown_tree::ShownTree;

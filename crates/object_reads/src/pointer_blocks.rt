@@ -6,18 +6,19 @@ ghost use Rattle.std.specs.FinMap as finite;
 ghost use Rattle.base.specs.declared.error.PoolError.TheVariants as error;
 ghost use Rattle.base.specs.formats.Geometry.{block_address};
 ghost use Rattle.base.specs.formats.Limits.{object_count, payload_size, pointer_count};
-ghost use Rattle.base.specs.tree.PlacedTrees.{IsLong};
+ghost use Rattle.base.specs.kept.PlacedTrees.{IsLong};
 ghost use Rattle.base.specs.tree.Places.{strip_number};
 ghost use Rattle.base.specs.tree.Places.Place.{Indirect};
 ghost use Rattle.device_model.specs.Reading.{OnlyReads};
 ghost use Rattle.object_maps.specs.Cached.{IsReadRefusal};
-ghost use Rattle.object_maps.specs.Pointers.{pointers_of};
+ghost use Rattle.tree_blocks.specs.Pointers.{pointers_of};
 ghost use Rattle.object_maps.specs.Sources.{object_length};
 
 use crate::shown_tree::ShownTree;
 use base::{ObjectId, Pointer, PoolError};
 use checked_blocks::PAYLOAD_SIZE;
-use object_maps::{BlockReader, read_indirect, read_top, strip_number, strip_pointer};
+use object_maps::{BlockReader, read_indirect, read_top, strip_pointer};
+use tree_blocks::strip_number;
 
 // The payloads of the blocks with the pointers of an object, once they are read: that of its top, and that of the
 // indirect block of the strip that was read last.

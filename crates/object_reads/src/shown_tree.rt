@@ -16,9 +16,8 @@ use crate::pointer_blocks::PointerBlocks;
 use base::{ObjectId, POINTER_COUNT, PoolError};
 use checked_blocks::Frame;
 use extents::{Laid, UnsyncedExtents};
-use object_maps::{
-    BlockReader, Contents, ObjectSource, Tree, read_part, record_pointer, strip_number,
-};
+use object_maps::{BlockReader, Contents, ObjectSource, read_part, record_pointer};
+use tree_blocks::{Tree, strip_number};
 
 /// What a pool has in memory of the objects that it shows. Reads of their bytes are handed the device.
 #[derive(Clone, Copy, Debug)]

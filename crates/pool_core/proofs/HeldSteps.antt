@@ -10,7 +10,7 @@ use Rattle.base.specs.history.Past.{Past}
 use Rattle.base.specs.tree.Places.{Place}
 use Rattle.base.specs.tree.Places.Place.{Root}
 use Rattle.base.specs.steps.Shown.{Shown}
-use Rattle.base.specs.stored.Stored.{IsHeld, IsStored, NewTree, RunsAs, frame_at}
+use Rattle.base.specs.kept.Stored.{IsHeld, IsStored, NewTree, RunsAs, frame_at}
 use Rattle.base.proofs.stored.StoredRuns.{moves-keep}
 use Rattle.base.proofs.tree.SamePlaces.{holds_as}
 use Rattle.pool_tables.specs.Told.{Leads, SamePlaces, ShownPool, held_with}

@@ -14,8 +14,8 @@ use Rattle.base.specs.steps.Runs.{reply_of}
 use Rattle.base.specs.steps.Steps as steps
 use Rattle.base.proofs.steps.Additions.{told_past}
 use Rattle.device_model.specs.declared.device.SectorDevice.{Ghosts}
-use Rattle.object_maps.specs.declared.tree.Tree.{Tree}
-use Rattle.object_maps.specs.Pointers.{pointers_of}
+use Rattle.tree_blocks.specs.declared.tree.Tree.{Tree}
+use Rattle.tree_blocks.specs.Pointers.{pointers_of}
 use Rattle.pool_tables.specs.LogBlocks.{WritesLogBlock}
 use Rattle.pool_tables.specs.StepAnswers as answers
 use Rattle.pool_tables.specs.Told.{Leads, new_tree_of, state_with}
@@ -29,7 +29,7 @@ use Rattle.pool_core.specs.Turns.{MakesStep, Turns}
 use Rattle.pool_core.specs.declared.state.PoolState.{PoolState}
 use Rattle.pool_core.proofs.Turns.{any_turns}
 use Rattle.pool_core.proofs.crash.LogSafe.{log_flushes_safe, log_writes_safe}
-use Rattle.pool_core.proofs.crash.LogFlushes.{same_flushed}
+use Rattle.import_replay.proofs.ReadPools.{same_flushed}
 
 -- a write that the device refused leaves what a read gives, and so does a flush
 bytes_refused : (before after : Disk) (place : ℕ) (content : List ℕ) (e : PoolError) → Writes before place content (Err e) after → bytes_of after.now ≡ bytes_of before.now

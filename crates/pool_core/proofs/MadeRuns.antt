@@ -7,7 +7,7 @@ use Rattle.base.specs.declared.step.Reply.{Reply}
 use Rattle.base.specs.steps.Additions.{past_after}
 use Rattle.base.specs.steps.Tables.{AreTablesExplained}
 use Rattle.base.specs.steps.Runs.{Run}
-use Rattle.base.specs.stored.Stored.{IsHeld}
+use Rattle.base.specs.kept.Stored.{IsHeld}
 use Rattle.device_model.specs.declared.device.SectorDevice.{Ghosts}
 use Rattle.pool_core.specs.declared.state.PoolState.{PoolState}
 use Rattle.pool_core.specs.Calls.{counted_in_turn}

@@ -22,7 +22,7 @@ use Rattle.base.specs.steps.Runs.{Replies, Step, asks_device, is_log_step, progr
 use Rattle.base.specs.steps.Shown.{Shown, is_durable, status_of}
 use Rattle.base.specs.steps.Steps as steps
 use Rattle.base.specs.steps.Steps.{Answers, State}
-use Rattle.base.specs.stored.Stored.{IsHeld, is_turn}
+use Rattle.base.specs.kept.Stored.{IsHeld, is_turn}
 use Rattle.device_model.specs.declared.device.SectorDevice.{Ghosts}
 use Rattle.sync.specs.Calls.{plain_answer}
 use Rattle.pool_tables.specs.declared.pool.PoolTables.{PoolTables}

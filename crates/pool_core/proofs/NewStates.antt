@@ -10,12 +10,12 @@ use Rattle.base.specs.formats.Limits.{max_length, object_count}
 use Rattle.base.specs.history.Past.{new_past}
 use Rattle.base.specs.steps.Exact.{IsInLog}
 use Rattle.base.specs.steps.Shown.{Shown}
-use Rattle.base.specs.stored.Stored.{IsHeld, IsStored}
+use Rattle.base.specs.kept.Stored.{IsHeld, IsStored}
 use Rattle.base.specs.tree.Places.{IsInTree}
 use Rattle.base.proofs.common.KeptLists.{none_at}
 use Rattle.object_maps.specs.ContentsShown.{contents_of}
-use Rattle.object_maps.specs.Pointers.{pointers_of}
-use Rattle.object_maps.specs.Sources.{AreWithin}
+use Rattle.tree_blocks.specs.Pointers.{pointers_of}
+use Rattle.tree_blocks.specs.ListedObjects.{AreWithin}
 use Rattle.import_replay.specs.declared.mounted.Mounted.{Mounted}
 use Rattle.import_replay.specs.Mounts.{IsExplainedAnew, StandsOn, shown_of_import}
 use Rattle.import_replay.specs.ShownMounts.{LabelsShow}

@@ -8,10 +8,10 @@ use Rattle.base.specs.declared.step.Reply.TheVariants as reply
 use Rattle.base.specs.disk.Calls.{counted}
 use Rattle.base.specs.disk.Disk.{Disk, bytes_of}
 use Rattle.base.specs.steps.Runs.{reply_of}
-use Rattle.base.specs.stored.Stored.{is_turn}
+use Rattle.base.specs.kept.Stored.{is_turn}
 use Rattle.device_model.specs.declared.device.SectorDevice.{Ghosts}
-use Rattle.object_maps.specs.declared.tree.Tree.{Tree}
-use Rattle.object_maps.specs.Pointers.{pointers_of}
+use Rattle.tree_blocks.specs.declared.tree.Tree.{Tree}
+use Rattle.tree_blocks.specs.Pointers.{pointers_of}
 use Rattle.pool_core.specs.declared.state.PoolState.{PoolState}
 use Rattle.pool_core.specs.Calls.{answer_in}
 use Rattle.pool_tables.specs.Told.{Leads, ShownPool, new_tree_of}

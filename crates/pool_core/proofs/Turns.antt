@@ -4,7 +4,7 @@ use Rattle.base.specs.declared.step.Step as declared_step
 use Rattle.base.specs.declared.step.Reply as declared_reply
 use Rattle.base.specs.steps.Tables.{AreTablesExplained}
 use Rattle.base.specs.history.Past.{Past}
-use Rattle.base.specs.stored.Stored.{IsHeld}
+use Rattle.base.specs.kept.Stored.{IsHeld}
 use Rattle.base.proofs.steps.Additions.{told_past}
 use Rattle.base.proofs.steps.KeptTables.{steps_keep_tables}
 use Rattle.pool_tables.specs.Told.{Leads, ShownPool, held_with, state_with}

@@ -5,7 +5,7 @@ use Rattle.base.specs.declared.step.Reply as declared_reply
 use Rattle.base.specs.history.Past.{Past}
 use Rattle.base.specs.steps.Runs as runs
 use Rattle.base.specs.steps.Runs.{Run}
-use Rattle.base.specs.stored.Stored.{Held, IsHeld}
+use Rattle.base.specs.kept.Stored.{Held, IsHeld}
 use Rattle.pool_tables.specs.Told.{ShownPool, held_with}
 
 -- a step with its reply, over a device with the bytes of the old state

@@ -2,13 +2,13 @@
 use Rattle.std.specs.Prelude.{ℕ, ◌≡◌, ◌≢◌, ◌≤◌, ◌<◌, ◌⊎◌, ⊤, ◌++◌, [], ◌∷◌, All, true, List, Option, Some, None}
 use Rattle.base.specs.declared.step.Step as declared_step
 use Rattle.base.specs.declared.step.Reply as declared_reply
-use Rattle.base.specs.crash.CrashRule.{IsRunLeft}
-use Rattle.base.specs.crash.Layout.{header_now}
-use Rattle.base.specs.crash.LogRoom.{HasImportRoom}
-use Rattle.base.specs.crash.LogRule.{IsLogHeld}
-use Rattle.base.specs.crash.Own.{IsOwnImage}
-use Rattle.base.specs.crash.PoolViews.{IsPoolDisk, IsSyncConfig, IsViewOf}
-use Rattle.base.specs.crash.Views.{AreConfigsUpTo, IsConfigContent, IsSettled, View, view_frame}
+use Rattle.base.specs.kept.CrashRule.{IsRunLeft}
+use Rattle.base.specs.kept.Layout.{header_now}
+use Rattle.base.specs.kept.LogRoom.{HasImportRoom}
+use Rattle.base.specs.kept.LogRule.{IsLogHeld}
+use Rattle.base.specs.kept.Own.{IsOwnImage}
+use Rattle.base.specs.kept.PoolViews.{IsPoolDisk, IsSyncConfig, IsViewOf}
+use Rattle.base.specs.kept.Views.{AreConfigsUpTo, IsConfigContent, IsSettled, View, view_frame}
 use Rattle.base.specs.disk.Disk.{Disk, EachMoment, Moment, bytes_of, disk_size, handed, moments}
 use Rattle.base.specs.disk.Fairness.{HasFairBytes, LeavesFair}
 use Rattle.base.specs.formats.Fields.{no_pointer}
@@ -18,11 +18,11 @@ use Rattle.base.specs.history.Past.{Past}
 use Rattle.base.specs.steps.Additions.{past_after}
 use Rattle.base.specs.steps.Locks.{is_in}
 use Rattle.base.specs.tree.Places.{IsPlace, Place}
-use Rattle.base.specs.tree.PlacedTrees.{HoldsTree}
+use Rattle.base.specs.kept.PlacedTrees.{HoldsTree}
 use Rattle.base.specs.steps.Explains.{AreSafe, Explains, IsLeftBy, WereSafe}
 use Rattle.base.specs.steps.Runs.{Run}
 use Rattle.base.specs.steps.Shown.{Shown, SyncPlan}
-use Rattle.base.specs.stored.Stored.{Held, IsHeld}
+use Rattle.base.specs.kept.Stored.{Held, IsHeld}
 use Rattle.device_model.specs.declared.device.SectorDevice.{Ghosts}
 use Rattle.labels.specs.declared.stage.Stage.TheVariants.{Even}
 use Rattle.sync.specs.declared.run.LabelStages.{LabelStages}

@@ -3,7 +3,7 @@ use Rattle.std.specs.Prelude.{ℕ}
 use Rattle.base.specs.steps.Tables.{AreTablesExplained}
 use Rattle.base.specs.steps.Shown.{Shown}
 use Rattle.base.specs.history.Past.{Past, new_past}
-use Rattle.base.specs.stored.Stored.{IsHeld}
+use Rattle.base.specs.kept.Stored.{IsHeld}
 use Rattle.pool_tables.specs.Told.{ShownPool, held_with}
 
 -- the past in which nothing has happened yet, of a pool that was created at this moment

@@ -3,7 +3,7 @@ use Rattle.std.specs.Prelude.{Result, IfOk}
 use Rattle.base.specs.declared.error.PoolError.{PoolError}
 use Rattle.base.specs.declared.names.Group.{Group}
 use Rattle.base.specs.history.Past.{Past}
-use Rattle.base.specs.stored.Stored.{IsHeld}
+use Rattle.base.specs.kept.Stored.{IsHeld}
 use Rattle.pool_tables.specs.SyncStarts.{TakesInOrder}
 use Rattle.pool_tables.specs.Told.{ShownPool, held_with}
 

@@ -6,7 +6,7 @@ use Rattle.base.specs.steps.Additions.{past_after}
 use Rattle.base.specs.steps.Tables.{AreTablesExplained}
 use Rattle.base.specs.history.Past.{Past}
 use Rattle.base.specs.steps.Steps.{State}
-use Rattle.base.specs.stored.Stored.{Held, IsHeld}
+use Rattle.base.specs.kept.Stored.{Held, IsHeld}
 use Rattle.device_model.specs.declared.device.SectorDevice.{Ghosts}
 use Rattle.pool_core.specs.declared.state.PoolState.{PoolState}
 use Rattle.pool_core.specs.Calls.{CallsDevice, answer_in}

@@ -2,7 +2,7 @@
 use Rattle.std.proofs.Common.{ℕ, ◌≡◌, ◌+◌, Bool, true, false, List, [], ◌∷◌, ◌++◌, ◌||◌, ◌<◌, ◌≤◌, length, nat_le, nat_lt, refl, sym, ◌∙◌, arith}
 use Rattle.std.specs.Prelude.{Some, None, Result, Ok, Err}
 use Rattle.std.specs.List.{list_all}
-use Rattle.std.proofs.lemmas.Bool.{and_parts, or_parts}
+use Rattle.std.proofs.lemmas.Bool.{and_parts, or_parts, ltb-false}
 use Rattle.std.proofs.lemmas.Bool.Decides.{nat_tests}
 use Rattle.base.specs.declared.error.PoolError.{PoolError}
 use Rattle.base.specs.declared.error.PoolError.TheVariants as error
@@ -41,9 +41,6 @@ refused_before (t ∷ ts) us e some = go t.applies some (refused_before ts us e)
         → first_refusal (record { applies = b; error = t.error } ∷ ts ++ us) ≡ Some e
     go true h rest = h
     go false h rest = rest h
-
-not_above : (n m : ℕ) → nat_lt n m ≡ false → m ≤ n
-not_above n m h = grind (arith, nat_tests)
 
 below_most : (n : ℕ) (other : Bool) → (nat_le max_transactions n || other) ≡ false → n < max_transactions
 below_most n other h = let few = (or_parts (nat_le max_transactions n) other h).0 in grind (arith, nat_tests)
@@ -106,7 +103,7 @@ module _ (owner : ℕ) (plan : List Shape) (s : Shown) where
       let ranges = passed.1.1.1 in
       record {
         allowed = from_not_false _ _ refl passed.0;
-        small = not_above _ _ passed.1.0;
+        small = ltb-false _ _ passed.1.0;
         few = below_most _ _ ranges.1.0;
         free = ranges.0;
         room = ranges.1.0;

@@ -5,6 +5,7 @@ use Rattle.std.proofs.lemmas.Cmp.{nat_cmp_total}
 use Rattle.std.specs.Prelude.{Option, Some, None, Result, Ok, Err, IfOk, IfSome, OnOk, find, is_some, option_map, ◌==◌}
 use Rattle.std.proofs.lemmas.List.{length-append}
 use Rattle.std.proofs.lemmas.List.Sums.{sum_by-cons}
+use Rattle.std.proofs.Math.Bool.{and-false}
 use Rattle.std.specs.List.{list_any}
 use Rattle.std.specs.Ordering.{nat_cmp}
 use Rattle.std.specs.FinMap as finite
@@ -34,7 +35,7 @@ use Rattle.base.specs.steps.Refusals.{abort_refusal, append_range, append_refusa
 use Rattle.base.specs.steps.Shown.{Shown, SyncPlan, is_durable}
 use Rattle.base.specs.steps.Steps as steps
 use Rattle.base.specs.steps.Steps.{Answers, IsPlanned, IsReplayUpTo, State, TakesForEach, TakesForLog, WantsMemory, WantsMemoryOrRead, bytes_in, next_grant, state_after_abort, state_after_grant, state_after_log_flush, state_after_log_write, state_after_start, suspended_state, transactions_without}
-use Rattle.base.specs.stored.Stored.{IsHeld}
+use Rattle.base.specs.kept.Stored.{IsHeld}
 use Rattle.base.proofs.common.KeptLists.{Some-injective, any_at, any_map}
 use Rattle.base.proofs.history.CommitOrder.{ok-none}
 use Rattle.pool_tables.specs.HeldReads.{DigestHeld, ReadsHeld}
@@ -300,10 +301,6 @@ taken_away free address =
     contains-difference nat_cmp_total free (set.from_list (address ∷ [])) address
     ∙ ap (λ (b : Bool). set.contains free address && not b) (contains-from_list_nat (address ∷ []) address ∙ any_at (λ y. nat_eq y address) (address ∷ []) 0 address refl (eq-eqb address address refl))
     ∙ and-false (set.contains free address)
-  where
-    and-false : (b : Bool) → (b && false) ≡ false
-    and-false true = refl
-    and-false false = refl
 
 -- what is mapped to nothing is nothing
 pub none_mapped : {A B : Type 0} (f : A → B) (o : Option A) → option_map f o ≡ None → is_some o ≡ false

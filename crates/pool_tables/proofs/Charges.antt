@@ -1,6 +1,7 @@
 -- What a pool shows as charged and as reserved is what its sums say, and its status tells it.
 use Rattle.std.proofs.Common.{◌≡◌, ◌∙◌, ℕ, ◌+◌, ◌-◌, ◌%◌, ◌<◌, ◌≤◌, Bool, true, false, List, length, nat_lt, subst, ap, refl, sym, arith, inl}
 use Rattle.std.proofs.lemmas.Bool.Decides.{nat_tests}
+use Rattle.std.proofs.lemmas.Bool.{ltb-false}
 use Rattle.std.proofs.lemmas.List.{length-map}
 use Rattle.std.specs.FinMap.{get-empty}
 use Rattle.std.specs.Ordering.{nat_cmp}
@@ -23,7 +24,7 @@ use Rattle.throttle.specs.DirtyBytes.{MayBeUnsynced, after_synced, dirty_behind,
 use Rattle.throttle.specs.Laws.{SameTotals}
 use Rattle.throttle.proofs.OpenCharges.{stay_charged}
 use Rattle.throttle.proofs.ShownSums.{holding_groups_are_charged, same_totals, sums_stay_on_lines}
-use Rattle.object_maps.specs.declared.tree.Tree.{Tree}
+use Rattle.tree_blocks.specs.declared.tree.Tree.{Tree}
 use Rattle.pool_tables.specs.declared.pool.PoolTables.{PoolTables}
 use Rattle.pool_tables.specs.declared.pool.RunningSync.{RunningSync}
 use Rattle.pool_tables.proofs.HeldGroups.{none_syncing}
@@ -38,9 +39,6 @@ module _ (reserved total sum rest : ℕ) (reserved_is : reserved ≡ blocks_in t
 
   pub blocks_left : reserved - blocks_in sum ≡ blocks_in rest
   blocks_left = omega (arith, reserved_is, is, whole)
-
-not_below : (n m : ℕ) → nat_lt n m ≡ false → m ≤ n
-not_below n m h = grind (arith, nat_tests)
 
 below : (n m : ℕ) → nat_lt n m ≡ true → n < m
 below n m h = grind (arith, nat_tests)
@@ -76,7 +74,7 @@ module _ (p : PoolTables) where
   -- where a plan's blocks are available they may be reserved
   pub enough_free : (plan : List Shape) (count : ℕ) → count ≡ estimate_of plan → nat_lt (available (pool_shown p)) (blocks_wanted (pool_shown p).contents plan) ≡ false → is_short count 0 p.free ≡ true → ⊥
   enough_free plan count is enough short =
-      let wanted : blocks_wanted (pool_shown p).contents plan ≤ available (pool_shown p) = not_below _ _ enough in
+      let wanted : blocks_wanted (pool_shown p).contents plan ≤ available (pool_shown p) = ltb-false _ _ enough in
       let few : available_in p.free < count + 0 = below _ _ short in
       omega (arith, is, wanted, few, available_told)
 

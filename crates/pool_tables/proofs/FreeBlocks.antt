@@ -13,26 +13,16 @@ use Rattle.space.specs.FreeSets.{FreeSpace, after_give, after_sync_take}
 use Rattle.tree_plans.specs.declared.planner.PlannedBlock.{PlannedBlock}
 use Rattle.tree_plans.specs.Plans.{address_of}
 use Rattle.import_replay.specs.FreeBlocks.{after_gives}
+use Rattle.import_replay.proofs.GivenBlocks.{one_more}
 use Rattle.pool_tables.specs.Areas.{after_sync_takes}
 
 and_true : (b : Bool) → (b && true) ≡ b
 and_true true = refl
 and_true false = refl
 
-or_false : (b : Bool) → (b || false) ≡ b
-or_false true = refl
-or_false false = refl
-
 pub difference_none : (s : FinSet nat_cmp) → s ≡ set.difference s (set.from_list [])
 difference_none s = same_set nat_cmp_total nat_cmp-IsAntisymmetric _ _ (λ q.
     sym (contains-difference nat_cmp_total s (set.from_list []) q ∙ ap (λ b. set.contains s q && not b) (contains-empty nat_cmp q) ∙ and_true (set.contains s q)))
-
-one_more : (xs : List ℕ) (x q : ℕ) → set.contains (set.from_list {R = nat_cmp} (xs ++ x ∷ [])) q ≡ (set.contains (set.from_list {R = nat_cmp} xs) q || eq_by_cmp nat_cmp q x)
-one_more xs x q =
-    contains-from_list nat_cmp_total (xs ++ x ∷ []) q
-    ∙ list_any-append (eq_by_cmp nat_cmp q) xs (x ∷ [])
-    ∙ ap (λ b. list_any (eq_by_cmp nat_cmp q) xs || b) (or_false (eq_by_cmp nat_cmp q x))
-    ∙ sym (ap (λ b. b || eq_by_cmp nat_cmp q x) (contains-from_list nat_cmp_total xs q))
 
 pub difference_more : (s : FinSet nat_cmp) (xs : List ℕ) (x : ℕ) → set.remove (set.difference s (set.from_list xs)) x ≡ set.difference s (set.from_list (xs ++ x ∷ []))
 difference_more s xs x = same_set nat_cmp_total nat_cmp-IsAntisymmetric _ _ (λ q.

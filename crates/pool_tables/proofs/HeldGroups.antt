@@ -12,7 +12,8 @@ use Rattle.base.specs.steps.Groups.{AreNamedApart, Admission, Line, MayHold, hol
 use Rattle.base.specs.steps.Refusals.{quiesced_group, quiescing_group}
 use Rattle.base.specs.steps.Steps.{transactions_without}
 use Rattle.base.proofs.common.KeptLists.{Some-injective}
-use Rattle.base.proofs.steps.KeptGroups.{held_above, line_quiesce, line_start, line_sync, none_there, quiesced_is, quiescing_is}
+use Rattle.base.proofs.common.Choices.{none_there}
+use Rattle.base.proofs.steps.KeptGroups.{held_above, line_quiesce, line_start, line_sync, quiesced_is, quiescing_is}
 use Rattle.groups.specs.CountedLines.{CountedLine, IsCounted, after_close, after_hold, after_quiesce, after_release, after_start, after_sync, counted_behind, hold_total, holds_of, is_close_refused, is_hold_refused, is_quiesce_refused, is_release_refused, is_start_refused, line_after_sync}
 use Rattle.groups.specs.Laws.{AreHoldsExact, BeginsAreHeld, MovesKeepHolds}
 use Rattle.groups.proofs.HoldCounts as holds

@@ -13,20 +13,22 @@ use Rattle.base.specs.steps.Locks.{is_covered}
 use Rattle.base.specs.steps.Refusals.{read_refusal}
 use Rattle.base.specs.steps.Shown.{Shown}
 use Rattle.base.specs.steps.Steps.{Digest, Read, State, bytes_in}
-use Rattle.base.specs.stored.Stored.{IsHeld, frame_at}
+use Rattle.base.specs.kept.Stored.{IsHeld, frame_at}
 use Rattle.base.proofs.formats.Geometry.{blocks-end}
+use Rattle.base.proofs.steps.ListedLengths.{listed_lengths_are}
+use Rattle.base.proofs.common.Choices.{some_there, none_there}
 use Rattle.device_model.specs.declared.device.SectorDevice.{Ghosts}
 use Rattle.object_maps.specs.Cached.{IsReadRefusal}
-use Rattle.object_maps.specs.Pointers.{pointers_of}
+use Rattle.tree_blocks.specs.Lengths.{lengths_of}
+use Rattle.tree_blocks.specs.Pointers.{pointers_of}
 use Rattle.object_reads.specs.declared.shown_tree.ShownTree.{ShownTree}
 use Rattle.object_reads.specs.ShownTrees as reads
-use Rattle.object_reads.proofs.SyncedObjects.{bytes_there}
 use Rattle.object_reads.specs.ShownTrees.{IsRangeRefusal, IsRangeRefusalOnTree, StandsOn}
 use Rattle.pool_tables.specs.declared.pool.PoolTables.{PoolTables}
 use Rattle.pool_tables.specs.GroupPlans.{HoldsSyncedTree}
-use Rattle.pool_tables.specs.Shows.{pool_objects, pool_shown}
+use Rattle.pool_tables.specs.Shows.{pool_objects, pool_shown, synced_of}
 use Rattle.pool_tables.specs.Told.{held_with, pool_told}
-use Rattle.pool_tables.proofs.ReadSteps.{absent, is_unreadable}
+use Rattle.pool_tables.proofs.ReadSteps.{is_unreadable}
 use Rattle.pool_tables.proofs.syncs.PlannedGroups.{synced_tree}
 
 -- what is shown, with a past
@@ -46,7 +48,7 @@ module _ (owner : ℕ) (t : NumberRange) (s : Shown) where
 
   pub is_absent : s.suspended ≡ false → is_unreadable t ≡ false → is_covered owner t s.locks ≡ true → is_some (finite.get s.contents.objects t.number) ≡ false
       → read_refusal owner t s ≡ Some error.NoObject
-  is_absent h bad covered none = rw (h, bad, covered, absent (finite.get s.contents.objects t.number) none) refl
+  is_absent h bad covered none = rw (h, bad, covered, none_there (finite.get s.contents.objects t.number) none) refl
 
   pub read_refused : (keeps : Type 0) (e : PoolError) (past : Past) → read_refusal owner t s ≡ Some e → Read keeps owner t (Err e) (at s past) (at s past)
   read_refused keeps e past is = rw is (refl, refl)
@@ -66,7 +68,7 @@ damage_is_not keeps e sound kind address is k = elim (sound k) [
 module _ (keeps : Type 0) (owner : ℕ) (t : NumberRange) (s : Shown) (past : Past) (none : read_refusal owner t s ≡ None) (there : is_some (finite.get s.contents.objects t.number) ≡ true) where
   bytes_told : (bytes : List ℕ) → (keeps → bytes ≡ bytes_in t (unwrap_or (finite.get s.contents.objects t.number) [])) → Read keeps owner t (Ok bytes) (at s past) (at s past)
   bytes_told bytes exact =
-      let whole = bytes_there (finite.get s.contents.objects t.number) there in
+      let whole = some_there (finite.get s.contents.objects t.number) there in
       let told : keeps → bytes ≡ bytes_in t whole.0 = λ k. exact k ∙ ap (λ (o : Option (List ℕ)). bytes_in t (unwrap_or o [])) whole.1 in
       rw none (rw whole.1 told, refl)
 
@@ -101,7 +103,7 @@ area_fits geometry size sized is = let end = blocks-end geometry sized in omega 
 pub tree_held : (now : List ℕ) (past : Past) (p : PoolTables) → IsHeld (held_with (pool_told p now) past) → HoldsSyncedTree p now
 tree_held now past p x = record {
   held = synced_tree now (pool_shown p) past (pointers_of p.tree) x.kept.stored x.explained;
-  lengths = x.explained.trees.synced.lengths;
+  lengths = listed_lengths_are (synced_of p) (lengths_of p.tree) x.explained.trees.synced.lengths;
 }
 
 -- what a pool hands its reads
@@ -117,8 +119,9 @@ module _ (p : PoolTables) (t : ShownTree) (framed : t.frame ≡ frame_at (pool_s
   pub held_stands : {Dev : Type 0} (D : Ghosts Dev) (device : Dev) → IsTrue D.keeps_model → (past : Past) → IsHeld (held_with (pool_told p (bytes_of (D.disk device).now)) past)
       → StandsOn D device t
   held_stands D device keeps past h =
+      let held = tree_held (bytes_of (D.disk device).now) past p h in
       record {
         keeps = keeps;
-        tree = rw (framed, tree, contents) (tree_held (bytes_of (D.disk device).now) past p h).held;
-        lengths = rw (tree, contents) h.explained.trees.synced.lengths;
+        tree = rw (framed, tree, contents) held.held;
+        lengths = rw (tree, contents) held.lengths;
       }

@@ -1,16 +1,16 @@
 -- A write and a flush of the log, step by step.
-use Rattle.std.proofs.Common.{◌≡◌, ◌∙◌, inl, inr, ℕ, ◌+◌, ◌<◌, ◌≤◌, ◌==◌, ◌&&◌, ◌||◌, Bool, true, false, List, [], ◌∷◌, ◌++◌, map, length, nat_le, nat_lt, refl, ap, sym, subst, arith}
+use Rattle.std.proofs.Common.{◌≡◌, ◌∙◌, inl, inr, ℕ, ◌+◌, ◌<◌, ◌==◌, ◌&&◌, ◌||◌, Bool, true, false, List, [], ◌∷◌, ◌++◌, map, length, nat_le, nat_lt, refl, ap, sym, subst, arith}
 use Rattle.std.specs.Prelude.{Some, None, Result, Ok, Err, is_none, not}
-use Rattle.std.proofs.Math.Bool.{or-false}
-use Rattle.std.proofs.lemmas.Bool.{or_parts}
+use Rattle.std.proofs.Math.Bool.{or-false, or-true}
+use Rattle.std.proofs.lemmas.Bool.{or_parts, ltb-false}
 use Rattle.std.proofs.lemmas.Bool.Decides.{nat_tests}
 use Rattle.std.proofs.lemmas.List.{map-append}
 use Rattle.std.proofs.lemmas.List.Elements.{All-push}
 use Rattle.std.proofs.lemmas.Simd.{map-map}
 use Rattle.base.specs.declared.error.PoolError.{PoolError}
 use Rattle.base.specs.declared.error.PoolError.TheVariants as error
-use Rattle.base.specs.crash.LogSteps.{IsPackedBlock}
-use Rattle.base.specs.crash.Views.{Logged}
+use Rattle.base.specs.kept.LogSteps.{IsPackedBlock}
+use Rattle.base.specs.kept.Views.{Logged}
 use Rattle.base.specs.disk.Calls.{IsOnDevice, Writes}
 use Rattle.base.specs.disk.Disk.{Disk}
 use Rattle.base.specs.formats.Geometry.{IsBlockAddress, block_address, block_count, block_size}
@@ -41,9 +41,6 @@ pub record MayWrite (s : Shown) : Type 0 where
   pub blocks : kept_back < available s
   pub number : s.log.next.number < last_number
 
-not_below : (n m : ℕ) → nat_lt n m ≡ false → m ≤ n
-not_below n m h = grind (arith, nat_tests)
-
 not_up_to : (n m : ℕ) → nat_le n m ≡ false → m < n
 not_up_to n m h = grind (arith, nat_tests)
 
@@ -54,7 +51,7 @@ module _ (s : Shown) where
       let room = or_parts (nat_lt (available s) (kept_back + 1)) (nat_le last_number s.log.next.number) passed.1.0 in
       record {
         some = passed.0;
-        blocks = let low = not_below (available s) (kept_back + 1) room.0 in omega (arith, low);
+        blocks = let low = ltb-false (available s) (kept_back + 1) room.0 in omega (arith, low);
         number = not_up_to last_number s.log.next.number room.1;
       }
 
@@ -100,10 +97,6 @@ pub next_in_area : (pool : PoolTables) → IsBlockAddress (block_count pool.geom
 next_in_area pool = block_of (block_count pool.geometry) pool.log.next.address
     (All-at (λ (a : ℕ). is_block_of (block_count pool.geometry) a ≡ true) (log_addresses (log_shown pool.log)) (length (map (λ (k : KeptBlock). k.address) pool.log.kept)) pool.log.next.address
     pool.log_placed (at_last (map (λ (k : KeptBlock). k.address) pool.log.kept) pool.log.next.address))
-
-or-true : (b : Bool) → (b || true) ≡ true
-or-true true = refl
-or-true false = refl
 
 -- Where the log's blocks lie, after a write and after a flush.
 pub placed_logged : (blocks address : ℕ) (t : Taken) (log : Log) → is_block_of blocks address ≡ true → AreBlocksOf blocks (log_addresses log) → AreBlocksOf blocks (log_addresses (log_after_write t address log))

@@ -12,7 +12,7 @@ use Rattle.base.specs.steps.Refusals.{close_refusal, log_flush_refusal, log_writ
 use Rattle.base.specs.steps.Shown.{Shown, SyncPlan}
 use Rattle.base.specs.steps.Steps as steps
 use Rattle.base.specs.steps.Steps.{Answers, IsPlanned, IsProgress, State, SyncProgress, TakesForEach, WantsMemoryOrRead, line_after_close, line_after_quiesce, state_after_log_flush, state_after_start, suspended_state, with_line}
-use Rattle.base.specs.stored.Stored.{IsHeld}
+use Rattle.base.specs.kept.Stored.{IsHeld}
 use Rattle.base.proofs.common.KeptLists.{Some-injective}
 use Rattle.base.proofs.history.CommitOrder.{ok-none}
 use Rattle.pool_tables.specs.Meets.{Meets}

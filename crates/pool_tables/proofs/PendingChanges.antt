@@ -12,12 +12,12 @@ use Rattle.base.proofs.history.Names.{given-append}
 use Rattle.base.proofs.steps.KeptGroups.{held_above, held_above_sync}
 use Rattle.extents.specs.declared.extents.Extents.{Extents}
 use Rattle.extents.specs.declared.unsynced.UnsyncedExtents.{UnsyncedExtents}
-use Rattle.extents.specs.Patches.{ArePatchesOf, IsSized, laid_over, no_patch}
+use Rattle.extents.specs.Patches.{ArePatchesOf, laid_over, no_patch}
 use Rattle.extents.specs.Synced.{patched_contents}
 use Rattle.extents.specs.Tables.{name_of, patches_of}
 use Rattle.extents.specs.Unsynced.{AppliesAt, KeepsOtherPlaces, LeavesChanges, changes_at, extents_at, laid_all, name_at, name_over}
-use Rattle.extents.proofs.LaidWithin.{patches_sized, sized_in}
 use Rattle.extents.proofs.SamePatches.{changes_added, changes_left}
+use Rattle.extents.proofs.GroupEntries.{sized_at}
 use Rattle.groups.specs.CountedLines.{holds_of}
 use Rattle.groups.proofs.HoldCounts.{has_hold}
 use Rattle.transactions.specs.declared.record.Record.{Record}
@@ -43,10 +43,6 @@ pending_with group pending c =
     go : (is : Bool) → flat_map (λ (x : Record). x.ops) (cond is (c ∷ []) []) ≡ cond is (c.ops ++ []) []
     go true = refl
     go false = refl
-
-sized_at : (e : Option Extents) (n : ℕ) → IsSized (option_map_or patches_of e (λ _. no_patch) n)
-sized_at None n = sized_in None
-sized_at (Some e) n = patches_sized e n
 
 -- the changes at another place are the same
 pub kept_at : (place other : ℕ) (old new : UnsyncedExtents) → KeepsOtherPlaces place old new → other ≢ place → changes_at new other ≡ changes_at old other

@@ -1,30 +1,20 @@
 -- The unsynced transactions of a pool are those of its history above the synced group, so a group that waits has the
 -- operations of both.
 use Rattle.std.proofs.Common.{◌≡◌, ℕ, ◌+◌, ◌<◌, Bool, true, false, cond, List, [], ◌∷◌, ◌++◌, map, filter, refl, ap, sym, ◌∙◌, nat_lt}
-use Rattle.std.specs.Prelude.{Ok, ◌==◌}
+use Rattle.std.specs.Prelude.{◌==◌}
 use Rattle.std.specs.List.{enumerate_from, flat_map}
 use Rattle.std.proofs.lemmas.Bool.{eqb-true, lt-ltb, false≢true}
 use Rattle.base.specs.declared.operation.Op.{Op}
 use Rattle.base.specs.formats.Records.{Record}
-use Rattle.base.specs.history.Contents.{Contents, apply}
-use Rattle.base.specs.history.History.{Entry, apply_all, entries_in, replay, run}
+use Rattle.base.specs.history.History.{Entry, entries_in}
 use Rattle.base.specs.history.Past.{Past}
-use Rattle.base.specs.history.Sequences.{in_turn}
 use Rattle.base.specs.steps.Tables.{AreTablesExplained}
 use Rattle.base.specs.steps.Logs.{record_of_entry, unsynced_records}
 use Rattle.base.specs.steps.Shown.{Shown}
 use Rattle.base.specs.steps.Steps.{ops_of_group}
-use Rattle.base.proofs.common.Sequences.{in_turn-append, parted}
 use Rattle.transactions.specs.declared.record.Record as code
 use Rattle.tree_plans.specs.Marks.{pending_ops}
 use Rattle.transactions.specs.Records.{record_fields}
-
--- transactions in order are their operations in order
-pub flat_replay : (es : List Entry) (a b : Contents) → replay es a ≡ Ok b → apply_all (flat_map (λ (e : Entry). e.ops) es) a ≡ Ok b
-flat_replay [] a b h = h
-flat_replay (e ∷ es) a b h =
-    let p = parted (run e a) (in_turn run es) b h in
-    in_turn-append apply e.ops (flat_map (λ (x : Entry). x.ops) es) a p.0 b p.1 (flat_replay es p.0 b p.2)
 
 -- the operations of a group among unsynced records
 abbrev record_ops : ℕ → List Record → List Op

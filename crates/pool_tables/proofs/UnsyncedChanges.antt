@@ -25,7 +25,7 @@ use Rattle.extents.proofs.UnsyncedGroups.{oldest_is_laid, oldest_name_is_laid}
 use Rattle.object_maps.specs.declared.contents.Contents as declared
 use Rattle.object_maps.specs.ContentsShown.{contents_of}
 use Rattle.object_maps.specs.Judging.{with_name}
-use Rattle.object_maps.specs.Sources.{AreWithin}
+use Rattle.tree_blocks.specs.ListedObjects.{AreWithin}
 use Rattle.throttle.proofs.SumLaws.{open_within}
 use Rattle.transactions.specs.declared.record.Record.{Record}
 use Rattle.tree_plans.specs.Marks.{pending_ops}

@@ -1,5 +1,4 @@
 pub mod SameSyncs
-pub mod SyncedTrees
 pub mod SyncLeads
 pub mod PlannedGroups
 pub mod PlannedContents

@@ -5,14 +5,14 @@ use Rattle.base.specs.declared.pointer.Pointer.{Pointer}
 use Rattle.base.specs.formats.Uberblocks.{Uberblock}
 use Rattle.base.specs.steps.Logs.{header_for}
 use Rattle.base.specs.steps.Shown.{SyncPlan}
-use Rattle.base.specs.stored.Stored.{frame_at}
+use Rattle.base.specs.kept.Stored.{frame_at}
 use Rattle.sync.specs.Runs.{call_count}
 use Rattle.extents.specs.Unsynced.{name_at}
 use Rattle.tree_plans.specs.declared.planner.TreePlan.{TreePlan}
 use Rattle.tree_plans.specs.Plans.{address_of}
 use Rattle.group_plans.specs.GroupPlans.{HoldsGroupObjects, IsRefusedShort, MakesReadTree}
 use Rattle.group_plans.specs.OldMaps.{HoldsTreeOf}
-use Rattle.group_plans.specs.Pointers.{lengths_after}
+use Rattle.tree_blocks.specs.SyncedTrees.{lengths_after}
 use Rattle.pool_tables.specs.declared.pool.PoolTables.{PoolTables}
 use Rattle.pool_tables.specs.declared.pool.RunningSync.{RunningSync}
 use Rattle.pool_tables.specs.RunningUberblocks.{uberblock_with}

@@ -8,7 +8,7 @@ use Rattle.base.specs.declared.range.Range.{Range}
 use Rattle.base.specs.history.Past.{Past}
 use Rattle.base.specs.steps.Refusals.{object_range}
 use Rattle.base.specs.steps.Steps as steps
-use Rattle.base.specs.stored.Stored.{IsHeld}
+use Rattle.base.specs.kept.Stored.{IsHeld}
 use Rattle.pool_tables.specs.Told.{ShownPool, held_with, state_with}
 
 abbrev pub ReadsHeld : Owner → ObjectId → Range → Result (List ℕ) PoolError → ShownPool → Type 0

@@ -3,8 +3,8 @@ use Rattle.std.specs.Prelude.{ℕ, ◌≡◌, ◌⊎◌, Bool, true, false, [], 
 use Rattle.std.specs.FinSet as set
 use Rattle.base.specs.declared.error.PoolError.{PoolError}
 use Rattle.base.specs.declared.version.Version.TheVariants as version
-use Rattle.base.specs.crash.LogSteps.{IsPackedBlock, shown_after_write}
-use Rattle.base.specs.crash.Views.{Logged}
+use Rattle.base.specs.kept.LogSteps.{IsPackedBlock, shown_after_write}
+use Rattle.base.specs.kept.Views.{Logged}
 use Rattle.base.specs.disk.Calls.{Writes}
 use Rattle.base.specs.disk.Disk.{Disk}
 use Rattle.base.specs.steps.Logs.{IsTaken, Taken, log_after_write}

@@ -1,11 +1,9 @@
 -- The uberblock that a running sync writes into the labels.
-use Rattle.std.specs.Prelude.{ℕ, ◌≡◌}
+use Rattle.std.specs.Prelude.{ℕ}
 use Rattle.base.specs.declared.pointer.Pointer.{Pointer}
 use Rattle.base.specs.formats.Chain.{Header}
-use Rattle.base.specs.formats.Geometry.{slot_of}
 use Rattle.base.specs.formats.Versions.{written_version}
-use Rattle.base.specs.formats.Uberblocks.{Uberblock, IsUberblock}
-use Rattle.sync.specs.declared.run.SyncRun.{SyncRun}
+use Rattle.base.specs.formats.Uberblocks.{Uberblock}
 
 -- of a pool with this guid and import number, that of a sync with this log header, of this group, moment and root
 abbrev pub uberblock_with : (guid import_number : ℕ) → Header → (group moment : ℕ) → Pointer → Uberblock
@@ -19,8 +17,3 @@ uberblock_with guid import_number header group moment root = record {
   log_address = header.address;
   log_number = header.number;
 }
-
--- a sync writes the bytes of this uberblock, in the slot of its group
-pub record WritesUberblock (u : Uberblock) (run : SyncRun) : Type 0 where
-  pub slot : run.slot ≡ slot_of u.group
-  pub bytes : IsUberblock run.uberblock u

@@ -7,17 +7,17 @@ use Rattle.base.specs.declared.pointer.Pointer.{Pointer}
 use Rattle.base.specs.formats.Geometry.{block_address, block_count}
 use Rattle.base.specs.history.Contents.{Contents}
 use Rattle.base.specs.formats.Chain.{Header}
-use Rattle.base.specs.steps.Shown.{Shown, SyncPlan}
+use Rattle.base.specs.steps.Shown.{Shown, SyncPlan, listed}
 use Rattle.intent_log.specs.Kept.{header_fields, log_shown}
 use Rattle.extents.specs.Synced.{patched_contents}
 use Rattle.extents.specs.Unsynced.{changes_at, laid_all, name_at, name_over}
-use Rattle.object_maps.specs.declared.tree.Tree.{Tree}
+use Rattle.tree_blocks.specs.declared.tree.Tree.{Tree}
 use Rattle.object_maps.specs.ContentsShown.{contents_of}
-use Rattle.object_maps.specs.Lengths.{lengths_of}
+use Rattle.tree_blocks.specs.Lengths.{lengths_of}
 use Rattle.tree_plans.specs.declared.planner.PlannedBlock.{PlannedBlock}
 use Rattle.pool_tables.specs.declared.pool.RunningSync.{RunningSync}
 use Rattle.pool_tables.specs.declared.pool.PoolTables.{PoolTables}
-use Rattle.group_plans.specs.Pointers.{lengths_after}
+use Rattle.tree_blocks.specs.SyncedTrees.{lengths_after}
 use Rattle.sync.specs.Runs.{call_count, other_calls}
 use Rattle.throttle.specs.Blocks.{blocks_of}
 
@@ -41,7 +41,7 @@ plan_of tree contents r = record {
   root = r.root;
   header = header_fields r.header;
   contents = contents;
-  lengths = lengths_after r.entries tree;
+  lengths = listed (lengths_after r.entries tree);
 }
 
 -- the plan of a sync that starts, of a group that gives this name, if it gives one, with this log header, the addresses
@@ -55,7 +55,7 @@ new_plan moment given header taken freed root contents lengths = record {
   root = root;
   header = header;
   contents = contents;
-  lengths = lengths;
+  lengths = listed lengths;
 }
 
 -- the contents of the synced tree, and what the oldest unsynced group makes of them
@@ -86,7 +86,7 @@ shown_of objects p = record {
   log = log_shown p.log;
   root = p.tree.root;
   synced_contents = synced_of p;
-  lengths = lengths_of p.tree;
+  lengths = listed (lengths_of p.tree);
   sync = option_map (plan_of p.tree (contents_after_oldest p)) p.sync;
 }
 
@@ -106,5 +106,5 @@ abbrev pub shown_after_tree : RunningSync → Tree → Shown → Shown
 shown_after_tree r tree s = record s {
   free = set.union s.free (set.from_list r.freed.items);
   root = r.root;
-  lengths = lengths_after r.entries tree;
+  lengths = listed (lengths_after r.entries tree);
 }

@@ -7,7 +7,7 @@ use Rattle.base.specs.history.History.{entries_up_to, replay}
 use Rattle.base.specs.history.Past.{Past}
 use Rattle.base.specs.steps.Shown.{SyncPlan}
 use Rattle.base.specs.steps.Steps.{StartSync, ops_of_group}
-use Rattle.base.specs.stored.Stored.{IsHeld, NewTree}
+use Rattle.base.specs.kept.Stored.{IsHeld, NewTree}
 use Rattle.base.specs.tree.Places.{Place, has_block}
 use Rattle.base.specs.tree.Syncs.{written_places}
 use Rattle.pool_tables.specs.Told.{Leads, ShownPool, held_with, start_reply, state_with}

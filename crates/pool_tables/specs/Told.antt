@@ -12,16 +12,16 @@ use Rattle.base.specs.tree.Places.{Place, IsPlace}
 use Rattle.base.specs.steps.Runs.{progress_reply, reply_of}
 use Rattle.base.specs.steps.Shown.{Shown}
 use Rattle.base.specs.steps.Steps.{State}
-use Rattle.base.specs.stored.Stored.{Held, Moves, NewTree}
-use Rattle.object_maps.specs.declared.tree.Tree.{Tree}
-use Rattle.object_maps.specs.Pointers.{pointers_of}
+use Rattle.base.specs.kept.Stored.{Held, Moves, NewTree}
+use Rattle.tree_blocks.specs.declared.tree.Tree.{Tree}
+use Rattle.tree_blocks.specs.Pointers.{pointers_of}
 use Rattle.sync.specs.declared.run.LabelStages.{LabelStages}
 use Rattle.sync.specs.declared.run.SyncRun.{SyncRun}
 use Rattle.tree_plans.specs.Plans.{new_block}
 use Rattle.pool_tables.specs.declared.pool.PoolTables.{PoolTables}
 use Rattle.pool_tables.specs.declared.pool.RunningSync.{RunningSync}
 use Rattle.pool_tables.specs.declared.pool.Progress.{Progress}
-use Rattle.group_plans.specs.Pointers.{pointers_after}
+use Rattle.tree_blocks.specs.SyncedTrees.{pointers_after}
 use Rattle.pool_tables.specs.Progresses.{plain_progress}
 use Rattle.pool_tables.specs.Shows.{pool_objects, shown_of}
 

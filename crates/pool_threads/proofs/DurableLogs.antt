@@ -2,7 +2,7 @@
 use Rattle.std.proofs.Common.{◌≡◌, ◌<◌, ◌+◌, ◌++◌, ◌∷◌, ◌||◌, ◌&&◌, ℕ, zero, suc, [], Bool, List, ap, arith, append-nil, false, length, not, refl, subst, sym, true, ◌∙◌}
 use Rattle.std.specs.Prelude.{◌==◌, Err, None, Ok, Option, Some, if◌then◌else◌, is_none, map, nat_le, nat_lt, slice_get}
 use Rattle.std.specs.List.{enumerate_from, list_any}
-use Rattle.std.proofs.lemmas.Bool.{and_parts, eq-eqb, eqb-true, false≢true, leb-false, or_left, or_right}
+use Rattle.std.proofs.lemmas.Bool.{and_parts, eqb-true, false≢true, leb-false, or_left, or_right, not-false}
 use Rattle.std.proofs.lemmas.List.Folds.{list_any-append}
 use Rattle.base.specs.declared.step.Step as declared_step
 use Rattle.base.specs.declared.step.Step.TheVariants as step
@@ -17,7 +17,7 @@ use Rattle.base.specs.steps.Shown.{Shown, is_durable}
 use Rattle.base.specs.steps.Steps.{State}
 use Rattle.base.proofs.common.KeptLists.{any_at, any_filter, any_found, none_any, none_at, Some-injective}
 use Rattle.base.proofs.history.CommitOrder.{ok-none}
-use Rattle.base.proofs.steps.BegunLogs.{balanced_sum}
+use Rattle.base.proofs.steps.BegunLogs.{balanced_sum, same_itself}
 use Rattle.base.proofs.steps.SeenGroups.{durable_is_known}
 use Rattle.pool_core.specs.StepReplies.{IsStep}
 use Rattle.pool_tables.specs.Duties.{is_log_pending, log_step}
@@ -40,12 +40,8 @@ no-begun (Some g) is = absurd (false≢true is)
 -- whether it is so by the tests of what is due
 settled_by : (log : Log) → not ((length log.pending == 0) && is_none log.begun) ≡ false → awaits_flush log ≡ false → IsSettled log
 settled_by log written flushed =
-    let both = and_parts (length log.pending == 0) (is_none log.begun) (true-of ((length log.pending == 0) && is_none log.begun) written) in
+    let both = and_parts (length log.pending == 0) (is_none log.begun) (not-false ((length log.pending == 0) && is_none log.begun) written) in
     record { none_pending = empty log.pending both.0; none_begun = no-begun log.begun both.1; flushed = flushed }
-  where
-    true-of : (b : Bool) → not b ≡ false → b ≡ true
-    true-of true h = refl
-    true-of false h = absurd (false≢true (sym h))
 
 quiet-right : (a b : Bool) → (a || b) ≡ false → b ≡ false
 quiet-right true b h = absurd (false≢true (sym h))
@@ -89,16 +85,13 @@ settled_after st old new due made = go (old.shown.suspended || is_log_pending ol
 abbrev noted : ℕ → Entry → Committed
 noted o e = record { ordinal = o; group = e.group }
 
-same-itself : (c : Committed) → is_same c c ≡ true
-same-itself c = rw (eq-eqb c.ordinal c.ordinal refl, eq-eqb c.group c.group refl) refl
-
 -- an entry is among those that are noted of a history
 at_entries : (k : ℕ) (xs : List Entry) (i : ℕ) (e : Entry) → slice_get xs i ≡ Some e → list_any (is_same (noted (k + i) e)) (map (λ (p : ℕ × Entry). noted p.0 p.1) (enumerate_from k xs)) ≡ true
 at_entries k [] i e at = absurd (none_at i e at)
 at_entries k (x ∷ xs) zero e at =
     let same : x ≡ e = Some-injective at in
     let here : k + 0 ≡ k = omega arith in
-    or_left (is_same (noted (k + 0) e) (noted k x)) _ (ap (λ (f : Entry). is_same (noted (k + 0) e) (noted k f)) same ∙ ap (λ (n : ℕ). is_same (noted n e) (noted k e)) here ∙ same-itself (noted k e))
+    or_left (is_same (noted (k + 0) e) (noted k x)) _ (ap (λ (f : Entry). is_same (noted (k + 0) e) (noted k f)) same ∙ ap (λ (n : ℕ). is_same (noted n e) (noted k e)) here ∙ same_itself (noted k e))
 at_entries k (x ∷ xs) (suc i) e at =
     let next : k + 1 + i ≡ k + suc i = omega arith in
     or_right (is_same (noted (k + suc i) e) (noted k x)) _ (subst (λ (n : ℕ). list_any (is_same (noted n e)) (map (λ (p : ℕ × Entry). noted p.0 p.1) (enumerate_from (k + 1) xs)) ≡ true) next (at_entries (k + 1) xs i e at))

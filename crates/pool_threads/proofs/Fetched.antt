@@ -1,5 +1,5 @@
 -- A reader lock that was granted, a read under it and its unlock leave all that is shown of a pool as it was.
-use Rattle.std.proofs.Common.{◌≡◌, ℕ, suc, ◌+◌, ◌<◌, Bool, true, false, not, ◌&&◌, List, [], ◌∷◌, ◌++◌, length, append-nil, drop, refl, ap, sym, subst, ◌∙◌, arith}
+use Rattle.std.proofs.Common.{◌≡◌, ℕ, ◌+◌, ◌<◌, Bool, true, false, not, ◌&&◌, List, [], ◌∷◌, ◌++◌, length, append-nil, drop, refl, ap, sym, subst, ◌∙◌, arith}
 use Rattle.std.specs.Prelude.{Option, Some, None, Result, Ok, Err, cond, filter, find, is_none, slice_get, ◌==◌}
 use Rattle.std.specs.Option.{option_map_or, option_or}
 use Rattle.std.proofs.lemmas.Bool.{and_from, eq-eqb, ne_eqb}
@@ -21,15 +21,11 @@ use Rattle.base.specs.steps.Locks.{Grant}
 use Rattle.base.specs.steps.Refusals.{is_lock_in_use, lock_of, lock_tests, object_range, unlock_refusal}
 use Rattle.base.specs.steps.Runs.{Step, reply_of}
 use Rattle.base.specs.steps.Steps.{Answers, State, next_grant, state_after_grant, state_after_unlock}
-use Rattle.base.proofs.common.KeptLists.{All-each}
+use Rattle.base.proofs.common.KeptLists.{All-each, find_none}
 use Rattle.base.proofs.common.Sieves.{filter_all}
 use Rattle.base.proofs.steps.KeptLocks.{held_is}
 use Rattle.pool_threads.specs.Fetches.{ShowsSame, reader_step}
 use Rattle.pool_threads.proofs.Released.{done, passed, passes_three, runs_on}
-
-find_none : {A : Type 0} (p : A → Bool) (xs : List A) → ((i : ℕ) (x : A) → slice_get xs i ≡ Some x → p x ≡ false) → find p xs ≡ None
-find_none p [] none = refl
-find_none p (x ∷ xs) none = ap (λ (b : Bool). cond b (Some x) (find p xs)) (none 0 x refl) ∙ find_none p xs (λ i y at. none (suc i) y at)
 
 -- a step that leaves all as it is, whether it is refused or not
 leaves : {A : Type 0} (o : Option PoolError) (answer : Result A PoolError) (old new : State) (does : A → Type 0) (own : PoolError → Type 0) → ((a : A) → does a → new ≡ old) → ((e : PoolError) → own e → new ≡ old)

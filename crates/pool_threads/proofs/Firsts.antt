@@ -15,16 +15,14 @@ use Rattle.pool_core.specs.KeptSafe.{BeginsSafe, IsKeptSafe, disk_of, on_disk}
 use Rattle.base.proofs.crash.LeftDisks.{left_flushed}
 use Rattle.pool_core.proofs.crash.LeftDisks.{safe_at_first}
 use Rattle.base.specs.steps.Shown.{Shown}
-use Rattle.base.specs.steps.Steps.{State}
 use Rattle.device_model.specs.declared.device.SectorDevice.{Ghosts}
 use Rattle.pool_core.specs.declared.state.PoolState.{PoolState}
 use Rattle.pool_core.specs.NewStates.{IsExplainedAtFirst, IsHeldAtFirst, first_past}
 use Rattle.pool_core.specs.States.{device_of, shown, told}
-use Rattle.pool_threads.proofs.Notes.{viewed_state-view_of}
 use Rattle.pool_threads.specs.Handles.{IsReadyToOpen, OpensBehind, ShowsMounted, StartsBehind}
-use Rattle.pool_threads.specs.Views.{CrashRule, Explains, SeenPool, view_behind_disk, view_of, viewed_state}
+use Rattle.pool_threads.specs.Views.{CrashRule, Explains, SeenPool, view_behind_disk, view_of}
 use Rattle.pool_threads.specs.Views.CrashRule.{Behind, NotFollowed}
-use Rattle.base.specs.crash.LeftDisks.{IsLeft}
+use Rattle.base.specs.kept.LeftDisks.{IsLeft}
 
 -- what is so of an answer, as far as it says more
 pub if_ok : {A E : Type 0} (P Q : A → Type 0) (r : Result A E) → IfOk r P → ((a : A) → P a → Q a) → IfOk r Q
@@ -38,7 +36,7 @@ if_err P Q (Err e) h more = more e h
 module _ {Dev : Type 0} {G : Ghosts Dev} (p : PoolState Dev G) where
   pub explained_at_first : ∥ IsExplainedAtFirst (shown p) ∥₁ → ∥ (IsTrue G.keeps_model → IsHeldAtFirst (told p)) ∥₁ → Explains p (view_of p (first_past (shown p) 0) NotFollowed)
   explained_at_first explained held = record {
-    state = viewed_state-view_of p (first_past (shown p) 0) NotFollowed;
+    state = refl;
     disk_is = refl;
     explained = ∥∥₁_map explained (λ x. x 0);
     held = λ keeps. ∥∥₁_map held (λ x. x keeps 0);
@@ -48,7 +46,7 @@ module _ {Dev : Type 0} {G : Ghosts Dev} (p : PoolState Dev G) where
   -- a view of this state shows it
   pub shows_mounted : (past : Past) (rule : CrashRule) (m : Mounted) (d : Dev) (v : SeenPool) → v ≡ view_of p past rule → shown p ≡ shown_of_import m → device_of p ≡ d → ShowsMounted m (G.disk d) v
   shows_mounted past rule m d v is same device = record {
-    shown = ap (λ (u : SeenPool). (viewed_state u).shown) is ∙ ap (λ (a : State). a.shown) (viewed_state-view_of p past rule) ∙ same;
+    shown = ap (λ (u : SeenPool). u.shown) is ∙ same;
     disk_is = ap (λ (u : SeenPool). u.disk) is ∙ ap G.disk device;
   }
 
@@ -72,7 +70,7 @@ module _ {Dev : Type 0} {G : Ghosts Dev} (old : Disk) (m : Mounted) (p : PoolSta
 
   explained_behind : (IsTrue G.keeps_model → disk_size (disk_of p) ≡ m.geometry) → BeginsSafe p → ∥ IsExplainedAtFirst (shown p) ∥₁ → ∥ (IsTrue G.keeps_model → IsHeldAtFirst (told p)) ∥₁ → Explains p behind
   explained_behind sized begins explained held = record {
-    state = viewed_state-view_of p (first_past (shown p) 0) (Behind old);
+    state = refl;
     disk_is = refl;
     explained = ∥∥₁_map explained (λ x. x 0);
     held = λ keeps. ∥∥₁_map held (λ x. x keeps 0);
@@ -86,7 +84,7 @@ module _ {Dev : Type 0} {G : Ghosts Dev} (old : Disk) (m : Mounted) (p : PoolSta
   opens = record {
     rule = refl;
     anew = ap (λ (n : ℕ). new_past (shown p).contents 0 n) (ap (λ (s : Shown). s.dirty_max) shows);
-    shows = ap (λ (s : State). s.shown.contents) (viewed_state-view_of p (first_past (shown p) 0) (Behind old));
+    shows = refl;
     left = λ keeps past was.
         let f = left_flushed past old was in
         let start = (starts keeps).starts past.created f.guid f.contents f.own in

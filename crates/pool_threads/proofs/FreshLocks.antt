@@ -2,7 +2,7 @@
 use Rattle.std.proofs.Common.{◌≡◌, ℕ, zero, suc, ◌+◌, ◌<◌, ◌≤◌, Bool, true, false, not, ◌&&◌, List, [], ◌∷◌, length, refl, sym, subst, ◌∙◌, arith}
 use Rattle.std.specs.Prelude.{Some, nat_le, nat_lt, slice_get, ◌==◌}
 use Rattle.std.specs.List.{list_all, list_any}
-use Rattle.std.proofs.lemmas.Bool.{and_from, and_parts, eq-eqb, eqb-true, false≢true, false_from_ne_true, leb-true, lt-ltb, ltb-true, ne_eqb}
+use Rattle.std.proofs.lemmas.Bool.{and_from, and_parts, eq-eqb, eqb-true, false≢true, false_from_ne_true, leb-true, lt-ltb, ltb-true, ne_eqb, and_right}
 use Rattle.std.proofs.lemmas.Option.{slice_get_within}
 use Rattle.base.specs.declared.operation.Shape.{Shape}
 use Rattle.base.specs.declared.operation.Shape.TheVariants as shape
@@ -56,10 +56,6 @@ not_and_no : (b : Bool) → not (b && false) ≡ true
 not_and_no true = refl
 not_and_no false = refl
 
-and_no : (b c : Bool) → c ≡ false → (b && c) ≡ false
-and_no true c is = is
-and_no false c is = refl
-
 module _ (s : Shown) (p : Past) (x : IsExact s p) where
   -- an open transaction is the admission of its name
   admitted_then : (i : ℕ) (a : Admission) → slice_get s.transactions i ≡ Some a → (j : ℕ) × (slice_get p.admissions j ≡ Some a)
@@ -99,7 +95,7 @@ module _ (s : Shown) (p : Past) (x : IsExact s p) where
 
     pub unused_yet : (g : Grant) → g.range ≡ range → is_used_by g s.transactions ≡ false
     unused_yet g is =
-        and_no (not (is_reader g.mode)) (list_any (λ (a : Admission). list_any (λ y. lies_in (range_of y) g.range) a.plan) s.transactions)
+        and_right (not (is_reader g.mode)) (list_any (λ (a : Admission). list_any (λ y. lies_in (range_of y) g.range) a.plan) s.transactions)
         (any_none (λ (a : Admission). list_any (λ y. lies_in (range_of y) g.range) a.plan) s.transactions
         (λ i a at. any_none (λ y. lies_in (range_of y) g.range) a.plan
         (λ j y at_j. false_from_ne_true (lies_in (range_of y) g.range) (λ lies. lies_elsewhere i j a y at at_j (subst (λ (r : NumberRange). lies_in (range_of y) r ≡ true) is lies)))))

@@ -1,4 +1,3 @@
-pub mod Notes
 pub mod Moved
 pub mod Turned
 pub mod Made
@@ -24,7 +23,7 @@ pub mod Fetched
 pub mod FetchesSeen
 pub mod FetchClients
 pub mod AnswerClients
-mod Served
+pub mod Served
 pub mod TransactsSeen
 mod TransactsShort
 mod ForGood

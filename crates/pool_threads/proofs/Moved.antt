@@ -20,7 +20,7 @@ use Rattle.pool_tables.specs.LogBlocks.{PutsLogBlock}
 use Rattle.pool_tables.specs.NextCalls.{MakesNextIf}
 use Rattle.pool_tables.specs.declared.pool.RunningSync.{RunningSync}
 use Rattle.pool_threads.specs.Views.{MovesDisk}
-use Rattle.base.specs.crash.LeftDisks.{GoesOnFrom}
+use Rattle.base.specs.kept.LeftDisks.{GoesOnFrom}
 use Rattle.sync.specs.Calls.{MakesCall, Target, target_of}
 use Rattle.sync.specs.declared.run.SyncRun.{SyncRun}
 use Rattle.sync.proofs.Targets.{WritesTarget}

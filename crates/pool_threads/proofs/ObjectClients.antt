@@ -7,6 +7,7 @@ use Rattle.base.specs.declared.names.ObjectId.{ObjectId}
 use Rattle.base.specs.formats.Limits.{object_count}
 use Rattle.base.specs.history.Contents.{Contents, length_of}
 use Rattle.base.proofs.common.KeptLists.{Some-injective, at_take, none_at}
+use Rattle.base.proofs.formats.Pieces.{take-short}
 use Rattle.pool_threads.specs.Objects.{object_at, objects_among, objects_from}
 
 module _ (c : Contents) where
@@ -68,11 +69,6 @@ module _ (c : Contents) where
   short (suc m) [] less = refl
   short (suc m) (x ∷ xs) less = ap (λ l. x ∷ l) (short m xs (omega arith))
 
-  no-longer : {X : Type 0} (m : ℕ) (xs : List X) → length (take m xs) ≤ m
-  no-longer zero xs = omega arith
-  no-longer (suc m) [] = omega arith
-  no-longer (suc m) (x ∷ xs) = let rest : length (take m xs) ≤ m = no-longer m xs in omega arith
-
   at_front_of : {X : Type 0} (m : ℕ) (xs : List X) (i j : ℕ) (x y : X) → slice_get xs i ≡ Some x → slice_get (take m xs) j ≡ Some y → i < j → slice_get (take m xs) i ≡ Some x
   at_front_of zero xs i j x y at_i at_j below = absurd (none_at j y at_j)
   at_front_of (suc m) [] i j x y at_i at_j below = absurd (none_at i x at_i)
@@ -88,7 +84,7 @@ module _ (c : Contents) where
     listed_there i n size at = there (object_count - from) from i (n, size) (among_all i (n, size) at)
 
     pub few_listed : length list ≤ most
-    few_listed = let few = no-longer most (objects_from from c) in let same : length list ≡ length (take most (objects_from from c)) = ap length is in omega arith
+    few_listed = let few = take-short most (objects_from from c) in let same : length list ≡ length (take most (objects_from from c)) = ap length is in omega arith
 
     pub whole_listed : length list < most → (n : ObjectId) (size : ℕ) → from ≤ n.0 → n.0 < object_count → length_of c n.0 ≡ Some size → (i : ℕ) × (slice_get list i ≡ Some (n, size))
     whole_listed less n size low high found =

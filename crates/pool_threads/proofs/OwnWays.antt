@@ -2,7 +2,7 @@
 use Rattle.std.proofs.Common.{◌≡◌, ◌≢◌, ◌∷◌, [], ◌&&◌, ◌||◌, Bool, true, false, not, ℕ, List, append_assoc, inl, inr, length, ap, refl, sym, ◌++◌, ◌∙◌}
 use Rattle.std.specs.Prelude.{◌==◌, ◌⊎◌, All, Err, IfErr, IfOk, IsTrue, Ok, Result, Some, slice_get}
 use Rattle.std.specs.List.{list_any}
-use Rattle.std.proofs.lemmas.Bool.{and_parts, eq-eqb, eqb-true, false≢true, or_parts}
+use Rattle.std.proofs.lemmas.Bool.{and_parts, eq-eqb, eqb-true, false≢true, or_parts, false_from_ne_true}
 use Rattle.std.proofs.lemmas.List.Elements.{All-cons, All-nil, All-weaker}
 use Rattle.base.specs.declared.error.PoolError.{PoolError}
 use Rattle.base.specs.declared.error.PoolError.TheVariants as error
@@ -35,10 +35,6 @@ use Rattle.transactions.specs.LockRanges.{lock_ranges}
 use Rattle.transactions.specs.Open.{has_one_open}
 use Rattle.word_lock.specs.declared.rule.Turn.{Turn}
 use Rattle.word_lock.specs.Turns.{turn}
-
-not_true : (b : Bool) → (b ≡ true → ⊥) → b ≡ false
-not_true true never = absurd (never refl)
-not_true false never = refl
 
 -- no writer shares a range
 no_share : (over reader : Bool) → over && not (reader && false) ≡ false → over ≡ false
@@ -110,7 +106,7 @@ module _ {Dev : Type 0} {G : Ghosts Dev} (owner : Owner) (old new : Handle Dev G
     w.last,
     w.turns,
     All-weaker (λ (t : Turn SeenPool). IsInOwnWay owner r Writer (viewed_state t.left).shown → ⊥) (LeavesNoOwnLock r)
-        (λ t never. none_of_own owner.0 r (viewed_state t.left).shown.locks (not_true (is_blocked_by_own owner.0 r Writer (viewed_state t.left).shown.locks) never)) w.had w.each,
+        (λ t never. none_of_own owner.0 r (viewed_state t.left).shown.locks (false_from_ne_true (is_blocked_by_own owner.0 r Writer (viewed_state t.left).shown.locks) never)) w.had w.each,
   )
 
   -- a fetch waits so for its lock, and has three turns then, or one if the lock is refused
@@ -125,7 +121,7 @@ module _ {Dev : Type 0} {G : Ghosts Dev} (owner : Owner) (old new : Handle Dev G
     each_in_time at w =
         let r : NumberRange = object_range n.0 range.low range.high in
         All-weaker (λ (t : Turn SeenPool). IsInOwnWay owner r Reader (viewed_state t.left).shown → ⊥) LeavesNoOwnWriter
-        (λ t never. none_of_own_writer owner.0 r (viewed_state t.left).shown.locks (not_true (is_blocked_by_own owner.0 r Reader (viewed_state t.left).shown.locks) never)) w.had w.each
+        (λ t never. none_of_own_writer owner.0 r (viewed_state t.left).shown.locks (false_from_ne_true (is_blocked_by_own owner.0 r Reader (viewed_state t.left).shown.locks) never)) w.had w.each
 
     read_waits : (result : Result (List ℕ) PoolError) → ReadsUnderLock owner n range result old new → WaitsFirst
     read_waits result t =
@@ -147,7 +143,7 @@ module _ {Dev : Type 0} {G : Ghosts Dev} (owner : Owner) (old new : Handle Dev G
     fetch_waits (Err e) (inr t) = read_waits (Err e) t
 
   without_room : (plan : List Shape) (s : Shown) → (IsThrottledInVain owner plan s → ⊥) → has_one_open owner.0 s.transactions ≡ false
-  without_room plan s never = (or_parts (is_above_limit plan s) (has_one_open owner.0 s.transactions) (not_true (is_above_limit plan s || has_one_open owner.0 s.transactions) never)).1
+  without_room plan s never = (or_parts (is_above_limit plan s) (has_one_open owner.0 s.transactions) (false_from_ne_true (is_above_limit plan s || has_one_open owner.0 s.transactions) never)).1
 
   pub begin_waits : (plan : List Shape) → WaitsWhileNot (IsThrottledInVain owner plan) old new → Waits LeavesNoneOpen
   begin_waits plan w = (

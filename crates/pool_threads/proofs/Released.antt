@@ -28,7 +28,7 @@ use Rattle.base.specs.steps.Locks.{Grant, is_blocked}
 use Rattle.base.specs.steps.Refusals.{Test, abort_refusal, begin_tests, first_refusal, is_lock_in_use, lock_of, lock_tests, object_range, refused_if, transaction_of, unlock_refusal}
 use Rattle.base.specs.steps.Runs.{Step, reply_of}
 use Rattle.base.specs.steps.Steps.{Answers, State, next_admission, next_grant, state_after_charged_admission, state_after_grant, state_after_unlock, transactions_without}
-use Rattle.base.proofs.common.KeptLists.{All-each, Some-injective, at_last, none_at, not_found}
+use Rattle.base.proofs.common.KeptLists.{All-each, Some-injective, at_last, none_at, not_found, find_none}
 use Rattle.base.proofs.common.Sieves.{filter_all}
 use Rattle.base.proofs.history.CommitOrder.{no_refusal}
 use Rattle.pool_threads.specs.Transacts.{AreReleased}
@@ -212,10 +212,6 @@ no_lower owner n (g ∷ gs) (id ∷ ids) zero h are at = let same : g.id ≡ h.i
 no_lower owner n (g ∷ gs) (id ∷ ids) (suc i) h are at = let rest : n + 1 ≤ h.id = no_lower owner (n + 1) gs ids i h are.3 at in omega arith
 no_lower owner n (g ∷ gs) [] i h are at = absurd are
 
-find_past : {A : Type 0} (p : A → Bool) (xs : List A) → ((i : ℕ) (x : A) → slice_get xs i ≡ Some x → p x ≡ false) → find p xs ≡ None
-find_past p [] none = refl
-find_past p (x ∷ xs) none = ap (λ (b : Bool). cond b (Some x) (find p xs)) (none 0 x refl) ∙ find_past p xs (λ i y at. none (suc i) y at)
-
 module _ (now : List ℕ) (owner : Owner) (n : ℕ) (base : List Grant) (g : Grant) (gs : List Grant) (id : LockId) (ids : List LockId) (answer : Result (Unit {0}) PoolError) (s t : State) (h : Holds owner.0 n base (g ∷ gs) (id ∷ ids) s)
     (unlocks : Step ⊥ now (step.Unlock owner id) (reply_of (λ _. reply.Done) answer) s t) where
   abbrev is_it : Grant → Bool
@@ -237,7 +233,7 @@ module _ (now : List ℕ) (owner : Owner) (n : ℕ) (base : List Grant) (g : Gra
   found =
       ap (find is_it) h.held
       ∙ find-append is_it base (g ∷ gs)
-      ∙ ap (λ (o : Option Grant). option_or o (find is_it (g ∷ gs))) (find_past is_it base (λ i k at. and_left (k.id == id.0) (k.owner == owner.0) (older i k at)))
+      ∙ ap (λ (o : Option Grant). option_or o (find is_it (g ∷ gs))) (find_none is_it base (λ i k at. and_left (k.id == id.0) (k.owner == owner.0) (older i k at)))
       ∙ ap (λ (c : Bool). option_or None (cond c (Some g) (find is_it gs))) (and_from (g.id == id.0) (g.owner == owner.0) (eq-eqb g.id id.0 named) (eq-eqb g.owner owner.0 h.next.2))
 
   after : t ≡ state_after_unlock id.0 s

@@ -12,7 +12,7 @@ use Rattle.pool_core.specs.KeptSafe.{IsStoppedBetween, past_within}
 use Rattle.pool_core.proofs.crash.ExplainedPools.{kept_explained}
 use Rattle.pool_core.proofs.crash.StoppedSteps.{stopped_own}
 use Rattle.pool_threads.specs.Views.{IsFollowed, IsPoolStep, IsSafeBetween, SeenPool, WereSafeBetween, past_between, since, viewed_state}
-use Rattle.base.specs.crash.LeftDisks.{IsLeft}
+use Rattle.base.specs.kept.LeftDisks.{IsLeft}
 
 module _ (s : declared_step.Step) (r : declared_reply.Reply) (created : ℕ) (v w : SeenPool) (x : IsSafeBetween s r created v w) where
   past_before : x.before.held.state.past ≡ since created v.past

@@ -1,9 +1,8 @@
 -- What the reply to an append, an abort or a question for a length says, and that some calls never want memory.
-use Rattle.std.proofs.Common.{◌≡◌, ℕ, ◌≤◌, Bool, true, false, not, ◌&&◌, List, [], ◌∷◌, length, ◌+◌, refl, ap, sym, subst, ◌∙◌, arith}
+use Rattle.std.proofs.Common.{◌≡◌, ℕ, ◌≤◌, Bool, true, false, not, ◌&&◌, List, [], ◌∷◌, length, refl, ap, sym, subst, ◌∙◌, arith}
 use Rattle.std.specs.Prelude.{Option, Some, None, Result, Ok, Err, slice_get, ◌==◌}
 use Rattle.std.specs.List.{list_all}
-use Rattle.std.proofs.lemmas.Bool.{eq-eqb, and_parts, or_left, or_right, eqb-true, false≢true}
-use Rattle.std.proofs.lemmas.List.{length-append}
+use Rattle.std.proofs.lemmas.Bool.{eq-eqb, and_parts, or_left, or_right, eqb-true, not-true}
 use Rattle.std.proofs.lemmas.List.Folds.{list_any-append}
 use Rattle.base.specs.declared.error.PoolError.{PoolError}
 use Rattle.base.specs.declared.names.LockId.{LockId}
@@ -15,7 +14,7 @@ use Rattle.base.specs.declared.range.Range.{Range}
 use Rattle.base.specs.declared.step.Step.TheVariants as step
 use Rattle.base.specs.declared.step.Reply as declared_reply
 use Rattle.base.specs.declared.step.Reply.TheVariants as reply
-use Rattle.base.specs.history.Past.{Past, IsPrefixOf}
+use Rattle.base.specs.history.Past.{Past}
 use Rattle.base.specs.steps.Additions.{past_after}
 use Rattle.base.specs.steps.Tables.{GoesOn}
 use Rattle.base.specs.steps.Groups.{Admission, is_committed}
@@ -29,20 +28,7 @@ use Rattle.base.specs.steps.Steps.{Answers, Never, State}
 use Rattle.base.proofs.common.KeptLists.{at_filter, at_last, found_at}
 use Rattle.base.proofs.history.CommitOrder.{ok-none}
 use Rattle.base.proofs.steps.Additions.{told_past}
-use Rattle.base.proofs.steps.SeenStates.{at-prefix, contents_are_between, grown}
-
-no-shorter : {A : Type 0} (xs ys : List A) → IsPrefixOf xs ys → length xs ≤ length ys
-no-shorter xs ys (more, is) = let same : length ys ≡ length xs + length more = ap length is ∙ length-append xs more in omega arith
-
-in-prefix : (o : ℕ) (xs ys : List ℕ) → IsPrefixOf xs ys → is_in o xs ≡ true → is_in o ys ≡ true
-in-prefix o xs ys (more, is) h = ap (λ l. is_in o l) is ∙ list_any-append (λ y. o == y) xs more ∙ or_left (is_in o xs) (is_in o more) h
-
-not-in-prefix : (o : ℕ) (xs ys : List ℕ) → IsPrefixOf xs ys → is_in o ys ≡ false → is_in o xs ≡ false
-not-in-prefix o xs ys before h = go (is_in o xs) refl
-  where
-    go : (b : Bool) → is_in o xs ≡ b → b ≡ false
-    go true is = absurd (false≢true (sym h ∙ in-prefix o xs ys before is))
-    go false is = refl
+use Rattle.base.proofs.steps.SeenStates.{at-prefix, contents_are_between, grown, no-shorter, in-prefix, not-in-prefix}
 
 pub appends_are_seen : (owner : Owner) (n : ObjectId) (id : LockId) (range : Range) (before after : State) → IsMadeBetween ⊥ (step.LockAppend owner n) (reply.Appended id range) before after
     → IsGranted owner.0 (object_range n.0 range.low range.high) Writer id.0 before after
@@ -75,10 +61,6 @@ aborts_are_seen tx before after m = seen (opened m.made)
         let done = ok-none (refusal.abort_refusal tx.0 m.old.shown) r m.old m.new _ _ h in
         (done.1.0, done.1.1)
     opened (Err e, is, h) = absurd (let no_way : reply.Done ≡ reply.Refused e = is in cc)
-
-    not-true : (b : Bool) → not b ≡ true → b ≡ false
-    not-true true h = absurd (false≢true h)
-    not-true false h = refl
 
     seen : (a : Admission) × (refusal.transaction_of tx.0 m.old.shown ≡ Some a) → IsAborted tx.0 before after
     seen (a, is) =
@@ -117,12 +99,8 @@ first-ruled (t ∷ ts) e ruled is =
     let both = and_parts (is_ruled t) (list_all is_ruled ts) ruled in
     go t.applies is (λ h. first-ruled ts e both.1 h) both.0
   where
-    quiet : (b : Bool) → not b ≡ true → b ≡ false
-    quiet true h = absurd (false≢true h)
-    quiet false h = refl
-
     go : (b : Bool) → first_refusal (record { applies = b; error = t.error } ∷ ts) ≡ Some e → (first_refusal ts ≡ Some e → is_untested e ≡ false) → is_ruled t ≡ true → is_untested e ≡ false
-    go true h rest one = let same : t.error ≡ e = cc in ap is_untested (sym same) ∙ quiet (is_untested t.error) one
+    go true h rest one = let same : t.error ≡ e = cc in ap is_untested (sym same) ∙ not-true (is_untested t.error) one
     go false h rest one = rest h
 
 abbrev error_in : {A : Type 0} → PoolError → Result A PoolError → PoolError

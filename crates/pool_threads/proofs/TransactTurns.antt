@@ -4,7 +4,7 @@ use Rattle.std.specs.Prelude.{ℕ, Bool, IfErr, None, Option, Result, Ok, Err, S
 use Rattle.std.specs.FinMap as map
 use Rattle.std.specs.List.{list_all}
 use Rattle.std.proofs.Math.Logic.{∥∥₁_elim}
-use Rattle.std.proofs.lemmas.Bool.{and_from, and_parts, false≢true}
+use Rattle.std.proofs.lemmas.Bool.{and_from, and_parts, false≢true, not-true}
 use Rattle.std.proofs.lemmas.List.Folds.{list_all-append}
 use Rattle.base.specs.declared.error.PoolError.{PoolError}
 use Rattle.base.specs.declared.error.PoolError.TheVariants as error
@@ -87,12 +87,8 @@ first_final (t ∷ ts) e final is =
     let both = and_parts (is_final_test t) (list_all is_final_test ts) final in
     go t.applies is (λ h. first_final ts e both.1 h) both.0
   where
-    quiet : (b : Bool) → not b ≡ true → b ≡ false
-    quiet true h = absurd (false≢true h)
-    quiet false h = refl
-
     go : (b : Bool) → first_refusal (record { applies = b; error = t.error } ∷ ts) ≡ Some e → (first_refusal ts ≡ Some e → is_again e ≡ false) → is_final_test t ≡ true → is_again e ≡ false
-    go true h rest one = let same : t.error ≡ e = cc in ap is_again (sym same) ∙ quiet (is_again t.error) one
+    go true h rest one = let same : t.error ≡ e = cc in ap is_again (sym same) ∙ not-true (is_again t.error) one
     go false h rest one = rest h
 
 module _ (tx : TxId) (ops : List Op) (s : Shown) where

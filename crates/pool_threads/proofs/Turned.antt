@@ -18,7 +18,6 @@ use Rattle.pool_core.specs.KeptSafe.{IsKeptSafe, IsSafeStep, KeepsSafe, disk_of,
 use Rattle.pool_core.specs.States.{told}
 use Rattle.pool_core.specs.StepReplies.{IsStep}
 use Rattle.pool_core.specs.Turns.{Turns}
-use Rattle.pool_threads.proofs.Notes.{viewed_state-view_of}
 use Rattle.pool_threads.specs.Views.{Explains, GrowsTo, IsPoolStep, IsSafeBetween, IsStepOn, MovesDisk, SeenPool, since, view_after, view_of, viewed_state}
 use Rattle.pool_threads.proofs.Moved.{moved_on}
 
@@ -71,7 +70,7 @@ module _ {Dev : Type 0} {G : Ghosts Dev} (s : declared_step.Step) (r : declared_
     next_explained : Explains new next
     unfolding next
     next_explained = record {
-      state = viewed_state-view_of new (later v.past) v.rule;
+      state = refl;
       disk_is = refl;
       explained = ∥∥₁_map x.explained (turns v.past).explained;
       held = λ keeps. ∥∥₁_map (x.held keeps) ((turns v.past).held keeps);
@@ -81,18 +80,15 @@ module _ {Dev : Type 0} {G : Ghosts Dev} (s : declared_step.Step) (r : declared_
     before_is : before v.past ≡ viewed_state v
     before_is = sym x.state
 
-    after_is : after v.past ≡ viewed_state (view_of new (later v.past) v.rule)
-    after_is = sym (viewed_state-view_of new (later v.past) v.rule)
-
     both : (P : State → State → Type 0) → P (before v.past) (after v.past) → P (viewed_state v) (viewed_state (view_of new (later v.past) v.rule))
-    both P h = subst (λ a. P a (viewed_state (view_of new (later v.past) v.rule))) before_is (subst (P (before v.past)) after_is h)
+    both P h = subst (λ a. P a (after v.past)) before_is h
 
     next_safe : (created : ℕ) → IsTrue G.keeps_model → IsKeptSafe (on_disk old (since created v.past)) → IsSafeBetween s r created v (view_of new (later v.past) v.rule)
     next_safe created keeps kept = record {
       before = on_disk old (since created v.past);
       after = on_disk new (since created (later v.past));
       state_before = ap (at_create created) before_is;
-      state_after = ap (at_create created) after_is;
+      state_after = refl;
       disk_before = sym x.disk_is;
       disk_after = refl;
       kept = kept;

@@ -1,7 +1,7 @@
 -- What contracts say of a pool under its lock, and of its handles.
 use Rattle.std.specs.Prelude.{ℕ, ◌≡◌, ◌≤◌, ◌⊎◌, ◌+◌, ◌/◌, ◌++◌, IsTrue, List, [], ◌∷◌, length}
-use Rattle.base.specs.crash.CrashRule.{KeepsOwn}
-use Rattle.base.specs.crash.Imports.{IsImportOf}
+use Rattle.base.specs.kept.CrashRule.{KeepsOwn}
+use Rattle.base.specs.kept.Imports.{IsImportOf}
 use Rattle.base.specs.declared.error.PoolError.{PoolError}
 use Rattle.base.specs.declared.error.PoolError.TheVariants.{NoMemory}
 use Rattle.base.specs.disk.Disk.{Disk, bytes_of, certain}
@@ -25,7 +25,7 @@ use Rattle.pool_threads.specs.declared.pool.Pool.{Pool}
 use Rattle.pool_threads.specs.declared.shared.Shared.{Shared}
 use Rattle.pool_threads.specs.Views.{Explains, GrowsTo, IsFollowed, SeenPool, since, view_behind_disk, viewed_state}
 use Rattle.pool_threads.specs.Views.CrashRule.{Behind}
-use Rattle.base.specs.crash.LeftDisks.{IsLeft}
+use Rattle.base.specs.kept.LeftDisks.{IsLeft}
 use Rattle.word_lock.specs.declared.rule.Turn.{Turn}
 use Rattle.word_lock.specs.Seats.{HasMetNone, IsAsBefore, kin, lock_table, opening, seat_number, seat_table, seen, taken, turns}
 use Rattle.word_lock.specs.Turns.{IsTurnHistory, turn}

@@ -5,7 +5,7 @@ use Rattle.base.specs.declared.step.Reply as declared_reply
 use Rattle.base.specs.disk.Disk.{Disk}
 use Rattle.pool_core.specs.KeptSafe.{IsStoppedBetween}
 use Rattle.pool_threads.specs.Views.{IsFollowed, IsPoolStep, SeenPool, WereSafeBetween, past_between, since, viewed_state}
-use Rattle.base.specs.crash.LeftDisks.{IsLeft}
+use Rattle.base.specs.kept.LeftDisks.{IsLeft}
 use Rattle.base.specs.steps.Explains.{Explains}
 
 -- at each moment of such a step, on the disk of its views, every fair image mounts a cut with all that was acknowledged

@@ -1,4 +1,3 @@
-pub mod Noted
 pub mod Views
 pub mod Turns
 pub mod Handles

@@ -1,11 +1,15 @@
 -- What a thread sees of a pool that runs, and how it goes on by steps.
-use Rattle.std.specs.Prelude.{ℕ, ◌≡◌, ◌++◌, IsTrue, List, [], ◌∷◌}
+use Rattle.std.specs.Prelude.{ℕ, ◌≡◌, ◌++◌, IsTrue, false, List, [], ◌∷◌, None}
 use Rattle.std.proofs.Common.{refl, ◌∙◌}
+use Rattle.std.specs.FinMap as finite
+use Rattle.std.specs.FinSet as set
 use Rattle.std.proofs.Math.Logic.{∥∥₁_map, ∥∥₁_elim, ∥∥₁_prop}
 use Rattle.base.specs.declared.step.Step as declared_step
 use Rattle.base.specs.declared.step.Step.TheVariants.{LogFlush, LogWrite, SyncStep}
 use Rattle.base.specs.declared.step.Reply as declared_reply
 use Rattle.base.specs.disk.Disk.{Disk, bytes_of}
+use Rattle.base.specs.formats.Fields.{no_pointer}
+use Rattle.base.specs.history.Contents.{Contents}
 use Rattle.base.specs.history.Past.{Past, new_past}
 use Rattle.base.proofs.disk.Moments.{joins, starts}
 use Rattle.base.specs.steps.Additions.{past_after}
@@ -13,7 +17,8 @@ use Rattle.base.specs.steps.Tables.{GoesOn, AreTablesExplained}
 use Rattle.base.specs.steps.Explains.{WereSafe}
 use Rattle.base.specs.steps.Runs.{Step, Run}
 use Rattle.base.specs.steps.Steps.{State}
-use Rattle.base.specs.stored.Stored.{IsHeld}
+use Rattle.base.specs.steps.Shown.{Shown}
+use Rattle.base.specs.kept.Stored.{IsHeld}
 use Rattle.device_model.specs.declared.device.SectorDevice.{Ghosts}
 use Rattle.pool_core.specs.declared.state.PoolState.{PoolState}
 use Rattle.pool_tables.specs.Told.{held_with, state_with}
@@ -21,8 +26,7 @@ use Rattle.pool_core.specs.KeptSafe.{IsKeptSafe, IsSafeStep, OnDisk, disk_of, on
 use Rattle.pool_core.specs.NewStates.{first_past}
 use Rattle.pool_core.specs.States.{shown, told}
 use Rattle.pool_core.specs.StepReplies.{IsStep}
-use Rattle.pool_threads.specs.Noted.{NotedPool, blank_note, no_contents, note, shown_in}
-use Rattle.base.specs.crash.LeftDisks.{GoesOnFrom, IsLeft}
+use Rattle.base.specs.kept.LeftDisks.{GoesOnFrom, IsLeft}
 
 -- Whether the crash rule is followed: not at all; in a run of the pool whose create began at this moment; or in one
 -- after whatever run left the disk that the pool was imported from.
@@ -40,7 +44,7 @@ IsFollowed (Behind disk) created = ∥ ((past : Past) × (past.created ≡ creat
 -- What is seen of a pool: what it shows, with the past of its run, whether the run follows the crash rule, and the disk
 -- of its device.
 pub record SeenPool : Type 0 where
-  pub pool : NotedPool
+  pub shown : Shown
   pub past : Past
   pub rule : CrashRule
   pub disk : Disk
@@ -51,16 +55,16 @@ since created past = record past { created = created }
 
 -- the state that is seen
 abbrev pub viewed_state : SeenPool → State
-viewed_state v = record { shown = shown_in v.pool; past = v.past }
+viewed_state v = record { shown = v.shown; past = v.past }
 
 -- so it is, of a pool whose create began at this moment
 abbrev pub state_since : ℕ → SeenPool → State
-state_since created v = record { shown = shown_in v.pool; past = since created v.past }
+state_since created v = record { shown = v.shown; past = since created v.past }
 
 module _ {Dev : Type 0} {G : Ghosts Dev} where
   -- the view of a pool with this past
   abbrev pub view_of : PoolState Dev G → Past → CrashRule → SeenPool
-  view_of p past rule = record { pool = note (shown p); past = past; rule = rule; disk = disk_of p }
+  view_of p past rule = record { shown = shown p; past = past; rule = rule; disk = disk_of p }
 
   -- the view of a pool in whose run nothing happened yet, after whichever run left this disk
   abbrev pub view_behind_disk : PoolState Dev G → Disk → SeenPool
@@ -127,11 +131,39 @@ pub record GrowsTo (keeps : Type 0) (v w : SeenPool) : Type 0 where
   pub on : keeps → GoesOnFrom v.disk w.disk
   pub rule : w.rule ≡ v.rule
 
+-- what is seen where there is no pool
+abbrev pub no_contents : Contents
+no_contents = record { objects = finite.empty; name = [] }
+
+abbrev pub no_pool : Shown
+no_pool = record {
+  suspended = false;
+  guid = 0;
+  blocks = 0;
+  import_number = 0;
+  dirty_max = 0;
+  locks = [];
+  next_lock = 0;
+  line = record { synced = 0; syncing = None; middle = None; open_group = 0 };
+  transactions = [];
+  next_tx = 0;
+  contents = no_contents;
+  next_ordinal = 0;
+  dirty = finite.empty;
+  reserved = finite.empty;
+  free = set.empty;
+  log = record { unsynced = []; begun = None; pending = []; kept = []; next = record { address = 0; number = 0 } };
+  root = no_pointer;
+  synced_contents = no_contents;
+  lengths = [];
+  sync = None;
+}
+
 abbrev pub blank_disk : Disk
 blank_disk = record { now = record { flushed = []; unflushed = []; kept = [] }; past = [] }
 
 abbrev pub blank_view : SeenPool
-blank_view = record { pool = blank_note; past = new_past no_contents 0 0; rule = NotFollowed; disk = blank_disk }
+blank_view = record { shown = no_pool; past = new_past no_contents 0 0; rule = NotFollowed; disk = blank_disk }
 
 pub grows_same : (keeps : Type 0) (v : SeenPool) → GrowsTo keeps v v
 grows_same keeps v = record { goes_on = ∣ ([], [], refl) ∣₁; on = λ _. starts (λ m. Unit {0}) v.disk tt; rule = refl }

@@ -27,7 +27,7 @@ pub struct Pool<D: SectorDevice> {
 
 impl<D: SectorDevice> Pool<D> {
     ghost use Rattle.std.specs.Prelude.{◌≡◌, ◌⊎◌, IfErr, IfOk, IfSome, IsSome, IsTrue, true};
-    ghost use Rattle.base.specs.crash.Imports.{are_limits_allowed, is_cache_allowed, is_dirty_max_allowed};
+    ghost use Rattle.base.specs.kept.Imports.{are_limits_allowed, is_cache_allowed, is_dirty_max_allowed};
     ghost use Rattle.base.specs.disk.Calls.{with_refusal};
     ghost use Rattle.import_replay.specs.ImportRefusals.{IsImportRefusal};
     ghost use Rattle.import_replay.specs.Mounts.{shown_of_import};

@@ -5,6 +5,7 @@ use Rattle.std.proofs.Math.Bool.{or-true}
 use Rattle.std.proofs.lemmas.Bool.{eq-eqb, ne_eqb, eqb-true, cases_eq, cases_lt, lt-ltb, le-ltb, le-leb, lt-leb, ltb-true, ltb-false, or_cases}
 use Rattle.std.proofs.lemmas.List.Sums.{sum_by-cons}
 use Rattle.base.specs.steps.Locks.{Grant, is_in}
+use Rattle.base.proofs.common.Choices.{or-swap}
 use Rattle.range_locks.specs.Parts.{ends_at}
 use Rattle.range_locks.specs.Pieces.{ends_of, with_offset}
 use Rattle.range_locks.proofs.LockCounts.{one}
@@ -20,18 +21,13 @@ in-with_offset x y (z ∷ zs) = elim (cases_lt y z) as (λ _. is_in x (with_offs
   | inl below ↦ ap (λ b. is_in x (cond b (y ∷ z ∷ zs) (cond (y == z) (z ∷ zs) (z ∷ with_offset y zs)))) (lt-ltb y z below)
   | inr above ↦ ap (λ b. is_in x (cond b (y ∷ z ∷ zs) (cond (y == z) (z ∷ zs) (z ∷ with_offset y zs)))) (le-ltb y z above) ∙ elim (cases_eq y z) as (λ _. is_in x (cond (y == z) (z ∷ zs) (z ∷ with_offset y zs)) ≡ ((x == y) || is_in x (z ∷ zs))) [
     | inl same ↦ ap (λ b. is_in x (cond b (z ∷ zs) (z ∷ with_offset y zs))) (eq-eqb y z same) ∙ sym (ap (λ w. (x == w) || is_in x (z ∷ zs)) same ∙ twice (x == z) (is_in x zs))
-    | inr apart ↦ ap (λ b. is_in x (cond b (z ∷ zs) (z ∷ with_offset y zs))) (ne_eqb y z apart) ∙ ap (λ b. (x == z) || b) (in-with_offset x y zs) ∙ swapped (x == z) (x == y) (is_in x zs)
+    | inr apart ↦ ap (λ b. is_in x (cond b (z ∷ zs) (z ∷ with_offset y zs))) (ne_eqb y z apart) ∙ ap (λ b. (x == z) || b) (in-with_offset x y zs) ∙ or-swap (x == z) (x == y) (is_in x zs)
   ]
 ]
   where
     twice : (a b : Bool) → (a || (a || b)) ≡ (a || b)
     twice true b = refl
     twice false b = refl
-
-    swapped : (a b c : Bool) → (a || (b || c)) ≡ (b || (a || c))
-    swapped true true c = refl
-    swapped true false c = refl
-    swapped false b c = refl
 
 rise-with_offset : (y : ℕ) (ys : List ℕ) → Rise ys → Rise (with_offset y ys)
 rise-with_offset y [] rise = (λ x h. absurd (let no_way : false ≡ true = h in cc), tt)

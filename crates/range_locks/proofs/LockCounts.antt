@@ -7,6 +7,7 @@ use Rattle.range_locks.specs.Rows.{PartRows, part_in}
 use Rattle.std.proofs.lemmas.Bool.{eq-eqb, ne_eqb, eqb-true, cases_eq, cases_lt, cases_order, le-leb, lt-leb, lt-ltb, le-ltb}
 use Rattle.std.proofs.lemmas.List.Folds.{find-append}
 use Rattle.std.proofs.lemmas.List.Sums.{sum_by-cons, sum_by_push, sum_by-le, count_by-le-length}
+use Rattle.std.proofs.Math.Bool.{and-false}
 use Rattle.base.specs.declared.names.LockId.{LockId}
 use Rattle.base.specs.declared.range.Mode.{Mode}
 use Rattle.base.specs.declared.range.Mode.TheVariants.{Reader, Writer}
@@ -42,10 +43,6 @@ sum_without f (x ∷ xs) (suc i) id g rise at named =
     let left : sum_by f (filter (λ (h : Grant). not (h.id == id)) (x ∷ xs)) ≡ f x + sum_by f (filter (λ (h : Grant). not (h.id == id)) xs) = ap (sum_by f) stays ∙ sum_by-cons f x (filter (λ (h : Grant). not (h.id == id)) xs) in
     let tail : sum_by f xs ≡ sum_by f (filter (λ (h : Grant). not (h.id == id)) xs) + f g = sum_without f xs i id g (rest_rises x xs rise) at named in
     omega arith
-
-nothing : (b : Bool) → (b && false) ≡ false
-nothing true = refl
-nothing false = refl
 
 -- whether one is found
 pub any-find : (p : Grant → Bool) (locks : List Grant) → is_some (option_map name_of (find p locks)) ≡ list_any p locks
@@ -161,10 +158,10 @@ module _ (g : Grant) (k : ℕ) where
     ends_apart = ap (λ b. one (b && (k == g.range.low)) + one (b && (k == g.range.high))) apart
 
     reads_apart : reads_at n k g ≡ false
-    reads_apart = ap (λ b. is_reader g.mode && b) covers_apart ∙ nothing (is_reader g.mode)
+    reads_apart = ap (λ b. is_reader g.mode && b) covers_apart ∙ and-false (is_reader g.mode)
 
     writes_apart : writes_at n k g ≡ false
-    writes_apart = ap (λ b. not (is_reader g.mode) && b) covers_apart ∙ nothing (not (is_reader g.mode))
+    writes_apart = ap (λ b. not (is_reader g.mode) && b) covers_apart ∙ and-false (not (is_reader g.mode))
 
     more_apart : (p : Part) → more_of n k g p ≡ p
     more_apart p = same_part _ _ (omega (arith, ends_apart)) (ap (λ b. p.readers + one b) reads_apart ∙ omega arith) (ap (λ b. cond b (Some (name_of g)) p.writer) writes_apart)
@@ -319,8 +316,8 @@ finds_none (x ∷ xs) = finds_none xs
 pub counts_still : (n : ℕ) (locks : List Grant) → IsStill (counts_of n locks)
 counts_still n locks = record {
   first = λ none. (
-    sums_agree (ends_at n 0) (λ (g : Grant). cond (reads_at n 0 g) 1 0) (λ (g : Grant). 0) (λ g free. ap (λ b. cond (is_reader g.mode && b) 1 0) (covers_first n g free) ∙ ap (λ b. cond b 1 0) (nothing (is_reader g.mode))) locks none ∙ zero_sum locks,
-    ap (option_map name_of) (finds_agree (ends_at n 0) (writes_at n 0) (λ (g : Grant). false) (λ g free. ap (λ b. not (is_reader g.mode) && b) (covers_first n g free) ∙ nothing (not (is_reader g.mode))) locks none ∙ finds_none locks),
+    sums_agree (ends_at n 0) (λ (g : Grant). cond (reads_at n 0 g) 1 0) (λ (g : Grant). 0) (λ g free. ap (λ b. cond (is_reader g.mode && b) 1 0) (covers_first n g free) ∙ ap (λ b. cond b 1 0) (and-false (is_reader g.mode))) locks none ∙ zero_sum locks,
+    ap (option_map name_of) (finds_agree (ends_at n 0) (writes_at n 0) (λ (g : Grant). false) (λ g free. ap (λ b. not (is_reader g.mode) && b) (covers_first n g free) ∙ and-false (not (is_reader g.mode))) locks none ∙ finds_none locks),
   );
   next = λ k none. (
     sums_agree (ends_at n (k + 1)) (λ (g : Grant). cond (reads_at n (k + 1) g) 1 0) (λ (g : Grant). cond (reads_at n k g) 1 0) (λ g free. ap (λ b. cond (is_reader g.mode && b) 1 0) (covers_next n k g free)) locks none,

@@ -6,12 +6,12 @@ use Rattle.std.proofs.Math.Logic.{∥∥₁_map}
 use Rattle.std.proofs.lemmas.List.{append-nil, nil_from_length}
 use Rattle.std.specs.FinMap as finite
 use Rattle.std.specs.Ordering.{nat_cmp}
-use Rattle.base.specs.crash.Imports.{is_dirty_max_allowed}
+use Rattle.base.specs.kept.Imports.{is_dirty_max_allowed}
 use Rattle.base.specs.declared.step.Step as declared_step
 use Rattle.base.specs.declared.step.Reply as declared_reply
-use Rattle.base.specs.crash.CrashRule.{KeepsOwn}
-use Rattle.base.specs.crash.Own.{IsOwnWith}
-use Rattle.base.specs.crash.LeftDisks.{GoesOnFrom, IsLeft}
+use Rattle.base.specs.kept.CrashRule.{KeepsOwn}
+use Rattle.base.specs.kept.Own.{IsOwnWith}
+use Rattle.base.specs.kept.LeftDisks.{GoesOnFrom, IsLeft}
 use Rattle.base.specs.declared.error.PoolError.{PoolError}
 use Rattle.base.specs.declared.error.PoolError.TheVariants.{Damaged, NoMemory, NoPool, NoSpace, TooMany}
 use Rattle.base.specs.declared.refused.RefusedCalls.{RefusedCalls}

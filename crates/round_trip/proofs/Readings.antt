@@ -14,7 +14,7 @@ use Rattle.base.specs.history.Past.{Past}
 use Rattle.base.specs.steps.Runs.{Run}
 use Rattle.pool_core.specs.KeptSafe.{IsSafeStep, OnDisk}
 use Rattle.round_trip.specs.Rounds.{HasMoment}
-use Rattle.base.specs.crash.LeftDisks.{GoesOnFrom, IsLeft}
+use Rattle.base.specs.kept.LeftDisks.{GoesOnFrom, IsLeft}
 use Rattle.round_trip.specs.Crashes.{Answer, ComesTo, ComesToOfNew, IsFairEnd, IsOverFor, IsRefusedFrom, Outcome}
 use Rattle.round_trip.specs.declared.crashes.End.{End}
 use Rattle.round_trip.specs.declared.crashes.End.TheVariants.{GivenUp}

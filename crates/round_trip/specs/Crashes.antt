@@ -1,13 +1,13 @@
 -- Rounds of a pool with crashes between them, and what the import after the last one finds.
 use Rattle.std.specs.Prelude.{ℕ, ◌≡◌, ◌⊎◌, ◌++◌, List, [], ◌∷◌, Option, None, Some, Result, Ok, Err, MatchResult}
 use Rattle.std.specs.Global.{Vec}
-use Rattle.base.specs.crash.Imports.{is_dirty_max_allowed}
+use Rattle.base.specs.kept.Imports.{is_dirty_max_allowed}
 use Rattle.base.specs.declared.error.PoolError.{PoolError}
 use Rattle.base.specs.declared.error.PoolError.TheVariants.{NoMemory}
 use Rattle.base.specs.declared.refused.RefusedCalls.{RefusedCalls}
 use Rattle.base.specs.declared.step.Step as declared_step
 use Rattle.base.specs.declared.step.Reply as declared_reply
-use Rattle.base.specs.crash.LeftDisks.{GoesOnFrom, IsLeft}
+use Rattle.base.specs.kept.LeftDisks.{GoesOnFrom, IsLeft}
 use Rattle.base.specs.disk.Calls.{with_refusal}
 use Rattle.base.specs.disk.Crashes.{crash_image}
 use Rattle.base.specs.disk.Disk.{Disk, bytes_of, certain, moments}

@@ -1,7 +1,7 @@
 -- What an import shows and its moment, a pool as an import left it, and a new one.
 use Rattle.std.specs.Prelude.{ℕ, ◌≡◌, ◌+◌, List, None}
 use Rattle.std.specs.FinMap as finite
-use Rattle.base.specs.crash.Mount.{MountsTo}
+use Rattle.base.specs.tree.Mount.{MountsTo}
 use Rattle.base.specs.formats.Uberblocks.{Uberblock, IsActive}
 use Rattle.base.specs.history.Contents.{Contents}
 use Rattle.base.specs.steps.Shown.{Shown}

@@ -9,7 +9,7 @@ ghost use Rattle.base.specs.history.Past.{Past};
 ghost use Rattle.import_replay.specs.Creations.{first_uberblock};
 ghost use Rattle.base.specs.steps.Runs.{Run};
 ghost use Rattle.pool_core.specs.KeptSafe.{IsSafeStep, OnDisk};
-ghost use Rattle.base.specs.crash.LeftDisks.{GoesOnFrom, IsLeft};
+ghost use Rattle.base.specs.kept.LeftDisks.{GoesOnFrom, IsLeft};
 ghost use Rattle.round_trip.specs.declared.crashes.End.TheVariants.{GivenUp};
 ghost use Rattle.round_trip.specs.Rounds.{HasMoment};
 

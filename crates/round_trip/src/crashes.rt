@@ -7,13 +7,13 @@
 //! import then mounts a cut of the rounds, with all that each round acknowledged.
 
 ghost use Rattle.std.specs.Prelude.{◌≡◌, ◌⊎◌, IfErr, IfOk, IsTrue};
-ghost use Rattle.base.specs.crash.Imports.{is_dirty_max_allowed};
+ghost use Rattle.base.specs.kept.Imports.{is_dirty_max_allowed};
 ghost use Rattle.base.specs.disk.Disk.{bytes_of, disk_size};
 ghost use Rattle.base.specs.history.Past.{Past};
 ghost use Rattle.object_maps.specs.ContentsShown.{contents_of};
 ghost use Rattle.import_replay.specs.CreateRefusals.{IsCreateRefusal};
 ghost use Rattle.import_replay.specs.ImportRefusals.{IsImportRefusal};
-ghost use Rattle.base.specs.crash.LeftDisks.{IsLeft};
+ghost use Rattle.base.specs.kept.LeftDisks.{IsLeft};
 ghost use Rattle.round_trip.specs.Crashes.{FindsCutsFrom, FindsCutsOfNew, IsOverFor, IsRefusedFrom, IsRefusedOfNew, IsRound, IsRoundsOfNewRefusal, IsRoundsRefusal, counted_in, with_fault};
 ghost use Rattle.round_trip.specs.Rounds.{HasMoment};
 

@@ -5,9 +5,9 @@
 #![tactic(auto)]
 
 ghost use Rattle.std.specs.Prelude.{◌≡◌, IfErr, IfOk, IsTrue, OnOk};
-ghost use Rattle.base.specs.crash.CrashRule.{KeepsOwn};
-ghost use Rattle.base.specs.crash.Imports.{is_dirty_max_allowed};
-ghost use Rattle.base.specs.crash.Own.{IsOwnWith};
+ghost use Rattle.base.specs.kept.CrashRule.{KeepsOwn};
+ghost use Rattle.base.specs.kept.Imports.{is_dirty_max_allowed};
+ghost use Rattle.base.specs.kept.Own.{IsOwnWith};
 ghost use Rattle.base.specs.disk.Disk.{bytes_of, moments};
 ghost use Rattle.import_replay.specs.CreateRefusals.{CanCreate, IsCreateRefusal};
 ghost use Rattle.import_replay.specs.Creations.{IsNewPool};
@@ -15,7 +15,7 @@ ghost use Rattle.import_replay.specs.ImportRefusals.{FindsOwn, IsImportRefusal, 
 ghost use Rattle.import_replay.specs.Mounts.{IsMountedAnew};
 ghost use Rattle.import_replay.specs.OwnCreations.{first_contents};
 ghost use Rattle.import_replay.specs.RunStarts.{StartsRun};
-ghost use Rattle.base.specs.crash.LeftDisks.{GoesOnFrom};
+ghost use Rattle.base.specs.kept.LeftDisks.{GoesOnFrom};
 ghost use Rattle.object_maps.specs.ContentsShown.{contents_of};
 ghost use Rattle.round_trip.specs.Rounds.{IsOpened, ShowsMountedContents};
 

@@ -11,7 +11,7 @@ use Rattle.device_model.specs.contracts.memory.MemDeviceSectorDevice.TheImpl.{gh
 use Rattle.device_model.specs.declared.fault.Fault.{Fault}
 use Rattle.device_model.specs.declared.fault.Fault.TheVariants.{Read, Write, Flush}
 use Rattle.base.proofs.crash.LeftDisks.{left_crashed}
-use Rattle.base.specs.crash.LeftDisks.{IsLeft}
+use Rattle.base.specs.kept.LeftDisks.{IsLeft}
 use Rattle.script_lines.specs.declared.answer.Answer.{Answer}
 use Rattle.scripts.specs.Kept.{IsRunIn, KeepsOverCrash}
 use Rattle.scripts.specs.Places.{CrashesOn}

@@ -2,7 +2,7 @@
 use Rattle.std.proofs.Common.{◌≡◌, ◌∙◌, ◌∷◌, [], ℕ, List, length, inl, inr, refl, sym, ap, subst, rules, arith}
 use Rattle.std.specs.Prelude.{◌⊎◌, false, Option, Some, Result, Ok, Err}
 use Rattle.std.proofs.lemmas.Bool.{false≢true}
-use Rattle.base.specs.crash.Imports.{are_limits_allowed}
+use Rattle.base.specs.kept.Imports.{are_limits_allowed}
 use Rattle.base.specs.declared.error.PoolError.{PoolError}
 use Rattle.base.specs.declared.error.PoolError.TheVariants.{BadGeometry, BadRange, NoMemory}
 use Rattle.base.specs.declared.piece.Piece.{Piece}

@@ -4,7 +4,7 @@ use Rattle.std.specs.Prelude.{IsTrue}
 use Rattle.std.proofs.Math.Logic.{∥∥₁_map}
 use Rattle.base.specs.declared.step.Step.{Step}
 use Rattle.base.specs.declared.step.Reply.{Reply}
-use Rattle.base.specs.crash.CrashRule.{KeepsOwn}
+use Rattle.base.specs.kept.CrashRule.{KeepsOwn}
 use Rattle.base.specs.disk.Disk.{Disk, disk_size}
 use Rattle.base.specs.history.Past.{Past}
 use Rattle.device_model.specs.declared.device.SectorDevice.{Ghosts}
@@ -17,7 +17,7 @@ use Rattle.pool_core.specs.States.{device_of, told}
 use Rattle.pool_core.specs.declared.state.PoolState.{PoolState}
 use Rattle.pool_threads.specs.Handles.{StartsBehind}
 use Rattle.pool_core.proofs.crash.LeftDisks.{found, run_start, safe_found}
-use Rattle.base.specs.crash.LeftDisks.{IsLeft}
+use Rattle.base.specs.kept.LeftDisks.{IsLeft}
 use Rattle.script_lines.specs.declared.command.PoolCommand.{PoolCommand}
 use Rattle.scripts.proofs.CommandSteps.{by_command}
 use Rattle.scripts.proofs.JoinedRuns.{runs_join}

@@ -4,7 +4,7 @@ use Rattle.base.specs.declared.error.PoolError.TheVariants.{NoMemory}
 use Rattle.device_model.specs.MemState.{MemState}
 use Rattle.pool_core.specs.KeptSafe.{IsKeptSafe, on_disk}
 use Rattle.pool_core.specs.States.{device_of}
-use Rattle.base.specs.crash.LeftDisks.{IsLeft}
+use Rattle.base.specs.kept.LeftDisks.{IsLeft}
 use Rattle.scripts.specs.OwnPools.{BeginsRun, IsImportedPool, IsMadeSafely, IsStepOf, MemPool, open_plan}
 use Rattle.scripts.specs.PoolSteps.{Asks}
 use Rattle.scripts.specs.SharedPools.{AsksShared, IsDeviceIn, IsMountShared}

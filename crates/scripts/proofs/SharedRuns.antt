@@ -16,7 +16,7 @@ use Rattle.pool_threads.specs.Handles.{OpensBehind, opening_view, owned_of}
 use Rattle.pool_threads.specs.Turns.{dated}
 use Rattle.pool_threads.specs.Views.{CrashRule, GrowsTo, IsFollowed, SeenPool, grows_same, since, viewed_state}
 use Rattle.pool_threads.specs.Views.CrashRule.{Behind}
-use Rattle.base.specs.crash.LeftDisks.{IsLeft}
+use Rattle.base.specs.kept.LeftDisks.{IsLeft}
 use Rattle.script_lines.specs.declared.command.PoolCommand.{PoolCommand}
 use Rattle.scripts.proofs.Asked.{steps_grow}
 use Rattle.scripts.proofs.CommandSteps.{by_command}

@@ -1,6 +1,6 @@
 -- What a create and an import make of the device, and what a refused one leaves of it.
 use Rattle.std.specs.Prelude.{ℕ, ◌≡◌, ◌⊎◌, ◌*◌, ◌/◌, IsTrue, List}
-use Rattle.base.specs.crash.Imports.{are_limits_allowed}
+use Rattle.base.specs.kept.Imports.{are_limits_allowed}
 use Rattle.base.specs.declared.error.PoolError.{PoolError}
 use Rattle.base.specs.declared.error.PoolError.TheVariants.{BadGeometry, BadRange, NoMemory}
 use Rattle.base.specs.declared.step.Reply.TheVariants.{Done, Refused}

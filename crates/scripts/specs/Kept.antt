@@ -10,7 +10,7 @@ use Rattle.device_model.specs.MemState.{MemState}
 use Rattle.device_model.specs.contracts.memory.MemDeviceSectorDevice.TheImpl.{ghosts}
 use Rattle.device_model.specs.declared.device.SectorDevice as sector
 use Rattle.import_replay.specs.OwnCreations.{first_contents}
-use Rattle.base.specs.crash.LeftDisks.{IsLeft}
+use Rattle.base.specs.kept.LeftDisks.{IsLeft}
 use Rattle.script_lines.specs.declared.answer.Answer.{Answer}
 use Rattle.script_lines.specs.declared.answer.Answer.TheVariants as answer
 use Rattle.script_lines.specs.declared.command.Command.{Command}

@@ -17,7 +17,7 @@ use std::alloc::Global;
 impl<R> MountedPool<MemDevice, R> for PoolState<MemDevice> {
     ghost use Rattle.pool_core.specs.KeptSafe.{IsKeptSafe, on_disk};
     ghost use Rattle.pool_core.specs.States.{device_of};
-    ghost use Rattle.base.specs.crash.LeftDisks.{IsLeft};
+    ghost use Rattle.base.specs.kept.LeftDisks.{IsLeft};
     ghost use Rattle.scripts.specs.OwnPools.{BeginsRun, IsImportedPool, IsMadeSafely, IsStepOf, open_plan};
     ghost use Rattle.scripts.specs.PoolSteps.{Asks};
 
@@ -71,7 +71,7 @@ impl<R> MountedPool<MemDevice, R> for PoolState<MemDevice> {
 impl<F: SectorFile + Drop, R> MountedPool<FileDevice<F>, R> for PoolState<FileDevice<F>> {
     ghost use Rattle.pool_core.specs.KeptSafe.{IsKeptSafe, on_disk};
     ghost use Rattle.pool_core.specs.States.{device_of};
-    ghost use Rattle.base.specs.crash.LeftDisks.{IsLeft};
+    ghost use Rattle.base.specs.kept.LeftDisks.{IsLeft};
     ghost use Rattle.scripts.specs.OwnPools.{BeginsRun, IsImportedPool, IsMadeSafely, IsStepOf, open_plan};
     ghost use Rattle.scripts.specs.PoolSteps.{Asks};
 

@@ -3,7 +3,7 @@
 
 ghost use Rattle.std.specs.Prelude.{ℕ, ◌≡◌, ◌⊎◌, ◌+◌, ◌++◌, ◌∷◌, [], Ok, Some, IsOk, length};
 ghost use Rattle.std.specs.Option.{option_map};
-ghost use Rattle.base.specs.crash.LeftDisks.{IsLeft};
+ghost use Rattle.base.specs.kept.LeftDisks.{IsLeft};
 ghost use Rattle.base.specs.declared.error.PoolError.{PoolError};
 ghost use Rattle.base.specs.declared.error.PoolError.TheVariants.{BadRange, NoMemory};
 ghost use Rattle.base.specs.declared.operation.Shape.TheVariants as shape;

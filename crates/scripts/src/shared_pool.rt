@@ -42,7 +42,7 @@ type Opened = (OwnedPool<MemDevice>, LastSeen<MemDevice>);
 impl<W: Wait> MountedPool<MemDevice, W> for SharedPool {
     ghost use Rattle.base.specs.disk.Disk.{Disk};
     ghost use Rattle.base.specs.history.Past.{Past};
-    ghost use Rattle.base.specs.crash.LeftDisks.{IsLeft};
+    ghost use Rattle.base.specs.kept.LeftDisks.{IsLeft};
     ghost use Rattle.scripts.specs.SharedPools.{AsksShared, IsDeviceIn, IsMountShared};
     ghost use Rattle.scripts.specs.SharedRuns.{BeginsShared, GoesSafely, IsRunOf};
     ghost use Rattle.std.proofs.Math.Logic.{∥∥₁_map};

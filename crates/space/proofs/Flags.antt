@@ -3,7 +3,6 @@ use Rattle.std.proofs.Common.{◌≡◌, ◌≢◌, ℕ, zero, suc, ◌+◌, ◌
 use Rattle.std.specs.Prelude.{replicate}
 use Rattle.std.specs.List.{list_any}
 use Rattle.std.specs.Ordering.{nat_cmp, eq_by_cmp}
-use Rattle.std.specs.Cmp.{unsigned_tied, nat_eq_equiv}
 use Rattle.std.proofs.Math.ListN.{set as list_set}
 use Rattle.std.proofs.lemmas.List.{get_or-replicate, length-replicate, set-get_or}
 use Rattle.std.proofs.lemmas.Bool.{eq-eqb, eqb-true}
@@ -11,6 +10,8 @@ use Rattle.std.proofs.lemmas.Cmp.{nat_cmp_total}
 use Rattle.std.specs.FinSet as set
 use Rattle.std.specs.FinSet.{contains-from_list_nat, contains-remove, contains-insert, same_set, nat_cmp-IsAntisymmetric}
 use Rattle.base.specs.formats.Geometry.{block_address, IsBlockAddress}
+use Rattle.base.proofs.common.Choices.{or-swap}
+use Rattle.base.proofs.stored.StoredSets.{tied}
 use Rattle.space.specs.FreeSets.{HasAllOf}
 use Rattle.space.specs.Flags.{addresses_from, free_of}
 
@@ -141,18 +142,10 @@ among-set k (false ∷ flags) zero q low =
 among-set k (true ∷ flags) (suc i) q low =
     let e : k + suc i ≡ k + 1 + i = omega arith in
     rw e (ap (λ b. nat_eq (block_address k) q || b) (among-set (k + 1) flags i q (omega arith))
-    ∙ swap (nat_eq (block_address k) q) (nat_eq (block_address (k + 1 + i)) q) (is_among q (addresses_from (k + 1) flags)))
-  where
-    swap : (t u l : Bool) → (t || (u || l)) ≡ (u || (t || l))
-    swap true true l = refl
-    swap true false l = refl
-    swap false u l = refl
+    ∙ or-swap (nat_eq (block_address k) q) (nat_eq (block_address (k + 1 + i)) q) (is_among q (addresses_from (k + 1) flags)))
 among-set k (false ∷ flags) (suc i) q low =
     let e : k + suc i ≡ k + 1 + i = omega arith in
     rw e (among-set (k + 1) flags i q (omega arith))
-
-tied : (q k : ℕ) → eq_by_cmp nat_cmp q k ≡ nat_eq k q
-tied q k = unsigned_tied q k ∙ nat_eq_equiv.symm q k
 
 -- a block that is taken leaves the set of free addresses
 pub free_of-taken : (flags : List Bool) (i : ℕ) → free_of (list_set flags i false) ≡ set.remove (free_of flags) (block_address i)

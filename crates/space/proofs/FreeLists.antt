@@ -1,12 +1,12 @@
 -- The free addresses from an index on, as a rising list, by the flags.
-use Rattle.std.proofs.Common.{◌≡◌, ℕ, zero, suc, ◌+◌, ◌-◌, ◌*◌, ◌/◌, ◌<◌, ◌≤◌, Bool, true, false, ◌&&◌, cond, List, [], ◌∷◌, drop, length, map, get_or, inl, inr, refl, sym, subst, ◌∙◌, ap, add-one, arith, Option, Some, None, Less, Equal, Greater, nat_eq, nat_le}
+use Rattle.std.proofs.Common.{◌≡◌, ℕ, zero, suc, ◌+◌, ◌-◌, ◌*◌, ◌/◌, ◌<◌, ◌≤◌, Bool, true, false, ◌&&◌, cond, List, [], ◌∷◌, drop, length, map, get_or, refl, sym, subst, ◌∙◌, ap, add-one, arith, Option, Some, None, Less, Equal, Greater, nat_eq, nat_le}
 use Rattle.std.specs.Prelude.{T, is_some, filter}
 use Rattle.std.specs.List.{list_any}
 use Rattle.std.specs.Ordering.{nat_cmp, eq_by_cmp, is_lt}
 use Rattle.std.proofs.Math.Seq.{drop-cons}
 use Rattle.std.proofs.Math.Nat.{mul-div_cancel_left}
 use Rattle.std.proofs.lemmas.List.{drop_all}
-use Rattle.std.proofs.lemmas.Bool.{cases_lt, le-ltb, lt-ltb}
+use Rattle.std.proofs.lemmas.Bool.{lt-ltb}
 use Rattle.std.proofs.lemmas.Cmp.{nat_cmp_total}
 use Rattle.std.specs.FinMap as finite
 use Rattle.std.specs.FinMap.{FinMap, entries_sorted, contains_key-keys, entries-from_sorted, get-from_sorted, get-from_entries, same_map, is_sorted, find}
@@ -15,6 +15,7 @@ use Rattle.std.specs.FinSet as set
 use Rattle.std.specs.FinSet.{FinSet, contains-items, contains-from_list, contains-from_list_nat, len-empty, len-insert, same_set, nat_cmp-IsAntisymmetric}
 use Rattle.base.specs.formats.Geometry.{block_address, block_area, block_size}
 use Rattle.base.specs.common.Rising.{as_keys, rising}
+use Rattle.base.proofs.stored.StoredSets.{keys-as_keys, less-by_cmp, split}
 use Rattle.space.specs.FreeSets.{block_index, free_from}
 use Rattle.space.proofs.Flags.{other}
 use Rattle.space.specs.Flags.{AreTaken, IsFirstFree, addresses_from, free_of}
@@ -42,10 +43,6 @@ rise k (true ∷ flags) = both_T _ _ (below_addresses (block_address k) (k + 1) 
     both_T false b p q = absurd p
 rise k (false ∷ flags) = rise (k + 1) flags
 
-keys-as_keys : (xs : List ℕ) → map (λ (e : ℕ × Unit {0}). e.0) (as_keys xs) ≡ xs
-keys-as_keys [] = refl
-keys-as_keys (x ∷ xs) = ap (λ l. x ∷ l) (keys-as_keys xs)
-
 same_marks : (a b : Option (Unit {0})) → is_some a ≡ is_some b → a ≡ b
 same_marks None None e = refl
 same_marks None (Some u) e = absurd (cc)
@@ -68,20 +65,6 @@ rising-from_list xs sorted =
 -- so the free addresses in their order are those of the flags, and the lowest ones are a front of them
 pub rising-free_of : (flags : List Bool) → rising (free_of flags) ≡ addresses_from 0 flags
 rising-free_of flags = rising-from_list (addresses_from 0 flags) (rise 0 flags)
-
-less-by_cmp : (x y : ℕ) → T (is_lt (nat_cmp x y)) → x < y
-less-by_cmp x y h = elim (cases_lt x y) as (λ _. x < y) [
-  | inl below ↦ below
-  | inr above ↦ absurd (not_less (nat_eq x y) (subst (λ b. T (is_lt (cond b Less (cond (nat_eq x y) Equal Greater)))) (le-ltb x y above) h))
-]
-  where
-    not_less : (b : Bool) → T (is_lt (cond b Equal Greater)) → ⊥
-    not_less true h = h
-    not_less false h = h
-
-split : (a b : Bool) → T (a && b) → T a × T b
-split true b h = (tt, h)
-split false b h = absurd h
 
 -- a number below those of a list is none of them
 not_among : (x : ℕ) (xs : List ℕ) → T (below_all nat_cmp x (as_keys xs)) → list_any (λ y. nat_eq y x) xs ≡ false

@@ -21,7 +21,7 @@ use Rattle.sync.specs.CallOrder.{calls_behind_blocks, calls_behind_staged_blocks
 use Rattle.sync.specs.Runs.{call_count, other_calls}
 use Rattle.sync.specs.Calls.{Target, block_target, target_of, calls_of, first_labels, last_labels, IsNextCall, MakesCall}
 use Rattle.sync.specs.Made.{BlocksWritten, IsTarget, targets_of, HasMade}
-use Rattle.sync.proofs.CallPlaces.{block_stands, others_stand}
+use Rattle.base.proofs.disk.SyncOrder.{block_stands, others_stand}
 use Rattle.sync.proofs.Targets.{IsSound, InLabels, LiesIn, each-at, call_in_labels, call_of_target, target_of_call, config_lies, uberblock_lies, block_lies}
 
 -- before its first call a sync has made nothing

@@ -6,14 +6,15 @@ use Rattle.std.specs.Prelude.{◌≢◌, slice_get, is_some}
 use Rattle.std.proofs.lemmas.Bool.{cases_lt}
 use Rattle.base.specs.disk.SyncOrder.{DeviceCall, calls_in_order}
 use Rattle.base.specs.disk.SyncOrder.DeviceCall.{Block, Config, Uberblock, Flush}
+use Rattle.base.specs.kept.SyncCalls.{stage_calls}
 use Rattle.labels.specs.declared.stage.Stage.{Stage}
 use Rattle.labels.specs.declared.stage.Stage.TheVariants.{Even, Odd}
 use Rattle.sync.specs.declared.run.LabelStages.{LabelStages}
 use Rattle.sync.specs.declared.run.SyncRun.{SyncRun}
 use Rattle.sync.specs.CallOrder.{calls_behind_blocks, calls_behind_staged_blocks}
 use Rattle.sync.specs.Calls.{first_labels, last_labels, IsNextCall, calls_of}
-use Rattle.sync.specs.Phases.{first_label, first_stage_calls, calls_before_slots}
-use Rattle.sync.proofs.CallPlaces.{block_stands, others_stand}
+use Rattle.sync.specs.Phases.{first_label, calls_before_slots}
+use Rattle.base.proofs.disk.SyncOrder.{block_stands, others_stand}
 
 -- a call before the uberblocks: a block, a config of the first stage, or a flush
 abbrev pub IsFrontCall : Option LabelStages → DeviceCall → Type 0
@@ -75,7 +76,7 @@ module _ (s : Option LabelStages) (a b c d : ℕ) (is_a : IsFrontCall s (Config 
   staged_turn (suc (suc (suc (suc (suc (suc (suc (suc (suc (suc (suc (suc p)))))))))))) call at = absurd (none_at p call at)
 
 -- the call of each place after the blocks
-behind_turn : (stages : Option LabelStages) (p : ℕ) (call : DeviceCall) → slice_get (calls_in_order 0 (is_some stages) (first_labels stages) (last_labels stages)) p ≡ Some call → IsTurn stages (1 + first_stage_calls stages) p call
+behind_turn : (stages : Option LabelStages) (p : ℕ) (call : DeviceCall) → slice_get (calls_in_order 0 (is_some stages) (first_labels stages) (last_labels stages)) p ≡ Some call → IsTurn stages (1 + stage_calls stages) p call
 behind_turn None p call at = plain_turn p call at
 behind_turn (Some stages) p call at = by_first stages stages.first refl at
   where
@@ -106,7 +107,7 @@ turn_at run k call next = elim (cases_lt k (vec_len run.blocks)) as (λ _. IsTur
       shifted place there (behind_turn run.stages place call at)
 ]
   where
-    shifted : (place : ℕ) → vec_len run.blocks + place ≡ k → IsTurn run.stages (1 + first_stage_calls run.stages) place call → IsTurn run.stages (calls_before_slots run) k call
+    shifted : (place : ℕ) → vec_len run.blocks + place ≡ k → IsTurn run.stages (1 + stage_calls run.stages) place call → IsTurn run.stages (calls_before_slots run) k call
     shifted place there (inl (below, is, last)) = inl (omega (arith, below, there), is, λ n. last (omega (arith, n, there)))
     shifted place there (inr (inl (label, below, at, is))) = inr (inl (label, below, omega (arith, at, there), is))
     shifted place there (inr (inr (inl (at, is)))) = inr (inr (inl (omega (arith, at, there), is)))
@@ -119,9 +120,9 @@ call_turn run call next = turn_at run run.done call next
 -- the first uberblock is written after the calls before it
 pub first_slot_stands : (run : SyncRun) → slice_get (calls_of run) (calls_before_slots run) ≡ Some (Uberblock 0)
 first_slot_stands run =
-    others_stand (vec_len run.blocks) (is_some run.stages) (first_labels run.stages) (last_labels run.stages) (calls_before_slots run) (1 + first_stage_calls run.stages) (omega arith) ∙ by_cases run.stages
+    others_stand (vec_len run.blocks) (is_some run.stages) (first_labels run.stages) (last_labels run.stages) (calls_before_slots run) (1 + stage_calls run.stages) (omega arith) ∙ by_cases run.stages
   where
-    by_cases : (stages : Option LabelStages) → slice_get (calls_in_order 0 (is_some stages) (first_labels stages) (last_labels stages)) (1 + first_stage_calls stages) ≡ Some (Uberblock 0)
+    by_cases : (stages : Option LabelStages) → slice_get (calls_in_order 0 (is_some stages) (first_labels stages) (last_labels stages)) (1 + stage_calls stages) ≡ Some (Uberblock 0)
     by_cases None = refl
     by_cases (Some stages) = by_stage stages.first
       where

@@ -10,9 +10,10 @@ use Rattle.base.specs.disk.SyncOrder.{DeviceCall}
 use Rattle.base.specs.disk.SyncOrder.DeviceCall.{Block, Config, Uberblock, Flush}
 use Rattle.base.proofs.disk.FairBytes.{fair_bytes_wrote, fair_bytes_settled}
 use Rattle.base.proofs.disk.Moments.{starts, each_write, each_flush}
+use Rattle.base.proofs.common.KeptLists.{mapped}
 use Rattle.sync.specs.declared.run.SyncRun.{SyncRun}
 use Rattle.sync.specs.Calls.{Target, config_target, target_of, MakesCall, TargetFits}
-use Rattle.sync.proofs.Targets.{InLabels, IsSound, WritesTarget, block_lies, mapped}
+use Rattle.sync.proofs.Targets.{InLabels, IsSound, WritesTarget, block_lies}
 
 -- a target is a whole place that the format checks
 pub target_checked : (run : SyncRun) → IsSound run → (call : DeviceCall) (t : Target) → InLabels call → target_of run call ≡ Some t → IsCheckedPlace run.geometry t.place t.size

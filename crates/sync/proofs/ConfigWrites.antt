@@ -5,11 +5,12 @@ use Rattle.base.specs.disk.Disk.{Apart}
 use Rattle.base.specs.disk.SyncOrder.{DeviceCall}
 use Rattle.base.specs.disk.SyncOrder.DeviceCall.{Block, Config, Uberblock, Flush}
 use Rattle.base.proofs.formats.LabelPlaces.{block-label_apart, slot-config_apart}
+use Rattle.base.proofs.common.KeptLists.{mapped}
 use Rattle.sync.specs.declared.run.LabelStages.{LabelStages}
 use Rattle.sync.specs.declared.run.SyncRun.{SyncRun}
 use Rattle.sync.specs.Calls.{Target, config_target, target_of}
 use Rattle.sync.specs.Phases.{IsWrittenNext}
-use Rattle.sync.proofs.Targets.{IsSound, InLabels, block_lies, call_in_labels, call_of_target, is_sound, mapped}
+use Rattle.sync.proofs.Targets.{IsSound, InLabels, block_lies, call_in_labels, call_of_target, is_sound}
 
 not_apart : (place n m : ℕ) → 0 < n → 0 < m → Apart place n place m → ⊥
 not_apart place n m some other (inl before) = omega (arith, before, some)

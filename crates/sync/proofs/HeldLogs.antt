@@ -1,10 +1,10 @@
 -- No call of a sync writes a log block, or over one. So the logs of both views are held as before, and once a flush is
 -- answered Ok all their blocks are fixed.
-use Rattle.std.proofs.Common.{◌≡◌, inl, inr, ℕ, ◌+◌, ◌≤◌, false, List, length, Option, Some, None, Result, sym, ◌∙◌, ap, subst, arith}
+use Rattle.std.proofs.Common.{◌≡◌, ℕ, ◌+◌, ◌≤◌, false, List, length, Option, Some, None, Result, sym, ◌∙◌, ap, subst, arith}
 use Rattle.std.specs.Prelude.{◌≢◌, All, slice_get}
 use Rattle.base.specs.declared.error.PoolError.{PoolError}
-use Rattle.base.specs.crash.Mount.{header_of}
-use Rattle.base.specs.crash.Views.{Logged}
+use Rattle.base.specs.tree.Mount.{header_of}
+use Rattle.base.specs.kept.Views.{Logged}
 use Rattle.base.specs.disk.Calls.{Writes}
 use Rattle.base.specs.disk.Disk.{Apart, Disk, EachMoment, Moment, bytes_of, moments, settled}
 use Rattle.base.specs.disk.SyncOrder.{DeviceCall}
@@ -12,24 +12,21 @@ use Rattle.base.specs.disk.SyncOrder.DeviceCall.{Block, Config, Uberblock, Flush
 use Rattle.base.specs.formats.Fields.{number_at}
 use Rattle.base.specs.formats.Geometry.{block_count, block_size}
 use Rattle.base.specs.formats.Uberblocks.{slot_size}
-use Rattle.base.proofs.common.KeptLists.{All-at, Some-injective}
+use Rattle.base.proofs.common.KeptLists.{All-at, mapped, Some-injective}
 use Rattle.base.proofs.crash.LogCalls.{held_settled, held_wrote}
 use Rattle.base.proofs.disk.Moments.{each_write, starts}
+use Rattle.base.proofs.disk.Put.{apart_turned}
 use Rattle.sync.specs.declared.run.LabelStages.{LabelStages}
 use Rattle.sync.specs.declared.run.SyncRun.{SyncRun}
 use Rattle.sync.specs.Calls.{Target, block_target, config_target, target_of}
 use Rattle.sync.specs.Phases.{HasConfigOf, HoldsLogs, IsApartFromLog, IsSpareBlock, LeadsViews, SyncViews, all_flushed}
 use Rattle.sync.proofs.SparedPlaces.{linked_placed}
 use Rattle.sync.proofs.SpareBlocks.{call_apart}
-use Rattle.sync.proofs.Targets.{InLabels, IsSound, mapped}
+use Rattle.sync.proofs.Targets.{InLabels, IsSound}
 
 -- a flush fixes both logs
 pub logs_settled : (run : SyncRun) (v : SyncViews) (m : Moment) → HoldsLogs run v false m → HoldsLogs run (all_flushed v) false (settled (bytes_of m) m)
 logs_settled run v m h = record { apart = h.apart; old = held_settled run.geometry v.created v.flushed m v.old h.old; new = held_settled run.geometry v.created v.new_flushed m v.new h.new }
-
-turned : (a m b n : ℕ) → Apart a m b n → Apart b n a m
-turned a m b n (inl before) = inr before
-turned a m b n (inr behind) = inl behind
 
 module _ (base : List ℕ) (run : SyncRun) (sound : IsSound run) (v : SyncViews) (leads : LeadsViews base run v) where
   -- what a call writes is a block of a tree, a config or an uberblock
@@ -56,7 +53,7 @@ module _ (base : List ℕ) (run : SyncRun) (sound : IsSound run) (v : SyncViews)
         let apart : Apart l.block.address block_size t.place t.size =
         call_apart run sound l.block.address here.1 (λ k b at_b. All-at (IsApartFromLog v.old) run.blocks.items k b free at_b i l at) call t within is in
         subst (λ (n : ℕ). Apart t.place n l.block.address (length l.content)) (sym long)
-        (subst (λ (n : ℕ). Apart t.place t.size l.block.address n) (sym here.0) (turned l.block.address block_size t.place t.size apart))
+        (subst (λ (n : ℕ). Apart t.place t.size l.block.address n) (sym here.0) (apart_turned l.block.address block_size t.place t.size apart))
 
     new_apart : All (IsApartFromLog v.old) run.blocks.items → (i : ℕ) (l : Logged) → slice_get v.new.logged i ≡ Some l → Apart t.place (length t.content) l.block.address (length l.content)
     new_apart free i l at = let old = leads.log.1 i l at in old_apart free old.0 l old.1

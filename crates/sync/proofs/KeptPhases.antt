@@ -6,14 +6,14 @@ use Rattle.std.proofs.lemmas.Bool.{cases_lt}
 use Rattle.base.specs.declared.error.PoolError.{PoolError}
 use Rattle.base.specs.formats.Geometry.{block_count, slot_place, slot_of}
 use Rattle.base.specs.formats.Uberblocks.{slot_size}
-use Rattle.base.specs.tree.PlacedTrees.{ArePlaced}
+use Rattle.base.specs.kept.PlacedTrees.{ArePlaced}
 use Rattle.base.specs.disk.Disk.{Moment, Disk, EachMoment, bytes_of, handed, moments}
 use Rattle.base.specs.disk.Calls.{Writes}
 use Rattle.base.specs.disk.Fairness.{HandsOnly}
 use Rattle.base.specs.disk.SyncOrder.{DeviceCall}
 use Rattle.base.specs.disk.SyncOrder.DeviceCall.{Block, Config, Uberblock, Flush}
-use Rattle.base.specs.crash.CallStages.{IsSwitching, SparesAt}
-use Rattle.base.specs.crash.Views.{View, IsLaid}
+use Rattle.base.specs.kept.CallStages.{IsSwitching, SparesAt}
+use Rattle.base.specs.kept.Views.{View, IsLaid}
 use Rattle.base.proofs.disk.Fairness.{hands_wrote, hands_settled}
 use Rattle.base.proofs.disk.Moments.{starts, each_write, each_flush}
 use Rattle.base.proofs.tree.PlacedTrees.{holds-placed}

@@ -7,7 +7,7 @@ use Rattle.base.specs.formats.Geometry.{block_size, config_place}
 use Rattle.base.specs.disk.Disk.{Moment, bytes_of}
 use Rattle.base.specs.disk.SyncOrder.{calls_in_order}
 use Rattle.base.specs.disk.SyncOrder.DeviceCall.{Config}
-use Rattle.base.specs.crash.CallStages.{IsLaidAt}
+use Rattle.base.specs.kept.CallStages.{IsLaidAt}
 use Rattle.base.proofs.crash.NewViews.{view_laid}
 use Rattle.labels.specs.declared.stage.Stage.{Stage}
 use Rattle.labels.specs.declared.stage.Stage.TheVariants.{Even, Odd}
@@ -18,7 +18,7 @@ use Rattle.sync.specs.Calls.{calls_of, config_target, first_labels, last_labels,
 use Rattle.sync.specs.Made.{BlocksWritten, HasMade}
 use Rattle.sync.specs.Phases.{SyncViews, LeadsViews, HasConfigOf, IsBefore, calls_before_slots, first_label, new_config_label}
 use Rattle.sync.proofs.Blocks.{blocks_written, call_stands}
-use Rattle.sync.proofs.CallPlaces.{others_stand}
+use Rattle.base.proofs.disk.SyncOrder.{others_stand}
 use Rattle.sync.proofs.Targets.{IsSound}
 
 -- the label that has the new view's config is one of the four

@@ -3,7 +3,7 @@
 use Rattle.std.proofs.Common.{◌≡◌, ℕ, List, [], Option, Some, None, Ok, false, refl, sym, subst, arith}
 use Rattle.std.specs.Prelude.{All}
 use Rattle.std.proofs.lemmas.Option.{slice_get_within}
-use Rattle.base.specs.crash.LogRule.{AreLogBlocksStanding}
+use Rattle.base.specs.kept.LogRule.{AreLogBlocksStanding}
 use Rattle.base.specs.disk.Calls.{Flushes}
 use Rattle.base.specs.disk.Disk.{Disk, Moment, bytes_of, settled}
 use Rattle.base.proofs.common.KeptLists.{All-at, All-each}

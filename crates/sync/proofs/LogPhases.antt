@@ -1,10 +1,10 @@
 -- A log block is written between two calls of a sync: each phase of the sync goes on, with the block in both views,
 -- also if the write was refused and counts for a crash, or for nothing.
 use Rattle.std.proofs.Common.{◌≡◌, inl, inr, ℕ, ◌+◌, ◌-◌, ◌<◌, ◌≤◌, Bool, List, length, refl, sym, ◌∙◌, ap, subst, arith}
-use Rattle.base.specs.crash.CallStages.{FixedLabels, IsAtRestAt, IsBetweenAt, IsLaidAt, IsSwitching, SparesAt}
-use Rattle.base.specs.crash.LogRule.{AreLogBlocksBelow}
-use Rattle.base.specs.crash.LogSteps.{IsSpareOf}
-use Rattle.base.specs.crash.Views.{AreConfigsKnown, IsLaid, Logged, View}
+use Rattle.base.specs.kept.CallStages.{FixedLabels, IsAtRestAt, IsBetweenAt, IsLaidAt, IsSwitching, SparesAt}
+use Rattle.base.specs.kept.LogRule.{AreLogBlocksBelow}
+use Rattle.base.specs.kept.LogSteps.{IsSpareOf}
+use Rattle.base.specs.kept.Views.{AreConfigsKnown, IsLaid, Logged, View}
 use Rattle.base.specs.disk.Disk.{Apart, Moment, bytes_of, handed, wrote}
 use Rattle.base.specs.formats.Fields.{number_at}
 use Rattle.base.specs.formats.Geometry.{IsBlockAddress, IsGeometry, block_address, block_count, block_size, config_place, slot_of, slot_place}

@@ -4,8 +4,8 @@ use Rattle.std.proofs.Common.{◌≡◌, inl, inr, ℕ, ◌+◌, ◌<◌, ◌≤
 use Rattle.std.specs.Prelude.{◌≢◌, All, is_ok, slice_get}
 use Rattle.std.proofs.lemmas.List.{length_push}
 use Rattle.base.specs.declared.error.PoolError.{PoolError}
-use Rattle.base.specs.crash.Mount.{header_of}
-use Rattle.base.specs.crash.Views.{IsView, Logged, View}
+use Rattle.base.specs.tree.Mount.{header_of}
+use Rattle.base.specs.kept.Views.{IsView, Logged, View}
 use Rattle.base.specs.disk.Calls.{Writes}
 use Rattle.base.specs.disk.Disk.{Apart, Disk, Moment, bytes_of, moments, put, wrote}
 use Rattle.base.specs.formats.Fields.{part}
@@ -14,8 +14,8 @@ use Rattle.base.specs.formats.Uberblocks.{slot_size}
 use Rattle.base.proofs.common.KeptLists.{All-at, All-each, at_last, at_old, push-cases}
 use Rattle.base.proofs.crash.LogCalls.{held_logged}
 use Rattle.base.proofs.crash.LogSpares.{block_fits}
-use Rattle.base.proofs.crash.LogUnwritten.{held_more, linked_push}
-use Rattle.base.proofs.crash.LogViews.{with_block}
+use Rattle.base.proofs.crash.LogUnwritten.{held_more}
+use Rattle.base.proofs.crash.LogViews.{with_block, linked_push}
 use Rattle.base.proofs.disk.Put.{part-put_apart}
 use Rattle.base.proofs.disk.WrittenBlocks.{blocks-apart}
 use Rattle.base.proofs.formats.Geometry.{slot-below}

@@ -10,13 +10,14 @@ use Rattle.base.specs.formats.Uberblocks.{slot_size}
 use Rattle.base.proofs.disk.Put.{part_same}
 use Rattle.base.proofs.formats.Geometry.{slot-below}
 use Rattle.base.proofs.formats.LabelPlaces.{block-label_apart, slot-config_apart}
+use Rattle.base.proofs.common.KeptLists.{mapped}
 use Rattle.sync.specs.declared.run.SyncRun.{SyncRun}
 use Rattle.sync.specs.Calls.{Target, config_target, target_of}
 use Rattle.sync.specs.Made.{HasMade}
 use Rattle.sync.specs.Phases.{HasNoNewSlot, LeadsViews, SyncViews, calls_before_slots}
 use Rattle.sync.proofs.Blocks.{call_stands}
 use Rattle.sync.proofs.CallTurns.{IsFrontCall, IsTurn, first_slot_stands, turn_at}
-use Rattle.sync.proofs.Targets.{IsSound, block_lies, call_of_target, mapped}
+use Rattle.sync.proofs.Targets.{IsSound, block_lies, call_of_target}
 
 -- no byte is in two ranges that are apart
 not_in_both : (a m b n i : ℕ) → Apart a m b n → IsInRange a m i → IsInRange b n i → ⊥

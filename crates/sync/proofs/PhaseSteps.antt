@@ -1,6 +1,6 @@
 -- What one call makes of the phase of a disk: a quiet write, a flush, or a write of the new uberblock, whatever the
 -- device answers.
-use Rattle.std.proofs.Common.{◌≡◌, ◌⊎◌, inl, inr, ℕ, ◌+◌, ◌-◌, ◌<◌, Bool, List, [], ◌∷◌, length, Result, Ok, Err, sym, ◌∙◌, ap, subst, arith}
+use Rattle.std.proofs.Common.{◌≡◌, ◌⊎◌, inl, inr, ℕ, ◌+◌, ◌-◌, ◌<◌, Bool, List, [], length, Result, Ok, Err, sym, ◌∙◌, ap, subst, arith}
 use Rattle.std.proofs.lemmas.Bool.{cases_lt, cases_order}
 use Rattle.base.specs.declared.error.PoolError.{PoolError}
 use Rattle.base.specs.formats.Fields.{part, number_at}
@@ -8,15 +8,15 @@ use Rattle.base.specs.formats.Geometry.{block_address, config_place, slot_place,
 use Rattle.base.specs.formats.Uberblocks.{slot_size}
 use Rattle.base.specs.disk.Disk.{Moment, Disk, EachMoment, bytes_of, handed, settled, wrote, moments}
 use Rattle.base.specs.disk.Calls.{Writes, Flushes}
-use Rattle.base.specs.crash.Views.{View, AreConfigsKnown, AreLogBlocksKnown}
-use Rattle.base.specs.crash.Own.{IsPhase}
-use Rattle.base.specs.crash.Spares.{IsTreeContent}
-use Rattle.base.specs.crash.SyncCalls.DiskCall.{Put, Settle}
-use Rattle.base.specs.crash.CallStages.{FixedLabels, IsSwitching, IsQuiet, IsLaidAt}
+use Rattle.base.specs.kept.Views.{View, AreConfigsKnown, AreLogBlocksKnown}
+use Rattle.base.specs.kept.Own.{IsPhase}
+use Rattle.base.specs.kept.Spares.{IsTreeContent}
+use Rattle.base.specs.disk.DiskCalls.DiskCall.{Put, Settle}
+use Rattle.base.specs.kept.CallStages.{FixedLabels, IsSwitching, IsQuiet, IsLaidAt}
 use Rattle.base.proofs.disk.Fairness.{handed_settled}
 use Rattle.base.proofs.disk.Moments.{starts, weaker, latest, each_write, each_flush}
 use Rattle.base.proofs.disk.Regions.{flushed_clean}
-use Rattle.base.proofs.crash.CallStages.{quiet_calls}
+use Rattle.base.proofs.crash.CallStages.{quiet_call}
 use Rattle.sync.proofs.KeptWrites.{done_after}
 use Rattle.sync.specs.declared.run.SyncRun.{SyncRun}
 use Rattle.sync.specs.Phases.{SyncViews, HasPhase, HasPhaseOf, IsBefore, IsBehind, IsBetweenOrSwitched, IsSyncPhase, calls_before_slots}
@@ -47,14 +47,14 @@ module _ (v : SyncViews) (size : ℕ) where
   before_wrote : (place moment : ℕ) (content : List ℕ) (done : Bool) (m : Moment) → IsQuiet size v.flushed v.fixed v.old (Put place content) → IsNewContent size content v.new → IsBefore v size m
       → IsBefore v size (wrote moment place content done m)
   before_wrote place moment content done m quiet new b = record {
-    rest = (quiet_calls size v.created v.flushed v.fixed v.old (Put place content ∷ []) (quiet, tt)).0 moment done m (omega arith) b.rest;
+    rest = quiet_call size v.created v.flushed v.fixed v.old (Put place content) quiet moment done m b.rest;
     configs = configs_wrote place moment content done m new b.configs;
     logs = logs_wrote place moment content done m new b.logs;
   }
 
   pub before_settled : (m : Moment) → IsBefore v size m → IsBefore v size (settled (bytes_of m) m)
   before_settled m b = record {
-    rest = (quiet_calls size v.created v.flushed v.fixed v.old (Settle ∷ []) (tt, tt)).0 m b.rest;
+    rest = quiet_call size v.created v.flushed v.fixed v.old Settle tt m b.rest;
     configs = λ label group name c below some. b.configs label group name c below (handed_settled v.created (bytes_of m) m (config_place size label) c some);
     logs = λ k chain number c block below some. b.logs k chain number c block below (handed_settled v.created (bytes_of m) m (block_address k) c some);
   }
@@ -64,12 +64,12 @@ module _ (v : SyncViews) (size : ℕ) where
   behind_wrote config place moment content done m quiet b = record {
     labels = b.labels;
     config_is = b.config_is;
-    rest = (quiet_calls size v.created v.new_flushed b.labels v.new (Put place content ∷ []) (quiet b.labels b.config_is, tt)).0 moment done m (omega arith) b.rest;
+    rest = quiet_call size v.created v.new_flushed b.labels v.new (Put place content) (quiet b.labels b.config_is) moment done m b.rest;
   }
 
   pub behind_settled : (config : ℕ) (m : Moment) → IsBehind v size config m → IsBehind v size config (settled (bytes_of m) m)
   behind_settled config m b =
-      record { labels = b.labels; config_is = b.config_is; rest = (quiet_calls size v.created v.new_flushed b.labels v.new (Settle ∷ []) (tt, tt)).0 m b.rest }
+      record { labels = b.labels; config_is = b.config_is; rest = quiet_call size v.created v.new_flushed b.labels v.new Settle tt m b.rest }
 
   module _ (before config : ℕ) where
     abbrev pub Phase : Moment → Type 0

@@ -5,15 +5,15 @@ use Rattle.std.specs.Prelude.{◌≢◌, slice_get}
 use Rattle.base.specs.formats.Fields.{number_at}
 use Rattle.base.specs.formats.Geometry.{block_address, block_count, block_size, config_place, slot_place, slot_of}
 use Rattle.base.specs.formats.Uberblocks.{slot_size}
-use Rattle.base.specs.tree.PlacedTrees.{ArePlaced}
+use Rattle.base.specs.kept.PlacedTrees.{ArePlaced}
 use Rattle.base.specs.disk.Disk.{Apart}
 use Rattle.base.specs.disk.SyncOrder.{DeviceCall}
 use Rattle.base.specs.disk.SyncOrder.DeviceCall.{Block, Config, Uberblock, Flush}
-use Rattle.base.specs.crash.Views.{IsView}
-use Rattle.base.specs.crash.Spares.{IsTreeContent, IsOtherConfig}
-use Rattle.base.specs.crash.SyncCalls.DiskCall.{Put}
-use Rattle.base.specs.crash.CallStages.{FixedLabels, SparesAt, IsQuiet, IsSlotCall}
-use Rattle.base.proofs.common.KeptLists.{All-at}
+use Rattle.base.specs.kept.Views.{IsView}
+use Rattle.base.specs.kept.Spares.{IsTreeContent, IsOtherConfig}
+use Rattle.base.specs.disk.DiskCalls.DiskCall.{Put}
+use Rattle.base.specs.kept.CallStages.{FixedLabels, SparesAt, IsQuiet, IsSlotCall}
+use Rattle.base.proofs.common.KeptLists.{All-at, mapped}
 use Rattle.base.proofs.formats.Geometry.{slot-below}
 use Rattle.base.proofs.formats.LabelPlaces.{slot-config_apart}
 use Rattle.sync.specs.declared.run.LabelStages.{LabelStages}
@@ -23,7 +23,7 @@ use Rattle.sync.specs.Phases.{SyncViews, LeadsViews, HasConfigOf, IsSpareBlock, 
 use Rattle.sync.proofs.CallTurns.{IsFrontCall, IsBackCall, IsOtherLabel}
 use Rattle.sync.proofs.PhaseSteps.{IsNewContent}
 use Rattle.sync.proofs.SparedPlaces.{block_spares, config_spares, slot_spares, slot_blocks, label_tree, label_log}
-use Rattle.sync.proofs.Targets.{IsSound, block_lies, mapped}
+use Rattle.sync.proofs.Targets.{IsSound, block_lies}
 
 module _ (base : List ℕ) (run : SyncRun) (sound : IsSound run) (v : SyncViews) (leads : LeadsViews base run v) where
   -- the configs of label stages are the new view's

@@ -1,9 +1,9 @@
 -- A flush in each phase of a sync: at rest on the old view before the uberblocks, at rest on the new one after the
 -- first of them. Once nothing is unflushed all log blocks that stand are fixed.
 use Rattle.std.proofs.Common.{◌≡◌, inl, inr, ℕ, ◌-◌, ◌<◌, [], length, refl, ◌∙◌, ap, arith}
-use Rattle.base.specs.crash.CallStages.{FixedLabels, IsAtRestAt, IsBetweenAt, IsLaidAt, IsSwitching}
-use Rattle.base.specs.crash.LogRule.{AreLogBlocksStanding}
-use Rattle.base.specs.crash.Views.{View}
+use Rattle.base.specs.kept.CallStages.{FixedLabels, IsAtRestAt, IsBetweenAt, IsLaidAt, IsSwitching}
+use Rattle.base.specs.kept.LogRule.{AreLogBlocksStanding}
+use Rattle.base.specs.kept.Views.{View}
 use Rattle.base.specs.disk.Disk.{Moment, bytes_of, settled}
 use Rattle.base.specs.formats.Fields.{part}
 use Rattle.base.specs.formats.Geometry.{config_place, slot_of, slot_place}

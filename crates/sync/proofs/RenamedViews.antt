@@ -5,7 +5,7 @@ use Rattle.std.specs.Prelude.{◌≢◌, slice_get}
 use Rattle.base.specs.formats.Geometry.{IsGeometry, config_place}
 use Rattle.base.specs.disk.Disk.{Moment, Write, handed}
 use Rattle.base.specs.disk.Fairness.{HandsOnly}
-use Rattle.base.specs.crash.Views.{AreConfigsKnown, AreConfigsUpTo, IsConfigContent, View}
+use Rattle.base.specs.kept.Views.{AreConfigsKnown, AreConfigsUpTo, IsConfigContent, View}
 use Rattle.labels.specs.declared.stage.Stage.TheVariants.{Even}
 use Rattle.labels.specs.Stages.{labels_of}
 use Rattle.sync.specs.declared.run.LabelStages.{LabelStages}

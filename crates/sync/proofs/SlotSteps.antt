@@ -9,7 +9,7 @@ use Rattle.base.specs.formats.Geometry.{config_place, slot_place, slot_of}
 use Rattle.base.specs.formats.Uberblocks.{slot_size}
 use Rattle.base.specs.disk.Disk.{Write, Moment, Disk, bytes_of, settled, wrote, written, moments, certain_with}
 use Rattle.base.specs.disk.Calls.{Writes, Flushes}
-use Rattle.base.specs.crash.CallStages.{FixedLabels, IsBetweenAt, IsSwitching, IsSlotCall, SparesAt}
+use Rattle.base.specs.kept.CallStages.{FixedLabels, IsBetweenAt, IsSwitching, IsSlotCall, SparesAt}
 use Rattle.base.proofs.disk.Moments.{starts, weaker, each_write, each_flush, bytes_may_be_left}
 use Rattle.base.proofs.disk.Put.{part-put_same}
 use Rattle.base.proofs.crash.CallStages.{slot_call}

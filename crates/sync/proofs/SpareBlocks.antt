@@ -5,13 +5,13 @@ use Rattle.std.specs.Prelude.{◌≢◌, slice_get}
 use Rattle.std.specs.Option.{option_map}
 use Rattle.std.proofs.lemmas.Bool.{cases_lt}
 use Rattle.std.proofs.lemmas.List.{get_or-append_right, get_or-drop, get_or-take, get_or_append_left, length-take-le}
-use Rattle.base.specs.crash.Views.{View, view_frame}
+use Rattle.base.specs.kept.Views.{View, view_frame}
 use Rattle.base.specs.disk.Disk.{Apart, IsInRange, put}
 use Rattle.base.specs.disk.SyncOrder.{DeviceCall}
 use Rattle.base.specs.disk.SyncOrder.DeviceCall.{Block, Config, Uberblock, Flush}
 use Rattle.base.specs.formats.Fields.{no_pointer, part}
 use Rattle.base.specs.formats.Geometry.{IsBlockAddress, block_address, block_count, block_size}
-use Rattle.base.specs.tree.PlacedTrees.{HoldsTree}
+use Rattle.base.specs.kept.PlacedTrees.{HoldsTree}
 use Rattle.base.specs.tree.Places.{Place, IsPlace}
 use Rattle.base.proofs.disk.Put.{get_or-put_other, length-part, length-put, part-put_apart}
 use Rattle.base.proofs.disk.WrittenBlocks.{blocks-apart}

@@ -8,13 +8,14 @@ use Rattle.base.specs.formats.Geometry.{IsGeometry, IsBlockAddress, block_addres
 use Rattle.base.specs.formats.Chain.{Header, next_block}
 use Rattle.base.specs.formats.Uberblocks.{slot_size}
 use Rattle.base.specs.tree.Places.{Place, IsPlace}
-use Rattle.base.specs.tree.PlacedTrees.{ArePlaced}
+use Rattle.base.specs.kept.PlacedTrees.{ArePlaced}
 use Rattle.base.specs.disk.Disk.{Apart}
 use Rattle.base.specs.disk.Fairness.{IsCheckedPlace}
-use Rattle.base.specs.crash.Mount.{header_of}
-use Rattle.base.specs.crash.Views.{View, Logged, IsView, AreLinked}
-use Rattle.base.specs.crash.CallStages.{FixedLabels, SparesAt}
+use Rattle.base.specs.tree.Mount.{header_of}
+use Rattle.base.specs.kept.Views.{View, Logged, IsView, AreLinked}
+use Rattle.base.specs.kept.CallStages.{FixedLabels, SparesAt}
 use Rattle.base.proofs.disk.FairBytes.{same_or_apart}
+use Rattle.base.proofs.disk.Put.{apart_turned}
 use Rattle.base.proofs.formats.Geometry.{slot-below, labels-apart}
 use Rattle.base.proofs.formats.LabelPlaces.{block-label_apart, label-apart, slots-apart, slot-config_apart}
 
@@ -35,10 +36,6 @@ module _ (size : ℕ) (g : IsGeometry size) where
     | inl same ↦ absurd (differ same.0)
     | inr apart ↦ apart
   ]
-
-  turned : (a m b n : ℕ) → Apart a m b n → Apart b n a m
-  turned a m b n (inl before) = inr before
-  turned a m b n (inr behind) = inl behind
 
   block_checked : (a : ℕ) → IsBlockAddress (block_count size) a → IsCheckedPlace size a block_size
   block_checked a is = inl (refl, inl is)
@@ -113,19 +110,19 @@ module _ (size : ℕ) (g : IsGeometry size) where
     -- the config of a label that has not what is fixed
     pub config_spares : (label : ℕ) → label < 4 → label ≢ at.config → SparesAt size flushed at v (config_place size label) block_size
     config_spares label below differ =
-        let apart : (a : ℕ) → IsBlockAddress (block_count size) a → Apart (config_place size label) block_size a block_size = λ a is. turned a block_size (config_place size label) block_size (block_config a label is below) in
+        let apart : (a : ℕ) → IsBlockAddress (block_count size) a → Apart (config_place size label) block_size a block_size = λ a is. apart_turned a block_size (config_place size label) block_size (block_config a label is below) in
         record {
           whole = config_checked label below;
           fits = (label-apart size label (config_place size label) block_size g below (omega arith) (omega arith)).0;
           not_config = subst (λ (n : ℕ). Apart (config_place size label) block_size (config_place size at.config) n) (sym config_long) (configs_differ label at.config below at.config_below differ);
           not_slot = subst (λ (n : ℕ). Apart (config_place size label) block_size (slot_place size at.slot (slot_of v.u.group)) n) (sym slot_long)
-              (turned (slot_place size at.slot (slot_of v.u.group)) slot_size (config_place size label) block_size (slot-config_apart size at.slot (slot_of v.u.group) label g at.slot_below (slot-below v.u.group) below));
+              (apart_turned (slot_place size at.slot (slot_of v.u.group)) slot_size (config_place size label) block_size (slot-config_apart size at.slot (slot_of v.u.group) label g at.slot_below (slot-below v.u.group) below));
           not_tree = label_tree (config_place size label) block_size apart;
           not_log = label_log (config_place size label) block_size apart;
         }
 
     pub slot_blocks : (label slot : ℕ) → label < 4 → slot < 128 → (a : ℕ) → IsBlockAddress (block_count size) a → Apart (slot_place size label slot) slot_size a block_size
-    slot_blocks label slot below in_array a is = turned a block_size (slot_place size label slot) slot_size (block_slot a label slot is below in_array)
+    slot_blocks label slot below in_array a is = apart_turned a block_size (slot_place size label slot) slot_size (block_slot a label slot is below in_array)
 
     -- the slot of the view's group in another label than the fixed one
     pub own_slot_spares : (label : ℕ) → label < 4 → label ≢ at.slot → SparesAt size flushed at v (slot_place size label (slot_of v.u.group)) slot_size

@@ -1,18 +1,18 @@
 -- What a sync's calls write, and that no two of them write one byte.
-use Rattle.std.proofs.Common.{◌≡◌, ◌⊎◌, inl, inr, ℕ, zero, suc, ◌+◌, ◌-◌, ◌<◌, ◌≤◌, false, List, [], ◌∷◌, map, Option, Some, None, Result, refl, sym, ◌∙◌, ap, subst, arith, vec_len}
+use Rattle.std.proofs.Common.{◌≡◌, ◌⊎◌, inl, inr, ℕ, zero, suc, ◌+◌, ◌-◌, ◌<◌, ◌≤◌, false, List, [], ◌∷◌, map, Option, Some, None, Result, sym, ◌∙◌, ap, subst, arith, vec_len}
 use Rattle.std.specs.Prelude.{All, slice_get, is_some, nat_eq}
 use Rattle.std.specs.List.{AllByRecursion, IsDistinct}
 use Rattle.std.specs.Option.{IsSomeAnd, option_map}
 use Rattle.std.proofs.lemmas.Bool.{cases_eq, cases_lt, cases_order, eqb-false}
 use Rattle.std.proofs.lemmas.Option.{slice_get-map}
-use Rattle.base.specs.crash.SyncCalls.{DiskCall}
-use Rattle.base.specs.crash.SyncCalls.DiskCall.{Put}
+use Rattle.base.specs.disk.DiskCalls.{DiskCall, MakesDiskCall}
+use Rattle.base.specs.disk.DiskCalls.DiskCall.{Put}
 use Rattle.base.specs.declared.error.PoolError.{PoolError}
 use Rattle.base.specs.disk.Disk.{Disk}
 use Rattle.base.specs.formats.Geometry.{IsGeometry, IsWritable, block_address, block_count, block_size, label_place, slot_place}
 use Rattle.base.specs.disk.SyncOrder.{DeviceCall, calls_in_order}
 use Rattle.base.specs.disk.SyncOrder.DeviceCall.{Block, Config, Uberblock, Flush}
-use Rattle.base.proofs.disk.Put.{Apart}
+use Rattle.base.proofs.disk.Put.{Apart, apart_turned}
 use Rattle.labels.specs.declared.stage.Stage.{Stage}
 use Rattle.labels.specs.declared.stage.Stage.TheVariants.{Even, Odd}
 use Rattle.base.proofs.formats.Geometry.{labels-apart, blocks-end, IsGeometry-IsSize, config-writable, slot-writable, block-writable}
@@ -21,10 +21,9 @@ use Rattle.sync.specs.declared.run.LabelStages.{LabelStages}
 use Rattle.sync.specs.declared.run.SyncRun.{SyncRun}
 use Rattle.sync.specs.CallOrder.{calls_behind_staged_blocks}
 use Rattle.sync.specs.Calls.{Target, block_target, config_target, target_of, calls_of, first_labels, last_labels}
-use Rattle.sync.specs.DiskCalls.{MakesDiskCall}
 use Rattle.sync.specs.Made.{IsTarget, targets_of, HasDistinctBlocks}
-use Rattle.sync.proofs.CallPlaces.{block_stands, others_stand}
-use Rattle.base.proofs.common.KeptLists.{All-at}
+use Rattle.base.proofs.disk.SyncOrder.{block_stands, others_stand}
+use Rattle.base.proofs.common.KeptLists.{All-at, mapped}
 
 -- a call into a label is one into the labels 0 to 3
 abbrev pub InLabels : DeviceCall → Type 0
@@ -57,10 +56,6 @@ call_in_labels run k call at = elim (cases_lt k (vec_len run.blocks)) [
       each-at InLabels (calls_in_order 0 (is_some run.stages) (first_labels run.stages) (last_labels run.stages)) (k - vec_len run.blocks) call (behind_in_labels run.stages)
       (sym (others_stand (vec_len run.blocks) (is_some run.stages) (first_labels run.stages) (last_labels run.stages) k (k - vec_len run.blocks) (omega (arith, behind))) ∙ at)
 ]
-
-pub mapped : {A B : Type 0} (f : A → B) (o : Option A) (y : B) → option_map f o ≡ Some y → (x : A) × (o ≡ Some x) × (f x ≡ y)
-mapped f None y is = absurd (let no_way : None ≡ Some y = is in cc)
-mapped f (Some x) y is = let same : f x ≡ y = cc in (x, refl, same)
 
 -- the call after a target
 pub call_of_target : (run : SyncRun) (k : ℕ) (t : Target) → IsTarget (targets_of run) k t → (call : DeviceCall) × (slice_get (calls_of run) k ≡ Some call) × (target_of run call ≡ Some t)
@@ -120,10 +115,6 @@ block_parted size index (suc zero) g below within place n from to = inr (omega (
 block_parted size index (suc (suc zero)) g below within place n from to = inl (omega (arith, blocks-end size g, below, from))
 block_parted size index (suc (suc (suc label))) g below within place n from to =
     let s = IsGeometry-IsSize size g in inl (omega (arith, blocks-end size g, below, from, s.least))
-
-swap : (a m b n : ℕ) → Apart a m b n → Apart b n a m
-swap a m b n (inl before) = inr before
-swap a m b n (inr behind) = inl behind
 
 -- different blocks are apart
 blocks_parted : (index other : ℕ) → (index ≡ other → ⊥) → Apart (block_address index) block_size (block_address other) block_size
@@ -204,8 +195,8 @@ module _ (run : SyncRun) (sound : IsSound run) (distinct : HasDistinctBlocks run
   ]
   calls_parted (Block k) (Config label) t u c_in d_in is_t is_u = inr (block_and_label run sound k label t u d_in is_t (config_lies run label u is_u).0)
   calls_parted (Block k) (Uberblock label) t u c_in d_in is_t is_u = inr (block_and_label run sound k label t u d_in is_t (uberblock_lies run sound label u is_u).0)
-  calls_parted (Config label) (Block k) t u c_in d_in is_t is_u = inr (swap u.place u.size t.place t.size (block_and_label run sound k label u t c_in is_u (config_lies run label t is_t).0))
-  calls_parted (Uberblock label) (Block k) t u c_in d_in is_t is_u = inr (swap u.place u.size t.place t.size (block_and_label run sound k label u t c_in is_u (uberblock_lies run sound label t is_t).0))
+  calls_parted (Config label) (Block k) t u c_in d_in is_t is_u = inr (apart_turned u.place u.size t.place t.size (block_and_label run sound k label u t c_in is_u (config_lies run label t is_t).0))
+  calls_parted (Uberblock label) (Block k) t u c_in d_in is_t is_u = inr (apart_turned u.place u.size t.place t.size (block_and_label run sound k label u t c_in is_u (uberblock_lies run sound label t is_t).0))
   calls_parted (Config k) (Config l) t u c_in d_in is_t is_u = elim (cases_eq k l) [
     | inl same ↦ one_target (target_of run (Config k)) t u is_t (ap (λ (i : ℕ). target_of run (Config i)) same ∙ is_u)
     | inr differ ↦

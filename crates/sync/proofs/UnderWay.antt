@@ -1,7 +1,7 @@
 -- A sync begins at rest on its old view, each call of it is of its phases, and it ends at rest on its new view.
 use Rattle.std.proofs.Common.{◌≡◌, ◌∙◌, ◌⊎◌, ◌&&◌, inl, inr, ℕ, ◌+◌, ◌<◌, Bool, true, false, List, length, Option, Some, None, sym, subst, arith}
 use Rattle.std.specs.Prelude.{if◌then◌else◌, nat_lt, slice_get}
-use Rattle.base.specs.crash.Views.{AreSlotsKnown}
+use Rattle.base.specs.kept.Views.{AreSlotsKnown}
 use Rattle.base.specs.disk.Disk.{Disk, EachMoment, Moment, bytes_of, handed}
 use Rattle.base.specs.disk.Fairness.{HasFairBytes, IsFair, passes_check}
 use Rattle.base.specs.formats.Fields.{part}
@@ -9,11 +9,12 @@ use Rattle.base.specs.formats.Geometry.{slot_of, slot_place}
 use Rattle.base.specs.formats.Uberblocks.{IsUberblock, slot_size}
 use Rattle.base.proofs.crash.FoundViews.{slot_known}
 use Rattle.base.proofs.disk.Moments.{bytes_may_be_left}
+use Rattle.base.specs.kept.SyncCalls.{stage_calls}
 use Rattle.sync.specs.declared.run.LabelStages.{LabelStages}
 use Rattle.sync.specs.declared.run.SyncRun.{SyncRun}
 use Rattle.sync.specs.Calls.{calls_of}
 use Rattle.sync.specs.Made.{HasDistinctBlocks, KeepsWritten}
-use Rattle.sync.specs.Phases.{SyncViews, LeadsViews, HasNoNewSlot, HoldsLogs, IsBefore, IsBehind, IsLoggedPhase, IsSyncPhase, IsUnderWay, KeepsPhases, all_flushed, calls_before_slots, first_stage_calls, is_flush, new_config_label, views_after}
+use Rattle.sync.specs.Phases.{SyncViews, LeadsViews, HasNoNewSlot, HoldsLogs, IsBefore, IsBehind, IsLoggedPhase, IsSyncPhase, IsUnderWay, KeepsPhases, all_flushed, calls_before_slots, is_flush, new_config_label, views_after}
 use Rattle.sync.specs.Runs.{SameSync, call_count, other_calls}
 use Rattle.sync.proofs.Blocks.{nothing_made}
 use Rattle.sync.proofs.LogFlushes.{leads_raised}
@@ -59,7 +60,7 @@ in_phase base m v run way = phase_now v run m way.phase
 pub ends_at_rest : (base : List ℕ) (m : Moment) (v : SyncViews) (run : SyncRun) → run.done ≡ call_count run → IsUnderWay base v run m → IsBehind v run.geometry (new_config_label v run.stages) m
 ends_at_rest base m v run all way = way.phase.behind (omega (arith, all, behind run.stages))
   where
-    behind : (stages : Option LabelStages) → 1 + first_stage_calls stages + 4 < other_calls stages
+    behind : (stages : Option LabelStages) → 1 + stage_calls stages + 4 < other_calls stages
     behind None = omega arith
     behind (Some stages) = omega arith
 

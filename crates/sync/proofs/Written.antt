@@ -4,19 +4,13 @@ use Rattle.std.specs.Prelude.{slice_get}
 use Rattle.std.proofs.lemmas.Bool.{cases_lt}
 use Rattle.base.specs.formats.Fields.{part}
 use Rattle.base.specs.disk.Disk.{put, IsInRange}
-use Rattle.base.proofs.disk.Put.{Apart, length-put, get_or-put_other, part-put_same, part-put_apart}
+use Rattle.base.proofs.disk.Put.{Apart, length-put, get_or-put_other, part-put_same, part-put_apart, outside_range}
 use Rattle.sync.specs.Calls.{Target}
 use Rattle.sync.specs.Made.{AreWritten, IsTarget}
 
 -- the target of the next call
 abbrev PartedFrom : List (Option Target) → ℕ → Target → Type 0
 PartedFrom targets done t = (k : ℕ) (u : Target) → k < done → IsTarget targets k u → (u ≡ t) ⊎ Apart t.place t.size u.place u.size
-
-outside_range : (place n i : ℕ) → (IsInRange place n i → ⊥) → (i < place) ⊎ (place + n ≤ i)
-outside_range place n i out = elim (cases_lt i place) [
-  | inl before ↦ inl before
-  | inr from ↦ elim (cases_lt i (place + n)) [ inl to ↦ absurd (out (from, to)) | inr behind ↦ inr behind ]
-]
 
 -- one target is written
 pub written_more : (base image : List ℕ) (targets : List (Option Target)) (done : ℕ) (t : Target) → AreWritten base targets done image → IsTarget targets done t → length t.content ≡ t.size

@@ -1,8 +1,8 @@
 -- What each call of a sync does.
 use Rattle.std.specs.Prelude.{ℕ, ⊤, true, ◌≡◌, ◌+◌, ◌<◌, ◌≤◌, List, [], Option, Some, None, Result, Ok, Err, IfErr, IfSome, is_some, length, slice_get, vec_len}
 use Rattle.std.specs.Option.{IsSomeAnd, option_map}
-use Rattle.base.specs.crash.SyncCalls.{DiskCall}
-use Rattle.base.specs.crash.SyncCalls.DiskCall.{Put, Settle}
+use Rattle.base.specs.disk.DiskCalls.{DiskCall, MakesDiskCall}
+use Rattle.base.specs.disk.DiskCalls.DiskCall.{Put, Settle}
 use Rattle.base.specs.declared.error.PoolError.{PoolError}
 use Rattle.base.specs.declared.error.PoolError.TheVariants as refusal
 use Rattle.base.specs.disk.Disk.{Disk}
@@ -13,7 +13,6 @@ use Rattle.labels.specs.Stages.{labels_of}
 use Rattle.tree_plans.specs.declared.planner.PlannedBlock.{PlannedBlock}
 use Rattle.sync.specs.declared.run.LabelStages.{LabelStages}
 use Rattle.sync.specs.declared.run.SyncRun.{SyncRun}
-use Rattle.sync.specs.DiskCalls.{MakesDiskCall}
 use Rattle.sync.specs.CallOrder.{stage_after}
 
 -- the labels of the first stage

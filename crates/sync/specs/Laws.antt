@@ -1,7 +1,7 @@
 -- What holds of each sync.
 use Rattle.std.specs.Prelude.{ℕ, ◌≡◌, ◌<◌, ◌⊎◌, false, not, List, Some, Result, Ok, is_ok}
 use Rattle.base.specs.declared.error.PoolError.{PoolError}
-use Rattle.base.specs.crash.Views.{Logged}
+use Rattle.base.specs.kept.Views.{Logged}
 use Rattle.base.specs.disk.Calls.{Flushes, Writes}
 use Rattle.base.specs.disk.Disk.{Moment, Disk, EachMoment, bytes_of}
 use Rattle.base.specs.disk.Fairness.{HasFairBytes}

@@ -2,9 +2,9 @@
 -- views have the block, and a flush fixes all log blocks of both.
 use Rattle.std.specs.Prelude.{ℕ, ◌≢◌, All, List, [], ◌∷◌, ◌++◌, Result, Ok, Err}
 use Rattle.base.specs.declared.error.PoolError.{PoolError}
-use Rattle.base.specs.crash.LogSteps.{IsSpareOf}
-use Rattle.base.specs.crash.Mount.{header_of}
-use Rattle.base.specs.crash.Views.{AreLinked, HasCut, Logged, View, header_behind}
+use Rattle.base.specs.kept.LogSteps.{IsSpareOf}
+use Rattle.base.specs.tree.Mount.{header_of}
+use Rattle.base.specs.kept.Views.{AreLinked, HasCut, Logged, View, header_behind}
 use Rattle.base.specs.disk.Disk.{put}
 use Rattle.base.specs.formats.Geometry.{block_address, block_count}
 use Rattle.tree_plans.specs.declared.planner.PlannedBlock.{PlannedBlock}

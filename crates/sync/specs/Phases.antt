@@ -6,15 +6,16 @@ use Rattle.base.specs.formats.Fields.{part, no_pointer, number_at}
 use Rattle.base.specs.formats.Geometry.{block_address, slot_place, slot_of}
 use Rattle.base.specs.formats.Uberblocks.{slot_size}
 use Rattle.base.specs.tree.Places.{Place, IsPlace}
-use Rattle.base.specs.tree.PlacedTrees.{HoldsTree}
+use Rattle.base.specs.kept.PlacedTrees.{HoldsTree}
 use Rattle.base.specs.disk.Disk.{Moment, Disk, EachMoment, bytes_of, handed, moments}
 use Rattle.base.specs.disk.SyncOrder.{DeviceCall}
 use Rattle.base.specs.disk.SyncOrder.DeviceCall.{Block, Config, Uberblock, Flush}
 use Rattle.base.specs.disk.Fairness.{HasFairBytes, HandsOnly}
-use Rattle.base.specs.crash.Views.{View, Logged, IsView, AreConfigsKnown, AreLogBlocksKnown, view_frame}
-use Rattle.base.specs.crash.LogRule.{IsLogHeld}
-use Rattle.base.specs.crash.Own.{IsPhase}
-use Rattle.base.specs.crash.CallStages.{FixedLabels, IsAtRestAt, IsBetweenAt, IsSwitching}
+use Rattle.base.specs.kept.Views.{View, Logged, IsView, AreConfigsKnown, AreLogBlocksKnown, view_frame}
+use Rattle.base.specs.kept.LogRule.{IsLogHeld}
+use Rattle.base.specs.kept.Own.{IsPhase}
+use Rattle.base.specs.kept.SyncCalls.{stage_calls}
+use Rattle.base.specs.kept.CallStages.{FixedLabels, IsAtRestAt, IsBetweenAt, IsSwitching}
 use Rattle.labels.specs.declared.stage.Stage.{Stage}
 use Rattle.labels.specs.declared.stage.Stage.TheVariants.{Even, Odd}
 use Rattle.labels.specs.Stages.{labels_of}
@@ -34,14 +35,9 @@ pub record SyncViews : Type 0 where
   pub new : View
   pub new_flushed : ℕ
 
--- how many calls the first label stage has
-abbrev pub first_stage_calls : {A : Type 0} → Option A → ℕ
-first_stage_calls None = 0
-first_stage_calls (Some stages) = 3
-
 -- how many calls come before the first write of the uberblock: the blocks, a flush, and the first label stage
 abbrev pub calls_before_slots : SyncRun → ℕ
-calls_before_slots run = vec_len run.blocks + 1 + first_stage_calls run.stages
+calls_before_slots run = vec_len run.blocks + 1 + stage_calls run.stages
 
 abbrev pub first_label : Stage → ℕ
 first_label Even = 0

@@ -15,10 +15,9 @@ other_calls (Some stages) = 12
 abbrev pub call_count : SyncRun → ℕ
 call_count run = vec_len run.blocks + other_calls run.stages
 
--- a device of so many bytes has this slot in each label, and the places of these blocks
-pub record HasPlaces (size slot : ℕ) (blocks : List PlannedBlock) : Type 0 where
+-- a device of so many bytes has the places of these blocks
+pub record HasPlaces (size : ℕ) (blocks : List PlannedBlock) : Type 0 where
   pub sized : IsGeometry size
-  pub slot_in_range : slot < 128
   pub placed : All (λ (b : PlannedBlock). b.index < block_count size) blocks
 
 -- the same sync

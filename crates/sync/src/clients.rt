@@ -2,43 +2,53 @@
 //! alone. So it is refused as soon as that contract says less.
 
 ghost use Rattle.std.specs.Prelude.{◌≡◌, ◌<◌, [], IfErr, IsTrue, None, OnErr, OnOk, Some, slice_get, true, vec_len};
+ghost use Rattle.std.specs.Option.{IsSomeAnd};
 ghost use Rattle.base.specs.disk.Disk.{written};
 ghost use Rattle.base.specs.formats.Geometry.{block_address};
+ghost use Rattle.base.specs.formats.Uberblocks.{IsUberblock};
+ghost use Rattle.labels.specs.Configs.{IsConfigBlock};
 ghost use Rattle.tree_plans.specs.declared.planner.PlannedBlock.{PlannedBlock};
+ghost use Rattle.uberblocks.specs.Slots.{IsWithinLimits, fields_of};
 ghost use Rattle.sync.specs.Runs.{call_count};
 
-use crate::run::{LabelStages, SyncCall, SyncRun};
-use base::PoolError;
+use crate::run::{SyncCall, SyncRun};
+use base::{PoolError, PoolName};
 use device_model::SectorDevice;
-use labels::Geometry;
+use labels::{Geometry, Stage};
 use std::alloc::Global;
+use uberblocks::Uberblock;
 
-// A new sync without blocks and label stages has six calls, and has made none.
+// A new sync of a group that gives no name, without blocks, has six calls, and has made none. The uberblock of group 132
+// goes into slot 4.
 fn a_sync_of_no_blocks_has_six_calls(
     alloc: Global,
     geometry: Geometry,
-    uberblock: [u8; 1024],
+    uberblock: &Uberblock,
 ) -> SyncRun
+    requires limits { IsWithinLimits (fields_of uberblock.now) }
+    requires group { uberblock.now.group.0 ≡ 132 }
     ensures done { result.done ≡ 0 }
     ensures slot { result.slot ≡ 4 }
-    ensures uberblock { result.uberblock ≡ uberblock }
+    ensures uberblock { IsUberblock result.uberblock (fields_of uberblock.now) }
 {
-    let run = SyncRun::new(geometry, Vec::new(alloc), uberblock, 4, None);
+    let run = SyncRun::new(geometry, Vec::new(alloc), uberblock, None, Stage::Even);
     let total = run.total();
     prove!(total == 6);
     run
 }
 
-// Label stages add four configs and two flushes.
-fn label_stages_add_six_calls(
+// A name adds four configs and two flushes. The odd labels come first if the caller says so.
+fn a_name_adds_six_calls(
     alloc: Global,
     geometry: Geometry,
-    uberblock: [u8; 1024],
-    stages: LabelStages,
+    uberblock: &Uberblock,
+    name: &PoolName,
 ) -> SyncRun
-    ensures { result.stages ≡ Some stages }
+    requires limits { IsWithinLimits (fields_of uberblock.now) }
+    ensures { IsSomeAnd result.stages (λ s. (s.first ≡ Stage.Odd) × IsConfigBlock s.config geometry
+        (record { guid = uberblock.now.guid; group = uberblock.now.group.0; size = geometry; name = name.now })) }
 {
-    let run = SyncRun::new(geometry, Vec::new(alloc), uberblock, 4, Some(stages));
+    let run = SyncRun::new(geometry, Vec::new(alloc), uberblock, Some(name), Stage::Odd);
     let total = run.total();
     prove!(total == 12);
     run

@@ -26,16 +26,20 @@
 //!     sync has, and it may flush. A flush between two writes of 9 makes the new uberblock active before the others are
 //!     written.
 
-ghost use Rattle.std.specs.Prelude.{◌≡◌, ◌<◌, ◌+◌, All, IfErr, IsTrue, if◌then◌else◌};
+ghost use Rattle.std.specs.Prelude.{◌≡◌, ◌<◌, ◌+◌, All, IfErr, IfSome, IsTrue, if◌then◌else◌};
+ghost use Rattle.std.specs.Option.{option_map};
 ghost use Rattle.base.specs.formats.Geometry.{IsGeometry, block_count};
+ghost use Rattle.labels.specs.Configs.{IsConfigBlock, config_block};
 ghost use Rattle.tree_plans.specs.declared.planner.PlannedBlock.{PlannedBlock};
+ghost use Rattle.uberblocks.specs.Slots.{fields_of};
 
 use crate::call::{Call, plain_call, staged_call};
-use base::PoolError;
+use base::{PoolError, PoolName};
 use checked_blocks::Block;
 use device_model::SectorDevice;
-use labels::{Geometry, Stage};
+use labels::{Geometry, LabelConfig, Stage};
 use tree_plans::PlannedBlock;
+use uberblocks::{Uberblock, slot};
 
 /// The configs of a sync that changes the labels: their block, and which pair of labels comes first.
 #[derive(Debug, Drop, PartialEq, Eq)]
@@ -44,6 +48,31 @@ pub struct LabelStages {
     pub config: Block,
     /// The pair of labels that is written before the uberblocks.
     pub first: Stage,
+}
+
+impl LabelStages {
+    ghost use Rattle.sync.specs.GroupLabels.{config_for, stages_for};
+
+    // If the group of this uberblock gives the pool a name, the configs with it.
+    fn of_group(
+        geometry: Geometry,
+        uberblock: &Uberblock,
+        name: Option<&PoolName>,
+        first: Stage,
+    ) -> Option<LabelStages>
+        ensures stages { result ≡ stages_for uberblock.now.guid uberblock.now.group.0 geometry first
+            (option_map (λ n. n.now) name.entry) }
+        ensures config { IfSome name.entry (λ n. IsConfigBlock
+            (config_block (config_for uberblock.now.guid uberblock.now.group.0 geometry n.now)) geometry
+            (config_for uberblock.now.guid uberblock.now.group.0 geometry n.now)) }
+    {
+        let name = name?.copy();
+        let config = LabelConfig::new(uberblock.guid, uberblock.group, geometry.size(), name);
+        Some(LabelStages {
+            config: config.encode(),
+            first,
+        })
+    }
 }
 
 /// Which call of a sync was made.
@@ -84,30 +113,38 @@ impl SyncRun {
     ghost use Rattle.sync.specs.Made.{KeepsWritten};
     ghost use Rattle.sync.specs.Phases.{KeepsPhases};
     ghost use Rattle.sync.specs.Runs.{CountsCall, HasPlaces, call_count};
+    ghost use Rattle.uberblocks.specs.Slots.{IsWithinLimits, slot_bytes};
+    ghost use Rattle.sync.specs.GroupLabels.{WritesUberblock, config_for, stages_for};
 
-    /// Returns a sync that has made no call yet. It writes these blocks, then this uberblock into this slot of each
-    /// label, and the configs if there are label stages.
+    /// The sync of the uberblock's group, with no call made yet. It writes these blocks, then the uberblock into the
+    /// slot of its group in each label. If the group gives the pool a name, it writes the config with that name into
+    /// each label: the labels of `first` before the uberblocks, the others after them.
     pub fn new(
         geometry: Geometry,
         blocks: Vec<PlannedBlock>,
-        uberblock: [u8; 1024],
-        slot: usize,
-        stages: Option<LabelStages>,
+        uberblock: &Uberblock,
+        name: Option<&PoolName>,
+        first: Stage,
     ) -> Self
-        requires places { HasPlaces geometry slot blocks.items }
+        requires limits { IsWithinLimits (fields_of uberblock.now) }
+        requires places { HasPlaces geometry blocks.items }
         ensures geometry { result.geometry ≡ geometry }
         ensures blocks { result.blocks ≡ blocks }
-        ensures uberblock { result.uberblock ≡ uberblock }
-        ensures slot { result.slot ≡ slot }
-        ensures stages { result.stages ≡ stages }
+        ensures bytes { result.uberblock ≡ slot_bytes (fields_of uberblock.now) }
+        ensures uberblock { WritesUberblock (fields_of uberblock.now) result }
+        ensures stages { result.stages ≡ stages_for uberblock.now.guid uberblock.now.group.0 geometry
+            first (option_map (λ n. n.now) name.entry) }
+        ensures config { IfSome name.entry (λ n. IsConfigBlock
+            (config_block (config_for uberblock.now.guid uberblock.now.group.0 geometry n.now)) geometry
+            (config_for uberblock.now.guid uberblock.now.group.0 geometry n.now)) }
         ensures done { result.done ≡ 0 }
     {
         SyncRun {
             geometry,
             blocks,
-            uberblock,
-            slot,
-            stages,
+            uberblock: uberblock.encode(),
+            slot: slot(uberblock.group),
+            stages: LabelStages::of_group(geometry, uberblock, name, first),
             done: 0,
         }
     }

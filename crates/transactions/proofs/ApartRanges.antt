@@ -4,6 +4,7 @@ use Rattle.std.proofs.Common.{ℕ, zero, suc, ◌≡◌, ◌≤◌, Bool, true, 
 use Rattle.std.specs.Prelude.{◌==◌, filter, fold, insert, max, min, not}
 use Rattle.std.specs.List.{AllByRecursion}
 use Rattle.std.proofs.lemmas.Bool.Decides.{nat_tests}
+use Rattle.std.proofs.lemmas.Bool.{or_left, or_right, not-true}
 use Rattle.std.proofs.lemmas.Grind.{common_steps}
 use Rattle.base.specs.declared.range.ObjectRange.{ObjectRange}
 use Rattle.transactions.specs.LockRanges.{AreAfter, Rise, has_byte, hull, is_before, is_shared, joined, joined_after, placed, with_range, with_shared}
@@ -61,14 +62,6 @@ hull_not_before m a n l f later = grind (arith, nat_tests, common_steps)
 past_on : (x y z : ObjectRange) → has_byte y ≡ true → is_past x y ≡ true → is_past y z ≡ true → is_past x z ≡ true
 past_on x y z byte first second = past_all x.object.0 x.range.low x.range.high y.object.0 y.range.low y.range.high z.object.0 z.range.low byte first second
 
-or_left : (a b : Bool) → a ≡ true → (a || b) ≡ true
-or_left true b is = refl
-or_left false b is = absurd cc
-
-or_right : (a b : Bool) → b ≡ true → (a || b) ≡ true
-or_right true b is = refl
-or_right false b is = is
-
 -- what holds of each
 module _ (P Q R : ObjectRange → Type 0) where
   each_two : ((x : ObjectRange) → P x → Q x → R x) → (ys : List ObjectRange) → AllByRecursion P ys → AllByRecursion Q ys → AllByRecursion R ys
@@ -125,15 +118,11 @@ all_stay_apart r (x ∷ xs) (byte, after, rest) = (
   each_two (λ y. is_past x y ≡ true) (StaysApart r xs) (StaysApart r (x ∷ xs)) (λ y is stays none. ((stays none).0, ((λ _. or_right (is_past y x) (is_past x y) is), (stays none).1))) xs after (all_stay_apart r xs rest),
 )
 
-not_false : (b : Bool) → not b ≡ true → b ≡ false
-not_false true is = sym is
-not_false false is = refl
-
 apart_from_joined : (r : ObjectRange) (others : List ObjectRange) → has_byte r ≡ true → AreApart others → AllByRecursion (λ y. is_apart y (joined r others) ≡ true) (filter (λ y. not (is_shared y r)) others)
 apart_from_joined r others byte apart =
     each_kept (λ y. is_apart y (joined r others) ≡ true) (λ y. not (is_shared y r)) others
     (each_one (StaysApart r others) (λ y. not (is_shared y r) ≡ true → is_apart y (joined r others) ≡ true) (λ y stays kept.
-    let none : is_shared y r ≡ false = not_false (is_shared y r) kept in
+    let none : is_shared y r ≡ false = not-true (is_shared y r) kept in
     let own = stays none in
     apart_joined y r r others own.0 (holds_self r) (unshared_apart y.object.0 y.range.low y.range.high r.object.0 r.range.low r.range.high own.0 byte none) own.1) others (all_stay_apart r others apart))
 

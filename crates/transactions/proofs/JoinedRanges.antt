@@ -3,7 +3,7 @@ use Rattle.std.proofs.Common.{ℕ, suc, ◌≡◌, ◌≤◌, ◌<◌, ◌+◌, 
 use Rattle.std.specs.Prelude.{◌==◌, fold}
 use Rattle.std.specs.List.{All, AllByRecursion, list_all, list_any}
 use Rattle.std.specs.List.Sorted.{IsPermutation}
-use Rattle.std.proofs.lemmas.Bool.{and_parts}
+use Rattle.std.proofs.lemmas.Bool.{and_parts, false_from_ne_true}
 use Rattle.std.proofs.lemmas.Grind.{common_steps}
 use Rattle.std.proofs.lemmas.List.Elements.{All-from_recursion, recursion_from_All}
 use Rattle.std.proofs.lemmas.List.Sorted.{All-permutation, list_any-IsPermutation}
@@ -56,10 +56,6 @@ none_of : (p : ObjectRange → Bool) (P : ObjectRange → Type 0) (ys : List Obj
 none_of p P [] none all = refl
 none_of p P (y ∷ ys) none (first, rest) = rw (none y first, none_of p P ys none rest) refl
 
-no_difference : (b : Bool) → (b ≡ true → ⊥) → b ≡ false
-no_difference true never = absurd (never refl)
-no_difference false never = refl
-
 -- the first ranges of lists that are apart and have the same points
 module _ (y z : ObjectRange) (ys zs : List ObjectRange) (apart : AreApart (y ∷ ys)) (others : AreApart (z ∷ zs)) (same : HaveSamePoints (y ∷ ys) (z ∷ zs)) where
   not_earlier : is_before y z ≡ true → ⊥
@@ -87,11 +83,11 @@ module _ (y z : ObjectRange) (ys zs : List ObjectRange) (apart : AreApart (y ∷
   first_same : y ≡ z
   first_same =
       let back : HaveSamePoints (z ∷ zs) (y ∷ ys) = λ o q. sym (same o q) in
-      let before = no_difference (is_before y z) (not_earlier y z ys zs apart others same) in
-      let after = no_difference (is_before z y) (not_earlier z y zs ys others apart back) in
+      let before = false_from_ne_true (is_before y z) (not_earlier y z ys zs apart others same) in
+      let after = false_from_ne_true (is_before z y) (not_earlier z y zs ys others apart back) in
       let object = same_object y.object.0 y.range.low z.object.0 z.range.low before after in
       let low = same_low y.object.0 y.range.low z.object.0 z.range.low before after in
-      let high = same_high y.range.high z.range.high (no_difference _ (not_shorter y z ys zs apart others same object low)) (no_difference _ (not_shorter z y zs ys others apart back (sym object) (sym low))) in
+      let high = same_high y.range.high z.range.high (false_from_ne_true _ (not_shorter y z ys zs apart others same object low)) (false_from_ne_true _ (not_shorter z y zs ys others apart back (sym object) (sym low))) in
       λ i. record { object = record { 0 = object i }; range = record { low = low i; high = high i } }
 
   rest_same : y ≡ z → HaveSamePoints ys zs

@@ -1,6 +1,6 @@
 -- Ranges of plans within the limits: their ends fit 64 bits, so what is asked of them is asked of the ranges that
 -- definitions speak of.
-use Rattle.std.proofs.Common.{ℕ, ◌≡◌, ◌<◌, ◌+◌, ◌-◌, ◌^◌, Bool, true, false, ◌&&◌, ◌||◌, List, [], ◌∷◌, length, map, get_or, take, nat_lt, nat_le, refl, sym, ap, ◌∙◌, arith}
+use Rattle.std.proofs.Common.{ℕ, ◌≡◌, ◌<◌, ◌+◌, ◌-◌, ◌^◌, Bool, true, false, ◌&&◌, List, [], ◌∷◌, length, map, get_or, take, nat_lt, nat_le, refl, sym, ap, ◌∙◌, arith}
 use Rattle.std.specs.Prelude.{min}
 use Rattle.std.specs.List.{list_any, list_all}
 use Rattle.std.proofs.lemmas.Bool.{and_parts}
@@ -10,6 +10,7 @@ use Rattle.base.specs.declared.operation.Shape.{Shape}
 use Rattle.base.specs.declared.operation.Shape.TheVariants as shape
 use Rattle.base.specs.formats.Limits.{max_length, object_count}
 use Rattle.base.specs.history.Plans.{NumberRange, range_of, is_shape_allowed, is_plan_allowed, overlaps, lies_in, plans_overlap}
+use Rattle.base.proofs.common.KeptLists.{any_map}
 use Rattle.transactions.specs.Ranges.{kept_range_of, kept_ranges_overlap, has_kept_in, has_range_in}
 
 end_fits : (offset count : ℕ) → nat_le (offset + count) max_length ≡ true → min (offset + count) (2 ^ 64 - 1) ≡ offset + count
@@ -38,10 +39,6 @@ any_agree P p q same (x ∷ xs) all =
     let parts = and_parts (P x) (list_all P xs) all in
     rw (same x parts.0, any_agree P p q same xs parts.1) refl
 
-pub list_any-map : {X Y : Type 0} (p : Y → Bool) (f : X → Y) (xs : List X) → list_any p (map f xs) ≡ list_any (λ x. p (f x)) xs
-list_any-map p f [] = refl
-list_any-map p f (x ∷ xs) = ap (λ b. p (f x) || b) (list_any-map p f xs)
-
 pub allowed_shapes : (plan : List Shape) → is_plan_allowed plan ≡ true → list_all is_shape_allowed plan ≡ true
 allowed_shapes plan h = (and_parts (nat_lt 0 (length plan)) (list_all is_shape_allowed plan) h).1
 
@@ -55,12 +52,12 @@ touches_same : (x : Shape) (other : List Shape) → is_shape_allowed x ≡ true 
     → list_any (λ y. overlaps (kept_range_of x) (kept_range_of y)) other ≡ list_any (overlaps (range_of x)) (map range_of other)
 touches_same x other h all =
     any_agree is_shape_allowed (λ y. overlaps (kept_range_of x) (kept_range_of y)) (λ y. overlaps (range_of x) (range_of y)) (λ y k. rw (kept_same x h, kept_same y k) refl) other all
-    ∙ sym (list_any-map (overlaps (range_of x)) range_of other)
+    ∙ sym (any_map (overlaps (range_of x)) range_of other)
 
 pub overlap_same : (plan other : List Shape) → is_plan_allowed plan ≡ true → is_plan_allowed other ≡ true → kept_ranges_overlap plan other ≡ plans_overlap plan other
 overlap_same plan other h also =
     any_agree is_shape_allowed (λ x. list_any (λ y. overlaps (kept_range_of x) (kept_range_of y)) other) (λ x. list_any (overlaps (range_of x)) (map range_of other)) (λ x k. touches_same x other k (allowed_shapes other also)) plan (allowed_shapes plan h)
-    ∙ sym (list_any-map (λ r. list_any (overlaps r) (map range_of other)) range_of plan)
+    ∙ sym (any_map (λ r. list_any (overlaps r) (map range_of other)) range_of plan)
 
 -- if the elements so far pass a test, and one more does
 pub one_more_passes : {X : Type 0} (p : X → Bool) (xs : List X) (k : ℕ) (d : X) → k < length xs → list_all p (take k xs) ≡ true → p (get_or xs k d) ≡ true → list_all p (take (k + 1) xs) ≡ true

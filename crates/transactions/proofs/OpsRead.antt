@@ -1,16 +1,17 @@
 -- An operation that is read is the one that was written, and what was written is read again.
-use Rattle.std.proofs.Common.{◌≡◌, ℕ, zero, suc, ◌+◌, ◌^◌, ◌<◌, ◌&&◌, ◌⊎◌, Bool, true, false, cond, eqb, List, [], ◌∷◌, ◌++◌, length, Some, None, refl, sym, ap, subst, ◌∙◌, append_assoc, arith, inl, inr}
+use Rattle.std.proofs.Common.{◌≡◌, ℕ, zero, suc, ◌+◌, ◌^◌, ◌<◌, ◌&&◌, Bool, true, false, cond, eqb, List, [], ◌∷◌, ◌++◌, length, Some, None, refl, sym, ap, subst, ◌∙◌, append_assoc, arith, inl, inr}
 use Rattle.std.specs.Prelude.{nat_lt, nat_le}
 use Rattle.std.specs.List.{flat_map, list_all}
 use Rattle.std.specs.Int.{w32, w64, to_le_bytes}
-use Rattle.std.proofs.lemmas.Bool.{and_parts, eqb-true, leb-true, ltb-true}
+use Rattle.std.proofs.lemmas.Bool.{and_parts, eqb-true, leb-true}
 use Rattle.std.proofs.lemmas.List.Concat.{flat_map-cons}
 use Rattle.base.specs.declared.operation.Op.{Op}
 use Rattle.base.specs.declared.operation.Op.TheVariants.{Create, Remove, Write, SetLength, SetName}
 use Rattle.base.specs.formats.Limits.{object_count, max_length, max_name}
-use Rattle.base.specs.formats.Names.{is_name_length}
 use Rattle.base.specs.formats.Records.{op_bytes, is_content_allowed}
 use Rattle.base.specs.history.Plans.{shape_of, is_shape_allowed}
+use Rattle.base.proofs.common.Choices.{chosen}
+use Rattle.base.proofs.formats.RecordSpelling.{below_objects, name_part}
 use Rattle.transactions.specs.Records.{is_op_allowed}
 use Rattle.transactions.specs.Reading.{◌>>=◌, number_in, string_in, create_in, remove_in, write_in, set_length_in, set_name_in, tagged_in, op_in, ops_in}
 use Rattle.transactions.proofs.Fields.{IsBytes, bind_some, bind-some, some_is, Takes, Takes-then, wide32, wide64, number_takes, number_again, string, string_takes, string_again}
@@ -90,11 +91,6 @@ set_name_takes bytes x fits e =
     let made : Op × List ℕ = (SetName a.0.0, a.0.1) in
     subst (λ (y : Op × List ℕ). TakesOp 5 bytes y) (some_is made x a.2) (t, refl)
 
--- which way a test went
-chosen : {A : Type 0} (b : Bool) (x y z : A) → cond b x y ≡ z → ((b ≡ true) × (x ≡ z)) ⊎ ((b ≡ false) × (y ≡ z))
-chosen true x y z e = inl (refl, e)
-chosen false x y z e = inr (refl, e)
-
 tagged_takes : (tag : ℕ) (bytes : List ℕ) (x : Op × List ℕ) → IsBytes bytes → tagged_in tag bytes ≡ Some x → TakesOp tag bytes x
 unfolding tagged_in
 tagged_takes tag bytes x fits e =
@@ -133,9 +129,6 @@ op_takes (tag ∷ bytes) x fits e =
     subst (λ (y : Op × List ℕ). Takes (tag ∷ bytes) (op_bytes y.0) y.1 × (is_op_allowed y.0 ≡ true)) g.1 (record { parts = parts; rest_fits = t.0.rest_fits }, g.0)
 
 -- what is written is read again
-object_fits : (n : ℕ) → nat_lt n object_count ≡ true → n < 2 ^ 32
-object_fits n is = let below = ltb-true n object_count is in omega (arith, below)
-
 create_again : (n : ℕ) (rest : List ℕ) → n < 2 ^ 32 → create_in (to_le_bytes w32 n ++ rest) ≡ Some (Create (record { 0 = n }), rest)
 unfolding create_in
 create_again n rest h = bind-some (number_in w32 (to_le_bytes w32 n ++ rest)) (λ n. Some (Create (record { 0 = n.0 }), n.1)) (n, rest) (number_again w32 (2 ^ 32) wide32 n rest h)
@@ -169,22 +162,19 @@ set_name_again : (content rest : List ℕ) → length content < 2 ^ 32 → set_n
 unfolding set_name_in
 set_name_again content rest l = bind-some (string_in (string content ++ rest)) (λ name. Some (SetName name.0, name.1)) (content, rest) (string_again content rest l)
 
-name_part : (n : ℕ) → is_name_length n ≡ true → nat_le n max_name ≡ true
-name_part n is = (and_parts (nat_lt 0 n) (nat_le n max_name) is).1
-
 tagged_again : (op : Op) (rest : List ℕ) → is_shape_allowed (shape_of op) ≡ true → tagged_in (tag_of op) (fields op ++ rest) ≡ Some (op, rest)
 unfolding tagged_in
-tagged_again (Create n) rest a = create_again n.0 rest (object_fits n.0 a)
-tagged_again (Remove n) rest a = remove_again n.0 rest (object_fits n.0 a)
+tagged_again (Create n) rest a = create_again n.0 rest (below_objects n.0 a)
+tagged_again (Remove n) rest a = remove_again n.0 rest (below_objects n.0 a)
 tagged_again (Write n offset bytes) rest a =
     let in_limits = and_parts (nat_lt n.0 object_count && nat_lt 0 (length bytes)) (nat_le (offset + length bytes) max_length) a in
     let number = and_parts (nat_lt n.0 object_count) (nat_lt 0 (length bytes)) in_limits.0 in
     let end = leb-true (offset + length bytes) max_length in_limits.1 in
-    write_again n.0 offset bytes rest (object_fits n.0 number.0) (omega (arith, end)) (omega (arith, end))
+    write_again n.0 offset bytes rest (below_objects n.0 number.0) (omega (arith, end)) (omega (arith, end))
 tagged_again (SetLength n new) rest a =
     let in_limits = and_parts (nat_lt n.0 object_count) (nat_le new max_length) a in
     let end = leb-true new max_length in_limits.1 in
-    set_length_again n.0 new rest (object_fits n.0 in_limits.0) (omega (arith, end))
+    set_length_again n.0 new rest (below_objects n.0 in_limits.0) (omega (arith, end))
 tagged_again (SetName bytes) rest a =
     let end = leb-true (length bytes) max_name (name_part (length bytes) a) in
     set_name_again bytes rest (omega (arith, end))

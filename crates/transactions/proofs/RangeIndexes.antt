@@ -12,12 +12,13 @@ use Rattle.std.proofs.lemmas.Grind.{common_steps}
 use Rattle.std.proofs.lemmas.List.{drop_all, get_or-drop, get_or_default, get_or-take, length-drop, length-take-le, take-append-drop}
 use Rattle.std.proofs.lemmas.List.Folds.{list_any-append, list_any_none}
 use Rattle.std.proofs.lemmas.List.Sorted.{list_any-IsPermutation, sorted_far}
+use Rattle.std.proofs.Math.Bool.{or-false}
 use Rattle.base.specs.declared.range.ObjectRange.{ObjectRange}
 use Rattle.base.specs.history.Plans.{NumberRange, lies_in, number_range, overlaps}
 use Rattle.transactions.specs.LockRanges.{is_before, shape_range}
 use Rattle.transactions.specs.Ranges.{has_kept_in, kept_range_of, kept_ranges_overlap}
 use Rattle.base.specs.declared.operation.Shape.{Shape}
-use Rattle.transactions.proofs.KeptRanges.{list_any-map}
+use Rattle.base.proofs.common.KeptLists.{any_map}
 use Rattle.transactions.specs.RangeIndexes.{AreHighest, AreInOrder, AreLeast, begins_before, ends_after, ends_by}
 use Rattle.transactions.proofs.RisingRanges.{before_asym, before_trans, is_less}
 
@@ -81,10 +82,6 @@ later_other a b c d n l t order later other = rw (let no : (c == n) ≡ false = 
 pub not_equal : (a b : ℕ) → (a ≡ b → ⊥) → (a == b) ≡ false
 not_equal a b other = grind (arith, common_steps)
 
-or_false : (b : Bool) → (b || false) ≡ b
-or_false true = refl
-or_false false = refl
-
 module _ {X : Type 0} where
   any_same : (p q : X → Bool) (xs : List X) → All (λ x. p x ≡ q x) xs → list_any p xs ≡ list_any q xs
   any_same p q [] same = refl
@@ -111,7 +108,7 @@ module _ (ranges : List ObjectRange) (object place n : ℕ) (le : n ≤ length r
   settled_before p q here none =
       let first = any_same p q (take n ranges) (all_taken (λ x. p x ≡ q x) ranges n le (λ k d low below. here (get_or ranges k d) (point.0 k d low below))) in
       let rest = list_any_none p (drop n ranges) (all_dropped (λ x. p x ≡ false) ranges n (λ k d low below. none (get_or ranges k d) (point.1 k d low below))) in
-      any_split p ranges n ∙ rw (first, rest) (or_false (list_any q (take n ranges)))
+      any_split p ranges n ∙ rw (first, rest) (or-false (list_any q (take n ranges)))
 
   settled_after : (p q : ObjectRange → Bool) → ((x : ObjectRange) → begins_before object place x ≡ true → p x ≡ false) → ((x : ObjectRange) → begins_before object place x ≡ false → p x ≡ q x)
       → list_any p ranges ≡ list_any q (drop n ranges)
@@ -178,7 +175,7 @@ module _ (ranges : List ObjectRange) (ends : List ℕ) (order : AreInOrder range
 -- what is asked of the ranges of a plan, in some order, is asked of the plan
 module _ (plan : List Shape) (ranges : List ObjectRange) (same : IsPermutation (map shape_range plan) ranges) where
   asked_same : (p : ObjectRange → Bool) → list_any p ranges ≡ list_any (λ x. p (shape_range x)) plan
-  asked_same p = sym (list_any-IsPermutation p (map shape_range plan) ranges same) ∙ list_any-map p shape_range plan
+  asked_same p = sym (list_any-IsPermutation p (map shape_range plan) ranges same) ∙ any_map p shape_range plan
 
   pub kept_overlap : (other : List Shape) → list_any (λ s. list_any (λ x. overlaps (kept_range_of s) (number_range x)) ranges) other ≡ kept_ranges_overlap other plan
   kept_overlap other i = list_any (λ s. asked_same (λ x. overlaps (kept_range_of s) (number_range x)) i) other

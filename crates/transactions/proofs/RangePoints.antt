@@ -6,6 +6,7 @@ use Rattle.std.proofs.Math.Bool.{or_assoc}
 use Rattle.std.proofs.lemmas.Bool.Decides.{nat_tests}
 use Rattle.std.proofs.lemmas.Grind.{common_steps}
 use Rattle.base.specs.declared.range.ObjectRange.{ObjectRange}
+use Rattle.base.proofs.common.Choices.{or-swap}
 use Rattle.transactions.specs.LockRanges.{hull, is_shared, joined, joined_after, with_range, with_shared}
 
 -- whether a range of an object has a point: 2 k + 1 is the byte k, and 2 k is between k and the byte before it
@@ -35,11 +36,6 @@ pub or_none : (b : Bool) → b ≡ (b || false)
 or_none true = refl
 or_none false = refl
 
-or_swap : (a b c : Bool) → (a || (b || c)) ≡ (b || (a || c))
-or_swap true true c = refl
-or_swap true false c = refl
-or_swap false b c = refl
-
 or_three : (a b c : Bool) → (a || (b || c)) ≡ ((b || a) || c)
 or_three true true c = refl
 or_three true false c = refl
@@ -63,7 +59,7 @@ module _ (o q : ℕ) where
 any_inserted : (p : ObjectRange → Bool) (ys : List ObjectRange) (n : ℕ) (w : ObjectRange) → list_any p (insert ys n w) ≡ (p w || list_any p ys)
 any_inserted p ys zero w = refl
 any_inserted p [] (suc n) w = refl
-any_inserted p (y ∷ ys) (suc n) w = ap (λ (b : Bool). p y || b) (any_inserted p ys n w) ∙ or_swap (p y) (p w) (list_any p ys)
+any_inserted p (y ∷ ys) (suc n) w = ap (λ (b : Bool). p y || b) (any_inserted p ys n w) ∙ or-swap (p y) (p w) (list_any p ys)
 
 -- those that pass a test, and the others
 any_parted : (s p : ObjectRange → Bool) (ys : List ObjectRange) → (list_any (λ y. s y && p y) ys || list_any p (filter (λ y. not (s y)) ys)) ≡ list_any p ys
@@ -73,7 +69,7 @@ any_parted s p (y ∷ ys) = go (s y) (any_parted s p ys)
     go : (b : Bool) → (list_any (λ y. s y && p y) ys || list_any p (filter (λ y. not (s y)) ys)) ≡ list_any p ys
         → (((b && p y) || list_any (λ y. s y && p y) ys) || list_any p (cond (not b) (y ∷ filter (λ y. not (s y)) ys) (filter (λ y. not (s y)) ys))) ≡ (p y || list_any p ys)
     go true later = or_assoc (p y) (list_any (λ y. s y && p y) ys) (list_any p (filter (λ y. not (s y)) ys)) ∙ ap (λ (b : Bool). p y || b) later
-    go false later = or_swap (list_any (λ y. s y && p y) ys) (p y) (list_any p (filter (λ y. not (s y)) ys)) ∙ ap (λ (b : Bool). p y || b) later
+    go false later = or-swap (list_any (λ y. s y && p y) ys) (p y) (list_any p (filter (λ y. not (s y)) ys)) ∙ ap (λ (b : Bool). p y || b) later
 
 -- ranges with one more
 with_points : (o q : ℕ) (ys : List ObjectRange) (r : ObjectRange) → list_any (has_point o q) (with_range ys r) ≡ (has_point o q r || list_any (has_point o q) ys)

@@ -3,7 +3,7 @@ use Rattle.std.proofs.Common.{◌≡◌, ℕ, ◌+◌, ◌-◌, ◌^◌, ◌<◌
 use Rattle.std.specs.Prelude.{not, nat_lt}
 use Rattle.std.specs.List.{flat_map, list_all}
 use Rattle.std.specs.Int.{w16, w32, w64, to_le_bytes}
-use Rattle.std.proofs.lemmas.Bool.{and_parts, or_parts, eqb-true, ltb-true, ltb-false, le-ltb, lt-ltb}
+use Rattle.std.proofs.lemmas.Bool.{and_parts, or_parts, eqb-true, ltb-true, ltb-false, le-ltb, lt-ltb, not-false}
 use Rattle.std.proofs.lemmas.Bool.Decides.{nat_tests}
 use Rattle.std.proofs.lemmas.List.{append-nil, nil_from_length, length-map}
 use Rattle.base.specs.declared.operation.Op.{Op}
@@ -14,7 +14,7 @@ use Rattle.base.proofs.formats.RecordSizes.{length-bytes_of_record}
 use Rattle.base.proofs.formats.RecordSpelling.{few}
 use Rattle.transactions.specs.Records.{is_op_allowed}
 use Rattle.transactions.specs.Reading.{◌>>=◌, number_in, split_at, ops_in, is_body_refused, body_in, record_in}
-use Rattle.transactions.proofs.Fields.{IsBytes, bind_some, bind-some, some_is, Takes, Takes-then, wide16, wide32, wide64, number_takes, number_again, split_takes, split_again}
+use Rattle.transactions.proofs.Fields.{IsBytes, bind_some, bind-some, some_is, Takes, Takes-then, wide16, wide32, wide64, number_takes, number_again, split_takes, split_again, guard_some}
 use Rattle.transactions.proofs.OpsRead.{ops_take, ops_again}
 
 -- operations within their limits have shapes and contents within theirs
@@ -53,24 +53,15 @@ some_ops : (count : ℕ) (ops : List Op) → eqb count 0 ≡ false → length op
 some_ops count [] none long = absurd (let zero_is : eqb count 0 ≡ true = rw (← long) refl in let no : true ≡ false = sym zero_is ∙ none in cc)
 some_ops count (op ∷ ops) none long = lt-ltb 0 (length (op ∷ ops)) (omega arith)
 
-not_false : (b : Bool) → not b ≡ false → b ≡ true
-not_false true e = refl
-not_false false e = absurd cc
-
--- a test that was passed
-passed : {A : Type 0} (b : Bool) (x y : A) → cond b None (Some x) ≡ Some y → (b ≡ false) × (x ≡ y)
-passed true x y e = absurd cc
-passed false x y e = (refl, cc)
-
 body_is : (bytes : List ℕ) (r made : Record) (count : ℕ) (rest : List ℕ) → cond (is_body_refused made.group made.ordinal count rest) None (Some made) ≡ Some r
     → length made.ops ≡ count → list_all is_op_allowed made.ops ≡ true
     → Takes bytes (to_le_bytes w64 made.group ++ (to_le_bytes w64 made.ordinal ++ (to_le_bytes w16 count ++ flat_map op_bytes made.ops))) rest → IsBody bytes r
 body_is bytes r made count rest e long allowed takes =
-    let g = passed (is_body_refused made.group made.ordinal count rest) made r e in
+    let g = guard_some (is_body_refused made.group made.ordinal count rest) made r e in
     let ended = or_parts (nat_lt last_number made.group || nat_lt last_number made.ordinal || eqb count 0) (not (eqb (length rest) 0)) g.0 in
     let counted = or_parts (nat_lt last_number made.group || nat_lt last_number made.ordinal) (eqb count 0) ended.0 in
     let numbers = or_parts (nat_lt last_number made.group) (nat_lt last_number made.ordinal) counted.0 in
-    let nothing : rest ≡ [] = nil_from_length rest (eqb-true (length rest) 0 (not_false (eqb (length rest) 0) ended.1)) in
+    let nothing : rest ≡ [] = nil_from_length rest (eqb-true (length rest) 0 (not-false (eqb (length rest) 0) ended.1)) in
     let whole : bytes ≡ body_bytes made =
     takes.parts
     ∙ ap (λ (l : List ℕ). (to_le_bytes w64 made.group ++ (to_le_bytes w64 made.ordinal ++ (to_le_bytes w16 count ++ flat_map op_bytes made.ops))) ++ l) nothing

@@ -29,7 +29,8 @@ module _ (ops : List Op) (i : ℕ) (op : Op) (below : i < length ops) (is : op �
       let kept = so_far.room in
       omega (arith, op_fits ops i op below is)
 
-Appends-then : (a b c : Vec ℕ) (x y : List ℕ) → AppendsBytes a b x → AppendsBytes b c y → AppendsBytes a c (x ++ y)
+-- two parts, one after the other
+pub Appends-then : (a b c : Vec ℕ) (x y : List ℕ) → AppendsBytes a b x → AppendsBytes b c y → AppendsBytes a c (x ++ y)
 Appends-then a b c x y p q =
     let room_p = p.room in
     let room_q = q.room in

@@ -16,9 +16,10 @@ use Rattle.base.specs.formats.Limits.{pointer_count}
 use Rattle.base.specs.tree.Places.{record_of_strip}
 use Rattle.base.specs.tree.Syncs.{is_dirty, is_unchanged, pointer_numbers}
 use Rattle.base.proofs.tree.WrittenPlaces.{any-same, in-range}
+use Rattle.base.proofs.common.KeptLists.{none_between}
 use Rattle.tree_plans.specs.declared.changes.ObjectChanges.{ObjectChanges}
 use Rattle.tree_plans.specs.Changes.{is_strip_dirty, is_strip_touched, state_at}
-use Rattle.tree_plans.proofs.Order.{none_between, passes_at}
+use Rattle.tree_plans.proofs.Order.{passes_at}
 
 -- a record is written if it is among the dirty ones
 pub dirty-contains : (changes : ObjectChanges) (r : ℕ) → is_dirty (state_at changes r) ≡ contains nat_cmp changes.dirty r

@@ -17,16 +17,18 @@ use Rattle.base.specs.tree.Syncs.{has_block_after, is_dirty, pointer_numbers}
 use Rattle.base.specs.tree.Places.{strip_number}
 use Rattle.base.specs.tree.Places.Place.{Indirect}
 use Rattle.base.proofs.tree.WrittenPlaces.{any-same, in-range}
-use Rattle.object_maps.specs.declared.tree.ObjectEntry.{ObjectEntry}
-use Rattle.object_maps.specs.Pointers.{ObjectPointers, long_pointers, pointer_of_list, pointers_of_entry, short_pointers, strip_in, told_record}
+use Rattle.tree_blocks.specs.declared.tree.ObjectEntry.{ObjectEntry}
+use Rattle.tree_blocks.specs.Pointers.{ObjectPointers, long_pointers, pointer_of_list, pointers_of_entry, short_pointers, strip_in, told_record}
 use Rattle.space.specs.FreeSets.{FreeSpace}
 use Rattle.tree_plans.specs.declared.changed_object.ChangedObject.{ChangedObject}
 use Rattle.tree_plans.specs.declared.planner.Planner.{Planner}
-use Rattle.tree_plans.specs.Changes.{has_address, is_long_size, is_strip_dirty, may_have_blocks}
+use Rattle.tree_plans.specs.Changes.{has_address, is_strip_dirty, may_have_blocks}
+use Rattle.tree_blocks.specs.Entries.{is_long_size}
 use Rattle.tree_plans.specs.Order.{address_if, addresses_of, addresses_where, strip_addresses}
 use Rattle.tree_plans.specs.Parts.{AreMet, ExtendsPlan, IsMapRead, IsOfMade, IsOfMadeAt, MadeBy, PassesStrip, PlansIndirect, PlansIndirectsBelow, PlansMet, PlansRecords, PlansStripsBelow, blocks_of, old_in}
 use Rattle.tree_plans.specs.Plans.{AreRecordsPlanned, IsOfRecord, IsOfStrip, IsRecordPlanned, has_record_left, is_dirty_in, is_strip_left, is_strip_replaced, is_indirect_made, kept_state, progress_of, records_with, state_above, state_over_records, strip_state, top_state}
-use Rattle.tree_plans.specs.Pointers.{entry_strips, pointers_in, records_among, strip_with, strips_with}
+use Rattle.tree_plans.specs.Pointers.{entry_strips, pointers_in, strip_with, strips_with}
+use Rattle.tree_blocks.specs.ReadPointers.{records_among}
 use Rattle.tree_plans.proofs.Once.{indirect_once, strip_once}
 use Rattle.tree_plans.proofs.Order.{adds_not, adds_push, adds_twice, addresses_equal, addresses_same, no_addresses, strip_addresses_more}
 use Rattle.tree_plans.proofs.Progress.{become_stays, each_push, frees_more, goes_nowhere, goes_twice, records_stay, strip_below, strip_here}

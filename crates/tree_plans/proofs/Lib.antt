@@ -1,6 +1,4 @@
 pub mod Progress
-pub mod Payloads
-pub mod Entries
 pub mod Walks
 pub mod Planned
 pub mod Marked

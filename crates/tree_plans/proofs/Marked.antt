@@ -20,8 +20,9 @@ use Rattle.base.specs.history.Sequences.{in_turn}
 use Rattle.base.specs.tree.Syncs.{contents_after, contents_after_all, is_change_of, is_on, record_state, state_after_cut, state_after_op}
 use Rattle.base.proofs.common.Sequences.{joined, parted}
 use Rattle.base.proofs.history.Writes.{length-bytes_after_write, length-resize}
-use Rattle.base.proofs.tree.RecordStates.{at-object, bytes-changed, bytes-created, bytes-removed, contents-after_all, elsewhere}
-use Rattle.object_maps.specs.declared.tree.ObjectEntry.{ObjectEntry}
+use Rattle.base.proofs.history.Projections.{gives_removed}
+use Rattle.base.proofs.tree.RecordStates.{at-object, bytes-changed, bytes-created, contents-after_all, elsewhere}
+use Rattle.tree_blocks.specs.declared.tree.ObjectEntry.{ObjectEntry}
 use Rattle.tree_plans.specs.declared.changes.ObjectChanges.{ObjectChanges}
 use Rattle.tree_plans.specs.Marks.{AreToldSoFar, NotesOp, length_so_far, length_with, sets_length, object_size, marked_after}
 
@@ -63,7 +64,7 @@ length-after n (Create m) c d h = either_size (m.0 == n) 0 (object_size c n) (ob
     (λ same. ap (λ (l : List ℕ). length l) (sym (bytes-created (finite.get c.objects n) (finite.get d.objects n) (at-object n m.0 created c d same h))))
     (λ other. ap (λ (o : Option (List ℕ)). length (unwrap_or o [])) (elsewhere n m.0 created c d other h))
 length-after n (Remove m) c d h = either_size (m.0 == n) 0 (object_size c n) (object_size d n)
-    (λ same. ap (λ (o : Option (List ℕ)). length (unwrap_or o [])) (sym (bytes-removed (finite.get c.objects n) (finite.get d.objects n) (at-object n m.0 removed c d same h))))
+    (λ same. ap (λ (o : Option (List ℕ)). length (unwrap_or o [])) (sym (gives_removed (finite.get c.objects n) (finite.get d.objects n) (at-object n m.0 removed c d same h))))
     (λ other. ap (λ (o : Option (List ℕ)). length (unwrap_or o [])) (elsewhere n m.0 removed c d other h))
 length-after n (Write m offset bytes) c d h = either_size (m.0 == n) (max (object_size c n) (offset + length bytes)) (object_size c n) (object_size d n)
     (λ same.
@@ -90,10 +91,6 @@ one_only op b c h =
     let p = parted (apply op b) (in_turn apply []) c h in
     let e : p.0 ≡ c = (let f = p.2 in cc) in
     p.1 ∙ ap (λ (x : Contents). Ok x) e
-
-ranges-append : (xs ys : List Op) → ranges (xs ++ ys) ≡ ranges xs ++ ranges ys
-ranges-append [] ys = refl
-ranges-append (x ∷ xs) ys = ap (λ l. touched x ∷ l) (ranges-append xs ys)
 
 front_ranges : (xs : List Op) (op : Op) → All IsRange (ranges (xs ++ op ∷ [])) → All IsRange (ranges xs) × IsRange (touched op)
 front_ranges [] op all = (All-nil IsRange, All-head IsRange (touched op) [] all)

@@ -14,30 +14,29 @@ use Rattle.base.specs.formats.Limits.{pointer_count}
 use Rattle.base.specs.tree.Places.{record_of_strip, strip_number}
 use Rattle.base.specs.tree.Places.Place.{Indirect}
 use Rattle.base.specs.tree.Syncs.{has_block_after, is_dirty}
-use Rattle.object_maps.specs.declared.tree.ObjectEntry.{ObjectEntry}
-use Rattle.object_maps.specs.Pointers.{ObjectPointers, pointer_of_list, pointers_of_entry, strip_in, told_record}
+use Rattle.base.proofs.common.KeptLists.{none_between}
+use Rattle.base.proofs.common.Choices.{none_there}
+use Rattle.tree_blocks.specs.declared.tree.ObjectEntry.{ObjectEntry}
+use Rattle.tree_blocks.specs.Pointers.{ObjectPointers, pointer_of_list, pointers_of_entry, strip_in, told_record}
 use Rattle.space.specs.FreeSets.{FreeSpace}
 use Rattle.tree_plans.specs.declared.changed_object.ChangedObject.{ChangedObject}
 use Rattle.tree_plans.specs.declared.planner.Planner.{Planner}
-use Rattle.tree_plans.specs.Changes.{has_address, is_long_size, is_strip_dirty, is_strip_touched, may_have_blocks, state_at}
+use Rattle.tree_plans.specs.Changes.{has_address, is_strip_dirty, is_strip_touched, may_have_blocks, state_at}
+use Rattle.tree_blocks.specs.Entries.{is_long_size}
 use Rattle.tree_plans.specs.Order.{Adds, address_if, addresses_of, addresses_where, strip_addresses}
 use Rattle.tree_plans.specs.Parts.{AreMet, IsMapRead, IsOfMade, MadeBy, PlansIndirects, PlansStrips, PlansTop, blocks_of, old_in}
 use Rattle.tree_plans.specs.Plans.{FreesFrom, FreesOnce, IsApart, IsObjectPlanned, IsOf, IsOfIndirect, IsOfMap, IsOfStrip, IsRecordPlanned, IsStripPlanned, IsTopPlanned, ObjectFrees, Progress, has_record_left, is_dirty_in, is_indirect_made, is_strip_left, is_strip_replaced, kept_state, progress_of, records_with, replaces, state_above, state_over_indirects, state_over_records, strip_state, top_state}
-use Rattle.tree_plans.specs.Pointers.{pointers_in, records_among, strip_with, strips_with}
+use Rattle.tree_plans.specs.Pointers.{pointers_in, strip_with, strips_with}
+use Rattle.tree_blocks.specs.ReadPointers.{records_among}
 use Rattle.tree_plans.specs.Room.{count_where, is_indirect_needed, is_top_needed}
 use Rattle.tree_plans.specs.Uses.{ObjectUses}
 use Rattle.tree_plans.proofs.Once.{object_once}
-use Rattle.tree_plans.proofs.Order.{addresses_equal, addresses_same, adds_twice, any-told, become-names_block, dirty_above, indirect-told, none_between, strip_addresses_marked}
+use Rattle.tree_plans.proofs.Order.{addresses_equal, addresses_same, adds_twice, any-told, become-names_block, dirty_above, indirect-told, strip_addresses_marked}
 use Rattle.tree_plans.proofs.Progress.{become_stays, frees_more, goes_twice, record_stays}
 use Rattle.tree_plans.proofs.Room.{count_same}
 use Rattle.tree_plans.proofs.Uses.{object_uses}
 use Rattle.tree_plans.proofs.Levels.{entry_first, entry_first_record, entry_no_record, entry_no_strip, entry_no_top, entry_record, entry_strip, entry_top, read_same, replaced_same, strip-state-read, top-state-read}
 use Rattle.tree_plans.proofs.Strips.{kept-dirty, none_passes_at, stays-parts, stays_unchanged, told_none, unmet_none, untouched_record, unwritten_record}
-
--- an option without a value
-none_of_option : {A : Type 0} (o : Option A) → is_some o ≡ false → o ≡ None
-none_of_option None e = refl
-none_of_option (Some a) e = absurd (true≢false e)
 
 -- a strip of an object of one level that is not the first may have no block, and is looked at
 pub later_none : (is_changed : Bool) (j : ℕ) → (j == 0) ≡ false → may_have_blocks false is_changed j ≡ false
@@ -280,7 +279,7 @@ module _ (free : FreeSpace) (object : ChangedObject) (read : IsMapRead object) (
     told_is : (j k : ℕ) → j < pointer_count → k < pointer_count → (o : Option (Vec Pointer)) → records_among strips j ≡ o → records_with old strips j k ≡ told_record (strip_with indirects strips told j) k
     told_is j k low k_low None none =
         let is : pointer_of_list indirects j ≡ read_old.strip j = subst (λ (o : Option (Vec Pointer)). MadeBy p2 object j o (pointer_of_list indirects j)) none (middle.planned j low) in
-        let unread = none_of_option (records_among object.old.now.strips.entries j) (met.met j low (ap is_some none)).0 in
+        let unread = none_there (records_among object.old.now.strips.entries j) (met.met j low (ap is_some none)).0 in
         with_none old j k none ∙ (λ x. told_record (sym is x, option_map_or (λ (v : Vec Pointer). v.items) (unread x) (strip_in told j).1) k)
         ∙ sym (ap (λ (o : Option (Vec Pointer)). told_record (pointer_of_list indirects j, option_map_or (λ (v : Vec Pointer). v.items) o (strip_in told j).1) k) none)
     told_is j k low k_low (Some v) there =

@@ -17,8 +17,8 @@ use Rattle.base.specs.formats.Fields.{no_pointer}
 use Rattle.base.specs.tree.Places.{Place, IsPlace, object_of_indirect, strip_number, strip_of}
 use Rattle.base.specs.tree.Places.Place.{Root, Directory, Top, Indirect, Data}
 use Rattle.base.proofs.tree.Strips.{strip-low, strip-object, strip-which}
-use Rattle.object_maps.specs.declared.tree.ObjectEntry.{ObjectEntry}
-use Rattle.object_maps.specs.Pointers.{ObjectPointers}
+use Rattle.tree_blocks.specs.declared.tree.ObjectEntry.{ObjectEntry}
+use Rattle.tree_blocks.specs.Pointers.{ObjectPointers}
 use Rattle.tree_plans.specs.declared.changed_object.ChangedObject.{ChangedObject}
 use Rattle.tree_plans.specs.declared.changes.ObjectChanges.{ObjectChanges}
 use Rattle.tree_plans.specs.Changes.{has_two_levels}

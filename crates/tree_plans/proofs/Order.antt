@@ -9,7 +9,7 @@ use Rattle.std.specs.Ordering.{nat_cmp}
 use Rattle.std.specs.FinMap as finite
 use Rattle.std.specs.FinMap.{FinMap}
 use Rattle.std.specs.Cmp.Derive.{one_truth}
-use Rattle.std.proofs.Math.Bool.{and-false}
+use Rattle.std.proofs.Math.Bool.{and-false, or-true}
 use Rattle.std.proofs.lemmas.Bool.{cases_lt, cases_eq, eq-eqb, eqb-true, ne_eqb}
 use Rattle.std.proofs.lemmas.List.{append-nil, map-append, map-id}
 use Rattle.std.proofs.lemmas.List.Elements.{filter-append}
@@ -27,11 +27,11 @@ use Rattle.base.specs.declared.record_state.RecordState.{RecordState}
 use Rattle.base.specs.declared.record_state.RecordState.TheVariants.{Unchanged, Dirty, Hole}
 use Rattle.base.specs.tree.Syncs.{GroupChanges, has_block_after, has_strip_after, is_dirty, is_directory_written, is_indirect_written, is_record_written, is_root_written, is_strip_changed, is_strip_kept, is_top_written, is_unchanged, object_numbers, places_of_object, places_of_strip, pointer_numbers, written_by}
 use Rattle.base.specs.tree.Syncs as told
-use Rattle.base.proofs.common.KeptLists.{any_found, filter_same}
+use Rattle.base.proofs.common.KeptLists.{any_found, filter_same, none_between}
 use Rattle.base.proofs.tree.WrittenPlaces.{any-same, flat_map-same, in-range}
-use Rattle.base.specs.tree.PlannedTrees.{NewBlock}
-use Rattle.object_maps.specs.declared.tree.ObjectEntry.{ObjectEntry}
-use Rattle.object_maps.specs.Pointers.{ObjectPointers, pointer_of_list, pointers_by, pointers_of_entry}
+use Rattle.base.specs.kept.PlannedTrees.{NewBlock}
+use Rattle.tree_blocks.specs.declared.tree.ObjectEntry.{ObjectEntry}
+use Rattle.tree_blocks.specs.Pointers.{ObjectPointers, pointer_of_list, pointers_by, pointers_of_entry}
 use Rattle.tree_plans.specs.declared.changed_object.ChangedObject.{ChangedObject}
 use Rattle.tree_plans.specs.declared.changes.ObjectChanges.{ObjectChanges}
 use Rattle.tree_plans.specs.Pointers.{IsPut, OldTree, entry_of, old_pointers, planned_map}
@@ -199,12 +199,8 @@ pub passes_at : (p : ℕ → Bool) (a n k : ℕ) → a ≤ k → k < a + n → p
 passes_at p a zero k low high is = absurd (omega arith)
 passes_at p a (suc n) k low high is = elim (cases_eq a k) [
   | inl same ↦ let here : p a ≡ true = rw same is in rw here refl
-  | inr other ↦ rw (passes_at p (a + 1) n k (omega (arith, other)) (omega arith) is) (or_true (p a))
+  | inr other ↦ rw (passes_at p (a + 1) n k (omega (arith, other)) (omega arith) is) (or-true (p a))
 ]
-  where
-    or_true : (b : Bool) → (b || true) ≡ true
-    or_true true = refl
-    or_true false = refl
 
 -- what becomes of a place is told by whether something below it changes and is left
 pub dirty_above : (touched left : Bool) → is_dirty (state_above touched left) ≡ (touched && left)
@@ -471,10 +467,6 @@ either_of p q (x ∷ xs) = ap (λ b. (p x || q x) || b) (either_of p q xs) ∙ s
     swapped false true true d = refl
     swapped false true false d = refl
     swapped false false c d = refl
-
-pub none_between : (p : ℕ → Bool) (a n : ℕ) → ((r : ℕ) → a ≤ r → r < a + n → p r ≡ false) → list_any p (range_with_len a n) ≡ false
-none_between p a zero none = refl
-none_between p a (suc n) none = rw (none a (omega arith) (omega arith)) (none_between p (a + 1) n (λ r low high. none r (omega arith) (omega arith)))
 
 is_number : (k d : ℕ) → list_any (λ n. n == k) (range_with_len (63 * d) 63) ≡ ((k / 63) == d)
 is_number k d = elim ((k / 63) == d) as (λ t. ((k / 63) == d) ≡ t → list_any (λ n. n == k) (range_with_len (63 * d) 63) ≡ t) [

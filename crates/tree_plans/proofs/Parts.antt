@@ -7,24 +7,25 @@ use Rattle.base.specs.formats.Fields.{no_pointer, pointer_in}
 use Rattle.base.specs.declared.record_state.RecordState.{RecordState}
 use Rattle.base.specs.declared.record_state.RecordState.TheVariants.{Unchanged, Dirty, Hole}
 use Rattle.base.specs.tree.Places.{record_of_strip, strip_number}
-use Rattle.base.specs.tree.PlacedTrees.{padded_record}
+use Rattle.base.specs.kept.PlacedTrees.{padded_record}
 use Rattle.base.specs.tree.Syncs.{is_dirty}
 use Rattle.checked_blocks.specs.Sealing.{padded}
 use Rattle.space.specs.FreeSets.{FreeSpace}
-use Rattle.tree_plans.specs.declared.place.BlockPlace.{BlockPlace}
-use Rattle.tree_plans.specs.declared.place.BlockPlace.TheVariants.{Data, Directory, Indirect, Root, Top}
-use Rattle.tree_plans.specs.declared.place.RecordPlace.{RecordPlace}
+use Rattle.tree_blocks.specs.declared.place.BlockPlace.{BlockPlace}
+use Rattle.tree_blocks.specs.declared.place.BlockPlace.TheVariants.{Data, Directory, Indirect, Root, Top}
+use Rattle.tree_blocks.specs.declared.place.RecordPlace.{RecordPlace}
 use Rattle.tree_plans.specs.declared.planner.PlannedBlock.{PlannedBlock}
 use Rattle.tree_plans.specs.declared.planner.Planner.{Planner}
 use Rattle.tree_plans.specs.Order.{Adds, address_if}
 use Rattle.tree_plans.specs.Pointers.{entry_pointer_of}
 use Rattle.tree_plans.specs.Parts.{ClearsPlace, ExtendsPlan, PlansDirectory, PlansIndirect, PlansRecord, PlansRoot, PlansTop, TakesBlock, blocks_of, directory_before}
-use Rattle.tree_plans.specs.Plans.{FreesOnce, FreesOnly, HasBecome, IsOf, IsOfPlace, PlaceFrees, new_block, place_of, progress_of, state_above, state_over_indirects, state_over_records}
+use Rattle.tree_plans.specs.Plans.{FreesOnce, FreesOnly, HasBecome, IsOf, IsOfPlace, PlaceFrees, new_block, progress_of, state_above, state_over_indirects, state_over_records}
+use Rattle.tree_blocks.specs.BlockPlaces.{place_of}
 use Rattle.tree_plans.specs.Walks.{AreEntriesWritten, has_object, has_objects, is_any_touched, root_state}
 use Rattle.tree_plans.specs.declared.changed_object.ChangedObject.{ChangedObject}
 use Rattle.tree_plans.specs.declared.changes.ObjectChanges.{ObjectChanges}
 use Rattle.tree_plans.specs.declared.plan_source.PlanSource.{PlanSource}
-use Rattle.object_maps.specs.declared.tree.ObjectEntry.{ObjectEntry}
+use Rattle.tree_blocks.specs.declared.tree.ObjectEntry.{ObjectEntry}
 use Rattle.std.specs.BTreeMap.{BTreeMap}
 use Rattle.std.specs.Ordering.{nat_cmp}
 use Rattle.std.specs.FinMap.{FinMap}

@@ -14,27 +14,9 @@ use Rattle.tree_plans.specs.declared.changed_object.ChangedObject.{ChangedObject
 use Rattle.tree_plans.specs.declared.planner.Planner.{Planner}
 use Rattle.tree_plans.specs.Changes.{is_strip_dirty}
 use Rattle.tree_plans.specs.Parts.{AreMet, IsMapRead, PlansStripsBelow}
-use Rattle.tree_plans.specs.Pointers.{records_among}
+use Rattle.tree_blocks.specs.ReadPointers.{records_among}
 use Rattle.tree_plans.proofs.Levels.{passes_unmet}
-use Rattle.tree_plans.proofs.Strips.{among-get}
-
--- no strip past the last one that was read was read, and none if none was
-pub none_read_past : (map : BTreeMap ℕ (Vec Pointer)) (last j : ℕ) → IsUpperBound nat_cmp map last → last < j → is_some (records_among map.entries j) ≡ false
-none_read_past map last j bound above = ap is_some (sym (among-get nat_cmp (λ a b. unsigned_tied a b) map j)) ∙ absent (tree.get nat_cmp map j) (bound j)
-  where
-    less : is_lt (nat_cmp last j) ≡ true
-    less = rw (lt-ltb last j above) refl
-
-    absent : (o : Option (Vec Pointer)) → (IsSome o → is_lt (nat_cmp last j) ≡ false) → is_some o ≡ false
-    absent None none = refl
-    absent (Some v) some = absurd (true≢false (sym less ∙ some refl))
-
-pub none_read : (map : BTreeMap ℕ (Vec Pointer)) (j : ℕ) → btree_map_len map ≡ 0 → is_some (records_among map.entries j) ≡ false
-none_read map j none = absent map.entries none
-  where
-    absent : (es : List (ℕ × Vec Pointer)) → length es ≡ 0 → is_some (records_among es j) ≡ false
-    absent [] _ = refl
-    absent (e ∷ es) some = absurd (omega (arith, some))
+use Rattle.tree_blocks.proofs.ReadPointers.{among-get}
 
 -- the strips from one on, up to another
 module _ (free : FreeSpace) (object : ChangedObject) (bytes : List ℕ) (read : IsMapRead object) (strips : List (ℕ × Vec Pointer)) (first planner : Planner) where

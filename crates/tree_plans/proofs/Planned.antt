@@ -21,17 +21,18 @@ use Rattle.base.specs.formats.Blocks.{Frame}
 use Rattle.base.specs.tree.Places.{Place, IsPlace, object_of_indirect, record_number, record_of_strip, strip_number, strip_of, strip_start}
 use Rattle.base.specs.tree.Places.Place.{Root, Directory, Top, Indirect, Data}
 use Rattle.base.specs.tree.Tree.{record_bytes}
-use Rattle.base.specs.tree.PlacedTrees.{HasNonePast, IsEntryFor, IsLong, IsPlaced, IsShort, ArePlaced, NeedsNoTop, padded_record}
-use Rattle.base.specs.tree.PlannedTrees.{IsNewAt, IsPlannedAt, IsTreePlan, IsZeroRecord, NewBlock, AreFreed, SameRecord}
+use Rattle.base.specs.kept.PlacedTrees.{HasNonePast, IsEntryFor, IsLong, IsPlaced, IsShort, ArePlaced, NeedsNoTop, padded_record}
+use Rattle.base.specs.kept.PlannedTrees.{IsNewAt, IsPlannedAt, IsTreePlan, IsZeroRecord, NewBlock, AreFreed, SameRecord}
 use Rattle.base.specs.tree.Syncs.{has_block_after, is_unchanged, pointer_numbers}
 use Rattle.base.specs.common.Rising.{rising}
-use Rattle.base.proofs.common.KeptLists.{any_found}
+use Rattle.base.proofs.common.KeptLists.{any_found, none_between}
+use Rattle.base.proofs.common.Choices.{none_there}
 use Rattle.base.proofs.tree.Strips.{first-strip, number-back, number-object, number-strip, one_level-length, record-low, strip-low, strip-object, strip-which}
 use Rattle.base.proofs.tree.WrittenPlaces.{in-range}
 use Rattle.space.specs.FreeSets.{free_from}
 use Rattle.space.proofs.FreeLists.{free_from-0}
-use Rattle.object_maps.specs.declared.tree.ObjectEntry.{ObjectEntry}
-use Rattle.object_maps.specs.Pointers.{ObjectPointers, pointers_by, pointers_of_entry}
+use Rattle.tree_blocks.specs.declared.tree.ObjectEntry.{ObjectEntry}
+use Rattle.tree_blocks.specs.Pointers.{ObjectPointers, pointers_by, pointers_of_entry}
 use Rattle.tree_plans.specs.declared.changes.ObjectChanges.{ObjectChanges}
 use Rattle.tree_plans.specs.declared.planner.PlannedBlock.{PlannedBlock}
 use Rattle.tree_plans.specs.Pointers.{OldTree, entry_of, old_pointers, planned_map, planned_pointer}
@@ -41,7 +42,7 @@ use Rattle.tree_plans.specs.Walks.{IsEntryWritten, IsPlannedFrom, IsOfObject, Is
 use Rattle.tree_plans.specs.Changes.{AreBornBefore, AreChanges, AreTreePointers, HasNoByteFrom, IsCoveredBy, IsEntryPointer, has_address, has_two_levels, is_strip_touched, may_have_blocks, state_at, state_in}
 use Rattle.base.specs.declared.record_state.RecordState.{RecordState}
 use Rattle.base.specs.declared.record_state.RecordState.TheVariants.{Unchanged, Dirty, Hole}
-use Rattle.tree_plans.proofs.Order.{data_before, entry-changed, entry-state, left-left, none_between, passes_at, strip_before}
+use Rattle.tree_plans.proofs.Order.{data_before, entry-changed, entry-state, left-left, passes_at, strip_before}
 use Rattle.tree_plans.proofs.Strips.{none_passes_at, stays-parts, stays_unchanged, untouched_record}
 
 -- the addresses that a plan has taken
@@ -510,12 +511,8 @@ module _ (s : Progress) (t : OldTree) (after : FinMap nat_cmp (List ℕ)) (objec
 
     -- no object of a directory is there
     none_left : (d k : ℕ) → k < 63 → has_object after d ≡ false → finite.get after (63 * d + k) ≡ None
-    none_left d k low none = absent_by (finite.get after (63 * d + k)) (false_from_ne_true (is_some (finite.get after (63 * d + k))) (λ there.
+    none_left d k low none = none_there (finite.get after (63 * d + k)) (false_from_ne_true (is_some (finite.get after (63 * d + k))) (λ there.
         false≢true (sym none ∙ passes_at (λ n. finite.contains_key after n) (63 * d) 63 (63 * d + k) (omega arith) (omega (arith, low)) there)))
-      where
-        absent_by : (o : Option (List ℕ)) → is_some o ≡ false → o ≡ None
-        absent_by None e = refl
-        absent_by (Some x) e = absurd (true≢false e)
 
     directory_planned : (d : ℕ) → d < 84 → (touched left : Bool) → is_directory_replaced objects after d ≡ touched → has_object after d ≡ left
         → IsDirectoryPlanned s t.below planned after d (state_above touched left) (slice_index_or t.directories d no_pointer) (slice_index_or directories d no_pointer) → Planned (Directory d)

@@ -1,6 +1,6 @@
 -- How a plan goes on: what it has stays, and the next block is the lowest free one.
-use Rattle.std.proofs.Common.{◌≡◌, ◌≢◌, ℕ, zero, suc, ◌+◌, ◌<◌, ◌⊎◌, inl, inr, Bool, List, [], ◌∷◌, ◌++◌, length, map, ◌≤◌, Some, refl, sym, ◌∙◌, ap, append_assoc, arith}
-use Rattle.std.specs.Prelude.{slice_get, slice_index_or}
+use Rattle.std.proofs.Common.{◌≡◌, ◌≢◌, ℕ, zero, suc, ◌+◌, ◌<◌, ◌⊎◌, inl, inr, Bool, List, [], ◌∷◌, ◌++◌, length, map, ◌≤◌, refl, sym, ◌∙◌, ap, append_assoc, arith}
+use Rattle.std.specs.Prelude.{slice_index_or}
 use Rattle.std.specs.Ordering.{nat_cmp}
 use Rattle.std.specs.FinSet.{FinSet}
 use Rattle.base.specs.declared.pointer.Pointer.{Pointer}
@@ -10,16 +10,17 @@ use Rattle.base.specs.formats.Blocks.{Frame, IsBlock}
 use Rattle.base.specs.formats.Limits.{pointer_count}
 use Rattle.base.specs.tree.Places.{Place, kind_of, number_of_place, record_of_strip, strip_number}
 use Rattle.base.specs.tree.Places.Place.{Data, Indirect, Top}
-use Rattle.base.specs.tree.PlannedTrees.{NewBlock, IsNewAt}
+use Rattle.base.specs.kept.PlannedTrees.{NewBlock, IsNewAt}
 use Rattle.space.specs.FreeSets.{free_from}
 use Rattle.tree_plans.specs.declared.planner.PlannedBlock.{PlannedBlock}
 use Rattle.std.proofs.lemmas.Bool.{cases_lt}
-use Rattle.object_maps.specs.Pointers.{ObjectPointers, pointer_of_list}
+use Rattle.tree_blocks.specs.Pointers.{ObjectPointers, pointer_of_list}
 use Rattle.tree_plans.specs.Plans.{Progress, Keeps, IsAmong, IsOfPlace, IsOfRecord, IsOfStrip, Goes, HasBecome, LosesBlock, IsWritten, IsRecordPlanned, AreRecordsPlanned, PlaceFrees, FreesFrom, IsObjectPlanned, kept_state, new_block, strip_state, top_state}
 use Rattle.tree_plans.specs.declared.changes.ObjectChanges.{ObjectChanges}
 use Rattle.base.specs.declared.record_state.RecordState.{RecordState}
 use Rattle.base.specs.declared.record_state.RecordState.TheVariants.{Unchanged, Dirty, Hole}
-use Rattle.base.specs.tree.PlacedTrees.{padded_record}
+use Rattle.base.specs.kept.PlacedTrees.{padded_record}
+use Rattle.base.proofs.common.KeptLists.{at_last}
 
 pub new_blocks-push : (blocks : List PlannedBlock) (b : PlannedBlock) → map new_block (blocks ++ b ∷ []) ≡ map new_block blocks ++ new_block b ∷ []
 new_blocks-push [] b = refl
@@ -33,10 +34,6 @@ pub keeps_push : {A : Type 0} (xs : List A) (a : A) → Keeps xs (xs ++ a ∷ []
 keeps_push [] a i b e = absurd (cc)
 keeps_push (x ∷ xs) a zero b e = e
 keeps_push (x ∷ xs) a (suc i) b e = keeps_push xs a i b e
-
-pub last_push : {A : Type 0} (xs : List A) (a : A) → slice_get (xs ++ a ∷ []) (length xs) ≡ Some a
-last_push [] a = refl
-last_push (x ∷ xs) a = last_push xs a
 
 pub goes_nowhere : (free : FinSet nat_cmp) (s : Progress) → Goes free s s
 goes_nowhere free s = record { frame = refl; taken = λ h. h; blocks = λ i b e. e; freed = λ i a e. e }
@@ -79,7 +76,7 @@ written_at s blocks block index kind number place old new payload pushed here lo
   block = record {
     index = length blocks;
     block = block;
-    found = rw pushed (last_push blocks block);
+    found = rw pushed (at_last blocks block);
     address = address ∙ sym here;
     birth = birth;
     check = sym check;

@@ -22,11 +22,12 @@ use Rattle.base.specs.tree.Places.Place.{Root, Directory, Top, Indirect, Data}
 use Rattle.base.specs.declared.record_state.RecordState.{RecordState}
 use Rattle.base.specs.declared.record_state.RecordState.TheVariants.{Dirty}
 use Rattle.base.specs.tree.Syncs.{GroupChanges, is_dirty, is_directory_written, is_indirect_written, is_record_written, is_root_written, is_top_written, places_of_object, places_of_strip, pointer_numbers, written_by}
-use Rattle.base.specs.tree.PlannedTrees.{NewBlock}
-use Rattle.object_maps.specs.declared.tree.ObjectEntry.{ObjectEntry}
-use Rattle.object_maps.specs.Pointers.{ObjectPointers}
+use Rattle.base.specs.kept.PlannedTrees.{NewBlock}
+use Rattle.tree_blocks.specs.declared.tree.ObjectEntry.{ObjectEntry}
+use Rattle.tree_blocks.specs.Pointers.{ObjectPointers}
 use Rattle.tree_plans.specs.declared.changed_object.ChangedObject.{ChangedObject}
 use Rattle.base.specs.common.Rising.{rising}
+use Rattle.base.proofs.common.KeptLists.{flat_map_none}
 use Rattle.space.specs.FreeSets.{free_from}
 use Rattle.space.proofs.FreeLists.{free_from-0}
 use Rattle.tree_plans.specs.declared.changes.ObjectChanges.{ObjectChanges}
@@ -35,7 +36,7 @@ use Rattle.tree_plans.specs.Changes.{AreInRange, changes_of_group}
 use Rattle.tree_plans.specs.Plans.{Goes, Progress, is_dirty_in}
 use Rattle.tree_plans.specs.Walks.{is_directory_dirty, root_state}
 use Rattle.tree_plans.specs.Order.{Adds, address_if, addresses_of, addresses_where, all_addresses, object_addresses, strip_addresses}
-use Rattle.tree_plans.specs.Room.{Lacks, all_blocks, count_if, count_where, is_indirect_needed, is_top_needed, needed_blocks, object_blocks, record_blocks, tree_blocks}
+use Rattle.tree_plans.specs.Room.{Lacks, all_blocks, count_if, count_where, is_indirect_needed, is_top_needed, needed_blocks, object_blocks, record_blocks, written_blocks}
 use Rattle.tree_plans.proofs.Order.{absent-indirect_written, absent-top, absent-written, adds_twice, addresses_more, all_from_none, all_numbers, none_passes, rising_of, root-written, same_filter, strip_addresses_more, strip_addresses_same, written-directories}
 use Rattle.tree_plans.proofs.Progress.{goes_twice}
 
@@ -238,13 +239,9 @@ module _ (R : ObjectId → ObjectId → Ordering) (less : (a b : ObjectId) → R
 pub no_places : (objects : List (ObjectId × ObjectChanges)) (pointers : Place → Pointer) (after : FinMap nat_cmp (List ℕ)) (n : ℕ) → entry_of objects n ≡ None → places_of_object (changes_of_group objects pointers after) n ≡ []
 no_places objects pointers after n none =
     let g : GroupChanges = changes_of_group objects pointers after in
-    (λ x. none_flat (places_of_strip g n) (λ j. (λ y. map (λ k. Data (strip_number n j) k) (none_passes (is_record_written g n j) (absent-written objects pointers after n none j) pointer_numbers y))) pointer_numbers x
+    (λ x. flat_map_none (places_of_strip g n) (λ j. (λ y. map (λ k. Data (strip_number n j) k) (none_passes (is_record_written g n j) (absent-written objects pointers after n none j) pointer_numbers y))) pointer_numbers x
     ++ map (λ j. Indirect (strip_number n j)) (none_passes (is_indirect_written g n) (absent-indirect_written objects pointers after n none) pointer_numbers x)
     ++ (if absent-top objects pointers after n none x then Top n ∷ [] else []))
-  where
-    none_flat : {A B : Type 0} (f : A → List B) → ((a : A) → f a ≡ []) → (xs : List A) → flat_map f xs ≡ []
-    none_flat f none [] = refl
-    none_flat f none (a ∷ xs) = (λ x. none a x ++ none_flat f none xs x)
 
 -- the places of a whole walk
 parts : (g : GroupChanges) (written : ℕ → Bool) (count directory_count : ℕ) (b : Bool)
@@ -270,10 +267,10 @@ module _ (free : FinSet nat_cmp) (objects : List (ObjectId × ObjectChanges)) (p
   group = changes_of_group objects pointers after
 
   abbrev all : ℕ
-  all = tree_blocks group
+  all = written_blocks group
 
-  tree_length : tree_blocks group ≡ all_blocks group 5292 + (count_where (is_directory_dirty objects after) 84 + count_if (is_dirty (root_state objects after)))
-  unfolding tree_blocks count_where
+  tree_length : written_blocks group ≡ all_blocks group 5292 + (count_where (is_directory_dirty objects after) 84 + count_if (is_dirty (root_state objects after)))
+  unfolding written_blocks count_where
   tree_length =
       parts group (is_directory_written group) 5292 84 (is_root_written group)
       ∙ ap (λ (l : List ℕ). all_blocks group 5292 + (length l + count_if (is_root_written group))) (written-directories objects pointers after)
@@ -309,9 +306,9 @@ lacks_in_all free next blocks count at_first none lacks =
     omega (arith, h, no_blocks)
 
 pub plan_lacks : (free : FinSet nat_cmp) (next : ℕ) (blocks : List NewBlock) (g : GroupChanges) → next ≡ 0 → blocks ≡ []
-    → (addresses_of blocks ++ free_from next free ≡ rising free → length (rising free) < length blocks + tree_blocks g)
+    → (addresses_of blocks ++ free_from next free ≡ rising free → length (rising free) < length blocks + written_blocks g)
     → length (rising free) < length (written_by g)
-unfolding tree_blocks
+unfolding written_blocks
 plan_lacks free next blocks g at_first none lacks = lacks_in_all free next blocks _ at_first none lacks
 
 -- a place that takes one block is refused for want of it

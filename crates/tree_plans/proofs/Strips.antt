@@ -16,13 +16,14 @@ use Rattle.base.specs.formats.Fields.{no_pointer}
 use Rattle.base.specs.formats.Limits.{pointer_count}
 use Rattle.base.specs.tree.Places.{record_of_strip}
 use Rattle.base.specs.tree.Syncs.{is_dirty, is_unchanged}
-use Rattle.object_maps.specs.Pointers.{told_record}
+use Rattle.tree_blocks.specs.Pointers.{told_record}
 use Rattle.tree_plans.specs.declared.changed_object.ChangedObject.{ChangedObject}
 use Rattle.tree_plans.specs.declared.changes.ObjectChanges.{ObjectChanges}
 use Rattle.tree_plans.specs.Changes.{is_strip_dirty, is_strip_touched, may_have_blocks, state_at}
 use Rattle.tree_plans.specs.Parts.{AreMet, IsMapRead, IsOfMade, IsOfMadeAt, old_in}
 use Rattle.tree_plans.specs.Plans.{AreRecordsPlanned, IsRecordPlanned, Progress, is_strip_replaced, kept_state}
-use Rattle.tree_plans.specs.Pointers.{records_among}
+use Rattle.tree_blocks.specs.ReadPointers.{records_among}
+use Rattle.tree_blocks.proofs.ReadPointers.{among-get}
 use Rattle.tree_plans.proofs.Order.{passes_at}
 
 -- a test that no number of a block's pointers passes
@@ -101,17 +102,10 @@ pub made_here : (object : ChangedObject) (strips : List (ℕ × Vec Pointer)) (j
 made_here object strips j address here = record { strip = j; low = omega arith; made = here }
 
 -- the strips after one is put among them
-lookup_same : {K X : Type 0} (f g : K → Bool) → ((k : K) → f k ≡ g k) → (es : List (K × X)) → lookup f es ≡ lookup g es
-lookup_same f g same [] = refl
-lookup_same f g same (e ∷ es) = rw (same e.0, lookup_same f g same es) refl
-
 module _ (R : ℕ → ℕ → Ordering) (ties : (a b : ℕ) → is_eq (R a b) ≡ (a == b)) where
-  pub among-get : (m : BTreeMap ℕ (Vec Pointer)) (j : ℕ) → tree.get R m j ≡ records_among m.entries j
-  among-get m j = lookup_same (is_at (R j)) (λ i. j == i) (ties j) m.entries
-
   pub among_put : (old new : BTreeMap ℕ (Vec Pointer)) (j : ℕ) (v : Vec Pointer) → ((q : ℕ) → tree.get R new q ≡ cond (is_at (R j) q) (Some v) (tree.get R old q))
       → (q : ℕ) → records_among new.entries q ≡ cond (j == q) (Some v) (records_among old.entries q)
-  among_put old new j v updates q = sym (among-get new q) ∙ updates q ∙ ap (λ b. cond b (Some v) (tree.get R old q)) (ties j q) ∙ ap (λ o. cond (j == q) (Some v) o) (among-get old q)
+  among_put old new j v updates q = sym (among-get R ties new q) ∙ updates q ∙ ap (λ b. cond b (Some v) (tree.get R old q)) (ties j q) ∙ ap (λ o. cond (j == q) (Some v) o) (among-get R ties old q)
 
 -- the strips that the plan goes over, after the next one
 module _ (object : ChangedObject) (strip : ℕ) (old : List (ℕ × Vec Pointer)) (met : AreMet object strip old) where

@@ -15,12 +15,13 @@ use Rattle.base.specs.formats.Limits.{pointer_count}
 use Rattle.base.specs.tree.Places.{Place, IsPlace, strip_number, strip_of}
 use Rattle.base.specs.tree.Places.Place.{Root, Directory, Top, Indirect, Data}
 use Rattle.base.proofs.tree.Strips.{strip-low, strip-object, strip-which}
-use Rattle.base.specs.tree.PlannedTrees.{NewBlock}
-use Rattle.base.specs.stored.Stored.{AreUsed}
-use Rattle.object_maps.specs.declared.tree.ObjectEntry.{ObjectEntry}
-use Rattle.object_maps.specs.Pointers.{ObjectPointers, pointer_of_list, pointers_by, pointers_of_entry}
+use Rattle.base.specs.kept.PlannedTrees.{NewBlock}
+use Rattle.base.specs.kept.Stored.{AreUsed}
+use Rattle.tree_blocks.specs.declared.tree.ObjectEntry.{ObjectEntry}
+use Rattle.tree_blocks.specs.Pointers.{ObjectPointers, pointer_of_list, pointers_by, pointers_of_entry}
 use Rattle.tree_plans.specs.declared.planner.PlannedBlock.{PlannedBlock}
-use Rattle.tree_plans.specs.Pointers.{IsPut, entry_of, planned_map, records_among}
+use Rattle.tree_plans.specs.Pointers.{IsPut, entry_of, planned_map}
+use Rattle.tree_blocks.specs.ReadPointers.{records_among}
 use Rattle.tree_plans.specs.Plans.{new_block}
 use Rattle.tree_plans.specs.Uses.{AreOf, IsPointedAt, IsInObject, IsInPlanned, ObjectUses, ObjectsUse, PointersUse, StripsUse, UsesOnly}
 use Rattle.tree_plans.proofs.Progress.{front_of, last_of}

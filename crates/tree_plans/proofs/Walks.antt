@@ -4,8 +4,7 @@ use Rattle.std.specs.Prelude.{slice_get, slice_index_or, is_some, unwrap_or, All
 use Rattle.std.specs.Map.{lookup}
 use Rattle.std.specs.BTreeMap as tree
 use Rattle.std.specs.BTreeMap.{BTreeMap, is_at}
-use Rattle.std.specs.Ordering.{is_eq}
-use Rattle.std.specs.Ordering.{nat_cmp}
+use Rattle.std.specs.Ordering.{is_eq, nat_cmp}
 use Rattle.std.specs.FinMap as finite
 use Rattle.std.specs.FinMap.{FinMap}
 use Rattle.std.specs.FinSet.{FinSet}
@@ -16,9 +15,9 @@ use Rattle.base.specs.declared.record_state.RecordState.{RecordState}
 use Rattle.base.specs.formats.Limits.{object_count}
 use Rattle.base.specs.formats.Fields.{no_pointer}
 use Rattle.base.specs.tree.Places.Place.{Directory}
-use Rattle.object_maps.specs.declared.tree.ObjectEntry.{ObjectEntry}
+use Rattle.tree_blocks.specs.declared.tree.ObjectEntry.{ObjectEntry}
 use Rattle.tree_plans.specs.declared.changes.ObjectChanges.{ObjectChanges}
-use Rattle.object_maps.specs.Pointers.{ObjectPointers, pointers_of_entry}
+use Rattle.tree_blocks.specs.Pointers.{ObjectPointers, pointers_of_entry}
 use Rattle.tree_plans.specs.Pointers.{IsPut, entry_of}
 use Rattle.tree_plans.specs.Changes.{has_two_levels}
 use Rattle.tree_plans.specs.Plans.{Progress, Goes, FreesOnly, PlaceFrees, ObjectFrees, IsAmong, IsOf, replaces}

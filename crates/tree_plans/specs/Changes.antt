@@ -17,9 +17,10 @@ use Rattle.base.specs.formats.Versions.{written_version}
 use Rattle.base.specs.formats.Blocks.{Frame}
 use Rattle.base.specs.tree.Places.{Place, IsPlace, object_of_indirect, record_number, record_of_strip, strip_number, strip_start}
 use Rattle.base.specs.tree.Places.Place.{Top, Indirect, Data}
-use Rattle.base.specs.tree.PlannedTrees.{SameEntry, SameRecord, IsZeroRecord}
+use Rattle.base.specs.kept.PlannedTrees.{SameEntry, SameRecord, IsZeroRecord}
 use Rattle.base.specs.tree.Syncs.{GroupChanges, is_dirty, is_unchanged, pointer_numbers}
 use Rattle.tree_plans.specs.declared.changes.ObjectChanges.{ObjectChanges}
+use Rattle.tree_blocks.specs.Entries.{is_long_size}
 use Rattle.tree_plans.specs.Pointers.{entry_of}
 
 -- the state of a record by the changes of its object: one that is not written is a hole from the first hole on
@@ -39,10 +40,7 @@ is_changed_in objects n = option_map_or (λ (changes : ObjectChanges). changes.i
 abbrev pub has_address : Pointer → Bool
 has_address pointer = not (pointer.address == 0)
 
--- whether an object of this length has two levels of indirect blocks, where an absent one has none
-abbrev pub is_long_size : Option ℕ → Bool
-is_long_size size = option_map_or (λ (bytes : ℕ). nat_lt one_level_length bytes) size false
-
+-- whether an object has two levels of indirect blocks, where an absent one has none
 abbrev pub has_two_levels : Option (List ℕ) → Bool
 has_two_levels object = is_long_size (option_map length object)
 

@@ -13,8 +13,8 @@ use Rattle.base.specs.history.Contents.{Contents, length_of}
 use Rattle.base.specs.history.History.{apply_all}
 use Rattle.base.specs.history.Plans.{IsRange, ranges, touched}
 use Rattle.base.specs.tree.Syncs.{is_change_of, is_on, is_record_touched, record_state, state_after_cut}
-use Rattle.object_maps.specs.declared.tree.ObjectEntry.{ObjectEntry}
-use Rattle.object_maps.specs.Lengths.{length_in}
+use Rattle.tree_blocks.specs.declared.tree.ObjectEntry.{ObjectEntry}
+use Rattle.tree_blocks.specs.Lengths.{length_in}
 use Rattle.tree_plans.specs.declared.changes.ObjectChanges.{ObjectChanges}
 use Rattle.transactions.specs.declared.record.Record.{Record}
 use Rattle.tree_plans.specs.Pointers.{entry_of}

@@ -9,8 +9,8 @@ use Rattle.base.specs.formats.Fields.{no_pointer, pointer_in}
 use Rattle.base.specs.formats.Blocks.{IsBlock}
 use Rattle.base.specs.tree.Places.{Place, strip_number}
 use Rattle.base.specs.tree.Places.Place.{Top, Indirect, Data}
-use Rattle.base.specs.tree.PlacedTrees.{IsLong, padded_record}
-use Rattle.base.specs.tree.PlannedTrees.{NewBlock}
+use Rattle.base.specs.kept.PlacedTrees.{IsLong, padded_record}
+use Rattle.base.specs.kept.PlannedTrees.{NewBlock}
 use Rattle.tree_plans.specs.declared.changes.ObjectChanges.{ObjectChanges}
 use Rattle.tree_plans.specs.declared.planner.TreePlan.{TreePlan}
 use Rattle.tree_plans.specs.declared.plan_source.PlanSource.{PlanSource}

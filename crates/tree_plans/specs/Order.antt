@@ -4,9 +4,9 @@ use Rattle.std.specs.List.{flat_map, range_with_len}
 use Rattle.base.specs.declared.pointer.Pointer.{Pointer}
 use Rattle.base.specs.formats.Limits.{pointer_count}
 use Rattle.base.specs.tree.Places.{Place}
-use Rattle.base.specs.tree.PlannedTrees.{NewBlock}
+use Rattle.base.specs.kept.PlannedTrees.{NewBlock}
 use Rattle.base.specs.tree.Syncs.{GroupChanges, is_indirect_written, is_record_written, is_top_written, written_by}
-use Rattle.object_maps.specs.Pointers.{ObjectPointers}
+use Rattle.tree_blocks.specs.Pointers.{ObjectPointers}
 
 abbrev pub addresses_of : List NewBlock → List ℕ
 addresses_of blocks = map (λ (b : NewBlock). b.address) blocks

@@ -12,25 +12,27 @@ use Rattle.base.specs.declared.pointer.Pointer.{Pointer}
 use Rattle.base.specs.declared.names.ObjectId.{ObjectId}
 use Rattle.base.specs.formats.Limits.{object_count, pointer_count}
 use Rattle.base.specs.formats.Fields.{no_pointer}
-use Rattle.base.specs.stored.Stored.{AreUsed}
+use Rattle.base.specs.kept.Stored.{AreUsed}
 use Rattle.base.specs.declared.record_state.RecordState.{RecordState}
-use Rattle.base.specs.tree.PlannedTrees.{NewBlock}
+use Rattle.base.specs.kept.PlannedTrees.{NewBlock}
 use Rattle.base.specs.tree.Syncs.{GroupChanges, is_dirty}
 use Rattle.checked_blocks.specs.Sealing.{padded}
-use Rattle.object_maps.specs.declared.tree.ObjectEntry.{ObjectEntry}
-use Rattle.object_maps.specs.Pointers.{ObjectPointers, pointer_of_list, pointers_by, pointers_of_entry}
+use Rattle.tree_blocks.specs.declared.tree.ObjectEntry.{ObjectEntry}
+use Rattle.tree_blocks.specs.Pointers.{ObjectPointers, pointer_of_list, pointers_by, pointers_of_entry}
 use Rattle.space.specs.FreeSets.{FreeSpace}
-use Rattle.tree_plans.specs.declared.place.BlockPlace.{BlockPlace}
-use Rattle.tree_plans.specs.declared.place.RecordPlace.{RecordPlace}
+use Rattle.tree_blocks.specs.declared.place.BlockPlace.{BlockPlace}
+use Rattle.tree_blocks.specs.declared.place.RecordPlace.{RecordPlace}
 use Rattle.tree_plans.specs.declared.changed_object.ChangedObject.{ChangedObject}
 use Rattle.tree_plans.specs.declared.changes.ObjectChanges.{ObjectChanges}
-use Rattle.tree_plans.specs.declared.object_map.ObjectMap.{ObjectMap}
+use Rattle.tree_blocks.specs.declared.object_map.ObjectMap.{ObjectMap}
 use Rattle.tree_plans.specs.declared.planner.Planner.{Planner}
 use Rattle.tree_plans.specs.declared.walk.NewTree.{NewTree}
 use Rattle.tree_plans.specs.declared.plan_source.PlanSource.{PlanSource}
-use Rattle.tree_plans.specs.Pointers.{entry_of, entry_pointer_of, maps_before, old_tree, planned_map, pointers_before, pointers_in, records_among}
+use Rattle.tree_plans.specs.Pointers.{entry_of, entry_pointer_of, maps_before, old_tree, planned_map, pointers_before, pointers_in}
+use Rattle.tree_blocks.specs.ReadPointers.{records_among}
 use Rattle.tree_plans.specs.Changes.{AreInRange, changes_of_group, has_two_levels, is_strip_dirty}
-use Rattle.tree_plans.specs.Plans.{AreRecordsPlanned, AreStripsPlanned, AreApart, FreesFrom, FreesOnce, FreesOnly, Goes, IsApart, IsOf, IsOfMap, IsOfPlace, IsOfRecord, IsOfStrip, LosesBlock, IsObjectPlanned, IsReady, IsRecordPlanned, IsStripPlanned, IsTopPlanned, IsWritten, ObjectFrees, PlaceFrees, is_dirty_in, is_indirect_made, is_strip_replaced, new_block, place_of, progress_of, records_with, state_above, state_over_indirects, state_over_records}
+use Rattle.tree_plans.specs.Plans.{AreRecordsPlanned, AreStripsPlanned, AreApart, FreesFrom, FreesOnce, FreesOnly, Goes, IsApart, IsOf, IsOfMap, IsOfPlace, IsOfRecord, IsOfStrip, LosesBlock, IsObjectPlanned, IsReady, IsRecordPlanned, IsStripPlanned, IsTopPlanned, IsWritten, ObjectFrees, PlaceFrees, is_dirty_in, is_indirect_made, is_strip_replaced, new_block, progress_of, records_with, state_above, state_over_indirects, state_over_records}
+use Rattle.tree_blocks.specs.BlockPlaces.{place_of}
 use Rattle.tree_plans.specs.Walks.{AreDirectoriesPlanned, AreObjectsPlanned, DirectoriesFree, IsDirectoryPlanned, IsOfDirectory, IsOfObject, IsRootPlanned, IsWalked, ObjectsFree, is_directory_dirty, has_object, root_state}
 use Rattle.tree_plans.specs.Uses.{ObjectUses, ObjectsUse, PointersUse, StripsUse, UsesOnly}
 use Rattle.tree_plans.specs.Order.{Adds, AreInOrder, address_if, addresses_of, addresses_where, all_addresses, object_addresses, strip_addresses}

@@ -8,10 +8,11 @@ use Rattle.base.specs.declared.names.ObjectId.{ObjectId}
 use Rattle.base.specs.formats.Fields.{no_pointer}
 use Rattle.base.specs.tree.Places.{Place}
 use Rattle.base.specs.tree.Syncs.{pointer_numbers}
-use Rattle.object_maps.specs.declared.tree.ObjectEntry.{ObjectEntry}
-use Rattle.object_maps.specs.Lengths.{lengths_of}
-use Rattle.object_maps.specs.Pointers.{ObjectPointers, object_pointers, pointer_of_list, pointers_by, pointers_of_entry, strip_in, told_record}
-use Rattle.tree_plans.specs.declared.object_map.ObjectMap.{ObjectMap}
+use Rattle.tree_blocks.specs.declared.tree.ObjectEntry.{ObjectEntry}
+use Rattle.tree_blocks.specs.Lengths.{lengths_of}
+use Rattle.tree_blocks.specs.Pointers.{ObjectPointers, object_pointers, pointer_of_list, pointers_by, pointers_of_entry, strip_in, told_record}
+use Rattle.tree_blocks.specs.declared.object_map.ObjectMap.{ObjectMap}
+use Rattle.tree_blocks.specs.ReadPointers.{records_among}
 use Rattle.tree_plans.specs.declared.planner.TreePlan.{TreePlan}
 use Rattle.tree_plans.specs.declared.plan_source.PlanSource.{PlanSource}
 
@@ -22,10 +23,6 @@ entry_of entries n = lookup (λ (id : ObjectId). n == id.0) entries
 -- entries after one is put at its number
 abbrev pub IsPut : {X : Type 0} → List (ObjectId × X) → ObjectId → X → List (ObjectId × X) → Type 0
 IsPut old id x new = (n : ℕ) → entry_of new n ≡ cond (id.0 == n) (Some x) (entry_of old n)
-
--- the pointers to the records of the strip of this index, if they are among those of some strips
-abbrev pub records_among : List (ℕ × Vec Pointer) → ℕ → Option (Vec Pointer)
-records_among strips j = lookup (λ (i : ℕ). j == i) strips
 
 -- a strip by the pointers to all indirect blocks of its object: that to its own, and those in it, which stand among
 -- those of some strips or are as they were told before

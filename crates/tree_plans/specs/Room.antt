@@ -7,7 +7,7 @@ use Rattle.std.specs.FinSet.{FinSet}
 use Rattle.base.specs.declared.names.ObjectId.{ObjectId}
 use Rattle.base.specs.formats.Limits.{object_count, pointer_count}
 use Rattle.base.specs.tree.Syncs.{GroupChanges, is_dirty, places_of_object, written_by}
-use Rattle.object_maps.specs.Pointers.{ObjectPointers}
+use Rattle.tree_blocks.specs.Pointers.{ObjectPointers}
 use Rattle.base.specs.common.Rising.{rising}
 use Rattle.tree_plans.specs.declared.changed_object.ChangedObject.{ChangedObject}
 use Rattle.tree_plans.specs.declared.changes.ObjectChanges.{ObjectChanges}
@@ -51,8 +51,8 @@ unfoldable pub all_blocks : GroupChanges → ℕ → ℕ
 all_blocks group count = length (flat_map (places_of_object group) (range_with_len 0 count))
 
 -- and a whole plan: one for each place that is written
-unfoldable pub tree_blocks : GroupChanges → ℕ
-tree_blocks group = length (written_by group)
+unfoldable pub written_blocks : GroupChanges → ℕ
+written_blocks group = length (written_by group)
 
 -- how many blocks the parts of a walk take: the objects, the directories
 abbrev pub changed_blocks : GroupChanges → ℕ

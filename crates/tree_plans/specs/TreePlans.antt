@@ -10,15 +10,15 @@ use Rattle.base.specs.declared.error.PoolError.TheVariants as error
 use Rattle.base.specs.declared.names.ObjectId.{ObjectId}
 use Rattle.base.specs.formats.Geometry.{IsBlockAddress, block_count, block_size}
 use Rattle.base.specs.formats.Limits.{object_count}
-use Rattle.base.specs.stored.Stored.{AreUsed}
+use Rattle.base.specs.kept.Stored.{AreUsed}
 use Rattle.base.specs.tree.Places.{Place}
-use Rattle.base.specs.tree.PlacedTrees.{ArePlaced}
-use Rattle.base.specs.tree.PlannedTrees.{AreFreed, IsTreePlan, NewBlock}
+use Rattle.base.specs.kept.PlacedTrees.{ArePlaced}
+use Rattle.base.specs.kept.PlannedTrees.{AreFreed, IsTreePlan, NewBlock}
 use Rattle.base.specs.tree.Syncs.{written_by}
 use Rattle.base.specs.formats.Fields.{no_pointer}
 use Rattle.base.specs.common.Rising.{rising}
-use Rattle.object_maps.specs.Lengths.{lengths_of}
-use Rattle.object_maps.specs.declared.tree.ObjectEntry.{ObjectEntry}
+use Rattle.tree_blocks.specs.Lengths.{lengths_of}
+use Rattle.tree_blocks.specs.declared.tree.ObjectEntry.{ObjectEntry}
 use Rattle.tree_plans.specs.declared.changes.ObjectChanges.{ObjectChanges}
 use Rattle.tree_plans.specs.declared.planner.PlannedBlock.{PlannedBlock}
 use Rattle.tree_plans.specs.declared.planner.TreePlan.{TreePlan}

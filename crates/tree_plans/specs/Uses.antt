@@ -4,10 +4,11 @@ use Rattle.std.specs.Global.{Vec}
 use Rattle.base.specs.declared.pointer.Pointer.{Pointer}
 use Rattle.base.specs.declared.names.ObjectId.{ObjectId}
 use Rattle.base.specs.formats.Limits.{object_count, pointer_count}
-use Rattle.base.specs.tree.PlannedTrees.{NewBlock}
-use Rattle.object_maps.specs.declared.tree.ObjectEntry.{ObjectEntry}
-use Rattle.object_maps.specs.Pointers.{ObjectPointers, pointer_of_list, pointers_of_entry}
-use Rattle.tree_plans.specs.Pointers.{entry_of, records_among}
+use Rattle.base.specs.kept.PlannedTrees.{NewBlock}
+use Rattle.tree_blocks.specs.declared.tree.ObjectEntry.{ObjectEntry}
+use Rattle.tree_blocks.specs.Pointers.{ObjectPointers, pointer_of_list, pointers_of_entry}
+use Rattle.tree_plans.specs.Pointers.{entry_of}
+use Rattle.tree_blocks.specs.ReadPointers.{records_among}
 
 -- one of the blocks has this address
 abbrev pub IsTaken : List NewBlock → ℕ → Type 0

@@ -12,21 +12,13 @@ use Rattle.base.specs.formats.Fields.{no_pointer, pointer_in, entry_in, entry_pr
 use Rattle.base.specs.declared.record_state.RecordState.{RecordState}
 use Rattle.base.specs.tree.Places.Place.{Root, Directory}
 use Rattle.base.specs.tree.Syncs.{is_dirty, object_numbers}
-use Rattle.object_maps.specs.declared.tree.ObjectEntry.{ObjectEntry}
-use Rattle.object_maps.specs.Pointers.{ObjectPointers, pointers_of_entry}
+use Rattle.tree_blocks.specs.declared.tree.ObjectEntry.{ObjectEntry}
+use Rattle.tree_blocks.specs.Pointers.{ObjectPointers, pointers_of_entry}
 use Rattle.tree_plans.specs.declared.changes.ObjectChanges.{ObjectChanges}
-use Rattle.tree_plans.specs.Changes.{has_two_levels, is_long_size}
+use Rattle.tree_plans.specs.Changes.{has_two_levels}
+use Rattle.tree_blocks.specs.Entries.{IsEntryOfLength}
 use Rattle.tree_plans.specs.Pointers.{OldTree, entry_of, planned_pointer}
 use Rattle.tree_plans.specs.Plans.{HasBecome, Progress, IsObjectPlanned, IsAmong, IsOf, IsOfMap, replaces, state_above}
-
--- the levels of indirect blocks of an object of this length
-abbrev pub levels_of : ℕ → ℕ
-levels_of size = if is_long_size (Some size) then 2 else 1
-
--- an entry of a directory, for an object of this length
-abbrev pub IsEntryOfLength : List ℕ → Pointer → Option ℕ → Type 0
-IsEntryOfLength entry pointer None = entry ≡ replicate entry_size 0
-IsEntryOfLength entry pointer (Some size) = (entry_present entry ≡ levels_of size) × (entry_length entry ≡ size) × (entry_pointer entry ≡ pointer)
 
 -- an entry of a directory, as it is written
 abbrev pub IsEntryWritten : List ℕ → Pointer → Option (List ℕ) → Type 0

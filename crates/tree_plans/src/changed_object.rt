@@ -7,9 +7,9 @@
 //!   wrote the object or set its length, and some pointer remains. All other strips that were there are freed.
 
 use crate::changes::ObjectChanges;
-use crate::object_map::ObjectMap;
 use crate::payload::has_block;
 use base::{ObjectId, POINTER_COUNT, Pointer, RecordState};
+use tree_blocks::ObjectMap;
 
 /// An object that operations are on.
 #[derive(Clone, Copy, Debug)]
@@ -30,7 +30,7 @@ impl ChangedObject<'_> {
     ghost use Rattle.base.specs.formats.Limits.{pointer_count};
     ghost use Rattle.tree_plans.specs.Changes.{has_address, is_strip_dirty, is_strip_touched, may_have_blocks};
     ghost use Rattle.tree_plans.specs.Plans.{kept_state};
-    ghost use Rattle.tree_plans.specs.Pointers.{records_among};
+    ghost use Rattle.tree_blocks.specs.ReadPointers.{records_among};
 
     /// What the sync does with a record. Those of a strip that may have no block are holes.
     pub fn state(&self, strip: usize, index: usize) -> RecordState

@@ -12,16 +12,16 @@ ghost use Rattle.std.specs.Prelude.{◌≡◌, ◌≢◌, ◌<◌, ◌≤◌, �
 ghost use Rattle.base.specs.declared.error.PoolError.TheVariants as error;
 ghost use Rattle.base.specs.declared.operation.Op.{Op};
 ghost use Rattle.base.specs.formats.Limits.{max_length, pointer_count, record_count, record_size};
-ghost use Rattle.object_maps.specs.Lengths.{length_in};
+ghost use Rattle.tree_blocks.specs.Lengths.{length_in};
 ghost use Rattle.tree_plans.specs.Changes.{is_changed_in, state_at, state_in};
 ghost use Rattle.tree_plans.specs.Marks.{AreChangesOf, AreToldSoFar, NotesOp, length_so_far, pending_ops};
 ghost use Rattle.tree_plans.specs.Pointers.{IsPut, entry_of};
 
 use base::{Group, ObjectId, Op, POINTER_COUNT, PoolError, RECORD_SIZE, RecordState};
-use object_maps::{ObjectEntry, RECORD_COUNT};
 use std::alloc::Global;
 use std::collections::{BTreeMap, BTreeSet};
 use transactions::Record;
+use tree_blocks::{ObjectEntry, RECORD_COUNT};
 
 /// What the operations of a group do to an object.
 #[derive(Debug, PartialEq, Eq, Drop)]

@@ -6,18 +6,13 @@ mod changes;
 mod clients;
 mod freed;
 mod new_entry;
-mod object_map;
 mod payload;
-mod place;
 mod plan_source;
 mod planner;
 mod sealed_source;
 mod walk;
 
 pub use changes::{ObjectChanges, changed_objects};
-pub use new_entry::is_long;
-pub use object_map::ObjectMap;
-pub use place::RecordPlace;
 pub use plan_source::PlanSource;
 pub use planner::{PlannedBlock, TreePlan};
 pub use sealed_source::SealedSource;

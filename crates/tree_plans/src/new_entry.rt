@@ -2,23 +2,13 @@
 
 ghost use Rattle.std.specs.Prelude.{◌≡◌, length as count, if◌then◌else◌};
 ghost use Rattle.base.specs.formats.Limits.{pointer_count};
-ghost use Rattle.object_maps.specs.Pointers.{pointer_of_list};
-ghost use Rattle.tree_plans.specs.Changes.{is_long_size};
+ghost use Rattle.tree_blocks.specs.Pointers.{pointer_of_list};
+ghost use Rattle.tree_blocks.specs.Entries.{is_long_size};
 ghost use Rattle.tree_plans.specs.Pointers.{entry_strips, strips_with};
 
-use base::{Pointer, Told, has_two_levels};
-use object_maps::{ObjectEntry, StripsView};
+use base::{Pointer, Told};
 use std::collections::BTreeMap;
-
-/// Whether an object of this length has two levels of indirect blocks.
-pub fn is_long(length: Option<u64>) -> bool
-    ensures { result ≡ is_long_size length }
-{
-    match length {
-        Some(length) => has_two_levels(length),
-        None => false,
-    }
-}
+use tree_blocks::{ObjectEntry, StripsView, is_long};
 
 /// What an entry tells of the strips of its object.
 pub fn entry_strips(entry: &ObjectEntry) -> Told<StripsView>

@@ -1,12 +1,11 @@
 //! What a plan is made of.
 
-use crate::object_map::ObjectMap;
 use base::{Group, ObjectId};
 use labels::Geometry;
-use object_maps::Tree;
 use space::FreeSet;
 use std::alloc::Global;
 use std::collections::BTreeMap;
+use tree_blocks::{ObjectMap, Tree};
 
 /// What a plan is made of, beside the objects.
 #[derive(Clone, Copy, Debug)]

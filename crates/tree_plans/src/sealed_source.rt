@@ -10,10 +10,10 @@ ghost use Rattle.base.specs.tree.Places.{kind_of, number_of_place, record_of_str
 ghost use Rattle.base.specs.tree.Places.Place.{Data};
 ghost use Rattle.object_maps.specs.Sources.{object_record};
 
-use crate::place::RecordPlace;
 use base::{Group, PoolError};
 use checked_blocks::Block;
 use object_maps::ObjectSource;
+use tree_blocks::RecordPlace;
 
 /// Objects of which the records that a plan writes are at hand, as blocks.
 pub trait SealedSource: ObjectSource {

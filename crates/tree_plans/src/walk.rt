@@ -25,21 +25,21 @@ ghost use Rattle.tree_plans.specs.declared.changes.ObjectChanges.{ObjectChanges}
 ghost use Rattle.tree_plans.specs.Parts.{AreMapsRead, AreReady, GoesOver, HasNothing, IsMapReadOf, PlansDirectories, PlansDirectory, PlansObjects, PlansRoot, PlansTree, TellsLack, group_in};
 ghost use Rattle.tree_plans.specs.Plans.{IsReady, IsWant, state_above};
 ghost use Rattle.tree_plans.specs.Pointers.{entry_of};
-ghost use Rattle.tree_plans.specs.Room.{changed_blocks, count_if, directory_blocks, object_blocks, tree_blocks};
+ghost use Rattle.tree_plans.specs.Room.{changed_blocks, count_if, directory_blocks, object_blocks, written_blocks};
 ghost use Rattle.tree_plans.specs.TreePlans.{GivesBack, GivesTree, HasEntries, HasLengths, TakesBlocks, TellsFull};
 ghost use Rattle.tree_plans.specs.Walks.{has_object, has_objects, is_directory_touched, is_emptied, root_state};
 
 use crate::changed_object::ChangedObject;
 use crate::changes::ObjectChanges;
-use crate::new_entry::{entry_strips, is_long};
-use crate::payload::{directory_payload, payload_of};
-use crate::place::BlockPlace;
+use crate::new_entry::entry_strips;
+use crate::payload::directory_payload;
 use crate::plan_source::PlanSource;
 use crate::planner::{Planner, TreePlan};
 use crate::sealed_source::SealedSource;
 use base::{ENTRY_COUNT, OBJECT_COUNT, ObjectId, POINTER_COUNT, Pointer, PoolError, RecordState};
-use object_maps::{ObjectEntry, ObjectSource};
+use object_maps::ObjectSource;
 use std::collections::BTreeMap;
+use tree_blocks::{BlockPlace, ObjectEntry, is_long, pointer_payload};
 
 // Whether an operation is on an object of a directory.
 fn is_touched(objects: &BTreeMap<ObjectId, ObjectChanges>, directory: usize) -> bool
@@ -178,7 +178,7 @@ fn place_tree<O: SealedSource>(
         (PlansTree source.now (O.objects after.now) objects.now planner.old planner.new) }
     ensures full { IfErr result (λ e. AreInRange objects.now.entries (O.objects after.now)
         → TellsLack source.now.free.now planner.old
-        (tree_blocks (group_in source.now (O.objects after.now) objects.now.entries)) e) }
+        (written_blocks (group_in source.now (O.objects after.now) objects.now.entries)) e) }
     ensures kept { OnOk result (objects.now.entries ≡ [] → planner.new ≡ planner.old) }
     ensures refused { IfErr result IsWant }
 {
@@ -221,7 +221,7 @@ fn place_root<O: ObjectSource>(
             planner.place(
                 source.free,
                 BlockPlace::Root,
-                &payload_of(directories),
+                &pointer_payload(directories),
                 root,
             )
         }

@@ -3,11 +3,12 @@ use Rattle.std.proofs.Common.{ℕ, ◌≡◌, ◌≢◌, ◌+◌, ◌/◌, ◌<�
 use Rattle.std.proofs.lemmas.Bool.{cases_lt, ltb-true, ltb-false, true≢false}
 use Rattle.base.specs.formats.Geometry.{slot_of}
 use Rattle.base.specs.formats.Uberblocks.{Uberblock as Fields}
+use Rattle.base.proofs.formats.Geometry.{slot-below}
 use Rattle.uberblocks.specs.declared.uberblock.Uberblock.{Uberblock}
 use Rattle.uberblocks.specs.Slots.{fields_of}
 use Rattle.uberblocks.specs.Rings.{StandsAtPosition, StandsInRing, IsBetterAt, IsActiveInRing, HasNoneInRing, is_above, position_of}
 use Rattle.uberblocks.proofs.SlotReads.{readings_agree}
-use Rattle.uberblocks.proofs.Places.{StandsInRing-at, StandsAtPosition-count, count_of, label-position_of, slot_below}
+use Rattle.uberblocks.proofs.Places.{StandsInRing-at, StandsAtPosition-count, count_of, label-position_of}
 
 -- an uberblock stands at the position that is looked at after so many others
 abbrev StandsAfter : List ℕ → ℕ → Fields → Type 0
@@ -106,18 +107,18 @@ IsActiveInRing-best ring u is =
       label = is.count / 128;
       in_range = let below = is.in_range in omega arith;
       stands = subst (λ (k : ℕ). StandsInRing ring k u) (label-position_of is.count) (StandsInRing-at ring (position_of is.count) u is.stands);
-      highest = λ k other below stands. is.highest (count_of k (slot_of other.group)) other (let low = slot_below other.group in omega arith) (StandsAtPosition-count ring k other stands);
+      highest = λ k other below stands. is.highest (count_of k (slot_of other.group)) other (let low = slot-below other.group in omega arith) (StandsAtPosition-count ring k other stands);
       lowest = lowest;
     }
   where
     lowest : (k : ℕ) (other : Fields) → k < is.count / 128 → StandsInRing ring k other → other.group ≢ u.group
     lowest k other below stands same =
-        let low = slot_below other.group in
+        let low = slot-below other.group in
         is.lowest (count_of k (slot_of other.group)) other (omega arith) (StandsAtPosition-count ring k other stands) same
 
 pub HasNoneInRing-best : (ring : List ℕ) → IsBestBelow ring 512 None → HasNoneInRing ring
 HasNoneInRing-best ring none k u below stands =
-    none (count_of k (slot_of u.group)) u (let low = slot_below u.group in omega arith) (StandsAtPosition-count ring k u stands)
+    none (count_of k (slot_of u.group)) u (let low = slot-below u.group in omega arith) (StandsAtPosition-count ring k u stands)
 
 pub active_from_best : (ring : List ℕ) (best : Option Uberblock) → IsBestBelow ring 512 best → IfSome best (λ u. IsActiveInRing ring (fields_of u))
 active_from_best ring None none = tt

@@ -3,15 +3,16 @@ use Rattle.std.proofs.Common.{ℕ, ◌≡◌, ◌+◌, ◌*◌, ◌<◌, List, l
 use Rattle.base.specs.formats.Fields.{part}
 use Rattle.base.specs.formats.Geometry.{slot_of, slot_place, label_place}
 use Rattle.base.specs.formats.Uberblocks.{Uberblock as Fields, IsUberblock, StandsIn, IsActive}
+use Rattle.base.proofs.disk.Put.{part-part}
+use Rattle.base.proofs.formats.Geometry.{slot-below}
 use Rattle.uberblocks.specs.Rings.{StandsInRing, IsActiveInRing, IsRingOf}
 use Rattle.uberblocks.specs.Laws.{RingsShowActives, RingsShowNone}
-use Rattle.uberblocks.proofs.Places.{part-part, slot_below}
 
 -- a slot of a ring is the slot of the image
 pub slot_same : (ring image : List ℕ) (label group : ℕ) → IsRingOf ring image → label < 4
     → part ring (131072 * label + 1024 * slot_of group) 1024 ≡ part image (slot_place (length image) label (slot_of group)) 1024
 slot_same ring image label group of below =
-    let low = slot_below group in
+    let low = slot-below group in
     let place : slot_place (length image) label 0 + 1024 * slot_of group ≡ slot_place (length image) label (slot_of group) =
     further (label_place (length image) label) (slot_of group) in
     sym (part-part ring (131072 * label) 131072 (1024 * slot_of group) 1024 (omega arith))

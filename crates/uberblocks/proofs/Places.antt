@@ -1,22 +1,11 @@
 -- Parts of parts, and positions of a ring.
-use Rattle.std.proofs.Common.{ℕ, ◌≡◌, ◌+◌, ◌-◌, ◌*◌, ◌/◌, ◌<◌, ◌≤◌, List, take, drop, sym, ap, ◌∙◌, subst, arith}
-use Rattle.std.proofs.lemmas.List.{drop-drop, drop-take, take-take}
-use Rattle.std.proofs.lemmas.Nat.{mod-mul-add, div-add-mod', mod_below}
+use Rattle.std.proofs.Common.{ℕ, ◌≡◌, ◌+◌, ◌-◌, ◌*◌, ◌/◌, ◌<◌, List, sym, ap, ◌∙◌, subst, arith}
+use Rattle.std.proofs.lemmas.Nat.{mod-mul-add, div-add-mod'}
 use Rattle.base.specs.formats.Fields.{part, number_at}
 use Rattle.base.specs.formats.Geometry.{slot_of}
 use Rattle.base.specs.formats.Uberblocks.{Uberblock as Fields, IsUberblock}
+use Rattle.base.proofs.formats.Geometry.{slot-below}
 use Rattle.uberblocks.specs.Rings.{StandsAtPosition, StandsInRing, position_of}
-
-pub part-part : (bytes : List ℕ) (a n b m : ℕ) → b + m ≤ n → part (part bytes a n) b m ≡ part bytes (a + b) m
-part-part bytes a n b m fits =
-    let rest : n ≡ b + (n - b) = omega (arith, fits) in
-    ap (λ (k : ℕ). take m (drop b (take k (drop a bytes)))) rest
-    ∙ ap (λ (l : List ℕ). take m l) (drop-take b (n - b) (drop a bytes))
-    ∙ take-take m (n - b) (drop b (drop a bytes)) (omega (arith, fits))
-    ∙ ap (λ (l : List ℕ). take m l) (drop-drop b a bytes)
-
-pub slot_below : (group : ℕ) → slot_of group < 128
-slot_below group = mod_below group 128 (omega arith)
 
 -- what stands at a position stands in the ring, and the other way round
 pub StandsInRing-at : (ring : List ℕ) (position : ℕ) (u : Fields) → StandsAtPosition ring position u → StandsInRing ring (position / 128) u
@@ -28,7 +17,7 @@ StandsInRing-at ring position u at =
 StandsAtPosition-in_ring : (ring : List ℕ) (label : ℕ) (u : Fields) → StandsInRing ring label u → StandsAtPosition ring (label * 128 + slot_of u.group) u
 StandsAtPosition-in_ring ring label u stands =
     let place : 131072 * label + 1024 * slot_of u.group ≡ 1024 * (label * 128 + slot_of u.group) = omega arith in
-    (subst (λ (k : ℕ). IsUberblock (part ring k 1024) u) place stands, sym (mod-mul-add label 128 (slot_of u.group) (slot_below u.group)))
+    (subst (λ (k : ℕ). IsUberblock (part ring k 1024) u) place stands, sym (mod-mul-add label 128 (slot_of u.group) (slot-below u.group)))
 
 -- how many positions are looked at before a slot of a label, and the label of a position
 abbrev pub count_of : ℕ → ℕ → ℕ
@@ -42,7 +31,7 @@ label-position_of count = omega arith
 
 pub StandsAtPosition-count : (ring : List ℕ) (label : ℕ) (u : Fields) → StandsInRing ring label u → StandsAtPosition ring (position_of (count_of label (slot_of u.group))) u
 StandsAtPosition-count ring label u stands =
-    subst (λ (k : ℕ). StandsAtPosition ring k u) (sym (position_of-count_of label (slot_of u.group) (slot_below u.group))) (StandsAtPosition-in_ring ring label u stands)
+    subst (λ (k : ℕ). StandsAtPosition ring k u) (sym (position_of-count_of label (slot_of u.group) (slot-below u.group))) (StandsAtPosition-in_ring ring label u stands)
 
 -- the group of what stands at a position is the number in its place
 pub group-at : (ring : List ℕ) (position size group : ℕ) (u : Fields) → size ≡ 1024 → group ≡ number_at (part ring (1024 * position) size) 16 → StandsAtPosition ring position u → group ≡ u.group

@@ -1,10 +1,10 @@
 -- Fields that lie one after the other.
 use Rattle.std.proofs.Common.{ℕ, ◌≡◌, ◌+◌, ◌^◌, ◌<◌, List, ◌++◌, length, take, drop, refl, sym, ap, ◌∙◌, arith}
-use Rattle.std.proofs.lemmas.List.{take_at, drop_at, drop-drop, append_assoc, length-append}
+use Rattle.std.proofs.lemmas.List.{take_at, drop_at, drop-drop, append_assoc}
 use Rattle.std.specs.Int.{from_le_bytes, w64}
 use Rattle.base.specs.formats.Fields.{part, number_at, number_bytes, pointer_at, pointer_bytes}
 use Rattle.base.specs.declared.pointer.Pointer.{Pointer}
-use Rattle.base.proofs.formats.FieldsRead.{length-number_bytes, number_bytes-read}
+use Rattle.base.proofs.formats.FieldsRead.{length-number_bytes, number_bytes-read, length-pointer_bytes}
 
 -- what is left from a place on begins with a field: the field stands there, and the rest is left after it
 pub part_first : (bytes field rest : List ℕ) (at size : ℕ) → drop at bytes ≡ field ++ rest → length field ≡ size → part bytes at size ≡ field
@@ -40,11 +40,6 @@ pointer_first bytes rest at p left small low long =
 
     same : {x y : ℕ} {z : List ℕ} → x ≡ p.address → y ≡ p.birth → z ≡ p.check → record { address = x; birth = y; check = z } ≡ p
     same e f g = rw (e, f, g) refl
-
-pub length-pointer_bytes : (p : Pointer) → length p.check ≡ 32 → length (pointer_bytes p) ≡ 48
-length-pointer_bytes p long =
-    length-append (number_bytes p.address) (number_bytes p.birth ++ p.check)
-    ∙ omega (arith, length-number_bytes p.address, length-append (number_bytes p.birth) p.check, length-number_bytes p.birth, long)
 
 pub pointer_behind : (bytes rest : List ℕ) (at : ℕ) (p : Pointer) → drop at bytes ≡ pointer_bytes p ++ rest → length p.check ≡ 32 → drop (at + 48) bytes ≡ rest
 pointer_behind bytes rest at p left long = drop_first bytes (pointer_bytes p) rest at 48 left (length-pointer_bytes p long)

@@ -7,9 +7,9 @@ use Rattle.sha2.proofs.Facts256.{length-sha256}
 use Rattle.base.specs.disk.Disk.{put}
 use Rattle.base.specs.formats.Fields.{part, number_bytes, pointer_bytes}
 use Rattle.base.specs.formats.Uberblocks.{Uberblock as Fields, IsUberblock}
-use Rattle.base.proofs.formats.FieldsRead.{length-number_bytes, put-put_behind}
+use Rattle.base.proofs.formats.FieldsRead.{length-number_bytes, put-put_behind, length-pointer_bytes}
 use Rattle.uberblocks.specs.Slots.{field_bytes, checked_bytes, slot_bytes, zeros, FieldsFit, IsWithinLimits}
-use Rattle.uberblocks.proofs.SlotParts.{part_first, number_first, number_behind, pointer_first, pointer_behind, length-pointer_bytes}
+use Rattle.uberblocks.proofs.SlotParts.{part_first, number_first, number_behind, pointer_first, pointer_behind}
 
 pub length-zeros : (n : ℕ) → length (zeros n) ≡ n
 unfolding zeros

@@ -1,19 +1,21 @@
 -- Elements of lists by their places: one more at the end, what a front has, what a filter keeps, and what holds of
 -- each.
-use Rattle.std.proofs.Common.{◌≡◌, ℕ, zero, suc, ◌<◌, Bool, true, false, ◌||◌, List, [], ◌∷◌, ◌++◌, length, map, refl, ap, sym, ◌∙◌, arith, subst, ◌⊎◌, inl, inr, take, replicate, get_or}
-use Rattle.std.specs.Prelude.{Some, None, slice_get, filter, cond, find, All}
-use Rattle.std.specs.List.{list_any, list_all}
-use Rattle.std.proofs.lemmas.Bool.{or_right, or_from, and_parts, and_from}
+use Rattle.std.proofs.Common.{◌≡◌, ℕ, zero, suc, ◌+◌, ◌<◌, ◌≤◌, Bool, true, false, ◌||◌, List, [], ◌∷◌, ◌++◌, length, map, refl, ap, sym, ◌∙◌, arith, subst, ◌⊎◌, inl, inr, take, replicate, get_or}
+use Rattle.std.specs.Prelude.{Option, Some, None, option_map, slice_get, filter, cond, find, All}
+use Rattle.std.specs.List.{list_any, list_all, flat_map, enumerate_from, range_with_len}
+use Rattle.std.proofs.lemmas.Bool.{or_right, or_from, and_parts, and_from, or_parts}
 use Rattle.std.proofs.lemmas.List.Folds.{list_any-append}
 use Rattle.std.proofs.lemmas.List.Elements.{All-head, All-tail, All-nil, All-cons}
+use Rattle.std.proofs.Math.Bool.{or-false}
 
 -- what two options are of that are the same
 pub Some-injective : {A : Type 0} {x y : A} → Some x ≡ Some y → x ≡ y
 Some-injective {A} {x} {y} e = ap (λ o. elim o as (λ _. A) [ None ↦ x | Some z ↦ z ]) e
 
-or-false : (a b : Bool) → (a || b) ≡ false → (a ≡ false) × (b ≡ false)
-or-false true b h = absurd (let no_way : true ≡ false = h in cc)
-or-false false b h = (refl, h)
+-- what is mapped comes from something
+pub mapped : {A B : Type 0} (f : A → B) (o : Option A) (y : B) → option_map f o ≡ Some y → (x : A) × (o ≡ Some x) × (f x ≡ y)
+mapped f None y is = absurd (let no_way : None ≡ Some y = is in cc)
+mapped f (Some x) y is = let same : f x ≡ y = cc in (x, refl, same)
 
 pub none_at : {A : Type 0} (i : ℕ) (x : A) → slice_get [] i ≡ Some x → ⊥
 none_at i x at = let no_way : None ≡ Some x = at in cc
@@ -77,8 +79,8 @@ any_at p (y ∷ ys) (suc i) x at passes = or_right (p y) (list_any p ys) (any_at
 -- where none passes a test, each fails it
 pub none_any : {A : Type 0} (p : A → Bool) (xs : List A) (i : ℕ) (x : A) → list_any p xs ≡ false → slice_get xs i ≡ Some x → p x ≡ false
 none_any p [] i x none at = absurd (none_at i x at)
-none_any p (y ∷ ys) zero x none at = ap p (sym (Some-injective at)) ∙ (or-false (p y) (list_any p ys) none).0
-none_any p (y ∷ ys) (suc i) x none at = none_any p ys i x (or-false (p y) (list_any p ys) none).1 at
+none_any p (y ∷ ys) zero x none at = ap p (sym (Some-injective at)) ∙ (or_parts (p y) (list_any p ys) none).0
+none_any p (y ∷ ys) (suc i) x none at = none_any p ys i x (or_parts (p y) (list_any p ys) none).1 at
 
 -- where each fails a test, none passes it
 pub any_none : {A : Type 0} (p : A → Bool) (xs : List A) → ((i : ℕ) (x : A) → slice_get xs i ≡ Some x → p x ≡ false) → list_any p xs ≡ false
@@ -106,11 +108,7 @@ filter_same {A} p q (x ∷ xs) agree = (λ k. cond (agree zero x refl k) (x ∷ 
 
 -- a test of which one element more is asked
 pub any_push : {A : Type 0} (p : A → Bool) (xs : List A) (x : A) → list_any p (xs ++ x ∷ []) ≡ (list_any p xs || p x)
-any_push p xs x = list_any-append p xs (x ∷ []) ∙ ap (λ b. list_any p xs || b) (or_false (p x))
-  where
-    or_false : (b : Bool) → (b || false) ≡ b
-    or_false true = refl
-    or_false false = refl
+any_push p xs x = list_any-append p xs (x ∷ []) ∙ ap (λ b. list_any p xs || b) (or-false (p x))
 
 -- an element that passes a test in a list is one of what is found
 pub found_at : {A : Type 0} (p : A → Bool) (xs : List A) (x : A) → find p xs ≡ Some x → (i : ℕ) × (slice_get xs i ≡ Some x) × (p x ≡ true) × ((j : ℕ) (y : A) → j < i → slice_get xs j ≡ Some y → p y ≡ false)
@@ -196,3 +194,43 @@ pub get_or-zeros : (n k : ℕ) → get_or (replicate n 0) k 0 ≡ zero
 get_or-zeros zero k = refl
 get_or-zeros (suc n) zero = refl
 get_or-zeros (suc n) (suc k) = get_or-zeros n k
+
+-- and those before its end stand in the front
+pub take-at : {A : Type 0} (n : ℕ) (xs : List A) (i : ℕ) (x : A) → i < n → slice_get xs i ≡ Some x → slice_get (take n xs) i ≡ Some x
+take-at n [] i x below at = absurd (none_at i x at)
+take-at zero (y ∷ ys) i x below at = absurd (omega (arith, below))
+take-at (suc n) (y ∷ ys) zero x below at = at
+take-at (suc n) (y ∷ ys) (suc i) x below at = take-at n ys i x (omega (arith, below)) at
+
+-- what a list is made of by a function
+pub at-map : {A B : Type 0} (f : A → B) (xs : List A) (i : ℕ) (y : B) → slice_get (map f xs) i ≡ Some y → (x : A) × (slice_get xs i ≡ Some x) × (f x ≡ y)
+at-map f [] i y at = absurd (none_at i y at)
+at-map f (x ∷ xs) zero y at = (x, refl, Some-injective at)
+at-map f (x ∷ xs) (suc i) y at = at-map f xs i y at
+
+-- what a numbered list has at a place
+pub enumerated_at : {A : Type 0} (n : ℕ) (xs : List A) (k : ℕ) (p : ℕ × A) → slice_get (enumerate_from n xs) k ≡ Some p → (p.0 ≡ n + k) × (slice_get xs k ≡ Some p.1)
+enumerated_at n [] k p at = absurd (none_at k p at)
+enumerated_at n (x ∷ xs) zero p at = let same = Some-injective at in (ap (λ q. q.0) (sym same) ∙ omega arith, ap (λ q. Some q.1) same)
+enumerated_at n (x ∷ xs) (suc k) p at = let later = enumerated_at (n + 1) xs k p at in (let is : p.0 ≡ n + 1 + k = later.0 in omega arith, later.1)
+
+-- where each element fails a test, none is found, and none is kept
+pub find_none : {A : Type 0} (p : A → Bool) (xs : List A) → ((i : ℕ) (x : A) → slice_get xs i ≡ Some x → p x ≡ false) → find p xs ≡ None
+find_none p [] none = refl
+find_none p (x ∷ xs) none = ap (λ (b : Bool). cond b (Some x) (find p xs)) (none 0 x refl) ∙ find_none p xs (λ i y at. none (suc i) y at)
+
+pub filter_none : {A : Type 0} (p : A → Bool) (xs : List A) → ((i : ℕ) (x : A) → slice_get xs i ≡ Some x → p x ≡ false) → filter p xs ≡ []
+filter_none p [] none = refl
+filter_none p (x ∷ xs) none = ap (λ (b : Bool). cond b (x ∷ filter p xs) (filter p xs)) (none zero x refl) ∙ filter_none p xs (λ i y at. none (suc i) y at)
+
+-- where a test fails from one number up to another, it passes on none of these
+pub none_between : (p : ℕ → Bool) (a n : ℕ) → ((i : ℕ) → a ≤ i → i < a + n → p i ≡ false) → list_any p (range_with_len a n) ≡ false
+none_between p a zero none = refl
+none_between p a (suc n) none =
+    ap (λ b. b || list_any p (range_with_len (a + 1) n)) (none a (omega arith) (omega arith))
+    ∙ none_between p (a + 1) n (λ i from to. none i (omega (arith, from)) (omega (arith, to)))
+
+-- lists that are all empty, one after the other
+pub flat_map_none : {A B : Type 0} (f : A → List B) → ((x : A) → f x ≡ []) → (xs : List A) → flat_map f xs ≡ []
+flat_map_none f none [] = refl
+flat_map_none f none (x ∷ xs) = ap (λ l. l ++ flat_map f xs) (none x) ∙ flat_map_none f none xs

@@ -7,12 +7,11 @@ use Rattle.std.proofs.lemmas.List.{append_assoc, length-replicate, map-append, t
 use Rattle.base.specs.formats.Records.{Record}
 use Rattle.base.specs.formats.Chain.{LogBlock, LogPiece, AreCut, addresses_of, block_addresses, chain_addresses, ends_of}
 use Rattle.base.specs.disk.Disk.{Moment}
-use Rattle.base.specs.crash.Own.{IsAtRest}
-use Rattle.base.specs.crash.Views.{Logged, HasCut, IsFoundAs, View, blocks_of, ended_in}
-use Rattle.base.proofs.common.KeptLists.{Some-injective}
+use Rattle.base.specs.kept.Own.{IsAtRest}
+use Rattle.base.specs.kept.Views.{Logged, HasCut, IsFoundAs, View, blocks_of, ended_in}
+use Rattle.base.proofs.common.KeptLists.{Some-injective, take-at}
 use Rattle.base.proofs.crash.CrashRule.{EndsWithin}
 use Rattle.base.proofs.crash.CutViews.{cut_records}
-use Rattle.base.proofs.crash.LogFronts.{take-at}
 use Rattle.base.proofs.formats.Pieces.{joined, records-joined}
 
 -- the pieces have the first of the blocks, in order

@@ -5,11 +5,11 @@ use Rattle.std.specs.Prelude.{slice_get, Some, None}
 use Rattle.std.proofs.lemmas.Bool.{cases_lt}
 use Rattle.base.specs.formats.Fields.{part}
 use Rattle.base.specs.formats.Geometry.{block_count, block_address, config_place}
-use Rattle.base.specs.crash.Mount.{header_of}
-use Rattle.base.specs.tree.PlacedTrees.{HoldsTree}
+use Rattle.base.specs.tree.Mount.{header_of}
+use Rattle.base.specs.kept.PlacedTrees.{HoldsTree}
 use Rattle.base.specs.disk.Disk.{Write, Moment, IsTouched, bytes_of, handed}
-use Rattle.base.specs.crash.Views.{View, Logged, IsView, IsConfigContent, IsLogContent, IsSettled, AreConfigsKnown, AreConfigsUpTo, AreLogBlocksKnown, view_frame}
-use Rattle.base.specs.crash.CallStages.{IsLaidAt}
+use Rattle.base.specs.kept.Views.{View, Logged, IsView, IsConfigContent, IsLogContent, IsSettled, AreConfigsKnown, AreConfigsUpTo, AreLogBlocksKnown, view_frame}
+use Rattle.base.specs.kept.CallStages.{IsLaidAt}
 use Rattle.base.proofs.crash.FoundViews.{linked_number}
 
 -- where nothing is unflushed every place is settled

@@ -10,7 +10,7 @@ use Rattle.base.specs.formats.Blocks.{is_sealed}
 use Rattle.base.specs.formats.Uberblocks.{slot_size, is_sealed_slot}
 use Rattle.base.specs.disk.Disk.{Moment, HandedSince, bytes_of, handed, wrote, settled, Apart}
 use Rattle.base.specs.disk.Fairness.{HasFairBytes, IsCheckedPlace, passes_check, block_at, is_block_place, is_config_place, slot_at, is_slot_place, begins_with_mark, label_numbers}
-use Rattle.base.proofs.disk.Put.{length-put, part-put_same, part-put_apart}
+use Rattle.base.proofs.disk.Put.{length-put, part-put_same, part-put_apart, apart_turned}
 use Rattle.base.proofs.disk.Fairness.{fair_settled}
 use Rattle.base.proofs.formats.Geometry.{IsSize, IsGeometry-IsSize, labels-apart, blocks-end}
 
@@ -89,10 +89,6 @@ module _ (size : ℕ) (g : IsGeometry size) where
       go (suc (suc zero)) j_below there s = inl (omega (arith, at, there, below, blocks-end size g))
       go (suc (suc (suc j))) j_below there s = inl (omega (arith, at, there, below, blocks-end size g, s.least))
 
-  turned : (a m b n : ℕ) → Apart a m b n → Apart b n a m
-  turned a m b n (inl before) = inr before
-  turned a m b n (inr behind) = inl behind
-
   two_labels : (j k o p a m b n : ℕ) → j < k → IsInLabel j o a m → IsInLabel k p b n → a + m ≤ b
   two_labels j k o p a m b n less x y = omega (arith, labels-apart size j k g less y.below, x.at, x.within, y.at)
 
@@ -142,13 +138,13 @@ module _ (size : ℕ) (g : IsGeometry size) where
   same_or_apart a m b n (inl (long, inl block)) (inr (as_long, slot)) =
       inr (subst (λ (k : ℕ). Apart a k b n) (sym long) (block_and_label block.0 slot.0 (131072 + 1024 * slot.1) a b n block.1 block.2 (slot_in slot.0 slot.1 b n slot.2 slot.3 as_long slot.4)))
   same_or_apart a m b n (inl (long, inr config)) (inl (as_long, inl block)) =
-      inr (turned b n a m (subst (λ (k : ℕ). Apart b k a m) (sym as_long) (block_and_label block.0 config.0 16384 b a m block.1 block.2 (config_in config.0 a m config.1 long config.2))))
+      inr (apart_turned b n a m (subst (λ (k : ℕ). Apart b k a m) (sym as_long) (block_and_label block.0 config.0 16384 b a m block.1 block.2 (config_in config.0 a m config.1 long config.2))))
   same_or_apart a m b n (inl (long, inr config)) (inl (as_long, inr other)) =
       in_labels config.0 other.0 16384 16384 a m b n (config_in config.0 a m config.1 long config.2) (config_in other.0 b n other.1 as_long other.2) (inl (refl, long ∙ sym as_long))
   same_or_apart a m b n (inl (long, inr config)) (inr (as_long, slot)) =
       in_labels config.0 slot.0 16384 (131072 + 1024 * slot.1) a m b n (config_in config.0 a m config.1 long config.2) (slot_in slot.0 slot.1 b n slot.2 slot.3 as_long slot.4) (inr (inl (omega (arith, long))))
   same_or_apart a m b n (inr (long, slot)) (inl (as_long, inl block)) =
-      inr (turned b n a m (subst (λ (k : ℕ). Apart b k a m) (sym as_long) (block_and_label block.0 slot.0 (131072 + 1024 * slot.1) b a m block.1 block.2 (slot_in slot.0 slot.1 a m slot.2 slot.3 long slot.4))))
+      inr (apart_turned b n a m (subst (λ (k : ℕ). Apart b k a m) (sym as_long) (block_and_label block.0 slot.0 (131072 + 1024 * slot.1) b a m block.1 block.2 (slot_in slot.0 slot.1 a m slot.2 slot.3 long slot.4))))
   same_or_apart a m b n (inr (long, slot)) (inl (as_long, inr config)) =
       in_labels slot.0 config.0 (131072 + 1024 * slot.1) 16384 a m b n (slot_in slot.0 slot.1 a m slot.2 slot.3 long slot.4) (config_in config.0 b n config.1 as_long config.2) (inr (inr (omega (arith, as_long))))
   same_or_apart a m b n (inr (long, slot)) (inr (as_long, other)) =

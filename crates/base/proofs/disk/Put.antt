@@ -1,8 +1,9 @@
 -- Bytes that are written over others, and parts of them.
 use Rattle.std.proofs.Common.{◌≡◌, ◌⊎◌, inl, inr, ℕ, ◌+◌, ◌-◌, ◌<◌, ◌≤◌, List, ◌++◌, length, take, drop, get_or, refl, sym, ◌∙◌, ap, arith, length-take, length-drop}
-use Rattle.std.proofs.lemmas.List.{places, ext_get_or, take_at, drop_at, take-append-drop, length-take-le, get_or-take, get_or-drop, get_or_append_left, get_or-append_right, drop-drop}
+use Rattle.std.proofs.lemmas.List.{places, ext_get_or, take_at, drop_at, take-append-drop, length-take-le, get_or-take, get_or-drop, get_or_append_left, get_or-append_right, drop-drop, drop-take, take-take}
+use Rattle.std.proofs.lemmas.Bool.{cases_lt}
 use Rattle.base.specs.formats.Fields.{part}
-use Rattle.base.specs.disk.Disk.{put}
+use Rattle.base.specs.disk.Disk.{put, IsInRange}
 pub use Rattle.base.specs.disk.Disk.{Apart}
 
 pub length-put : (place : ℕ) (content bytes : List ℕ) → place + length content ≤ length bytes → length (put place content bytes) ≡ length bytes
@@ -72,3 +73,30 @@ put-put place second first bytes long fits =
 pub put-put_part : (place : ℕ) (content bytes : List ℕ) → place + length content ≤ length bytes → put place (part bytes place (length content)) (put place content bytes) ≡ bytes
 put-put_part place content bytes fits =
     put-put place (part bytes place (length content)) content bytes (length-part place (length content) bytes fits) fits ∙ put-part place (length content) bytes fits
+
+-- a byte of what was put
+pub get_or-put_in : (place : ℕ) (content bytes : List ℕ) (i : ℕ) → place + length content ≤ length bytes → place ≤ i → i < place + length content → get_or (put place content bytes) i 0 ≡ get_or content (i - place) 0
+get_or-put_in place content bytes i fits from to =
+    let short : length (take place bytes) ≡ place = length-take-le place bytes (omega (arith, fits)) in
+    get_or-append_right (take place bytes) (content ++ drop (place + length content) bytes) place i 0 short from
+    ∙ get_or_append_left content (drop (place + length content) bytes) 0 (i - place) (omega (arith, from, to))
+
+-- a part of a part
+pub part-part : (bytes : List ℕ) (a n b m : ℕ) → b + m ≤ n → part (part bytes a n) b m ≡ part bytes (a + b) m
+part-part bytes a n b m fits =
+    let rest : n ≡ b + (n - b) = omega (arith, fits) in
+    ap (λ (k : ℕ). take m (drop b (take k (drop a bytes)))) rest
+    ∙ ap (λ (l : List ℕ). take m l) (drop-take b (n - b) (drop a bytes))
+    ∙ take-take m (n - b) (drop b (drop a bytes)) (omega (arith, fits))
+    ∙ ap (λ (l : List ℕ). take m l) (drop-drop b a bytes)
+
+-- what is not in a range is before it or behind it, and two ranges lie apart in either order
+pub outside_range : (place n i : ℕ) → (IsInRange place n i → ⊥) → (i < place) ⊎ (place + n ≤ i)
+outside_range place n i out = elim (cases_lt i place) [
+  | inl before ↦ inl before
+  | inr from ↦ elim (cases_lt i (place + n)) [ inl to ↦ absurd (out (from, to)) | inr behind ↦ inr behind ]
+]
+
+pub apart_turned : (a m b n : ℕ) → Apart a m b n → Apart b n a m
+apart_turned a m b n (inl before) = inr before
+apart_turned a m b n (inr behind) = inl behind

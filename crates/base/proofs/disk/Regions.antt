@@ -1,21 +1,14 @@
 -- Runs of calls whose writes all lie in one region.
-use Rattle.std.proofs.Common.{◌≡◌, ◌⊎◌, inl, inr, ⊎_elim, ℕ, ◌+◌, ◌<◌, ◌≤◌, Bool, true, false, List, [], ◌∷◌, length, get_or, Result, Ok, refl, sym, ◌∙◌, ap, subst, arith}
-use Rattle.std.proofs.lemmas.Bool.{cases_lt}
+use Rattle.std.proofs.Common.{◌≡◌, ⊎_elim, ℕ, ◌+◌, ◌≤◌, Bool, true, false, List, [], ◌∷◌, length, get_or, Result, Ok, refl, sym, ◌∙◌, ap, subst, arith}
 use Rattle.base.specs.declared.error.PoolError.{PoolError}
 use Rattle.base.specs.disk.Disk.{Write, Moment, Disk, moments, bytes_of, IsTouched, MayLeave, wrote, settled, certain_with, EachMoment, ChangesOnly, SameOutside, IsInRange}
 use Rattle.base.specs.disk.Calls.{Writes, Flushes}
-use Rattle.base.proofs.disk.Put.{length-put, get_or-put_other}
+use Rattle.base.proofs.disk.Put.{length-put, get_or-put_other, outside_range}
 use Rattle.base.proofs.disk.Moments.{starts, each_write, each_flush}
 
 module _ (Region : ℕ → Type 0) (base : List ℕ) where
   abbrev Inside : Moment → Type 0
   Inside = ChangesOnly Region base
-
-  outside_range : (place n i : ℕ) → (IsInRange place n i → ⊥) → (i < place) ⊎ (place + n ≤ i)
-  outside_range place n i out = elim (cases_lt i place) [
-    | inl before ↦ inl before
-    | inr from ↦ elim (cases_lt i (place + n)) [ inl to ↦ absurd (out (from, to)) | inr behind ↦ inr behind ]
-  ]
 
   -- a write in the region, whether it is done or not
   pub inside_wrote : (t place : ℕ) (content : List ℕ) (done : Bool) (m : Moment) → Inside m → place + length content ≤ length base → ((i : ℕ) → IsInRange place (length content) i → Region i) → Inside (wrote t place content done m)

@@ -7,9 +7,9 @@ use Rattle.base.specs.formats.Fields.{part}
 use Rattle.base.specs.formats.Geometry.{block_size, config_place, IsGeometry}
 use Rattle.base.specs.formats.Blocks.{IsBlock}
 use Rattle.base.specs.formats.Labels.{IsConfig, IsChosen}
-use Rattle.base.specs.crash.Views.{IsConfigContent}
+use Rattle.base.specs.kept.Views.{IsConfigContent}
 use Rattle.base.specs.disk.Disk.{put, Apart}
-use Rattle.base.specs.stored.LabelConfigs.{HaveConfigs, stage_place}
+use Rattle.base.specs.kept.LabelConfigs.{HaveConfigs, stage_place}
 use Rattle.base.proofs.disk.Put.{length-put, part-put_same, part-put_apart}
 use Rattle.base.proofs.disk.WrittenLabels.{SameConfigs, config-along, config-fits}
 use Rattle.base.proofs.formats.Geometry.{labels-apart}

@@ -13,9 +13,9 @@ use Rattle.base.specs.formats.Blocks.{Frame}
 use Rattle.base.specs.disk.Disk.{put, Apart}
 use Rattle.base.specs.tree.Places.{Place, IsPlace, IsInTree}
 use Rattle.base.specs.tree.Places.Place.{Root}
-use Rattle.base.specs.tree.PlacedTrees.{HoldsTree, ArePlaced}
-use Rattle.base.specs.tree.PlannedTrees.{NewBlock, IsTreePlan, SameBlock, IsBlockWritten}
-pub use Rattle.base.specs.stored.Stored.{AreBlocks, IsUnwritten, LeavesTree}
+use Rattle.base.specs.kept.PlacedTrees.{HoldsTree, ArePlaced}
+use Rattle.base.specs.kept.PlannedTrees.{NewBlock, IsTreePlan, SameBlock, IsBlockWritten}
+pub use Rattle.base.specs.kept.Stored.{AreBlocks, IsUnwritten, LeavesTree}
 use Rattle.base.proofs.disk.Put.{length-put, part-put_same, part-put_apart}
 use Rattle.base.proofs.tree.PlacedTrees.{holds-placed, told-in_tree}
 use Rattle.base.proofs.tree.PlannedTrees.{planned-holds}

@@ -9,7 +9,7 @@ use Rattle.base.specs.formats.Blocks.{IsBlock}
 use Rattle.base.specs.disk.Disk.{put, Apart}
 use Rattle.base.specs.formats.Uberblocks.{Uberblock, IsUberblock, StandsIn, IsActive, slot_size}
 use Rattle.base.specs.formats.Labels.{IsConfig, IsConfigPayload, IsChosen}
-use Rattle.base.specs.stored.ShownLabels.{ShowsUberblock}
+use Rattle.base.specs.kept.ShownLabels.{ShowsUberblock}
 use Rattle.base.proofs.disk.Put.{length-put, part-put_same, part-put_apart}
 use Rattle.base.proofs.formats.LabelPlaces.{label-apart, block-label_apart, slots-apart, slot-config_apart}
 use Rattle.base.proofs.formats.Geometry.{slot-below}

@@ -1,10 +1,11 @@
 -- A name is text.
 use Rattle.std.proofs.Common.{◌≡◌, ◌<◌, ◌≤◌, ◌&&◌, ◌⊎◌, ◌∷◌, ℕ, List, [], arith, inl, inr, length, refl, suc, sym, zero, ◌∙◌}
-use Rattle.std.specs.Prelude.{IsUtf8, false, true, slice_index}
+use Rattle.std.specs.Prelude.{IsUtf8, false, true, slice_index, nat_lt, nat_le}
 use Rattle.std.specs.List.{list_all}
 use Rattle.std.specs.Str.{IsAscii}
-use Rattle.std.proofs.lemmas.Bool.{and_parts, cases_lt, false≢true, le-leb, lt-leb, ne_eqb}
+use Rattle.std.proofs.lemmas.Bool.{and_parts, cases_lt, false≢true, leb-true, le-leb, lt-leb, ne_eqb}
 use Rattle.std.proofs.lemmas.Str.{IsUtf8-from_ascii}
+use Rattle.base.specs.formats.Limits.{max_name}
 use Rattle.base.specs.formats.Names.{IsName, is_letter, is_name_byte, is_name_length}
 
 -- no byte of a name is 128 or above
@@ -38,3 +39,9 @@ all_ascii (c ∷ name) all (suc i) = all_ascii name (and_parts (is_name_byte c) 
 pub name_is_text : (name : List ℕ) → IsName name → IsUtf8 name
 name_is_text name is =
     IsUtf8-from_ascii name (all_ascii name (and_parts (is_name_length (length name) && is_letter (slice_index name 0)) (list_all is_name_byte name) is).1)
+
+-- and it has at most 64 bytes
+pub IsName-length : (name : List ℕ) → IsName name → length name ≤ 64
+IsName-length name is =
+    let long : is_name_length (length name) ≡ true = (and_parts _ _ (and_parts _ _ is).0).0 in
+    leb-true (length name) 64 (and_parts (nat_lt 0 (length name)) (nat_le (length name) max_name) long).1

@@ -187,13 +187,13 @@ fronts_are_cut version blocks (p ∷ ps) n (bs, rest, parted, whole, addresses, 
           (suc r.0, (bs, take (n - length bs) rest, ap (λ (xs : List LogBlock). take n xs) parted ∙ take-past n bs rest from, whole, addresses, next, r.1))
     ]
 
+pub length-block_addresses : (bs : List LogBlock) → length (block_addresses bs) ≡ length bs
+length-block_addresses [] = refl
+length-block_addresses (b ∷ bs) = ap (λ (n : ℕ). suc n) (length-block_addresses bs)
+
 -- and their records are those that end in these blocks
 pub piece_long : (bs : List LogBlock) (p : LogPiece) → block_addresses bs ≡ addresses_of p → length bs ≡ suc (length p.behind)
-piece_long bs p same = sym (mapped bs) ∙ ap (λ (xs : List ℕ). length xs) same
-  where
-    mapped : (xs : List LogBlock) → length (block_addresses xs) ≡ length xs
-    mapped [] = refl
-    mapped (x ∷ xs) = ap (λ (n : ℕ). suc n) (mapped xs)
+piece_long bs p same = sym (length-block_addresses bs) ∙ ap (λ (xs : List ℕ). length xs) same
 
 -- the records of some lists
 abbrev pub joined : List (List Record) → List Record

@@ -39,10 +39,10 @@ one-number_8 m n x y m_in n_in same =
     (sym (from_le_bytes-to_le_bytes_8 m m_in) ∙ ap (λ (l : List ℕ). from_le_bytes w64 l) s.0 ∙ from_le_bytes-to_le_bytes_8 n n_in, s.1)
 
 -- the number of an object, and the length of a name, have room in 4 bytes
-below_objects : (n : ℕ) → nat_lt n object_count ≡ true → n < 2 ^ 32
+pub below_objects : (n : ℕ) → nat_lt n object_count ≡ true → n < 2 ^ 32
 below_objects n is = let below = ltb-true n object_count is in omega (arith, below)
 
-name_part : (n : ℕ) → is_name_length n ≡ true → nat_le n max_name ≡ true
+pub name_part : (n : ℕ) → is_name_length n ≡ true → nat_le n max_name ≡ true
 name_part n is = (and_parts (nat_lt 0 n) (nat_le n max_name) is).1
 
 -- operations within their limits

@@ -1,7 +1,7 @@
 -- What a commit that nothing refuses has found: its transaction, whose plan its operations have.
 use Rattle.std.proofs.Common.{◌≡◌, ℕ, zero, suc, Bool, true, false, not, ◌&&◌, List, [], ◌∷◌, map, refl, ap, sym, ◌∙◌}
 use Rattle.std.specs.Prelude.{Option, Some, None, Ok, Err, slice_get, ◌==◌}
-use Rattle.std.proofs.lemmas.Bool.{eqb-true}
+use Rattle.std.proofs.lemmas.Bool.{eqb-true, not-false, and_parts}
 use Rattle.std.specs.Option.{option_map_or}
 use Rattle.base.specs.declared.error.PoolError.{PoolError}
 use Rattle.base.specs.declared.names.ObjectId.{ObjectId}
@@ -29,10 +29,6 @@ pub ok-none : {A : Type 0} (r : Option PoolError) (a : A) (old new : State) (doe
 ok-none None a old new does own h = (refl, h)
 ok-none (Some e) a old new does own h = absurd (let no_way : Ok a ≡ Err e = h.0 in cc)
 
-pub and-true : (a b : Bool) → (a && b) ≡ true → (a ≡ true) × (b ≡ true)
-and-true true b h = (refl, h)
-and-true false b h = absurd (let no_way : false ≡ true = h in cc)
-
 same_object : (m n : ObjectId) → (m.0 == n.0) ≡ true → m ≡ n
 same_object m n h = let same : m.0 ≡ n.0 = eqb-true m.0 n.0 h in ap (λ (k : ℕ). let o : ObjectId = record { 0 = k } in o) same
 
@@ -41,11 +37,11 @@ same_shape : (x y : Shape) → is_same_shape x y ≡ true → x ≡ y
 same_shape (shape.Create m) (shape.Create n) h = ap (λ o. shape.Create o) (same_object m n h)
 same_shape (shape.Remove m) (shape.Remove n) h = ap (λ o. shape.Remove o) (same_object m n h)
 same_shape (shape.Write m o c) (shape.Write n p d) h =
-    let both : ((m.0 == n.0) ≡ true) × (((o == p) && (c == d)) ≡ true) = and-true (m.0 == n.0) ((o == p) && (c == d)) h in
-    let rest : ((o == p) ≡ true) × ((c == d) ≡ true) = and-true (o == p) (c == d) both.1 in
+    let both : ((m.0 == n.0) ≡ true) × (((o == p) && (c == d)) ≡ true) = and_parts (m.0 == n.0) ((o == p) && (c == d)) h in
+    let rest : ((o == p) ≡ true) × ((c == d) ≡ true) = and_parts (o == p) (c == d) both.1 in
     λ i. shape.Write (same_object m n both.0 i) (eqb-true o p rest.0 i) (eqb-true c d rest.1 i)
 same_shape (shape.SetLength m k) (shape.SetLength n l) h =
-    let both : ((m.0 == n.0) ≡ true) × ((k == l) ≡ true) = and-true (m.0 == n.0) (k == l) h in
+    let both : ((m.0 == n.0) ≡ true) × ((k == l) ≡ true) = and_parts (m.0 == n.0) (k == l) h in
     λ i. shape.SetLength (same_object m n both.0 i) (eqb-true k l both.1 i)
 same_shape (shape.SetName c) (shape.SetName d) h = ap (λ k. shape.SetName k) (eqb-true c d h)
 same_shape (shape.Create m) (shape.Remove n) h = absurd (let no_way : false ≡ true = h in cc)
@@ -75,15 +71,11 @@ same_plan [] [] h = refl
 same_plan [] (y ∷ ys) h = absurd (let no_way : false ≡ true = h in cc)
 same_plan (x ∷ xs) [] h = absurd (let no_way : false ≡ true = h in cc)
 same_plan (x ∷ xs) (y ∷ ys) h =
-    let both : (is_same_shape x y ≡ true) × (is_same_plan xs ys ≡ true) = and-true (is_same_shape x y) (is_same_plan xs ys) h in
+    let both : (is_same_shape x y ≡ true) × (is_same_plan xs ys ≡ true) = and_parts (is_same_shape x y) (is_same_plan xs ys) h in
     λ i. same_shape x y both.0 i ∷ same_plan xs ys both.1 i
 
 -- the transaction that a commit finds, and that its operations have its plan's shapes
 pub found-plan : (tx : ℕ) (ops : List Op) (s : State) (a : Admission) → commit_refusal tx ops s.shown ≡ None → transaction_of tx s.shown ≡ Some a → map shape_of ops ≡ a.plan
 found-plan tx ops s a none found =
     let in_plan : option_map_or (λ (x : Admission). not (is_same_plan (map shape_of ops) x.plan)) (transaction_of tx s.shown) false ≡ false = no_refusal (commit_tests tx ops s.shown) none 2 _ refl in
-    same_plan (map shape_of ops) a.plan (flip _ (sym (ap (λ o. option_map_or (λ (x : Admission). not (is_same_plan (map shape_of ops) x.plan)) o false) found) ∙ in_plan))
-  where
-    flip : (b : Bool) → not b ≡ false → b ≡ true
-    flip true h = refl
-    flip false h = absurd (let no_way : true ≡ false = h in cc)
+    same_plan (map shape_of ops) a.plan (not-false _ (sym (ap (λ o. option_map_or (λ (x : Admission). not (is_same_plan (map shape_of ops) x.plan)) o false) found) ∙ in_plan))

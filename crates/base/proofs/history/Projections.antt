@@ -41,7 +41,7 @@ gives_created : (o p : Option (List ℕ)) → created o ≡ Ok p → p ≡ Some 
 gives_created None p h = cc
 gives_created (Some bytes) p h = cc
 
-gives_removed : (o p : Option (List ℕ)) → removed o ≡ Ok p → p ≡ None
+pub gives_removed : (o p : Option (List ℕ)) → removed o ≡ Ok p → p ≡ None
 gives_removed None p h = cc
 gives_removed (Some bytes) p h = cc
 

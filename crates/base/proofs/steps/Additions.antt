@@ -10,8 +10,8 @@ use Rattle.base.specs.steps.Locks.{is_in}
 use Rattle.base.specs.history.Past.{Past, Grows, IsPrefixOf}
 use Rattle.base.specs.steps.Additions.{past_after}
 use Rattle.base.specs.steps.Steps.{State, state_after_abort, state_after_charged_admission, state_after_commit, state_after_grant, state_after_log_flush, state_after_sync, state_after_unlock}
-use Rattle.base.specs.steps.Effects.{Effect, HasEffect, state_after}
-use Rattle.base.specs.steps.Effects.Effect.{AddsGrant, LetsGo, AddsAdmission, AddsEntry, EndsAdmission, EndsSync, FlushesLog}
+use Rattle.base.specs.kept.Effects.{Effect, HasEffect, state_after}
+use Rattle.base.specs.kept.Effects.Effect.{AddsGrant, LetsGo, AddsAdmission, AddsEntry, EndsAdmission, EndsSync, FlushesLog}
 use Rattle.base.specs.steps.Runs.{Step}
 use Rattle.base.specs.steps.Tables.{IsRun}
 use Rattle.base.proofs.steps.StepEffects.{step_does}

@@ -11,6 +11,7 @@ use Rattle.std.proofs.lemmas.Grind.{flat_map-append}
 use Rattle.base.specs.formats.Records.{Record}
 use Rattle.base.specs.steps.Logs.{Begun, Log, Committed, KeptBlock, Taken, committed_of, is_same, reaches_above, header_at, committed_above, begun_committed, as_list, AreBalanced, begins_unfinished, is_needed, ends_in, begins_in, IsTaken, block_taken, log_after_write}
 use Rattle.base.specs.steps.BegunLogs.{HeadersAreAt, HeadersReach, WritesKeepBalance, WritesKeepOrder, WritesKeepHeaders}
+use Rattle.base.proofs.history.LogOrder.{none_above}
 
 -- as much begins as ends
 pub balanced_sum : (before after : Option Committed) (bs : List KeptBlock) → AreBalanced before bs after → as_list before ++ begins_in bs ≡ ends_in bs ++ as_list after
@@ -112,7 +113,7 @@ module _ (test : KeptBlock → Bool) (begins_some : (b : KeptBlock) → test b �
           }
 
 -- a record is the same as itself
-same_itself : (c : Committed) → is_same c c ≡ true
+pub same_itself : (c : Committed) → is_same c c ≡ true
 same_itself c = rw (eq-eqb c.ordinal c.ordinal refl, eq-eqb c.group c.group refl) refl
 
 -- a record that is begun after some blocks, and not before them, begins in one of these
@@ -167,13 +168,6 @@ headers_are_at group log balanced =
     finished None is none = refl
     finished (Some c) is none = absurd (begun_is_found group c log.kept is none)
 
--- where none of a list is above a group, none is left
-none_left : (group : ℕ) (cs : List Committed) → list_any (λ (r : Committed). nat_lt group r.group) cs ≡ false → committed_above group cs ≡ []
-none_left group [] none = refl
-none_left group (c ∷ cs) none =
-    let p = or_parts (nat_lt group c.group) (list_any (λ (r : Committed). nat_lt group r.group) cs) none in
-    ap (λ b. cond b (c ∷ committed_above group cs) (committed_above group cs)) p.0 ∙ none_left group cs p.1
-
 none_begin : (group : ℕ) (bs : List KeptBlock) → list_any (reaches_above group) bs ≡ false → list_any (λ (r : Committed). nat_lt group r.group) (begins_in bs) ≡ false
 none_begin group [] none = refl
 none_begin group (b ∷ bs) none =
@@ -185,7 +179,7 @@ pub headers_reach : HeadersReach
 headers_reach group header log at =
     let is_above : Committed → Bool = λ (r : Committed). nat_lt group r.group in
     let same : begins_in at.before ≡ ends_in at.before = balanced_sum None None at.before at.whole_before ∙ append-nil (ends_in at.before) in
-    let gone : committed_above group (ends_in at.before) ≡ [] = ap (committed_above group) (sym same) ∙ none_left group (begins_in at.before) (none_begin group at.before at.none_above) in
+    let gone : committed_above group (ends_in at.before) ≡ [] = ap (committed_above group) (sym same) ∙ none_above group (begins_in at.before) (none_begin group at.before at.none_above) in
     sym (ap (λ bs. committed_above group (ends_in bs)) at.parted ∙ ap (committed_above group) (flat_map-append (λ (b : KeptBlock). b.ends) at.before at.from)
     ∙ filter-append is_above (ends_in at.before) (ends_in at.from) ∙ ap (λ cs. cs ++ committed_above group (ends_in at.from)) gone)
 

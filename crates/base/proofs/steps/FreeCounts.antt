@@ -3,9 +3,11 @@ use Rattle.std.proofs.Common.{◌≡◌, ℕ, ◌+◌, ◌-◌, ◌≤◌, Bool,
 use Rattle.std.specs.Prelude.{cond}
 use Rattle.std.specs.Ordering.{nat_cmp, eq_by_cmp}
 use Rattle.std.proofs.lemmas.Cmp.{nat_cmp_total}
+use Rattle.std.proofs.Math.Bool.{or-false}
 use Rattle.std.specs.FinMap.{nat_cmp-IsAntisymmetric}
 use Rattle.std.specs.FinSet as set
 use Rattle.std.specs.FinSet.{FinSet, same_set, contains-empty, contains-insert, contains-remove, contains-difference, contains-union, len-insert, len-remove}
+use Rattle.base.proofs.common.Choices.{or-swap}
 
 -- whether a number is in a set without one more, and with one more
 difference-insert : (a b c : Bool) → (a && not (b || c)) ≡ (not b && (a && not c))
@@ -14,18 +16,9 @@ difference-insert true false c = refl
 difference-insert false true c = refl
 difference-insert false false c = refl
 
-union-insert : (a b c : Bool) → (a || (b || c)) ≡ (b || (a || c))
-union-insert true true c = refl
-union-insert true false c = refl
-union-insert false b c = refl
-
 and-true : (b : Bool) → (b && not false) ≡ b
 and-true true = refl
 and-true false = refl
-
-or-false : (b : Bool) → (b || false) ≡ b
-or-false true = refl
-or-false false = refl
 
 less_one : (b : Bool) (n m : ℕ) → m ≡ cond b (n - 1) n → n ≤ m + 1
 less_one true n m e = omega arith
@@ -69,7 +62,7 @@ union_len numbers (n ∷ more) =
     let same : set.union numbers (set.from_list (n ∷ more)) ≡ set.insert all n = same_set nat_cmp_total nat_cmp-IsAntisymmetric (set.union numbers (set.from_list (n ∷ more))) (set.insert all n)
     (λ q. contains-union nat_cmp_total numbers (set.from_list (n ∷ more)) q
     ∙ ap (λ b. set.contains numbers q || b) (contains-insert nat_cmp_total (set.from_list more) n q)
-    ∙ union-insert (set.contains numbers q) (eq_by_cmp nat_cmp q n) (set.contains (set.from_list {R = nat_cmp} more) q)
+    ∙ or-swap (set.contains numbers q) (eq_by_cmp nat_cmp q n) (set.contains (set.from_list {R = nat_cmp} more) q)
     ∙ ap (λ b. eq_by_cmp nat_cmp q n || b) (sym (contains-union nat_cmp_total numbers (set.from_list more) q))
     ∙ sym (contains-insert nat_cmp_total all n q)) in
     let long : set.len (set.union numbers (set.from_list (n ∷ more))) ≡ set.len (set.insert all n) = ap (λ (t : FinSet nat_cmp). set.len t) same in

@@ -12,6 +12,7 @@ use Rattle.std.proofs.lemmas.List.Elements.{filter-append}
 use Rattle.std.proofs.lemmas.List.FromFn.{get_or-range_with_len, length-range_with_len}
 use Rattle.std.proofs.lemmas.List.Sums.{sum_by-append, sum_by-cons}
 use Rattle.std.proofs.lemmas.Option.{slice_get-get_or, slice_get_within}
+use Rattle.std.proofs.Math.Bool.{or-false}
 use Rattle.base.specs.steps.Locks.{is_in}
 use Rattle.base.specs.steps.Groups.{Admission}
 use Rattle.base.specs.steps.Charges.{transactions_of, with_sum}
@@ -122,12 +123,8 @@ module _ (weight : Admission → ℕ) (admissions : List Admission) (aborted : L
       gone : is_in a.tx (aborted ++ tx ∷ []) ≡ true
       gone = any_push (λ y. a.tx == y) aborted tx ∙ or_right (is_in a.tx aborted) (a.tx == tx) (eq-eqb a.tx tx named)
 
-      or-none : (b : Bool) → (b || false) ≡ b
-      or-none true = refl
-      or-none false = refl
-
       others : (t : ℕ) → t ≢ tx → is_in t (aborted ++ tx ∷ []) ≡ is_in t aborted
-      others t ne = any_push (λ y. t == y) aborted tx ∙ ap (λ b. is_in t aborted || b) (ne_eqb t tx ne) ∙ or-none (is_in t aborted)
+      others t ne = any_push (λ y. t == y) aborted tx ∙ ap (λ b. is_in t aborted || b) (ne_eqb t tx ne) ∙ or-false (is_in t aborted)
 
       never : (b : Bool) → cond (b && not true) (weight a) 0 ≡ 0
       never true = refl

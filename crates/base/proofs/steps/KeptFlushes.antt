@@ -7,6 +7,7 @@ use Rattle.std.proofs.lemmas.Bool.{and_from, or_cases, or_right, eqb-true, eq-eq
 use Rattle.std.proofs.lemmas.List.{length-map}
 use Rattle.std.proofs.lemmas.List.Folds.{list_any-append}
 use Rattle.std.proofs.lemmas.Option.{slice_get-map, slice_get_within}
+use Rattle.std.proofs.Math.Bool.{or_assoc}
 use Rattle.base.specs.history.History.{Entry}
 use Rattle.base.specs.steps.Locks.{is_in}
 use Rattle.base.specs.formats.Records.{Record}
@@ -17,6 +18,7 @@ use Rattle.base.specs.steps.Steps.{ordinals_awaiting}
 use Rattle.base.specs.steps.Exact.{IsLogExact, IsSyncExact}
 use Rattle.base.proofs.history.LogOrder.{order-flush}
 use Rattle.base.proofs.common.KeptLists.{any_at, any_map, filter_same, Some-injective}
+use Rattle.base.proofs.common.Choices.{or-swap}
 
 abbrev flushed_block : KeptBlock → KeptBlock
 flushed_block b = record b { flushed = true }
@@ -50,25 +52,16 @@ settled : (o g : ℕ) (bs : List KeptBlock)
 settled o g [] only = refl
 settled o g (b ∷ bs) only = go b.flushed (settled o g bs (λ i c at. only (suc i) c at)) (ordinal_held o g b.ends (only zero b refl))
   where
-    swap : (x y z : Bool) → (x || (y || z)) ≡ (y || (x || z))
-    swap true true z = refl
-    swap true false z = refl
-    swap false y z = refl
-
-    joined : (x y z : Bool) → ((x || y) || z) ≡ (x || (y || z))
-    joined true y z = refl
-    joined false y z = refl
-
     go : (f : Bool) → (list_any (λ (c : KeptBlock). c.flushed && has_record c (record { ordinal = o; group = g })) bs || is_in o (awaiting_in bs)) ≡ list_any (λ c. has_record c (record { ordinal = o; group = g })) bs
         → is_in o (map (λ (c : Committed). c.ordinal) b.ends) ≡ has_record b (record { ordinal = o; group = g })
         → (((f && has_record b (record { ordinal = o; group = g })) || list_any (λ (c : KeptBlock). c.flushed && has_record c (record { ordinal = o; group = g })) bs)
         || is_in o (flat_map (λ (c : KeptBlock). map (λ (d : Committed). d.ordinal) c.ends) (cond (not f) (b ∷ filter (λ (c : KeptBlock). not c.flushed) bs) (filter (λ (c : KeptBlock). not c.flushed) bs))))
         ≡ (has_record b (record { ordinal = o; group = g }) || list_any (λ c. has_record c (record { ordinal = o; group = g })) bs)
-    go true rest here = joined (has_record b (record { ordinal = o; group = g })) _ (is_in o (awaiting_in bs)) ∙ ap (λ x. has_record b (record { ordinal = o; group = g }) || x) rest
+    go true rest here = or_assoc (has_record b (record { ordinal = o; group = g })) _ (is_in o (awaiting_in bs)) ∙ ap (λ x. has_record b (record { ordinal = o; group = g }) || x) rest
     go false rest here =
         let before : Bool = list_any (λ (c : KeptBlock). c.flushed && has_record c (record { ordinal = o; group = g })) bs in
         ap (λ x. before || x) (list_any-append (λ y. o == y) (map (λ (c : Committed). c.ordinal) b.ends) (awaiting_in bs))
-        ∙ swap before (is_in o (map (λ (c : Committed). c.ordinal) b.ends)) (is_in o (awaiting_in bs))
+        ∙ or-swap before (is_in o (map (λ (c : Committed). c.ordinal) b.ends)) (is_in o (awaiting_in bs))
         ∙ (λ k. here k || rest k)
 
 -- an ordinal that awaits the flush is that of a record of a kept block
@@ -149,7 +142,7 @@ module _ (s t : Shown) (p q : Past) (x : IsLogExact s p) where
     acknowledged = λ o e at.
         list_any-append (λ y. o == y) p.acknowledged (ordinals_awaiting s.log)
         ∙ ap (λ b. b || is_in o (ordinals_awaiting s.log)) (x.acknowledged o e at)
-        ∙ joined (nat_le e.group s.line.synced) (is_flushed_in s.log (record { ordinal = o; group = e.group })) (is_in o (ordinals_awaiting s.log))
+        ∙ or_assoc (nat_le e.group s.line.synced) (is_flushed_in s.log (record { ordinal = o; group = e.group })) (is_in o (ordinals_awaiting s.log))
         ∙ ap (λ b. nat_le e.group s.line.synced || b) (settled o e.group s.log.kept (same_group o e at)
         ∙ sym (any_map (λ (b : KeptBlock). b.flushed && has_record b (record { ordinal = o; group = e.group })) flushed_block s.log.kept));
     no_others = λ o is. elim (or_cases (is_in o p.acknowledged) (is_in o (ordinals_awaiting s.log)) (sym (list_any-append (λ y. o == y) p.acknowledged (ordinals_awaiting s.log)) ∙ is)) as (λ _. o < length p.entries) [
@@ -162,10 +155,6 @@ module _ (s t : Shown) (p q : Past) (x : IsLogExact s p) where
           omega arith
     ];
   }
-    where
-      joined : (a b c : Bool) → ((a || b) || c) ≡ (a || (b || c))
-      joined true b c = refl
-      joined false b c = refl
 
   pub flush_sync : IsSyncExact s → IsSyncExact (record t { log = flushed; sync = s.sync; line = record t.line { syncing = s.line.syncing } })
   flush_sync y = record {

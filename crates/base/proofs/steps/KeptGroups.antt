@@ -1,6 +1,6 @@
 -- Each step keeps the line of groups and its transactions exact.
 use Rattle.std.proofs.Common.{◌≡◌, ℕ, zero, suc, ◌+◌, ◌<◌, ◌≤◌, Bool, true, false, not, ◌&&◌, ◌||◌, List, [], ◌∷◌, ◌++◌, length, map, refl, ap, sym, subst, ◌∙◌, arith, ◌⊎◌, inl, inr}
-use Rattle.std.specs.Prelude.{Option, Some, None, is_some, IfSome, IsSomeAnd, unwrap_or, slice_get, filter, cond, ◌==◌}
+use Rattle.std.specs.Prelude.{Option, Some, None, IfSome, IsSomeAnd, unwrap_or, slice_get, filter, cond, ◌==◌}
 use Rattle.std.proofs.lemmas.Bool.{ne_eqb, eq-eqb, eqb-true, and_parts, not-true, or_from, false≢true}
 use Rattle.std.proofs.lemmas.List.{length_push}
 use Rattle.std.proofs.lemmas.List.Elements.{filter-append}
@@ -176,10 +176,6 @@ abort_keeps s t p tx k a x at named = record {
   transactions = ap (λ ts. filter (λ (b : Admission). not (b.tx == tx)) ts) x.transactions ∙ open_abort s.line p.admissions p.entries p.aborted x.members tx;
   next = x.next;
 }
-
-pub none_there : {A : Type 0} (o : Option A) → is_some o ≡ false → o ≡ None
-none_there None h = refl
-none_there (Some a) h = absurd (let no_way : true ≡ false = h in cc)
 
 -- the open group is closed
 pub line_close : (l : Line) → IsLine l → l.middle ≡ None → l.open_group < last_number → IsLine (line_after_close l)

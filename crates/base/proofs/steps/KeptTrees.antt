@@ -3,7 +3,7 @@ use Rattle.std.proofs.Common.{◌≡◌, ℕ, zero, suc, ◌<◌, true, List, []
 use Rattle.std.specs.Prelude.{Option, Some, None, Ok, slice_get, length, nat_lt, ◌+◌, ◌==◌}
 use Rattle.std.specs.List.{list_all}
 use Rattle.std.proofs.lemmas.Bool.{and_parts}
-use Rattle.base.specs.crash.Imports.{IsImported}
+use Rattle.base.specs.kept.Imports.{IsImported}
 use Rattle.base.specs.formats.Records.{is_content_allowed}
 use Rattle.base.specs.formats.Uberblocks.{Uberblock}
 use Rattle.base.specs.history.Contents.{Contents, length_of}
@@ -20,7 +20,7 @@ use Rattle.base.proofs.common.Sequences.{parted}
 use Rattle.base.proofs.history.Cuts.{trees_follow, up_to_push}
 use Rattle.base.proofs.history.KeptContents.{operations_keep}
 
-same_tree : (p q : Past) {group : ℕ} {c : Contents} {lengths : ℕ → Option ℕ} → IsTreeOf group p c lengths → IsTreeOf group (record q { base = p.base; entries = p.entries }) c lengths
+same_tree : (p q : Past) {group : ℕ} {c : Contents} {lengths : List (Option ℕ)} → IsTreeOf group p c lengths → IsTreeOf group (record q { base = p.base; entries = p.entries }) c lengths
 same_tree p q y = record { replayed = y.replayed; bounded = y.bounded; lengths = y.lengths }
 
 -- they stay exact where nothing of them changes
@@ -29,7 +29,7 @@ pub same_trees : (s t : Shown) (p q : Past) → AreTreesExact s p
 same_trees s t p q x = record { synced = same_tree p q x.synced; planned = λ group plan syncing running. same_tree p q (x.planned group plan syncing running) }
 
 -- an entry above a group leaves what the group has left
-pub push_tree : (group : ℕ) (p q : Past) (e : Entry) (c : Contents) (lengths : ℕ → Option ℕ) → group < e.group → IsTreeOf group p c lengths
+pub push_tree : (group : ℕ) (p q : Past) (e : Entry) (c : Contents) (lengths : List (Option ℕ)) → group < e.group → IsTreeOf group p c lengths
     → IsTreeOf group (record q { base = p.base; entries = p.entries ++ e ∷ [] }) c lengths
 push_tree group p q e c lengths above y = record {
   replayed = ap (λ es. replay es p.base) (up_to_push group p.entries e above) ∙ y.replayed;

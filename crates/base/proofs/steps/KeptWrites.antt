@@ -1,11 +1,12 @@
 -- Each write of a log block, answered or refused, keeps what is shown of the log exact.
-use Rattle.std.proofs.Common.{◌≡◌, ℕ, zero, suc, ◌+◌, ◌-◌, ◌<◌, ◌≤◌, Bool, true, false, not, ◌&&◌, ◌||◌, List, [], ◌∷◌, ◌++◌, length, map, refl, ap, sym, subst, ◌∙◌, arith, inl, inr}
+use Rattle.std.proofs.Common.{◌≡◌, ℕ, suc, ◌+◌, ◌-◌, ◌<◌, ◌≤◌, Bool, true, false, not, ◌&&◌, ◌||◌, List, [], ◌∷◌, ◌++◌, length, map, refl, ap, sym, subst, ◌∙◌, arith, inl, inr}
 use Rattle.std.specs.Prelude.{Option, Some, None, IfSome, slice_get, filter, nat_lt, nat_le, ◌==◌, option_map, All}
 use Rattle.std.specs.List.{enumerate_from, list_any}
-use Rattle.std.proofs.lemmas.Bool.{and_parts, and_left, eqb-true, eq-eqb, ne_eqb, false≢true}
+use Rattle.std.proofs.lemmas.Bool.{and_parts, and_left, eqb-true, ne_eqb, false≢true}
 use Rattle.std.proofs.lemmas.List.{length_push}
 use Rattle.std.proofs.lemmas.List.Elements.{filter-append}
 use Rattle.std.proofs.lemmas.Option.{slice_get-map, slice_get_within}
+use Rattle.std.proofs.Math.Bool.{or-false}
 use Rattle.base.specs.history.History.{Entry}
 use Rattle.base.specs.formats.Records.{Record}
 use Rattle.base.specs.history.Past.{Past}
@@ -14,16 +15,11 @@ use Rattle.base.specs.steps.Shown.{Shown, SyncPlan}
 use Rattle.base.specs.steps.Exact.{IsBegunRecord, IsLogExact, IsSyncExact}
 use Rattle.base.proofs.common.Sieves.{filter-filter, filter_all, filter_nothing}
 use Rattle.base.proofs.history.LogOrder.{order-write}
-use Rattle.base.proofs.steps.BegunLogs.{writes_keep_balance, writes_keep_balance_from}
-use Rattle.base.proofs.common.KeptLists.{none_at, at_front, at_filter, pair_filter, any_at, any_found, any_none, any_push, filter_same, Some-injective, push-cases, All-each}
-
-enumerated_at : {A : Type 0} (n : ℕ) (xs : List A) (k : ℕ) (p : ℕ × A) → slice_get (enumerate_from n xs) k ≡ Some p → (p.0 ≡ n + k) × (slice_get xs k ≡ Some p.1)
-enumerated_at n [] k p at = absurd (none_at k p at)
-enumerated_at n (x ∷ xs) zero p at = let same = Some-injective at in (ap (λ q. q.0) (sym same) ∙ omega arith, ap (λ q. Some q.1) same)
-enumerated_at n (x ∷ xs) (suc k) p at = let later = enumerated_at (n + 1) xs k p at in (let is : p.0 ≡ n + 1 + k = later.0 in omega arith, later.1)
+use Rattle.base.proofs.steps.BegunLogs.{writes_keep_balance, writes_keep_balance_from, same_itself}
+use Rattle.base.proofs.common.KeptLists.{at_front, at_filter, pair_filter, any_at, any_found, any_none, any_push, filter_same, Some-injective, push-cases, All-each, enumerated_at}
 
 -- a record of the entries at a place is the one of the entry there
-recorded_at : (entries : List Entry) (k : ℕ) (r : Record) → slice_get (map record_of_entry (enumerate_from 0 entries)) k ≡ Some r
+pub recorded_at : (entries : List Entry) (k : ℕ) (r : Record) → slice_get (map record_of_entry (enumerate_from 0 entries)) k ≡ Some r
     → (e : Entry) × (slice_get entries k ≡ Some e) × (r.ordinal ≡ k) × (e.group ≡ r.group) × (e.ops ≡ r.ops)
 recorded_at entries k r at = go (slice_get (enumerate_from 0 entries) k) refl (sym (slice_get-map record_of_entry (enumerate_from 0 entries) k) ∙ at)
   where
@@ -96,10 +92,7 @@ module _ (s t : Shown) (p q : Past) (x : IsLogExact s p) (got : Taken) (address 
 
   none_left : filter is_left taken ≡ []
   none_left = filter_same is_left (λ r. false) taken (λ i r at. ap not (any_at (is_same (committed_of r)) (map committed_of taken) i (committed_of r)
-      (slice_get-map committed_of taken i ∙ ap (λ o. option_map committed_of o) at) (itself (committed_of r)))) ∙ filter_nothing taken
-    where
-      itself : (c : Committed) → is_same c c ≡ true
-      itself c = rw (eq-eqb c.ordinal c.ordinal refl, eq-eqb c.group c.group refl) refl
+      (slice_get-map committed_of taken i ∙ ap (λ o. option_map committed_of o) at) (same_itself (committed_of r)))) ∙ filter_nothing taken
 
   all_left : filter is_left rest ≡ rest
   all_left = filter_all is_left rest (All-each (λ (u : Record). is_left u ≡ true) rest (λ j u at_j. ap not (any_none (is_same (committed_of u)) (map committed_of taken)
@@ -158,13 +151,9 @@ module _ (s t : Shown) (p q : Past) (x : IsLogExact s p) (got : Taken) (address 
       go : (o : Option Begun) → IsTaken o s.log.pending got → IfSome o (IsBegunRecord p.entries) → Known
       go (Some g) (begins, pending, bytes, inl (fits, ends, done)) h =
           let one : (is_same r (committed_of g.logged) || false) ≡ true = sym (ap (λ (rs : List Record). list_any (is_same r) (map committed_of rs)) ends) ∙ has in
-          let same : is_same r (committed_of g.logged) ≡ true = sym (or_none (is_same r (committed_of g.logged))) ∙ one in
+          let same : is_same r (committed_of g.logged) ≡ true = sym (or-false (is_same r (committed_of g.logged))) ∙ one in
           let both = and_parts (r.ordinal == g.logged.ordinal) (r.group == g.logged.group) same in
           (h.entry, ap (λ k. slice_get p.entries k) (eqb-true r.ordinal g.logged.ordinal both.0) ∙ h.at, h.group_is ∙ sym (eqb-true r.group g.logged.group both.1))
-        where
-          or_none : (b : Bool) → (b || false) ≡ b
-          or_none true = refl
-          or_none false = refl
       go (Some g) (begins, pending, bytes, inr (more, ends, left)) h = none ends
       go None (inl (whole, ends, bytes, done)) h = begun_after r (ap (λ (rs : List Record). list_any (is_same r) (map committed_of rs)) (sym ends) ∙ has)
       go None (inr (u, front, begins, long, ends, bytes, left)) h = none ends
@@ -185,11 +174,7 @@ module _ (s t : Shown) (p q : Past) (x : IsLogExact s p) (got : Taken) (address 
           (record { entry = entry.0; at = ap (λ k. slice_get p.entries k) entry.2 ∙ entry.1; group_is = entry.3; ops_are = entry.4; long = long; left = long })
 
   flushed_after : (r : Committed) → is_flushed_in written r ≡ is_flushed_in s.log r
-  flushed_after r = any_push (λ (b : KeptBlock). b.flushed && has_record b r) s.log.kept block ∙ or_none (is_flushed_in s.log r)
-    where
-      or_none : (b : Bool) → (b || false) ≡ b
-      or_none true = refl
-      or_none false = refl
+  flushed_after r = any_push (λ (b : KeptBlock). b.flushed && has_record b r) s.log.kept block ∙ or-false (is_flushed_in s.log r)
 
   -- the front of what is pending is written to a new block
   pub write_log : IsLogExact (record t { log = written; line = record t.line { synced = s.line.synced }; next_ordinal = s.next_ordinal }) (record q { entries = p.entries; acknowledged = p.acknowledged })

@@ -28,7 +28,7 @@ use Rattle.base.proofs.tree.Estimates.{syncs_fit}
 abbrev estimate_of_entry : Entry → ℕ
 estimate_of_entry e = estimate_of (map shape_of e.ops)
 
-estimate-flat_map : (entries : List Entry) → estimate_of (map shape_of (flat_map (λ (e : Entry). e.ops) entries)) ≡ sum_by estimate_of_entry entries
+pub estimate-flat_map : (entries : List Entry) → estimate_of (map shape_of (flat_map (λ (e : Entry). e.ops) entries)) ≡ sum_by estimate_of_entry entries
 estimate-flat_map [] = refl
 estimate-flat_map (e ∷ entries) =
     ap (λ shapes. estimate_of shapes) (map-append shape_of e.ops (flat_map (λ (f : Entry). f.ops) entries))

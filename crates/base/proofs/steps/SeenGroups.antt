@@ -10,8 +10,8 @@ use Rattle.base.specs.steps.Groups.{Line}
 use Rattle.base.specs.history.Past.{Grows}
 use Rattle.base.specs.steps.Logs.{KeptBlock, Committed, has_record, is_flushed_in}
 use Rattle.base.specs.steps.Shown.{is_durable}
-use Rattle.base.specs.steps.Effects.{Effect, HasEffect, MayHave, state_after}
-use Rattle.base.specs.steps.Effects.Effect.{OpensNext, EndsSync}
+use Rattle.base.specs.kept.Effects.{Effect, HasEffect, MayHave, state_after}
+use Rattle.base.specs.kept.Effects.Effect.{OpensNext, EndsSync}
 use Rattle.base.specs.steps.Steps.{State}
 use Rattle.base.specs.steps.Tables.{AreTablesExplained, IsRun, GoesOn}
 use Rattle.base.specs.steps.Seen.{IsKnownDurable, IsPoolSynced}

@@ -1,153 +1,175 @@
 -- Which configs the labels of a pool hold while its sync goes on. Each config call gives one more label the new config.
 -- After the first label stage that one is chosen for the group of the sync.
-use Rattle.std.proofs.Common.{◌≡◌, ℕ, ◌+◌, ◌-◌, ◌<◌, ◌≤◌, Bool, true, false, List, [], length, refl, ap, sym, subst, ◌∙◌, arith, ◌⊎◌, inl, inr}
-use Rattle.std.specs.Prelude.{Option, Some, None, nat_lt, unwrap_or, if◌then◌else◌}
-use Rattle.std.proofs.lemmas.Bool.{false≢true, le-ltb, lt-ltb}
+use Rattle.std.proofs.Common.{◌≡◌, ℕ, ◌+◌, ◌-◌, ◌<◌, ◌≤◌, true, false, List, [], length, take, refl, ap, sym, subst, ◌∙◌, arith, ◌⊎◌, inl, inr}
+use Rattle.std.specs.Prelude.{Option, Some, None, is_some, slice_get, unwrap_or}
+use Rattle.std.specs.List.{count_by}
+use Rattle.std.proofs.lemmas.Bool.{cases_lt, false≢true}
+use Rattle.std.proofs.lemmas.List.Sums.{count_by_more_no, count_by_more_yes}
+use Rattle.std.proofs.lemmas.Option.{get_or_from_slice_get, slice_get_within}
 use Rattle.base.specs.history.History.{Entry, replay, entries_up_to}
 use Rattle.base.specs.history.Past.{Past}
-use Rattle.base.specs.formats.Geometry.{block_size, config_place, IsGeometry}
-use Rattle.base.specs.formats.Labels.{IsConfig, IsChosen}
-use Rattle.base.specs.crash.SyncCalls.{NewTree, IsConfigCall, IsFlushCall, stage_calls, staged_before, staged_labels}
-use Rattle.base.specs.disk.Disk.{put}
+use Rattle.base.specs.formats.Labels.{IsConfig, IsChosen, even_labels, odd_labels}
+use Rattle.base.specs.kept.Views.{IsConfigContent}
+use Rattle.base.specs.kept.SyncCalls.{NewTree, order_of_tree, stage_calls, staged_labels, total_calls}
+use Rattle.base.specs.disk.SyncOrder.{DeviceCall, calls_even_first, is_config}
+use Rattle.base.specs.disk.SyncOrder.DeviceCall.{Block, Config, Uberblock, Flush}
 use Rattle.base.specs.steps.Shown.{Shown}
-use Rattle.base.specs.stored.LabelConfigs.{HaveConfigs, HoldConfigs, WritesName, stage_place, written_config, written_labels}
+use Rattle.base.specs.kept.LabelConfigs.{HaveConfigs, HoldConfigs, WritesName, stage_place, written_config, written_labels}
 use Rattle.base.proofs.common.KeptLists.{Some-injective}
-use Rattle.base.proofs.disk.StagedLabels.{configs-along, stage-within, staged-chosen, staged-chosen_before, staged-config, staged-once, unstaged-chosen}
+use Rattle.base.proofs.disk.StagedLabels.{configs-along, stage-within, staged-chosen, staged-config, unstaged-chosen}
+use Rattle.base.proofs.disk.SyncOrder.{EachAt, block_stands, call_at, count-configs, length-calls, others_stand}
 use Rattle.base.proofs.disk.WrittenLabels.{SameConfigs}
 
--- from offset 2 on some label has the new config, and up to offset 9 at most two have it
-staged-some : (offset : ℕ) → 1 < offset → 0 < staged_before offset
-staged-some offset behind = subst (λ (x : Bool). 0 < (if x then 0 else (if nat_lt offset 3 then 1 else (if nat_lt offset 10 then 2 else (if nat_lt offset 11 then 3 else 4))))) (sym (le-ltb offset 2 behind))
-    (positive (nat_lt offset 3) (nat_lt offset 10) (nat_lt offset 11))
+-- from the first uberblock on some label has the new config of label stages
+abbrev pub IsStaged : Option (List ℕ) → (count : ℕ) → Type 0
+IsStaged None count = count ≡ 0
+IsStaged (Some config) count = 0 < count
+
+-- What a call is, by its place, after so many blocks, if so many labels have the config. A config goes into the next
+-- label of the stages, and two configs come before the uberblocks. A flush comes before them or after them.
+abbrev pub IsTurn : (stages : Option (List ℕ)) (blocks place count : ℕ) → DeviceCall → Type 0
+IsTurn stages blocks place count (Block k) = (k ≡ place) × (place < blocks)
+IsTurn stages blocks place count (Config label) =
+    (is_some stages ≡ true) × (blocks ≤ place) × (count < 4) × (label ≡ stage_place count)
+    × (((place ≤ blocks + stage_calls stages) × (count < 2)) ⊎ (blocks + 1 + stage_calls stages < place))
+IsTurn stages blocks place count (Uberblock label) = (label < 4) × (place ≡ blocks + 1 + stage_calls stages + label) × IsStaged stages count
+IsTurn stages blocks place count Flush = (blocks ≤ place) × ((place ≤ blocks + stage_calls stages) ⊎ (blocks + 1 + stage_calls stages < place))
+
+-- the calls after the blocks, and how many labels have the config before one of them
+abbrev others : Option (List ℕ) → List DeviceCall
+others stages = calls_even_first 0 (is_some stages)
+
+abbrev staged_among : Option (List ℕ) → ℕ → ℕ
+staged_among stages offset = count_by is_config (take offset (others stages))
+
+other_turns : (stages : Option (List ℕ)) → EachAt (λ offset call. IsTurn stages 0 offset (staged_among stages offset) call) 0 (others stages)
+other_turns None = (
+  (omega arith, inl (omega arith)),
+  ((omega arith, refl, refl), ((omega arith, refl, refl), ((omega arith, refl, refl), ((omega arith, refl, refl), ((omega arith, inr (omega arith)), tt))))),
+)
+other_turns (Some config) = (
+  (omega arith, inl (omega arith)),
+  (
+    (refl, omega arith, omega arith, refl, inl (omega arith, omega arith)),
+    (
+      (refl, omega arith, omega arith, refl, inl (omega arith, omega arith)),
+      (
+        (omega arith, inl (omega arith)),
+        (
+          (omega arith, refl, omega arith),
+          (
+            (omega arith, refl, omega arith),
+            (
+              (omega arith, refl, omega arith),
+              (
+                (omega arith, refl, omega arith),
+                (
+                  (omega arith, inr (omega arith)),
+                  ((refl, omega arith, omega arith, refl, inr (omega arith)), ((refl, omega arith, omega arith, refl, inr (omega arith)), ((omega arith, inr (omega arith)), tt))),
+                ),
+              ),
+            ),
+          ),
+        ),
+      ),
+    ),
+  ),
+)
+
+-- the same after so many blocks
+moved_turn : (stages : Option (List ℕ)) (blocks place offset count : ℕ) (call : DeviceCall) → place ≡ blocks + offset → IsTurn stages 0 offset count call → IsTurn stages blocks place count call
+moved_turn stages blocks place offset count (Block k) at (is, none) = absurd (omega (arith, none))
+moved_turn stages blocks place offset count (Config label) at (some, from, below, is, inl (early, few)) = (some, omega (arith, at), below, is, inl (omega (arith, at, early), few))
+moved_turn stages blocks place offset count (Config label) at (some, from, below, is, inr late) = (some, omega (arith, at), below, is, inr (omega (arith, at, late)))
+moved_turn stages blocks place offset count (Uberblock label) at (below, is, staged) = (below, omega (arith, at, is), staged)
+moved_turn stages blocks place offset count Flush at (from, inl early) = (omega (arith, at), inl (omega (arith, at, early)))
+moved_turn stages blocks place offset count Flush at (from, inr late) = (omega (arith, at), inr (omega (arith, at, late)))
+
+-- the labels with the config are those after the blocks
+staged-behind : (new : NewTree) → staged_labels new ≡ staged_among new.stages (new.done - length new.blocks)
+staged-behind new = count-configs (length new.blocks) (is_some new.stages) even_labels odd_labels new.done
+
+-- the next call of a sync
+pub next-turn : (new : NewTree) (call : DeviceCall) → slice_get (order_of_tree new) new.done ≡ Some call → IsTurn new.stages (length new.blocks) new.done (staged_labels new) call
+next-turn new call at = elim (cases_lt new.done (length new.blocks)) as (λ _. IsTurn new.stages (length new.blocks) new.done (staged_labels new) call) [
+  | inl before ↦
+      let same : Block new.done ≡ call = Some-injective (sym (block_stands (length new.blocks) (is_some new.stages) even_labels odd_labels new.done before) ∙ at) in
+      subst (IsTurn new.stages (length new.blocks) new.done (staged_labels new)) same (refl, before)
+  | inr behind ↦
+      let offset : ℕ = new.done - length new.blocks in
+      let there : slice_get (others new.stages) offset ≡ Some call =
+      sym (others_stand (length new.blocks) (is_some new.stages) even_labels odd_labels new.done offset (omega (arith, behind))) ∙ at in
+      let zero_behind : 0 + offset ≡ offset = omega arith in
+      let turn : IsTurn new.stages 0 offset (staged_among new.stages offset) call =
+      subst (λ (n : ℕ). IsTurn new.stages 0 n (staged_among new.stages n) call) zero_behind
+      (call_at (λ n c. IsTurn new.stages 0 n (staged_among new.stages n) c) 0 (others new.stages) offset call (other_turns new.stages) there) in
+      moved_turn new.stages (length new.blocks) new.done offset (staged_labels new) call (omega (arith, behind)) (subst (λ (n : ℕ). IsTurn new.stages 0 offset n call) (sym (staged-behind new)) turn)
+]
+
+-- a config gives one more label the config, and any other call none
+module _ (new : NewTree) (call : DeviceCall) (at : slice_get (order_of_tree new) new.done ≡ Some call) where
+  pub next-within : new.done + 1 ≤ total_calls new
+  next-within = let within = slice_get_within (order_of_tree new) new.done call at in omega (arith, within)
+
+  pub staged-more : is_config call ≡ true → staged_labels (record new { done = new.done + 1 }) ≡ staged_labels new + 1
+  staged-more is = count_by_more_yes is_config (order_of_tree new) new.done Flush (slice_get_within (order_of_tree new) new.done call at)
+      (ap is_config (get_or_from_slice_get (order_of_tree new) new.done call Flush at) ∙ is)
+
+  pub staged-still : is_config call ≡ false → staged_labels (record new { done = new.done + 1 }) ≡ staged_labels new
+  staged-still is = count_by_more_no is_config (order_of_tree new) new.done Flush (slice_get_within (order_of_tree new) new.done call at)
+      (ap is_config (get_or_from_slice_get (order_of_tree new) new.done call Flush at) ∙ is)
+
+-- so many calls there are
+pub all-calls : (new : NewTree) → total_calls new ≡ length new.blocks + 6 + stage_calls new.stages + stage_calls new.stages
+all-calls new = let long = length-calls (length new.blocks) (is_some new.stages) even_labels odd_labels in let count = by_stages new.stages in omega (arith, long, count)
   where
-    positive : (x y z : Bool) → 0 < (if x then 1 else (if y then 2 else (if z then 3 else 4)))
-    positive true y z = omega arith
-    positive false true z = omega arith
-    positive false false true = omega arith
-    positive false false false = omega arith
+    by_stages : (stages : Option (List ℕ)) → length (others stages) ≡ 6 + stage_calls stages + stage_calls stages
+    by_stages None = refl
+    by_stages (Some config) = refl
 
-staged-few : (offset : ℕ) → offset < 10 → staged_before offset ≤ 2
-staged-few offset below = subst (λ (x : Bool). (if nat_lt offset 2 then 0 else (if nat_lt offset 3 then 1 else (if x then 2 else (if nat_lt offset 11 then 3 else 4)))) ≤ 2) (sym (lt-ltb offset 10 below))
-    (few (nat_lt offset 2) (nat_lt offset 3))
+-- after all of them each label has the config of label stages
+abbrev pub all_labels : Option (List ℕ) → ℕ
+all_labels None = 0
+all_labels (Some config) = 4
+
+pub staged-all : (new : NewTree) → new.done ≡ total_calls new → staged_labels new ≡ all_labels new.stages
+staged-all new all = staged-behind new ∙ by_stages new.stages (new.done - length new.blocks) (let count = all-calls new in omega (arith, all, count))
   where
-    few : (x y : Bool) → (if x then 0 else (if y then 1 else 2)) ≤ 2
-    few true y = omega arith
-    few false true = omega arith
-    few false false = omega arith
+    by_stages : (stages : Option (List ℕ)) (offset : ℕ) → offset ≡ 6 + stage_calls stages + stage_calls stages → staged_among stages offset ≡ all_labels stages
+    by_stages None offset at = ap (staged_among None) at
+    by_stages (Some config) offset at = ap (staged_among (Some config)) at
 
--- between the two stages it is two
-staged-between : (offset : ℕ) → 3 ≤ offset → offset < 10 → staged_before offset ≡ 2
-staged-between offset from below =
-    ap (λ (x : Bool). if x then 0 else (if nat_lt offset 3 then 1 else (if nat_lt offset 10 then 2 else (if nat_lt offset 11 then 3 else 4)))) (le-ltb offset 2 (omega (arith, from)))
-    ∙ ap (λ (x : Bool). if x then 1 else (if nat_lt offset 10 then 2 else (if nat_lt offset 11 then 3 else 4))) (le-ltb offset 3 from)
-    ∙ ap (λ (x : Bool). if x then 2 else (if nat_lt offset 11 then 3 else 4)) (lt-ltb offset 10 below)
+-- the config of label stages is one with the new name
+pub config-named : (stages : Option (List ℕ)) (size guid group : ℕ) (before after : List ℕ) → is_some stages ≡ true → WritesName stages size guid group before after → IsConfigContent (unwrap_or stages []) size guid group after
+config-named None size guid group before after some named = absurd (false≢true some)
+config-named (Some config) size guid group before after some named = named
 
--- a flush, and a write of an uberblock, leave how many labels have it
-pub staged-flush : (stages : Option (List ℕ)) (offset : ℕ) → IsFlushCall stages offset → staged_labels stages (offset + 1) ≡ staged_labels stages offset
-staged-flush None offset is = refl
-staged-flush (Some config) offset is = same is
-  where
-    at : (n : ℕ) → offset ≡ n → staged_before (n + 1) ≡ staged_before n → staged_before (offset + 1) ≡ staged_before offset
-    at n place equal = ap (λ (k : ℕ). staged_before (k + 1)) place ∙ equal ∙ ap staged_before (sym place)
-
-    same : IsFlushCall (Some config) offset → staged_before (offset + 1) ≡ staged_before offset
-    same (inl first) = at 0 first refl
-    same (inr (inl behind)) = at 8 behind refl
-    same (inr (inr (some, inl third))) = at 3 third refl
-    same (inr (inr (some, inr last))) = at 11 last refl
-
-pub staged-slot : (stages : Option (List ℕ)) (offset label : ℕ) → label < 4 → offset ≡ 1 + stage_calls stages + label → staged_labels stages (offset + 1) ≡ staged_labels stages offset
-staged-slot None offset label below at = refl
-staged-slot (Some config) offset label below at = staged-between (offset + 1) (omega (arith, at)) (omega (arith, at, below)) ∙ sym (staged-between offset (omega (arith, at)) (omega (arith, at, below)))
-
--- which label a call of a stage writes, and how many have the config before it and after it
-config-call : (label offset : ℕ) → IsConfigCall label offset → (count : ℕ) × (count < 4) × (label ≡ stage_place count) × (staged_before offset ≡ count) × (staged_before (offset + 1) ≡ count + 1)
-config-call label offset (inl (is, at)) = (0, omega arith, is, ap staged_before at, ap (λ (k : ℕ). staged_before (k + 1)) at)
-config-call label offset (inr (inl (is, at))) = (1, omega arith, is, ap staged_before at, ap (λ (k : ℕ). staged_before (k + 1)) at)
-config-call label offset (inr (inr (inl (is, at)))) = (2, omega arith, is, ap staged_before at, ap (λ (k : ℕ). staged_before (k + 1)) at)
-config-call label offset (inr (inr (inr (is, at)))) = (3, omega arith, is, ap staged_before at, ap (λ (k : ℕ). staged_before (k + 1)) at)
-
-pub config-label : (label offset : ℕ) → IsConfigCall label offset → label < 4
-config-label label offset (inl (is, at)) = omega (arith, is)
-config-label label offset (inr (inl (is, at))) = omega (arith, is)
-config-label label offset (inr (inr (inl (is, at)))) = omega (arith, is)
-config-label label offset (inr (inr (inr (is, at)))) = omega (arith, is)
-
--- a call of a label stage, and a flush, come before the uberblocks or after them
-abbrev pub IsBeside : Option (List ℕ) → ℕ → Type 0
-IsBeside stages offset = (offset ≤ stage_calls stages) ⊎ ((1 + stage_calls stages < offset) × (offset < 6 + stage_calls stages + stage_calls stages))
-
-pub config-beside : (stages : Option (List ℕ)) (config : List ℕ) (label offset : ℕ) → stages ≡ Some config → IsConfigCall label offset → IsBeside stages offset
-config-beside None config label offset is at = absurd (let no_way : None ≡ Some config = is in cc)
-config-beside (Some other) config label offset is (inl (k, at)) = inl (omega (arith, at))
-config-beside (Some other) config label offset is (inr (inl (k, at))) = inl (omega (arith, at))
-config-beside (Some other) config label offset is (inr (inr (inl (k, at)))) = inr (omega (arith, at), omega (arith, at))
-config-beside (Some other) config label offset is (inr (inr (inr (k, at)))) = inr (omega (arith, at), omega (arith, at))
-
-pub flush-beside : (stages : Option (List ℕ)) (offset : ℕ) → IsFlushCall stages offset → IsBeside stages offset
-flush-beside stages offset (inl at) = inl (omega (arith, at))
-flush-beside stages offset (inr (inl at)) = inr (omega (arith, at), omega (arith, at))
-flush-beside (Some config) offset (inr (inr (some, inl at))) = inl (omega (arith, at))
-flush-beside (Some config) offset (inr (inr (some, inr at))) = inr (omega (arith, at), omega (arith, at))
-flush-beside None offset (inr (inr (some, at))) = absurd (false≢true some)
-
--- the config that is written is a whole block
-pub config-long : (stages : Option (List ℕ)) (config : List ℕ) (size guid group : ℕ) (before after : List ℕ) → stages ≡ Some config → WritesName stages size guid group before after → length config ≡ block_size
-config-long None config size guid group before after is named = absurd (let no_way : None ≡ Some config = is in cc)
-config-long (Some other) config size guid group before after is named = ap length (sym (Some-injective is)) ∙ named.block.size
-
--- what the labels have before the call at an offset, of a sync with these stages
-abbrev pub HaveStaged : Option (List ℕ) → (offset : ℕ) → List ℕ → (guid low : ℕ) → (before : List ℕ) → Type 0
-HaveStaged stages offset now guid low before = HaveConfigs now guid low before (unwrap_or stages []) (staged_labels stages offset)
-
-module _ (guid low group : ℕ) (before after : List ℕ) (above : low < group) where
-  -- up to the uberblocks the config so far is chosen for the synced group
-  pub chosen-before : (stages : Option (List ℕ)) (offset : ℕ) (now : List ℕ) → offset ≤ 1 + stage_calls stages → HaveStaged stages offset now guid low before → WritesName stages (length now) guid group before after
-      → (bound : ℕ) → low ≤ bound → bound < group → IsChosen now guid bound low before
-  chosen-before None offset now in_front have named bound from below = unstaged-chosen now guid low 0 before [] have refl bound from
-  chosen-before (Some config) offset now in_front have named bound from below =
-      staged-chosen_before now guid low (staged_before offset) before config have group after named above (staged-few offset (omega (arith, in_front))) bound from below
-
-  -- and from the first uberblock on the config with the name of the sync for its group
-  pub chosen-behind : (stages : Option (List ℕ)) (offset : ℕ) (now : List ℕ) → stage_calls stages < offset → HaveStaged stages offset now guid low before → WritesName stages (length now) guid group before after
+module _ (guid low group : ℕ) (before after : List ℕ) (above : low < group) (now : List ℕ) where
+  -- from the first uberblock on the config with the name of the sync is chosen for its group
+  pub chosen-behind : (stages : Option (List ℕ)) (count : ℕ) → IsStaged stages count → HaveConfigs now guid low before (unwrap_or stages []) count → WritesName stages (length now) guid group before after
       → (found : ℕ) × IsChosen now guid group found after
-  chosen-behind None offset now behind have named = (low, subst (λ (name : List ℕ). IsChosen now guid group low name) (sym named) (unstaged-chosen now guid low 0 before [] have refl group (omega (arith, above))))
-  chosen-behind (Some config) offset now behind have named =
-      (group, staged-chosen now guid low (staged_before offset) before config have group after named above (staged-some offset (omega (arith, behind))) group (omega arith))
+  chosen-behind None count staged have named = (low, subst (λ (name : List ℕ). IsChosen now guid group low name) (sym named) (unstaged-chosen now guid low count before [] have staged group (omega (arith, above))))
+  chosen-behind (Some config) count staged have named = (group, staged-chosen now guid low count before config have group after named above staged group (omega arith))
 
   -- at its end each label has that one
-  pub staged-end : (stages : Option (List ℕ)) (offset : ℕ) (now : List ℕ) → offset ≡ 6 + stage_calls stages + stage_calls stages → HaveStaged stages offset now guid low before
-      → WritesName stages (length now) guid group before after → (found : ℕ) × (found ≤ group) × HaveConfigs now guid found after [] 0
-  staged-end None offset now at have named = (
+  pub staged-end : (stages : Option (List ℕ)) (count : ℕ) → count ≡ all_labels stages → HaveConfigs now guid low before (unwrap_or stages []) count → WritesName stages (length now) guid group before after
+      → (found : ℕ) × (found ≤ group) × HaveConfigs now guid found after [] 0
+  staged-end None count all have named = (
     low,
     omega (arith, above),
     record {
       written = λ label below none. absurd (omega (arith, none));
-      left = λ label below more. subst (λ (name : List ℕ). IsConfig now label guid low name) (sym named) (have.left label below (omega arith));
+      left = λ label below more. subst (λ (name : List ℕ). IsConfig now label guid low name) (sym named) (have.left label below (omega (arith, all)));
     },
   )
-  staged-end (Some config) offset now at have named = (
+  staged-end (Some config) count all have named = (
     group,
     omega arith,
     record {
       written = λ label below none. absurd (omega (arith, none));
-      left = λ label below more. staged-config now guid low (staged_before offset) before config have group after named above label below
-          (let all : staged_before offset ≡ 4 = ap staged_before at in let within = stage-within label below in omega (arith, all, within));
+      left = λ label below more. staged-config now guid low count before config have group after named above label below (let within = stage-within label below in omega (arith, all, within));
     },
   )
-
--- a call of a label stage
-pub config-staged : (stages : Option (List ℕ)) (config now : List ℕ) (guid low label offset : ℕ) (before : List ℕ) → stages ≡ Some config → IsConfigCall label offset → IsGeometry (length now)
-    → HaveStaged stages offset now guid low before → length config ≡ block_size → HaveStaged stages (offset + 1) (put (config_place (length now) label) config now) guid low before
-config-staged None config now guid low label offset before is at geometry have long = absurd (let no_way : None ≡ Some config = is in cc)
-config-staged (Some other) config now guid low label offset before is at geometry have long =
-    let (count, below, label_is, was, now_is) = config-call label offset at in
-    let same : other ≡ config = Some-injective is in
-    let have_count : HaveConfigs now guid low before config count = subst (λ (c : List ℕ). HaveConfigs now guid low before c count) same (subst (λ (n : ℕ). HaveConfigs now guid low before other n) was have) in
-    let once = staged-once now guid low count before config geometry long below have_count in
-    subst (λ (c : List ℕ). HaveConfigs (put (config_place (length now) label) config now) guid low before c (staged_before (offset + 1))) (sym same)
-    (subst (λ (n : ℕ). HaveConfigs (put (config_place (length now) label) config now) guid low before config n) (sym now_is)
-    (subst (λ (l : ℕ). HaveConfigs (put (config_place (length now) l) config now) guid low before config (count + 1)) (sym label_is) once))
 
 -- The labels hold what they held over other bytes with the same configs, in a state with the same synced group, while
 -- as many of them have the new config.
@@ -178,11 +200,7 @@ configs-start now s t p q new entries none x = record {
   group = x.group;
   within = x.within;
   have = record {
-    written = λ label below less. absurd (let count = unstaged new.stages (new.done - length new.blocks) (omega (arith, none)) in omega (arith, count, less));
+    written = λ label below less. absurd (let count : staged_labels new ≡ 0 = ap (λ (n : ℕ). count_by is_config (take n (order_of_tree new))) none in omega (arith, count, less));
     left = λ label below more. x.have.left label below (omega arith);
   };
 }
-  where
-    unstaged : (stages : Option (List ℕ)) (offset : ℕ) → offset ≡ 0 → staged_labels stages offset ≡ 0
-    unstaged None offset at = refl
-    unstaged (Some config) offset at = ap staged_before at

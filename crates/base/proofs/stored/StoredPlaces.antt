@@ -1,22 +1,20 @@
 -- What a pool keeps of its device has the log, the synced tree and what a sync takes at distinct places; so each step
 -- keeps them so.
-use Rattle.std.proofs.Common.{◌≡◌, ℕ, Bool, true, false, List, [], refl, ap, sym, subst, ◌∙◌}
+use Rattle.std.proofs.Common.{◌≡◌, ℕ, true, false, List, [], ap, sym, subst, ◌∙◌}
+use Rattle.std.proofs.lemmas.Bool.{false_from_ne_true}
 use Rattle.std.specs.Prelude.{Option, Some, None, slice_get}
 use Rattle.base.specs.declared.pointer.Pointer.{Pointer}
 use Rattle.base.specs.formats.Geometry.{IsBlockAddress}
 use Rattle.base.specs.steps.Locks.{is_in}
 use Rattle.base.specs.tree.Places.{Place, IsInTree}
-use Rattle.base.specs.tree.PlannedTrees.{NewBlock}
+use Rattle.base.specs.kept.PlannedTrees.{NewBlock}
 use Rattle.base.specs.history.Past.{Past}
 use Rattle.base.specs.steps.Shown.{Shown, SyncPlan, taken_of}
 use Rattle.base.specs.steps.Exact.{IsInLog, AreDistinctPlaces}
-use Rattle.base.specs.stored.Stored.{NewTree, IsStored, IsSyncing, IsKept, RunsAs, frame_at}
+use Rattle.base.specs.kept.Stored.{NewTree, IsStored, IsSyncing, IsKept, RunsAs, frame_at}
 use Rattle.base.proofs.tree.PlacedTrees.{in-tree}
-use Rattle.base.proofs.stored.StoredSets.{IsAt, in-at, at-map}
-
-not_true : (b : Bool) → (b ≡ true → ⊥) → b ≡ false
-not_true true never = absurd (never refl)
-not_true false never = refl
+use Rattle.base.proofs.stored.StoredSets.{IsAt, in-at}
+use Rattle.base.proofs.common.KeptLists.{at-map}
 
 module _ (now : List ℕ) (s : Shown) (pointers : Place → Pointer) (past : Past) (x : IsStored now s pointers past) where
   -- of what is taken it is known that each is one of the new blocks
@@ -59,7 +57,7 @@ module _ (now : List ℕ) (s : Shown) (pointers : Place → Pointer) (past : Pas
         t.1.leaves p.0 p.1 p.3 i.0 t.2 t.3 (t.4 ∙ sym p.2)
 
     not_taken : (address : ℕ) → IsInLog s.log address → is_in address (taken_of s.sync) ≡ false
-    not_taken address log = not_true (is_in address (taken_of s.sync)) (λ is.
+    not_taken address log = false_from_ne_true (is_in address (taken_of s.sync)) (λ is.
         let i = is_taken address is in
         let t = taken_at running runs i.0 address i.1 in
         t.1.log_apart address log i.0 t.2 t.3 t.4)

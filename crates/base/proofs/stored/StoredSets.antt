@@ -6,7 +6,7 @@ use Rattle.std.specs.Ordering.{nat_cmp, eq_by_cmp, is_lt}
 use Rattle.std.proofs.lemmas.Bool.{eqb-true, eq-eqb, cases_lt, le-ltb}
 use Rattle.std.proofs.lemmas.Cmp.{nat_cmp_total}
 use Rattle.std.proofs.lemmas.Option.{slice_get-map}
-use Rattle.std.specs.Cmp.{unsigned_tied}
+use Rattle.std.specs.Cmp.{unsigned_tied, nat_eq_equiv}
 use Rattle.std.specs.FinMap as finite
 use Rattle.std.specs.FinMap.{entries_sorted, contains_key-keys, get-from_entries, is_sorted}
 use Rattle.std.specs.FinMap.Entries.{below_all, is_some-find}
@@ -37,7 +37,7 @@ set-at xs x is =
 pub at-set : (xs : List ℕ) (x : ℕ) → IsAt xs x → set.contains (set.from_list {R = nat_cmp} xs) x ≡ true
 at-set xs x at = contains-from_list_nat xs x ∙ any_at (λ y. nat_eq y x) xs at.0 x at.1 (eq-eqb x x refl)
 
-keys-as_keys : (xs : List ℕ) → map (λ (e : ℕ × Unit {0}). e.0) (as_keys xs) ≡ xs
+pub keys-as_keys : (xs : List ℕ) → map (λ (e : ℕ × Unit {0}). e.0) (as_keys xs) ≡ xs
 keys-as_keys [] = refl
 keys-as_keys (x ∷ xs) = ap (λ l. x ∷ l) (keys-as_keys xs)
 
@@ -49,7 +49,11 @@ rising-in numbers i x at =
     ∙ contains_key-keys (finite.from_entries {R = nat_cmp} (as_keys (set.items numbers))) x
     ∙ any_at (eq_by_cmp nat_cmp x) (rising numbers) i x at (unsigned_tied x x ∙ eq-eqb x x refl)
 
-less-by_cmp : (x y : ℕ) → T (is_lt (nat_cmp x y)) → x < y
+-- the order of numbers, by its answers
+pub tied : (q k : ℕ) → eq_by_cmp nat_cmp q k ≡ nat_eq k q
+tied q k = unsigned_tied q k ∙ nat_eq_equiv.symm q k
+
+pub less-by_cmp : (x y : ℕ) → T (is_lt (nat_cmp x y)) → x < y
 less-by_cmp x y h = elim (cases_lt x y) as (λ _. x < y) [
   | inl below ↦ below
   | inr above ↦ absurd (not_less (nat_eq x y) (subst (λ b. T (is_lt (cond b Less (cond (nat_eq x y) Equal Greater)))) (le-ltb x y above) h))
@@ -59,7 +63,7 @@ less-by_cmp x y h = elim (cases_lt x y) as (λ _. x < y) [
     not_less true h = h
     not_less false h = h
 
-split : (a b : Bool) → T (a && b) → T a × T b
+pub split : (a b : Bool) → T (a && b) → T a × T b
 split true b h = (tt, h)
 split false b h = absurd h
 
@@ -83,10 +87,5 @@ rising-rises numbers i j x y before at_i at_j =
     sorted-at (finite.entries m) i j x y (entries_sorted m) before at_i at_j
 
 -- what a list is made of by a function
-pub at-map : {A B : Type 0} (f : A → B) (xs : List A) (i : ℕ) (y : B) → slice_get (map f xs) i ≡ Some y → (x : A) × (slice_get xs i ≡ Some x) × (f x ≡ y)
-at-map f [] i y at = absurd (none_at i y at)
-at-map f (x ∷ xs) zero y at = (x, refl, Some-injective at)
-at-map f (x ∷ xs) (suc i) y at = at-map f xs i y at
-
 pub map-at : {A B : Type 0} (f : A → B) (xs : List A) (i : ℕ) (x : A) → slice_get xs i ≡ Some x → slice_get (map f xs) i ≡ Some (f x)
 map-at f xs i x at = slice_get-map f xs i ∙ ap (option_map f) at

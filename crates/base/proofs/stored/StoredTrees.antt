@@ -1,6 +1,6 @@
 -- What a pool keeps of its device, while its bytes change and nothing that is shown does.
 use Rattle.std.proofs.Common.{◌≡◌, ℕ, ◌+◌, ◌-◌, ◌*◌, ◌/◌, ◌<◌, ◌≤◌, true, List, length, refl, ap, sym, subst, ◌∙◌, arith, ◌⊎◌, inl, inr}
-use Rattle.std.specs.Prelude.{Some, slice_get, ◌≢◌}
+use Rattle.std.specs.Prelude.{Some, is_some, slice_get, ◌≢◌}
 use Rattle.std.specs.Ordering.{nat_cmp}
 use Rattle.std.specs.FinMap.{FinMap}
 use Rattle.std.proofs.lemmas.Bool.{cases_lt, cases_order}
@@ -9,20 +9,22 @@ use Rattle.base.specs.declared.pointer.Pointer.{Pointer}
 use Rattle.base.specs.formats.Fields.{part, number_at}
 use Rattle.base.specs.formats.Geometry.{block_area, block_size, block_address, block_count, label_place, IsGeometry, IsBlockAddress}
 use Rattle.base.specs.formats.Blocks.{Frame}
+use Rattle.base.specs.formats.Labels.{even_labels, odd_labels}
 use Rattle.base.specs.disk.Disk.{put, Apart}
 use Rattle.base.specs.steps.Locks.{is_in}
 use Rattle.base.specs.tree.Places.{Place, IsPlace, IsInTree}
 use Rattle.base.specs.tree.Places.Place.{Root}
 use Rattle.base.specs.tree.Tree.{IsTree}
-use Rattle.base.specs.tree.PlacedTrees.{HoldsTree, ArePlaced}
-use Rattle.base.specs.tree.PlannedTrees.{NewBlock, SameBlock, IsBlockWritten}
+use Rattle.base.specs.kept.PlacedTrees.{HoldsTree, ArePlaced}
+use Rattle.base.specs.kept.PlannedTrees.{NewBlock, SameBlock, IsBlockWritten}
 use Rattle.base.specs.history.Past.{Past}
 use Rattle.base.specs.steps.Shown.{Shown, taken_of}
 use Rattle.base.specs.steps.Exact.{AreFree, IsInLog}
 use Rattle.base.specs.steps.Explains.{IsSyncedTree}
-use Rattle.base.specs.stored.LabelConfigs.{WritesName}
-use Rattle.base.specs.stored.ShownLabels.{HasNoLogBlock}
-use Rattle.base.specs.stored.Stored.{NewTree, IsStored, IsSyncing, SameBlocks, total_calls, frame_at}
+use Rattle.base.specs.kept.LabelConfigs.{WritesName}
+use Rattle.base.specs.kept.ShownLabels.{HasNoLogBlock}
+use Rattle.base.specs.kept.Stored.{NewTree, IsStored, IsSyncing, SameBlocks, total_calls, frame_at}
+use Rattle.base.proofs.disk.SyncOrder.{length-calls}
 use Rattle.base.proofs.disk.Put.{length-put, part-put_same, part-put_apart}
 use Rattle.base.proofs.formats.LabelPlaces.{label-apart}
 use Rattle.base.proofs.tree.PlacedTrees.{holds-tree, holds-placed, none_or_opens, in-tree, told-in_tree}
@@ -181,7 +183,11 @@ module _ (now later : List ℕ) (s : Shown) (pointers : Place → Pointer) (past
         ]
 
     pub written-syncing : IsSyncing later s pointers (record new { done = new.done + 1 }) past
-    written-syncing = syncing-along new (new.done + 1) y (let below = slice_get_within new.blocks new.done b at in omega (arith, below)) size stands
+    written-syncing = syncing-along new (new.done + 1) y (
+        let below = slice_get_within new.blocks new.done b at in
+        let long = length-calls (length new.blocks) (is_some new.stages) even_labels odd_labels in
+        omega (arith, below, long)
+        ) size stands
       where
         stands : (i : ℕ) (c : NewBlock) → i < new.done + 1 → slice_get new.blocks i ≡ Some c → IsBlockWritten later s.blocks c
         stands i c below at_c = elim (cases_lt i new.done) as (λ _. IsBlockWritten later s.blocks c) [

@@ -12,11 +12,11 @@ use Rattle.base.specs.formats.Geometry.{block_address}
 use Rattle.base.specs.formats.Blocks.{Frame}
 use Rattle.base.specs.tree.Places.{Place, IsPlace, IsInTree, object_of_indirect, record_number, record_start}
 use Rattle.base.specs.tree.Places.Place.{Root, Directory, Top, Indirect, Data}
-use Rattle.base.specs.tree.PlacedTrees.{padded_record, HoldsTree}
-use Rattle.base.specs.tree.PlannedTrees.{NewBlock, IsNewAt, IsPlannedAt, IsTreePlan, AreFreed}
-pub use Rattle.base.specs.stored.Stored.{AreUsed}
+use Rattle.base.specs.kept.PlacedTrees.{padded_record, HoldsTree}
+use Rattle.base.specs.kept.PlannedTrees.{NewBlock, IsNewAt, IsPlannedAt, IsTreePlan, AreFreed}
+pub use Rattle.base.specs.kept.Stored.{AreUsed}
 use Rattle.base.proofs.tree.PlacedTrees.{absent-data, some-by_address, in-tree, told-in_tree, places-apart}
-use Rattle.base.specs.stored.Stored.{AreBlocks, LeavesTree}
+use Rattle.base.specs.kept.Stored.{AreBlocks, LeavesTree}
 
 -- one of the new blocks is at this address
 abbrev pub IsNewAddress : List NewBlock → ℕ → Type 0

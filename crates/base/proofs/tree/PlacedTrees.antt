@@ -14,7 +14,7 @@ use Rattle.base.specs.formats.Blocks.{Frame, Opens}
 use Rattle.base.specs.tree.Places.{Place, IsPlace, kind_of, number_of_place, object_of_indirect, strip_of, strip_number, pointer_below, number_below, pointer_of, directory_pointer, levels_in, below_pointer, top_pointer, indirect_pointer, data_pointer, IsInTree}
 use Rattle.base.specs.tree.Places.Place.{Root, Directory, Top, Indirect, Data}
 use Rattle.base.specs.tree.Tree.{OpensAt, IsTree, IsDirectory, IsEntry, IsStrip, AreStrips, IsRecord}
-use Rattle.base.specs.tree.PlacedTrees.{IsEntryFor, IsShort, IsLong, NeedsNoTop, HasNonePast, StandsAt, HoldsTree, IsPlaced, ArePlaced}
+use Rattle.base.specs.kept.PlacedTrees.{IsEntryFor, IsShort, IsLong, NeedsNoTop, HasNonePast, StandsAt, HoldsTree, IsPlaced, ArePlaced}
 use Rattle.base.proofs.tree.LevelPointers.{zero_entry, zero_present, opens-address, pointer_below-opens, pointer_below-none, number_below-opens, number_below-none, top-one, top-two, indirect-two, indirect-first, indirect-later}
 use Rattle.base.proofs.tree.Strips.{strip-low, strip-object, number-object, number-strip, number-back, first-low, first-object, first-number}
 

@@ -1,9 +1,9 @@
 -- What becomes of a tree told by places, in another image: it stands where its blocks do, and so does what a sync makes
 -- of it.
-use Rattle.std.proofs.Common.{◌≡◌, ℕ, zero, ◌+◌, ◌-◌, ◌*◌, ◌<◌, ◌≤◌, List, [], ◌++◌, length, get_or, take, drop, replicate, refl, ap, sym, subst, ◌∙◌, arith, ◌⊎◌, inl, inr, length-take, length-drop}
+use Rattle.std.proofs.Common.{◌≡◌, ℕ, zero, ◌+◌, ◌-◌, ◌*◌, ◌<◌, ◌≤◌, List, [], ◌++◌, length, get_or, drop, replicate, refl, ap, sym, subst, ◌∙◌, arith, ◌⊎◌, inl, inr, length-take, length-drop}
 use Rattle.std.specs.Prelude.{Option, Some, None, IfSome, slice_get}
 use Rattle.std.proofs.lemmas.Bool.{cases_lt}
-use Rattle.std.proofs.lemmas.List.{ext_get_or, length-replicate, drop-drop, drop-take, take-take, get_or_append_left, get_or-append_right, nil_from_length}
+use Rattle.std.proofs.lemmas.List.{ext_get_or, length-replicate, get_or_append_left, get_or-append_right, nil_from_length}
 use Rattle.std.specs.Ordering.{nat_cmp}
 use Rattle.std.specs.FinMap as map
 use Rattle.std.specs.FinMap.{FinMap}
@@ -15,19 +15,11 @@ use Rattle.base.specs.formats.Blocks.{Frame, IsBlock, Opens}
 use Rattle.base.specs.tree.Places.{Place, IsPlace, kind_of, number_of_place, object_of_indirect, strip_number, record_number, record_start}
 use Rattle.base.specs.tree.Places.Place.{Root, Directory, Top, Indirect, Data}
 use Rattle.base.specs.tree.Tree.{OpensAt, IsRecord, record_bytes}
-use Rattle.base.specs.tree.PlacedTrees.{IsOneLevelEntry, IsTwoLevelEntry, IsEntryFor, IsShort, IsLong, NeedsNoTop, HasNonePast, padded_record, StandsAt, HoldsTree}
-use Rattle.base.specs.tree.PlannedTrees.{NewBlock, IsNewAt, SameEntry, SameRecord, IsZeroRecord, IsPlannedAt, IsTreePlan, SameBlock, IsBlockWritten}
+use Rattle.base.specs.kept.PlacedTrees.{IsOneLevelEntry, IsTwoLevelEntry, IsEntryFor, IsShort, IsLong, NeedsNoTop, HasNonePast, padded_record, StandsAt, HoldsTree}
+use Rattle.base.specs.kept.PlannedTrees.{NewBlock, IsNewAt, SameEntry, SameRecord, IsZeroRecord, IsPlannedAt, IsTreePlan, SameBlock, IsBlockWritten}
 use Rattle.base.proofs.tree.PlacedTrees.{opens-some, absent-data}
 use Rattle.base.proofs.common.KeptLists.{get_or-zeros}
-
--- a part of a part
-pub part-part : (bytes : List ℕ) (a n b m : ℕ) → b + m ≤ n → part (part bytes a n) b m ≡ part bytes (a + b) m
-part-part bytes a n b m fits =
-    let rest : n ≡ b + (n - b) = omega (arith, fits) in
-    ap (λ (k : ℕ). take m (drop b (take k (drop a bytes)))) rest
-    ∙ ap (λ (l : List ℕ). take m l) (drop-take b (n - b) (drop a bytes))
-    ∙ take-take m (n - b) (drop b (drop a bytes)) (omega (arith, fits))
-    ∙ ap (λ (l : List ℕ). take m l) (drop-drop b a bytes)
+use Rattle.base.proofs.disk.Put.{part-part}
 
 -- the check field of the block at an address
 pub check-in_block : (image : List ℕ) (address : ℕ) → part (part image address block_size) 32 32 ≡ part image (address + 32) 32

@@ -23,13 +23,14 @@ use Rattle.base.specs.history.History.{apply_all}
 use Rattle.base.specs.tree.Places.{Place, object_of_indirect, record_number}
 use Rattle.base.specs.tree.Places.Place.{Data}
 use Rattle.base.specs.tree.Tree.{record_bytes}
-use Rattle.base.specs.tree.PlacedTrees.{padded_record, HoldsTree}
-use Rattle.base.specs.tree.PlannedTrees.{SameRecord, IsZeroRecord}
+use Rattle.base.specs.kept.PlacedTrees.{padded_record, HoldsTree}
+use Rattle.base.specs.kept.PlannedTrees.{SameRecord, IsZeroRecord}
 use Rattle.base.specs.tree.Syncs.{is_record_touched, state_after_cut, state_after_op, contents_after, contents_after_all, record_state, is_on, is_change_of}
 use Rattle.base.proofs.common.KeptLists.{get_or-zeros}
 use Rattle.base.proofs.common.Sequences.{parted}
 use Rattle.base.proofs.history.Objects.{reached, get-stored_same, get-stored_other}
 use Rattle.base.proofs.history.Writes.{length-bytes_after_write, length-resize, get_or-resize, overwritten_apart}
+use Rattle.base.proofs.history.Projections.{gives_removed}
 use Rattle.base.proofs.tree.PlacedTrees.{absent-data, record_at}
 
 -- padding to a size
@@ -150,10 +151,6 @@ pub bytes-created : (o p : Option (List ℕ)) → created o ≡ Ok p → bytes_o
 bytes-created None p h = let is : Some [] ≡ p = cc in ap bytes_or_none (sym is)
 bytes-created (Some x) p h = cc
 
-pub bytes-removed : (o p : Option (List ℕ)) → removed o ≡ Ok p → p ≡ None
-bytes-removed None p h = cc
-bytes-removed (Some x) p h = let is : None ≡ p = cc in sym is
-
 pub bytes-changed : (f : List ℕ → List ℕ) (o p : Option (List ℕ)) → changed f o ≡ Ok p → (y : List ℕ) × (o ≡ Some y) × (p ≡ Some (f y))
 bytes-changed f None p h = cc
 bytes-changed f (Some y) p h = let is : Some (f y) ≡ p = cc in (y, refl, sym is)
@@ -248,7 +245,7 @@ module _ (n r : ℕ) where
       (λ same. hole-of_none r x (now_bytes d) (bytes-created (map.get c.objects n) (map.get d.objects n) (at-object n m.0 created c d same h)))
       (λ other. subst (λ (o : Option (List ℕ)). IsInState s r x (bytes_or_none o)) (elsewhere n m.0 created c d other h) is)
   one-state (Remove m) c d s x h is = either (λ t. IsInState t r x (now_bytes d)) (m.0 == n) Hole s
-      (λ same. hole-of_none r x (now_bytes d) (ap bytes_or_none (bytes-removed (map.get c.objects n) (map.get d.objects n) (at-object n m.0 removed c d same h))))
+      (λ same. hole-of_none r x (now_bytes d) (ap bytes_or_none (gives_removed (map.get c.objects n) (map.get d.objects n) (at-object n m.0 removed c d same h))))
       (λ other. subst (λ (o : Option (List ℕ)). IsInState s r x (bytes_or_none o)) (elsewhere n m.0 removed c d other h) is)
   one-state (Write m offset bytes) c d s x h is = by (m.0 == n) refl
     where

@@ -8,7 +8,7 @@ use Rattle.base.specs.declared.pointer.Pointer.{Pointer}
 use Rattle.base.specs.formats.Blocks.{Frame}
 use Rattle.base.specs.formats.Fields.{entry_in}
 use Rattle.base.specs.formats.Limits.{entry_count}
-use Rattle.base.specs.tree.PlacedTrees.{HoldsTree, IsEntryFor, NeedsNoTop, HasNonePast, StandsAt}
+use Rattle.base.specs.kept.PlacedTrees.{HoldsTree, IsEntryFor, NeedsNoTop, HasNonePast, StandsAt}
 use Rattle.base.specs.tree.Places.{Place, IsPlace, object_of_indirect, strip_number}
 use Rattle.base.specs.tree.Places.Place.{Root, Directory, Top, Indirect, Data}
 use Rattle.base.specs.tree.Tree.{IsRecord, OpensAt}

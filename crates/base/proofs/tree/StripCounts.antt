@@ -3,7 +3,7 @@ use Rattle.std.proofs.Common.{◌≡◌, ℕ, zero, suc, ◌+◌, ◌*◌, ◌/�
 use Rattle.std.specs.Prelude.{◌==◌, nat_lt, sum_by, if◌then◌else◌}
 use Rattle.std.specs.Option.{option_map_or}
 use Rattle.std.specs.List.{list_any, range_with_len, count_by}
-use Rattle.std.proofs.lemmas.Bool.{and_parts, ltb-true, lt-ltb, le-leb, lt-leb, le-ltb, cases_lt, false_from_ne_true, false≢true}
+use Rattle.std.proofs.lemmas.Bool.{and_parts, ltb-true, lt-ltb, le-leb, lt-leb, le-ltb, cases_lt, false_from_ne_true, false≢true, and_from, and_right}
 use Rattle.std.proofs.lemmas.List.Sums.{sum_by-le-sum_by, sum_by-cons}
 use Rattle.base.specs.declared.operation.Op.{Op}
 use Rattle.base.specs.declared.operation.Op.TheVariants.{Create, Remove, Write, SetLength, SetName}
@@ -15,6 +15,7 @@ use Rattle.base.specs.history.Plans.{strips_touched}
 use Rattle.base.specs.tree.Places.{record_of_strip, strip_start}
 use Rattle.base.specs.tree.Syncs.{has_block_after, is_unchanged, is_record_touched, state_after_cut, state_after_op, contents_after, record_state, pointer_numbers}
 use Rattle.base.proofs.tree.Sums.{as_one, sum_by-none, sum_by-sum_by, count_within}
+use Rattle.base.proofs.common.KeptLists.{none_between}
 
 -- Some record of a strip changed, and some has a block after, by the states of the records of its object and by which
 -- of the strip's pointers had a block.
@@ -41,13 +42,6 @@ any_range p q a zero same = refl
 any_range p q a (suc count) same =
     (λ i. same a (omega arith) (omega arith) i || any_range p q (a + 1) count (λ k from to. same k (omega (arith, from)) (omega (arith, to))) i)
 
--- and one that none passes
-none_range : (p : ℕ → Bool) (a count : ℕ) → ((i : ℕ) → a ≤ i → i < a + count → p i ≡ false) → list_any p (range_with_len a count) ≡ false
-none_range p a zero none = refl
-none_range p a (suc count) none =
-    ap (λ b. b || list_any p (range_with_len (a + 1) count)) (none a (omega arith) (omega arith))
-    ∙ none_range p (a + 1) count (λ k from to. none k (omega (arith, from)) (omega (arith, to)))
-
 -- a strip of which each record is as before is written if it was
 same_strip : (state other : ℕ → RecordState) (had : ℕ → ℕ → Bool) (j : ℕ) → ((k : ℕ) → k < pointer_count → other (record_of_strip j k) ≡ state (record_of_strip j k))
     → is_written_by other had j ≡ is_written_by state had j
@@ -58,14 +52,10 @@ same_strip state other had j same =
     (λ k from to. ap (λ s. has_block_after s (had j k)) (same k (omega (arith, to)))) i)
 
 -- one of which each record is a hole is not
-and_false : (a b : Bool) → b ≡ false → (a && b) ≡ false
-and_false true b is = is
-and_false false b is = refl
-
 empty_strip : (state : ℕ → RecordState) (had : ℕ → ℕ → Bool) (j : ℕ) → ((k : ℕ) → k < pointer_count → state (record_of_strip j k) ≡ Hole) → is_written_by state had j ≡ false
 empty_strip state had j holes =
-    and_false (is_changed_by state j) (has_after_by state had j)
-    (none_range (λ k. has_block_after (state (record_of_strip j k)) (had j k)) 0 pointer_count (λ k from to. ap (λ s. has_block_after s (had j k)) (holes k (omega (arith, to)))))
+    and_right (is_changed_by state j) (has_after_by state had j)
+    (none_between (λ k. has_block_after (state (record_of_strip j k)) (had j k)) 0 pointer_count (λ k from to. ap (λ s. has_block_after s (had j k)) (holes k (omega (arith, to)))))
 
 -- which strips an operation may have written
 abbrev is_strip_touched : ℕ → ℕ → ℕ → Bool
@@ -91,9 +81,6 @@ as-one-same a b same = let e : as_one a ≡ as_one b = ap as_one same in omega (
 as-one-none : (a : Bool) (n : ℕ) → a ≡ false → as_one a ≤ n
 as-one-none a n none = let e : as_one a ≡ 0 = ap as_one none in omega (arith, e)
 
-and_both : (a b : Bool) → a ≡ true → b ≡ true → (a && b) ≡ true
-and_both a b x y = ap (λ c. c && b) x ∙ y
-
 module _ (n j : ℕ) (had : ℕ → ℕ → Bool) (state : ℕ → RecordState) where
   abbrev written : (ℕ → RecordState) → ℕ
   written s = as_one (is_written_by s had j)
@@ -108,7 +95,7 @@ module _ (n j : ℕ) (had : ℕ → ℕ → Bool) (state : ℕ → RecordState) 
       let parts = and_parts (nat_lt offset (record_size * (record_of_strip j k + 1))) (nat_lt (record_size * record_of_strip j k) (offset + count)) touched in
       let before : offset < record_size * (record_of_strip j k + 1) = ltb-true offset (record_size * (record_of_strip j k + 1)) parts.0 in
       let behind : record_size * record_of_strip j k < offset + count = ltb-true (record_size * record_of_strip j k) (offset + count) parts.1 in
-      and_both (nat_lt offset (strip_start (j + 1))) (nat_lt (strip_start j) (offset + count))
+      and_from (nat_lt offset (strip_start (j + 1))) (nat_lt (strip_start j) (offset + count))
       (lt-ltb offset (strip_start (j + 1)) (omega (arith, before, below))) (lt-ltb (strip_start j) (offset + count) (omega (arith, behind)))
 
   write_step : (b : Bool) (offset count : ℕ) → written (λ r. if b && is_record_touched r offset count then Dirty else state r) ≤ written state + as_one (b && is_strip_touched j offset count)
@@ -132,7 +119,7 @@ module _ (n j : ℕ) (had : ℕ → ℕ → Bool) (state : ℕ → RecordState) 
         (λ k below. ap (λ (t : Bool). if t then Hole else (if nat_lt new (record_size * (record_of_strip j k + 1)) then Dirty else state (record_of_strip j k))) (le-leb new (record_size * record_of_strip j k) (omega (arith, low)))))
     | inl from ↦ elim (cases_lt new (strip_start (j + 1))) as (λ _. written (λ r. state_after_cut r new (state r)) ≤ written state + as_one (is_strip_cut j new)) [
       | inl to ↦
-          let cut : as_one (is_strip_cut j new) ≡ 1 = ap as_one (and_both (nat_lt (strip_start j) new) (nat_lt new (strip_start (j + 1))) (lt-ltb (strip_start j) new from) (lt-ltb new (strip_start (j + 1)) to)) in
+          let cut : as_one (is_strip_cut j new) ≡ 1 = ap as_one (and_from (nat_lt (strip_start j) new) (nat_lt new (strip_start (j + 1))) (lt-ltb (strip_start j) new from) (lt-ltb new (strip_start (j + 1)) to)) in
           let one = at_most_one (is_written_by (λ r. state_after_cut r new (state r)) had j) (written state) in
           omega (arith, cut, one)
       | inr past ↦
@@ -210,4 +197,4 @@ strips_fit n ops synced had many =
     omega (arith, each, turned, within)
   where
     first : (j : ℕ) → as_one (is_written_by (λ r. Unchanged) had j) ≡ 0
-    first j = ap as_one (ap (λ b. b && has_after_by (λ r. Unchanged) had j) (none_range (λ k. not (is_unchanged Unchanged)) 0 pointer_count (λ k from to. refl)))
+    first j = ap as_one (ap (λ b. b && has_after_by (λ r. Unchanged) had j) (none_between (λ k. not (is_unchanged Unchanged)) 0 pointer_count (λ k from to. refl)))

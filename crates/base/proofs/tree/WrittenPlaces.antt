@@ -46,7 +46,7 @@ in-range low (suc count) (suc i) n at =
     let to = later.1 in
     (omega (arith, from), omega (arith, to))
 
-in-first : (count i n : ℕ) → slice_get (range_with_len 0 count) i ≡ Some n → n < count
+pub in-first : (count i n : ℕ) → slice_get (range_with_len 0 count) i ≡ Some n → n < count
 in-first count i n at = let to = (in-range 0 count i n at).1 in omega (arith, to)
 
 -- the objects of a directory are below the last number
@@ -146,7 +146,7 @@ written-places told ops synced after had takes_place are = written_by-same (grou
 })
 
 -- the ranges of operations one after another
-ranges-append : (xs ys : List Op) → ranges (xs ++ ys) ≡ ranges xs ++ ranges ys
+pub ranges-append : (xs ys : List Op) → ranges (xs ++ ys) ≡ ranges xs ++ ranges ys
 ranges-append [] ys = refl
 ranges-append (x ∷ xs) ys = ap (λ (l : List NumberRange). touched x ∷ l) (ranges-append xs ys)
 

@@ -7,7 +7,7 @@ use Rattle.base.specs.formats.Geometry.{block_count}
 use Rattle.base.specs.disk.Disk.{Disk, bytes_of}
 use Rattle.base.specs.disk.Fairness.{LeavesFairNow, LeavesFairSince}
 use Rattle.base.specs.tree.Tree.{IsTree}
-use Rattle.base.specs.crash.Mount.{MountsTo}
+use Rattle.base.specs.tree.Mount.{MountsTo}
 use Rattle.base.specs.history.Past.{Past}
 use Rattle.base.specs.steps.Shown.{Shown}
 use Rattle.base.specs.steps.Exact.{IsExact, AreFree, AreDistinctPlaces}

@@ -1,5 +1,5 @@
 -- What contracts see of a running pool.
-use Rattle.std.specs.Prelude.{ℕ, ◌+◌, ◌-◌, ◌||◌, Bool, List, [], length, sum_by, nat_le, unwrap_or, Option, Some, None, option_map}
+use Rattle.std.specs.Prelude.{ℕ, ◌+◌, ◌-◌, ◌||◌, Bool, List, [], length, map, get_or, sum_by, nat_le, unwrap_or, Option, Some, None, option_map}
 use Rattle.std.specs.List.{range_with_len}
 use Rattle.std.specs.Ordering.{nat_cmp}
 use Rattle.std.specs.FinMap as finite
@@ -8,6 +8,7 @@ use Rattle.std.specs.FinSet as set
 use Rattle.std.specs.FinSet.{FinSet}
 use Rattle.base.specs.declared.pointer.Pointer.{Pointer}
 use Rattle.base.specs.declared.status.Status.{Status}
+use Rattle.base.specs.formats.Limits.{object_count}
 use Rattle.base.specs.history.Contents.{Contents}
 use Rattle.base.specs.steps.Locks.{Grant}
 use Rattle.base.specs.steps.Groups.{Line, Middle, Admission}
@@ -16,6 +17,14 @@ use Rattle.base.specs.formats.Uberblocks.{Uberblock}
 use Rattle.base.specs.formats.Versions.{written_version}
 use Rattle.base.specs.formats.Chain.{Header}
 use Rattle.base.specs.steps.Logs.{Log, is_flushed_in}
+
+-- the lengths of all objects, by number
+unfoldable pub listed : (ℕ → Option ℕ) → List (Option ℕ)
+listed lengths = map lengths (range_with_len 0 object_count)
+
+-- the length of an object, None if there is no such object
+abbrev pub length_at : List (Option ℕ) → ℕ → Option ℕ
+length_at lengths n = get_or lengths n None
 
 -- the sync of the syncing group, as it was planned when it was started
 pub record SyncPlan : Type 0 where
@@ -27,9 +36,9 @@ pub record SyncPlan : Type 0 where
   pub moment : ℕ
   pub root : Pointer
   pub header : Header
-  -- the contents that it writes, and the length of each object of its tree
+  -- the contents that it writes, and the lengths of the objects of its tree, by number
   pub contents : Contents
-  pub lengths : ℕ → Option ℕ
+  pub lengths : List (Option ℕ)
 
 pub record Shown : Type 0 where
   -- a write or a flush was refused, and each later step is
@@ -55,10 +64,10 @@ pub record Shown : Type 0 where
   -- the addresses of free blocks
   pub free : FinSet nat_cmp
   pub log : Log
-  -- the root pointer of the synced tree, the contents that it stands for, and the length of each of its objects
+  -- the root pointer of the synced tree, the contents that it stands for, and the lengths of its objects, by number
   pub root : Pointer
   pub synced_contents : Contents
-  pub lengths : ℕ → Option ℕ
+  pub lengths : List (Option ℕ)
   pub sync : Option SyncPlan
 
 -- the groups after the synced one, up to the open one

@@ -7,17 +7,17 @@ use Rattle.base.specs.history.Contents.{Contents}
 use Rattle.base.specs.history.History.{IsHistory}
 use Rattle.base.specs.formats.Uberblocks.{Uberblock}
 use Rattle.base.specs.history.Past.{Past, new_past}
-use Rattle.base.specs.steps.Shown.{Shown, SyncPlan}
+use Rattle.base.specs.steps.Shown.{Shown, SyncPlan, length_at}
 use Rattle.base.specs.steps.Steps.{State, AreLengthsOf, IsReplayUpTo}
 use Rattle.base.specs.steps.Runs.{Step, Run}
 use Rattle.base.specs.steps.Exact.{IsExact, IsBounded}
-use Rattle.base.specs.crash.Imports.{IsImported}
+use Rattle.base.specs.kept.Imports.{IsImported}
 
 -- contents are what the entries up to a group leave, within the limits, and these are the lengths of their objects
-pub record IsTreeOf (group : ℕ) (past : Past) (c : Contents) (by_object : ℕ → Option ℕ) : Type 0 where
+pub record IsTreeOf (group : ℕ) (past : Past) (c : Contents) (by_object : List (Option ℕ)) : Type 0 where
   pub replayed : IsReplayUpTo group past c
   pub bounded : IsBounded c
-  pub lengths : AreLengthsOf c by_object
+  pub lengths : AreLengthsOf c (length_at by_object)
 
 -- the contents of the synced tree are those of the synced group, and those that a running sync writes are those of its
 -- group

@@ -2,7 +2,7 @@
 
 ghost use Rattle.std.specs.Prelude.{ℕ, ◌≡◌, ◌≢◌, ◌++◌, [], ◌∷◌, IfOk, IsOk, IsTrue, Some, codes};
 ghost use Rattle.std.specs.Fmt.{decimal};
-ghost use Rattle.base.specs.crash.Mount.{IsTreeDamaged, MountsTo};
+ghost use Rattle.base.specs.tree.Mount.{IsTreeDamaged, MountsTo};
 ghost use Rattle.base.specs.declared.names.Group.{Group};
 ghost use Rattle.base.specs.disk.Disk.{bytes_of};
 ghost use Rattle.base.specs.history.Contents.{Contents};

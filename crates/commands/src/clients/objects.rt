@@ -2,7 +2,7 @@
 
 ghost use Rattle.std.specs.Prelude.{ℕ, ◌≡◌, ◌≢◌, ◌≤◌, ◌⊎◌, [], ◌∷◌, IfOk, IsOk, IsTrue, List, None, Ok, Some, codes, length, slice_get};
 ghost use Rattle.std.specs.FinMap as finite;
-ghost use Rattle.base.specs.crash.Mount.{MountsTo};
+ghost use Rattle.base.specs.tree.Mount.{MountsTo};
 ghost use Rattle.base.specs.declared.operation.Op.TheVariants.{Create, Remove, SetLength, Write};
 ghost use Rattle.base.specs.disk.Disk.{bytes_of};
 ghost use Rattle.base.specs.history.Contents.{Contents};

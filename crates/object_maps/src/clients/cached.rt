@@ -9,22 +9,22 @@ ghost use Rattle.base.specs.formats.Blocks.{Opens};
 ghost use Rattle.base.specs.formats.Fields.{no_pointer, number_at, part, pointer_in};
 ghost use Rattle.base.specs.formats.Geometry.{block_address};
 ghost use Rattle.base.specs.formats.Limits.{payload_size};
-ghost use Rattle.base.specs.tree.Places.{Place};
+ghost use Rattle.base.specs.tree.Places.{IsPlace, Place, kind_of, number_of_place};
 ghost use Rattle.base.specs.tree.Places.Place.{Data};
 ghost use Rattle.base.specs.tree.Tree.{IsRecord};
 ghost use Rattle.object_maps.specs.Cached.{HoldsStrip};
 ghost use Rattle.object_maps.specs.CachedDevices.{cache_of, device_in};
-ghost use Rattle.object_maps.specs.Kinds.{kind_number};
+ghost use Rattle.tree_blocks.specs.BlockPlaces.{place_of};
 
 use crate::block_cache::BlockCache;
 use crate::block_reader::{BlockReader, read_indirect, read_part, record_pointer};
 use crate::cached_device::CachedDevice;
-use crate::walk::BlockPlace;
 use base::{Pointer, PoolError, RECORD_SIZE};
-use checked_blocks::{Block, Frame, Kind};
+use checked_blocks::{Block, Frame};
 use device_model::SectorDevice;
 use std::alloc::Global;
 use std::num::NonZeroUsize;
+use tree_blocks::BlockPlace;
 
 // A new cache has no block.
 fn a_new_cache_has_no_block(alloc: Global, into: &mut [u8]) -> bool
@@ -89,10 +89,11 @@ fn a_block_that_was_written_is_read_anew<D: SectorDevice>(
 ) -> Result<(), PoolError>
     requires fits { block_address frame.now.blocks ≤ D.size (device_in device.old) }
     requires on_device { 8192 ≤ D.size (device_in device.old) }
+    requires place { IsPlace (place_of place) }
     requires size { length into.old ≡ payload_size }
     ensures { IsTrue D.keeps_model → (payload : List ℕ)
-        → Opens (bytes_of (D.disk (device_in device.new)).now) frame.now (kind_number place.kind)
-        place.number pointer.now payload → OnOk result (into.new ≡ payload) }
+        → Opens (bytes_of (D.disk (device_in device.new)).now) frame.now (kind_of (place_of place))
+        (number_of_place (place_of place)) pointer.now payload → OnOk result (into.new ≡ payload) }
 {
     device.read_payload(frame, place, pointer, into)?;
     device.write(4096, block)?;
@@ -136,10 +137,11 @@ fn a_kept_block_is_read_from_the_device<D: SectorDevice>(
     into: &mut [u8],
 ) -> Result<(), PoolError>
     requires fits { block_address frame.now.blocks ≤ D.size (device_in device.old) }
+    requires place { IsPlace (place_of place) }
     requires size { length into.old ≡ payload_size }
     ensures { IsTrue D.keeps_model → (payload : List ℕ)
-        → Opens (bytes_of (D.disk (device_in device.old)).now) frame.now (kind_number place.kind)
-        place.number pointer.now payload → OnOk result (into.new ≡ payload) }
+        → Opens (bytes_of (D.disk (device_in device.old)).now) frame.now (kind_of (place_of place))
+        (number_of_place (place_of place)) pointer.now payload → OnOk result (into.new ≡ payload) }
 {
     device.keep_sealed(pointer.address, block);
     device.read_payload(frame, place, pointer, into)
@@ -154,6 +156,7 @@ fn a_block_is_read_as_the_device_has_it<D: SectorDevice>(
     into: &mut [u8],
 ) -> Result<(), PoolError>
     requires fits { block_address frame.now.blocks ≤ D.size (device_in device.old) }
+    requires place { IsPlace (place_of place) }
     requires size { length into.old ≡ payload_size }
     requires keeps { IsTrue D.keeps_model }
     ensures { OnOk result (into.new ≡ drop 64
@@ -177,10 +180,7 @@ fn a_block_of_another_kind_is_not_taken<D: SectorDevice>(
         pointer.now.address 4096) 0 ≡ 4 }
     ensures { OnOk result ⊥ }
 {
-    let place = BlockPlace {
-        kind: Kind::Data,
-        number: 9,
-    };
+    let place = BlockPlace::Data(0, 9);
     device.read_payload(frame, place, pointer, into)
 }
 
@@ -320,10 +320,7 @@ fn a_damaged_block_is_named<B: BlockReader>(
     ensures { IfErr result
         (λ e. e ≢ error.Read → e ≡ error.Damaged 5 pointer.now.address) }
 {
-    let place = BlockPlace {
-        kind: Kind::Data,
-        number: 9,
-    };
+    let place = BlockPlace::Data(0, 9);
     reader.read_payload(frame, place, pointer, payload)
 }
 

@@ -8,21 +8,21 @@ ghost use Rattle.base.specs.formats.Blocks.{payload_at};
 ghost use Rattle.base.specs.formats.Fields.{entry_in, entry_length, entry_present, no_pointer};
 ghost use Rattle.base.specs.formats.Geometry.{block_address};
 ghost use Rattle.base.specs.tree.Damages.{IsSoundAt};
-ghost use Rattle.base.specs.tree.PlacedTrees.{padded_record};
+ghost use Rattle.base.specs.kept.PlacedTrees.{padded_record};
 ghost use Rattle.base.specs.tree.Places.{directory_pointer, pointer_of};
 ghost use Rattle.base.specs.tree.Places.Place.{Data, Directory};
-ghost use Rattle.object_maps.specs.Lengths.{lengths_of};
+ghost use Rattle.tree_blocks.specs.Lengths.{lengths_of};
 ghost use Rattle.object_maps.specs.Loading.{IsLoadRefusal};
-ghost use Rattle.object_maps.specs.Pointers.{objects_of};
+ghost use Rattle.object_maps.specs.ContentsShown.{objects_of};
 ghost use Rattle.space.specs.FreeSets.{is_free};
 
-use crate::tree::Tree;
 use crate::walk::{Loaded, load, survey};
 use base::{Pointer, PoolError};
 use checked_blocks::Frame;
 use device_model::SectorDevice;
 use space::FreeSet;
 use std::alloc::Global;
+use tree_blocks::Tree;
 
 // A root that was born after the newest group is reported as damaged, by its address, unless memory or a read is
 // refused.

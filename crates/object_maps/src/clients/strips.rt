@@ -10,46 +10,19 @@ ghost use Rattle.base.specs.formats.Limits.{payload_size};
 ghost use Rattle.base.specs.tree.Places.{Place};
 ghost use Rattle.base.specs.tree.Places.Place.{Indirect};
 ghost use Rattle.object_maps.specs.Cached.{HoldsTop};
-ghost use Rattle.object_maps.specs.Pointers.{strip_in};
+ghost use Rattle.tree_blocks.specs.Pointers.{strip_in};
 
 use crate::block_reader::{BlockReader, read_top, strip_pointer};
-use crate::strips::{record_number, strip_number, strip_of};
-use crate::told_bytes::{BytesView, StripsView, no_strips, with_bytes, with_strip, zero_bytes};
+use crate::told_bytes::{BytesView, with_bytes, zero_bytes};
 use base::{Pointer, PoolError, Told};
 use checked_blocks::Frame;
-
-// The second strip of object 7 has the number 5,299.
-fn a_later_strip_has_its_own_number() -> usize
-    ensures { result ≡ 5299 }
-{
-    strip_number(7, 1)
-}
-
-// By that number it is found, and so is the number of its fourth record.
-fn a_number_tells_the_strip() -> usize
-    ensures { result ≡ 1 }
-{
-    strip_of(5299)
-}
-
-fn a_record_of_a_later_strip_has_its_own_number() -> usize
-    ensures { result ≡ 87 }
-{
-    record_number(5299, 3)
-}
+use tree_blocks::{StripsView, no_strips, record_number, strip_number, strip_of, with_strip};
 
 // Bytes that are told at a place stand there.
 fn a_byte_is_told_in_its_place() -> Told<BytesView>
     ensures { result.value ≡ 0 ∷ 5 ∷ 0 ∷ [] }
 {
     with_bytes(&zero_bytes(3), 1, &[5])
-}
-
-// A strip that is told has its pointer.
-fn a_told_strip_has_its_pointer(indirect: Pointer) -> Told<StripsView>
-    ensures { (strip_in result.value 4).0 ≡ indirect }
-{
-    with_strip(&no_strips(), 4, indirect, &[])
 }
 
 // The payload of a top has the pointer of each strip.

@@ -2,8 +2,8 @@
 -- old view from its header on.
 use Rattle.std.proofs.Common.{◌≡◌, ◌∙◌, ℕ, ◌+◌, ◌-◌, ◌≤◌, Bool, false, List, drop, length, ap, sym, subst, arith, length-drop}
 use Rattle.std.specs.Prelude.{slice_get, Some}
-use Rattle.base.specs.crash.LogRule.{AreLogBlocksBelow, IsLogHeld}
-use Rattle.base.specs.crash.Views.{Logged, View}
+use Rattle.base.specs.kept.LogRule.{AreLogBlocksBelow, IsLogHeld}
+use Rattle.base.specs.kept.Views.{Logged, View}
 use Rattle.base.specs.disk.Disk.{Moment, Write, handed}
 use Rattle.base.proofs.crash.LogStarts.{below_of_group, drop-at}
 

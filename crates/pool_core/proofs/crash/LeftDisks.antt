@@ -1,9 +1,9 @@
 -- A pool that was imported from what a run left begins its own run safely, and the disk goes on over its steps.
 use Rattle.std.proofs.Common.{◌≡◌, ◌∙◌, ℕ, List, [], ◌∷◌, ap, subst, sym}
 use Rattle.std.specs.Prelude.{IsTrue}
-use Rattle.base.specs.crash.CrashRule.{KeepsOwn}
-use Rattle.base.specs.crash.LeftDisks.{GoesOnFrom, IsLeft}
-use Rattle.base.specs.crash.PoolViews.{IsPoolDisk}
+use Rattle.base.specs.kept.CrashRule.{KeepsOwn}
+use Rattle.base.specs.kept.LeftDisks.{GoesOnFrom, IsLeft}
+use Rattle.base.specs.kept.PoolViews.{IsPoolDisk}
 use Rattle.base.specs.declared.step.Step as declared_step
 use Rattle.base.specs.declared.step.Reply as declared_reply
 use Rattle.base.specs.disk.Disk.{Disk, disk_size}

@@ -1,8 +1,8 @@
 -- A flush of the log that is answered keeps a pool's disk, whether a sync runs or not: all log blocks are fixed then.
 use Rattle.std.proofs.Common.{◌≡◌, ◌∙◌, ℕ, false, List, [], ◌∷◌, ◌++◌, length, Option, Some, None, Ok, refl, ap, sym, subst}
-use Rattle.base.specs.crash.Layout.{header_now}
-use Rattle.base.specs.crash.PoolViews.{IsPoolDisk, IsSyncConfig, IsViewOf}
-use Rattle.base.specs.crash.Views.{AreConfigsUpTo}
+use Rattle.base.specs.kept.Layout.{header_now}
+use Rattle.base.specs.kept.PoolViews.{IsPoolDisk, IsSyncConfig, IsViewOf}
+use Rattle.base.specs.kept.Views.{AreConfigsUpTo}
 use Rattle.base.specs.disk.Calls.{Flushes}
 use Rattle.base.specs.disk.Disk.{Disk, Moment, Write, bytes_of, certain_with, disk_size, handed}
 use Rattle.base.specs.disk.Fairness.{HasFairBytes}
@@ -10,7 +10,7 @@ use Rattle.base.specs.formats.Geometry.{config_place}
 use Rattle.base.specs.history.Past.{Past}
 use Rattle.base.specs.steps.Shown.{Shown}
 use Rattle.base.specs.steps.Steps.{State, ordinals_awaiting, state_after_log_flush}
-use Rattle.base.specs.stored.Stored.{IsKept}
+use Rattle.base.specs.kept.Stored.{IsKept}
 use Rattle.base.proofs.crash.LogHeaders.{header_now-flush}
 use Rattle.base.proofs.crash.PoolLogSteps.{log_flush_kept}
 use Rattle.base.proofs.crash.PoolLogs.{view_flushed}
@@ -26,14 +26,7 @@ use Rattle.pool_core.proofs.crash.HeldLogs.{held_as}
 use Rattle.pool_core.proofs.crash.OwnMoments.{held_of}
 use Rattle.pool_core.proofs.crash.SafeMoments.{odd_settled}
 use Rattle.pool_core.proofs.crash.ViewsKept.{stages_as, sync_configs_as}
-
--- a flush leaves what a read gives
-pub same_flushed : (before after : Disk) → Flushes before (Ok tt) after → bytes_of after.now ≡ bytes_of before.now
-same_flushed before after flushed = ap (λ (d : Disk). bytes_of d.now) flushed ∙ go before.now.unflushed
-  where
-    go : (ws : List Write) → bytes_of (certain_with (bytes_of before.now) before ws).now ≡ bytes_of before.now
-    go [] = refl
-    go (w ∷ ws) = refl
+use Rattle.import_replay.proofs.ReadPools.{same_flushed}
 
 -- and nothing is unflushed then
 all_settled : (before after : Disk) → Flushes before (Ok tt) after → after.now.unflushed ≡ []

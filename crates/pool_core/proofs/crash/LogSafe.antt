@@ -22,6 +22,7 @@ use Rattle.base.proofs.disk.Moments.{goes_on, moments_grow, starts}
 use Rattle.base.proofs.history.CommitOrder.{no_refusal, ok-none}
 use Rattle.base.proofs.steps.KeptTables.{steps_keep_tables}
 use Rattle.base.proofs.stored.StoredSteps.{kept-state}
+use Rattle.import_replay.proofs.ReadPools.{same_flushed}
 use Rattle.pool_tables.specs.LogBlocks.{PutsLogBlock}
 use Rattle.pool_core.specs.KeptSafe.{IsKeptSafe, LeavesOwn, OnDisk}
 use Rattle.pool_core.specs.LogSafe.{FlushesLogOnDisk, IsKeptSafely, LogFlushesAreSafe, LogWritesAreSafe, WritesLogOnDisk}
@@ -215,7 +216,7 @@ module _ (x y : OnDisk) (safe : IsKeptSafe x) where
     flush_joined = flush_joins x.disk y.disk h.flushed
 
     flush_size : disk_size y.disk ≡ disk_size x.disk
-    flush_size = ap (λ (l : List ℕ). length l) (flushes.same_flushed x.disk y.disk h.flushed)
+    flush_size = ap (λ (l : List ℕ). length l) (same_flushed x.disk y.disk h.flushed)
 
     flush_later : moments x.disk ≤ moments y.disk
     flush_later = moments_grow (λ m. Unit {0}) x.disk y.disk (flush_joined (λ m. Unit {0}) tt tt)

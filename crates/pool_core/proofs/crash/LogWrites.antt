@@ -5,11 +5,11 @@ use Rattle.std.specs.FinSet as set
 use Rattle.std.specs.FinSet.{FinSet}
 use Rattle.std.specs.Ordering.{nat_cmp}
 use Rattle.std.proofs.lemmas.Bool.{false≢true}
-use Rattle.base.specs.crash.Layout.{header_now}
-use Rattle.base.specs.crash.LogRoom.{HasImportRoom}
-use Rattle.base.specs.crash.LogSteps.{IsSpareOf, shown_after_write}
-use Rattle.base.specs.crash.PoolViews.{IsPoolDisk, IsPoolLaid, IsSyncConfig, IsViewOf}
-use Rattle.base.specs.crash.Views.{AreConfigsUpTo, IsConfigContent, Logged, View, view_frame}
+use Rattle.base.specs.kept.Layout.{header_now}
+use Rattle.base.specs.kept.LogRoom.{HasImportRoom}
+use Rattle.base.specs.kept.LogSteps.{IsSpareOf, shown_after_write}
+use Rattle.base.specs.kept.PoolViews.{IsPoolDisk, IsPoolLaid, IsSyncConfig, IsViewOf}
+use Rattle.base.specs.kept.Views.{AreConfigsUpTo, IsConfigContent, Logged, View, view_frame}
 use Rattle.base.specs.declared.error.PoolError.{PoolError}
 use Rattle.base.specs.declared.error.PoolError.TheVariants as error
 use Rattle.base.specs.declared.pointer.Pointer.{Pointer}
@@ -27,7 +27,7 @@ use Rattle.base.specs.steps.Refusals as refusal
 use Rattle.base.specs.steps.Shown.{Shown, SyncPlan, taken_of}
 use Rattle.base.specs.steps.Steps as steps
 use Rattle.base.specs.steps.Steps.{Answers, LogWrite, State, TakesForLog, WantsMemory}
-use Rattle.base.specs.stored.Stored.{IsKept}
+use Rattle.base.specs.kept.Stored.{IsKept}
 use Rattle.base.specs.tree.Places.Place.{Root}
 use Rattle.base.proofs.common.KeptLists.{All-at, All-each}
 use Rattle.base.proofs.crash.KeptViews.{settled_wrote}

@@ -4,12 +4,12 @@ use Rattle.std.proofs.Common.{◌≡◌, inl, inr, ℕ, ◌<◌, ◌&&◌, Bool,
 use Rattle.std.specs.Prelude.{if◌then◌else◌, nat_lt, slice_get}
 use Rattle.std.proofs.lemmas.Option.{slice_get_within}
 use Rattle.base.specs.declared.pointer.Pointer.{Pointer}
-use Rattle.base.specs.crash.Layout.{header_now, kept_from}
-use Rattle.base.specs.crash.LogRoom.{HasImportRoom}
-use Rattle.base.specs.crash.LogRule.{IsLogHeld}
-use Rattle.base.specs.crash.Own.{IsPhase}
-use Rattle.base.specs.crash.PoolViews.{IsPoolDisk, IsPoolLaid, IsSyncConfig, IsViewOf}
-use Rattle.base.specs.crash.Views.{AreConfigsUpTo, View}
+use Rattle.base.specs.kept.Layout.{header_now, kept_from}
+use Rattle.base.specs.kept.LogRoom.{HasImportRoom}
+use Rattle.base.specs.kept.LogRule.{IsLogHeld}
+use Rattle.base.specs.kept.Own.{IsPhase}
+use Rattle.base.specs.kept.PoolViews.{IsPoolDisk, IsPoolLaid, IsSyncConfig, IsViewOf}
+use Rattle.base.specs.kept.Views.{AreConfigsUpTo, View}
 use Rattle.base.specs.disk.Disk.{Disk, EachMoment, Moment, disk_size, handed}
 use Rattle.base.specs.disk.Fairness.{HasFairBytes}
 use Rattle.base.specs.formats.Chain.{Header}

@@ -2,12 +2,12 @@
 -- that is synced then. The logs of both views stay held.
 use Rattle.std.proofs.Common.{◌≡◌, ◌∙◌, ◌⊎◌, inl, inr, ℕ, ◌+◌, ◌<◌, ◌≤◌, ◌&&◌, Bool, true, false, List, Option, Some, None, refl, sym, subst, arith}
 use Rattle.std.specs.Prelude.{All, IfSome, if◌then◌else◌, nat_lt, slice_get}
-use Rattle.base.specs.crash.LogRoom.{HasImportRoom}
-use Rattle.base.specs.crash.LogRule.{IsLogHeld}
-use Rattle.base.specs.crash.LogSteps.{IsHeaderIn}
-use Rattle.base.specs.crash.Own.{IsAtRest}
-use Rattle.base.specs.crash.PoolViews.{IsPoolDisk, IsSyncConfig}
-use Rattle.base.specs.crash.Views.{AreConfigsUpTo, view_frame}
+use Rattle.base.specs.kept.LogRoom.{HasImportRoom}
+use Rattle.base.specs.kept.LogRule.{IsLogHeld}
+use Rattle.base.specs.kept.LogSteps.{IsHeaderIn}
+use Rattle.base.specs.kept.Own.{IsAtRest}
+use Rattle.base.specs.kept.PoolViews.{IsPoolDisk, IsSyncConfig}
+use Rattle.base.specs.kept.Views.{AreConfigsUpTo, view_frame}
 use Rattle.base.specs.disk.Disk.{Disk, EachMoment, Moment, disk_size, handed, moments}
 use Rattle.base.specs.disk.Fairness.{HandsOnly, HasFairBytes}
 use Rattle.base.specs.formats.Geometry.{block_address, block_count, config_place}
@@ -17,7 +17,7 @@ use Rattle.base.specs.steps.Locks.{is_in}
 use Rattle.base.specs.steps.Shown.{Shown, SyncPlan}
 use Rattle.base.specs.steps.Steps as steps
 use Rattle.base.specs.steps.Steps.{State}
-use Rattle.base.specs.tree.PlacedTrees.{HoldsTree}
+use Rattle.base.specs.kept.PlacedTrees.{HoldsTree}
 use Rattle.base.proofs.crash.OwnDisks.{configs_weaker}
 use Rattle.base.proofs.crash.PoolLogs.{pool_synced}
 use Rattle.base.proofs.disk.Moments.{both, latest, weaker}

@@ -2,9 +2,9 @@
 -- acknowledged entry.
 use Rattle.std.proofs.Common.{◌≡◌, ◌∙◌, inl, inr, ℕ, ◌≤◌, List, [], length, Option, Some, None, refl, sym, subst}
 use Rattle.base.specs.declared.pointer.Pointer.{Pointer}
-use Rattle.base.specs.crash.CrashRule.{IsRunLeft}
-use Rattle.base.specs.crash.LogRoom.{HasImportRoom}
-use Rattle.base.specs.crash.PoolViews.{IsPoolAtRest, IsPoolDisk, IsPoolLaid}
+use Rattle.base.specs.kept.CrashRule.{IsRunLeft}
+use Rattle.base.specs.kept.LogRoom.{HasImportRoom}
+use Rattle.base.specs.kept.PoolViews.{IsPoolAtRest, IsPoolDisk, IsPoolLaid}
 use Rattle.base.specs.disk.Disk.{Disk, EachMoment, IsTouched, Moment, Write, bytes_of, disk_size, moments}
 use Rattle.base.specs.disk.Fairness.{LeavesFair}
 use Rattle.base.specs.formats.Geometry.{block_count}
@@ -12,7 +12,7 @@ use Rattle.base.specs.history.Past.{Past}
 use Rattle.base.specs.steps.Tables.{AreTablesExplained}
 use Rattle.base.specs.steps.Explains.{AreSafe, MountsToCut, WereSafe}
 use Rattle.base.specs.steps.Shown.{Shown}
-use Rattle.base.specs.stored.Stored.{IsKept, NewTree}
+use Rattle.base.specs.kept.Stored.{IsKept, NewTree}
 use Rattle.base.specs.tree.Places.{Place}
 use Rattle.base.proofs.crash.LaidOutMounts.{laid_out_safe}
 use Rattle.base.proofs.crash.OwnDisks.{run_own}

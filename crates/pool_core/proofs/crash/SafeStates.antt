@@ -11,8 +11,8 @@ use Rattle.base.specs.disk.Disk.{Disk, bytes_of}
 use Rattle.base.specs.formats.Geometry.{slot_of}
 use Rattle.base.specs.steps.Runs.{is_log_step}
 use Rattle.base.specs.steps.Shown.{SyncPlan}
-use Rattle.base.specs.stored.Stored.{Held, NewTree, is_turn}
-use Rattle.base.proofs.common.KeptLists.{Some-injective}
+use Rattle.base.specs.kept.Stored.{Held, NewTree, is_turn}
+use Rattle.base.proofs.common.KeptLists.{Some-injective, mapped}
 use Rattle.device_model.specs.declared.device.SectorDevice.{Ghosts}
 use Rattle.extents.specs.Synced.{patched_contents}
 use Rattle.extents.specs.Unsynced.{changes_at, name_at}
@@ -24,7 +24,8 @@ use Rattle.pool_tables.specs.declared.pool.RunningSync.{RunningSync}
 use Rattle.pool_core.specs.declared.state.PoolState.{PoolState}
 use Rattle.pool_tables.specs.declared.pool.Progress.{Progress}
 use Rattle.pool_tables.specs.declared.pool.Progress.TheVariants.{More, Synced}
-use Rattle.pool_tables.specs.Running.{stages_for}
+use Rattle.labels.specs.declared.stage.Stage.TheVariants.{Even}
+use Rattle.sync.specs.GroupLabels.{stages_for}
 use Rattle.pool_tables.specs.Shows.{contents_after_oldest, plan_of, pool_shown, synced_of}
 use Rattle.pool_tables.specs.Told.{Leads, new_tree_of, start_reply, sync_step_reply, tree_after}
 use Rattle.pool_tables.specs.SyncPhases.{StepsPhases}
@@ -34,15 +35,10 @@ use Rattle.pool_core.specs.Turns.{Turns, held_after}
 use Rattle.pool_core.proofs.crash.SafeSteps.{IsStagedFor, last_safe, more_safe, start_safe, still_safe}
 use Rattle.pool_tables.proofs.syncs.SyncLeads.{was_syncing}
 
--- what is made of something that is there
-made_of : {A B : Type 0} (f : A → B) (o : Option A) (y : B) → option_map f o ≡ Some y → (x : A) × (o ≡ Some x) × (f x ≡ y)
-made_of f None y is = absurd (let no_way : None ≡ Some y = is in cc)
-made_of f (Some x) y is = (x, refl, Some-injective is)
-
 -- a running sync has calls left
 left_of : (pool : PoolTables) (run : SyncRun) → option_map (λ (r : RunningSync). r.run) pool.sync ≡ Some run → run.done < call_count run
 left_of pool run is =
-    let r = made_of (λ (r : RunningSync). r.run) pool.sync run is in
+    let r = mapped (λ (r : RunningSync). r.run) pool.sync run is in
     subst (λ (x : SyncRun). x.done < call_count x) r.2 (pool.running r.0 r.1).left
 
 -- what is shown of the plan of a running sync is its own: its label stages have the name of its contents, and it has a
@@ -54,7 +50,7 @@ module _ (pool : PoolTables) (r : RunningSync) (at : pool.sync ≡ Some r) where
   counted_plan : (plan : SyncPlan) → r.run.done ≡ 0 → (pool_shown pool).sync ≡ Some plan → plan.steps_left ≡ call_count r.run
   counted_plan plan none is = subst (λ (l : SyncPlan). l.steps_left ≡ call_count r.run) (plan_is plan is) (omega (arith, none))
 
-  staged_plan : (g : ℕ) (plan : SyncPlan) → r.run.geometry ≡ pool.geometry → r.run.stages ≡ stages_for pool.guid r.group.0 pool.geometry (name_at pool.changes 0) → (pool_shown pool).line.syncing ≡ Some g
+  staged_plan : (g : ℕ) (plan : SyncPlan) → r.run.geometry ≡ pool.geometry → r.run.stages ≡ stages_for pool.guid r.group.0 pool.geometry Even (name_at pool.changes 0) → (pool_shown pool).line.syncing ≡ Some g
       → (pool_shown pool).sync ≡ Some plan → IsStagedFor r.run.stages r.run.geometry pool.guid g plan.contents.name
   staged_plan g plan sized stages syncing is =
       subst (λ (l : SyncPlan). IsStagedFor r.run.stages r.run.geometry pool.guid g l.contents.name) (plan_is plan is)
@@ -62,7 +58,7 @@ module _ (pool : PoolTables) (r : RunningSync) (at : pool.sync ≡ Some r) where
       (subst (λ (h : ℕ). IsStagedFor r.run.stages pool.geometry pool.guid h (contents_after_oldest pool).name) (Some-injective (sym (was_syncing pool r at) ∙ syncing))
       (subst (λ (o : Option LabelStages). IsStagedFor o pool.geometry pool.guid r.group.0 (contents_after_oldest pool).name) (sym stages) (go (name_at pool.changes 0)))))
     where
-      go : (given : Option (List ℕ)) → IsStagedFor (stages_for pool.guid r.group.0 pool.geometry given) pool.geometry pool.guid r.group.0 (patched_contents (changes_at pool.changes 0) given (synced_of pool)).name
+      go : (given : Option (List ℕ)) → IsStagedFor (stages_for pool.guid r.group.0 pool.geometry Even given) pool.geometry pool.guid r.group.0 (patched_contents (changes_at pool.changes 0) given (synced_of pool)).name
       go None = tt
       go (Some name) = (refl, refl)
 
@@ -84,7 +80,7 @@ module _ {Dev : Type 0} {G : Ghosts Dev} where
         let h : Held = held_after (step.StartSync moment) (reply.Syncing group) (told old) (told new) past in
         let starts = leads past past in
         let pool : PoolTables = new.pool in
-        let r = made_of (new_tree_of pool.tree) pool.sync _ starts.running in
+        let r = mapped (new_tree_of pool.tree) pool.sync _ starts.running in
         let was = pool.running r.0 r.1 in
         subst (λ (y : OnDisk). IsSafeStep (step.StartSync moment) (reply.Syncing group) (on_disk old past) y)
         (λ k. record { held = h; disk = sym disk k; run = option_map (λ (q : RunningSync). q.run) (sym r.1 k) })

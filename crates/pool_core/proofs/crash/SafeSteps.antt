@@ -10,11 +10,11 @@ use Rattle.base.specs.declared.step.Step as declared_step
 use Rattle.base.specs.declared.step.Step.TheVariants as step
 use Rattle.base.specs.declared.step.Reply as declared_reply
 use Rattle.base.specs.declared.step.Reply.TheVariants as reply
-use Rattle.base.specs.crash.LogRule.{IsLogHeld}
-use Rattle.base.specs.crash.LogSteps.{IsHeaderIn}
-use Rattle.base.specs.crash.Own.{IsAtRest}
-use Rattle.base.specs.crash.PoolViews.{IsPoolDisk, IsSyncConfig}
-use Rattle.base.specs.crash.Views.{AreConfigsUpTo, IsConfigContent, IsFixed, IsSettled, View, config_content}
+use Rattle.base.specs.kept.LogRule.{IsLogHeld}
+use Rattle.base.specs.kept.LogSteps.{IsHeaderIn}
+use Rattle.base.specs.kept.Own.{IsAtRest}
+use Rattle.base.specs.kept.PoolViews.{IsPoolDisk, IsSyncConfig}
+use Rattle.base.specs.kept.Views.{AreConfigsUpTo, IsConfigContent, IsFixed, IsSettled, View, config_content}
 use Rattle.base.specs.disk.Disk.{Disk, EachMoment, Moment, Write, bytes_of, disk_size, handed, moments}
 use Rattle.base.specs.disk.Fairness.{HasFairBytes}
 use Rattle.base.specs.formats.Fields.{number_at, part}
@@ -28,10 +28,10 @@ use Rattle.base.specs.steps.Shown.{Shown, SyncPlan}
 use Rattle.base.specs.steps.Steps as steps
 use Rattle.base.specs.steps.Steps.{IsPlanned, State, SyncProgress, ops_of_group}
 use Rattle.base.specs.steps.Steps.SyncProgress.{More, Synced}
-use Rattle.base.specs.stored.LabelConfigs.{HaveConfigs, HoldConfigs, WritesName}
-use Rattle.base.specs.stored.Stored.{Held, IsHeld, IsStored, IsSyncing, NewTree, RunsAs, is_turn}
+use Rattle.base.specs.kept.LabelConfigs.{HaveConfigs, HoldConfigs, WritesName}
+use Rattle.base.specs.kept.Stored.{Held, IsHeld, IsStored, IsSyncing, NewTree, RunsAs, is_turn}
 use Rattle.base.specs.tree.Places.{Place}
-use Rattle.base.specs.tree.PlannedTrees.{NewBlock}
+use Rattle.base.specs.kept.PlannedTrees.{NewBlock}
 use Rattle.base.specs.tree.Syncs.{is_rename, other_step_count}
 use Rattle.base.proofs.crash.OwnDisks.{configs_weaker}
 use Rattle.base.proofs.common.KeptLists.{Some-injective}

@@ -1,18 +1,17 @@
 -- The start of a sync leads from the view of the synced group to that of its own: its blocks are those of a tree, apart
 -- from the one of before, and once they stand its tree does.
-use Rattle.std.proofs.Common.{◌≡◌, ◌∙◌, ◌⊎◌, inl, inr, ℕ, zero, suc, ◌+◌, ◌-◌, ◌*◌, ◌/◌, ◌<◌, ◌≤◌, All, true, false, List, [], ◌∷◌, drop, length, length-drop, map, Option, Some, None, refl, ap, sym, subst, arith, vec_len, nat_eq}
+use Rattle.std.proofs.Common.{◌≡◌, ◌∙◌, ◌⊎◌, inl, inr, ℕ, zero, suc, ◌+◌, ◌-◌, ◌*◌, ◌/◌, ◌<◌, ◌≤◌, All, true, List, [], ◌∷◌, drop, length, length-drop, map, Option, Some, None, refl, ap, sym, subst, arith, vec_len, nat_eq}
 use Rattle.std.specs.Prelude.{◌≢◌, IfSome, Ok, nat_le, slice_get}
 use Rattle.std.specs.FinMap as finite
-use Rattle.std.specs.List.{AllByRecursion, IsDistinct}
-use Rattle.std.proofs.lemmas.Bool.{ne_eqb}
+use Rattle.std.specs.List.{IsDistinct}
 use Rattle.std.proofs.lemmas.Option.{slice_get_within}
 use Rattle.base.specs.declared.pointer.Pointer.{Pointer}
-use Rattle.base.specs.crash.Layout.{header_now, kept_from}
-use Rattle.base.specs.crash.LogRoom.{HasImportRoom}
-use Rattle.base.specs.crash.LogRule.{IsLogHeld}
-use Rattle.base.specs.crash.Own.{IsAtRest}
-use Rattle.base.specs.crash.PoolViews.{IsOpen, IsSyncConfig, IsViewOf}
-use Rattle.base.specs.crash.Views.{AreConfigsKnown, AreConfigsUpTo, AreLinked, IsConfigContent, IsFixed, IsView, Logged, View, view_frame}
+use Rattle.base.specs.kept.Layout.{header_now, kept_from}
+use Rattle.base.specs.kept.LogRoom.{HasImportRoom}
+use Rattle.base.specs.kept.LogRule.{IsLogHeld}
+use Rattle.base.specs.kept.Own.{IsAtRest}
+use Rattle.base.specs.kept.PoolViews.{IsOpen, IsSyncConfig, IsViewOf}
+use Rattle.base.specs.kept.Views.{AreConfigsKnown, AreConfigsUpTo, AreLinked, IsConfigContent, IsFixed, IsView, Logged, View, view_frame}
 use Rattle.base.specs.disk.Disk.{Disk, Write, bytes_of, handed}
 use Rattle.base.specs.disk.Fairness.{HasFairBytes}
 use Rattle.base.specs.formats.Blocks.{Frame}
@@ -28,13 +27,13 @@ use Rattle.base.specs.steps.Tables.{AreTablesExplained}
 use Rattle.base.specs.steps.Locks.{is_in}
 use Rattle.base.specs.steps.Logs.{KeptBlock}
 use Rattle.base.specs.steps.Shown.{Shown, SyncPlan, taken_of, uberblock_of}
-use Rattle.base.specs.stored.LabelConfigs.{WritesName}
-use Rattle.base.specs.stored.Stored.{IsStored, IsSyncing, IsUnwritten, NewTree, frame_at}
-use Rattle.base.specs.tree.PlacedTrees.{HoldsTree}
+use Rattle.base.specs.kept.LabelConfigs.{WritesName}
+use Rattle.base.specs.kept.Stored.{IsStored, IsSyncing, IsUnwritten, NewTree, frame_at}
+use Rattle.base.specs.kept.PlacedTrees.{HoldsTree}
 use Rattle.base.specs.tree.Places.{IsInTree, IsPlace, Place, kind_of}
 use Rattle.base.specs.tree.Places.Place.{Data, Directory, Indirect, Root, Top}
-use Rattle.base.specs.tree.PlannedTrees.{NewBlock}
-use Rattle.base.proofs.common.KeptLists.{All-each, at_filter, at_within}
+use Rattle.base.specs.kept.PlannedTrees.{NewBlock}
+use Rattle.base.proofs.common.KeptLists.{All-each, at_filter, at_within, at-map}
 use Rattle.base.proofs.crash.LogStarts.{IsCutAt, cut_at, drop-at}
 use Rattle.base.proofs.crash.OpenViews.{open_cut}
 use Rattle.base.proofs.crash.NewViews.{configs_of_old, logs_of_group}
@@ -43,7 +42,7 @@ use Rattle.base.proofs.disk.Put.{part_same}
 use Rattle.base.proofs.disk.WrittenBlocks.{blocks-apart, planned-written, put_blocks, new-stand}
 use Rattle.base.proofs.formats.Geometry.{IsGeometry-IsSize}
 use Rattle.base.proofs.history.KeptContents.{bounded-no_others}
-use Rattle.base.proofs.stored.StoredSets.{at-in, at-map, map-at}
+use Rattle.base.proofs.stored.StoredSets.{at-in, map-at}
 use Rattle.base.proofs.stored.StoredTrees.{stored-placed}
 use Rattle.base.proofs.tree.FreedBlocks.{in-new_tree, new-in_tree}
 use Rattle.base.proofs.tree.PlacedTrees.{in-tree, opens-at, told-in_tree}
@@ -62,6 +61,7 @@ use Rattle.pool_tables.specs.Told.{config_of, made_by}
 use Rattle.pool_core.specs.KeptSafe.{AreSyncTrees, IsOfTree, IsSyncOnDisk, WritesConfig}
 use Rattle.pool_core.proofs.crash.HeldLogs.{held_from}
 use Rattle.pool_core.proofs.crash.ViewRooms.{synced_has_room, syncing_has_room}
+use Rattle.import_replay.proofs.NextPools.{differ_all}
 
 -- blocks that are written stand
 pub written_stand : (base image : List ℕ) (size : ℕ) (blocks : List PlannedBlock) (n : ℕ) → length blocks ≤ n → BlocksWritten base size blocks n image
@@ -84,12 +84,6 @@ others_stay base image size blocks n long written placed address is other = part
       | inl before ↦ omega (arith, before, from, here.1)
       | inr behind ↦ omega (arith, behind, to, here.0)
     ]))
-
--- blocks at different addresses have different indices
-differ_all : (b : PlannedBlock) (bs : List PlannedBlock) → ((i : ℕ) (c : PlannedBlock) → slice_get bs i ≡ Some c → b.index ≢ c.index)
-    → AllByRecursion (λ y. nat_eq b.index y ≡ false) (map (λ (c : PlannedBlock). c.index) bs)
-differ_all b [] differ = tt
-differ_all b (c ∷ bs) differ = (ne_eqb b.index c.index (differ zero c refl), differ_all b bs (λ i d at. differ (suc i) d at))
 
 pub distinct_blocks : (bs : List PlannedBlock) → ((i j : ℕ) (b c : PlannedBlock) → slice_get bs i ≡ Some b → slice_get bs j ≡ Some c → b.index ≡ c.index → i ≡ j)
     → IsDistinct nat_eq (map (λ (b : PlannedBlock). b.index) bs)

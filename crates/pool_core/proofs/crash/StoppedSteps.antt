@@ -3,11 +3,11 @@ use Rattle.std.proofs.Common.{◌≡◌, ◌∙◌, ℕ, List, [], ◌∷◌, �
 use Rattle.std.specs.List.{AllByRecursion}
 use Rattle.base.specs.declared.step.Step as declared_step
 use Rattle.base.specs.declared.step.Reply as declared_reply
-use Rattle.base.specs.crash.CrashRule.{IsRunLeft}
+use Rattle.base.specs.kept.CrashRule.{IsRunLeft}
 use Rattle.base.specs.disk.Disk.{Disk, EachMoment, Moment, disk_size}
 use Rattle.base.specs.history.Past.{Past}
-use Rattle.base.specs.steps.Effects.{Effect, state_after}
-use Rattle.base.specs.steps.Effects.Effect.{Stays}
+use Rattle.base.specs.kept.Effects.{Effect, state_after}
+use Rattle.base.specs.kept.Effects.Effect.{Stays}
 use Rattle.base.specs.steps.Explains.{AreSafe}
 use Rattle.base.specs.steps.Runs.{Step}
 use Rattle.base.specs.steps.Steps.{State}

@@ -2,23 +2,22 @@
 -- is one of it, or taken. A log block beside them leaves them.
 use Rattle.std.proofs.Common.{◌≡◌, ◌∙◌, ◌⊎◌, inl, inr, ℕ, ◌+◌, ◌<◌, ◌≤◌, true, List, length, map, Ok, Err, Result, Some, refl, ap, sym, subst, arith}
 use Rattle.std.specs.Prelude.{◌≢◌, slice_get}
-use Rattle.base.specs.crash.Views.{Logged, view_frame}
+use Rattle.base.specs.kept.Views.{Logged, view_frame}
 use Rattle.base.specs.declared.error.PoolError.{PoolError}
 use Rattle.base.specs.disk.Disk.{Moment, bytes_of, put}
 use Rattle.base.specs.formats.Fields.{no_pointer}
 use Rattle.base.specs.formats.Geometry.{IsBlockAddress, block_count, block_size}
 use Rattle.base.specs.steps.Locks.{is_in}
 use Rattle.base.specs.steps.Shown.{Shown, taken_of}
-use Rattle.base.specs.tree.PlacedTrees.{HoldsTree}
+use Rattle.base.specs.kept.PlacedTrees.{HoldsTree}
 use Rattle.base.specs.tree.Places.{IsInTree, IsPlace, Place}
 use Rattle.base.specs.tree.Places.Place.{Root}
-use Rattle.base.specs.tree.PlannedTrees.{NewBlock, SameBlock}
+use Rattle.base.specs.kept.PlannedTrees.{NewBlock, SameBlock}
 use Rattle.base.specs.formats.Blocks.{Frame}
 use Rattle.base.specs.declared.pointer.Pointer.{Pointer}
-use Rattle.base.proofs.common.KeptLists.{All-at}
+use Rattle.base.proofs.common.KeptLists.{All-at, at-map}
 use Rattle.base.proofs.disk.Put.{part-put_apart}
 use Rattle.base.proofs.disk.WrittenBlocks.{blocks-apart}
-use Rattle.base.proofs.stored.StoredSets.{at-map}
 use Rattle.base.proofs.tree.PlacedTrees.{holds-placed, told-in_tree}
 use Rattle.base.proofs.tree.PlannedTrees.{holds-elsewhere}
 use Rattle.tree_plans.specs.Plans.{new_block}

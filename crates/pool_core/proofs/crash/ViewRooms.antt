@@ -1,11 +1,11 @@
 -- What a pool shows leaves in each of its views the place of the next log block, and room for an import.
 use Rattle.std.proofs.Common.{◌≡◌, ◌⊎◌, ℕ, true, List, Some}
 use Rattle.std.specs.Prelude.{◌≢◌}
-use Rattle.base.specs.crash.Layout.{header_now}
-use Rattle.base.specs.crash.LogRoom.{HasImportRoom}
-use Rattle.base.specs.crash.LogSteps.{IsSpareOf}
-use Rattle.base.specs.crash.PoolViews.{IsViewOf}
-use Rattle.base.specs.crash.Views.{View}
+use Rattle.base.specs.kept.Layout.{header_now}
+use Rattle.base.specs.kept.LogRoom.{HasImportRoom}
+use Rattle.base.specs.kept.LogSteps.{IsSpareOf}
+use Rattle.base.specs.kept.PoolViews.{IsViewOf}
+use Rattle.base.specs.kept.Views.{View}
 use Rattle.base.specs.declared.pointer.Pointer.{Pointer}
 use Rattle.base.specs.formats.Blocks.{Frame}
 use Rattle.base.specs.formats.Chain.{Header}
@@ -15,7 +15,7 @@ use Rattle.base.specs.steps.Exact.{AreDistinctPlaces, AreFree}
 use Rattle.base.specs.steps.Tables.{AreTablesExplained}
 use Rattle.base.specs.steps.Locks.{is_in}
 use Rattle.base.specs.steps.Shown.{Shown, SyncPlan, taken_of}
-use Rattle.base.specs.tree.PlacedTrees.{HoldsTree}
+use Rattle.base.specs.kept.PlacedTrees.{HoldsTree}
 use Rattle.base.specs.tree.Places.{IsInTree, IsPlace, Place}
 use Rattle.base.specs.tree.Places.Place.{Root}
 use Rattle.base.proofs.crash.PoolRoom.{next_spare, open_above, synced_room, syncing_room}

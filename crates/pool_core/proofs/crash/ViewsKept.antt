@@ -7,9 +7,9 @@ use Rattle.base.specs.declared.operation.Op.{Op}
 use Rattle.base.specs.declared.pointer.Pointer.{Pointer}
 use Rattle.base.specs.declared.step.Step as declared_step
 use Rattle.base.specs.declared.step.Reply as declared_reply
-use Rattle.base.specs.crash.Layout.{AreNotedOf, header_now, kept_from}
-use Rattle.base.specs.crash.PoolViews.{IsOpen, IsSyncConfig, IsViewOf}
-use Rattle.base.specs.crash.Views.{AreConfigsUpTo, IsConfigContent, View, config_content}
+use Rattle.base.specs.kept.Layout.{AreNotedOf, header_now, kept_from}
+use Rattle.base.specs.kept.PoolViews.{IsOpen, IsSyncConfig, IsViewOf}
+use Rattle.base.specs.kept.Views.{AreConfigsUpTo, IsConfigContent, View, config_content}
 use Rattle.base.specs.disk.Disk.{HandedSince, Write}
 use Rattle.base.specs.formats.Chain.{Header}
 use Rattle.base.specs.formats.Records.{Record}
@@ -17,8 +17,8 @@ use Rattle.base.specs.formats.Geometry.{config_place}
 use Rattle.base.specs.history.Contents.{Contents}
 use Rattle.base.specs.history.History.{Entry, replay, entries_in, entries_up_to}
 use Rattle.base.specs.history.Past.{Past}
-use Rattle.base.specs.steps.Effects.{Effect, MayAddEntry, MayHave, is_logging, is_turning, state_after}
-use Rattle.base.specs.steps.Effects.Effect.{AddsEntry, PlansSync, CountsStep, EndsSync, Suspends, WritesLog, FlushesLog}
+use Rattle.base.specs.kept.Effects.{Effect, MayAddEntry, MayHave, is_logging, is_turning, state_after}
+use Rattle.base.specs.kept.Effects.Effect.{AddsEntry, PlansSync, CountsStep, EndsSync, Suspends, WritesLog, FlushesLog}
 use Rattle.base.specs.steps.Tables.{AreTablesExplained}
 use Rattle.base.specs.steps.Groups.{Admission, open_transactions}
 use Rattle.base.specs.steps.Logs.{Begun, KeptBlock, Log, header_at}
@@ -27,7 +27,7 @@ use Rattle.base.specs.steps.Shown.{Shown, SyncPlan}
 use Rattle.base.specs.steps.Steps as steps
 use Rattle.base.specs.steps.Steps.{State, ops_of_group}
 use Rattle.base.specs.tree.Syncs.{is_rename}
-use Rattle.base.specs.stored.Stored.{is_turn}
+use Rattle.base.specs.kept.Stored.{is_turn}
 use Rattle.base.proofs.common.KeptLists.{Some-injective, at_old, found_at}
 use Rattle.base.proofs.common.Sieves.{filter-filter}
 use Rattle.base.proofs.history.Cuts.{up_to_push}

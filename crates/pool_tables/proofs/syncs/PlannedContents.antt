@@ -20,7 +20,8 @@ use Rattle.extents.proofs.LaidObjects.{group_is_read}
 use Rattle.transactions.specs.declared.record.Record.{Record}
 use Rattle.tree_plans.specs.Marks.{pending_ops}
 use Rattle.transactions.specs.Records.{record_fields}
-use Rattle.pool_tables.proofs.PendingOps.{flat_replay, unsynced_are}
+use Rattle.pool_tables.proofs.PendingOps.{unsynced_are}
+use Rattle.import_replay.proofs.ReplayedPools.{flat_replay}
 
 -- the unsynced operations of a group lead from the synced contents to these, within the limits, and the entries up to
 -- the group leave them

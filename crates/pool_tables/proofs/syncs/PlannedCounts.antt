@@ -12,13 +12,13 @@ use Rattle.base.specs.steps.Tables.{AreTablesExplained}
 use Rattle.base.specs.steps.Refusals.{quiesced_group}
 use Rattle.base.specs.steps.Shown.{Shown, SyncPlan, free_count}
 use Rattle.base.specs.steps.Steps.{TakesForEach, ops_of_group}
-use Rattle.base.specs.stored.Stored.{IsStored, frame_at}
+use Rattle.base.specs.kept.Stored.{IsStored, frame_at}
 use Rattle.base.specs.tree.Places.{Place, has_block}
-use Rattle.base.specs.tree.PlannedTrees.{NewBlock}
+use Rattle.base.specs.kept.PlannedTrees.{NewBlock}
 use Rattle.base.specs.tree.Syncs.{written_places}
 use Rattle.base.proofs.steps.Reservations.{syncs_have_room}
 use Rattle.base.proofs.tree.PlacedTrees.{pointers-told}
-use Rattle.object_maps.specs.declared.tree.ObjectEntry.{ObjectEntry}
+use Rattle.tree_blocks.specs.declared.tree.ObjectEntry.{ObjectEntry}
 use Rattle.transactions.specs.declared.record.Record.{Record}
 use Rattle.tree_plans.specs.Marks.{pending_ops}
 use Rattle.group_plans.specs.GroupPlans.{IsShortOfBlocks, TakesGroupPlaces}

@@ -1,29 +1,30 @@
 -- The plan of a group, made of what its transactions did to the synced contents.
-use Rattle.std.proofs.Common.{◌≡◌, ℕ, ◌<◌, ◌≤◌, true, List, length, map, ap, sym, subst, ◌∙◌, arith, nat_lt}
-use Rattle.std.specs.Prelude.{Option, Some, None, Ok, slice_get, IfSome, All}
-use Rattle.std.specs.List.{list_all, list_any}
+use Rattle.std.proofs.Common.{◌≡◌, ℕ, ◌<◌, List, Option, length, map, ap, sym, subst, ◌∙◌, arith}
+use Rattle.std.specs.Prelude.{Some, Ok, slice_get, All}
+use Rattle.std.specs.List.{list_any}
 use Rattle.std.specs.FinMap as finite
 use Rattle.base.specs.declared.operation.Op.{Op}
 use Rattle.base.specs.declared.pointer.Pointer.{Pointer}
-use Rattle.base.specs.formats.Limits.{max_length, object_count}
+use Rattle.base.specs.formats.Limits.{object_count}
 use Rattle.base.specs.history.Contents.{Contents}
 use Rattle.base.specs.history.History.{apply_all}
 use Rattle.base.specs.history.Past.{Past}
 use Rattle.base.specs.history.Plans.{IsRange, ranges}
 use Rattle.base.specs.steps.Exact.{IsBounded}
 use Rattle.base.specs.steps.Tables.{AreTablesExplained}
-use Rattle.base.specs.steps.Shown.{Shown, SyncPlan}
-use Rattle.base.specs.steps.Steps.{ops_of_group}
-use Rattle.base.specs.stored.Stored.{AreUsed, IsPlannedSync, IsStored, frame_at}
-use Rattle.base.specs.tree.PlacedTrees.{HoldsTree}
+use Rattle.base.specs.steps.Shown.{Shown, SyncPlan, length_at, listed}
+use Rattle.base.specs.steps.Steps.{AreLengthsOf, ops_of_group}
+use Rattle.base.specs.kept.Stored.{AreUsed, IsPlannedSync, IsStored, frame_at}
+use Rattle.base.specs.kept.PlacedTrees.{HoldsTree}
 use Rattle.base.specs.tree.Places.{Place}
 use Rattle.base.specs.tree.Places.Place.{Indirect, Root, Top}
-use Rattle.base.specs.tree.PlannedTrees.{AreFreed, IsTreePlan, NewBlock}
+use Rattle.base.specs.kept.PlannedTrees.{AreFreed, IsTreePlan, NewBlock}
 use Rattle.base.specs.tree.Syncs.{is_on}
+use Rattle.base.proofs.steps.ListedLengths.{listed_lengths_are}
 use Rattle.base.proofs.stored.StoredTrees.{stored-births}
 use Rattle.base.proofs.tree.WrittenPlaces.{group-numbers, group-ranges}
-use Rattle.object_maps.specs.declared.tree.ObjectEntry.{ObjectEntry}
-use Rattle.object_maps.specs.Lengths.{length_in}
+use Rattle.tree_blocks.specs.declared.tree.ObjectEntry.{ObjectEntry}
+use Rattle.tree_blocks.specs.Lengths.{length_in}
 use Rattle.transactions.specs.declared.record.Record.{Record}
 use Rattle.transactions.specs.Records.{record_fields}
 use Rattle.tree_plans.specs.Changes.{AreBornBefore, IsEntryPointer}
@@ -33,14 +34,11 @@ use Rattle.group_plans.specs.GroupPlans.{IsPlannedGroup}
 use Rattle.group_plans.specs.Operations.{AreSized, TakesPlace}
 use Rattle.group_plans.proofs.GroupTrees.{tree_planned}
 use Rattle.pool_tables.proofs.PendingOps.{unsynced_are}
-
-bounded_sizes : (o : Option (List ℕ)) (n : ℕ) → IfSome o (λ bytes. (n < object_count) × (length bytes ≤ max_length) × (list_all (λ b. nat_lt b 256) bytes ≡ true)) → IfSome o (λ bytes. length bytes ≤ max_length)
-bounded_sizes None n h = tt
-bounded_sizes (Some x) n h = h.1
+use Rattle.import_replay.proofs.ReplayedPools.{sized_object}
 
 -- objects within the limits of contents are no longer than the greatest length
 pub bounded_sized : (c : Contents) → IsBounded c → AreSized c.objects
-bounded_sized c bounded n = bounded_sizes (finite.get c.objects n) n (bounded.objects n)
+bounded_sized c bounded n = sized_object (finite.get c.objects n) n (bounded.objects n)
 
 -- What the unsynced records tell of a group above the synced one, whatever the device holds.
 module _ (s : Shown) (p : Past) (explained : AreTablesExplained s p) (group : ℕ) (above : s.line.synced < group) (unsynced : List Record) (log : s.log.unsynced ≡ map record_fields unsynced) where
@@ -48,13 +46,13 @@ module _ (s : Shown) (p : Past) (explained : AreTablesExplained s p) (group : �
   ops_are = unsynced_are s p explained unsynced log group above
 
   -- if its operations lead from the synced contents to others, they take place within the limits
-  pub group_takes_place : (after : Contents) → apply_all (pending_ops group unsynced) s.synced_contents ≡ Ok after → (entries : List ObjectEntry) → ((n : ℕ) → s.lengths n ≡ length_in entries n)
+  pub group_takes_place : (after : Contents) → apply_all (pending_ops group unsynced) s.synced_contents ≡ Ok after → (entries : List ObjectEntry) → s.lengths ≡ listed (length_in entries)
       → TakesPlace (pending_ops group unsynced) entries s.synced_contents after
   group_takes_place after leads entries told = record {
     leads = leads;
     within = subst (λ (ops : List Op). All IsRange (ranges ops)) ops_are (group-ranges s p explained group);
     numbers = λ n on. group-numbers s p explained group n (ap (λ (ops : List Op). list_any (is_on n) ops) ops_are ∙ on);
-    sizes = λ n below. sym (told n) ∙ explained.trees.synced.lengths n below;
+    sizes = listed_lengths_are s.synced_contents (length_in entries) (subst (λ (lengths : List (Option ℕ)). AreLengthsOf s.synced_contents (length_at lengths)) told explained.trees.synced.lengths);
   }
 
 -- what a device holds is the tree of the synced contents

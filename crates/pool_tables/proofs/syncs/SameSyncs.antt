@@ -17,9 +17,9 @@ use Rattle.intent_log.specs.Kept.{header_fields}
 use Rattle.sync.specs.Calls.{refusal_of}
 use Rattle.tree_plans.specs.declared.planner.PlannedBlock.{PlannedBlock}
 use Rattle.base.specs.tree.Places.{IsPlace, Place}
-use Rattle.base.specs.tree.PlacedTrees.{ArePlaced, IsPlaced}
+use Rattle.base.specs.kept.PlacedTrees.{ArePlaced, IsPlaced}
 use Rattle.sync.specs.declared.run.SyncRun.{SyncRun}
-use Rattle.object_maps.specs.declared.tree.Tree.{Tree}
+use Rattle.tree_blocks.specs.declared.tree.Tree.{Tree}
 use Rattle.pool_tables.specs.declared.pool.RunningSync.{RunningSync}
 use Rattle.pool_tables.specs.Shows.{plan_of}
 use Rattle.extents.specs.Unsynced.{name_at}
@@ -29,7 +29,8 @@ use Rattle.pool_tables.specs.declared.pool.PoolTables.{PoolTables}
 use Rattle.pool_tables.specs.Accounts.{IsFreeSetOf}
 use Rattle.pool_tables.specs.Told.{tree_after}
 use Rattle.pool_tables.specs.Running.{IsRunning}
-use Rattle.pool_tables.specs.RunningUberblocks.{WritesUberblock, uberblock_with}
+use Rattle.sync.specs.GroupLabels.{WritesUberblock}
+use Rattle.pool_tables.specs.RunningUberblocks.{uberblock_with}
 
 pub same_count : (old new : SyncRun) → SameSync old new → call_count new ≡ call_count old
 same_count old new same = omega (arith, ap vec_len same.blocks, ap other_calls same.stages)

@@ -13,19 +13,21 @@ use Rattle.base.specs.history.Past.{Past}
 use Rattle.base.specs.history.Plans.{estimate_of, shape_of}
 use Rattle.base.specs.steps.Tables.{AreTablesExplained}
 use Rattle.base.specs.tree.Places.{Place, has_block}
-use Rattle.base.specs.steps.Shown.{SyncPlan}
+use Rattle.base.specs.steps.Shown.{SyncPlan, length_at, listed}
 use Rattle.base.specs.steps.Steps.{AreLengthsOf, TakesForEach, ops_of_group}
-use Rattle.base.specs.stored.Stored.{IsHeld, IsPlannedSync, frame_at}
-use Rattle.base.specs.stored.LabelConfigs.{WritesName}
+use Rattle.base.specs.kept.Stored.{IsHeld, IsPlannedSync, frame_at}
+use Rattle.base.specs.kept.LabelConfigs.{WritesName}
 use Rattle.base.specs.tree.Syncs.{other_step_count, written_places}
 use Rattle.base.proofs.formats.Geometry.{IsGeometry-IsSize}
-use Rattle.base.proofs.steps.KeptGroups.{none_there, quiesced_is}
+use Rattle.base.proofs.steps.KeptGroups.{quiesced_is}
+use Rattle.base.proofs.steps.ListedLengths.{lengths_stay_listed}
 use Rattle.base.proofs.steps.WaitingGroups.{next-group}
-use Rattle.object_maps.specs.declared.tree.ObjectEntry.{ObjectEntry}
-use Rattle.object_maps.specs.declared.tree.Tree.{Tree}
+use Rattle.base.proofs.common.Choices.{none_there}
+use Rattle.tree_blocks.specs.declared.tree.ObjectEntry.{ObjectEntry}
+use Rattle.tree_blocks.specs.declared.tree.Tree.{Tree}
 use Rattle.extents.specs.Patches.{ArePatchesOf}
 use Rattle.extents.specs.Unsynced.{changes_at, name_at}
-use Rattle.object_maps.specs.Pointers.{pointers_of}
+use Rattle.tree_blocks.specs.Pointers.{pointers_of}
 use Rattle.space.proofs.FreeLists.{length-rising}
 use Rattle.sync.specs.Runs.{other_calls}
 use Rattle.tree_plans.specs.declared.planner.PlannedBlock.{PlannedBlock}
@@ -34,7 +36,7 @@ use Rattle.tree_plans.specs.Marks.{pending_ops}
 use Rattle.tree_plans.specs.Plans.{address_of, new_block}
 use Rattle.group_plans.specs.GroupPlans.{IsShortOfBlocks, plan_pointers}
 use Rattle.group_plans.specs.Operations.{AreSized, TakesPlace}
-use Rattle.group_plans.specs.Pointers.{lengths_after, pointers_after}
+use Rattle.tree_blocks.specs.SyncedTrees.{lengths_after, pointers_after}
 use Rattle.group_plans.proofs.GroupChanges.{lengths_told}
 use Rattle.group_plans.proofs.GroupTrees.{entries_name}
 use Rattle.group_plans.proofs.PlannedBlocks.{addresses_are}
@@ -115,7 +117,7 @@ module _ (past : Past) (pool : PoolTables) (group : ℕ) (may : MayStart group p
   oldest_ops = ops_are (pool_shown pool) past explained group group_above pool.log.records refl
 
   pub oldest_takes_place : TakesPlace (pending_ops group pool.log.records) pool.tree.entries.items (synced_of pool) (contents_after_oldest pool)
-  oldest_takes_place = group_takes_place (pool_shown pool) past explained group group_above pool.log.records refl (contents_after_oldest pool) oldest_leads.leads pool.tree.entries.items (λ n. refl)
+  oldest_takes_place = group_takes_place (pool_shown pool) past explained group group_above pool.log.records refl (contents_after_oldest pool) oldest_leads.leads pool.tree.entries.items refl
 
   -- Whatever the device holds: it takes no more blocks than its operations are estimated at.
   pub group_fits : (p : TreePlan) → MakesOldestTree pool group p → length (map address_of p.blocks.items) ≤ estimate_of (map shape_of (ops_of_group group past.entries))
@@ -131,8 +133,10 @@ module _ (past : Past) (pool : PoolTables) (group : ℕ) (may : MayStart group p
       ∙ ap (λ (n : ℕ). length (map address_of p.blocks.items) + n) (steps-given (pending_ops group pool.log.records) ∙ ap other_step_count (sym oldest_ops))
 
   -- its lengths are those after the group
-  pub group_lengths : (p : TreePlan) → MakesOldestTree pool group p → AreLengthsOf (contents_after_oldest pool) (lengths_after p.entries pool.tree)
-  group_lengths p makes = lengths_told group pool.log.records pool.tree.entries.items (synced_of pool) (contents_after_oldest pool) oldest_takes_place (lengths_after p.entries pool.tree) makes.1.lengths
+  pub group_lengths : (p : TreePlan) → MakesOldestTree pool group p → AreLengthsOf (contents_after_oldest pool) (length_at (listed (lengths_after p.entries pool.tree)))
+  group_lengths p makes =
+      lengths_stay_listed (contents_after_oldest pool) (lengths_after p.entries pool.tree)
+      (lengths_told group pool.log.records pool.tree.entries.items (synced_of pool) (contents_after_oldest pool) oldest_takes_place (lengths_after p.entries pool.tree) makes.1.lengths)
 
   -- and its plan is not short of blocks
   pub never_short : (old : Place → Pointer) → IsShortOfBlocks group pool.log.records pool.tree.entries.items old (contents_after_oldest pool).objects (rising pool.free.free) → ⊥
@@ -166,7 +170,7 @@ module _ (now : List ℕ) (past : Past) (pool : PoolTables) (group moment : ℕ)
   group_planned =
       let places = objects.made.places in
       planned_sync now (pool_shown pool) past (pointers_of pool.tree) x.kept.stored x.explained group (group_above past pool group may x.explained) pool.log.records (contents_after_oldest pool) sized pool.tree.entries.items takes_place
-      (entries_name pool.tree (synced_of pool).objects x.explained.trees.synced.lengths)
+      (entries_name pool.tree (synced_of pool).objects takes_place.sizes)
       (plan_pointers pool.tree p) (map new_block p.blocks.items) plan objects.held (addresses_are p.blocks.items) objects.made.whole places.freed places.used refl
 
   -- what it takes is what its tree has at the places that it writes, in order

@@ -11,11 +11,11 @@ use Rattle.base.specs.history.Past.{Past}
 use Rattle.base.specs.steps.Tables.{AreTablesExplained}
 use Rattle.base.specs.steps.Shown.{Shown, SyncPlan, uberblock_of}
 use Rattle.base.specs.steps.Steps.{TakesForEach}
-use Rattle.base.specs.stored.LabelConfigs.{WritesName}
-use Rattle.base.specs.stored.Stored.{IsHeld, NewTree}
+use Rattle.base.specs.kept.LabelConfigs.{WritesName}
+use Rattle.base.specs.kept.Stored.{IsHeld, NewTree}
 use Rattle.extents.specs.Unsynced.{name_at}
 use Rattle.groups.specs.CountedLines.{CountedLine, after_start}
-use Rattle.object_maps.specs.Pointers.{pointers_of}
+use Rattle.tree_blocks.specs.Pointers.{pointers_of}
 use Rattle.space.specs.FreeSets.{FreeSpace}
 use Rattle.tree_plans.specs.declared.planner.PlannedBlock.{PlannedBlock}
 use Rattle.tree_plans.specs.declared.planner.TreePlan.{TreePlan}

@@ -12,7 +12,7 @@ use Rattle.base.specs.history.Plans.{estimate_of, shape_of}
 use Rattle.base.specs.steps.Logs.{header_for}
 use Rattle.base.specs.history.Past.{Past}
 use Rattle.base.specs.steps.Refusals.{quiesced_group, start_refusal}
-use Rattle.base.specs.steps.Shown.{Shown, SyncPlan}
+use Rattle.base.specs.steps.Shown.{Shown, SyncPlan, length_at}
 use Rattle.base.specs.steps.Steps.{AreLengthsOf, IsPlanned, IsReplayUpTo, StartSync, TakesForEach, lowest_free, ops_of_group, State}
 use Rattle.base.specs.tree.Syncs.{is_rename, other_step_count}
 use Rattle.base.specs.declared.operation.Op.{Op}
@@ -81,7 +81,7 @@ module _ (keeps : Type 0) (now : List ℕ) (past : Past) (s : Shown) (moment : �
   -- a sync that is planned starts, where the past explains what was shown
   pub start_done : (n : Shown) (group : ℕ) (plan : SyncPlan) → AreTablesExplained s past → (keeps → TakesForEach now (record { shown = s; past = past }) group plan)
       → s.suspended ≡ false → quiesced_group s.line ≡ Some group → is_some s.line.syncing ≡ false
-      → length plan.taken ≤ estimate_of (map shape_of (ops_of_group group past.entries)) → IsReplayUpTo group past plan.contents → AreLengthsOf plan.contents plan.lengths
+      → length plan.taken ≤ estimate_of (map shape_of (ops_of_group group past.entries)) → IsReplayUpTo group past plan.contents → AreLengthsOf plan.contents (length_at plan.lengths)
       → plan.moment ≡ moment → plan.taken ≡ lowest_free (length plan.taken) s → plan.steps_left ≡ length plan.taken + other_step_count (ops_of_group group past.entries) → plan.header ≡ header_for group s.log
       → n ≡ record s { line = record s.line { syncing = Some group; middle = None }; free = set.difference s.free (set.from_list plan.taken); sync = Some plan }
       → StartsAt keeps now moment (Ok group) past s n

@@ -1,7 +1,6 @@
 -- What a device call of a running sync makes of the bytes of the device.
-use Rattle.std.proofs.Common.{◌≡◌, ℕ, zero, suc, ◌+◌, ◌-◌, ◌<◌, ◌≤◌, List, [], ◌∷◌, length, map, refl, ap, sym, subst, ◌∙◌, arith, inl, inr, vec_len}
-use Rattle.std.specs.Prelude.{Option, Some, None, Ok, Err, is_some, option_map, slice_get}
-use Rattle.std.proofs.lemmas.Bool.{cases_lt}
+use Rattle.std.proofs.Common.{◌≡◌, ℕ, ◌+◌, ◌-◌, true, List, [], length, map, refl, ap, sym, subst, ◌∙◌, arith, inl, inr, vec_len}
+use Rattle.std.specs.Prelude.{Option, Some, None, Ok, Err, is_some, option_map, slice_get, unwrap_or}
 use Rattle.std.proofs.lemmas.List.{length-map}
 use Rattle.std.proofs.lemmas.Option.{slice_get-map}
 use Rattle.base.specs.declared.error.PoolError.{PoolError}
@@ -9,45 +8,37 @@ use Rattle.base.specs.declared.pointer.Pointer.{Pointer}
 use Rattle.base.specs.declared.step.Reply.TheVariants as reply
 use Rattle.base.specs.declared.names.Group.{Group}
 use Rattle.base.specs.disk.Disk.{Disk, bytes_of, put}
+use Rattle.base.specs.disk.DiskCalls.{DiskCall, bytes_made}
+use Rattle.base.specs.disk.DiskCalls.DiskCall.{Put, Settle}
+use Rattle.base.specs.disk.SyncOrder.{DeviceCall, calls_even_first, calls_in_order}
+use Rattle.base.specs.disk.SyncOrder.DeviceCall.{Block, Config, Uberblock, Flush}
 use Rattle.base.specs.formats.Geometry.{block_address, config_place, slot_of, slot_place}
 use Rattle.base.specs.tree.Places.{Place}
-use Rattle.base.specs.tree.PlannedTrees.{NewBlock}
+use Rattle.base.specs.kept.PlannedTrees.{NewBlock}
 use Rattle.base.specs.steps.Shown.{SyncPlan}
-use Rattle.base.specs.stored.Stored.{Advances, NewTree, total_calls}
-use Rattle.base.specs.crash.SyncCalls.{IsConfigCall, IsFlushCall, stage_calls}
-use Rattle.base.specs.crash.SyncCalls.DiskCall.{Put, Settle}
-use Rattle.base.specs.disk.SyncOrder.{DeviceCall, calls_in_order}
-use Rattle.base.specs.disk.SyncOrder.DeviceCall.{Block, Config, Uberblock, Flush}
-use Rattle.base.proofs.common.KeptLists.{at_within, Some-injective}
+use Rattle.base.specs.kept.Stored.{Advances, NewTree, total_calls}
+use Rattle.base.specs.kept.SyncCalls.{call_of_kind, order_of_tree, stage_calls}
 use Rattle.base.proofs.disk.Regions.{flushed_clean}
+use Rattle.base.proofs.stored.StoredConfigs.{all-calls}
+use Rattle.labels.specs.Stages.{labels_of}
 use Rattle.labels.specs.declared.stage.Stage.TheVariants.{Even}
+use Rattle.sync.specs.CallOrder.{stage_after}
 use Rattle.sync.specs.declared.run.LabelStages.{LabelStages}
 use Rattle.sync.specs.declared.run.SyncRun.{SyncRun}
-use Rattle.sync.specs.Calls.{IsNextCall, MakesCall, Target, block_target, config_target, first_labels, last_labels, target_of}
+use Rattle.sync.specs.Calls.{IsNextCall, MakesCall, Target, block_target, calls_of, config_target, first_labels, last_labels, target_of}
 use Rattle.sync.specs.Runs.{SameSync, call_count, other_calls}
-use Rattle.sync.proofs.CallPlaces.{block_stands, others_stand}
 use Rattle.sync.proofs.Targets.{WritesTarget}
 use Rattle.tree_plans.specs.declared.planner.PlannedBlock.{PlannedBlock}
 use Rattle.tree_plans.specs.Plans.{new_block}
-use Rattle.object_maps.specs.Pointers.{pointers_of}
+use Rattle.tree_blocks.specs.Pointers.{pointers_of}
 use Rattle.pool_tables.specs.declared.pool.PoolTables.{PoolTables}
 use Rattle.pool_tables.specs.declared.pool.RunningSync.{RunningSync}
 use Rattle.extents.specs.Unsynced.{name_at}
-use Rattle.pool_tables.specs.Running.{stages_for}
+use Rattle.sync.specs.GroupLabels.{stages_for}
 use Rattle.pool_tables.specs.Told.{Leads, SamePlaces, config_of, ShownPool, made_by, new_tree_of, pool_told}
-use Rattle.group_plans.specs.Pointers.{pointers_after}
+use Rattle.tree_blocks.specs.SyncedTrees.{pointers_after}
 use Rattle.pool_tables.specs.Shows.{contents_after_oldest, plan_of, pool_shown}
 use Rattle.pool_tables.proofs.syncs.SameSyncs.{same_taken}
-
--- each call of a list, with its place in it
-abbrev EachAt : (ℕ → DeviceCall → Type 0) → ℕ → List DeviceCall → Type 0
-EachAt P n [] = Unit {0}
-EachAt P n (c ∷ calls) = P n c × EachAt P (n + 1) calls
-
-call_at : (P : ℕ → DeviceCall → Type 0) (n : ℕ) (calls : List DeviceCall) (k : ℕ) (call : DeviceCall) → EachAt P n calls → slice_get calls k ≡ Some call → P (n + k) call
-call_at P n [] k call each at = absurd (let no_way : None ≡ Some call = at in cc)
-call_at P n (c ∷ calls) zero call each at = let same : c ≡ call = cc in let place : n ≡ n + zero = omega arith in subst (λ (m : ℕ). P m call) place (subst (P n) same each.0)
-call_at P n (c ∷ calls) (suc k) call each at = let place : n + 1 + k ≡ n + suc k = omega arith in subst (λ (m : ℕ). P m call) place (call_at P (n + 1) calls k call each.1 at)
 
 -- label stages of which the even labels are the first
 abbrev AreEvenFirst : Option LabelStages → Type 0
@@ -55,68 +46,14 @@ AreEvenFirst None = Unit {0}
 AreEvenFirst (Some stages) = stages.first ≡ Even
 
 -- those of a running sync
-stages_even : (guid group size : ℕ) (given : Option (List ℕ)) → AreEvenFirst (stages_for guid group size given)
+stages_even : (guid group size : ℕ) (given : Option (List ℕ)) → AreEvenFirst (stages_for guid group size Even given)
 stages_even guid group size None = tt
 stages_even guid group size (Some name) = refl
 
--- what a call after the blocks is, by its offset: a config of a label stage, the uberblock of a label, or a flush
-abbrev IsBehind : Option LabelStages → ℕ → DeviceCall → Type 0
-IsBehind stages offset (Block k) = ⊥
-IsBehind stages offset (Config label) = (some : LabelStages) × (stages ≡ Some some) × IsConfigCall label offset
-IsBehind stages offset (Uberblock label) = (label < 4) × (offset ≡ 1 + stage_calls (config_of stages) + label)
-IsBehind stages offset Flush = IsFlushCall (config_of stages) offset
-
-abbrev AreBehind : Option LabelStages → Type 0
-AreBehind stages = EachAt (IsBehind stages) 0 (calls_in_order 0 (is_some stages) (first_labels stages) (last_labels stages))
-
-all_behind : (stages : Option LabelStages) → AreEvenFirst stages → AreBehind stages
-all_behind None even = (inl refl, ((omega arith, refl), ((omega arith, refl), ((omega arith, refl), ((omega arith, refl), (inr (inl refl), tt))))))
-all_behind (Some stages) even = subst (λ (s : LabelStages). AreBehind (Some s)) (sym is) (
-  inl refl,
-  (
-    (staged, refl, inl (refl, refl)),
-    (
-      (staged, refl, inr (inl (refl, refl))),
-      (
-        inr (inr (refl, inl refl)),
-        (
-          (omega arith, refl),
-          (
-            (omega arith, refl),
-            (
-              (omega arith, refl),
-              (
-                (omega arith, refl),
-                (inr (inl refl), ((staged, refl, inr (inr (inl (refl, refl)))), ((staged, refl, inr (inr (inr (refl, refl)))), (inr (inr (refl, inr refl)), tt)))),
-              ),
-            ),
-          ),
-        ),
-      ),
-    ),
-  ),
-)
-  where
-    staged : LabelStages
-    staged = record { config = stages.config; first = Even }
-
-    is : stages ≡ staged
-    is = λ k. record { config = stages.config; first = even k }
-
-call_behind : (run : SyncRun) (call : DeviceCall) → AreEvenFirst run.stages → vec_len run.blocks ≤ run.done → IsNextCall run call → IsBehind run.stages (run.done - vec_len run.blocks) call
-call_behind run call even behind at =
-    let place : 0 + (run.done - vec_len run.blocks) ≡ run.done - vec_len run.blocks = omega arith in
-    subst (λ (n : ℕ). IsBehind run.stages n call) place
-    (call_at (IsBehind run.stages) 0 (calls_in_order 0 (is_some run.stages) (first_labels run.stages) (last_labels run.stages)) (run.done - vec_len run.blocks) call (all_behind run.stages even)
-    (sym (others_stand (vec_len run.blocks) (is_some run.stages) (first_labels run.stages) (last_labels run.stages) run.done (run.done - vec_len run.blocks) (omega (arith, behind))) ∙ at))
-
-call_before : (run : SyncRun) (call : DeviceCall) → run.done < vec_len run.blocks → IsNextCall run call → Block run.done ≡ call
-call_before run call before at =
-    Some-injective (sym (block_stands (vec_len run.blocks) (is_some run.stages) (first_labels run.stages) (last_labels run.stages) run.done before) ∙ at)
-
--- a write that was done put its bytes
-put_bytes : (o : Option Target) (t : Target) (old new : Disk) → o ≡ Some t → WritesTarget o old (Ok tt) new → bytes_of new.now ≡ put t.place t.content (bytes_of old.now)
-put_bytes o t old new is writes = let told : WritesTarget (Some t) old (Ok tt) new = subst (λ (q : Option Target). WritesTarget q old (Ok tt) new) is writes in ap (λ (d : Disk). bytes_of d.now) told
+-- their calls in order
+even_order : (count : ℕ) (stages : Option LabelStages) → AreEvenFirst stages → calls_in_order count (is_some stages) (first_labels stages) (last_labels stages) ≡ calls_even_first count (is_some (config_of stages))
+even_order count None even = refl
+even_order count (Some stages) even = λ k. calls_in_order count true (labels_of (even k)) (labels_of (stage_after (even k)))
 
 -- a call that was refused leaves the bytes
 failed_write : (o : Option Target) (e : PoolError) (old new : Disk) → WritesTarget o old (Err e) new → bytes_of new.now ≡ bytes_of old.now
@@ -155,51 +92,49 @@ module _ (run new : SyncRun) (same : SameSync run new) (pointers : Place → Poi
   made_all last =
       let long : length (map new_block new.blocks.items) ≡ vec_len new.blocks = length-map new.blocks.items new_block ∙ sym new.blocks.ok.0 in
       let others = all_others new.stages in
-      omega (arith, last, long, others)
+      let count = all-calls (made_by pointers new) in
+      omega (arith, last, long, others, count)
 
   module _ (even : AreEvenFirst run.stages) (done : new.done ≡ run.done + 1) (before after : Disk) (sized : length (bytes_of before.now) ≡ run.geometry) (group : ℕ) (slot : run.slot ≡ slot_of group) where
-    abbrev Advanced : Type 0
-    Advanced = Advances group (bytes_of before.now) (bytes_of after.now) (made_by pointers run) (made_by pointers new)
+    abbrev tree : NewTree
+    tree = made_by pointers run
 
-    block_written : run.done < vec_len run.blocks → MakesCall run (Block run.done) before (Ok tt) after → Advanced
-    block_written below makes =
-        let at = at_within run.blocks.items run.done (omega (arith, below, run.blocks.ok.0)) in
-        let b : NewBlock = new_block at.0 in (
-          Put b.address b.content,
-          inl (b, slice_get-map new_block run.blocks.items run.done ∙ ap (λ (o : Option PlannedBlock). option_map new_block o) at.1, refl),
-          put_bytes (target_of run (Block run.done)) (block_target at.0) before after (ap (λ (o : Option PlannedBlock). option_map block_target o) at.1) makes,
-          made_as (run.done + 1) done,
-        )
+    same_order : calls_of run ≡ order_of_tree tree
+    same_order = even_order (vec_len run.blocks) run.stages even ∙ ap (λ (n : ℕ). calls_even_first n (is_some (config_of run.stages))) (sym many)
 
-    abbrev offset : ℕ
-    offset = run.done - vec_len run.blocks
+    -- the disk call of a kind
+    abbrev Made : DiskCall → Type 0
+    Made call = bytes_of after.now ≡ bytes_made call (bytes_of before.now)
 
-    placed : vec_len run.blocks ≤ run.done → run.done ≡ length blocks + offset
-    placed behind = omega (arith, behind, many)
+    abbrev disk_call : DeviceCall → DiskCall
+    disk_call = call_of_kind (length (bytes_of before.now)) group tree
 
-    by_call : (call : DeviceCall) → vec_len run.blocks ≤ run.done → IsBehind run.stages offset call → MakesCall run call before (Ok tt) after → Advanced
-    by_call (Block k) behind is makes = absurd is
-    by_call (Config label) behind (stages, staged, is) makes = (
-      Put (config_place (length (bytes_of before.now)) label) stages.config,
-      inr (offset, placed behind, inr (inl (stages.config, label, ap config_of staged, is, refl))),
-      put_bytes (target_of run (Config label)) (config_target run.geometry label stages) before after (ap (λ (o : Option LabelStages). option_map (config_target run.geometry label) o) staged) makes
-          ∙ (λ k. put (config_place (sym sized k) label) stages.config (bytes_of before.now)),
-      made_as (run.done + 1) done,
-    )
-    by_call (Uberblock label) behind (low, is) makes = (
-      Put (slot_place (length (bytes_of before.now)) label (slot_of group)) run.uberblock,
-      inr (offset, placed behind, inl (label, low, is, refl)),
-      ap (λ (d : Disk). bytes_of d.now) makes ∙ (λ k. put (slot_place (sym sized k) label (slot k)) run.uberblock (bytes_of before.now)),
-      made_as (run.done + 1) done,
-    )
-    by_call Flush behind is makes = (Settle, inr (offset, placed behind, inr (inr (is, refl))), (flushed_clean before after makes).1, made_as (run.done + 1) done)
+    -- each call leaves the bytes that its kind says
+    kind_made : (kind : DeviceCall) → MakesCall run kind before (Ok tt) after → Made (disk_call kind)
+    kind_made (Block k) makes = by_block (slice_get run.blocks.items k) makes ∙ ap (λ o. bytes_made (block_put o) (bytes_of before.now)) (sym (slice_get-map new_block run.blocks.items k))
+      where
+        block_put : Option NewBlock → DiskCall
+        block_put o = unwrap_or (option_map (λ (b : NewBlock). Put b.address b.content) o) Settle
+
+        by_block : (o : Option PlannedBlock) → WritesTarget (option_map block_target o) before (Ok tt) after → Made (block_put (option_map new_block o))
+        by_block None writes = absurd writes
+        by_block (Some b) writes = ap (λ (d : Disk). bytes_of d.now) writes
+    kind_made (Config label) makes = by_stages run.stages makes ∙ (λ k. put (config_place (sym sized k) label) (unwrap_or (config_of run.stages) []) (bytes_of before.now))
+      where
+        by_stages : (o : Option LabelStages) → WritesTarget (option_map (config_target run.geometry label) o) before (Ok tt) after → Made (Put (config_place run.geometry label) (unwrap_or (config_of o) []))
+        by_stages None writes = absurd writes
+        by_stages (Some stages) writes = ap (λ (d : Disk). bytes_of d.now) writes
+    kind_made (Uberblock label) makes = ap (λ (d : Disk). bytes_of d.now) makes ∙ (λ k. put (slot_place (sym sized k) label (slot k)) run.uberblock (bytes_of before.now))
+    kind_made Flush makes = (flushed_clean before after makes).1
 
     -- the next call was made
-    pub call_advances : (call : DeviceCall) → IsNextCall run call → MakesCall run call before (Ok tt) after → Advanced
-    call_advances call at makes = elim (cases_lt run.done (vec_len run.blocks)) as (λ _. Advanced) [
-      | inl below ↦ block_written below (subst (λ (c : DeviceCall). MakesCall run c before (Ok tt) after) (sym (call_before run call below at)) makes)
-      | inr behind ↦ by_call call behind (call_behind run call even behind at) makes
-    ]
+    pub call_advances : (call : DeviceCall) → IsNextCall run call → MakesCall run call before (Ok tt) after → Advances group (bytes_of before.now) (bytes_of after.now) (made_by pointers run) (made_by pointers new)
+    call_advances call at makes = (
+      disk_call call,
+      slice_get-map disk_call (order_of_tree tree) run.done ∙ ap (λ (o : Option DeviceCall). option_map disk_call o) (ap (λ (calls : List DeviceCall). slice_get calls run.done) (sym same_order) ∙ at),
+      kind_made call makes,
+      made_as (run.done + 1) done,
+    )
 
 -- how a step that ends a sync leads on
 pub synced_leads : (group : Group) (o n : ShownPool) (before after : NewTree) → o.running ≡ Some before → o.shown.line.syncing ≡ Some group.0 → n.running ≡ None → SamePlaces n.pointers after.pointers → after.done ≡ total_calls after

@@ -6,17 +6,16 @@
 
 ghost use Rattle.std.specs.Prelude.{◌≡◌, ℕ, List, IfErr, IfOk, IsTrue, OnErr, false, is_some, unwrap_or};
 ghost use Rattle.base.specs.formats.Geometry.{block_count};
-ghost use Rattle.base.specs.stored.LabelConfigs.{WritesName};
-ghost use Rattle.base.specs.tree.PlacedTrees.{ArePlaced};
+ghost use Rattle.base.specs.kept.LabelConfigs.{WritesName};
+ghost use Rattle.base.specs.kept.PlacedTrees.{ArePlaced};
 ghost use Rattle.extents.specs.Synced.{patched_contents};
 ghost use Rattle.extents.specs.Unsynced.{MovesUp, changes_at, name_at};
 ghost use Rattle.object_maps.specs.ContentsShown.{contents_of};
-ghost use Rattle.object_maps.specs.Pointers.{pointers_of};
+ghost use Rattle.tree_blocks.specs.Pointers.{pointers_of};
 ghost use Rattle.pool_tables.specs.Numbers.{IsGroup};
 ghost use Rattle.intent_log.specs.Kept.{header_fields, log_shown};
 ghost use Rattle.intent_log.specs.RunLogs.{KeepsHeader};
-ghost use Rattle.pool_tables.specs.Running.{stages_for};
-ghost use Rattle.pool_tables.specs.RunningUberblocks.{WritesUberblock};
+ghost use Rattle.sync.specs.GroupLabels.{WritesUberblock, stages_for};
 
 use crate::blocks::{end_charges, forget_all, give_log, keep_blocks, take_all};
 use crate::pool::{PoolTables, Progress, RunningSync};
@@ -24,11 +23,11 @@ use base::{Group, PoolError, WRITTEN_VERSION};
 use extents::UnsyncedExtents;
 use group_plans::{GroupSource, plan_group};
 use import_replay::give_all;
-use labels::{LabelConfig, Stage};
+use labels::Stage;
 use object_maps::{BlockReader, Contents};
-use sync::{LabelStages, SyncCall, SyncRun};
+use sync::{SyncCall, SyncRun};
 use tree_plans::TreePlan;
-use uberblocks::{Uberblock, slot};
+use uberblocks::Uberblock;
 
 impl PoolTables {
     ghost use Rattle.base.specs.disk.Disk.{bytes_of};
@@ -143,6 +142,8 @@ impl PoolTables {
         )
     }
 
+    // The sync of the group with this plan. If the group gives a name, the even labels come first, since label 1 has
+    // the config that is chosen so far.
     fn running_sync(&self, group: Group, moment: u64, planned: TreePlan) -> RunningSync
         requires group { IsGroup group.0 }
         requires fits { FitsIn self.now.geometry planned }
@@ -157,12 +158,11 @@ impl PoolTables {
         ensures uberblock { WritesUberblock
             (uberblock_for self.now group.0 moment planned.root) result.run }
         ensures stages { result.run.stages ≡ stages_for self.now.guid group.0 self.now.geometry
-            (name_at self.now.changes 0) }
+            Stage.Even (name_at self.now.changes 0) }
         ensures named { (before : List ℕ) → WritesName (config_of result.run.stages)
             self.now.geometry self.now.guid group.0 before
             (unwrap_or (name_at self.now.changes 0) before) }
     {
-        let stages = self.label_stages(group);
         let TreePlan {
             blocks,
             entries,
@@ -181,38 +181,17 @@ impl PoolTables {
             log_address: header.address,
             log_number: header.number,
         };
+        let name = self.changes.oldest().name();
         RunningSync {
             group,
             moment,
             header,
-            run: SyncRun::new(
-                self.geometry,
-                blocks,
-                uberblock.encode(),
-                slot(group),
-                stages,
-            ),
+            run: SyncRun::new(self.geometry, blocks, &uberblock, name, Stage::Even),
             entries,
             directories,
             root,
             freed,
         }
-    }
-
-    // If the oldest group gives a name, the configs with it. The even labels come first, since label 1 has the config
-    // that is chosen so far.
-    fn label_stages(&self, group: Group) -> Option<LabelStages>
-        ensures stages { result ≡ stages_for self.now.guid group.0 self.now.geometry
-            (name_at self.now.changes 0) }
-        ensures named { (before : List ℕ) → WritesName (config_of result) self.now.geometry
-            self.now.guid group.0 before (unwrap_or (name_at self.now.changes 0) before) }
-    {
-        let name = self.changes.oldest().name()?;
-        let config = LabelConfig::new(self.guid, group, self.geometry.size(), name.copy());
-        Some(LabelStages {
-            config: config.encode(),
-            first: Stage::Even,
-        })
     }
 
     /// Makes the next device call of the running sync; after the last one its group is synced. Then no read takes a
@@ -287,9 +266,7 @@ impl PoolTables {
             root,
             freed,
         } = running;
-        self.tree.root = root;
-        self.tree.directories = directories;
-        self.tree.set_all(entries);
+        self.tree.lay(root, directories, entries);
         give_all(&mut self.free, self.geometry, &freed);
         run
     }

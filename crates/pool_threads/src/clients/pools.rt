@@ -1,7 +1,7 @@
 //! What callers rest on of the calls that make a pool and its handles.
 ghost use Rattle.std.specs.Prelude.{◌≡◌, ◌+◌, [], IfSome, IsTrue, List, Ok, length};
-ghost use Rattle.base.specs.crash.LeftDisks.{IsLeft};
-ghost use Rattle.base.specs.crash.Mount.{IsChainOf, records_above};
+ghost use Rattle.base.specs.kept.LeftDisks.{IsLeft};
+ghost use Rattle.base.specs.tree.Mount.{IsChainOf, records_above};
 ghost use Rattle.base.specs.disk.Disk.{bytes_of};
 ghost use Rattle.base.specs.formats.Chain.{LogPiece};
 ghost use Rattle.base.specs.formats.Uberblocks.{IsActive, Uberblock};

@@ -4,10 +4,10 @@ use Rattle.std.proofs.lemmas.Bool.{true≢false}
 use Rattle.std.proofs.lemmas.Result.{IfOk-weaker}
 use Rattle.base.specs.declared.pointer.Pointer.{Pointer}
 use Rattle.tree_plans.specs.declared.changes.ObjectChanges.{ObjectChanges}
-use Rattle.tree_plans.specs.declared.object_map.ObjectMap.{ObjectMap}
+use Rattle.tree_blocks.specs.declared.object_map.ObjectMap.{ObjectMap}
 use Rattle.tree_plans.specs.Changes.{is_strip_touched}
 use Rattle.tree_plans.specs.Plans.{is_strip_replaced}
-use Rattle.tree_plans.specs.Pointers.{records_among}
+use Rattle.tree_blocks.specs.ReadPointers.{records_among}
 use Rattle.group_plans.specs.OldMaps.{IsReadFor}
 use Rattle.group_plans.proofs.clients.an_untouched_strip_of_a_long_object_is_in_no_map.Goals as goal
 

@@ -2,7 +2,7 @@ use Rattle.std.proofs.Common.{cond, Some, ap, ◌∙◌}
 use Rattle.std.specs.Cmp.{unsigned_tied}
 use Rattle.std.proofs.lemmas.Bool.{ne_eqb}
 use Rattle.tree_plans.proofs.Strips.{among_put}
-use Rattle.tree_plans.specs.Pointers.{records_among}
+use Rattle.tree_blocks.specs.ReadPointers.{records_among}
 use Rattle.group_plans.proofs.old_maps.put_strip.Goals as goal
 
 pub returns-in_ok-insert-clause-others : goal.returns-in_ok-insert-clause-others

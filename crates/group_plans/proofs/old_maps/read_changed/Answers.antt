@@ -3,9 +3,10 @@ use Rattle.std.specs.Prelude.{Option, unwrap_or}
 use Rattle.std.specs.FinMap as finite
 use Rattle.std.specs.Cmp.{unsigned_tied}
 use Rattle.object_maps.specs.ContentsShown.{contents_of}
-use Rattle.object_maps.specs.Pointers.{pointers_of}
-use Rattle.tree_plans.specs.declared.object_map.ObjectMap.{ObjectMap}
-use Rattle.tree_plans.specs.Changes.{has_two_levels, is_long_size}
+use Rattle.tree_blocks.specs.Pointers.{pointers_of}
+use Rattle.tree_blocks.specs.declared.object_map.ObjectMap.{ObjectMap}
+use Rattle.tree_plans.specs.Changes.{has_two_levels}
+use Rattle.tree_blocks.specs.Entries.{is_long_size}
 use Rattle.tree_plans.specs.Pointers.{IsPut}
 use Rattle.tree_plans.proofs.Walks.{put_of}
 use Rattle.group_plans.specs.GroupPlans.{objects_with}

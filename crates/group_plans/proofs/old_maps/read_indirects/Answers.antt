@@ -1,7 +1,7 @@
 use Rattle.std.proofs.Common.{◌≡◌, ◌<◌, ◌∙◌, ℕ, List, true, false, inl, length, ap, sym, arith}
 use Rattle.std.specs.Prelude.{Option, option_map, unwrap_or}
 use Rattle.base.specs.disk.Disk.{bytes_of}
-use Rattle.object_maps.specs.Pointers.{ObjectPointers, is_long_entry}
+use Rattle.tree_blocks.specs.Pointers.{ObjectPointers, is_long_entry}
 use Rattle.group_plans.proofs.OldMaps.{long_there, own_is, short_strips, strip_told}
 use Rattle.group_plans.proofs.ReadPlans.{IfOk_both}
 use Rattle.group_plans.proofs.old_maps.read_indirects.Goals as goal

@@ -2,7 +2,7 @@ use Rattle.std.proofs.Common.{◌<◌, ◌∙◌, ℕ, List, length, ap, subst, 
 use Rattle.std.proofs.lemmas.Result.{err_from_is_err_and}
 use Rattle.base.specs.declared.pointer.Pointer.{Pointer}
 use Rattle.base.specs.disk.Disk.{Disk, bytes_of}
-use Rattle.object_maps.specs.Pointers.{ObjectPointers, pointers_of}
+use Rattle.tree_blocks.specs.Pointers.{ObjectPointers, pointers_of}
 use Rattle.group_plans.specs.OldMaps.{AreStripsRead, HoldsStripsOf, HoldsTreeOf}
 use Rattle.group_plans.proofs.OldMaps.{own_is, read_for}
 use Rattle.group_plans.proofs.old_maps.read_map.Goals as goal

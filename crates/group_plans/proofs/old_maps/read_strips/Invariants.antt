@@ -3,7 +3,7 @@ use Rattle.std.specs.Prelude.{IsTrue}
 use Rattle.base.specs.declared.pointer.Pointer.{Pointer}
 use Rattle.base.specs.disk.Disk.{bytes_of}
 use Rattle.base.specs.tree.Places.{Place, strip_number}
-use Rattle.tree_plans.specs.Pointers.{records_among}
+use Rattle.tree_blocks.specs.ReadPointers.{records_among}
 use Rattle.group_plans.specs.OldMaps.{AreRecordsAt, AreStripsRead, HoldsStripsOf}
 use Rattle.group_plans.proofs.old_maps.read_strips.Given as goal
 

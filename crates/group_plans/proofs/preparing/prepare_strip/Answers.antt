@@ -4,8 +4,8 @@ use Rattle.std.proofs.lemmas.Result.{err_from_is_err_and}
 use Rattle.base.specs.disk.Disk.{bytes_of}
 use Rattle.base.specs.tree.Places.{record_of_strip}
 use Rattle.object_maps.specs.ContentsShown.{contents_of}
-use Rattle.tree_plans.specs.Plans.{read_record}
-use Rattle.tree_plans.specs.declared.place.RecordPlace.{RecordPlace}
+use Rattle.tree_blocks.specs.ReadPointers.{read_record}
+use Rattle.tree_blocks.specs.declared.place.RecordPlace.{RecordPlace}
 use Rattle.group_plans.specs.GroupPlans.{objects_with}
 use Rattle.group_plans.specs.Prepared.{AreExact, HoldsRecord, at_hand}
 use Rattle.group_plans.proofs.RecordReads.{moved}

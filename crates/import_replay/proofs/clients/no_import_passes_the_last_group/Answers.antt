@@ -1,6 +1,6 @@
 use Rattle.std.proofs.Common.{◌≡◌, ◌∙◌, ℕ, ap, false, sym, true}
 use Rattle.std.proofs.lemmas.Result.{IfOk-weaker}
-use Rattle.base.specs.crash.Imports.{is_past_last}
+use Rattle.base.specs.kept.Imports.{is_past_last}
 use Rattle.base.specs.disk.Disk.{bytes_of}
 use Rattle.base.specs.formats.Uberblocks.{Uberblock}
 use Rattle.base.proofs.crash.OneMount.{one-active}

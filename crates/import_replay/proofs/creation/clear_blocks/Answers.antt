@@ -3,13 +3,14 @@ use Rattle.std.specs.List.{range_with_len}
 use Rattle.std.proofs.lemmas.List.{length-replicate}
 use Rattle.base.specs.disk.Disk.{bytes_of}
 use Rattle.base.specs.formats.Geometry.{block_address, block_count}
+use Rattle.base.proofs.formats.Geometry.{block-writable}
+use Rattle.base.specs.disk.DiskCalls.{after_disk_calls}
 use Rattle.import_replay.specs.Cleared.{AreBlocksCleared, AreTailsCleared, zeros}
-use Rattle.sync.specs.DiskCalls.{after_disk_calls}
 use Rattle.import_replay.specs.CreateCalls.{clear_block}
 use Rattle.import_replay.proofs.CreateCalls.{block_of_zeros, next_made, next_refused, stops_with, write_done, write_refused}
 use Rattle.import_replay.proofs.FirstWrites.{zeros_written}
 use Rattle.import_replay.proofs.LabelWrites.{after_write, block_beside, block_next}
-use Rattle.import_replay.proofs.OutsideWrites.{block_writable, writes_on}
+use Rattle.import_replay.proofs.OutsideWrites.{writes_on}
 use Rattle.import_replay.proofs.creation.clear_blocks.Goals as goal
 
 pub returns-in_err-write-clause-outside : goal.returns-in_err-write-clause-outside
@@ -18,7 +19,7 @@ returns-in_err-write-clause-outside g c = λ keeps start so_far.
     writes_on c.args.geometry start (g.D.SectorDevice.disk c.loop-index.device) (g.D.SectorDevice.disk c.write.new.self) _ _ _ _ c.write.result c.requires.sized.geometry long
     (c.loop-index.invariant.outside keeps start so_far) (c.write.ensures.disk keeps) c.block_address.ensures.address
     (length-replicate {A = ℕ} 4096 0)
-    (block_writable c.args.geometry c.loop-index.index (omega (arith, c.loop-index-test.true, c.blocks-index-end.ensures)))
+    (block-writable c.args.geometry c.loop-index.index (omega (arith, c.loop-index-test.true, c.blocks-index-end.ensures)))
 
 pub returns-in_err-write-clause-ordered : goal.returns-in_err-write-clause-ordered
 returns-in_err-write-clause-ordered g c = λ keeps.
@@ -50,7 +51,7 @@ loop-index-preserved g c =
           writes_on c.args.geometry start (g.D.SectorDevice.disk c.loop-index.device) (g.D.SectorDevice.disk c.write.new.self) _ _ _ _ c.write.result c.requires.sized.geometry long
           (c.loop-index.invariant.outside keeps start so_far) (c.write.ensures.disk keeps) c.block_address.ensures.address
           (length-replicate {A = ℕ} 4096 0)
-          (block_writable c.args.geometry c.loop-index.index (omega (arith, c.loop-index-test.true, c.blocks-index-end.ensures)));
+          (block-writable c.args.geometry c.loop-index.index (omega (arith, c.loop-index-test.true, c.blocks-index-end.ensures)));
       first = λ keeps t v so_far.
           zeros_written (g.D.SectorDevice.disk c.loop-index.device) (g.D.SectorDevice.disk c.write.new.self) c.block_address.result 4096 t v (omega arith) (c.in_ok-write.ensures.disk keeps)
           (c.loop-index.invariant.first keeps t v so_far);

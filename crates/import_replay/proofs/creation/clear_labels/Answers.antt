@@ -1,8 +1,8 @@
 use Rattle.std.proofs.Common.{ℕ, ◌≡◌, ◌+◌, ◌∙◌, List, length, map, ap, subst, arith}
 use Rattle.std.specs.List.{range_with_len}
 use Rattle.base.specs.formats.Geometry.{label_place}
+use Rattle.base.specs.disk.DiskCalls.{after_disk_calls}
 use Rattle.import_replay.specs.Cleared.{AreTailsCleared, zeros}
-use Rattle.sync.specs.DiskCalls.{after_disk_calls}
 use Rattle.import_replay.specs.CreateCalls.{clear_tail}
 use Rattle.import_replay.proofs.CreateCalls.{next_made, next_refused, stops_with, write_done, write_refused}
 use Rattle.import_replay.proofs.FirstWrites.{tail_written}

@@ -2,8 +2,8 @@ use Rattle.std.proofs.Common.{◌≡◌}
 use Rattle.std.specs.Prelude.{IsTrue, map}
 use Rattle.std.specs.List.{range_with_len}
 use Rattle.base.specs.disk.Disk.{Disk, bytes_of}
+use Rattle.base.specs.disk.DiskCalls.{after_disk_calls}
 use Rattle.import_replay.specs.Cleared.{AreTailsCleared}
-use Rattle.sync.specs.DiskCalls.{after_disk_calls}
 use Rattle.import_replay.specs.CreateCalls.{clear_tail}
 use Rattle.import_replay.specs.Outside.{WritesPoolBytes}
 use Rattle.import_replay.specs.OwnCreations.{AddsZeros}

@@ -1,7 +1,7 @@
 use Rattle.std.proofs.Common.{rules, ◌≡◌, ◌∙◌, List, ℕ, refl, sym, subst}
 use Rattle.base.specs.disk.Disk.{bytes_of, moments}
 use Rattle.base.specs.formats.Geometry.{IsGeometry}
-use Rattle.sync.specs.DiskCalls.{IsStoppedIn, after_disk_calls}
+use Rattle.base.specs.disk.DiskCalls.{IsStoppedIn, after_disk_calls}
 use Rattle.import_replay.specs.CreateCalls.{create_calls}
 use Rattle.import_replay.specs.Creations.{IsNewPool, IsCreatedOn}
 use Rattle.import_replay.specs.Labelled.{IsLabelled}

@@ -1,5 +1,5 @@
 use Rattle.std.proofs.Common.{ℕ, ◌<◌, Err, refl}
-use Rattle.base.specs.crash.Views.{View}
+use Rattle.base.specs.kept.Views.{View}
 use Rattle.base.specs.disk.Disk.{moments}
 use Rattle.import_replay.specs.Creations.{first_config}
 use Rattle.import_replay.specs.Cleared.{IsCleared}

@@ -1,10 +1,10 @@
 use Rattle.std.proofs.Common.{ℕ, ◌≡◌, ◌+◌, ◌∙◌, List, length, map, ap, arith, inl, inr, subst, sym}
 use Rattle.std.specs.List.{range_with_len}
 use Rattle.base.specs.formats.Geometry.{config_place}
+use Rattle.base.specs.disk.DiskCalls.{after_disk_calls}
 use Rattle.labels.specs.Configs.{config_block}
 use Rattle.import_replay.specs.Creations.{first_config}
 use Rattle.import_replay.specs.Cleared.{IsCleared}
-use Rattle.sync.specs.DiskCalls.{after_disk_calls}
 use Rattle.import_replay.specs.CreateCalls.{write_config}
 use Rattle.import_replay.specs.Labelled.{HoldConfig}
 use Rattle.import_replay.specs.OwnCreations.{AreConfigsHanded}

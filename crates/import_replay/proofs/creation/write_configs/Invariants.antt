@@ -2,10 +2,10 @@ use Rattle.std.proofs.Common.{◌≡◌, ◌≤◌, ℕ}
 use Rattle.std.specs.Prelude.{IsTrue, map}
 use Rattle.std.specs.List.{range_with_len}
 use Rattle.base.specs.disk.Disk.{Disk, bytes_of, moments}
+use Rattle.base.specs.disk.DiskCalls.{after_disk_calls}
 use Rattle.import_replay.specs.Creations.{first_config}
 use Rattle.import_replay.specs.Cleared.{IsCleared}
 use Rattle.import_replay.specs.Labelled.{HoldConfig}
-use Rattle.sync.specs.DiskCalls.{after_disk_calls}
 use Rattle.import_replay.specs.CreateCalls.{write_config}
 use Rattle.import_replay.specs.Outside.{WritesPoolBytes}
 use Rattle.labels.specs.Configs.{config_block}

@@ -4,9 +4,9 @@ use Rattle.uberblocks.specs.Slots.{slot_bytes}
 use Rattle.base.specs.disk.Disk.{bytes_of}
 use Rattle.base.specs.formats.Geometry.{slot_of, slot_place}
 use Rattle.base.specs.formats.Limits.{first_group}
+use Rattle.base.specs.disk.DiskCalls.{after_disk_calls}
 use Rattle.import_replay.specs.Creations.{first_config, first_uberblock}
 use Rattle.import_replay.specs.Cleared.{IsCleared}
-use Rattle.sync.specs.DiskCalls.{after_disk_calls}
 use Rattle.import_replay.specs.CreateCalls.{write_uberblock}
 use Rattle.import_replay.specs.Labelled.{HoldConfig, HoldUberblock}
 use Rattle.import_replay.specs.OwnCreations.{AreSlotsHanded}

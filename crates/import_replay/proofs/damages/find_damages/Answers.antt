@@ -2,7 +2,7 @@ use Rattle.std.proofs.Common.{◌≡◌, ℕ, List, ap, false, refl, subst, sym,
 use Rattle.base.specs.disk.Disk.{Disk, bytes_of}
 use Rattle.base.specs.formats.Geometry.{IsGeometry}
 use Rattle.import_replay.specs.ImportRefusals.{IsDamagedWith, IsReason}
-use Rattle.base.specs.crash.Mount.{IsChainDamaged}
+use Rattle.base.specs.tree.Mount.{IsChainDamaged}
 use Rattle.import_replay.specs.PoolDamages.{HasDamages}
 use Rattle.import_replay.proofs.Reasons.{passed_on}
 use Rattle.import_replay.proofs.Refused.{size_refused, walk_refused}

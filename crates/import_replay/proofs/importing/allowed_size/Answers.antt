@@ -1,5 +1,5 @@
 use Rattle.std.proofs.Common.{◌≡◌, ◌∙◌, ◌*◌, ℕ, Bool, false, true, inl, inr, refl, subst, sym}
-use Rattle.base.specs.crash.Imports.{are_limits_allowed}
+use Rattle.base.specs.kept.Imports.{are_limits_allowed}
 use Rattle.base.specs.formats.Geometry.{IsGeometry, sector_size}
 use Rattle.import_replay.specs.ImportRefusals.{IsImportRefusal}
 use Rattle.import_replay.proofs.Reasons.{passed_on}

@@ -1,6 +1,6 @@
 use Rattle.std.proofs.Common.{◌≡◌, ◌∙◌, Bool, ℕ, List, ap, length, subst, sym}
-use Rattle.base.specs.crash.CrashRule.{KeepsOwn}
-use Rattle.base.specs.crash.Imports.{are_limits_allowed}
+use Rattle.base.specs.kept.CrashRule.{KeepsOwn}
+use Rattle.base.specs.kept.Imports.{are_limits_allowed}
 use Rattle.base.specs.disk.Disk.{bytes_of}
 use Rattle.base.specs.formats.Geometry.{IsGeometry}
 use Rattle.base.specs.history.Past.{new_past}

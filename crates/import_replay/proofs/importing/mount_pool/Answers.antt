@@ -4,7 +4,7 @@ use Rattle.base.specs.disk.Disk.{Disk, bytes_of}
 use Rattle.base.specs.formats.Chain.{LogPiece}
 use Rattle.base.specs.formats.Uberblocks.{Uberblock}
 use Rattle.object_maps.specs.declared.contents.Slot.{Slot}
-use Rattle.object_maps.specs.declared.tree.Tree.{Tree}
+use Rattle.tree_blocks.specs.declared.tree.Tree.{Tree}
 use Rattle.uberblocks.specs.Slots.{fields_of}
 use Rattle.import_replay.specs.Found.{HasFirstStage}
 use Rattle.import_replay.specs.LabelSyncs.{is_even}
@@ -17,7 +17,7 @@ use Rattle.import_replay.proofs.MountedPools.{mounted_anew}
 use Rattle.import_replay.proofs.NextPools.{IsPrepared, chain_allowed, is_import, lacks_room, last_numbers, loaded_held, loaded_placed, prepared_over, prepared_ready, prepared_within, reason_of_replay}
 use Rattle.import_replay.proofs.OwnImports.{kept_before, kept_unwritten}
 use Rattle.import_replay.proofs.OwnMounts.{own_kept, run_started}
-use Rattle.import_replay.proofs.ReadPools.{flushed, read_behind_flush}
+use Rattle.import_replay.proofs.ReadPools.{same_flushed, read_behind_flush}
 use Rattle.import_replay.proofs.Reasons.{passed_on}
 use Rattle.import_replay.proofs.Refused.{flush_refused, next_refused, numbers_refused, open_refused, reading_refused, replay_refused}
 use Rattle.import_replay.proofs.StoppedImports.{stopped_import}
@@ -69,7 +69,7 @@ returns-clause-imported g c = λ keeps.
     let flushes = c.in_ok-flush.ensures.disk keeps in
     let read = read_behind_flush old mid size u name tree slots chain flushes (c.in_ok-found.ensures.pool keeps) in
     let still = c.read_pool.ensures.reads.disk keeps in
-    let bytes : bytes_of before.now ≡ bytes_of old.now = ap (λ (d : Disk). bytes_of d.now) (c.plan_pool.ensures.reads.disk keeps ∙ still) ∙ flushed old mid flushes in
+    let bytes : bytes_of before.now ≡ bytes_of old.now = ap (λ (d : Disk). bytes_of d.now) (c.plan_pool.ensures.reads.disk keeps ∙ still) ∙ same_flushed old mid flushes in
     let held = loaded_held size u name tree slots chain pool is.replayed c.in_ok-found.ensures.loaded.lengths mid _ still (c.in_ok-found.ensures.pool keeps) in
     ok_weaker c.open_pool.result _ _
     (λ m h. is_import _ size u name tree slots chain pool next is (bytes_of old.now) read (keeps, held) c.args.dirty_max c.args.moment m h.0 c.requires.can.allowed.1 _ before after bytes h.1)
@@ -93,7 +93,7 @@ returns-clause-written g c = λ keeps.
     let flushes = c.in_ok-flush.ensures.disk keeps in
     let read = read_behind_flush old mid size u name tree slots chain flushes (c.in_ok-found.ensures.pool keeps) in
     let same_long = g.met.B.SectorDevice.sized keeps c.open_pool.new.device ∙ c.open_pool.ensures.device.size ∙ c.plan_pool.ensures.reads.size ∙ c.read_pool.ensures.reads.size ∙ c.flush.ensures.size ∙ c.requires.can.size in
-    let first = subst (λ (b : List ℕ). HasFirstStage b u.guid u.group name even) (flushed old mid flushes) (c.in_ok-found.ensures.first keeps) in
+    let first = subst (λ (b : List ℕ). HasFirstStage b u.guid u.group name even) (same_flushed old mid flushes) (c.in_ok-found.ensures.first keeps) in
     let still = c.read_pool.ensures.reads.disk keeps in
     let held = loaded_held size u name tree slots chain pool is.replayed c.in_ok-found.ensures.loaded.lengths mid _ still (c.in_ok-found.ensures.pool keeps) in
     ok_written old _ mid _ size u name chain next c.args.dirty_max c.args.moment even c.open_pool.result (c.plan_pool.ensures.reads.disk keeps ∙ still) flushes read.long same_long
@@ -200,7 +200,7 @@ returns-clause-refused g c =
     (λ e refused. open_refused keeps_model c.args.moment old mid new e refused.kind (λ keeps.
     let flushes = c.in_ok-flush.ensures.disk keeps in
     let read = read_behind_flush old mid size u name tree slots chain flushes (c.in_ok-found.ensures.pool keeps) in
-    let first = subst (λ (b : List ℕ). HasFirstStage b u.guid u.group name even) (flushed old mid flushes) (c.in_ok-found.ensures.first keeps) in
+    let first = subst (λ (b : List ℕ). HasFirstStage b u.guid u.group name even) (same_flushed old mid flushes) (c.in_ok-found.ensures.first keeps) in
     let still = c.read_pool.ensures.reads.disk keeps in
     let held = loaded_held size u name tree slots chain pool is.replayed c.in_ok-found.ensures.loaded.lengths mid _ still (c.in_ok-found.ensures.pool keeps) in
     stopped_import _ size old mid before new u name slots tree chain pool next c.args.moment even e flushes (c.plan_pool.ensures.reads.disk keeps ∙ still) read first is (keeps, held)

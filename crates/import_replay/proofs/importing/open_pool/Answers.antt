@@ -23,22 +23,3 @@ invariant_of-result-clause-import_fits g c = import-within c.args.found.now.uber
 
 pub returns-clause-mounted : goal.returns-clause-mounted
 returns-clause-mounted g c = record { geometry = refl; guid = refl; group = refl; import_number = refl; within = c.requires.within; parts = refl; limit = refl }
-
--- the config that is written is the next one
-pub returns-in_err-sync_group-clause-views : goal.returns-in_err-sync_group-clause-views
-returns-in_err-sync_group-clause-views g c = λ keeps.
-    let w : ImportWrites = writes_of_next c.args.geometry (fields_of c.args.found.now.uberblock) c.args.moment c.args.next in
-    subst (λ (x : Config). KeepsViews (record w { config = x }) c.args.found.now.first (g.D.SectorDevice.disk c.args.device.now) (g.D.SectorDevice.disk c.sync_group.new.device))
-    (c.new-config.ensures ∙ (λ i. record w.config { size = c.size.ensures.size i; name = c.copy.ensures.copy i })) (c.sync_group.ensures.views keeps)
-
-pub returns-clause-views : goal.returns-clause-views
-returns-clause-views g c = λ keeps.
-    let w : ImportWrites = writes_of_next c.args.geometry (fields_of c.args.found.now.uberblock) c.args.moment c.args.next in
-    subst (λ (x : Config). KeepsViews (record w { config = x }) c.args.found.now.first (g.D.SectorDevice.disk c.args.device.now) (g.D.SectorDevice.disk c.sync_group.new.device))
-    (c.new-config.ensures ∙ (λ i. record w.config { size = c.size.ensures.size i; name = c.copy.ensures.copy i })) (c.sync_group.ensures.views keeps)
-
-pub returns-clause-behind : goal.returns-clause-behind
-returns-clause-behind g c = λ keeps.
-    let w : ImportWrites = writes_of_next c.args.geometry (fields_of c.args.found.now.uberblock) c.args.moment c.args.next in
-    subst (λ (x : Config). EndsBehind (record w { config = x }) c.args.found.now.first (g.D.SectorDevice.disk c.args.device.now) (g.D.SectorDevice.disk c.sync_group.new.device))
-    (c.new-config.ensures ∙ (λ i. record w.config { size = c.size.ensures.size i; name = c.copy.ensures.copy i })) (c.in_ok-sync_group.ensures.behind keeps)

@@ -1,6 +1,6 @@
 use Rattle.std.proofs.Common.{◌≡◌, ℕ, List, Ok, Err, false, true, refl, subst, sym}
 use Rattle.std.proofs.lemmas.List.Elements.{All-weaker}
-use Rattle.base.specs.crash.Mount.{records_above}
+use Rattle.base.specs.tree.Mount.{records_above}
 use Rattle.base.specs.declared.error.PoolError.TheVariants.{Damaged, NoMemory}
 use Rattle.base.specs.disk.Disk.{bytes_of}
 use Rattle.base.specs.formats.Chain.{LogPiece}

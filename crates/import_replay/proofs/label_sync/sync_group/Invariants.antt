@@ -1,6 +1,6 @@
 use Rattle.std.proofs.Common.{◌≡◌, ◌<◌, ◌-◌, IsTrue, take}
 use Rattle.base.specs.disk.Disk.{bytes_of}
-use Rattle.sync.specs.DiskCalls.{after_disk_calls}
+use Rattle.base.specs.disk.DiskCalls.{after_disk_calls}
 use Rattle.sync.specs.Made.{HasMade}
 use Rattle.sync.specs.Runs.{call_count}
 use Rattle.import_replay.specs.ImportViews.{ForEachView}
@@ -12,7 +12,7 @@ use Rattle.import_replay.proofs.label_sync.sync_group.Given as goal
 -- is what the calls so far made of it, and each moment is one of an import
 abbrev pub invariant-loop-run : goal.invariant-loop-run
 invariant-loop-run g l =
-    let w : ImportWrites = import_writes l.fn.geometry l.fn.config l.fn.uberblock l.fn.blocks in
+    let w : ImportWrites = import_writes l.fn.geometry l.fn.name l.fn.uberblock l.fn.blocks in
     record {
       sized : g.D.SectorDevice.size l.device ≡ l.fn.geometry;
       run : IsGroupSync w l.fn.first l.run;

@@ -1,11 +1,12 @@
 use Rattle.std.proofs.Common.{ℕ, List, ap, subst, ◌∙◌}
-use Rattle.base.specs.crash.Mount.{IsChainOf}
+use Rattle.base.specs.tree.Mount.{IsChainOf}
 use Rattle.base.specs.disk.Disk.{Disk, bytes_of}
 use Rattle.uberblocks.specs.Slots.{fields_of}
 use Rattle.import_replay.specs.ImportRefusals.{IsReason}
 use Rattle.base.specs.formats.Blocks.{Frame}
-use Rattle.base.specs.tree.PlacedTrees.{ArePlaced}
-use Rattle.object_maps.specs.Pointers.{objects_of, pointers_of}
+use Rattle.base.specs.kept.PlacedTrees.{ArePlaced}
+use Rattle.object_maps.specs.ContentsShown.{objects_of}
+use Rattle.tree_blocks.specs.Pointers.{pointers_of}
 use Rattle.import_replay.proofs.ReadPools.{is_read_damaged, is_read_pool}
 use Rattle.import_replay.proofs.Reasons.{passed_on, reason-chain, reason-load}
 use Rattle.import_replay.proofs.reading.read_pool.Goals as goal

@@ -1,7 +1,7 @@
 use Rattle.std.proofs.Common.{take}
 use Rattle.std.specs.List.{list_any}
 use Rattle.object_maps.specs.FreeBlocks.{BlocksTaken, names_block}
-use Rattle.object_maps.specs.Pointers.{payload_pointers}
+use Rattle.tree_blocks.specs.Pointers.{payload_pointers}
 use Rattle.object_maps.proofs.marks.take_named.Given as goal
 
 -- the blocks that so many pointers name are taken

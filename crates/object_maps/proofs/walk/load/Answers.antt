@@ -4,8 +4,8 @@ use Rattle.std.specs.FinMap as finite
 use Rattle.std.specs.FinMap.{FinMap}
 use Rattle.std.proofs.lemmas.Result.{err_from_is_err_and}
 use Rattle.base.specs.disk.Disk.{bytes_of}
-use Rattle.object_maps.specs.Lengths.{HaveLengthsOf}
-use Rattle.object_maps.specs.Pointers.{objects_of}
+use Rattle.tree_blocks.specs.Lengths.{HaveLengthsOf}
+use Rattle.object_maps.specs.ContentsShown.{objects_of}
 use Rattle.space.specs.FreeSets.{HasAllOf}
 use Rattle.object_maps.proofs.FreeBlocks.{marked_new}
 use Rattle.object_maps.proofs.LoadedTrees.{no_pointers, whole_tree}

@@ -1,13 +1,13 @@
 use Rattle.std.proofs.Common.{◌≡◌, ◌∙◌, ap, refl, sym, subst}
 use Rattle.std.proofs.Math.Logic.{∥∥₁_map}
 use Rattle.base.specs.disk.Disk.{Disk, bytes_of, disk_size}
-use Rattle.base.specs.crash.CrashRule.{KeepsOwn}
+use Rattle.base.specs.kept.CrashRule.{KeepsOwn}
 use Rattle.base.proofs.crash.LeftDisks.{IsStillLeft, import_left}
 use Rattle.import_replay.specs.ImportSyncs.{uberblock_of_import}
 use Rattle.import_replay.specs.RunStarts.{StartsRun}
 use Rattle.pool_core.specs.KeptSafe.{disk_of}
 use Rattle.pool_core.specs.States.{refused_calls, told}
-use Rattle.base.specs.crash.LeftDisks.{IsLeft}
+use Rattle.base.specs.kept.LeftDisks.{IsLeft}
 use Rattle.round_trip.specs.Crashes.{IsRoundOver, counted_in}
 use Rattle.round_trip.specs.Rounds.{IsOpened}
 use Rattle.pool_core.proofs.crash.LeftDisks.{found, run_start, safe_found}

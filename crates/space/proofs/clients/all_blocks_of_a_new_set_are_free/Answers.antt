@@ -1,4 +1,5 @@
-use Rattle.std.proofs.Common.{◌≡◌, Bool, true, false, refl, arith}
+use Rattle.std.proofs.Common.{◌≡◌, true, false, refl, arith}
+use Rattle.std.proofs.lemmas.Bool.{false_from_ne_true}
 use Rattle.base.specs.formats.Geometry.{block_address}
 use Rattle.space.specs.FreeSets.{FreeSpace, HasAllOf, is_free}
 use Rattle.space.proofs.clients.all_blocks_of_a_new_set_are_free.Goals as goal
@@ -6,12 +7,8 @@ use Rattle.space.proofs.clients.all_blocks_of_a_new_set_are_free.Goals as goal
 has : (s : FreeSpace) → HasAllOf 24 s.free → is_free 23 s ≡ true
 has s all = (all (block_address 23)).1 (23, omega arith, refl)
 
-off : (b : Bool) → (b ≡ true → ⊥) → b ≡ false
-off true is = absurd (is refl)
-off false is = refl
-
 has_not : (s : FreeSpace) → HasAllOf 24 s.free → is_free 24 s ≡ false
-has_not s all = off (is_free 24 s) (λ is. let there = (all (block_address 24)).0 is in omega (arith, there.1, there.2))
+has_not s all = false_from_ne_true (is_free 24 s) (λ is. let there = (all (block_address 24)).0 is in omega (arith, there.1, there.2))
 
 pub prove-unreachable-requires : goal.prove-unreachable-requires
 prove-unreachable-requires c = let is = has c.in_ok-free.free c.in_ok-free.ensures.all in cc

@@ -3,7 +3,7 @@ use Rattle.std.specs.Cmp.{unsigned_tied}
 use Rattle.std.proofs.lemmas.Result.{IfErr-weaker}
 use Rattle.base.specs.declared.error.PoolError.TheVariants.{NoMemory}
 use Rattle.tree_plans.specs.declared.changed_object.ChangedObject.{ChangedObject}
-use Rattle.tree_plans.specs.Changes.{is_long_size}
+use Rattle.tree_blocks.specs.Entries.{is_long_size}
 use Rattle.tree_plans.specs.Plans.{progress_of}
 use Rattle.tree_plans.specs.Pointers.{IsPut}
 use Rattle.tree_plans.specs.Room.{Lacks}

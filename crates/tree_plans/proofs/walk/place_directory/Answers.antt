@@ -7,7 +7,7 @@ use Rattle.checked_blocks.specs.Sealing.{padded}
 use Rattle.tree_plans.specs.Pointers.{entry_pointer_of}
 use Rattle.tree_plans.specs.Walks.{AreEntriesWritten}
 use Rattle.tree_plans.proofs.Parts.{cleared, directory_done, state_told, taken}
-use Rattle.tree_plans.proofs.Payloads.{padded-full}
+use Rattle.tree_blocks.proofs.Payloads.{padded-full}
 use Rattle.tree_plans.proofs.Walks.{at_any}
 use Rattle.tree_plans.proofs.walk.place_directory.Goals as goal
 

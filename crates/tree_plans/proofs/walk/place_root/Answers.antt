@@ -4,7 +4,7 @@ use Rattle.base.specs.declared.record_state.RecordState.TheVariants.{Dirty, Hole
 use Rattle.checked_blocks.specs.Sealing.{padded}
 use Rattle.tree_plans.specs.Plans.{progress_of}
 use Rattle.tree_plans.proofs.Parts.{FitsPointers, cleared, root_done, root_told, taken}
-use Rattle.tree_plans.proofs.Payloads.{padded-full}
+use Rattle.tree_blocks.proofs.Payloads.{padded-full}
 use Rattle.tree_plans.proofs.Room.{lacks_here}
 use Rattle.tree_plans.proofs.walk.place_root.Goals as goal
 
@@ -18,7 +18,7 @@ pub returns-in-Dirty-clause-planned : goal.returns-in-Dirty-clause-planned
 returns-in-Dirty-clause-planned g c =
     let is : c.state_of.result ≡ Dirty = search rules in
     let told = root_told c.args.objects.now.entries (g.O.ObjectSource.objects c.args.after.now) _ _ _ Dirty c.state_of.ensures c.is_empty.ensures c.has_any_object.ensures is in
-    let fits : FitsPointers c.args.directories.now (padded c.payload_of.result) = rw (padded-full c.payload_of.result c.payload_of.ensures.size) c.payload_of.ensures.pointers in
+    let fits : FitsPointers c.args.directories.now (padded c.pointer_payload.result) = rw (padded-full c.pointer_payload.result c.pointer_payload.ensures.size) c.pointer_payload.ensures.pointers in
     IfOk-weaker c.place.result _ _ (λ pointer done. root_done _ _ _ _ _ _ _ (taken _ _ _ _ _ _ told fits _ _ _ done)) c.place.ensures.taken
 
 pub returns-in-Dirty-clause-full : goal.returns-in-Dirty-clause-full

@@ -2,13 +2,13 @@ use Rattle.std.proofs.Common.{◌≡◌, ◌⊎◌, List, ap, refl, map, subst, 
 use Rattle.std.specs.Prelude.{All}
 use Rattle.base.specs.formats.Geometry.{IsBlockAddress}
 use Rattle.base.specs.formats.Blocks.{Frame}
-use Rattle.base.specs.tree.PlacedTrees.{ArePlaced}
-use Rattle.base.specs.tree.PlannedTrees.{AreFreed, IsTreePlan}
+use Rattle.base.specs.kept.PlacedTrees.{ArePlaced}
+use Rattle.base.specs.kept.PlannedTrees.{AreFreed, IsTreePlan}
 use Rattle.tree_plans.specs.Changes.{AreBornBefore}
 use Rattle.base.specs.declared.pointer.Pointer.{Pointer}
 use Rattle.base.specs.tree.Places.{Place}
 use Rattle.tree_plans.specs.declared.planner.PlannedBlock.{PlannedBlock}
-use Rattle.object_maps.specs.Pointers.{pointers_by}
+use Rattle.tree_blocks.specs.Pointers.{pointers_by}
 use Rattle.tree_plans.specs.declared.planner.Planner.{Planner}
 use Rattle.base.specs.formats.Fields.{no_pointer}
 use Rattle.tree_plans.specs.Parts.{group_in}

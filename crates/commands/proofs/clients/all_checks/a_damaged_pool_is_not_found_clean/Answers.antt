@@ -1,5 +1,5 @@
 use Rattle.commands.proofs.CheckedAll.{all_mounted}
-use Rattle.commands.proofs.Findings.{is_sound}
+use Rattle.import_replay.proofs.OwnRefusals.{is_sound}
 use Rattle.commands.proofs.clients.all_checks.a_damaged_pool_is_not_found_clean.Goals as goal
 
 pub returns : goal.returns

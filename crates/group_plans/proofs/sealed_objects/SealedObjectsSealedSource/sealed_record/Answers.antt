@@ -9,7 +9,7 @@ use Rattle.base.specs.tree.Places.{number_of_place, record_of_strip, strip_numbe
 use Rattle.base.specs.tree.Places.Place.{Data}
 use Rattle.base.proofs.tree.Strips.{strip-low}
 use Rattle.checked_blocks.specs.Sealing.{padded}
-use Rattle.tree_plans.specs.Plans.{place_of}
+use Rattle.tree_blocks.specs.BlockPlaces.{place_of}
 use Rattle.group_plans.specs.SealedRecords.{IsSealedAs}
 use Rattle.group_plans.proofs.SealedRecords.{kept_block, padded_record}
 use Rattle.group_plans.proofs.sealed_objects.SealedObjectsSealedSource.sealed_record.Goals as goal

@@ -8,12 +8,12 @@ use Rattle.std.proofs.lemmas.List.Sorted.{IsPermutation-reverse, IsPermutation-s
 use Rattle.std.specs.Slice.Iter.{iter_rest}
 use Rattle.base.specs.formats.Records as formats
 use Rattle.base.specs.steps.Logs.{committed_of, is_same}
+use Rattle.base.proofs.common.KeptLists.{any_map}
 use Rattle.transactions.specs.Records.{record_fields}
 use Rattle.transactions.specs.declared.record.Record.{Record}
 use Rattle.intent_log.specs.Kept.{RunLog, log_shown}
 use Rattle.intent_log.specs.Receipts.{committed}
 use Rattle.intent_log.specs.RunLogs.{is_unsynced_in}
-use Rattle.intent_log.proofs.Mapped.{list_any-map}
 use Rattle.intent_log.proofs.log.Log.is_unsynced.Goals as goal
 
 pub returns : goal.returns
@@ -26,4 +26,4 @@ returns c =
     (YieldsList-from_rev_slice records (ap iter_rest c.rev.ensures.source ∙ c.iter.ensures.rest ∙ c.deref.ensures.value)) (λ x b q k. search (rules, tests)) in
     subst (λ (l : RunLog). c.any.result ≡ is_unsynced_in (log_shown l) named) c.self.view_is
     (any ∙ list_any-IsPermutation is_named (reverse records) records (IsPermutation-sym _ _ (IsPermutation-reverse records))
-    ∙ sym (list_any-map (λ (r : formats.Record). is_same named (committed_of r)) record_fields records))
+    ∙ sym (any_map (λ (r : formats.Record). is_same named (committed_of r)) record_fields records))

@@ -1,7 +1,7 @@
 use Rattle.std.proofs.Common.{[], ◌∷◌}
 use Rattle.std.proofs.lemmas.List.{take_all}
 use Rattle.std.proofs.lemmas.Result.{err_from_is_err_and}
-use Rattle.base.specs.crash.Mount.{records_above}
+use Rattle.base.specs.tree.Mount.{records_above}
 use Rattle.base.specs.formats.Chain.{LogPiece}
 use Rattle.log_replay.proofs.OutlineRecords.{each_piece, replays_next, replays_stop}
 use Rattle.log_replay.proofs.outline.Outline.replay.Goals as goal

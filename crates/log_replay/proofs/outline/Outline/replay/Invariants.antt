@@ -1,6 +1,6 @@
 use Rattle.std.proofs.Common.{[], ◌∷◌, take, Ok}
 use Rattle.std.specs.List.{flat_map}
-use Rattle.base.specs.crash.Mount.{records_above}
+use Rattle.base.specs.tree.Mount.{records_above}
 use Rattle.base.specs.formats.Chain.{LogPiece}
 use Rattle.log_replay.specs.Outlines.{ReplaysOutline}
 use Rattle.log_replay.proofs.outline.Outline.replay.Given as goal

@@ -5,7 +5,8 @@ use Rattle.std.proofs.Math.Logic.{∥∥₁_elim, ∥∥₁_map}
 use Rattle.lru.specs.LruCache.{LruCache}
 use Rattle.base.specs.disk.Disk.{bytes_of}
 use Rattle.base.specs.formats.Blocks.{Opens}
-use Rattle.object_maps.specs.Kinds.{kind_number}
+use Rattle.base.specs.tree.Places.{kind_of, number_of_place}
+use Rattle.tree_blocks.specs.BlockPlaces.{place_of}
 use Rattle.object_maps.proofs.CachedBlocks.{aligned, found-agrees, found-there, left-agrees, promoted-left, put-agrees}
 use Rattle.object_maps.proofs.CachedDisks.{same-agrees}
 use Rattle.object_maps.proofs.cached_device.CachedDeviceBlockReader.read_payload.Goals as goal
@@ -37,7 +38,7 @@ returns-in_err-read_block-clause-sound g c = λ keeps payload opens.
     let tells = c.in_err-read_block.ensures.refused keeps (bytes_of (g.D.SectorDevice.disk c.args.self.now.device).now) refl in
     rw (p.1, p.2) (elim c.in_err-read_block.ensures.read [
       | inl read ↦ read
-      | inr d ↦ absurd ((tells (kind_number c.args.place.kind) c.args.pointer.now.address d).1.1 payload opens)
+      | inr d ↦ absurd ((tells (kind_of (place_of c.args.place)) c.args.pointer.now.address d).1.1 payload opens)
     ])
 
 pub invariant_of-self-2 : goal.invariant_of-self-2
@@ -61,5 +62,5 @@ pub returns-clause-taken : goal.returns-clause-taken
 returns-clause-taken g c = λ keeps.
     let image : List ℕ = bytes_of (g.D.SectorDevice.disk c.args.self.now.device).now in
     let opens = c.in_ok-read_block.ensures.opens image (λ k. refl) keeps in
-    inr (subst (λ (l : List ℕ). Opens image c.args.frame.now (kind_number c.args.place.kind) c.args.place.number c.args.pointer.now l)
+    inr (subst (λ (l : List ℕ). Opens image c.args.frame.now (kind_of (place_of c.args.place)) (number_of_place (place_of c.args.place)) c.args.pointer.now l)
     (sym (c.copy_from_slice.ensures.after ∙ c.payload_of-payload.ensures.payload)) opens)

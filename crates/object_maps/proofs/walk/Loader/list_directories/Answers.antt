@@ -26,7 +26,7 @@ loop-index-preserved-then-is_none g c =
       listed = λ keeps image top shows all.
           sound_added image c.args.self.now.frame.now top 1 (directory_index d) (directory_index (d + 1)) c.args.damages.now.items c.loop-index.damages.items
           (let after = behind_directory d in omega (arith, after)) (i.listed keeps image top shows all)
-          (directory_absent image c.args.self.now.frame.now top d c.loop-index-test.true (all.at d c.loop-index-test.true ∙ sym c.read_pointer-pointer.ensures ∙ c.if-is_none.ensures.0 refl));
+          (directory_absent image c.args.self.now.frame.now top d c.loop-index-test.true (all.at d c.loop-index-test.true ∙ sym c.pointer_in-pointer.ensures ∙ c.if-is_none.ensures.0 refl));
     }
 
 pub loop-index-preserved : goal.loop-index-preserved
@@ -41,7 +41,7 @@ loop-index-preserved g c =
           damages_more image c.args.self.now.frame.now top 1 (directory_index c.loop-index.index) (directory_index (c.loop-index.index + 1)) c.args.damages.now.items c.loop-index.damages.items
           c.list_directory.new.damages.items (i.listed keeps image top shows all)
           (call.listed keeps image top (ap (λ (d : Disk). bytes_of d.now) (i.disk keeps) ∙ shows)
-          (all.at c.loop-index.index c.loop-index-test.true ∙ sym c.read_pointer-pointer.ensures)
+          (all.at c.loop-index.index c.loop-index-test.true ∙ sym c.pointer_in-pointer.ensures)
           (λ none. let no = c.if-is_none.ensures.1 none in cc));
     }
 

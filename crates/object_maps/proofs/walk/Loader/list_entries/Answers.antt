@@ -3,7 +3,7 @@ use Rattle.base.specs.disk.Disk.{Disk, bytes_of}
 use Rattle.base.specs.formats.Fields.{entry_in}
 use Rattle.object_maps.specs.DamageLists.{AddsDamages}
 use Rattle.object_maps.specs.Walking.{objects_index}
-use Rattle.object_maps.proofs.EntryForms.{entry_absent}
+use Rattle.tree_blocks.proofs.EntryForms.{entry_absent}
 use Rattle.object_maps.proofs.WalkParts.{directory_end, entry_linked, entry_none, objects_begun}
 use Rattle.object_maps.proofs.DamageLists.{no_damages, object_added, sound_added}
 use Rattle.object_maps.proofs.walk.Loader.list_entries.Goals as goal

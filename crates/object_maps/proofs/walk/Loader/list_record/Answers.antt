@@ -1,12 +1,10 @@
-use Rattle.std.proofs.Common.{◌≡◌, ◌-◌, ◌*◌, ◌∙◌, ℕ, List, drop, refl, ap, sym, subst, arith}
+use Rattle.std.proofs.Common.{◌≡◌, ◌-◌, ◌*◌, ◌∙◌, ℕ, List, refl, ap, sym, subst, arith}
 use Rattle.std.specs.Prelude.{min}
 use Rattle.std.proofs.lemmas.List.{take_rest}
 use Rattle.std.proofs.lemmas.Result.{on_ok_weaker}
-use Rattle.base.specs.formats.Blocks.{Opens}
 use Rattle.base.specs.tree.Places.{record_start}
 use Rattle.base.specs.tree.Places.Place.{Data}
 use Rattle.base.specs.tree.Tree.{OpensAt}
-use Rattle.object_maps.specs.Walking.{TellsBlock}
 use Rattle.object_maps.proofs.WalkDamages.{record_sound}
 use Rattle.object_maps.proofs.DamageLists.{missing_added, record_added, no_damages}
 use Rattle.object_maps.proofs.walk.Loader.list_record.Goals as goal

@@ -46,7 +46,7 @@ loop-index-preserved-then-is_none g c =
           c.args.damages.now.items c.loop-index.damages.items c.loop-index.damages.items refl (omega arith) (i.listed keeps image top shows all)
           (no_damages image c.args.self.now.frame.now top here (here + 1) c.loop-index.damages.items (omega arith)
           (sound_one image c.args.self.now.frame.now top (Data c.args.number c.loop-index.index) here (here + 1) (c.requires.in_range, c.loop-index-test.true) refl refl
-          (inl (all.at c.loop-index.index c.loop-index-test.true ∙ sym c.read_pointer-pointer.ensures ∙ c.if-is_none.ensures.0 refl))));
+          (inl (all.at c.loop-index.index c.loop-index-test.true ∙ sym c.pointer_in-pointer.ensures ∙ c.if-is_none.ensures.0 refl))));
     }
 
 pub loop-index-preserved : goal.loop-index-preserved
@@ -64,7 +64,7 @@ loop-index-preserved g c =
           damages_then image c.args.self.now.frame.now top (walk_index_of_indirect c.args.number + 1) here here (here + 1) (walk_index_of_indirect c.args.number + 1 + (c.loop-index.index + 1))
           c.args.damages.now.items c.loop-index.damages.items c.list_record.new.damages.items refl (omega arith) (i.listed keeps image top shows all)
           (call.listed keeps image top (ap (λ (d : Disk). bytes_of d.now) (read.reads.disk keeps ∙ i.disk keeps) ∙ shows)
-          (data_in image top c.args.number c.loop-index.index c.args.size c.args.payload.now c.read_pointer-pointer.result c.loop-index-test.true all c.read_pointer-pointer.ensures
+          (data_in image top c.args.number c.loop-index.index c.args.size c.args.payload.now c.pointer_in-pointer.result c.loop-index-test.true all c.pointer_in-pointer.ensures
           (λ none. let no = c.if-is_none.ensures.1 none in cc)));
     }
 

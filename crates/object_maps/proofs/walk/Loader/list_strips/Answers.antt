@@ -34,8 +34,8 @@ loop-index-preserved g c =
           strip_added image frame top n j c.args.damages.now.items c.loop-index.damages.items c.list_strip.new.damages.items c.requires.in_range (i.listed keeps image top shows all)
           (subst (λ (m : ℕ). AddsDamages image frame top (walk_index_of_indirect m) (walk_index_of_indirect m + 85) c.loop-index.damages.items c.list_strip.new.damages.items) is
           (call.listed keeps image top (ap (λ (d : Disk). bytes_of d.now) (i.disk keeps) ∙ shows)
-          (subst (λ (m : ℕ). IsIndirectOf image top m c.read_pointer-pointer.result c.args.size) (sym is)
-          (strip_linked image top n j c.args.size c.args.payload.now c.read_pointer-pointer.result c.requires.in_range c.loop-index-test.true all c.read_pointer-pointer.ensures))));
+          (subst (λ (m : ℕ). IsIndirectOf image top m c.pointer_in-pointer.result c.args.size) (sym is)
+          (strip_linked image top n j c.args.size c.args.payload.now c.pointer_in-pointer.result c.requires.in_range c.loop-index-test.true all c.pointer_in-pointer.ensures))));
     }
 
 pub returns-clause-listed : goal.returns-clause-listed

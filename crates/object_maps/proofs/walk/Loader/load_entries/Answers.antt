@@ -3,11 +3,11 @@ use Rattle.std.specs.FinMap as finite
 use Rattle.base.specs.formats.Fields.{entry_in}
 use Rattle.base.specs.disk.Disk.{Disk, bytes_of}
 use Rattle.std.proofs.lemmas.Result.{err_from_is_err_and}
-use Rattle.object_maps.specs.declared.tree.ObjectEntry.{ObjectEntry}
+use Rattle.tree_blocks.specs.declared.tree.ObjectEntry.{ObjectEntry}
 use Rattle.object_maps.specs.FreeBlocks.{AreMarked}
 use Rattle.object_maps.specs.Loading.{AreLoadedEntries}
 use Rattle.object_maps.specs.Walking.{AreSound, objects_index}
-use Rattle.object_maps.proofs.EntryForms.{entry_absent, entry_there}
+use Rattle.tree_blocks.proofs.EntryForms.{entry_absent, entry_there}
 use Rattle.object_maps.proofs.FreeBlocks.{marked_set}
 use Rattle.object_maps.proofs.LoadedBlocks.{still_shows}
 use Rattle.object_maps.proofs.LoadedEntries.{entries_put, entries_skip, entry_for, next_empty, no_entries}

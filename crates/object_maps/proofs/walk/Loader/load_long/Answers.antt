@@ -1,12 +1,11 @@
 use Rattle.std.proofs.Common.{◌<◌, ◌≤◌, ℕ, Some, length, refl, sym, subst}
 use Rattle.base.specs.formats.Limits.{max_length, one_level_length}
-use Rattle.object_maps.specs.declared.tree.ObjectEntry.{ObjectEntry}
+use Rattle.tree_blocks.specs.declared.tree.ObjectEntry.{ObjectEntry}
 use Rattle.object_maps.specs.FreeBlocks.{ObjectNames, TakesNamed}
 use Rattle.object_maps.specs.Loading.{IsLoadedObject}
-use Rattle.object_maps.specs.Pointers.{ObjectPointers}
-use Rattle.object_maps.proofs.LoadedEntries.{long-by_length}
+use Rattle.tree_blocks.specs.Pointers.{ObjectPointers}
+use Rattle.tree_blocks.proofs.ToldStrips.{long-by_length, entry-long}
 use Rattle.object_maps.proofs.LoadedObjects.{long_loaded}
-use Rattle.object_maps.proofs.ToldStrips.{entry-long}
 use Rattle.object_maps.proofs.walk.Loader.load_long.Goals as goal
 
 pub returns-clause-taken : goal.returns-clause-taken

@@ -1,7 +1,7 @@
 use Rattle.std.proofs.Common.{◌≢◌, ◌∙◌, sym}
 use Rattle.std.proofs.lemmas.Result.{MatchResult-weaker}
 use Rattle.base.specs.tree.Places.{levels_in}
-use Rattle.object_maps.proofs.EntryForms.{long_entry, short_entry}
+use Rattle.tree_blocks.proofs.EntryForms.{long_entry, short_entry}
 use Rattle.object_maps.proofs.WalkParts.{first_linked, short_sound, short_tells}
 use Rattle.object_maps.proofs.walk.Loader.load_object.Goals as goal
 

@@ -1,13 +1,11 @@
-use Rattle.std.proofs.Common.{◌≡◌, ◌-◌, ◌*◌, ◌<◌, ◌∙◌, ℕ, List, take, drop, refl, ap, sym, subst}
+use Rattle.std.proofs.Common.{◌≡◌, ◌-◌, ◌*◌, ◌<◌, ◌∙◌, ℕ, List, take, refl, ap, sym, subst}
 use Rattle.std.specs.Prelude.{min}
 use Rattle.std.proofs.lemmas.List.{take_rest}
 use Rattle.std.proofs.lemmas.Result.{err_from_is_err_and}
 use Rattle.base.specs.disk.Disk.{put}
-use Rattle.base.specs.formats.Blocks.{Opens}
 use Rattle.base.specs.tree.Places.{record_start, walk_index_of}
 use Rattle.base.specs.tree.Places.Place.{Data}
 use Rattle.base.specs.tree.Tree.{OpensAt}
-use Rattle.object_maps.specs.Walking.{TellsBlock}
 use Rattle.object_maps.proofs.LoadedRecords.{length-taken, record_taken, records_apart}
 use Rattle.object_maps.proofs.WalkDamages.{missing_damage, record_damage, record_sound}
 use Rattle.object_maps.proofs.walk.Loader.load_record.Goals as goal

@@ -37,7 +37,7 @@ load_record-requires-clause-size g c = c.loop-index.invariant.kept.size ∙ c.re
 pub load_record-requires-clause-within : goal.load_record-requires-clause-within
 load_record-requires-clause-within g c =
     begins_inside c.args.size (record_start c.args.number c.loop-index.index) _ (c.requires.records c.loop-index.index c.loop-index-test.true)
-    (λ none. let no = c.if-is_none.ensures.1 (c.read_pointer-pointer.ensures ∙ none) in cc)
+    (λ none. let no = c.if-is_none.ensures.1 (c.pointer_in-pointer.ensures ∙ none) in cc)
 
 pub loop-index-preserved-then-is_none : goal.loop-index-preserved-then-is_none
 loop-index-preserved-then-is_none g c =
@@ -53,10 +53,10 @@ loop-index-preserved-then-is_none g c =
       sound = λ keeps image top shows all.
           sound_then image c.args.self.now.frame.now top (w + 1) (w + 1 + c.loop-index.index) (w + 1 + c.loop-index.index) (w + 1 + (c.loop-index.index + 1)) (w + 1 + (c.loop-index.index + 1)) refl refl
           (i.sound keeps image top shows all)
-          (record_none image c.args.self.now.frame.now top c.args.number c.loop-index.index c.args.size c.args.payload.now c.read_pointer-pointer.result c.requires.in_range c.loop-index-test.true all
-          c.read_pointer-pointer.ensures (c.if-is_none.ensures.0 refl));
+          (record_none image c.args.self.now.frame.now top c.args.number c.loop-index.index c.args.size c.args.payload.now c.pointer_in-pointer.result c.requires.in_range c.loop-index-test.true all
+          c.pointer_in-pointer.ensures (c.if-is_none.ensures.0 refl));
       loaded = λ image shows. records_skip g.D.SectorDevice.keeps_model image c.args.self.now.frame.now c.args.number c.args.payload.now c.loop-index.bytes.value c.loop-index.index
-          c.read_pointer-pointer.result (i.loaded image shows) c.loop-index-test.true c.read_pointer-pointer.ensures (c.if-is_none.ensures.0 refl);
+          c.pointer_in-pointer.result (i.loaded image shows) c.loop-index-test.true c.pointer_in-pointer.ensures (c.if-is_none.ensures.0 refl);
     }
 
 pub loop-index-preserved : goal.loop-index-preserved
@@ -79,10 +79,10 @@ loop-index-preserved g c =
           sound_then image c.args.self.now.frame.now top (w + 1) (w + 1 + c.loop-index.index) (w + 1 + c.loop-index.index) (w + 1 + c.loop-index.index + 1) (w + 1 + (c.loop-index.index + 1)) refl (omega arith)
           (i.sound keeps image top shows all)
           (call.walked keeps image top (ap (λ (d : Disk). bytes_of d.now) (here keeps) ∙ shows)
-          (data_in image top c.args.number c.loop-index.index c.args.size c.args.payload.now c.read_pointer-pointer.result c.loop-index-test.true all c.read_pointer-pointer.ensures
+          (data_in image top c.args.number c.loop-index.index c.args.size c.args.payload.now c.pointer_in-pointer.result c.loop-index-test.true all c.pointer_in-pointer.ensures
           (λ none. let no = c.if-is_none.ensures.1 none in cc)));
       loaded = λ image shows. records_load g.D.SectorDevice.keeps_model image c.args.self.now.frame.now c.args.number c.args.payload.now c.loop-index.bytes.value
-          c.load_record.new.bytes.value c.loop-index.index c.read_pointer-pointer.result (i.loaded image shows) c.read_pointer-pointer.ensures
+          c.load_record.new.bytes.value c.loop-index.index c.pointer_in-pointer.result (i.loaded image shows) c.pointer_in-pointer.ensures
           (call.loaded image (still_shows g.D.SectorDevice.keeps_model start (g.D.SectorDevice.disk c.read_ahead.new.device) image here shows))
           call.others (call.size ∙ sym long);
     }
@@ -111,5 +111,5 @@ returns-in_err-load_record-clause-walked g c = λ keeps image top shows all.
     rw (p.1, p.2) (tells_behind image c.args.self.now.frame.now top (w + 1) (w + 1 + c.loop-index.index) (w + 1 + c.loop-index.index)
     c.in_err-load_record.field-0.0 (omega arith) refl (i.sound keeps image top shows all)
     (c.in_err-load_record.ensures.walked keeps image top (ap (λ (d : Disk). bytes_of d.now) (c.in_ok-read_ahead.ensures.reads.disk keeps ∙ i.disk keeps) ∙ shows)
-    (data_in image top c.args.number c.loop-index.index c.args.size c.args.payload.now c.read_pointer-pointer.result c.loop-index-test.true all c.read_pointer-pointer.ensures
+    (data_in image top c.args.number c.loop-index.index c.args.size c.args.payload.now c.pointer_in-pointer.result c.loop-index-test.true all c.pointer_in-pointer.ensures
     (λ none. let no = c.if-is_none.ensures.1 none in cc))))

@@ -4,15 +4,14 @@ use Rattle.base.specs.declared.pointer.Pointer.{Pointer}
 use Rattle.base.specs.formats.Limits.{one_level_length}
 use Rattle.base.specs.tree.Places.{record_number}
 use Rattle.base.proofs.tree.Strips.{first-low, one_level-max}
-use Rattle.object_maps.specs.declared.tree.ObjectEntry.{ObjectEntry}
+use Rattle.tree_blocks.specs.declared.tree.ObjectEntry.{ObjectEntry}
 use Rattle.object_maps.specs.FreeBlocks.{ObjectNames, StripNames, TakesNamed}
 use Rattle.object_maps.specs.Loading.{AreBytes, IsLoadedObject, IsLoadedStrip}
-use Rattle.object_maps.specs.Pointers.{ObjectPointers, told_record}
-use Rattle.object_maps.proofs.LoadedEntries.{short-by_length}
+use Rattle.tree_blocks.specs.Pointers.{ObjectPointers, told_record}
+use Rattle.tree_blocks.proofs.ToldStrips.{short-by_length, entry-short, first-told}
 use Rattle.object_maps.proofs.LoadedObjects.{short_loaded}
 use Rattle.object_maps.proofs.LoadedRecords.{bytes-zeros, zeros-records}
 use Rattle.object_maps.proofs.TakenStrips.{first_named}
-use Rattle.object_maps.proofs.ToldStrips.{entry-short, first-told}
 use Rattle.object_maps.proofs.walk.Loader.load_short.Goals as goal
 
 pub load_strip-requires-clause-in_range : goal.load_strip-requires-clause-in_range

@@ -7,11 +7,11 @@ use Rattle.base.specs.tree.Places.{strip_of, walk_index_of_indirect}
 use Rattle.base.specs.tree.Places.Place.{Indirect}
 use Rattle.base.specs.tree.Tree.{OpensAt}
 use Rattle.object_maps.specs.Loading.{IsLoadedStrip}
-use Rattle.object_maps.specs.Pointers.{payload_pointers, strip_in, told_record}
+use Rattle.tree_blocks.specs.Pointers.{payload_pointers, strip_in, told_record}
 use Rattle.object_maps.proofs.LoadedBlocks.{still_shows}
 use Rattle.object_maps.proofs.LoadedRecords.{some_address, strip_loaded}
 use Rattle.object_maps.proofs.TakenStrips.{strip_taken}
-use Rattle.object_maps.proofs.ToldStrips.{strip-is}
+use Rattle.tree_blocks.proofs.ToldStrips.{strip-is}
 use Rattle.object_maps.proofs.WalkDamages.{missing_damage}
 use Rattle.object_maps.proofs.WalkOrder.{sound_more}
 use Rattle.object_maps.proofs.WalkParts.{indirect_damage, indirect_sound, records_linked, strip_none, tells_behind}

@@ -8,7 +8,7 @@ use Rattle.base.specs.tree.Places.{record_number, strip_number, strip_of, walk_i
 use Rattle.base.proofs.tree.Strips.{strip-which}
 use Rattle.object_maps.specs.FreeBlocks.{StripNames, TakesNamed}
 use Rattle.object_maps.specs.Loading.{HasZeroRecord, IsLoadedStrip, KeepsOthers}
-use Rattle.object_maps.specs.Pointers.{TellsStrip, strip_in, told_record}
+use Rattle.tree_blocks.specs.Pointers.{TellsStrip, strip_in, told_record}
 use Rattle.object_maps.specs.Walking.{AreSound, IsIndirectOf, TellsDamage}
 use Rattle.object_maps.proofs.LoadedBlocks.{still_shows}
 use Rattle.object_maps.proofs.LoadedRecords.{next_zeros, no_strips, strips_more, zeros_more}
@@ -60,7 +60,7 @@ loop-index-preserved g c =
     let told = c.load_strip.new.object.strips.value in
     let bytes = c.loop-index.object.bytes.value in
     let new = c.load_strip.new.object.bytes.value in
-    let pointer = c.read_pointer-pointer.result in
+    let pointer = c.pointer_in-pointer.result in
     let tells : TellsStrip j pointer strips told = subst (λ (q : ℕ). TellsStrip q pointer strips told) which call.told in
     let kept : KeepsOthers j bytes new = subst (λ (q : ℕ). KeepsOthers q bytes new) which call.others in
     record {
@@ -72,13 +72,13 @@ loop-index-preserved g c =
       zeros = zeros_more j bytes new i.zeros kept;
       taken = strips_named_more strips told j pointer c.args.free.now c.loop-index.free c.load_strip.new.free tells i.taken
           (subst (λ (q : ℕ). TakesNamed (λ k. StripNames k pointer (told_record (strip_in told q))) c.loop-index.free c.load_strip.new.free) which call.taken);
-      named = named_more strips told j pointer c.args.payload.now tells c.read_pointer-pointer.ensures i.named;
+      named = named_more strips told j pointer c.args.payload.now tells c.pointer_in-pointer.ensures i.named;
       sound = λ keeps image top shows all.
           strip_more image frame top n j c.requires.in_range (i.sound keeps image top shows all)
           (subst (λ (m : ℕ). AreSound image frame top (walk_index_of_indirect m) (walk_index_of_indirect m + 85)) is
           (call.walked keeps image top (ap (λ (d : Disk). bytes_of d.now) (i.disk keeps) ∙ shows)
           (subst (λ (m : ℕ). IsIndirectOf image top m pointer c.args.size) (sym is)
-          (strip_linked image top n j c.args.size c.args.payload.now pointer c.requires.in_range c.loop-index-test.true all c.read_pointer-pointer.ensures))));
+          (strip_linked image top n j c.args.size c.args.payload.now pointer c.requires.in_range c.loop-index-test.true all c.pointer_in-pointer.ensures))));
       loaded = λ image shows.
           let here = call.loaded image (still_shows g.D.SectorDevice.keeps_model (g.D.SectorDevice.disk c.args.device.now) (g.D.SectorDevice.disk c.loop-index.device) image i.disk shows) in
           strips_more g.D.SectorDevice.keeps_model image frame n strips told bytes new j pointer c.requires.in_range (i.loaded image shows) tells kept
@@ -121,5 +121,5 @@ returns-in_err-load_strip-clause-walked g c = λ keeps image top shows all.
     (before_strip (walk_index_of_object n) j) (sym (index_of_strip n j c.requires.in_range)) (i.sound keeps image top shows all)
     (subst (λ (m : ℕ). TellsDamage image frame top (walk_index_of_indirect m) e) is
     (c.in_err-load_strip.ensures.walked keeps image top (ap (λ (d : Disk). bytes_of d.now) (i.disk keeps) ∙ shows)
-    (subst (λ (m : ℕ). IsIndirectOf image top m c.read_pointer-pointer.result c.args.size) (sym is)
-    (strip_linked image top n j c.args.size c.args.payload.now c.read_pointer-pointer.result c.requires.in_range c.loop-index-test.true all c.read_pointer-pointer.ensures)))))
+    (subst (λ (m : ℕ). IsIndirectOf image top m c.pointer_in-pointer.result c.args.size) (sym is)
+    (strip_linked image top n j c.args.size c.args.payload.now c.pointer_in-pointer.result c.requires.in_range c.loop-index-test.true all c.pointer_in-pointer.ensures)))))

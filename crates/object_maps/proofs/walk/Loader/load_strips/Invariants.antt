@@ -6,7 +6,7 @@ use Rattle.base.specs.formats.Fields.{pointer_in}
 use Rattle.base.specs.tree.Places.{walk_index_of_object}
 use Rattle.object_maps.specs.FreeBlocks.{StripsName, TakesNamed}
 use Rattle.object_maps.specs.Loading.{AreBytes, AreLoadedStrips, HasZeroRecord, Shows}
-use Rattle.object_maps.specs.Pointers.{strip_in}
+use Rattle.tree_blocks.specs.Pointers.{strip_in}
 use Rattle.object_maps.specs.Walking.{AreSound, AreStripsOf}
 use Rattle.object_maps.proofs.walk.Loader.load_strips.Given as goal
 

@@ -6,9 +6,9 @@ use Rattle.base.specs.disk.Disk.{Disk, bytes_of}
 use Rattle.base.specs.tree.Places.{walk_index_of_object}
 use Rattle.base.specs.tree.Places.Place.{Top}
 use Rattle.base.specs.tree.Tree.{OpensAt}
-use Rattle.object_maps.specs.Loaders.{AreStripForms}
+use Rattle.tree_blocks.specs.Forms.{AreStripForms}
 use Rattle.object_maps.specs.Loading.{AreBytes}
-use Rattle.object_maps.specs.Pointers.{strip_in}
+use Rattle.tree_blocks.specs.Pointers.{strip_in}
 use Rattle.object_maps.proofs.LoadedBlocks.{on_ok_all, still_shows}
 use Rattle.object_maps.proofs.LoadedObjects.{levels_hole, levels_loaded}
 use Rattle.object_maps.proofs.LoadedRecords.{bytes-zeros, zeros-records}

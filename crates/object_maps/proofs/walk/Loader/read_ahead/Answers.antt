@@ -20,15 +20,15 @@ returns-clause-ahead g c = λ image shows.
     let two : IsTrue keep → g.D.SectorDevice.disk c.fill-2.new.device ≡ start = λ k. c.in_ok-fill-2.ensures.reads.disk k ∙ one k in
     let three : IsTrue keep → g.D.SectorDevice.disk c.fill-3.new.device ≡ start = λ k. c.in_ok-fill-3.ensures.reads.disk k ∙ two k in
     c.opened-ahead.ensures keep image (
-      at c.room_for-first.result.pointer c.read_pointer-first.result c.room_for-first.ensures.pointer (readable.first refl),
+      at c.room_for-first.result.pointer c.pointer_in-first.result c.room_for-first.ensures.pointer (readable.first refl),
       shown start (λ k. refl) c.room_for-first.result.pointer c.fill.new.buffer c.in_ok-fill.ensures.bytes,
     ) (
-      at c.room_for-second.result.pointer c.read_pointer-second.result c.room_for-second.ensures.pointer (readable.second refl),
+      at c.room_for-second.result.pointer c.pointer_in-second.result c.room_for-second.ensures.pointer (readable.second refl),
       shown (g.D.SectorDevice.disk c.fill.new.device) one c.room_for-second.result.pointer c.fill-2.new.buffer c.in_ok-fill-2.ensures.bytes,
     ) (
-      at c.room_for-third.result.pointer c.read_pointer-third.result c.room_for-third.ensures.pointer (readable.third refl),
+      at c.room_for-third.result.pointer c.pointer_in-third.result c.room_for-third.ensures.pointer (readable.third refl),
       shown (g.D.SectorDevice.disk c.fill-2.new.device) two c.room_for-third.result.pointer c.fill-3.new.buffer c.in_ok-fill-3.ensures.bytes,
     ) (
-      at c.room_for-fourth.result.pointer c.read_pointer-fourth.result c.room_for-fourth.ensures.pointer (readable.fourth refl),
+      at c.room_for-fourth.result.pointer c.pointer_in-fourth.result c.room_for-fourth.ensures.pointer (readable.fourth refl),
       shown (g.D.SectorDevice.disk c.fill-3.new.device) three c.room_for-fourth.result.pointer c.fill-4.new.buffer c.in_ok-fill-4.ensures.bytes,
     )

@@ -1,5 +1,4 @@
-use Rattle.std.proofs.Common.{◌≡◌, ◌%◌, ◌∙◌, List, ℕ, drop, refl, subst}
-use Rattle.std.specs.Prelude.{IsTrue, OnOk}
+use Rattle.std.proofs.Common.{◌%◌, ◌∙◌, List, ℕ, drop, refl, subst}
 use Rattle.base.specs.disk.Disk.{bytes_of}
 use Rattle.base.specs.formats.Blocks.{Opens}
 use Rattle.base.specs.declared.pointer.Pointer.{Pointer}
@@ -15,11 +14,6 @@ pub returns-clause-opens : goal.returns-clause-opens
 returns-clause-opens g c = λ image shows keeps.
     let frame = c.args.self.now.frame.now in
     let payload : List ℕ = drop 64 c.in-Some.read.block in
-    subst (λ (n : ℕ). Opens image frame 5 n c.args.pointer.now payload) (c.if-read-place.true ∙ c.data_number.ensures)
+    subst (λ (n : ℕ). Opens image frame 5 n c.args.pointer.now payload) (c.if-read-block_number.true ∙ c.number-block_number.ensures)
     (subst (λ (p : Pointer). Opens image frame 5 c.in-Some.read.number p payload) (same_pointer c.in-Some.read.pointer c.args.pointer.now c.if-eq.ensures)
     ((c.requires.ahead image shows (c.args.index % 4) c.in-Some.read c.in-Some.is).1 keeps))
-
-pub returns-2-clause-opens : goal.returns-2-clause-opens
-returns-2-clause-opens g c = λ image shows.
-    subst (λ (n : ℕ). OnOk c.read_block.result (IsTrue g.D.SectorDevice.keeps_model → Opens image c.args.self.now.frame.now 5 n c.args.pointer.now (drop 64 c.read_block.new.buffer)))
-    c.data_number.ensures (c.read_block.ensures.opens image shows)

@@ -3,10 +3,10 @@ use Rattle.std.specs.FinMap as finite
 use Rattle.std.proofs.lemmas.Result.{IfErr-weaker}
 use Rattle.base.specs.declared.error.PoolError.TheVariants as error
 use Rattle.base.specs.formats.Fields.{pointer_in}
-use Rattle.base.specs.tree.PlacedTrees.{IsLong}
+use Rattle.base.specs.kept.PlacedTrees.{IsLong}
 use Rattle.base.specs.tree.Places.{strip_number}
 use Rattle.base.specs.tree.Places.Place.{Indirect}
-use Rattle.object_maps.specs.Pointers.{pointers_of}
+use Rattle.tree_blocks.specs.Pointers.{pointers_of}
 use Rattle.object_reads.specs.ShownTrees.{synced_objects}
 use Rattle.object_reads.proofs.SyncedObjects.{bytes_long, entry_is_long, short_first, short_later, strip_formed}
 use Rattle.object_reads.proofs.shown_tree.ShownTree.find_strip.Goals as goal

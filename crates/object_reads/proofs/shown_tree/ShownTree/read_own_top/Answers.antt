@@ -1,6 +1,6 @@
 use Rattle.std.proofs.Common.{◌<◌, length, arith}
 use Rattle.std.proofs.lemmas.Result.{err_from_is_err_and}
-use Rattle.object_maps.specs.Pointers.{pointers_of}
+use Rattle.tree_blocks.specs.Pointers.{pointers_of}
 use Rattle.object_reads.proofs.SyncedObjects.{holds_top}
 use Rattle.object_reads.proofs.shown_tree.ShownTree.read_own_top.Goals as goal
 

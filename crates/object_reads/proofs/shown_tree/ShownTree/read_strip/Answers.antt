@@ -2,7 +2,7 @@ use Rattle.std.proofs.Common.{◌∙◌, ℕ, ap, sym}
 use Rattle.std.specs.FinMap as finite
 use Rattle.std.proofs.lemmas.Result.{err_from_is_err_and}
 use Rattle.base.specs.tree.Places.Place.{Data}
-use Rattle.object_maps.specs.Pointers.{pointers_of}
+use Rattle.tree_blocks.specs.Pointers.{pointers_of}
 use Rattle.object_reads.specs.ShownTrees.{synced_objects}
 use Rattle.object_reads.proofs.SyncedObjects.{bytes_long, holds_strip, stands_still}
 use Rattle.object_reads.proofs.shown_tree.ShownTree.read_strip.Goals as goal

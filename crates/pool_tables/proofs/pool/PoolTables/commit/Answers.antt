@@ -17,7 +17,8 @@ use Rattle.pool_tables.specs.Meets.{MayCommit, MeetsExplained}
 use Rattle.transactions.specs.declared.record.Record.{Record}
 use Rattle.pool_tables.specs.Entries.{shown_after_entry}
 use Rattle.pool_tables.specs.Unsynced.{KeepsUnsynced}
-use Rattle.pool_tables.specs.Running.{stages_for}
+use Rattle.labels.specs.declared.stage.Stage.TheVariants.{Even}
+use Rattle.sync.specs.GroupLabels.{stages_for}
 use Rattle.pool_tables.specs.Shows.{pool_shown, shown_contents}
 use Rattle.pool_tables.proofs.CommitSteps.{commit_refused, commit_wants}
 use Rattle.pool_tables.proofs.Entered.{entered}
@@ -89,7 +90,7 @@ invariant_of-self-2 c =
       accounted = pool.accounted;
       running = λ r is. let was = pool.running r is in record {
         geometry = was.geometry;
-        stages = was.stages ∙ ap (stages_for pool.guid r.group.0 pool.geometry) (sym (c.reserve.ensures.same.names 0));
+        stages = was.stages ∙ ap (stages_for pool.guid r.group.0 pool.geometry Even) (sym (c.reserve.ensures.same.names 0));
         left = was.left;
         uberblock = was.uberblock;
         placed = was.placed;

@@ -1,6 +1,6 @@
 use Rattle.std.proofs.Common.{sym, subst}
 use Rattle.std.proofs.lemmas.Result.{err_from_is_err_and}
-use Rattle.object_maps.specs.Sources.{AreWithin}
+use Rattle.tree_blocks.specs.ListedObjects.{AreWithin}
 use Rattle.pool_tables.specs.Shows.{pool_shown, synced_of}
 use Rattle.pool_tables.proofs.HeldReads.{digest_refused, digest_told, held_stands, no_memory, objects_are, suspended_first, tree_fits}
 use Rattle.pool_tables.proofs.UnsyncedChanges.{laid_stay_within}

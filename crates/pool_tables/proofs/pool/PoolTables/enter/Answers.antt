@@ -17,7 +17,8 @@ use Rattle.throttle.proofs.OpenCharges.{stay_charged}
 use Rattle.throttle.specs.Blocks.{AreSumsOn}
 use Rattle.transactions.specs.declared.record.Record.{Record}
 use Rattle.pool_tables.specs.Entries.{shown_after_entry}
-use Rattle.pool_tables.specs.Running.{stages_for}
+use Rattle.labels.specs.declared.stage.Stage.TheVariants.{Even}
+use Rattle.sync.specs.GroupLabels.{stages_for}
 use Rattle.pool_tables.specs.Shows.{pool_shown, synced_of}
 use Rattle.pool_tables.proofs.HeldGroups.{counted_release, exact_end, has_hold, line-after_release, may_release}
 use Rattle.pool_tables.proofs.Opens.{HasAllowedPlan, IsSmall}
@@ -59,7 +60,7 @@ invariant_of-self c =
       };
       running = λ r is. let was = pool.running r is in record {
         geometry = was.geometry;
-        stages = was.stages ∙ ap (stages_for pool.guid r.group.0 pool.geometry) (sym (kept_oldest pool group hold c.args.place c.apply.new.self c.requires.place r is c.apply.ensures.others).1);
+        stages = was.stages ∙ ap (stages_for pool.guid r.group.0 pool.geometry Even) (sym (kept_oldest pool group hold c.args.place c.apply.new.self c.requires.place r is c.apply.ensures.others).1);
         left = was.left;
         uberblock = was.uberblock;
         placed = was.placed;

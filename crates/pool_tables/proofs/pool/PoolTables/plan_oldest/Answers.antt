@@ -1,6 +1,6 @@
 use Rattle.std.proofs.Common.{◌≡◌, subst}
 use Rattle.std.specs.Prelude.{IfOk}
-use Rattle.base.specs.stored.Stored.{frame_at}
+use Rattle.base.specs.kept.Stored.{frame_at}
 use Rattle.base.proofs.common.KeptLists.{Some-injective}
 use Rattle.extents.specs.declared.extents.Extents.{Extents}
 use Rattle.group_plans.specs.GroupPlans.{HoldsGroupObjects, objects_with}

@@ -11,7 +11,8 @@ use Rattle.tree_plans.specs.declared.planner.PlannedBlock.{PlannedBlock}
 use Rattle.pool_tables.specs.Accounts.{AreAccounted}
 use Rattle.pool_tables.specs.declared.pool.RunningSync.{RunningSync}
 use Rattle.intent_log.specs.RunLogs.{IsLogOf, KeepsHeader}
-use Rattle.pool_tables.specs.RunningUberblocks.{WritesUberblock, uberblock_with}
+use Rattle.sync.specs.GroupLabels.{WritesUberblock}
+use Rattle.pool_tables.specs.RunningUberblocks.{uberblock_with}
 use Rattle.pool_tables.specs.Unsynced.{KeepsUnsynced}
 use Rattle.pool_tables.proofs.Closes.{accounts_move_on}
 use Rattle.pool_tables.proofs.UnsyncedChanges.{moved_on}

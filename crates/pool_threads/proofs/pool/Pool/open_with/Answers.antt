@@ -1,4 +1,4 @@
-use Rattle.base.specs.crash.Imports.{IsImportOf}
+use Rattle.base.specs.kept.Imports.{IsImportOf}
 use Rattle.base.specs.disk.Calls.{with_refusal}
 use Rattle.base.specs.disk.Disk.{bytes_of}
 use Rattle.import_replay.specs.Mounts.{shown_of_import}

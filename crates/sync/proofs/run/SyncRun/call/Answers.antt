@@ -3,7 +3,7 @@ use Rattle.std.specs.Prelude.{slice_get, is_some}
 use Rattle.base.specs.disk.SyncOrder.{calls_in_order}
 use Rattle.sync.specs.declared.run.LabelStages.{LabelStages}
 use Rattle.sync.specs.Calls.{first_labels, last_labels}
-use Rattle.sync.proofs.CallPlaces.{block_stands, others_stand}
+use Rattle.base.proofs.disk.SyncOrder.{block_stands, others_stand}
 use Rattle.sync.proofs.run.SyncRun.call.Goals as goal
 
 pub returns-then-self-blocks-clause-next : goal.returns-then-self-blocks-clause-next

@@ -3,11 +3,11 @@ use Rattle.std.specs.List.{list_any}
 use Rattle.std.proofs.lemmas.Result.{IfErr-weaker, IfOk-weaker}
 use Rattle.checked_blocks.specs.Sealing.{padded}
 use Rattle.base.specs.tree.Places.{strip_number}
-use Rattle.tree_plans.specs.declared.place.BlockPlace.TheVariants.{Indirect}
+use Rattle.tree_blocks.specs.declared.place.BlockPlace.TheVariants.{Indirect}
 use Rattle.tree_plans.specs.Changes.{has_address, may_have_blocks}
 use Rattle.tree_plans.specs.Plans.{is_strip_replaced, progress_of}
 use Rattle.tree_plans.proofs.Parts.{FitsPointers, above_gone, above_kept, above_made, cleared, indirect_done, kept, taken}
-use Rattle.tree_plans.proofs.Payloads.{padded-full}
+use Rattle.tree_blocks.proofs.Payloads.{padded-full}
 use Rattle.tree_plans.proofs.Room.{lacks_here, not_space}
 use Rattle.tree_plans.proofs.planner.Planner.place_indirect.Goals as goal
 
@@ -36,7 +36,7 @@ returns-clause-planned c =
     let goes : is_strip_replaced object.is_long object.changes.now c.args.strip ≡ true = (let no = c.if-keeps_strip.false in let is = c.keeps_strip.ensures in search rules) in
     let some : (may_have_blocks object.is_long object.changes.now.is_changed c.args.strip && list_any has_address c.args.records.now) ≡ true =
     (let yes = c.if-not-has_indirect.false in let is = c.has_indirect.ensures in search rules) in
-    let fits : FitsPointers c.args.records.now (padded c.payload_of.result) = rw (padded-full c.payload_of.result c.payload_of.ensures.size) c.payload_of.ensures.pointers in
+    let fits : FitsPointers c.args.records.now (padded c.pointer_payload.result) = rw (padded-full c.pointer_payload.result c.pointer_payload.ensures.size) c.pointer_payload.ensures.pointers in
     IfOk-weaker c.place.result _ _ (λ pointer done. indirect_done _ object c.args.strip _ c.args.records.now _ _ _ _ (ap (λ m. Indirect m) c.strip_number.ensures.number)
     (taken _ _ _ _ _ _ (above_made _ _ goes some) fits _ _ _ done)) c.place.ensures.taken
 

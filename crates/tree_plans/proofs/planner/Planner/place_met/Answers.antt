@@ -3,10 +3,10 @@ use Rattle.std.proofs.lemmas.Result.{IfErr-weaker, IfOk-weaker}
 use Rattle.base.specs.tree.Syncs.{is_dirty}
 use Rattle.std.specs.Cmp.{unsigned_tied}
 use Rattle.tree_plans.specs.Plans.{is_indirect_made, progress_of, state_over_records}
-use Rattle.tree_plans.specs.Pointers.{records_among}
+use Rattle.tree_blocks.specs.ReadPointers.{records_among}
 use Rattle.tree_plans.specs.Room.{Lacks, count_if}
 use Rattle.tree_plans.proofs.Levels.{met_kept, met_long, met_made, met_mark}
-use Rattle.tree_plans.proofs.Strips.{among-get}
+use Rattle.tree_blocks.proofs.ReadPointers.{among-get}
 use Rattle.tree_plans.proofs.planner.Planner.place_met.Goals as goal
 
 pub returns-in-None-clause-planned : goal.returns-in-None-clause-planned

@@ -1,12 +1,12 @@
 use Rattle.std.proofs.Common.{◌≡◌, ℕ, List, arith, ap, length, sym, ◌∙◌}
 use Rattle.std.specs.Prelude.{if◌then◌else◌}
 use Rattle.base.specs.formats.Limits.{pointer_count}
-use Rattle.object_maps.specs.Pointers.{pointer_of_list}
+use Rattle.tree_blocks.specs.Pointers.{pointer_of_list}
 use Rattle.object_maps.specs.Sources.{object_bytes}
 use Rattle.base.specs.tree.Syncs.{is_dirty}
 use Rattle.tree_plans.specs.Parts.{old_in}
 use Rattle.tree_plans.specs.Plans.{is_dirty_in, is_indirect_made, progress_of, records_with, state_over_indirects}
-use Rattle.tree_plans.specs.Changes.{is_long_size}
+use Rattle.tree_blocks.specs.Entries.{is_long_size}
 use Rattle.tree_plans.specs.Pointers.{pointers_in, strips_with}
 use Rattle.tree_plans.specs.Room.{count_if, is_top_needed, record_blocks}
 use Rattle.tree_plans.proofs.NewObjects.{made_count, object_adds, object_comes_once, object_frees, object_is_used, object_named, object_planned, top_state_is}

@@ -2,9 +2,8 @@ use Rattle.std.proofs.Common.{ℕ, ◌≡◌, ◌∙◌, List, ◌++◌, length,
 use Rattle.base.specs.disk.Disk.{put}
 use Rattle.base.specs.formats.Fields.{number_bytes, pointer_bytes}
 use Rattle.base.specs.formats.Versions.{number_of_version}
-use Rattle.base.proofs.formats.FieldsRead.{length-number_bytes}
+use Rattle.base.proofs.formats.FieldsRead.{length-number_bytes, length-pointer_bytes}
 use Rattle.uberblocks.specs.Slots.{field_bytes}
-use Rattle.uberblocks.proofs.SlotParts.{length-pointer_bytes}
 use Rattle.uberblocks.proofs.SlotWrites.{put_next, length-two}
 use Rattle.uberblocks.proofs.uberblock.Uberblock.write_fields.Goals as goal
 

@@ -1,4 +1,0 @@
-pub mod LabelConfigs
-pub mod ShownLabels
-pub mod Stored
-pub mod HeldMounts

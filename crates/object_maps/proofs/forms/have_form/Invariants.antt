@@ -1,7 +1,0 @@
-use Rattle.std.proofs.Common.{ℕ, ◌<◌}
-use Rattle.base.specs.formats.Fields.{pointer_in}
-use Rattle.base.specs.tree.Damages.{IsPointerForm}
-use Rattle.object_maps.proofs.forms.have_form.Given as goal
-
-abbrev pub invariant-loop-index : goal.invariant-loop-index
-invariant-loop-index l = (d : ℕ) → d < l.index → IsPointerForm (pointer_in l.payload d)

@@ -1,7 +1,0 @@
-use Rattle.std.proofs.Common.{◌≡◌, ℕ, ◌<◌}
-use Rattle.base.specs.formats.Fields.{pointer_in}
-use Rattle.object_maps.specs.Pointers.{pointer_of_list}
-use Rattle.object_maps.proofs.forms.read_pointers.Given as goal
-
-abbrev pub invariant-loop-index : goal.invariant-loop-index
-invariant-loop-index l = (k : ℕ) → k < l.index → pointer_of_list l.pointers k ≡ pointer_in l.payload k

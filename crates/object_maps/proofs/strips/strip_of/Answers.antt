@@ -1,5 +1,0 @@
-use Rattle.base.proofs.tree.Strips.{number-strip}
-use Rattle.object_maps.proofs.strips.strip_of.Goals as goal
-
-pub returns-clause-in_range : goal.returns-clause-in_range
-returns-clause-in_range c = number-strip c.args.number c.requires

@@ -1,0 +1,10 @@
+pub mod Entries
+pub mod Pointers
+pub mod Lengths
+pub mod EmptyEntries
+pub mod SetEntries
+pub mod ListedObjects
+pub mod BlockPlaces
+pub mod Forms
+pub mod ReadPointers
+pub mod SyncedTrees

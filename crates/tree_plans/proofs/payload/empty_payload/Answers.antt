@@ -1,7 +1,0 @@
-use Rattle.std.proofs.Common.{refl}
-use Rattle.checked_blocks.specs.Sealing.{zeros}
-use Rattle.tree_plans.proofs.payload.empty_payload.Goals as goal
-
-pub returns : goal.returns
-unfolding zeros
-returns c = refl
