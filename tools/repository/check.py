@@ -8,9 +8,10 @@ import sys
 import traceback
 
 from tools import Failed
-from tools.repository import clauses, make_rows, mentions, program_crates, test, version
+from tools.repository import believed, clauses, make_rows, mentions, program_crates, test, version
 
 PARTS = {
+    "believed": lambda: believed.main(check=True),
     "clauses": lambda: clauses.main([], check=True),
     "make_rows": lambda: make_rows.main(check=True),
     "mentions": mentions.main,

@@ -1,7 +1,7 @@
 import unittest
 
 from tools import runner
-from tools.repository import api, clauses, mentions, program_crates
+from tools.repository import api, believed, clauses, mentions, program_crates
 
 
 class Faults(unittest.TestCase):
@@ -43,3 +43,22 @@ class Faults(unittest.TestCase):
     def test_crates_that_programs_use(self):
         self.assertEqual(program_crates.crates_of("one may_wait=9: two three # four"), ["two", "three"])
         self.assertEqual(program_crates.used_crates("hash_blocks"), {"anyhow", "sha2"})
+
+
+class Believed(unittest.TestCase):
+    files = {
+        "low/Calls": believed.File("pub data Call : Type 0 where\n  Put : Nat -> Call\n\nabbrev pub unused : Call\nunused = Put zero"),
+        "high/Rules": believed.File(
+            "use Rattle.base.specs.low.Calls.Call.{Put as Write}\nuse Rattle.base.specs.low.Calls as calls\n"
+            "-- Rule is not what it says\nabbrev pub IsLow : Nat -> Type 0\nIsLow n = Write n\n\n"
+            "pub record Rule (n : Nat) : Type 0 where\n  pub low : IsLow n\n\nabbrev pub Other : Type 0\nOther = calls.unused"
+        ),
+    }
+
+    def test_what_a_definition_names_is_listed_and_what_that_names_too(self):
+        rows = list(believed.rows(self.files, [("high/Rules", "Rule")]))
+        self.assertEqual(rows, ["| high/Rules | `IsLow`, `Rule` |\n", "| low/Calls | `Call` |\n"])
+
+    def test_a_file_may_be_named_by_a_word(self):
+        rows = list(believed.rows(self.files, [("high/Rules", "Other")]))
+        self.assertEqual(rows, ["| high/Rules | `Other` |\n", "| low/Calls | `Call`, `unused` |\n"])
