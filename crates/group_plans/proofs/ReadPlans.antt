@@ -33,7 +33,7 @@ use Rattle.tree_blocks.specs.declared.tree.Tree.{Tree}
 use Rattle.group_plans.specs.Prepared.{IsPrepareRefusal}
 use Rattle.group_plans.specs.GroupPlans.{HoldsGroupObjects, IsRefusedShort, IsTreeShort, MakesGroupTree, plan_pointers}
 use Rattle.group_plans.specs.OldMaps.{AreMapsOf}
-use Rattle.group_plans.specs.ReadPlans.{HoldsPlanned, IsShortFor, IsShortFrom, PlansTree}
+use Rattle.group_plans.specs.ReadPlans.{HoldsPlanned, IsShortFor, IsShortFrom, PlansReadTree}
 use Rattle.group_plans.proofs.PlannedBlocks.{addresses_are}
 use Rattle.group_plans.proofs.PlannedPointers.{before_placed, same_after, same_lengths}
 use Rattle.group_plans.proofs.PreparedPlans.{no_space_prepare, range_as, same_group}
@@ -62,7 +62,7 @@ not_short_from old objects after free r x e is same cause =
 -- The same of a group, whose changes these are.
 module _ (frame : Frame) (records : List Record) (tree : Tree) (objects : List (ObjectId × ObjectChanges)) (changes : AreChangesOf (pending_ops frame.group records) tree.entries.items objects)
     (after : FinMap nat_cmp (List ℕ)) where
-  pub group_tree : (old : Place → Pointer) (p : TreePlan) → PlansTree frame old tree objects after p → MakesGroupTree frame old tree records after p
+  pub group_tree : (old : Place → Pointer) (p : TreePlan) → PlansReadTree frame old tree objects after p → MakesGroupTree frame old tree records after p
   group_tree old p made = record {
     placed = made.placed;
     places = record { objects = objects; changes = changes; order = made.order; used = made.used; freed = made.freed };
@@ -115,7 +115,7 @@ module _ (source : PlanSource) (changes : BTreeMap ObjectId ObjectChanges)
     kept : planned_pointers source p ≡ new
     kept = kept_as after entries
 
-    pub plans_tree : PlansTree frame old source.tree.now objects wanted p
+    pub plans_tree : PlansReadTree frame old source.tree.now objects wanted p
     plans_tree = record {
       placed = ∥∥₁_map {A = ArePlaced blocks told} {B = ArePlaced blocks new} placed
           (λ at. subst (λ (f : Place → Pointer). ArePlaced blocks f) kept (made.placed (before_placed source objects none blocks below of at)));
@@ -134,7 +134,7 @@ module _ (source : PlanSource) (changes : BTreeMap ObjectId ObjectChanges)
       → TakesBlocks source wanted changes p → GivesTree source wanted changes p → HasLengths source wanted changes p → HasEntries wanted changes p → GivesBack source p
       → HoldsPlanned frame source.tree.now objects wanted p
   holds_planned wanted is taken made lengths entries back =
-      let read : PlansTree frame old source.tree.now objects wanted p = plans_tree wanted wanted (λ n. refl) taken made lengths entries back in
+      let read : PlansReadTree frame old source.tree.now objects wanted p = plans_tree wanted wanted (λ n. refl) taken made lengths entries back in
       record {
         made = record {
           placed = read.placed;

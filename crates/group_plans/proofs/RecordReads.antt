@@ -28,7 +28,7 @@ use Rattle.tree_plans.specs.Parts.{AreReady}
 use Rattle.tree_plans.specs.Plans.{IsReady}
 use Rattle.tree_plans.specs.Pointers.{entry_of}
 use Rattle.tree_blocks.specs.declared.place.RecordPlace.{RecordPlace}
-use Rattle.group_plans.specs.Prepared.{AreBelow, AreExact, HoldsRecord, IsCut, IsRecordOf, KeepsFront, PutsRecord, number_of_record}
+use Rattle.group_plans.specs.Prepared.{AreBelow, AreExact, HoldsRecord, IsClearedPast, IsObjectRecord, KeepsFront, PutsRecord, number_of_record}
 use Rattle.group_plans.proofs.OldMaps.{entry_pushed}
 
 -- an object that has a length is there
@@ -63,14 +63,14 @@ read_is_below patches objects n r b into is reads =
 
 -- the changes laid over them give the record after the group
 pub laid_record : (patches : Patches) (below : FinMap nat_cmp (List ℕ)) (n r : ℕ) (old new : List ℕ) → length old ≡ 4032 → length new ≡ 4032 → LaysOnBelow patches n (4032 * r + 0) old new
-    → AreBelow patches below n r old → IsRecordOf (laid_over patches below) n r new
+    → AreBelow patches below n r old → IsObjectRecord (laid_over patches below) n r new
 laid_record patches below n r old new long longer lays (inl hides) there =
     whole_record_read (object_bytes (laid_over patches below) n) new r longer (lays below there (inl (subst (λ (k : ℕ). HidesBelow (patches n) (4032 * r + 0) k) (sym long) hides)))
 laid_record patches below n r old new long longer lays (inr reads) there =
     whole_record_read (object_bytes (laid_over patches below) n) new r longer (over_below patches n (4032 * r + 0) below old new lays there reads)
 
 -- a record with zeros past the end of its object is that of the object
-pub cut_record : (objects : FinMap nat_cmp (List ℕ)) (n r : ℕ) (old new : List ℕ) → IsCut (object_bytes objects n) r new → KeepsFront (object_bytes objects n) r old new → IsRecordOf objects n r old → new ≡ object_record objects n r
+pub cut_record : (objects : FinMap nat_cmp (List ℕ)) (n r : ℕ) (old new : List ℕ) → IsClearedPast (object_bytes objects n) r new → KeepsFront (object_bytes objects n) r old new → IsObjectRecord objects n r old → new ≡ object_record objects n r
 cut_record objects n r old new cut front exact =
     ext_get_or 0 new _ (cut.0 ∙ sym (length-record r (object_bytes objects n))) (λ k l.
     let inside : k < 4032 = rw cut.0 at l in by k inside (cases_lt (4032 * r + k) (length (object_bytes objects n))))

@@ -17,7 +17,7 @@ use Rattle.base.proofs.tree.Strips.{record-count}
 use Rattle.object_maps.specs.Sources.{object_bytes, object_length, object_record}
 use Rattle.object_maps.proofs.Records.{get_or-record, length-record}
 use Rattle.extents.proofs.LaidObjects.{get-objects_past, get-objects_up_to}
-use Rattle.group_plans.specs.Prepared.{AreCut, AreExact, IsCut, PutsRecord, at_hand, byte_with, bytes_with, with_records}
+use Rattle.group_plans.specs.Prepared.{AreClearedPast, AreExact, IsClearedPast, PutsRecord, at_hand, byte_with, bytes_with, with_records}
 
 -- numbers are compared by their order as by their equality
 pub same_test : (x y : ℕ) → is_eq (nat_cmp x y) ≡ (x == y)
@@ -33,7 +33,7 @@ pub at_own : (records : BTreeMap ℕ (List ℕ)) (n r : ℕ) → r < record_coun
 at_own records n r low = ap (λ (b : Bool). if b then tree.get nat_cmp records (record_count * n + r) else None) (lt-ltb r record_count low)
 
 -- the bytes of a record at hand are those of the object
-record_of : (own : ℕ → Option (List ℕ)) (r : ℕ) (payload : List ℕ) (o : Option (List ℕ)) → own r ≡ Some payload → IsCut (unwrap_or o []) r payload
+record_of : (own : ℕ → Option (List ℕ)) (r : ℕ) (payload : List ℕ) (o : Option (List ℕ)) → own r ≡ Some payload → IsClearedPast (unwrap_or o []) r payload
     → (k : ℕ) → k < 4032 → get_or payload k 0 ≡ get_or (unwrap_or (option_map (bytes_with own) o) []) (4032 * r + k) 0
 record_of own r payload None there cut k inside = cut.1 k inside (omega arith)
 record_of own r payload (Some b) there cut k inside = go (cases_lt (4032 * r + k) (length b))
@@ -68,7 +68,7 @@ module _ (records : ℕ → ℕ → Option (List ℕ)) (objects : FinMap nat_cmp
       by (Some b) = ap Some (sym (length-map-range_with_len (byte_with (records n) b) 0 (length b)))
 
   -- a record at hand is that of the objects
-  pub record_at_hand : (n r : ℕ) (payload : List ℕ) → records n r ≡ Some payload → IsCut (object_bytes objects n) r payload → payload ≡ object_record (with_records records objects) n r
+  pub record_at_hand : (n r : ℕ) (payload : List ℕ) → records n r ≡ Some payload → IsClearedPast (object_bytes objects n) r payload → payload ≡ object_record (with_records records objects) n r
   record_at_hand n r payload there cut =
       ext_get_or 0 payload _ (cut.0 ∙ sym (length-record r (object_bytes (with_records records objects) n))) (λ k l.
       let inside : k < 4032 = rw cut.0 at l in
@@ -129,9 +129,9 @@ module _ (old new : BTreeMap ℕ (List ℕ)) (n r : ℕ) (payload : List ℕ) (l
           by false = ap is_some (sym (at_own old m s below)) ∙ there
 
 -- and if it is cut, all are
-pub cut_more : (objects : FinMap nat_cmp (List ℕ)) (n r : ℕ) (put : List ℕ) (old new : ℕ → ℕ → Option (List ℕ)) → IsCut (object_bytes objects n) r put → PutsRecord n r put old new → AreCut old objects → AreCut new objects
+pub cut_more : (objects : FinMap nat_cmp (List ℕ)) (n r : ℕ) (put : List ℕ) (old new : ℕ → ℕ → Option (List ℕ)) → IsClearedPast (object_bytes objects n) r put → PutsRecord n r put old new → AreClearedPast old objects → AreClearedPast new objects
 cut_more objects n r put old new is puts cut m s payload at = elim (puts.others m s payload at) [
-  | inl here ↦ subst (λ (i : ℕ). IsCut (object_bytes objects i) s payload) (sym here.0)
-      (subst (λ (q : ℕ). IsCut (object_bytes objects n) q payload) (sym here.1) (subst (λ (p : List ℕ). IsCut (object_bytes objects n) r p) (sym here.2) is))
+  | inl here ↦ subst (λ (i : ℕ). IsClearedPast (object_bytes objects i) s payload) (sym here.0)
+      (subst (λ (q : ℕ). IsClearedPast (object_bytes objects n) q payload) (sym here.1) (subst (λ (p : List ℕ). IsClearedPast (object_bytes objects n) r p) (sym here.2) is))
   | inr before ↦ cut m s payload before
 ]

@@ -121,8 +121,8 @@ abbrev pub IsHeldRefusal : PoolError → Type 0
 IsHeldRefusal e = IsWant e ⊎ (e ≡ Read)
 
 -- the frame of the blocks that a source is planned for
-abbrev pub frame_of : GroupSource → Frame
-frame_of source = written_frame source.guid source.geometry source.group.0
+abbrev pub frame_planned : GroupSource → Frame
+frame_planned source = written_frame source.guid source.geometry source.group.0
 
 -- the objects that contents have with the changes of a group laid over them
 abbrev pub objects_with : Extents → slots.Contents → FinMap nat_cmp (List ℕ)

@@ -41,16 +41,16 @@ abbrev pub with_records : (ℕ → ℕ → Option (List ℕ)) → FinMap nat_cmp
 with_records records objects = objects_up_to object_count (λ n. option_map (bytes_with (records n)) (finite.get objects n))
 
 -- of a record of an object, what lies past the object's end is zeros
-abbrev pub IsCut : List ℕ → ℕ → List ℕ → Type 0
-IsCut bytes r payload = (length payload ≡ record_size) × ((k : ℕ) → k < record_size → length bytes ≤ record_size * r + k → get_or payload k 0 ≡ 0)
+abbrev pub IsClearedPast : List ℕ → ℕ → List ℕ → Type 0
+IsClearedPast bytes r payload = (length payload ≡ record_size) × ((k : ℕ) → k < record_size → length bytes ≤ record_size * r + k → get_or payload k 0 ≡ 0)
 
 -- what lies before the end is as it was
 abbrev pub KeepsFront : List ℕ → ℕ → List ℕ → List ℕ → Type 0
 KeepsFront bytes r old new = (k : ℕ) → k < record_size → record_size * r + k < length bytes → get_or new k 0 ≡ get_or old k 0
 
 -- each record at hand is cut so
-abbrev pub AreCut : (ℕ → ℕ → Option (List ℕ)) → FinMap nat_cmp (List ℕ) → Type 0
-AreCut records objects = (n r : ℕ) (payload : List ℕ) → records n r ≡ Some payload → IsCut (object_bytes objects n) r payload
+abbrev pub AreClearedPast : (ℕ → ℕ → Option (List ℕ)) → FinMap nat_cmp (List ℕ) → Type 0
+AreClearedPast records objects = (n r : ℕ) (payload : List ℕ) → records n r ≡ Some payload → IsClearedPast (object_bytes objects n) r payload
 
 -- and is that of its object
 abbrev pub AreExact : (ℕ → ℕ → Option (List ℕ)) → FinMap nat_cmp (List ℕ) → Type 0
@@ -78,8 +78,8 @@ AreBelow patches below n r bytes = HidesBelow (patches n) (record_size * r + 0) 
     ⊎ (is_some (finite.get below n) ≡ true → AreBytesFrom (record_size * r + 0) (object_bytes below n) bytes)
 
 -- the bytes are those of a record, if its object is there
-abbrev pub IsRecordOf : FinMap nat_cmp (List ℕ) → ℕ → ℕ → List ℕ → Type 0
-IsRecordOf objects n r bytes = is_some (finite.get objects n) ≡ true → bytes ≡ object_record objects n r
+abbrev pub IsObjectRecord : FinMap nat_cmp (List ℕ) → ℕ → ℕ → List ℕ → Type 0
+IsObjectRecord objects n r bytes = is_some (finite.get objects n) ≡ true → bytes ≡ object_record objects n r
 
 -- what is refused: a read of a block, or memory
 abbrev pub IsPrepareRefusal : PoolError → Type 0

@@ -30,7 +30,7 @@ use Rattle.tree_blocks.specs.SyncedTrees.{lengths_after}
 
 -- What a plan makes of a tree, whose pointers before are these, by these changes: what `MakesGroupTree` says of the
 -- changes of a group.
-pub record PlansTree (frame : Frame) (old : Place → Pointer) (tree : Tree) (objects : List (ObjectId × ObjectChanges)) (after : FinMap nat_cmp (List ℕ)) (p : TreePlan) : Type 0 where
+pub record PlansReadTree (frame : Frame) (old : Place → Pointer) (tree : Tree) (objects : List (ObjectId × ObjectChanges)) (after : FinMap nat_cmp (List ℕ)) (p : TreePlan) : Type 0 where
   pub placed : ∥ ArePlaced frame.blocks (plan_pointers tree p) ∥₁
   pub order : AreInRange objects after
       → map (λ (b : NewBlock). b.address) (map new_block p.blocks.items) ≡ map (λ (place : Place). (plan_pointers tree p place).address) (written_by (changes_of_group objects old after))
@@ -41,7 +41,7 @@ pub record PlansTree (frame : Frame) (old : Place → Pointer) (tree : Tree) (ob
 
 -- the pointers before are the tree's, and the blocks hold these objects
 pub record HoldsPlanned (frame : Frame) (tree : Tree) (objects : List (ObjectId × ObjectChanges)) (after : FinMap nat_cmp (List ℕ)) (p : TreePlan) : Type 0 where
-  pub made : PlansTree frame (pointers_of tree) tree objects after p
+  pub made : PlansReadTree frame (pointers_of tree) tree objects after p
   pub planned : (before : FinMap nat_cmp (List ℕ)) → IsCoveredBy objects (pointers_of tree) before after → AreChanges objects after → AreTreePointers objects (entry_pointer_of tree.entries.items) (pointers_of tree) after
       → IsTreePlan (map new_block p.blocks.items) frame (pointers_of tree) (plan_pointers tree p) before after
 

@@ -19,8 +19,8 @@ ghost use Rattle.tree_plans.specs.TreePlans.{GivesBack, GivesTree, HasEntries, H
 ghost use Rattle.group_plans.specs.OldMaps.{AreMapsOf, AreMapsOfObjects, AreMapsReadFor, HoldsTreeOf};
 ghost use Rattle.group_plans.specs.Prepared.{at_hand};
 ghost use Rattle.group_plans.specs.SealedRecords.{prepared_objects};
-ghost use Rattle.group_plans.specs.ReadPlans.{HoldsPlanned, IsShortFor, IsShortFrom, PlansTree};
-ghost use Rattle.group_plans.specs.GroupPlans.{FitsIn, HoldsGroupObjects, IsHeldRefusal, IsPlanRefusal, IsRefusedShort, IsTreeShort, MakesReadTree, TakesLowest, frame_of, objects_with};
+ghost use Rattle.group_plans.specs.ReadPlans.{HoldsPlanned, IsShortFor, IsShortFrom, PlansReadTree};
+ghost use Rattle.group_plans.specs.GroupPlans.{FitsIn, HoldsGroupObjects, IsHeldRefusal, IsPlanRefusal, IsRefusedShort, IsTreeShort, MakesReadTree, TakesLowest, frame_planned, objects_with};
 
 use crate::old_maps::read_maps;
 use crate::prepared::PreparedObjects;
@@ -93,12 +93,12 @@ pub fn plan_group<B: BlockReader>(
     ensures reads { OnlyReads B.SectorDevice result reader.old reader.new }
     ensures fits { IfOk result (FitsIn source.now.geometry) }
     ensures taken { IfOk result (TakesLowest source.now.free.now.free) }
-    ensures tree { IfOk result (MakesReadTree (frame_of source.now) source.now.tree.now
+    ensures tree { IfOk result (MakesReadTree (frame_planned source.now) source.now.tree.now
         records.now (objects_with extents.now contents.now)) }
     ensures objects { IsTrue B.keeps_model
         → HoldsTreeOf (bytes_of (B.disk reader.old).now) before.now
         source.now.tree.now (contents_of contents.now).objects
-        → IfOk result (HoldsGroupObjects (frame_of source.now) source.now.tree.now records.now
+        → IfOk result (HoldsGroupObjects (frame_planned source.now) source.now.tree.now records.now
         (objects_with extents.now contents.now)) }
     ensures no_space { IfErr result (IsRefusedShort source.now.group.0 source.now.tree.now
         records.now (objects_with extents.now contents.now) source.now.free.now.free) }
@@ -149,7 +149,7 @@ fn plan_read<B: BlockReader>(
     ensures reads { OnlyReads B.SectorDevice result reader.old reader.new }
     ensures fits { IfOk result (FitsIn read.now.geometry) }
     ensures taken { IfOk result (TakesLowest read.now.free.now.free) }
-    ensures tree { IfOk result (λ p. (old : Place → Pointer) × PlansTree
+    ensures tree { IfOk result (λ p. (old : Place → Pointer) × PlansReadTree
         (written_frame read.now.guid read.now.geometry read.now.group.0) old read.now.tree.now
         objects.now.entries (objects_with extents.now contents.now) p) }
     ensures objects { IsTrue B.keeps_model

@@ -5,7 +5,7 @@ ghost use Rattle.base.specs.declared.error.PoolError.TheVariants as error;
 ghost use Rattle.base.specs.formats.Limits.{record_count, record_size};
 ghost use Rattle.object_maps.specs.Sources.{object_bytes};
 ghost use Rattle.group_plans.specs.GroupPlans.{objects_with};
-ghost use Rattle.group_plans.specs.Prepared.{AreCut, IsCut, KeepsFront, KeepsHand, PutsRecord, at_hand, with_records};
+ghost use Rattle.group_plans.specs.Prepared.{AreClearedPast, IsClearedPast, KeepsFront, KeepsHand, PutsRecord, at_hand, with_records};
 
 use base::{Bytes, ObjectId, PoolError, RECORD_SIZE};
 use extents::{Extents, Laid};
@@ -22,7 +22,7 @@ pub(crate) struct PreparedObjects<'a> {
     pub(crate) extents: &'a Extents,
     pub(crate) contents: &'a Contents,
     pub(crate) records: BTreeMap<u64, Bytes>,
-    ghost cut: { AreCut (at_hand records) (objects_with extents.now contents.now) },
+    ghost cut: { AreClearedPast (at_hand records) (objects_with extents.now contents.now) },
 }
 
 // The number of a record among those of all objects.
@@ -54,7 +54,7 @@ impl<'a> PreparedObjects<'a> {
     fn cut(&self, id: ObjectId, index: usize, payload: &mut [u8])
         requires index { index < record_count }
         requires size { length payload.old ≡ record_size }
-        ensures cut { IsCut
+        ensures cut { IsClearedPast
             (object_bytes (objects_with self.now.extents.now self.now.contents.now) id.0)
             index payload.new }
         ensures kept { KeepsFront
@@ -79,7 +79,7 @@ impl<'a> PreparedObjects<'a> {
         requires size { length payload.old ≡ record_size }
         ensures extents { self.new.extents.now ≡ self.old.extents.now }
         ensures contents { self.new.contents.now ≡ self.old.contents.now }
-        ensures cut { IsCut
+        ensures cut { IsClearedPast
             (object_bytes (objects_with self.old.extents.now self.old.contents.now) id.0)
             index payload.new }
         ensures front { KeepsFront

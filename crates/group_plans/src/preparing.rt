@@ -19,7 +19,7 @@ ghost use Rattle.tree_blocks.specs.ReadPointers.{read_record};
 ghost use Rattle.tree_plans.specs.Pointers.{pointers_before};
 ghost use Rattle.group_plans.specs.GroupPlans.{objects_with};
 ghost use Rattle.group_plans.specs.OldMaps.{AreMapsReadFor, HasReadMap};
-ghost use Rattle.group_plans.specs.Prepared.{AreBelow, AreExact, HoldsMap, HoldsRecord, HoldsRecords, IsPlainRefusal, IsPrepareRefusal, IsRecordOf, KeepsHand, at_hand, number_of_record};
+ghost use Rattle.group_plans.specs.Prepared.{AreBelow, AreExact, HoldsMap, HoldsRecord, HoldsRecords, IsPlainRefusal, IsPrepareRefusal, IsObjectRecord, KeepsHand, at_hand, number_of_record};
 
 use crate::prepared::PreparedObjects;
 use base::{OBJECT_COUNT, ObjectId, POINTER_COUNT, Pointer, PoolError, RECORD_SIZE, RecordState};
@@ -87,7 +87,7 @@ fn read_record<B: BlockReader>(
     ensures refused { IfErr result IsReadRefusal }
     ensures exact { IsTrue B.keeps_model → HoldsRecord (bytes_of (B.disk reader.old).now)
         frame.now (contents_of contents.now).objects place pointer.now
-        → OnOk result (IsRecordOf (objects_with extents.now contents.now)
+        → OnOk result (IsObjectRecord (objects_with extents.now contents.now)
         place.id.0 (number_of_record place) into.new) }
     ensures sound { IsTrue B.keeps_model → HoldsRecord (bytes_of (B.disk reader.old).now)
         frame.now (contents_of contents.now).objects place pointer.now

@@ -73,8 +73,8 @@ impl<'a, 'b> SealedObjects<'a, 'b> {
         };
         for four in keys.chunks(4) {
             match four {
-                [a, b, c, d] => sealed.seal_four(*a, *b, *c, *d)?,
-                [a, b, c] => sealed.seal_four(*a, *b, *c, *c)?,
+                [a, b, c, d] => sealed.seal_records(*a, *b, *c, *d)?,
+                [a, b, c] => sealed.seal_records(*a, *b, *c, *c)?,
                 _ => {}
             }
         }
@@ -98,7 +98,7 @@ impl<'a, 'b> SealedObjects<'a, 'b> {
     }
 
     // Seals the records of four keys side by side.
-    fn seal_four(&mut self, a: u64, b: u64, c: u64, d: u64) -> Result<(), PoolError>
+    fn seal_records(&mut self, a: u64, b: u64, c: u64, d: u64) -> Result<(), PoolError>
         ensures prepared { self.new.prepared.now ≡ self.old.prepared.now }
         ensures refused { IfErr result (λ e. e ≡ error.NoMemory) }
     {

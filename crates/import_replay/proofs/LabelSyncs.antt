@@ -7,7 +7,6 @@ use Rattle.base.specs.declared.error.PoolError.{PoolError}
 use Rattle.base.specs.disk.SyncOrder.{DeviceCall}
 use Rattle.base.specs.disk.SyncOrder.DeviceCall.{Block, Config as ConfigCall, Uberblock as UberblockCall, Flush}
 use Rattle.base.specs.formats.Uberblocks.{IsUberblock}
-use Rattle.labels.specs.Configs.{IsConfigBlock, config_block}
 use Rattle.labels.specs.declared.stage.Stage.{Stage}
 use Rattle.tree_plans.specs.declared.planner.PlannedBlock.{PlannedBlock}
 use Rattle.uberblocks.specs.Slots.{fields_of, slot_bytes}
@@ -15,7 +14,7 @@ use Rattle.uberblocks.specs.declared.uberblock.Uberblock as declared
 use Rattle.sync.specs.declared.run.LabelStages.{LabelStages}
 use Rattle.sync.specs.declared.run.SyncRun.{SyncRun}
 use Rattle.sync.specs.Calls.{refusal_of}
-use Rattle.sync.specs.GroupLabels.{WritesUberblock, config_for, stages_for}
+use Rattle.sync.specs.GroupLabels.{IsConfigFor, WritesUberblock, stages_for}
 use Rattle.sync.specs.Runs.{SameSync, call_count, other_calls}
 use Rattle.import_replay.specs.ImportRefusals.{IsSyncRefusal}
 use Rattle.import_replay.specs.LabelSyncs.{AreApartIn, ImportWrites, IsGroupSync, import_writes}
@@ -23,7 +22,7 @@ use Rattle.import_replay.specs.LabelSyncs.{AreApartIn, ImportWrites, IsGroupSync
 -- a sync that begins with what a group writes is that of the group
 pub begun : (size : ℕ) (name : List ℕ) (u : declared.Uberblock) (blocks : Vec PlannedBlock) (first : Stage) (run : SyncRun) → AreApartIn size blocks.items
     → run.geometry ≡ size → run.blocks ≡ blocks → run.uberblock ≡ slot_bytes (fields_of u) → WritesUberblock (fields_of u) run → run.stages ≡ stages_for u.guid u.group.0 size first (Some name)
-    → IsConfigBlock (config_block (config_for u.guid u.group.0 size name)) size (config_for u.guid u.group.0 size name) → IsGroupSync (import_writes size name u blocks) first run
+    → IsConfigFor u.guid u.group.0 size name → IsGroupSync (import_writes size name u blocks) first run
 begun size name u blocks first run apart geometry same bytes writes stages config = record {
   geometry = geometry;
   blocks = ap (λ (b : Vec PlannedBlock). b.items) same;

@@ -22,7 +22,7 @@ use Rattle.object_maps.proofs.FreeBlocks.{blocks_kept, contains-without}
 use Rattle.space.specs.FreeSets.{FreeSpace, IsIdle, is_free}
 use Rattle.tree_plans.specs.declared.planner.PlannedBlock.{PlannedBlock}
 use Rattle.tree_plans.specs.declared.planner.TreePlan.{TreePlan}
-use Rattle.import_replay.specs.FreeBlocks.{AreAllOthers, IsLeftBy, IsNamed, is_planned}
+use Rattle.import_replay.specs.FreeBlocks.{AreAllOthers, IsLeftByPlan, IsNamed, is_planned}
 use Rattle.import_replay.proofs.FreeBlocks.{at_planned, not_both, planned_at}
 use Rattle.import_replay.proofs.NamedBlocks.{named_or_not}
 
@@ -38,7 +38,7 @@ pub record AreMadeOf (blocks : ℕ) (old : Place → Pointer) (planned : List Pl
   pub freed_unnamed : (address : ℕ) → IsBlockAddress blocks address → IsAt freed address → IsNamed new address → ⊥
   pub stays_or_freed : (address : ℕ) → IsBlockAddress blocks address → IsNamed old address → IsNamed new address ⊎ IsAt freed address
 
-module _ (t : Tree) (blocks : ℕ) (old new : FreeSpace) (plan : TreePlan) (log_block : ℕ) (unnamed : AreUnnamed blocks t old) (by : IsLeftBy plan log_block old new) where
+module _ (t : Tree) (blocks : ℕ) (old new : FreeSpace) (plan : TreePlan) (log_block : ℕ) (unnamed : AreUnnamed blocks t old) (by : IsLeftByPlan plan log_block old new) where
   abbrev planned : List PlannedBlock
   planned = plan.blocks.items
 

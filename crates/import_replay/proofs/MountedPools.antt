@@ -34,7 +34,7 @@ use Rattle.sync.specs.Made.{BlocksWritten}
 use Rattle.tree_plans.specs.declared.planner.PlannedBlock.{PlannedBlock}
 use Rattle.import_replay.specs.FreeBlocks.{IsNamed, IsUsedBy}
 use Rattle.import_replay.specs.ImportRefusals.{CanImport, HasSoundPool}
-use Rattle.import_replay.specs.Mounts.{IsMountedAnew, IsMountedFrom, StandsOn, frame_of_import, parts_mounted, shown_of_import}
+use Rattle.import_replay.specs.Mounts.{IsMountedAnew, IsMountedFrom, StandsOnDevice, frame_of_import, parts_mounted, shown_of_import}
 use Rattle.import_replay.specs.NextPools.{AreMadeOver, ArePartsFor, AreWithinLimits, PoolParts, next_frame}
 use Rattle.import_replay.specs.ReadPools.{IsReadPool, frame_of_size}
 use Rattle.import_replay.specs.declared.mounted.Mounted.{Mounted}
@@ -198,7 +198,7 @@ module _ (size : ℕ) (u : Uberblock) (p : PoolParts) (dirty_max : ℕ) (m : Mou
         other address block (inl named) = inl (in_now address (not_zero (block_count m.geometry) address block) named)
         other address block (inr is) = inr (inl (inl is))
 
-    pub stands_on : StandsOn now m
+    pub stands_on : StandsOnDevice now m
     stands_on = record {
       tree = holds_now;
       log_block = mine.log_block;

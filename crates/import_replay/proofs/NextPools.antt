@@ -68,7 +68,7 @@ use Rattle.import_replay.specs.ImportRefusals.{HasLastNumbers, IsReason, LacksIm
 use Rattle.import_replay.specs.ImportStops.{writes_of_next}
 use Rattle.import_replay.specs.LabelSyncs.{AreApartIn, IsGroupSynced}
 use Rattle.import_replay.specs.Mounts.{IsImport, IsMountedFrom}
-use Rattle.import_replay.specs.NextPools.{AreMadeOver, ArePartsFor, AreWithinLimits, IsPlannedFrom, IsReadyFor, IsReplayedPool, LacksBlocks, LacksTreeBlocks, PoolParts, next_frame, objects_replayed, parts_of, synced_with}
+use Rattle.import_replay.specs.NextPools.{AreMadeOver, ArePartsFor, AreWithinLimits, IsPlannedPool, IsReadyFor, IsReplayedPool, LacksBlocks, LacksTreeBlocks, PoolParts, next_frame, objects_replayed, pool_parts, synced_with}
 use Rattle.import_replay.specs.ReadPools.{IsLoadedFor, IsReadPool, frame_of_size}
 use Rattle.import_replay.specs.TakenBlocks.{AreForEachPlace, AreLowestSpare, replayed_places}
 use Rattle.import_replay.specs.declared.mounted.Mounted.{Mounted}
@@ -185,7 +185,7 @@ pub record IsPrepared (holds : Type 0) (size : ℕ) (u : Uberblock) (name : List
   pub named : IsName name
   pub loaded : IsLoadedFor u (block_count size) tree slots chain
   pub replayed : IsReplayedPool size u.group name tree slots chain pool
-  pub planned : IsPlannedFrom holds size u pool next
+  pub planned : IsPlannedPool holds size u pool next
 
 -- A pool whose records were replayed, over an image that was read.
 module _ (size : ℕ) (u : Uberblock) (name : List ℕ) (tree : Tree) (slots : List Slot) (chain : List LogPiece) (pool : ReplayedPool) (named : IsName name) (loaded : IsLoadedFor u (block_count size) tree slots chain)
@@ -355,7 +355,7 @@ module _ (holds : Type 0) (size : ℕ) (u : Uberblock) (name : List ℕ) (tree :
   contents_left = is.planned.contents_are
 
   -- its contents and its tree are within the limits of a pool
-  pub prepared_within : AreWithinLimits (parts_of next)
+  pub prepared_within : AreWithinLimits (pool_parts next)
   prepared_within = record {
     named = subst (λ (c : Contents). IsName c.name) (sym contents_left) (replays.bounded size u name tree slots chain pool is.named is.loaded is.replayed).name;
     bounded = subst (λ (c : Contents). (n : ℕ) → IfSome (finite.get c.objects n) (IsLimitedObject n)) (sym contents_left) (replays.bounded size u name tree slots chain pool is.named is.loaded is.replayed).objects;
@@ -455,19 +455,19 @@ module _ (holds : Type 0) (size : ℕ) (u : Uberblock) (name : List ℕ) (tree :
     free_left : AreAllOthers (pointers_of next.tree) (block_count size) next.log_address next.free.free
     free_left = subst (λ (a : ℕ). AreAllOthers (pointers_of next.tree) (block_count size) a next.free.free) (sym is.planned.log_is)
         (all_others_left pool.tree (block_count size) pool.free next.free plan is.planned.log_block is.replayed.free is.planned.free is.planned.fits.freed (pointers_of next.tree)
-        (pointers_made image size u chain blocks are_blocks all_unused (pointers_of pool.tree) (contents_of pool.synced).objects mine.root mine.held newest (parts_of next) (plan_pointers pool.tree plan) is.planned.pointers planned_contents
+        (pointers_made image size u chain blocks are_blocks all_unused (pointers_of pool.tree) (contents_of pool.synced).objects mine.root mine.held newest (pool_parts next) (plan_pointers pool.tree plan) is.planned.pointers planned_contents
         no_others blocks_used room plan.freed.items replaced))
 
     -- so its parts are those of a pool
-    pub prepared_parts : ArePartsFor size (parts_of next)
+    pub prepared_parts : ArePartsFor size (pool_parts next)
     prepared_parts = record { within = prepared_within; log_block = log_placed; free = free_left }
 
     -- it is made over the image
-    pub prepared_over : AreMadeOver image u chain size next.blocks.items (parts_of next)
+    pub prepared_over : AreMadeOver image u chain size next.blocks.items (pool_parts next)
     prepared_over =
-        subst (λ (bs : List PlannedBlock). AreMadeOver image u chain size bs (parts_of next)) (sym is.planned.blocks_are)
+        subst (λ (bs : List PlannedBlock). AreMadeOver image u chain size bs (pool_parts next)) (sym is.planned.blocks_are)
         (planned_over image size u chain blocks are_blocks all_unused
-        (pointers_of pool.tree) (contents_of pool.synced).objects mine.root mine.held newest (parts_of next) (plan_pointers pool.tree plan) is.planned.pointers planned_contents no_others
+        (pointers_of pool.tree) (contents_of pool.synced).objects mine.root mine.held newest (pool_parts next) (plan_pointers pool.tree plan) is.planned.pointers planned_contents no_others
         blocks_used room few prepared_lowest prepared_each records_counted (not_zero (block_count size) next.log_address log_placed)
         (spare-unused size u name tree slots chain pool is.named is.loaded is.replayed image read next.log_address log_spare) log_left lowest)
       where
@@ -496,12 +496,12 @@ module _ (holds : Type 0) (size : ℕ) (u : Uberblock) (name : List ℕ) (tree :
     prepared_mounts = subst (λ (c : Contents). Mounts image u chain c) (sym contents_left) (replay_mounts size u name tree slots chain pool is.named is.loaded is.replayed image read)
 
     -- what was mounted is an import of the image
-    pub is_import : (dirty_max moment : ℕ) (m : Mounted) → IsMountedFrom size u (parts_of next) dirty_max m → is_dirty_max_allowed dirty_max ≡ true
+    pub is_import : (dirty_max moment : ℕ) (m : Mounted) → IsMountedFrom size u (pool_parts next) dirty_max m → is_dirty_max_allowed dirty_max ≡ true
         → (even_first : Bool) (before after : Disk) → bytes_of before.now ≡ image → IsGroupSynced (writes_of_next size u moment next) even_first before after → IsImport image (bytes_of after.now) dirty_max m
     is_import dirty_max moment m from limit even_first before after same done = record {
-      imported = import_of size u (parts_of next) dirty_max m from prepared_within prepared_parts image now chain next.blocks.items read.long prepared_over long written limit
+      imported = import_of size u (pool_parts next) dirty_max m from prepared_within prepared_parts image now chain next.blocks.items read.long prepared_over long written limit
           (subst (λ (p : PoolParts). Mounts image u chain (contents_of p.contents)) (sym from.parts) prepared_mounts);
-      stands = stands_on size u (parts_of next) dirty_max m from prepared_within prepared_parts image now chain next.blocks.items read.long prepared_over long written;
+      stands = stands_on size u (pool_parts next) dirty_max m from prepared_within prepared_parts image now chain next.blocks.items read.long prepared_over long written;
       size = long;
       no_log = no_log_written size u name pool.tree (objects_of pool.synced.slots.items) chain image now next.blocks.items is.loaded.sound mine prepared_over.unused prepared_ready.apart long written;
       kept = used_kept size u name pool.tree (objects_of pool.synced.slots.items) chain image now next.blocks.items is.loaded.sound mine prepared_over.unused prepared_ready.apart long written;

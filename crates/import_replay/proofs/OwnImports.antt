@@ -40,7 +40,7 @@ use Rattle.import_replay.specs.ImportSyncs.{writes_of_import}
 use Rattle.import_replay.specs.ImportViews.{EndsBehind, IsReadyBehind, IsSpareFor, KeepsViews, MayBeWritten, ViewTree, view_of}
 use Rattle.import_replay.specs.LabelSyncs.{ImportWrites, is_even}
 use Rattle.import_replay.specs.Mounts.{IsMountedFrom, parts_mounted, shown_of_import}
-use Rattle.import_replay.specs.NextPools.{AreMadeOver, ArePartsFor, IsUnusedBlock, PoolParts, parts_of, tree_of}
+use Rattle.import_replay.specs.NextPools.{AreMadeOver, ArePartsFor, IsUnusedBlock, PoolParts, pool_parts, tree_of}
 use Rattle.import_replay.specs.RunStarts.{IsRunStart, StartsRun}
 use Rattle.import_replay.specs.declared.mounted.Mounted.{Mounted}
 use Rattle.import_replay.specs.declared.next_pool.NextPool.{NextPool}
@@ -151,13 +151,13 @@ module _ (old mid : Disk) (flushes : Flushes old (Ok tt) mid) where
   module _ (size : ℕ) (u : Uberblock) (name : List ℕ) (first : Stage) (sized : length (bytes_of mid.now) ≡ size) (pool : HasPool (bytes_of mid.now) u name)
       (stage : HasFirstStage (bytes_of mid.now) u.guid u.group name (is_even first)) where
     -- A pool that is synced, made over this image and chain, of which the image mounts its contents.
-    module _ (next : NextPool) (moment : ℕ) (chain : List LogPiece) (parts : ArePartsFor size (parts_of next)) (over : AreMadeOver (bytes_of mid.now) u chain size next.blocks.items (parts_of next))
+    module _ (next : NextPool) (moment : ℕ) (chain : List LogPiece) (parts : ArePartsFor size (pool_parts next)) (over : AreMadeOver (bytes_of mid.now) u chain size next.blocks.items (pool_parts next))
         (mounts : Mounts (bytes_of mid.now) u chain (contents_of next.contents)) where
       abbrev w : ImportWrites
       w = writes_of_next size u moment next
 
       abbrev tree : ViewTree
-      tree = tree_of (parts_of next)
+      tree = tree_of (pool_parts next)
 
       -- what was found for a view, with so many of its log blocks to keep
       record IsFoundFor (created guid flushed : ℕ) (contents : Contents) (v : View) : Type 0 where
@@ -226,7 +226,7 @@ module _ (old mid : Disk) (flushes : Flushes old (Ok tt) mid) where
             (subst (λ (n : ℕ). EachMoment (IsImportMoment n created flushed v (view_of w tree) contents.name) mid new) (sym sized)
             (subst (λ (c : Contents). EachMoment (IsImportMoment size created flushed v (view_of w tree) c.name) mid new) f.contents_are (kept created flushed f.at v tree f.may)))))
 
-        module _ (dirty_max : ℕ) (m : Mounted) (from : IsMountedFrom size u (parts_of next) dirty_max m) (ends : EndsBehind w first mid new) (settled : new.now.unflushed ≡ []) where
+        module _ (dirty_max : ℕ) (m : Mounted) (from : IsMountedFrom size u (pool_parts next) dirty_max m) (ends : EndsBehind w first mid new) (settled : new.now.unflushed ≡ []) where
           abbrev shown : Shown
           shown = shown_of_import m
 

@@ -16,7 +16,7 @@ use Rattle.import_replay.specs.ImportStops.{writes_of_next}
 use Rattle.import_replay.specs.ImportViews.{EndsBehind, KeepsViews}
 use Rattle.import_replay.specs.LabelSyncs.{ImportWrites, is_even}
 use Rattle.import_replay.specs.Mounts.{IsMountedFrom}
-use Rattle.import_replay.specs.NextPools.{AreMadeOver, ArePartsFor, parts_of}
+use Rattle.import_replay.specs.NextPools.{AreMadeOver, ArePartsFor, pool_parts}
 use Rattle.import_replay.specs.ReadPools.{IsReadPool}
 use Rattle.import_replay.specs.RunStarts.{StartsRun}
 use Rattle.import_replay.specs.declared.mounted.Mounted.{Mounted}
@@ -36,10 +36,10 @@ module _ (holds : Type 0) (size : ℕ) (u : Uberblock) (name : List ℕ) (first 
   abbrev image : List ℕ
   image = bytes_of mid.now
 
-  parts : ArePartsFor size (parts_of next)
+  parts : ArePartsFor size (pool_parts next)
   parts = prepared_parts holds size u name tree slots chain pool next is image read held
 
-  over : AreMadeOver image u chain size next.blocks.items (parts_of next)
+  over : AreMadeOver image u chain size next.blocks.items (pool_parts next)
   over = prepared_over holds size u name tree slots chain pool next is image read held
 
   mounts : Mounts image u chain (contents_of next.contents)
@@ -51,7 +51,7 @@ module _ (holds : Type 0) (size : ℕ) (u : Uberblock) (name : List ℕ) (first 
   pub own_kept : KeepsOwn old new
   own_kept = kept_own old mid flushes size u name first read.long read.pool stage next moment chain parts over mounts new kept
 
-  pub run_started : (dirty_max : ℕ) (m : Mounted) → IsMountedFrom size u (parts_of next) dirty_max m → EndsBehind w first start new → new.now.unflushed ≡ [] → StartsRun old dirty_max new m
+  pub run_started : (dirty_max : ℕ) (m : Mounted) → IsMountedFrom size u (pool_parts next) dirty_max m → EndsBehind w first start new → new.now.unflushed ≡ [] → StartsRun old dirty_max new m
   run_started dirty_max m from ends settled =
       starts_run old mid flushes size u name first read.long read.pool stage next moment chain parts over mounts new kept dirty_max m from
       (subst (λ (d : Disk). EndsBehind w first d new) same ends) settled

@@ -12,7 +12,7 @@ use Rattle.tree_blocks.specs.declared.tree.Tree.{Tree}
 use Rattle.import_replay.specs.Found.{HasFirstStage}
 use Rattle.import_replay.specs.ImportStops.{IsImportStopped, next_writes, writes_of_next}
 use Rattle.import_replay.specs.LabelSyncs.{ImportWrites, calls_of_import}
-use Rattle.import_replay.specs.NextPools.{AreMadeOver, ArePartsFor, parts_of}
+use Rattle.import_replay.specs.NextPools.{AreMadeOver, ArePartsFor, pool_parts}
 use Rattle.import_replay.specs.ReadPools.{IsReadPool}
 use Rattle.import_replay.specs.declared.next_pool.NextPool.{NextPool}
 use Rattle.import_replay.specs.declared.next_pool.ReplayedPool.{ReplayedPool}
@@ -34,9 +34,9 @@ stopped_import holds size old mid before new u name slots tree chain pool next m
       first = first;
       chain = chain;
       blocks = next.blocks.items;
-      parts = parts_of next;
-      are = subst (λ (n : ℕ). ArePartsFor n (parts_of next)) (sym read.long) parts;
-      made = subst (λ (n : ℕ). AreMadeOver (bytes_of old.now) u chain n next.blocks.items (parts_of next)) (sym read.long) (prepared_over holds size u name tree slots chain pool next is (bytes_of old.now) read held);
+      parts = pool_parts next;
+      are = subst (λ (n : ℕ). ArePartsFor n (pool_parts next)) (sym read.long) parts;
+      made = subst (λ (n : ℕ). AreMadeOver (bytes_of old.now) u chain n next.blocks.items (pool_parts next)) (sym read.long) (prepared_over holds size u name tree slots chain pool next is (bytes_of old.now) read held);
       mounts = prepared_mounts holds size u name tree slots chain pool next is (bytes_of old.now) read held;
       stopped = subst (λ (n : ℕ). IsStoppedIn (calls_of_import (writes n) even_first) e (certain (bytes_of old.now) old) new) (sym read.long)
           (subst (λ (d : Disk). IsStoppedIn (calls_of_import (writes size) even_first) e d new) (same ∙ flushed) stopped);

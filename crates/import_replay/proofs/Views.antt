@@ -48,14 +48,14 @@ use Rattle.transactions.specs.declared.record.Record.{Record}
 use Rattle.import_replay.specs.ImportRefusals.{IsWalkRefusal}
 use Rattle.import_replay.specs.NextPools.{IsReplayedPool}
 use Rattle.import_replay.specs.ReadPools.{IsReadPool, frame_with}
-use Rattle.import_replay.specs.Views.{AreAdded, AreChangesOf, FitsOn, IsViewOf, IsViewRefusal, objects_seen}
+use Rattle.import_replay.specs.Views.{AreAdded, AreAllChanges, FitsOn, IsViewOfImage, IsViewRefusal, objects_seen}
 use Rattle.import_replay.specs.declared.next_pool.ReplayedPool.{ReplayedPool}
 use Rattle.import_replay.specs.declared.viewing.View.{View}
 use Rattle.import_replay.proofs.MountedPools.{mounts_read}
 use Rattle.import_replay.proofs.NextPools.{loaded_held}
 
 -- no changes are those of no operation
-pub no_changes : (e : UnsyncedExtents) → ((place n : ℕ) → changes_at e place n ≡ no_patch) → AreChangesOf [] e
+pub no_changes : (e : UnsyncedExtents) → ((place n : ℕ) → changes_at e place n ≡ no_patch) → AreAllChanges [] e
 no_changes e none = record {
   oldest = λ n below. ap (λ p. patched p below) (none 0 n) ∙ patched_nothing below;
   second = none 1;
@@ -69,7 +69,7 @@ stays old mid new place first then_ none n = ap (λ o. option_map_or patches_of 
 
 -- operations that get their room and are applied are added
 pub more_changes : (earlier ops : List Op) (old mid new : UnsyncedExtents) → LeavesChanges old mid → KeepsOtherPlaces 0 old mid → AppliesAt 0 ops mid new → KeepsOtherPlaces 0 mid new
-    → AreChangesOf earlier old → AreChangesOf (earlier ++ ops) new
+    → AreAllChanges earlier old → AreAllChanges (earlier ++ ops) new
 more_changes earlier ops old mid new left others applied others_again are = record {
   oldest = changes_added earlier ops (changes_at mid 0) (changes_at new 0) (patches_sized mid.oldest) (changes_left earlier (changes_at old 0) (changes_at mid 0) are.oldest (left.patches 0)) applied.patches;
   second = stays old mid new 1 (others 1 (λ is. cc)) (others_again 1 (λ is. cc)) are.second;
@@ -84,7 +84,7 @@ pub next_allowed : (records left : List Record) (r : Record) (e : UnsyncedExtent
 next_allowed records left r e are = All-head (λ (x : Record). AreOpsAllowed x.ops) r left are.allowed
 
 pub next_added : (records left : List Record) (r : Record) (old new : UnsyncedExtents) → AreAdded records (r ∷ left) old
-    → ((earlier : List Op) → AreChangesOf earlier old → AreChangesOf (earlier ++ r.ops) new) → AreAdded records left new
+    → ((earlier : List Op) → AreAllChanges earlier old → AreAllChanges (earlier ++ r.ops) new) → AreAdded records left new
 next_added records left r old new are step =
     let whole : ops_of_records (are.done ++ r ∷ []) ≡ ops_of_records are.done ++ r.ops =
     flat_map-append (λ (x : Record). x.ops) are.done (r ∷ []) ∙ ap (λ l. ops_of_records are.done ++ l) (append-nil r.ops) in
@@ -95,7 +95,7 @@ next_added records left r old new are step =
       changes = rw whole (step (ops_of_records are.done) are.changes);
     }
 
-pub all_added : (records : List Record) (e : UnsyncedExtents) → AreAdded records [] e → AreChangesOf (ops_of_records records) e
+pub all_added : (records : List Record) (e : UnsyncedExtents) → AreAdded records [] e → AreAllChanges (ops_of_records records) e
 all_added records e are = rw (are.split ∙ append-nil are.done) are.changes
 
 -- patches that make the same of each object
@@ -107,7 +107,7 @@ laid_alike ops one other below are are_too = same_map nat_cmp_total nat_cmp-IsAn
     at n (inr g) = get-laid_past one below n g ∙ sym (get-laid_past other below n g)
 
 -- so the changes of one group, and of no other, make the objects that the patches of these operations make
-seen : (ops : List Op) (e : UnsyncedExtents) (patches : Patches) (below : FinMap nat_cmp (List ℕ)) → AreChangesOf ops e → ArePatchesOf ops patches → laid_over patches below ≡ laid_all e below
+seen : (ops : List Op) (e : UnsyncedExtents) (patches : Patches) (below : FinMap nat_cmp (List ℕ)) → AreAllChanges ops e → ArePatchesOf ops patches → laid_over patches below ≡ laid_all e below
 seen ops e patches below are are_too =
     let first : FinMap nat_cmp (List ℕ) = laid_over (changes_at e 0) below in
     let second : FinMap nat_cmp (List ℕ) = laid_over (changes_at e 1) first in
@@ -119,7 +119,7 @@ module _ (size : ℕ) (u : Uberblock) (name : List ℕ) (tree : Tree) (slots : L
     (framed : v.frame ≡ frame_with u (block_count size)) where
   -- what was read of a disk, with its records as changes
   pub is_view : (disk : Disk) → IsReadPool (bytes_of disk.now) size u name tree slots chain → HasLengthsOf tree (objects_of slots) → v.tree ≡ pool.tree → v.synced ≡ pool.synced
-      → AreChangesOf (ops_of_records pool.replayed.records.items) v.changes → IsViewOf (bytes_of disk.now) v
+      → AreAllChanges (ops_of_records pool.replayed.records.items) v.changes → IsViewOfImage (bytes_of disk.now) v
   is_view disk read lengths tree_is synced_is are =
       let contents : Contents = patched_contents (patches_of pool.replayed.extents) (name_of pool.replayed.extents) (contents_of pool.synced) in
       let held = loaded_held size u name tree slots chain pool replayed lengths disk disk refl read in
@@ -149,7 +149,7 @@ module _ (v : View) (t : ShownTree) (framed : t.frame ≡ v.frame) (tree : t.tre
   tree_fits size is = rw framed is
 
   -- it stands on a device that has what the view found
-  pub stands : {Dev : Type 0} (D : Ghosts Dev) (device : Dev) → IsTrue D.keeps_model → IsViewOf (bytes_of (D.disk device).now) v → StandsOn D device t
+  pub stands : {Dev : Type 0} (D : Ghosts Dev) (device : Dev) → IsTrue D.keeps_model → IsViewOfImage (bytes_of (D.disk device).now) v → StandsOn D device t
   stands D device keeps is = record { keeps = keeps; tree = rw (framed, tree, contents) is.tree; lengths = rw (tree, contents) is.lengths }
 
 -- a refusal of a read that passed the tests is none of these
@@ -169,7 +169,7 @@ no_damage (Err e) (inl memory) = λ kind address is. let no : NoMemory ≡ Damag
 no_damage (Err e) (inr read) = λ kind address is. let no : Read ≡ Damaged kind address = sym read ∙ is in cc
 
 -- what is read of the object that each mount of the image has
-pub read_of_mount : (image : List ℕ) (v : View) (object : ObjectId) (range : Range) (bytes : List ℕ) → IsViewOf image v → bytes ≡ range_in (objects_seen v) object range
+pub read_of_mount : (image : List ℕ) (v : View) (object : ObjectId) (range : Range) (bytes : List ℕ) → IsViewOfImage image v → bytes ≡ range_in (objects_seen v) object range
     → (contents : Contents) → MountsTo image contents → bytes ≡ range_in contents.objects object range
 read_of_mount image v object range bytes is read contents (u, chain, mounts) =
     let (w, other, found) = is.mounts in

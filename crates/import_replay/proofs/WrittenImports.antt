@@ -19,14 +19,14 @@ use Rattle.import_replay.specs.ImportSyncs.{IsImportSynced, IsImportWritten, ube
 use Rattle.import_replay.specs.Labelled.{HasOtherSlots, HoldUberblock}
 use Rattle.import_replay.specs.LabelSyncs.{ImportWrites, IsGroupSynced, calls_of_import}
 use Rattle.import_replay.specs.Mounts.{IsMountedFrom}
-use Rattle.import_replay.specs.NextPools.{AreMadeOver, PoolParts, parts_of}
+use Rattle.import_replay.specs.NextPools.{AreMadeOver, PoolParts, pool_parts}
 use Rattle.import_replay.specs.TakenBlocks.{AreForEachPlace}
 use Rattle.import_replay.specs.declared.mounted.Mounted.{Mounted}
 use Rattle.import_replay.specs.declared.next_pool.NextPool.{NextPool}
 use Rattle.import_replay.proofs.ImportedLabels.{active_now}
 
 -- what was mounted is what was written
-pub written_same : (size : ℕ) (u : Uberblock) (next : NextPool) (dirty_max moment : ℕ) (m : Mounted) → IsMountedFrom size u (parts_of next) dirty_max m
+pub written_same : (size : ℕ) (u : Uberblock) (next : NextPool) (dirty_max moment : ℕ) (m : Mounted) → IsMountedFrom size u (pool_parts next) dirty_max m
     → writes_of_next size u moment next ≡ writes_of_import moment next.blocks.items m
 written_same size u next dirty_max moment m from = λ i. record {
   size = (sym from.geometry) i;
@@ -47,8 +47,8 @@ written_same size u next dirty_max moment m from = λ i. record {
 module _ (size : ℕ) (old mid new : Disk) (u : Uberblock) (name : List ℕ) (chain : List LogPiece) (next : NextPool) (dirty_max moment : ℕ) (even_first : Bool)
     (flushed : Flushes old (Ok tt) mid) (long : length (bytes_of old.now) ≡ size) (same_long : length (bytes_of new.now) ≡ size)
     (is_active : IsActive (bytes_of old.now) u) (first : HasFirstStage (bytes_of old.now) u.guid u.group name even_first) (chain_is : IsChainOf (bytes_of old.now) u chain)
-    (over : AreMadeOver (bytes_of old.now) u chain size next.blocks.items (parts_of next))
-    (m : Mounted) (from : IsMountedFrom size u (parts_of next) dirty_max m)
+    (over : AreMadeOver (bytes_of old.now) u chain size next.blocks.items (pool_parts next))
+    (m : Mounted) (from : IsMountedFrom size u (pool_parts next) dirty_max m)
     (done : IsGroupSynced (writes_of_next size u moment next) even_first mid new) where
   mine : IsGroupSynced (writes_of_import moment next.blocks.items m) even_first mid new
   mine = subst (λ (w : ImportWrites). IsGroupSynced w even_first mid new) (written_same size u next dirty_max moment m from) done
@@ -89,8 +89,8 @@ module _ (size : ℕ) (old mid new : Disk) (u : Uberblock) (name : List ℕ) (ch
 pub ok_written : (old before mid new : Disk) (size : ℕ) (u : Uberblock) (name : List ℕ) (chain : List LogPiece) (next : NextPool) (dirty_max moment : ℕ) (even_first : Bool) (r : Result Mounted PoolError)
     → before ≡ mid → Flushes old (Ok tt) mid → length (bytes_of old.now) ≡ size → length (bytes_of new.now) ≡ size
     → IsActive (bytes_of old.now) u → HasFirstStage (bytes_of old.now) u.guid u.group name even_first → IsChainOf (bytes_of old.now) u chain
-    → AreMadeOver (bytes_of old.now) u chain size next.blocks.items (parts_of next)
-    → IfOk r (IsMountedFrom size u (parts_of next) dirty_max)
+    → AreMadeOver (bytes_of old.now) u chain size next.blocks.items (pool_parts next)
+    → IfOk r (IsMountedFrom size u (pool_parts next) dirty_max)
     → OnOk r (IsGroupSynced (writes_of_next size u moment next) even_first before new)
     → IfOk r (IsImportWritten old new moment)
 ok_written old before mid new size u name chain next dirty_max moment even_first (Err e) same flushed long same_long active first chain_is over from done = tt

@@ -62,7 +62,7 @@ AreAllPlanned spare planned = (k : ℕ) → k < spare.blocks → is_free k spare
 
 -- Of a set's blocks those of a plan are taken. Then what the plan replaces comes back, and the first log block is
 -- taken.
-pub record IsLeftBy (plan : TreePlan) (log_block : ℕ) (old new : FreeSpace) : Type 0 where
+pub record IsLeftByPlan (plan : TreePlan) (log_block : ℕ) (old new : FreeSpace) : Type 0 where
   pub left : FreeSpace
   pub taken : BlocksTaken (λ k. is_planned k plan.blocks.items) old left
   pub new_is : new ≡ after_take log_block (after_gives plan.freed.items left)

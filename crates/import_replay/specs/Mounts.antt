@@ -69,7 +69,7 @@ pub record IsMountedFrom (size : ℕ) (u : Uberblock) (p : PoolParts) (dirty_max
 
 -- What an import gives stands on a device with these bytes: the device holds its tree, its log block is a block of the
 -- area that the tree does not have, and the free blocks are all others.
-pub record StandsOn (now : List ℕ) (m : Mounted) : Type 0 where
+pub record StandsOnDevice (now : List ℕ) (m : Mounted) : Type 0 where
   pub tree : HoldsTree now (frame_of_import m) (pointers_of m.tree) (contents_of m.contents).objects
   pub log_block : IsBlockAddress (block_count m.geometry) m.log_address
   pub log_apart : IsInTree now m.tree.root m.log_address → ⊥
@@ -93,7 +93,7 @@ WritesNoLogBlock image now = (address : ℕ) → IsBlockAddress (block_count (le
 -- records replayed, and it stands on the device. No block that the image's pool has was written, and no log block.
 pub record IsImport (image now : List ℕ) (dirty_max : ℕ) (m : Mounted) : Type 0 where
   pub imported : IsImportOf image now dirty_max m.records (shown_of_import m)
-  pub stands : StandsOn now m
+  pub stands : StandsOnDevice now m
   pub size : length now ≡ length image
   pub kept : KeepsUsedBlocks image now
   pub no_log : WritesNoLogBlock image now

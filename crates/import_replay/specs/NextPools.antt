@@ -41,7 +41,7 @@ use Rattle.tree_plans.specs.Plans.{address_of}
 use Rattle.tree_plans.specs.declared.planner.PlannedBlock.{PlannedBlock}
 use Rattle.tree_plans.specs.declared.planner.TreePlan.{TreePlan}
 use Rattle.import_replay.specs.PlacedRecords.{placed_estimate}
-use Rattle.import_replay.specs.FreeBlocks.{AreAllOthers, AreAllPlanned, AreUnused, IsLeftBy, IsLowestLeft, IsNamed}
+use Rattle.import_replay.specs.FreeBlocks.{AreAllOthers, AreAllPlanned, AreUnused, IsLeftByPlan, IsLowestLeft, IsNamed}
 use Rattle.import_replay.specs.ImportViews.{IsTreeMade, ViewTree}
 use Rattle.import_replay.specs.LabelSyncs.{AreApartIn}
 use Rattle.import_replay.specs.ReadPools.{frame_of_size}
@@ -57,8 +57,8 @@ pub record PoolParts : Type 0 where
   pub log_address : ℕ
   pub records : ℕ
 
-abbrev pub parts_of : NextPool → PoolParts
-parts_of next = record { tree = next.tree; contents = next.contents; free = next.free.free; log_address = next.log_address; records = next.records }
+abbrev pub pool_parts : NextPool → PoolParts
+pool_parts next = record { tree = next.tree; contents = next.contents; free = next.free.free; log_address = next.log_address; records = next.records }
 
 -- its tree as that of a view
 abbrev pub tree_of : PoolParts → ViewTree
@@ -172,7 +172,7 @@ pub record IsNextRefused (holds : Type 0) (size : ℕ) (u : Uberblock) (pool : R
 -- The pool has the tree of a plan, which takes the lowest spare blocks, and the contents that the records leave. Where
 -- this holds, the plan's blocks hold the objects of these. The first log block is the lowest spare one that the plan
 -- leaves. The free blocks are those that were free, without these, and with those that the plan replaces.
-pub record IsPlannedFrom (holds : Type 0) (size : ℕ) (u : Uberblock) (pool : ReplayedPool) (next : NextPool) : Type 0 where
+pub record IsPlannedPool (holds : Type 0) (size : ℕ) (u : Uberblock) (pool : ReplayedPool) (next : NextPool) : Type 0 where
   pub plan : TreePlan
   pub fits : FitsIn size plan
   pub taken : TakesLowest pool.spare.free plan
@@ -185,7 +185,7 @@ pub record IsPlannedFrom (holds : Type 0) (size : ℕ) (u : Uberblock) (pool : R
   pub log_block : ℕ
   pub log_is : next.log_address ≡ block_address log_block
   pub lowest : IsLowestLeft pool.spare plan.blocks.items log_block
-  pub free : IsLeftBy plan log_block pool.free next.free
+  pub free : IsLeftByPlan plan log_block pool.free next.free
   pub sized : next.free.blocks ≡ block_count size
   pub idle : IsIdle next.free
   pub records_are : next.records ≡ length pool.replayed.records.items

@@ -26,7 +26,7 @@ use Rattle.transactions.specs.declared.record.Record.{Record}
 use Rattle.import_replay.specs.declared.viewing.View.{View}
 
 -- these operations are all that was changed, by one group
-pub record AreChangesOf (ops : List Op) (e : UnsyncedExtents) : Type 0 where
+pub record AreAllChanges (ops : List Op) (e : UnsyncedExtents) : Type 0 where
   pub oldest : ArePatchesOf ops (changes_at e 0)
   pub second : (n : ℕ) → changes_at e 1 n ≡ no_patch
   pub third : (n : ℕ) → changes_at e 2 n ≡ no_patch
@@ -36,7 +36,7 @@ pub record AreAdded (records left : List Record) (e : UnsyncedExtents) : Type 0 
   pub done : List Record
   pub split : records ≡ done ++ left
   pub allowed : All (λ (r : Record). AreOpsAllowed r.ops) left
-  pub changes : AreChangesOf (ops_of_records done) e
+  pub changes : AreAllChanges (ops_of_records done) e
 
 -- the objects that reads of a view have
 abbrev pub objects_seen : View → FinMap nat_cmp (List ℕ)
@@ -48,7 +48,7 @@ FitsOn size v = block_address v.frame.blocks ≤ size
 
 -- The view has the objects of contents that the image mounts. The image holds the tree that they are read from, and the
 -- tree in memory has the lengths of its objects.
-pub record IsViewOf (image : List ℕ) (v : View) : Type 0 where
+pub record IsViewOfImage (image : List ℕ) (v : View) : Type 0 where
   pub contents : Contents
   pub mounts : MountsTo image contents
   pub objects : contents.objects ≡ objects_seen v

@@ -3,7 +3,7 @@
 ghost use Rattle.std.specs.Prelude.{◌≡◌, ◌<◌, ◌≤◌, [], IsTrue};
 ghost use Rattle.base.specs.disk.Disk.{bytes_of};
 ghost use Rattle.base.specs.formats.Limits.{first_group, last_number};
-ghost use Rattle.import_replay.specs.Mounts.{IsExplainedAnew, StandsOn};
+ghost use Rattle.import_replay.specs.Mounts.{IsExplainedAnew, StandsOnDevice};
 ghost use Rattle.import_replay.specs.ShownMounts.{LabelsShow};
 
 use crate::mounted::Mounted;
@@ -22,7 +22,7 @@ pub struct Imported<D: SectorDevice> {
     pub mounted: Mounted,
     ghost empty: { cache.entries ≡ [] },
     ghost sized: { D.size device ≡ mounted.geometry },
-    ghost stands: { ∥ (IsTrue D.keeps_model → StandsOn (bytes_of (D.disk device).now) mounted) ∥₁ },
+    ghost stands: { ∥ (IsTrue D.keeps_model → StandsOnDevice (bytes_of (D.disk device).now) mounted) ∥₁ },
     ghost labels: { ∥ (IsTrue D.keeps_model → LabelsShow (bytes_of (D.disk device).now) mounted) ∥₁ },
     ghost explained: { ∥ IsExplainedAnew mounted ∥₁ },
 }

@@ -43,7 +43,7 @@ ghost use Rattle.import_replay.specs.ImportSyncs.{IsImportWritten};
 ghost use Rattle.import_replay.specs.ImportViews.{EndsBehind, KeepsViews};
 ghost use Rattle.import_replay.specs.LabelSyncs.{IsGroupSynced, is_even};
 ghost use Rattle.import_replay.specs.Mounts.{IsImport, IsMountedAnew, IsMountedFrom};
-ghost use Rattle.import_replay.specs.NextPools.{IsReadyFor, parts_of};
+ghost use Rattle.import_replay.specs.NextPools.{IsReadyFor, pool_parts};
 ghost use Rattle.import_replay.specs.Refused.{IsImportRefused, IsMountRefused, IsOpenRefused};
 ghost use Rattle.import_replay.specs.RunStarts.{StartsRun};
 
@@ -263,7 +263,7 @@ fn open_pool<D: SectorDevice>(
     requires next { IsReadyFor geometry next }
     ensures device { KeepsDevice D.SectorDevice result device.old device.new }
     ensures mounted { IfOk result
-        (IsMountedFrom geometry (fields_of found.now.uberblock) (parts_of next) dirty_max) }
+        (IsMountedFrom geometry (fields_of found.now.uberblock) (pool_parts next) dirty_max) }
     ensures refused { IfErr result (IsOpenRefused D.keeps_model
         (writes_of_next geometry (fields_of found.now.uberblock) moment next)
         (is_even found.now.first) (D.disk device.old) (D.disk device.new)) }

@@ -23,7 +23,7 @@ ghost use Rattle.tree_blocks.specs.Lengths.{lengths_of};
 ghost use Rattle.tree_blocks.specs.Pointers.{pointers_of};
 ghost use Rattle.uberblocks.specs.Slots.{fields_of};
 ghost use Rattle.import_replay.specs.Devices.{IsSizedFor};
-ghost use Rattle.import_replay.specs.NextPools.{HoldsLoaded, HoldsNextObjects, IsNextRefused, IsPlannedFrom, IsReplayedPool, MakesReadNext, TellsShortPlan, TellsShortTree, synced_with};
+ghost use Rattle.import_replay.specs.NextPools.{HoldsLoaded, HoldsNextObjects, IsNextRefused, IsPlannedPool, IsReplayedPool, MakesReadNext, TellsShortPlan, TellsShortTree, synced_with};
 
 use crate::finding::Found;
 use crate::free_blocks::{give_all, lowest_left, take_logged, take_planned};
@@ -118,7 +118,7 @@ pub(crate) fn plan_pool<B: BlockReader>(
     requires sized { pool.spare.blocks ≡ block_count geometry }
     requires placed { ∥ ArePlaced (block_count geometry) (pointers_of pool.tree) ∥₁ }
     ensures reads { OnlyReads B.SectorDevice result reader.old reader.new }
-    ensures planned { IfOk result (IsPlannedFrom
+    ensures planned { IfOk result (IsPlannedPool
         (HoldsLoaded B.SectorDevice reader.old geometry (fields_of uberblock.now) pool)
         geometry (fields_of uberblock.now) pool) }
     ensures refused { IfErr result (IsNextRefused

@@ -17,7 +17,7 @@ ghost use Rattle.log_replay.specs.Replays.{ops_of_records};
 ghost use Rattle.object_maps.specs.Ops.{AreOpsAllowed};
 ghost use Rattle.transactions.specs.declared.record.Record.{Record as Logged};
 ghost use Rattle.import_replay.specs.Refused.{IsInspectionRefused};
-ghost use Rattle.import_replay.specs.Views.{AreChangesOf, FitsOn, IsViewOf, is_readable};
+ghost use Rattle.import_replay.specs.Views.{AreAllChanges, FitsOn, IsViewOfImage, is_readable};
 
 use crate::next_pool::{ReplayedPool, replay_pool};
 use crate::reading::{frame_of, read_pool};
@@ -55,7 +55,7 @@ pub fn view_pool<D: SectorDevice>(alloc: Global, device: &mut D) -> Result<View,
 
     // Its objects are those that the image mounts, and the device holds the tree that they are read from.
     ensures mounted { IsTrue D.keeps_model
-        → IfOk result (IsViewOf (bytes_of (D.disk device.old).now)) }
+        → IfOk result (IsViewOfImage (bytes_of (D.disk device.old).now)) }
     ensures fits { IfOk result (FitsOn (D.size device.old)) }
     ensures refused { IfErr result
         (IsInspectionRefused D.SectorDevice device.old device.new) }
@@ -75,7 +75,7 @@ fn view_of(alloc: Global, frame: Frame, pool: ReplayedPool) -> Result<View, Allo
     ensures tree { IfOk result (λ v. v.tree ≡ pool.tree) }
     ensures synced { IfOk result (λ v. v.synced ≡ pool.synced) }
     ensures changes { IfOk result
-        (λ v. AreChangesOf (ops_of_records pool.replayed.records.items) v.changes) }
+        (λ v. AreAllChanges (ops_of_records pool.replayed.records.items) v.changes) }
 {
     let ReplayedPool {
         tree,
@@ -96,7 +96,7 @@ fn view_of(alloc: Global, frame: Frame, pool: ReplayedPool) -> Result<View, Allo
 // The operations of records, in order, as the changes of one group.
 fn changes_of(alloc: Global, records: Vec<Record>) -> Result<UnsyncedExtents, AllocError>
     requires { All (λ (r : Logged). AreOpsAllowed r.ops) records.items }
-    ensures { IfOk result (AreChangesOf (ops_of_records records.items)) }
+    ensures { IfOk result (AreAllChanges (ops_of_records records.items)) }
 {
     let mut changes = UnsyncedExtents::new(alloc);
     for record in records {
@@ -108,8 +108,8 @@ fn changes_of(alloc: Global, records: Vec<Record>) -> Result<UnsyncedExtents, Al
 // Adds operations to the changes of one group.
 fn add_ops(changes: &mut UnsyncedExtents, ops: &[Op]) -> Result<(), AllocError>
     requires { AreOpsAllowed ops.now }
-    ensures { (earlier : List Operation) → AreChangesOf earlier changes.old
-        → OnOk result (AreChangesOf (earlier ++ ops.now) changes.new) }
+    ensures { (earlier : List Operation) → AreAllChanges earlier changes.old
+        → OnOk result (AreAllChanges (earlier ++ ops.now) changes.new) }
 {
     changes.reserve(0, ops)?;
     changes.apply(0, ops);
@@ -122,7 +122,7 @@ impl View {
     ghost use Rattle.base.specs.disk.Disk.{bytes_of};
     ghost use Rattle.device_model.specs.Reading.{OnlyReads};
     ghost use Rattle.object_maps.specs.Sources.{object_length, range_in};
-    ghost use Rattle.import_replay.specs.Views.{FitsOn, IsViewOf, IsViewRefusal, is_readable, objects_seen};
+    ghost use Rattle.import_replay.specs.Views.{FitsOn, IsViewOfImage, IsViewRefusal, is_readable, objects_seen};
 
     /// The length of an object in bytes, if it is there. It takes no memory.
     pub fn length(&self, object: ObjectId) -> Option<u64>
@@ -147,15 +147,16 @@ impl View {
     ) -> Result<Bytes, PoolError>
         requires fits { FitsOn (B.size reader.old) self.now }
         ensures reads { OnlyReads B.SectorDevice result reader.old reader.new }
-        ensures exact { IsTrue B.keeps_model → IsViewOf (bytes_of (B.disk reader.old).now) self.now
+        ensures exact { IsTrue B.keeps_model → IsViewOfImage (bytes_of (B.disk reader.old).now) self.now
             → IfOk result (λ bytes. bytes ≡ range_in (objects_seen self.now) object range) }
         ensures absent { IfErr result (λ e. e ≡ error.NoObject
             → object_length (objects_seen self.now) object.0 ≡ None) }
         ensures outside { is_readable object.0 range ≡ false → result ≡ Err error.BadRange }
-        ensures missing { is_readable object.0 range ≡ true → object_length (objects_seen self.now) object.0 ≡ None
+        ensures missing { is_readable object.0 range ≡ true
+            → object_length (objects_seen self.now) object.0 ≡ None
             → result ≡ Err error.NoObject }
         ensures refused { IfErr result (IsViewRefusal object range) }
-        ensures sound { IsTrue B.keeps_model → IsViewOf (bytes_of (B.disk reader.old).now) self.now
+        ensures sound { IsTrue B.keeps_model → IsViewOfImage (bytes_of (B.disk reader.old).now) self.now
             → IfErr result (λ e. (kind address : ℕ) → e ≢ error.Damaged kind address) }
     {
         if !is_readable(object, range) {

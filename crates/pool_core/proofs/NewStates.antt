@@ -17,7 +17,7 @@ use Rattle.object_maps.specs.ContentsShown.{contents_of}
 use Rattle.tree_blocks.specs.Pointers.{pointers_of}
 use Rattle.tree_blocks.specs.ListedObjects.{AreWithin}
 use Rattle.import_replay.specs.declared.mounted.Mounted.{Mounted}
-use Rattle.import_replay.specs.Mounts.{IsExplainedAnew, StandsOn, shown_of_import}
+use Rattle.import_replay.specs.Mounts.{IsExplainedAnew, StandsOnDevice, shown_of_import}
 use Rattle.import_replay.specs.ShownMounts.{LabelsShow}
 use Rattle.pool_tables.specs.declared.pool.PoolTables.{PoolTables}
 use Rattle.pool_tables.specs.Told.{held_with, new_tree_of, pool_told}
@@ -30,7 +30,7 @@ one_place only zero zero address at_i at_j = refl
 one_place only zero (suc j) address at_i at_j = absurd (none_at j address at_j)
 one_place only (suc i) j address at_i at_j = absurd (none_at i address at_i)
 
-module _ (now : List ℕ) (created : ℕ) (m : Mounted) (sized : block_count m.geometry ≡ block_count (length now)) (on : StandsOn now m) (shows : LabelsShow now m) (explained : IsExplainedAnew m) where
+module _ (now : List ℕ) (created : ℕ) (m : Mounted) (sized : block_count m.geometry ≡ block_count (length now)) (on : StandsOnDevice now m) (shows : LabelsShow now m) (explained : IsExplainedAnew m) where
   -- its log has no block but the next one
   next_alone : (address : ℕ) → IsInLog (shown_of_import m).log address → address ≡ (shown_of_import m).log.next.address
   next_alone address (inl same) = same
@@ -78,7 +78,7 @@ explained_as m shown is explained = subst IsExplainedAtFirst (sym is) explained
 
 -- And where it has the tree and no running sync, the device holds what it should.
 pub held_as : (m : Mounted) (pool : PoolTables) (now : List ℕ) → pool_shown pool ≡ shown_of_import m → pool.tree ≡ m.tree → pool.sync ≡ None
-    → block_count m.geometry ≡ block_count (length now) → StandsOn now m → LabelsShow now m → IsExplainedAnew m → IsHeldAtFirst (pool_told pool now)
+    → block_count m.geometry ≡ block_count (length now) → StandsOnDevice now m → LabelsShow now m → IsExplainedAnew m → IsHeldAtFirst (pool_told pool now)
 held_as m pool now shown tree idle sized on shows explained created =
     let same : held_with (pool_told pool now) (first_past (pool_shown pool) created)
     ≡ record { state = record { shown = shown_of_import m; past = new_past (contents_of m.contents) created m.dirty_max }; now = now; pointers = pointers_of m.tree; running = None } = λ k.

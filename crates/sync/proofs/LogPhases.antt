@@ -19,11 +19,11 @@ use Rattle.base.proofs.crash.LogViews.{with_block}
 use Rattle.base.proofs.formats.Geometry.{slot-below}
 use Rattle.base.proofs.formats.LabelPlaces.{block-label_apart}
 use Rattle.base.proofs.tree.PlacedTrees.{holds-placed}
-use Rattle.sync.specs.LogCalls.{IsNextBlock, with_log_block}
+use Rattle.sync.specs.LogCalls.{IsNextLogBlock, with_log_block}
 use Rattle.sync.specs.Phases.{HasPhase, IsBefore, IsBetweenOrSwitched, SyncViews}
 use Rattle.sync.proofs.SparedPlaces.{block_spares}
 
-module _ (v : SyncViews) (size before config : ℕ) (g : IsGeometry size) (l : Logged) (m : Moment) (old_next : IsNextBlock size v.old l) (new_next : IsNextBlock size v.new l)
+module _ (v : SyncViews) (size before config : ℕ) (g : IsGeometry size) (l : Logged) (m : Moment) (old_next : IsNextLogBlock size v.old l) (new_next : IsNextLogBlock size v.new l)
     (old_below : AreLogBlocksBelow size v.created (handed m) v.old (length v.old.logged)) (new_below : AreLogBlocksBelow size v.created (handed m) v.new (length v.new.logged)) where
   abbrev with : SyncViews
   with = with_log_block l v
@@ -56,7 +56,7 @@ module _ (v : SyncViews) (size before config : ℕ) (g : IsGeometry size) (l : L
     abbrev after : Moment
     after = wrote moment place l.content done m
 
-    rest_logged : (flushed : ℕ) (at : FixedLabels) (w : View) → IsNextBlock size w l → AreLogBlocksBelow size v.created (handed m) w (length w.logged) → IsAtRestAt size v.created flushed at w m → IsAtRestAt size v.created flushed at (with_block l w) after
+    rest_logged : (flushed : ℕ) (at : FixedLabels) (w : View) → IsNextLogBlock size w l → AreLogBlocksBelow size v.created (handed m) w (length w.logged) → IsAtRestAt size v.created flushed at w m → IsAtRestAt size v.created flushed at (with_block l w) after
     rest_logged flushed at w next below rest = rest_at_logged moment place done m l fits size v.created refl flushed at w (next.linked, next.cut, below) (spares flushed at w next.spare rest.rest.laid) rest
 
     laid_logged : IsLaidAt size v.created v.new_flushed config v.new m → IsLaidAt size v.created v.new_flushed config with.new after
@@ -113,7 +113,7 @@ module _ (v : SyncViews) (size before config : ℕ) (g : IsGeometry size) (l : L
     }
 
   -- the write was refused, and counts for nothing
-  rest_with : (flushed : ℕ) (at : FixedLabels) (w : View) → IsNextBlock size w l → AreLogBlocksBelow size v.created (handed m) w (length w.logged) → IsAtRestAt size v.created flushed at w m → IsAtRestAt size v.created flushed at (with_block l w) m
+  rest_with : (flushed : ℕ) (at : FixedLabels) (w : View) → IsNextLogBlock size w l → AreLogBlocksBelow size v.created (handed m) w (length w.logged) → IsAtRestAt size v.created flushed at w m → IsAtRestAt size v.created flushed at (with_block l w) m
   rest_with flushed at w next below rest = record { rest = rest_more size v.created m w l below next.linked next.cut flushed rest.rest; config = rest.config; slot = rest.slot }
 
   between_with : IsBetweenAt size v.created v.flushed v.new_flushed config v.fixed v.old v.new m → IsBetweenAt size v.created v.flushed v.new_flushed config v.fixed with.old with.new m

@@ -23,7 +23,7 @@ use Rattle.base.proofs.formats.LabelPlaces.{block-label_apart}
 use Rattle.tree_plans.specs.declared.planner.PlannedBlock.{PlannedBlock}
 use Rattle.sync.specs.declared.run.LabelStages.{LabelStages}
 use Rattle.sync.specs.declared.run.SyncRun.{SyncRun}
-use Rattle.sync.specs.LogCalls.{IsNextBlock, IsNextInBoth, base_with, with_log_block}
+use Rattle.sync.specs.LogCalls.{IsNextLogBlock, IsNextInBoth, base_with, with_log_block}
 use Rattle.sync.specs.Made.{HasMade}
 use Rattle.sync.specs.Phases.{HasConfigOf, HasPhase, HasPhaseOf, HoldsLogs, IsApartFromLog, IsLoggedBefore, IsSpareBlock, IsUnderWay, LeadsViews, MakesTree, SyncViews, calls_before_slots, new_config_label}
 use Rattle.sync.proofs.LogPhases.{phase_logged, phase_more}
@@ -33,7 +33,7 @@ use Rattle.sync.proofs.SparedPlaces.{linked_placed}
 use Rattle.sync.proofs.Targets.{IsSound, is_sound}
 
 -- a view with the next block is one
-view_with : (size : ℕ) (v : View) (l : Logged) → IsNextBlock size v l → IsView size v → IsView size (with_block l v)
+view_with : (size : ℕ) (v : View) (l : Logged) → IsNextLogBlock size v l → IsView size v → IsView size (with_block l v)
 view_with size v l next view = record {
   geometry = view.geometry;
   uberblock = view.uberblock;
@@ -168,7 +168,7 @@ module _ (base : List ℕ) (v : SyncViews) (run : SyncRun) (l : Logged) (m : Mom
       (phase_more v run.geometry (calls_before_slots run) (new_config_label v run.stages) g l m next.old next.new holds.old.below holds.new.below run.done way.phase))
 
   -- the block is apart from the log of a view that it goes on
-  log_apart : (w : View) → IsView run.geometry w → IsNextBlock run.geometry w l → (i : ℕ) (x : Logged) → slice_get w.logged i ≡ Some x → Apart place (length l.content) x.block.address (length x.content)
+  log_apart : (w : View) → IsView run.geometry w → IsNextLogBlock run.geometry w l → (i : ℕ) (x : Logged) → slice_get w.logged i ≡ Some x → Apart place (length l.content) x.block.address (length x.content)
   log_apart w view is i x at =
       let there = linked_placed w.u.guid (block_count run.geometry) w.u.import_number (header_of w.u) w.logged view.linked i x at in
       subst (λ (n : ℕ). Apart place n x.block.address (length x.content)) (sym whole)

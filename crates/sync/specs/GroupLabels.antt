@@ -3,7 +3,7 @@ use Rattle.std.specs.Prelude.{ℕ, ◌≡◌, List, Option, None, Some}
 use Rattle.base.specs.formats.Geometry.{slot_of}
 use Rattle.base.specs.formats.Labels.{Config}
 use Rattle.base.specs.formats.Uberblocks.{Uberblock, IsUberblock}
-use Rattle.labels.specs.Configs.{config_block}
+use Rattle.labels.specs.Configs.{IsConfigBlock, config_block}
 use Rattle.labels.specs.declared.stage.Stage.{Stage}
 use Rattle.sync.specs.declared.run.LabelStages.{LabelStages}
 use Rattle.sync.specs.declared.run.SyncRun.{SyncRun}
@@ -11,6 +11,10 @@ use Rattle.sync.specs.declared.run.SyncRun.{SyncRun}
 -- the config of a pool with this name, written in this group on a device of so many bytes
 abbrev pub config_for : (guid group size : ℕ) → List ℕ → Config
 config_for guid group size name = record { guid = guid; group = group; size = size; name = name }
+
+-- the block of that config is one of a device of so many bytes
+abbrev pub IsConfigFor : (guid group size : ℕ) → List ℕ → Type 0
+IsConfigFor guid group size name = IsConfigBlock (config_block (config_for guid group size name)) size (config_for guid group size name)
 
 -- The label stages of the sync of a group that gives the pool this name, if it gives one: the config of the group, this
 -- pair of labels first.

@@ -13,15 +13,15 @@ use Rattle.sync.specs.Phases.{SyncViews}
 
 -- The log of a view goes on with this block, at an address that neither its tree nor its log has. With it the log is
 -- cut into pieces still.
-pub record IsNextBlock (size : ℕ) (v : View) (l : Logged) : Type 0 where
+pub record IsNextLogBlock (size : ℕ) (v : View) (l : Logged) : Type 0 where
   pub linked : AreLinked v.u.guid (block_count size) v.u.import_number (header_behind (header_of v.u) v.logged) (l ∷ [])
   pub cut : HasCut v.u.version (v.logged ++ l ∷ [])
   pub spare : IsSpareOf v l.block.address
 
 -- the logs of both views go on with this block, and no block of the sync has its address
 pub record IsNextInBoth (run : SyncRun) (v : SyncViews) (l : Logged) : Type 0 where
-  pub old : IsNextBlock run.geometry v.old l
-  pub new : IsNextBlock run.geometry v.new l
+  pub old : IsNextLogBlock run.geometry v.old l
+  pub new : IsNextLogBlock run.geometry v.new l
   pub no_block : All (λ (b : PlannedBlock). block_address b.index ≢ l.block.address) run.blocks.items
 
 -- the views with one log block more

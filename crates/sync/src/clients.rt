@@ -18,8 +18,8 @@ use labels::{Geometry, Stage};
 use std::alloc::Global;
 use uberblocks::Uberblock;
 
-// A new sync of a group that gives no name, without blocks, has six calls, and has made none. The uberblock of group 132
-// goes into slot 4.
+// A new sync of a group that gives no name, without blocks, has six calls, and has made none. The uberblock of group
+// 132 goes into slot 4.
 fn a_sync_of_no_blocks_has_six_calls(
     alloc: Global,
     geometry: Geometry,

@@ -29,7 +29,6 @@
 ghost use Rattle.std.specs.Prelude.{◌≡◌, ◌<◌, ◌+◌, All, IfErr, IfSome, IsTrue, if◌then◌else◌};
 ghost use Rattle.std.specs.Option.{option_map};
 ghost use Rattle.base.specs.formats.Geometry.{IsGeometry, block_count};
-ghost use Rattle.labels.specs.Configs.{IsConfigBlock, config_block};
 ghost use Rattle.tree_plans.specs.declared.planner.PlannedBlock.{PlannedBlock};
 ghost use Rattle.uberblocks.specs.Slots.{fields_of};
 
@@ -51,7 +50,7 @@ pub struct LabelStages {
 }
 
 impl LabelStages {
-    ghost use Rattle.sync.specs.GroupLabels.{config_for, stages_for};
+    ghost use Rattle.sync.specs.GroupLabels.{IsConfigFor, stages_for};
 
     // If the group of this uberblock gives the pool a name, the configs with it.
     fn of_group(
@@ -62,9 +61,8 @@ impl LabelStages {
     ) -> Option<LabelStages>
         ensures stages { result ≡ stages_for uberblock.now.guid uberblock.now.group.0 geometry first
             (option_map (λ n. n.now) name.entry) }
-        ensures config { IfSome name.entry (λ n. IsConfigBlock
-            (config_block (config_for uberblock.now.guid uberblock.now.group.0 geometry n.now)) geometry
-            (config_for uberblock.now.guid uberblock.now.group.0 geometry n.now)) }
+        ensures config { IfSome name.entry (λ n.
+            IsConfigFor uberblock.now.guid uberblock.now.group.0 geometry n.now) }
     {
         let name = name?.copy();
         let config = LabelConfig::new(uberblock.guid, uberblock.group, geometry.size(), name);
@@ -114,7 +112,7 @@ impl SyncRun {
     ghost use Rattle.sync.specs.Phases.{KeepsPhases};
     ghost use Rattle.sync.specs.Runs.{CountsCall, HasPlaces, call_count};
     ghost use Rattle.uberblocks.specs.Slots.{IsWithinLimits, slot_bytes};
-    ghost use Rattle.sync.specs.GroupLabels.{WritesUberblock, config_for, stages_for};
+    ghost use Rattle.sync.specs.GroupLabels.{IsConfigFor, WritesUberblock, stages_for};
 
     /// The sync of the uberblock's group, with no call made yet. It writes these blocks, then the uberblock into the
     /// slot of its group in each label. If the group gives the pool a name, it writes the config with that name into
@@ -134,9 +132,8 @@ impl SyncRun {
         ensures uberblock { WritesUberblock (fields_of uberblock.now) result }
         ensures stages { result.stages ≡ stages_for uberblock.now.guid uberblock.now.group.0 geometry
             first (option_map (λ n. n.now) name.entry) }
-        ensures config { IfSome name.entry (λ n. IsConfigBlock
-            (config_block (config_for uberblock.now.guid uberblock.now.group.0 geometry n.now)) geometry
-            (config_for uberblock.now.guid uberblock.now.group.0 geometry n.now)) }
+        ensures config { IfSome name.entry (λ n.
+            IsConfigFor uberblock.now.guid uberblock.now.group.0 geometry n.now) }
         ensures done { result.done ≡ 0 }
     {
         SyncRun {

@@ -24,8 +24,8 @@ use Rattle.tree_plans.specs.declared.changed_object.ChangedObject.{ChangedObject
 use Rattle.tree_plans.specs.declared.planner.Planner.{Planner}
 use Rattle.tree_plans.specs.Changes.{has_address, is_strip_dirty, may_have_blocks}
 use Rattle.tree_blocks.specs.Entries.{is_long_size}
-use Rattle.tree_plans.specs.Order.{address_if, addresses_of, addresses_where, strip_addresses}
-use Rattle.tree_plans.specs.Parts.{AreMet, ExtendsPlan, IsMapRead, IsOfMade, IsOfMadeAt, MadeBy, PassesStrip, PlansIndirect, PlansIndirectsBelow, PlansMet, PlansRecords, PlansStripsBelow, blocks_of, old_in}
+use Rattle.tree_plans.specs.Order.{address_if, new_addresses, addresses_where, strip_addresses}
+use Rattle.tree_plans.specs.Parts.{AreMet, ExtendsPlan, IsMapRead, IsOfMade, IsOfMadeAt, MadeBy, PassesStrip, PlansIndirect, PlansIndirectsBelow, PlansMet, PlansRecords, PlansStripsBelow, new_blocks_of, old_in}
 use Rattle.tree_plans.specs.Plans.{AreRecordsPlanned, IsOfRecord, IsOfStrip, IsRecordPlanned, has_record_left, is_dirty_in, is_strip_left, is_strip_replaced, is_indirect_made, kept_state, progress_of, records_with, state_above, state_over_records, strip_state, top_state}
 use Rattle.tree_plans.specs.Pointers.{entry_strips, pointers_in, strip_with, strips_with}
 use Rattle.tree_blocks.specs.ReadPointers.{records_among}
@@ -75,8 +75,8 @@ module _ (free : FreeSpace) (object : ChangedObject) (bytes : List ℕ) (strip :
     ];
     frees = λ address among. elim (below.frees address among) [ inl at_first ↦ inl at_first | inr of ↦ inr (strip_below object.is_long object.changes.now was strip address of) ];
     once = λ apart fresh distinct. below.once apart (λ address of. fresh address (strip_below object.is_long object.changes.now was strip address of)) distinct;
-    uses = strips_use_passed (blocks_of first) (blocks_of planner) old strip below.uses;
-    adds = below.adds ∙ ap (λ (l : List ℕ). addresses_of (blocks_of first) ++ l) (sym (strip_addresses_more (is_dirty_in object) (records_with was old) (records_with was old) strip (λ j k j_low k_low. refl)
+    uses = strips_use_passed (new_blocks_of first) (new_blocks_of planner) old strip below.uses;
+    adds = below.adds ∙ ap (λ (l : List ℕ). new_addresses (new_blocks_of first) ++ l) (sym (strip_addresses_more (is_dirty_in object) (records_with was old) (records_with was old) strip (λ j k j_low k_low. refl)
         ∙ ap (λ (l : List ℕ). strip_addresses (is_dirty_in object) (records_with was old) strip ++ l) nothing ∙ append-nil (strip_addresses (is_dirty_in object) (records_with was old) strip)));
   }
     where
@@ -109,10 +109,10 @@ module _ (free : FreeSpace) (object : ChangedObject) (bytes : List ℕ) (strip :
       frees = frees_more first.freed.items one.freed.items two.freed.items (IsOfStrip object.is_long object.changes.now was strip) (IsOfRecord object.is_long object.changes.now was strip pointer_count)
           (IsOfStrip object.is_long object.changes.now was (strip + 1)) (strip_below object.is_long object.changes.now was strip) (strip_here object.is_long object.changes.now was strip) below.frees more.frees;
       once = λ apart. strip_once first.freed.items one.freed.items two.freed.items object.is_long object.changes.now was strip low apart below.frees (below.once apart) (more.once apart);
-      uses = strips_use_push (blocks_of first) (blocks_of one) (blocks_of two) old new strip v
+      uses = strips_use_push (new_blocks_of first) (new_blocks_of one) (new_blocks_of two) old new strip v
           (λ j j_low. put j ∙ ap (λ (b : Bool). cond b (Some v) (records_among old j)) (ne_eqb strip j (λ same. omega (arith, same, j_low))))
           (put strip ∙ ap (λ (b : Bool). cond b (Some v) (records_among old strip)) (eq-eqb strip strip refl)) below.uses more.uses;
-      adds = adds_twice (blocks_of first) (blocks_of one) (blocks_of two) _ _ below.adds more.adds ∙ ap (λ (l : List ℕ). addresses_of (blocks_of first) ++ l)
+      adds = adds_twice (new_blocks_of first) (new_blocks_of one) (new_blocks_of two) _ _ below.adds more.adds ∙ ap (λ (l : List ℕ). new_addresses (new_blocks_of first) ++ l)
           (ap (λ (l : List ℕ). strip_addresses (is_dirty_in object) (records_with was old) strip ++ l)
           (addresses_equal (is_dirty_in object strip) (pointer_of_list v.items) (records_with was new strip) pointer_count (λ k k_low. sym (records_here was old new strip v put k)))
           ∙ sym (strip_addresses_more (is_dirty_in object) (records_with was old) (records_with was new) strip kept));
@@ -133,7 +133,7 @@ met_kept free object strip strips planner pointer none is = record {
   frees = λ address among. inl among;
   once = λ fresh distinct. distinct;
   uses = λ address taken. inl taken;
-  adds = adds_not (blocks_of planner) (is_indirect_made object strips strip) pointer (ap (λ (o : Option (Vec Pointer)). option_map_or (λ (v : Vec Pointer). is_dirty (state_over_records object strip v.items)) o false) none);
+  adds = adds_not (new_blocks_of planner) (is_indirect_made object strips strip) pointer (ap (λ (o : Option (Vec Pointer)). option_map_or (λ (v : Vec Pointer). is_dirty (state_over_records object strip v.items)) o false) none);
 }
 
 pub met_made : (free : FreeSpace) (object : ChangedObject) (strip : ℕ) (strips : List (ℕ × Vec Pointer)) (v : Vec Pointer) → records_among strips strip ≡ Some v → (old new : Planner) (was pointer : Pointer) → was ≡ (old_in object).strip strip
@@ -144,7 +144,7 @@ met_made free object strip strips v there old new was pointer is done = record {
   frees = λ address among. elim (done.frees address among) [ inl before ↦ inl before | inr of ↦ inr (record { records = v; records_are = there; is_of = rw is at of }) ];
   once = λ fresh. done.once (λ address of. fresh address (record { records = v; records_are = there; is_of = rw is at of }));
   uses = done.uses;
-  adds = done.adds ∙ ap (λ (b : Bool). addresses_of (blocks_of old) ++ address_if b pointer)
+  adds = done.adds ∙ ap (λ (b : Bool). new_addresses (new_blocks_of old) ++ address_if b pointer)
       (sym (ap (λ (o : Option (Vec Pointer)). option_map_or (λ (x : Vec Pointer). is_dirty (state_over_records object strip x.items)) o false) there));
 }
 
@@ -171,8 +171,8 @@ indirects_push free object strips strip low first one two indirects pointer long
   frees = frees_more first.freed.items one.freed.items two.freed.items (IsOfMade object strips strip) (IsOfMadeAt object strips strip) (IsOfMade object strips (strip + 1)) (made_below object strips strip) (made_here object strips strip)
       below.frees more.frees;
   once = λ apart. indirect_once first.freed.items one.freed.items two.freed.items object strips strip low apart below.frees (below.once apart) more.once;
-  uses = pointers_use_push (blocks_of first) (blocks_of one) (blocks_of two) indirects strip pointer long below.uses more.uses;
-  adds = adds_push (is_indirect_made object strips) (blocks_of first) (blocks_of one) (blocks_of two) indirects strip (is_indirect_made object strips strip) pointer long refl below.adds more.adds;
+  uses = pointers_use_push (new_blocks_of first) (new_blocks_of one) (new_blocks_of two) indirects strip pointer long below.uses more.uses;
+  adds = adds_push (is_indirect_made object strips) (new_blocks_of first) (new_blocks_of one) (new_blocks_of two) indirects strip (is_indirect_made object strips strip) pointer long refl below.adds more.adds;
 }
 
 -- What is told of strips by the pointers that were read and placed stands for each of them.

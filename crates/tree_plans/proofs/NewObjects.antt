@@ -23,8 +23,8 @@ use Rattle.tree_plans.specs.declared.changed_object.ChangedObject.{ChangedObject
 use Rattle.tree_plans.specs.declared.planner.Planner.{Planner}
 use Rattle.tree_plans.specs.Changes.{has_address, is_strip_dirty, is_strip_touched, may_have_blocks, state_at}
 use Rattle.tree_blocks.specs.Entries.{is_long_size}
-use Rattle.tree_plans.specs.Order.{Adds, address_if, addresses_of, addresses_where, strip_addresses}
-use Rattle.tree_plans.specs.Parts.{AreMet, IsMapRead, IsOfMade, MadeBy, PlansIndirects, PlansStrips, PlansTop, blocks_of, old_in}
+use Rattle.tree_plans.specs.Order.{Adds, address_if, new_addresses, addresses_where, strip_addresses}
+use Rattle.tree_plans.specs.Parts.{AreMet, IsMapRead, IsOfMade, MadeBy, PlansIndirects, PlansStrips, PlansTop, new_blocks_of, old_in}
 use Rattle.tree_plans.specs.Plans.{FreesFrom, FreesOnce, IsApart, IsObjectPlanned, IsOf, IsOfIndirect, IsOfMap, IsOfStrip, IsRecordPlanned, IsStripPlanned, IsTopPlanned, ObjectFrees, Progress, has_record_left, is_dirty_in, is_indirect_made, is_strip_left, is_strip_replaced, kept_state, progress_of, records_with, replaces, state_above, state_over_indirects, state_over_records, strip_state, top_state}
 use Rattle.tree_plans.specs.Pointers.{pointers_in, strip_with, strips_with}
 use Rattle.tree_blocks.specs.ReadPointers.{records_among}
@@ -438,8 +438,8 @@ module _ (free : FreeSpace) (object : ChangedObject) (read : IsMapRead object) (
         (once_wider p0.freed.items p1.freed.items (IsOfStrip object.is_long object.changes.now read_old pointer_count) (IsOfStrip object.is_long object.changes.now old pointer_count) strip_told (below.once (apart_read apart)))
         (once_wider p1.freed.items p2.freed.items (IsOfMade object strips pointer_count) (IsOfIndirect object.is_long object.changes.now old pointer_count) made_told (middle.once (apart_read apart))) above.once
 
-    pub object_is_used : ObjectUses (blocks_of p0) (blocks_of p3) now
-    object_is_used = object_uses (blocks_of p0) (blocks_of p1) (blocks_of p2) (blocks_of p3) strips indirects top now below.uses middle.uses above.uses
+    pub object_is_used : ObjectUses (new_blocks_of p0) (new_blocks_of p3) now
+    object_is_used = object_uses (new_blocks_of p0) (new_blocks_of p1) (new_blocks_of p2) (new_blocks_of p3) strips indirects top now below.uses middle.uses above.uses
         (λ j v low there k k_low. sym (with_there old j k v there) ∙ record_is j k low k_low) strip_is top_is
 
     -- the entry names its top or its first indirect block
@@ -454,10 +454,10 @@ module _ (free : FreeSpace) (object : ChangedObject) (read : IsMapRead object) (
     ]
 
     -- the addresses that were taken, in their order
-    pub object_adds : Adds (blocks_of p0) (blocks_of p3)
+    pub object_adds : Adds (new_blocks_of p0) (new_blocks_of p3)
         (strip_addresses (is_dirty_in object) now.record_at pointer_count ++ addresses_where (is_indirect_needed object.is_long object.changes.now old) now.strip pointer_count ++ address_if (is_top_needed object.is_long object.changes.now old) now.top)
-    object_adds = adds_twice (blocks_of p0) (blocks_of p2) (blocks_of p3) _ _ (adds_twice (blocks_of p0) (blocks_of p1) (blocks_of p2) _ _ below.adds middle.adds) above.adds
-        ∙ (λ x. addresses_of (blocks_of p0) ++ (strip_addresses_marked (is_dirty_in object) (records_with read_old strips) now.record_at pointer_count dirty_record x
+    object_adds = adds_twice (new_blocks_of p0) (new_blocks_of p2) (new_blocks_of p3) _ _ (adds_twice (new_blocks_of p0) (new_blocks_of p1) (new_blocks_of p2) _ _ below.adds middle.adds) above.adds
+        ∙ (λ x. new_addresses (new_blocks_of p0) ++ (strip_addresses_marked (is_dirty_in object) (records_with read_old strips) now.record_at pointer_count dirty_record x
         ++ (addresses_same (is_indirect_made object strips) (is_indirect_needed object.is_long object.changes.now old) (pointer_of_list indirects) pointer_count indirect_marks
         ∙ addresses_equal (is_indirect_needed object.is_long object.changes.now old) (pointer_of_list indirects) now.strip pointer_count strip_is) x
         ++ address_if (ap is_dirty top_state_is x) (top_is x)))

@@ -40,18 +40,18 @@ use Rattle.tree_plans.specs.Changes.{AreInRange, changes_of_group, has_address, 
 use Rattle.tree_plans.specs.declared.planner.PlannedBlock.{PlannedBlock}
 use Rattle.tree_plans.specs.Plans.{AreRecordsPlanned, HasBecome, Progress, address_of, has_record_left, is_strip_left, is_strip_replaced, kept_state, new_block, state_above, state_over_records, strip_state, top_state}
 use Rattle.tree_plans.specs.Walks.{has_object, has_objects, is_any_touched, is_directory_dirty, is_directory_replaced, is_directory_touched, root_state}
-use Rattle.tree_plans.specs.Order.{Adds, AreInOrder, address_if, addresses_of, addresses_where, all_addresses, object_addresses, strip_addresses}
+use Rattle.tree_plans.specs.Order.{Adds, AreInOrder, address_if, new_addresses, addresses_where, all_addresses, object_addresses, strip_addresses}
 use Rattle.tree_plans.proofs.Progress.{addresses-push, front_of, last_of}
 
 -- blocks that are added one after another
 pub adds_none : (s : List NewBlock) → Adds s s []
-adds_none s = sym (append-nil (addresses_of s))
+adds_none s = sym (append-nil (new_addresses s))
 
 pub adds_one : (s t : List NewBlock) (block : NewBlock) (at : ℕ) → t ≡ s ++ block ∷ [] → at ≡ block.address → Adds s t (at ∷ [])
-adds_one s t block at pushed here = ap addresses_of pushed ∙ addresses-push s block ∙ ap (λ (a : ℕ). addresses_of s ++ a ∷ []) (sym here)
+adds_one s t block at pushed here = ap new_addresses pushed ∙ addresses-push s block ∙ ap (λ (a : ℕ). new_addresses s ++ a ∷ []) (sym here)
 
 pub adds_twice : (r s t : List NewBlock) (xs ys : List ℕ) → Adds r s xs → Adds s t ys → Adds r t (xs ++ ys)
-adds_twice r s t xs ys one two = two ∙ ap (λ (l : List ℕ). l ++ ys) one ∙ append_assoc (addresses_of r) xs ys
+adds_twice r s t xs ys one two = two ∙ ap (λ (l : List ℕ). l ++ ys) one ∙ append_assoc (new_addresses r) xs ys
 
 pub adds_if : (s t : List NewBlock) (b : Bool) (p : Pointer) → b ≡ true → Adds s t (p.address ∷ []) → Adds s t (address_if b p)
 adds_if s t b p e one = rw e one
@@ -94,7 +94,7 @@ adds_push p first s t pointers i b new long is before more =
     let last : slice_index_or (pointers ++ new ∷ []) i no_pointer ≡ new = rw (← long) (last_of pointers new no_pointer) in
     let same : (r : ℕ) → r < i → slice_index_or pointers r no_pointer ≡ slice_index_or (pointers ++ new ∷ []) r no_pointer = λ r low. sym (front_of pointers new no_pointer r (omega (arith, long))) in
     adds_twice first s t _ _ before more
-    ∙ ap (λ (l : List ℕ). addresses_of first ++ l)
+    ∙ ap (λ (l : List ℕ). new_addresses first ++ l)
     (ap (λ (c : Bool). addresses_where p (λ r. slice_index_or pointers r no_pointer) i ++ address_if c new) is
     ∙ ap (λ (q : Pointer). addresses_where p (λ r. slice_index_or pointers r no_pointer) i ++ address_if (p i) q) (sym last)
     ∙ sym (addresses_more p _ _ i same))
@@ -302,7 +302,7 @@ pub object_added : (group : GroupChanges) (n : ℕ) (is_long : Bool) (changes : 
     → Adds s t (object_addresses group n o)
 unfolding object_addresses
 object_added group n is_long changes was new o s t there records indirects top added =
-    added ∙ ap (λ (l : List ℕ). addresses_of s ++ l)
+    added ∙ ap (λ (l : List ℕ). new_addresses s ++ l)
     ((λ x. strip_addresses_same (λ j k. is_dirty (kept_state is_long changes j k)) (is_record_written group n) new.record_at new.record_at pointer_count (λ j k low below. sym (records j k low below)) (λ j k low below. refl) x
     ++ addresses_where (λ j. sym (indirects j) x) new.strip pointer_count ++ address_if (sym top x) new.top)
     ∙ ap (λ (q : ObjectPointers). strip_addresses (is_record_written group n) q.record_at pointer_count ++ addresses_where (is_indirect_written group n) q.strip pointer_count ++ address_if (is_top_written group n) q.top) (sym there))
@@ -375,9 +375,9 @@ objects_added {X} g maps old new first s t done e fresh others before more =
     let F : List (ObjectId × ObjectEntry) → ℕ → List ℕ = λ planned n. object_addresses g n (planned_map maps planned n) in
     let same : (k : ℕ) → (e.0.0 == k) ≡ false → F old k ≡ F new k = λ k other. let h = others k other in rw h refl in
     adds_twice first s t _ _ before more
-    ∙ ap (λ (l : List ℕ). addresses_of first ++ (l ++ F new e.0.0)) (same_elsewhere (F old) (F new) e.0.0 done fresh same)
-    ∙ ap (λ (l : List ℕ). addresses_of first ++ (flat_map (λ (x : ObjectId × X). F new x.0.0) done ++ l)) (sym (append-nil (F new e.0.0)))
-    ∙ ap (λ (l : List ℕ). addresses_of first ++ l) (sym (flat_map-append (λ (x : ObjectId × X). F new x.0.0) done (e ∷ [])))
+    ∙ ap (λ (l : List ℕ). new_addresses first ++ (l ++ F new e.0.0)) (same_elsewhere (F old) (F new) e.0.0 done fresh same)
+    ∙ ap (λ (l : List ℕ). new_addresses first ++ (flat_map (λ (x : ObjectId × X). F new x.0.0) done ++ l)) (sym (append-nil (F new e.0.0)))
+    ∙ ap (λ (l : List ℕ). new_addresses first ++ l) (sym (flat_map-append (λ (x : ObjectId × X). F new x.0.0) done (e ∷ [])))
 
 -- entries with rising numbers, from low up to high
 abbrev pub IsRising : {X : Type 0} → ℕ → ℕ → List (ObjectId × X) → Type 0
@@ -452,8 +452,8 @@ module _ (R : ObjectId → ObjectId → Ordering) (less : (a b : ObjectId) → R
       → Adds s t (all_addresses g (planned_map maps planned) count)
   unfolding all_addresses
   all_added count g maps planned objects done s t whole sorted within nothing added =
-      added ∙ ap (λ (l : List (ObjectId × ObjectChanges)). addresses_of s ++ flat_map (λ (e : ObjectId × ObjectChanges). object_addresses g e.0.0 (planned_map maps planned e.0.0)) l) whole
-      ∙ ap (λ (l : List ℕ). addresses_of s ++ l) (all_numbers (λ n. object_addresses g n (planned_map maps planned n)) count 0 count objects (omega arith)
+      added ∙ ap (λ (l : List (ObjectId × ObjectChanges)). new_addresses s ++ flat_map (λ (e : ObjectId × ObjectChanges). object_addresses g e.0.0 (planned_map maps planned e.0.0)) l) whole
+      ∙ ap (λ (l : List ℕ). new_addresses s ++ l) (all_numbers (λ n. object_addresses g n (planned_map maps planned n)) count 0 count objects (omega arith)
       (rising_of 0 count objects (all_from_none (keys_of objects)) sorted within)
       (λ n low absent. nothing n absent))
 
@@ -612,19 +612,19 @@ module _ (objects : List (ObjectId × ObjectChanges)) (pointers : Place → Poin
   pub tree_in_order : (maps : ℕ → ObjectPointers) (planned : List (ObjectId × ObjectEntry)) (directories : List Pointer) (root : Pointer) (first one two three : List NewBlock)
       → first ≡ [] → AreInRange objects after → Adds first one (all_addresses whole_group (planned_map maps planned) 5292)
       → Adds one two (addresses_where (is_directory_dirty objects after) (λ d. slice_index_or directories d no_pointer) 84) → Adds two three (address_if (is_dirty (root_state objects after)) root)
-      → AreInOrder (addresses_of three) (pointers_by root directories (planned_map maps planned)) whole_group
+      → AreInOrder (new_addresses three) (pointers_by root directories (planned_map maps planned)) whole_group
   unfolding AreInOrder addresses_where
   tree_in_order maps planned directories root first one two three none within a b c =
       let of : List ℕ → List ℕ = λ l. map (λ d. (slice_index_or directories d no_pointer).address) l in
       let all : List ℕ = all_addresses whole_group (planned_map maps planned) 5292 in
       adds_twice first two three _ _ (adds_twice first one two _ _ a b) c
-      ∙ ap (λ (l : List NewBlock). addresses_of l ++ (all ++ of (filter (is_directory_dirty objects after) (range_with_len 0 84)) ++ address_if (is_dirty (root_state objects after)) root)) none
+      ∙ ap (λ (l : List NewBlock). new_addresses l ++ (all ++ of (filter (is_directory_dirty objects after) (range_with_len 0 84)) ++ address_if (is_dirty (root_state objects after)) root)) none
       ∙ ap (λ (l : List ℕ). all ++ of l ++ address_if (is_dirty (root_state objects after)) root) (sym written-directories)
       ∙ ap (λ (t : Bool). all ++ of (filter (is_directory_written whole_group) (range_with_len 0 84)) ++ address_if t root) (sym (root-written within))
       ∙ sym (of_all root directories (planned_map maps planned) whole_group (is_directory_written whole_group) 5292 84 (is_root_written whole_group) (omega arith))
 
 -- told of the blocks as they are planned
-pub planned_in_order : (blocks : List PlannedBlock) (pointers : Place → Pointer) (group : GroupChanges) → AreInOrder (addresses_of (map new_block blocks)) pointers group
+pub planned_in_order : (blocks : List PlannedBlock) (pointers : Place → Pointer) (group : GroupChanges) → AreInOrder (new_addresses (map new_block blocks)) pointers group
     → map address_of blocks ≡ map (λ (place : Place). (pointers place).address) (written_by group)
 unfolding AreInOrder
 planned_in_order blocks pointers group in_order = sym (map-map (λ (b : NewBlock). b.address) new_block blocks) ∙ in_order

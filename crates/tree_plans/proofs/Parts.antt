@@ -18,7 +18,7 @@ use Rattle.tree_plans.specs.declared.planner.PlannedBlock.{PlannedBlock}
 use Rattle.tree_plans.specs.declared.planner.Planner.{Planner}
 use Rattle.tree_plans.specs.Order.{Adds, address_if}
 use Rattle.tree_plans.specs.Pointers.{entry_pointer_of}
-use Rattle.tree_plans.specs.Parts.{ClearsPlace, ExtendsPlan, PlansDirectory, PlansIndirect, PlansRecord, PlansRoot, PlansTop, TakesBlock, blocks_of, directory_before}
+use Rattle.tree_plans.specs.Parts.{ClearsPlace, ExtendsPlan, PlansDirectory, PlansIndirect, PlansRecord, PlansRoot, PlansTop, TakesBlock, new_blocks_of, directory_before}
 use Rattle.tree_plans.specs.Plans.{FreesOnce, FreesOnly, HasBecome, IsOf, IsOfPlace, PlaceFrees, new_block, progress_of, state_above, state_over_indirects, state_over_records}
 use Rattle.tree_blocks.specs.BlockPlaces.{place_of}
 use Rattle.tree_plans.specs.Walks.{AreEntriesWritten, has_object, has_objects, is_any_touched, root_state}
@@ -40,8 +40,8 @@ pub record IsDone (free : FreeSpace) (place : BlockPlace) (state : RecordState) 
   pub planned : HasBecome (progress_of new) (place_of place) state was pointer Fits
   pub frees : PlaceFrees old.freed.items new.freed.items state was
   pub once : FreesOnce old.freed.items new.freed.items (IsOfPlace state was)
-  pub uses : UsesOnly (blocks_of old) (blocks_of new) pointer.address
-  pub adds : Adds (blocks_of old) (blocks_of new) (address_if (is_dirty state) pointer)
+  pub uses : UsesOnly (new_blocks_of old) (new_blocks_of new) pointer.address
+  pub adds : Adds (new_blocks_of old) (new_blocks_of new) (address_if (is_dirty state) pointer)
 
 -- it stays as it was
 pub kept : (free : FreeSpace) (place : BlockPlace) (state : RecordState) (was : Pointer) (Fits : List ℕ → Type 0) → state ≡ Unchanged → (planner : Planner) → IsDone free place state was Fits planner planner was
@@ -58,14 +58,14 @@ kept free place state was Fits is planner = record {
 pub cleared : (free : FreeSpace) (place : BlockPlace) (state : RecordState) (was : Pointer) (Fits : List ℕ → Type 0) → state ≡ Hole → (old new : Planner) (pointer : Pointer) → ClearsPlace was old new pointer
     → IsDone free place state was Fits old new pointer
 cleared free place state was Fits is old new pointer done =
-    let same : blocks_of new ≡ blocks_of old = ap (λ (l : List PlannedBlock). map new_block l) (ap (λ b. b.items) done.none_taken) in
+    let same : new_blocks_of new ≡ new_blocks_of old = ap (λ (l : List PlannedBlock). map new_block l) (ap (λ b. b.items) done.none_taken) in
     record {
       goes = done.goes free;
       planned = rw is done.cleared;
       frees = frees_weaker _ _ _ state (rw is refl) done.frees;
       once = λ fresh. done.once (λ address of. fresh address (rw is refl, of));
       uses = λ address taken. inl (rw same at taken);
-      adds = rw (is, same) (adds_none (blocks_of old));
+      adds = rw (is, same) (adds_none (new_blocks_of old));
     }
 
 -- it has a new block

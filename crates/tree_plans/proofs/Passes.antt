@@ -17,7 +17,7 @@ use Rattle.tree_plans.specs.declared.plan_source.PlanSource.{PlanSource}
 use Rattle.tree_plans.specs.declared.planner.Planner.{Planner}
 use Rattle.tree_plans.specs.Changes.{AreInRange, has_two_levels}
 use Rattle.tree_plans.specs.Order.{Adds, address_if, addresses_where, strip_addresses}
-use Rattle.tree_plans.specs.Parts.{GoesOver, IsMapReadOf, IsReadAsNeeded, PlansObject, blocks_of, group_in}
+use Rattle.tree_plans.specs.Parts.{GoesOver, IsMapReadOf, IsReadAsNeeded, PlansObject, new_blocks_of, group_in}
 use Rattle.tree_plans.specs.Plans.{FreesOnce, IsApart, IsObjectPlanned, IsOfMap, ObjectFrees, kept_state, progress_of, strip_state, top_state}
 use Rattle.tree_plans.specs.Pointers.{IsPut, entry_of, entry_strips, maps_before, old_tree, pointers_before, pointers_in, told_strips}
 use Rattle.tree_plans.specs.Room.{needed_blocks, object_blocks}
@@ -72,9 +72,9 @@ module _ (source : PlanSource) (after : FinMap nat_cmp (List ℕ)) (object : Cha
     frees = λ objects first is below. objects_free_put first p.freed.items q.freed.items (maps_before source) after objects old new object.id changes was e put low is was_is frees below;
     once = λ objects first is none apart below one.
         objects_once_put (old_tree source) first p.freed.items q.freed.items after objects old new object.id changes was e put low is was_is none apart below one once;
-    uses = λ first none below. objects_use_put first (blocks_of p) (blocks_of q) old new object.id e put none low done.uses below;
+    uses = λ first none below. objects_use_put first (new_blocks_of p) (new_blocks_of q) old new object.id e put none low done.uses below;
     others = others_put old new object.id e put;
-    adds = λ objects is below within. object_added (group_in source after objects) n (has_two_levels (finite.get after n)) changes was (pointers_of_entry e) _ (blocks_of p) (blocks_of q) (map_put (maps_before source) old new object.id e put)
+    adds = λ objects is below within. object_added (group_in source after objects) n (has_two_levels (finite.get after n)) changes was (pointers_of_entry e) _ (new_blocks_of p) (new_blocks_of q) (map_put (maps_before source) old new object.id e put)
         (entry-written objects (pointers_before source) after n within low changes is)
         (entry-indirect objects (pointers_before source) after n changes was is (data_before (old_tree source) n was low was_is))
         (entry-top objects (pointers_before source) after n changes was is (data_before (old_tree source) n was low was_is) (strip_before (old_tree source) n was low was_is)) adds;
@@ -93,7 +93,7 @@ module _ (source : PlanSource) (after : FinMap nat_cmp (List ℕ)) (object : Cha
       once = subst (λ (b : Bool). IsApart was → FreesOnce p.freed.items q.freed.items (IsOfMap b changes was)) levels done.once
 
       Added : Bool → Type 0
-      Added b = Adds (blocks_of p) (blocks_of q) (strip_addresses (λ j k. is_dirty (kept_state b changes j k)) (pointers_of_entry e).record_at pointer_count
+      Added b = Adds (new_blocks_of p) (new_blocks_of q) (strip_addresses (λ j k. is_dirty (kept_state b changes j k)) (pointers_of_entry e).record_at pointer_count
           ++ addresses_where (λ j. is_dirty (strip_state b changes was j)) (pointers_of_entry e).strip pointer_count ++ address_if (is_dirty (top_state b changes was)) (pointers_of_entry e).top)
 
       adds : Added (has_two_levels (finite.get after n))

@@ -35,7 +35,7 @@ use Rattle.tree_plans.specs.Pointers.{entry_of, planned_map}
 use Rattle.tree_plans.specs.Changes.{AreInRange, changes_of_group}
 use Rattle.tree_plans.specs.Plans.{Goes, Progress, is_dirty_in}
 use Rattle.tree_plans.specs.Walks.{is_directory_dirty, root_state}
-use Rattle.tree_plans.specs.Order.{Adds, address_if, addresses_of, addresses_where, all_addresses, object_addresses, strip_addresses}
+use Rattle.tree_plans.specs.Order.{Adds, address_if, new_addresses, addresses_where, all_addresses, object_addresses, strip_addresses}
 use Rattle.tree_plans.specs.Room.{Lacks, all_blocks, count_if, count_where, is_indirect_needed, is_top_needed, needed_blocks, object_blocks, record_blocks, written_blocks}
 use Rattle.tree_plans.proofs.Order.{absent-indirect_written, absent-top, absent-written, adds_twice, addresses_more, all_from_none, all_numbers, none_passes, rising_of, root-written, same_filter, strip_addresses_more, strip_addresses_same, written-directories}
 use Rattle.tree_plans.proofs.Progress.{goes_twice}
@@ -43,7 +43,7 @@ use Rattle.tree_plans.proofs.Progress.{goes_twice}
 -- no free block is left for the next one
 pub lacks_one : (free : FinSet nat_cmp) (s : Progress) → free_from s.next free ≡ [] → Lacks free s 1
 lacks_one free s none taken =
-    let addresses : List ℕ = addresses_of s.blocks in
+    let addresses : List ℕ = new_addresses s.blocks in
     let all : length (rising free) ≡ length addresses =
     ap (λ (l : List ℕ). length l) (sym taken) ∙ ap (λ (l : List ℕ). length (addresses ++ l)) none ∙ ap (λ (l : List ℕ). length l) (append-nil addresses) in
     let each : length addresses ≡ length s.blocks = length-map s.blocks (λ (b : NewBlock). b.address) in
@@ -56,9 +56,9 @@ lacks_more free s few many more lacks taken = let h = lacks taken in omega (arit
 pub lacks_behind : (free : FinSet nat_cmp) (s t : Progress) (added : List ℕ) (count all : ℕ) → Goes free s t → Adds s.blocks t.blocks added → length added + count ≤ all → Lacks free t count → Lacks free s all
 lacks_behind free s t added count all goes adds fits lacks taken =
     let h = lacks (goes.taken taken) in
-    let old : length (addresses_of s.blocks) ≡ length s.blocks = length-map s.blocks (λ (b : NewBlock). b.address) in
-    let new : length (addresses_of t.blocks) ≡ length t.blocks = length-map t.blocks (λ (b : NewBlock). b.address) in
-    let sum : length (addresses_of t.blocks) ≡ length (addresses_of s.blocks) + length added = ap (λ (l : List ℕ). length l) adds ∙ length-append (addresses_of s.blocks) added in
+    let old : length (new_addresses s.blocks) ≡ length s.blocks = length-map s.blocks (λ (b : NewBlock). b.address) in
+    let new : length (new_addresses t.blocks) ≡ length t.blocks = length-map t.blocks (λ (b : NewBlock). b.address) in
+    let sum : length (new_addresses t.blocks) ≡ length (new_addresses s.blocks) + length added = ap (λ (l : List ℕ). length l) adds ∙ length-append (new_addresses s.blocks) added in
     omega (arith, h, old, new, sum, fits)
 
 -- numbers that are marked
@@ -298,15 +298,15 @@ module _ (free : FinSet nat_cmp) (objects : List (ObjectId × ObjectChanges)) (p
       (goes_twice goes goes_on) (adds_twice r.blocks s.blocks t.blocks _ _ adds adds_more) (omega (arith, sum, first, second, counted)) lacks
 
 -- a plan begins with no block
-lacks_in_all : (free : FinSet nat_cmp) (next : ℕ) (blocks : List NewBlock) (count : ℕ) → next ≡ 0 → blocks ≡ [] → (addresses_of blocks ++ free_from next free ≡ rising free → length (rising free) < length blocks + count)
+lacks_in_all : (free : FinSet nat_cmp) (next : ℕ) (blocks : List NewBlock) (count : ℕ) → next ≡ 0 → blocks ≡ [] → (new_addresses blocks ++ free_from next free ≡ rising free → length (rising free) < length blocks + count)
     → length (rising free) < count
 lacks_in_all free next blocks count at_first none lacks =
-    let h = lacks (ap (λ (l : List NewBlock). addresses_of l ++ free_from next free) none ∙ ap (λ (k : ℕ). free_from k free) at_first ∙ free_from-0 free) in
+    let h = lacks (ap (λ (l : List NewBlock). new_addresses l ++ free_from next free) none ∙ ap (λ (k : ℕ). free_from k free) at_first ∙ free_from-0 free) in
     let no_blocks : length blocks ≡ 0 = ap (λ (l : List NewBlock). length l) none in
     omega (arith, h, no_blocks)
 
 pub plan_lacks : (free : FinSet nat_cmp) (next : ℕ) (blocks : List NewBlock) (g : GroupChanges) → next ≡ 0 → blocks ≡ []
-    → (addresses_of blocks ++ free_from next free ≡ rising free → length (rising free) < length blocks + written_blocks g)
+    → (new_addresses blocks ++ free_from next free ≡ rising free → length (rising free) < length blocks + written_blocks g)
     → length (rising free) < length (written_by g)
 unfolding written_blocks
 plan_lacks free next blocks g at_first none lacks = lacks_in_all free next blocks _ at_first none lacks

@@ -8,12 +8,12 @@ use Rattle.base.specs.kept.PlannedTrees.{NewBlock}
 use Rattle.base.specs.tree.Syncs.{GroupChanges, is_indirect_written, is_record_written, is_top_written, written_by}
 use Rattle.tree_blocks.specs.Pointers.{ObjectPointers}
 
-abbrev pub addresses_of : List NewBlock → List ℕ
-addresses_of blocks = map (λ (b : NewBlock). b.address) blocks
+abbrev pub new_addresses : List NewBlock → List ℕ
+new_addresses blocks = map (λ (b : NewBlock). b.address) blocks
 
 -- blocks after a step of a plan: those before it, and after them blocks with these addresses
 abbrev pub Adds : List NewBlock → List NewBlock → List ℕ → Type 0
-Adds old new added = addresses_of new ≡ addresses_of old ++ added
+Adds old new added = new_addresses new ≡ new_addresses old ++ added
 
 -- the address of a block that is there if a test holds
 abbrev pub address_if : Bool → Pointer → List ℕ

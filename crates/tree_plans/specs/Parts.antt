@@ -35,7 +35,7 @@ use Rattle.tree_plans.specs.Plans.{AreRecordsPlanned, AreStripsPlanned, AreApart
 use Rattle.tree_blocks.specs.BlockPlaces.{place_of}
 use Rattle.tree_plans.specs.Walks.{AreDirectoriesPlanned, AreObjectsPlanned, DirectoriesFree, IsDirectoryPlanned, IsOfDirectory, IsOfObject, IsRootPlanned, IsWalked, ObjectsFree, is_directory_dirty, has_object, root_state}
 use Rattle.tree_plans.specs.Uses.{ObjectUses, ObjectsUse, PointersUse, StripsUse, UsesOnly}
-use Rattle.tree_plans.specs.Order.{Adds, AreInOrder, address_if, addresses_of, addresses_where, all_addresses, object_addresses, strip_addresses}
+use Rattle.tree_plans.specs.Order.{Adds, AreInOrder, address_if, new_addresses, addresses_where, all_addresses, object_addresses, strip_addresses}
 use Rattle.tree_plans.specs.Room.{Lacks, is_indirect_needed, is_top_needed}
 
 -- and so of each of these objects that has a place in the tree
@@ -74,8 +74,8 @@ abbrev pub old_in : ChangedObject → ObjectPointers
 old_in object = pointers_in [] object.old.now
 
 -- the new blocks of a plan so far
-abbrev pub blocks_of : Planner → List NewBlock
-blocks_of p = map new_block p.blocks.items
+abbrev pub new_blocks_of : Planner → List NewBlock
+new_blocks_of p = map new_block p.blocks.items
 
 -- what every part keeps: it takes the lowest free blocks, and what the plan has stays
 abbrev pub ExtendsPlan : FreeSpace → Planner → Planner → Type 0
@@ -99,8 +99,8 @@ pub record TakesBlock (free : FreeSpace) (place : BlockPlace) (payload : List �
   pub written : IsWritten (progress_of new) (place_of place) replaced pointer (padded payload)
   pub frees : FreesOnly old.freed.items new.freed.items replaced
   pub once : FreesOnce old.freed.items new.freed.items (IsOf replaced)
-  pub uses : UsesOnly (blocks_of old) (blocks_of new) pointer.address
-  pub adds : Adds (blocks_of old) (blocks_of new) (pointer.address ∷ [])
+  pub uses : UsesOnly (new_blocks_of old) (new_blocks_of new) pointer.address
+  pub adds : Adds (new_blocks_of old) (new_blocks_of new) (pointer.address ∷ [])
 
 -- a place has no block any more: none is taken, and the one that it had comes back
 pub record ClearsPlace (replaced : Pointer) (old new : Planner) (pointer : Pointer) : Type 0 where
@@ -116,8 +116,8 @@ pub record PlansRecord (free : FreeSpace) (place : RecordPlace) (bytes : List �
   pub planned : IsRecordPlanned (progress_of new) place.id.0 place.strip place.index bytes state was pointer
   pub frees : PlaceFrees old.freed.items new.freed.items state was
   pub once : FreesOnce old.freed.items new.freed.items (IsOfPlace state was)
-  pub uses : UsesOnly (blocks_of old) (blocks_of new) pointer.address
-  pub adds : Adds (blocks_of old) (blocks_of new) (address_if (is_dirty state) pointer)
+  pub uses : UsesOnly (new_blocks_of old) (new_blocks_of new) pointer.address
+  pub adds : Adds (new_blocks_of old) (new_blocks_of new) (address_if (is_dirty state) pointer)
 
 -- the records of a strip, rising
 pub record PlansRecords (free : FreeSpace) (object : ChangedObject) (bytes : List ℕ) (strip : ℕ) (old new : Planner) (records : List Pointer) : Type 0 where
@@ -125,8 +125,8 @@ pub record PlansRecords (free : FreeSpace) (object : ChangedObject) (bytes : Lis
   pub planned : AreRecordsPlanned (progress_of new) object.id.0 strip bytes object.is_long object.changes.now ((old_in object).record_at strip) pointer_count (pointer_of_list records)
   pub frees : FreesFrom old.freed.items new.freed.items (IsOfRecord object.is_long object.changes.now (old_in object) strip pointer_count)
   pub once : IsApart (old_in object) → FreesOnce old.freed.items new.freed.items (IsOfRecord object.is_long object.changes.now (old_in object) strip pointer_count)
-  pub uses : PointersUse (blocks_of old) (blocks_of new) (pointer_of_list records) pointer_count
-  pub adds : Adds (blocks_of old) (blocks_of new) (addresses_where (is_dirty_in object strip) (pointer_of_list records) pointer_count)
+  pub uses : PointersUse (new_blocks_of old) (new_blocks_of new) (pointer_of_list records) pointer_count
+  pub adds : Adds (new_blocks_of old) (new_blocks_of new) (addresses_where (is_dirty_in object strip) (pointer_of_list records) pointer_count)
 
 -- the records of the first strips of an object, rising
 pub record PlansStripsBelow (free : FreeSpace) (object : ChangedObject) (bytes : List ℕ) (count : ℕ) (old new : Planner) (strips : List (ℕ × Vec Pointer)) : Type 0 where
@@ -134,8 +134,8 @@ pub record PlansStripsBelow (free : FreeSpace) (object : ChangedObject) (bytes :
   pub planned : AreStripsPlanned (progress_of new) object.id.0 bytes object.is_long object.changes.now (old_in object) count (records_with (old_in object) strips)
   pub frees : FreesFrom old.freed.items new.freed.items (IsOfStrip object.is_long object.changes.now (old_in object) count)
   pub once : IsApart (old_in object) → FreesOnce old.freed.items new.freed.items (IsOfStrip object.is_long object.changes.now (old_in object) count)
-  pub uses : StripsUse (blocks_of old) (blocks_of new) strips count
-  pub adds : Adds (blocks_of old) (blocks_of new) (strip_addresses (is_dirty_in object) (records_with (old_in object) strips) count)
+  pub uses : StripsUse (new_blocks_of old) (new_blocks_of new) strips count
+  pub adds : Adds (new_blocks_of old) (new_blocks_of new) (strip_addresses (is_dirty_in object) (records_with (old_in object) strips) count)
 
 abbrev pub PlansStrips : FreeSpace → ChangedObject → List ℕ → Planner → Planner → List (ℕ × Vec Pointer) → Type 0
 PlansStrips free object bytes old new strips = PlansStripsBelow free object bytes pointer_count old new strips
@@ -151,8 +151,8 @@ pub record PlansIndirect (free : FreeSpace) (object : ChangedObject) (strip : �
   pub planned : IsStripPlanned (progress_of new) object.id.0 strip (pointer_of_list records) (state_over_records object strip records) was pointer
   pub frees : PlaceFrees old.freed.items new.freed.items (state_over_records object strip records) was
   pub once : FreesOnce old.freed.items new.freed.items (IsOfPlace (state_over_records object strip records) was)
-  pub uses : UsesOnly (blocks_of old) (blocks_of new) pointer.address
-  pub adds : Adds (blocks_of old) (blocks_of new) (address_if (is_dirty (state_over_records object strip records)) pointer)
+  pub uses : UsesOnly (new_blocks_of old) (new_blocks_of new) pointer.address
+  pub adds : Adds (new_blocks_of old) (new_blocks_of new) (address_if (is_dirty (state_over_records object strip records)) pointer)
 
 -- what becomes of the indirect block of a strip that the plan doesn't go over, and of one that it does, over its
 -- records
@@ -181,8 +181,8 @@ pub record PlansMet (free : FreeSpace) (object : ChangedObject) (strip : ℕ) (s
   pub planned : IsIndirectMade new object strips strip pointer
   pub frees : FreesFrom old.freed.items new.freed.items (IsOfMadeAt object strips strip)
   pub once : FreesOnce old.freed.items new.freed.items (IsOfMadeAt object strips strip)
-  pub uses : UsesOnly (blocks_of old) (blocks_of new) pointer.address
-  pub adds : Adds (blocks_of old) (blocks_of new) (address_if (is_indirect_made object strips strip) pointer)
+  pub uses : UsesOnly (new_blocks_of old) (new_blocks_of new) pointer.address
+  pub adds : Adds (new_blocks_of old) (new_blocks_of new) (address_if (is_indirect_made object strips strip) pointer)
 
 -- the indirect blocks of the first strips of an object, rising, over these records
 pub record PlansIndirectsBelow (free : FreeSpace) (object : ChangedObject) (strips : List (ℕ × Vec Pointer)) (count : ℕ) (old new : Planner) (indirects : List Pointer) : Type 0 where
@@ -190,8 +190,8 @@ pub record PlansIndirectsBelow (free : FreeSpace) (object : ChangedObject) (stri
   pub planned : (j : ℕ) → j < count → IsIndirectMade new object strips j (pointer_of_list indirects j)
   pub frees : FreesFrom old.freed.items new.freed.items (IsOfMade object strips count)
   pub once : IsApart (old_in object) → FreesOnce old.freed.items new.freed.items (IsOfMade object strips count)
-  pub uses : PointersUse (blocks_of old) (blocks_of new) (pointer_of_list indirects) count
-  pub adds : Adds (blocks_of old) (blocks_of new) (addresses_where (is_indirect_made object strips) (pointer_of_list indirects) count)
+  pub uses : PointersUse (new_blocks_of old) (new_blocks_of new) (pointer_of_list indirects) count
+  pub adds : Adds (new_blocks_of old) (new_blocks_of new) (addresses_where (is_indirect_made object strips) (pointer_of_list indirects) count)
 
 abbrev pub PlansIndirects : FreeSpace → ChangedObject → List (ℕ × Vec Pointer) → Planner → Planner → List Pointer → Type 0
 PlansIndirects free object strips old new indirects = PlansIndirectsBelow free object strips pointer_count old new indirects
@@ -202,8 +202,8 @@ pub record PlansTop (free : FreeSpace) (object : ChangedObject) (indirects : Lis
   pub planned : IsTopPlanned (progress_of new) object.id.0 (pointer_of_list indirects) (state_over_indirects object indirects) (old_in object).top pointer
   pub frees : FreesOnly old.freed.items new.freed.items (old_in object).top
   pub once : FreesOnce old.freed.items new.freed.items (IsOf (old_in object).top)
-  pub uses : UsesOnly (blocks_of old) (blocks_of new) pointer.address
-  pub adds : Adds (blocks_of old) (blocks_of new) (address_if (is_dirty (state_over_indirects object indirects)) pointer)
+  pub uses : UsesOnly (new_blocks_of old) (new_blocks_of new) pointer.address
+  pub adds : Adds (new_blocks_of old) (new_blocks_of new) (address_if (is_dirty (state_over_indirects object indirects)) pointer)
 
 -- an object: its records, then its indirect blocks, and then its top. Its pointers were as these told ones say, where
 -- they weren't read.
@@ -213,8 +213,8 @@ pub record PlansObject (free : FreeSpace) (object : ChangedObject) (after : Opti
   pub named : entry.pointer ≡ (if object.is_long then (pointers_of_entry entry).top else (pointers_of_entry entry).strip 0)
   pub frees : ObjectFrees old.freed.items new.freed.items object.is_long object.changes.now (pointers_in told object.old.now)
   pub once : IsApart (pointers_in told object.old.now) → FreesOnce old.freed.items new.freed.items (IsOfMap object.is_long object.changes.now (pointers_in told object.old.now))
-  pub uses : ObjectUses (blocks_of old) (blocks_of new) (pointers_of_entry entry)
-  pub adds : Adds (blocks_of old) (blocks_of new)
+  pub uses : ObjectUses (new_blocks_of old) (new_blocks_of new) (pointers_of_entry entry)
+  pub adds : Adds (new_blocks_of old) (new_blocks_of new)
       (strip_addresses (is_dirty_in object) (pointers_of_entry entry).record_at pointer_count
       ++ addresses_where (is_indirect_needed object.is_long object.changes.now (pointers_in told object.old.now)) (pointers_of_entry entry).strip pointer_count
       ++ address_if (is_top_needed object.is_long object.changes.now (pointers_in told object.old.now)) (pointers_of_entry entry).top)
@@ -233,10 +233,10 @@ pub record GoesOver (source : PlanSource) (after : FinMap nat_cmp (List ℕ)) (i
       → ObjectsFree first old.freed.items (maps_before source) after objects entries
       → FreesOnce first old.freed.items (IsOfObject (maps_before source) after objects entries)
       → FreesOnce first new.freed.items (IsOfObject (maps_before source) after objects planned_entries)
-  pub uses : (first : List NewBlock) → entry_of entries id.0 ≡ None → ObjectsUse first (blocks_of old) entries → ObjectsUse first (blocks_of new) planned_entries
+  pub uses : (first : List NewBlock) → entry_of entries id.0 ≡ None → ObjectsUse first (new_blocks_of old) entries → ObjectsUse first (new_blocks_of new) planned_entries
   pub others : (n : ℕ) → (id.0 == n) ≡ false → entry_of planned_entries n ≡ entry_of entries n
   pub adds : (objects : List (ObjectId × ObjectChanges)) → entry_of objects id.0 ≡ Some changes → id.0 < object_count → AreInRange objects after
-      → Adds (blocks_of old) (blocks_of new) (object_addresses (group_in source after objects) id.0 (planned_map (maps_before source) planned_entries id.0))
+      → Adds (new_blocks_of old) (new_blocks_of new) (object_addresses (group_in source after objects) id.0 (planned_map (maps_before source) planned_entries id.0))
 
 -- the objects that operations are on, rising
 pub record PlansObjects (source : PlanSource) (after : FinMap nat_cmp (List ℕ)) (objects : BTreeMap ObjectId ObjectChanges) (old new : Planner) (entries : BTreeMap ObjectId ObjectEntry) : Type 0 where
@@ -245,8 +245,8 @@ pub record PlansObjects (source : PlanSource) (after : FinMap nat_cmp (List ℕ)
   pub frees : ObjectsFree old.freed.items new.freed.items (maps_before source) after objects.entries entries.entries
   pub once : AreApart (pointers_before source)
       → FreesOnce old.freed.items new.freed.items (IsOfObject (maps_before source) after objects.entries entries.entries)
-  pub uses : ObjectsUse (blocks_of old) (blocks_of new) entries.entries
-  pub adds : AreInRange objects.entries after → Adds (blocks_of old) (blocks_of new) (all_addresses (group_in source after objects.entries) (planned_map (maps_before source) entries.entries) object_count)
+  pub uses : ObjectsUse (new_blocks_of old) (new_blocks_of new) entries.entries
+  pub adds : AreInRange objects.entries after → Adds (new_blocks_of old) (new_blocks_of new) (all_addresses (group_in source after objects.entries) (planned_map (maps_before source) entries.entries) object_count)
 
 -- a directory: it takes a block if something of it changes and an object of it is there
 pub record PlansDirectory (source : PlanSource) (after : FinMap nat_cmp (List ℕ)) (entries : BTreeMap ObjectId ObjectEntry) (index : ℕ) (touched : Bool) (old new : Planner) (pointer : Pointer) : Type 0 where
@@ -255,8 +255,8 @@ pub record PlansDirectory (source : PlanSource) (after : FinMap nat_cmp (List �
       (state_above touched (has_object after index)) (directory_before source index) pointer
   pub frees : PlaceFrees old.freed.items new.freed.items (state_above touched (has_object after index)) (directory_before source index)
   pub once : FreesOnce old.freed.items new.freed.items (IsOfPlace (state_above touched (has_object after index)) (directory_before source index))
-  pub uses : UsesOnly (blocks_of old) (blocks_of new) pointer.address
-  pub adds : Adds (blocks_of old) (blocks_of new) (address_if (is_dirty (state_above touched (has_object after index))) pointer)
+  pub uses : UsesOnly (new_blocks_of old) (new_blocks_of new) pointer.address
+  pub adds : Adds (new_blocks_of old) (new_blocks_of new) (address_if (is_dirty (state_above touched (has_object after index))) pointer)
 
 -- all directories, rising
 pub record PlansDirectories (source : PlanSource) (after : FinMap nat_cmp (List ℕ)) (objects : BTreeMap ObjectId ObjectChanges) (entries : BTreeMap ObjectId ObjectEntry) (old new : Planner) (directories : List Pointer) : Type 0 where
@@ -265,8 +265,8 @@ pub record PlansDirectories (source : PlanSource) (after : FinMap nat_cmp (List 
   pub frees : DirectoriesFree old.freed.items new.freed.items objects.entries after source.tree.now.directories.items pointer_count
   pub once : AreApart (pointers_before source)
       → FreesOnce old.freed.items new.freed.items (IsOfDirectory objects.entries after source.tree.now.directories.items pointer_count)
-  pub uses : PointersUse (blocks_of old) (blocks_of new) (pointer_of_list directories) pointer_count
-  pub adds : Adds (blocks_of old) (blocks_of new) (addresses_where (is_directory_dirty objects.entries after) (pointer_of_list directories) pointer_count)
+  pub uses : PointersUse (new_blocks_of old) (new_blocks_of new) (pointer_of_list directories) pointer_count
+  pub adds : Adds (new_blocks_of old) (new_blocks_of new) (addresses_where (is_directory_dirty objects.entries after) (pointer_of_list directories) pointer_count)
 
 -- the root: it takes a block if an operation is on an object and some object is there
 pub record PlansRoot (source : PlanSource) (after : FinMap nat_cmp (List ℕ)) (objects : BTreeMap ObjectId ObjectChanges) (directories : List Pointer) (old new : Planner) (root : Pointer) : Type 0 where
@@ -274,8 +274,8 @@ pub record PlansRoot (source : PlanSource) (after : FinMap nat_cmp (List ℕ)) (
   pub planned : IsRootPlanned (progress_of new) directories (root_state objects.entries after) source.tree.now.root root
   pub frees : PlaceFrees old.freed.items new.freed.items (root_state objects.entries after) source.tree.now.root
   pub once : FreesOnce old.freed.items new.freed.items (IsOfPlace (root_state objects.entries after) source.tree.now.root)
-  pub uses : UsesOnly (blocks_of old) (blocks_of new) root.address
-  pub adds : Adds (blocks_of old) (blocks_of new) (address_if (is_dirty (root_state objects.entries after)) root)
+  pub uses : UsesOnly (new_blocks_of old) (new_blocks_of new) root.address
+  pub adds : Adds (new_blocks_of old) (new_blocks_of new) (address_if (is_dirty (root_state objects.entries after)) root)
 
 -- a plan that has nothing yet
 pub record HasNothing (planner : Planner) : Type 0 where
@@ -287,6 +287,6 @@ pub record PlansTree (source : PlanSource) (after : FinMap nat_cmp (List ℕ)) (
   pub goes : ExtendsPlan source.free.now old new
   pub count : vec_len tree.directories ≡ pointer_count
   pub walked : IsWalked (progress_of new) (old_tree source) after objects.entries tree.entries.entries tree.directories.items tree.root
-  pub used : AreUsed (blocks_of new) (pointers_by tree.root tree.directories.items (planned_map (maps_before source) tree.entries.entries))
+  pub used : AreUsed (new_blocks_of new) (pointers_by tree.root tree.directories.items (planned_map (maps_before source) tree.entries.entries))
   pub once : AreApart (pointers_before source) → IsDistinct nat_eq new.freed.items
-  pub order : AreInRange objects.entries after → AreInOrder (addresses_of (blocks_of new)) (pointers_by tree.root tree.directories.items (planned_map (maps_before source) tree.entries.entries)) (group_in source after objects.entries)
+  pub order : AreInRange objects.entries after → AreInOrder (new_addresses (new_blocks_of new)) (pointers_by tree.root tree.directories.items (planned_map (maps_before source) tree.entries.entries)) (group_in source after objects.entries)

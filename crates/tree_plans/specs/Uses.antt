@@ -11,12 +11,12 @@ use Rattle.tree_plans.specs.Pointers.{entry_of}
 use Rattle.tree_blocks.specs.ReadPointers.{records_among}
 
 -- one of the blocks has this address
-abbrev pub IsTaken : List NewBlock → ℕ → Type 0
-IsTaken blocks address = (i : ℕ) × (b : NewBlock) × (slice_get blocks i ≡ Some b) × (b.address ≡ address)
+abbrev pub IsAmongBlocks : List NewBlock → ℕ → Type 0
+IsAmongBlocks blocks address = (i : ℕ) × (b : NewBlock) × (slice_get blocks i ≡ Some b) × (b.address ≡ address)
 
 -- blocks after a step of a plan: those that are new are at this address alone
 abbrev pub UsesOnly : List NewBlock → List NewBlock → ℕ → Type 0
-UsesOnly old new at = (address : ℕ) → IsTaken new address → IsTaken old address ⊎ (at ≡ address)
+UsesOnly old new at = (address : ℕ) → IsAmongBlocks new address → IsAmongBlocks old address ⊎ (at ≡ address)
 
 -- the address is that of one of the first so many pointers
 pub record IsPointedAt (pointers : ℕ → Pointer) (count address : ℕ) : Type 0 where
@@ -26,7 +26,7 @@ pub record IsPointedAt (pointers : ℕ → Pointer) (count address : ℕ) : Type
 
 -- those that are new are after the first so many pointers alone: of records, of indirect blocks, or of directories
 abbrev pub PointersUse : List NewBlock → List NewBlock → (ℕ → Pointer) → ℕ → Type 0
-PointersUse old new pointers count = (address : ℕ) → IsTaken new address → IsTaken old address ⊎ IsPointedAt pointers count address
+PointersUse old new pointers count = (address : ℕ) → IsAmongBlocks new address → IsAmongBlocks old address ⊎ IsPointedAt pointers count address
 
 -- the address is that of a record of one of the first strips
 pub record IsInStrips (records : ℕ → ℕ → Pointer) (count address : ℕ) : Type 0 where
@@ -43,7 +43,7 @@ pub record IsInPlaced (strips : List (ℕ × Vec Pointer)) (count address : ℕ)
   pub is_in : IsPointedAt (pointer_of_list records.items) pointer_count address
 
 abbrev pub StripsUse : List NewBlock → List NewBlock → List (ℕ × Vec Pointer) → ℕ → Type 0
-StripsUse old new strips count = (address : ℕ) → IsTaken new address → IsTaken old address ⊎ IsInPlaced strips count address
+StripsUse old new strips count = (address : ℕ) → IsAmongBlocks new address → IsAmongBlocks old address ⊎ IsInPlaced strips count address
 
 -- the address is that of a record of an object, of one of its indirect blocks, or of its top
 abbrev pub IsInObject : ObjectPointers → ℕ → Type 0
@@ -51,7 +51,7 @@ IsInObject o address = IsInStrips o.record_at pointer_count address ⊎ (IsPoint
 
 -- those that are new are of this object alone
 abbrev pub ObjectUses : List NewBlock → List NewBlock → ObjectPointers → Type 0
-ObjectUses old new o = (address : ℕ) → IsTaken new address → IsTaken old address ⊎ IsInObject o address
+ObjectUses old new o = (address : ℕ) → IsAmongBlocks new address → IsAmongBlocks old address ⊎ IsInObject o address
 
 -- the address is that of a block of an object that is planned
 pub record IsInPlanned (planned : List (ObjectId × ObjectEntry)) (address : ℕ) : Type 0 where
@@ -63,7 +63,7 @@ pub record IsInPlanned (planned : List (ObjectId × ObjectEntry)) (address : ℕ
 
 -- those that are new are of the planned objects alone
 abbrev pub ObjectsUse : List NewBlock → List NewBlock → List (ObjectId × ObjectEntry) → Type 0
-ObjectsUse old new planned = (address : ℕ) → IsTaken new address → IsTaken old address ⊎ IsInPlanned planned address
+ObjectsUse old new planned = (address : ℕ) → IsAmongBlocks new address → IsAmongBlocks old address ⊎ IsInPlanned planned address
 
 -- only objects that were gone over are planned
 abbrev pub AreOf : {X Y : Type 0} → List (ObjectId × X) → List (ObjectId × Y) → Type 0

@@ -45,7 +45,7 @@ use Rattle.base.proofs.stored.StoredPlaces.{kept_distinct}
 use Rattle.base.proofs.stored.StoredSteps.{kept-state}
 use Rattle.base.proofs.stored.StoredTrees.{address-fits}
 use Rattle.tree_plans.specs.declared.planner.PlannedBlock.{PlannedBlock}
-use Rattle.sync.specs.LogCalls.{IsNextBlock, IsNextInBoth, base_with, with_log_block}
+use Rattle.sync.specs.LogCalls.{IsNextLogBlock, IsNextInBoth, base_with, with_log_block}
 use Rattle.sync.specs.Phases.{HoldsLogs, IsUnderWay, SyncViews}
 use Rattle.sync.specs.declared.run.SyncRun.{SyncRun}
 use Rattle.sync.proofs.LogWrites.{log_written}
@@ -188,7 +188,7 @@ module _ (x : OnDisk) (safe : IsKeptSafe x) (answer : Result (Unit {0}) PoolErro
     root = y.way.leads.old_view.root ∙ y.old_is.root_is
 
     -- the log of a view goes on with the block
-    next_block : (flushed : ℕ) (v : View) (group : ℕ) (root : Pointer) (header : Header) → IsViewOf flushed v s p group root header → HasKeptBlocks now s v → IsNextBlock run.geometry v l
+    next_block : (flushed : ℕ) (v : View) (group : ℕ) (root : Pointer) (header : Header) → IsViewOf flushed v s p group root header → HasKeptBlocks now s v → IsNextLogBlock run.geometry v l
     next_block flushed v group root header is blocks = record {
       linked = links run.geometry run.sized s p explained.exact.log count puts.taken puts.address puts.fits l puts.packed left 0 done x.disk.now long flushed v group root header is;
       cut = cut run.geometry run.sized s p explained.exact.log count puts.taken puts.address puts.fits l puts.packed left 0 done x.disk.now long flushed v group root header is;

@@ -3,7 +3,7 @@ use Rattle.std.proofs.lemmas.Result.{IfErr-weaker, IfOk-weaker, err_from_is_err_
 use Rattle.std.specs.FinMap.{FinMap}
 use Rattle.std.specs.Ordering.{nat_cmp}
 use Rattle.base.specs.disk.Disk.{Disk, bytes_of}
-use Rattle.import_replay.specs.Views.{IsViewOf}
+use Rattle.import_replay.specs.Views.{IsViewOfImage}
 use Rattle.object_maps.specs.Sources.{range_in}
 use Rattle.commands.proofs.OnlyRead.{by_inspection, by_view}
 use Rattle.commands.proofs.reads.read_range.Goals as goal
@@ -14,7 +14,7 @@ returns-clause-bytes g c = λ keeps.
     let is = c.in_ok-view.ensures.mounted keeps in
     IfOk-weaker c.read.result _ _
     (λ bytes read. (is.contents, is.mounts, read ∙ ap (λ (objects : FinMap nat_cmp (List ℕ)). range_in objects c.args.object c.args.range) (sym is.objects)))
-    (c.read.ensures.exact keeps (subst (λ (d : Disk). IsViewOf (bytes_of d.now) c.in_ok-view.view) (sym still) is))
+    (c.read.ensures.exact keeps (subst (λ (d : Disk). IsViewOfImage (bytes_of d.now) c.in_ok-view.view) (sym still) is))
 
 pub returns-in_err-view-clause-refused : goal.returns-in_err-view-clause-refused
 returns-in_err-view-clause-refused g c =

@@ -8,7 +8,7 @@ use Rattle.base.specs.steps.Tables.{AreTablesExplained}
 use Rattle.object_maps.specs.CachedDevices.{device_in}
 use Rattle.object_maps.specs.ContentsShown.{contents_of}
 use Rattle.import_replay.specs.ImportRefusals.{IsImportRefusal}
-use Rattle.import_replay.specs.Mounts.{IsImport, StandsOn, shown_of_import}
+use Rattle.import_replay.specs.Mounts.{IsImport, StandsOnDevice, shown_of_import}
 use Rattle.import_replay.specs.Refused.{IsMountRefused}
 use Rattle.import_replay.specs.RunStarts.{StartsRun}
 use Rattle.import_replay.specs.ShownMounts.{LabelsShow}
@@ -20,7 +20,7 @@ use Rattle.import_replay.proofs.importing.import_with.Goals as goal
 pub invariant_of-result-clause-stands : goal.invariant_of-result-clause-stands
 invariant_of-result-clause-stands g c = ∣ (λ keeps.
     let m = c.in-Ok-mount_pool.mounted in
-    holds_outside c.new-cached.ensures.device c.into_parts-device.ensures.device (λ old new. StandsOn (bytes_of (g.D.SectorDevice.disk new).now) m) (c.in-Ok-mount_pool.ensures.imported keeps).stands) ∣₁
+    holds_outside c.new-cached.ensures.device c.into_parts-device.ensures.device (λ old new. StandsOnDevice (bytes_of (g.D.SectorDevice.disk new).now) m) (c.in-Ok-mount_pool.ensures.imported keeps).stands) ∣₁
 
 pub invariant_of-result-clause-labels : goal.invariant_of-result-clause-labels
 invariant_of-result-clause-labels g c = ∣ (λ keeps.

@@ -9,7 +9,7 @@ use Rattle.uberblocks.specs.Slots.{fields_of}
 use Rattle.import_replay.specs.Found.{HasFirstStage}
 use Rattle.import_replay.specs.LabelSyncs.{is_even}
 use Rattle.import_replay.specs.Mounts.{IsMountedAnew}
-use Rattle.import_replay.specs.NextPools.{HoldsLoaded, parts_of}
+use Rattle.import_replay.specs.NextPools.{HoldsLoaded, pool_parts}
 use Rattle.import_replay.specs.declared.next_pool.NextPool.{NextPool}
 use Rattle.import_replay.specs.declared.next_pool.ReplayedPool.{ReplayedPool}
 use Rattle.import_replay.proofs.Configs.{err_weaker, ok_weaker, ok_both}
@@ -48,7 +48,7 @@ returns-clause-mounted g c =
     let is : IsPrepared (HoldsLoaded g.B.SectorDevice c.read_pool.new.device size u pool) size u name tree slots chain pool next =
     record { named = c.in_ok-found.found.named; loaded = c.in_ok-found.ensures.loaded; replayed = c.in_ok-replayed.ensures.replayed; planned = c.in_ok-next.ensures.planned } in
     ok_weaker c.open_pool.result _ (IsMountedAnew size c.args.dirty_max)
-    (λ m h. mounted_anew size u (parts_of next) c.args.dirty_max m h (prepared_within _ size u name tree slots chain pool next is) c.requires.can.allowed) c.open_pool.ensures.mounted
+    (λ m h. mounted_anew size u (pool_parts next) c.args.dirty_max m h (prepared_within _ size u name tree slots chain pool next is) c.requires.can.allowed) c.open_pool.ensures.mounted
 
 pub returns-clause-imported : goal.returns-clause-imported
 returns-clause-imported g c = λ keeps.

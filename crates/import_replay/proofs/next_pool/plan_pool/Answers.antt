@@ -6,7 +6,7 @@ use Rattle.space.specs.FreeSets.{FreeSpace, after_take}
 use Rattle.object_maps.specs.FreeBlocks.{BlocksTaken}
 use Rattle.tree_plans.specs.declared.planner.PlannedBlock.{PlannedBlock}
 use Rattle.tree_plans.specs.declared.planner.TreePlan.{TreePlan}
-use Rattle.import_replay.specs.FreeBlocks.{AreAllPlanned, IsLeftBy, IsLowestLeft, after_gives, is_planned}
+use Rattle.import_replay.specs.FreeBlocks.{AreAllPlanned, IsLeftByPlan, IsLowestLeft, after_gives, is_planned}
 use Rattle.import_replay.proofs.LeftBlocks.{left_idle, left_sized}
 use Rattle.import_replay.proofs.Reasons.{passed_on}
 use Rattle.import_replay.proofs.Refused.{next_full}
@@ -40,7 +40,7 @@ returns-clause-planned g c =
     let log_block : ℕ = c.in_ok-log_block.log_block in
     let counted = c.args.pool.replayed.records.ok.0 in
     let left : FreeSpace = c.take_planned.new.free in
-    let free : IsLeftBy plan log_block c.args.pool.free c.take.new.self = record {
+    let free : IsLeftByPlan plan log_block c.args.pool.free c.take.new.self = record {
       left = left;
       taken = subst (λ (bs : List PlannedBlock). BlocksTaken (λ k. is_planned k bs) c.args.pool.free left) c.deref-2.ensures.value c.take_planned.ensures;
       new_is = c.take.ensures ∙ ap (after_take log_block) (c.give_all.ensures ∙ ap (λ (freed : List ℕ). after_gives freed left) c.deref-3.ensures.value);

@@ -3,7 +3,7 @@ use Rattle.std.proofs.lemmas.Result.{IfOk-weaker}
 use Rattle.base.specs.declared.names.ObjectId.{ObjectId}
 use Rattle.base.specs.declared.range.Range.{Range}
 use Rattle.base.specs.disk.Disk.{Disk, bytes_of}
-use Rattle.import_replay.specs.Views.{IsViewOf}
+use Rattle.import_replay.specs.Views.{IsViewOfImage}
 use Rattle.import_replay.proofs.Views.{read_of_mount}
 use Rattle.import_replay.proofs.viewing.a_view_reads_what_the_image_mounts.Goals as goal
 
@@ -16,4 +16,4 @@ returns g c = λ keeps.
     let range : Range = record { low = 1; high = 3 } in
     IfOk-weaker c.read.result _ _ (λ bytes read contents mounts there.
     read_of_mount (bytes_of now.now) c.in_ok-view.view object range bytes is read contents mounts ∙ (rw there refl))
-    (c.read.ensures.exact keeps (subst (λ (d : Disk). IsViewOf (bytes_of d.now) c.in_ok-view.view) (sym still) is))
+    (c.read.ensures.exact keeps (subst (λ (d : Disk). IsViewOfImage (bytes_of d.now) c.in_ok-view.view) (sym still) is))

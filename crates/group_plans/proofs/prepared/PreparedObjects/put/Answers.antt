@@ -7,7 +7,7 @@ use Rattle.std.specs.BTreeMap.{BTreeMap, is_at}
 use Rattle.std.specs.Ordering.{nat_cmp}
 use Rattle.base.specs.formats.Limits.{record_count}
 use Rattle.group_plans.specs.GroupPlans.{objects_with}
-use Rattle.group_plans.specs.Prepared.{AreCut, IsCut, PutsRecord, at_hand}
+use Rattle.group_plans.specs.Prepared.{AreClearedPast, IsClearedPast, PutsRecord, at_hand}
 use Rattle.object_maps.specs.Sources.{object_bytes}
 use Rattle.group_plans.proofs.RecordsAtHand.{cut_more, puts_record}
 use Rattle.group_plans.proofs.prepared.PreparedObjects.put.Goals as goal
@@ -21,7 +21,7 @@ put_at old new n r key payload bytes low is are updates = puts_record old new n 
 
 -- the records stay cut, also if the new one found no memory
 stay_cut : {A E : Type 0} (result : Result A E) (objects : FinMap nat_cmp (List ℕ)) (old new : BTreeMap ℕ (List ℕ)) (n r key : ℕ) (payload bytes : List ℕ) → r < record_count → key ≡ record_count * n + r → bytes ≡ payload
-    → OnOk result (tree.Updates nat_cmp old new key (Some bytes)) → OnErr result (new.entries ≡ old.entries) → IsCut (object_bytes objects n) r payload → AreCut (at_hand old) objects → AreCut (at_hand new) objects
+    → OnOk result (tree.Updates nat_cmp old new key (Some bytes)) → OnErr result (new.entries ≡ old.entries) → IsClearedPast (object_bytes objects n) r payload → AreClearedPast (at_hand old) objects → AreClearedPast (at_hand new) objects
 stay_cut (Ok a) objects old new n r key payload bytes low is are updates same cut all = cut_more objects n r payload (at_hand old) (at_hand new) cut (put_at old new n r key payload bytes low is are updates) all
 stay_cut (Err e) objects old new n r key payload bytes low is are updates same cut all = λ m s kept at.
     all m s kept (sym (ap (λ (es : List (ℕ × List ℕ)). if nat_lt s record_count then lookup (is_at (nat_cmp (record_count * m + s))) es else None) same) ∙ at)
