@@ -1,12 +1,7 @@
 -- The strips that a plan doesn't go over after the last one that it does: they change nothing.
-use Rattle.std.proofs.Common.{◌≡◌, ℕ, zero, suc, ◌+◌, ◌<◌, ◌≤◌, true, false, List, [], ◌∷◌, btree_map_len, length, Option, Some, None, refl, sym, ◌∙◌, ap, arith}
-use Rattle.std.specs.Prelude.{IsSome, is_some}
-use Rattle.std.specs.BTreeMap as tree
-use Rattle.std.specs.BTreeMap.{BTreeMap, IsUpperBound}
-use Rattle.std.specs.Cmp.{unsigned_tied}
+use Rattle.std.proofs.Common.{◌≡◌, ℕ, zero, suc, ◌+◌, ◌<◌, ◌≤◌, false, List, arith}
+use Rattle.std.specs.Prelude.{is_some}
 use Rattle.std.specs.Global.{Vec}
-use Rattle.std.specs.Ordering.{is_lt, nat_cmp}
-use Rattle.std.proofs.lemmas.Bool.{lt-ltb, true≢false}
 use Rattle.base.specs.declared.pointer.Pointer.{Pointer}
 use Rattle.base.specs.formats.Limits.{pointer_count}
 use Rattle.space.specs.FreeSets.{FreeSpace}
@@ -16,7 +11,6 @@ use Rattle.tree_plans.specs.Changes.{is_strip_dirty}
 use Rattle.tree_plans.specs.Parts.{AreMet, IsMapRead, PlansStripsBelow}
 use Rattle.tree_blocks.specs.ReadPointers.{records_among}
 use Rattle.tree_plans.proofs.Levels.{passes_unmet}
-use Rattle.tree_blocks.proofs.ReadPointers.{among-get}
 
 -- the strips from one on, up to another
 module _ (free : FreeSpace) (object : ChangedObject) (bytes : List ℕ) (read : IsMapRead object) (strips : List (ℕ × Vec Pointer)) (first planner : Planner) where

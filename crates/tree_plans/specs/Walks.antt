@@ -1,5 +1,5 @@
 -- What a walk over a tree plans: objects, directories, the root.
-use Rattle.std.specs.Prelude.{ℕ, ◌≡◌, ◌<◌, ◌+◌, ◌*◌, ◌/◌, ◌==◌, ◌&&◌, ◌||◌, ◌⊎◌, Bool, true, not, List, [], length, replicate, slice_get, slice_index_or, Option, Some, None, is_some, option_map, unwrap_or, if◌then◌else◌}
+use Rattle.std.specs.Prelude.{ℕ, ◌≡◌, ◌<◌, ◌+◌, ◌*◌, ◌/◌, ◌==◌, ◌&&◌, ◌||◌, ◌⊎◌, Bool, true, not, List, [], length, slice_get, slice_index_or, Option, Some, is_some, option_map, unwrap_or, if◌then◌else◌}
 use Rattle.std.specs.List.{list_any, range_with_len}
 use Rattle.std.specs.Map.{keys_of}
 use Rattle.std.specs.Ordering.{nat_cmp}
@@ -7,8 +7,8 @@ use Rattle.std.specs.FinMap as finite
 use Rattle.std.specs.FinMap.{FinMap}
 use Rattle.base.specs.declared.pointer.Pointer.{Pointer}
 use Rattle.base.specs.declared.names.ObjectId.{ObjectId}
-use Rattle.base.specs.formats.Limits.{object_count, pointer_count, entry_count, entry_size}
-use Rattle.base.specs.formats.Fields.{no_pointer, pointer_in, entry_in, entry_present, entry_length, entry_pointer}
+use Rattle.base.specs.formats.Limits.{object_count, pointer_count, entry_count}
+use Rattle.base.specs.formats.Fields.{no_pointer, pointer_in, entry_in}
 use Rattle.base.specs.declared.record_state.RecordState.{RecordState}
 use Rattle.base.specs.tree.Places.Place.{Root, Directory}
 use Rattle.base.specs.tree.Syncs.{is_dirty, object_numbers}
