@@ -23,7 +23,7 @@ use Rattle.object_maps.specs.Sources.{object_length}
 use Rattle.tree_plans.specs.declared.changes.ObjectChanges.{ObjectChanges}
 use Rattle.tree_plans.specs.declared.plan_source.PlanSource.{PlanSource}
 use Rattle.tree_plans.specs.declared.planner.TreePlan.{TreePlan}
-use Rattle.tree_plans.specs.Changes.{AreBornBefore, changes_of_group, written_frame}
+use Rattle.tree_plans.specs.Changes.{AreBornBefore, AreChanges, AreTreePointers, IsCoveredBy, changes_of_group, written_frame}
 use Rattle.tree_plans.specs.Plans.{new_block}
 use Rattle.tree_plans.specs.Pointers.{entry_of, entry_pointer_of, planned_pointers, pointers_before}
 use Rattle.tree_plans.specs.TreePlans.{GivesBack, GivesTree, HasEntries, HasLengths, TakesBlocks, TellsFull}
@@ -37,7 +37,7 @@ use Rattle.group_plans.specs.ReadPlans.{HoldsPlanned, IsShortFor, IsShortFrom, P
 use Rattle.group_plans.proofs.PlannedBlocks.{addresses_are}
 use Rattle.group_plans.proofs.PlannedPointers.{before_placed, same_after, same_lengths}
 use Rattle.group_plans.proofs.PreparedPlans.{no_space_prepare, range_as, same_group}
-use Rattle.group_plans.proofs.SamePlans.{born_as, covered_as, freed_as, plan_as, tree_as, written_as}
+use Rattle.group_plans.proofs.SamePlans.{apart_as, born_as, covered_as, freed_as, plan_as, tree_as, written_as}
 
 -- what two facts of an answer give together, and five
 pub IfOk_both : {A : Type 0} {P Q R : A → Type 0} (r : Result A PoolError) → ((a : A) → P a → Q a → R a) → IfOk r P → IfOk r Q → IfOk r R
@@ -65,9 +65,11 @@ module _ (frame : Frame) (records : List Record) (tree : Tree) (objects : List (
   pub group_tree : (old : Place → Pointer) (p : TreePlan) → PlansReadTree frame old tree objects after p → MakesGroupTree frame old tree records after p
   group_tree old p made = record {
     placed = made.placed;
-    places = record { objects = objects; changes = changes; order = made.order; used = made.used; freed = made.freed };
+    places = record { objects = objects; changes = changes; order = made.order; used = made.used; freed = made.freed; once = made.once; none = made.none };
     whole = made.whole;
     lengths = record { objects = objects; changes = changes; each = made.lengths };
+    upper = made.upper;
+    read = made.read;
   }
 
   pub group_held : (p : TreePlan) → HoldsPlanned frame tree objects after p → HoldsGroupObjects frame tree records after p
@@ -124,9 +126,17 @@ module _ (source : PlanSource) (changes : BTreeMap ObjectId ObjectChanges)
           (addresses_are p.blocks.items ∙ taken.order (range_as objects after wanted lengths_are within) ∙ ap (λ (x : GroupChanges). map (λ (place : Place). (planned_pointers source p place).address) (written_by x)) same);
       used = subst (λ (f : Place → Pointer). AreUsed bs f) kept made.used;
       freed = subst (λ (f : Place → Pointer). AreBornBefore source.group.0 old → AreFreed old f p.freed.items) kept back.freed;
+      once = back.once;
+      none = λ no. ap (map new_block) (taken.none no);
       whole = taken.whole;
       lengths = λ n low. same_lengths source p n ∙ lengths n low
           ∙ ap (λ (o : Option ℕ). if is_some (entry_of objects n) then o else length_in source.tree.now.entries.items n) (lengths_are n);
+      upper = record { root = refl; directories = λ d. refl; kept_root = made.kept_root; entries = λ n e at. (entries.each n e at).low };
+      read = record {
+        held = after;
+        as_long = lengths_are;
+        planned = λ before covered changes_are whole. subst (λ (f : Place → Pointer). IsTreePlan bs frame old f before after) kept (made.planned before covered changes_are whole);
+      };
     }
 
   -- where the old pointers are the tree's, its blocks hold the objects
@@ -135,19 +145,25 @@ module _ (source : PlanSource) (changes : BTreeMap ObjectId ObjectChanges)
       → HoldsPlanned frame source.tree.now objects wanted p
   holds_planned wanted is taken made lengths entries back =
       let read : PlansReadTree frame old source.tree.now objects wanted p = plans_tree wanted wanted (λ n. refl) taken made lengths entries back in
+      let planned : (before : FinMap nat_cmp (List ℕ)) → IsCoveredBy objects told before wanted → AreChanges objects wanted → AreTreePointers objects (entry_pointer_of source.tree.now.entries.items) told wanted
+          → IsTreePlan bs frame told new before wanted = λ before covered changes_are whole.
+          plan_as old told is objects bs frame new before wanted
+          (subst (λ (f : Place → Pointer). IsTreePlan bs frame old f before wanted) (kept_as wanted entries)
+          (made.planned before (covered_as old told is objects before wanted covered) changes_are (tree_as old told is objects (entry_pointer_of source.tree.now.entries.items) wanted whole))) in
       record {
         made = record {
           placed = read.placed;
           order = λ within. read.order within ∙ ap (λ (places : List Place). map (λ (place : Place). (new place).address) places) (written_as old told is objects wanted);
           used = read.used;
           freed = λ born. freed_as old told is objects new p.freed.items (read.freed (born_as old told is objects source.group.0 born));
+          once = λ apart. read.once (apart_as old told is objects apart);
+          none = read.none;
           whole = read.whole;
           lengths = read.lengths;
+          upper = record { root = refl; directories = λ d. refl; kept_root = read.upper.kept_root; entries = read.upper.entries };
+          read = record { held = wanted; as_long = λ n. refl; planned = planned };
         };
-        planned = λ before covered changes_are whole.
-            plan_as old told is objects bs frame new before wanted
-            (subst (λ (f : Place → Pointer). IsTreePlan bs frame old f before wanted) (kept_as wanted entries)
-            (made.planned before (covered_as old told is objects before wanted covered) changes_are (tree_as old told is objects (entry_pointer_of source.tree.now.entries.items) wanted whole)));
+        planned = planned;
       }
 
 -- where the plan is short of blocks, so it is for the changes of all objects, of the pointers that were read, and of

@@ -16,6 +16,7 @@ use Rattle.base.specs.tree.Syncs.{written_by}
 use Rattle.base.proofs.tree.Strips.{first-low, strip-low}
 use Rattle.base.proofs.tree.WrittenPlaces.{written_by-same}
 use Rattle.tree_plans.specs.declared.changes.ObjectChanges.{ObjectChanges}
+use Rattle.tree_plans.specs.Plans.{AreApart, IsOf}
 use Rattle.tree_plans.specs.Changes.{AreBornBefore, AreTreePointers, IsCoveredBy, IsEntryPointer, changes_of_group, has_address}
 
 module _ (one other : Place → Pointer) (same : (place : Place) → IsPlace place → one place ≡ other place) (objects : List (ObjectId × ObjectChanges)) where
@@ -41,6 +42,10 @@ module _ (one other : Place → Pointer) (same : (place : Place) → IsPlace pla
 
   pub born_as : (group : ℕ) → AreBornBefore group other → AreBornBefore group one
   born_as group x place is = subst (λ (p : Pointer). p.birth < group) (sym (same place is)) (x place is)
+
+  pub apart_as : AreApart other → AreApart one
+  apart_as x p q address p_is q_is of_p of_q =
+      x p q address p_is q_is (subst (λ (k : Pointer). IsOf k address) (same p p_is) of_p) (subst (λ (k : Pointer). IsOf k address) (same q q_is) of_q)
 
   pub freed_as : (new : Place → Pointer) (freed : List ℕ) → AreFreed one new freed → AreFreed other new freed
   freed_as new freed x = record {

@@ -1,5 +1,6 @@
 -- What the plan of a group says of its blocks and of the tree that they make.
-use Rattle.std.specs.Prelude.{ℕ, ◌≡◌, ◌<◌, ◌⊎◌, All, List, Option, Some, is_some, length, map, option_map, slice_get, take, if◌then◌else◌}
+use Rattle.std.specs.Prelude.{ℕ, ◌≡◌, ◌<◌, ◌⊎◌, All, List, [], Option, Some, false, is_some, length, map, nat_eq, option_map, slice_get, take, if◌then◌else◌}
+use Rattle.std.specs.List.{IsDistinct}
 use Rattle.std.specs.Ordering.{nat_cmp}
 use Rattle.std.specs.FinMap as finite
 use Rattle.std.specs.FinMap.{FinMap}
@@ -15,6 +16,7 @@ use Rattle.base.specs.formats.Limits.{object_count}
 use Rattle.base.specs.kept.Stored.{AreUsed}
 use Rattle.base.specs.kept.PlacedTrees.{ArePlaced}
 use Rattle.base.specs.tree.Places.{Place}
+use Rattle.base.specs.tree.Places.Place.{Root, Directory}
 use Rattle.base.specs.kept.PlannedTrees.{AreFreed, IsTreePlan, NewBlock}
 use Rattle.base.specs.tree.Syncs.{written_by}
 use Rattle.transactions.specs.declared.record.Record.{Record}
@@ -23,6 +25,7 @@ use Rattle.tree_blocks.specs.declared.tree.ObjectEntry.{ObjectEntry}
 use Rattle.tree_blocks.specs.declared.tree.Tree.{Tree}
 use Rattle.object_maps.specs.Cached.{IsReadRefusal}
 use Rattle.object_maps.specs.ContentsShown.{contents_of}
+use Rattle.object_maps.specs.Sources.{object_length}
 use Rattle.tree_blocks.specs.Lengths.{length_in}
 use Rattle.tree_blocks.specs.Pointers.{pointers_of}
 use Rattle.extents.specs.declared.extents.Extents.{Extents}
@@ -34,8 +37,9 @@ use Rattle.tree_plans.specs.declared.planner.TreePlan.{TreePlan}
 use Rattle.group_plans.specs.declared.planning.GroupSource.{GroupSource}
 use Rattle.tree_plans.specs.Changes.{AreBornBefore, AreChanges, AreInRange, AreTreePointers, IsCoveredBy, changes_of_group, written_frame}
 use Rattle.tree_plans.specs.Marks.{AreChangesOf, pending_ops}
-use Rattle.tree_plans.specs.Plans.{IsWant, address_of, new_block}
+use Rattle.tree_plans.specs.Plans.{AreApart, IsWant, address_of, new_block}
 use Rattle.tree_plans.specs.Pointers.{entry_of, entry_pointer_of}
+use Rattle.tree_plans.specs.Walks.{is_any_touched}
 use Rattle.group_plans.specs.Areas.{AreBlocksOf}
 use Rattle.tree_blocks.specs.SyncedTrees.{lengths_after, pointers_after}
 
@@ -50,7 +54,8 @@ pub record IsPlannedGroup (group : ℕ) (records : List Record) (entries : List 
 
 -- Some changes are those of the group's operations among records, on a tree with these entries. If they are in range,
 -- the blocks are those of the places that they write, one for each, in their order. Each one is used. If no old
--- pointer was born in the group or later, what comes back is what the old pointers have and the new ones have not.
+-- pointer was born in the group or later, what comes back is what the old pointers have and the new ones have not: each
+-- once, if no two old places had blocks at one address. Without an operation on an object nothing is written.
 pub record TakesGroupPlaces (group : ℕ) (records : List Record) (entries : List ObjectEntry) (old new : Place → Pointer) (bs : List NewBlock) (returned : List ℕ) (after : FinMap nat_cmp (List ℕ)) : Type 0 where
   pub objects : List (ObjectId × ObjectChanges)
   pub changes : AreChangesOf (pending_ops group records) entries objects
@@ -58,6 +63,24 @@ pub record TakesGroupPlaces (group : ℕ) (records : List Record) (entries : Lis
       → map (λ (b : NewBlock). b.address) bs ≡ map (λ (place : Place). (new place).address) (written_by (changes_of_group objects old after))
   pub used : AreUsed bs new
   pub freed : AreBornBefore group old → AreFreed old new returned
+  pub once : AreApart old → IsDistinct nat_eq returned
+  pub none : objects ≡ [] → bs ≡ []
+
+-- By these changes the blocks make the tree after a group from the old one, for objects as long as these are. They are
+-- these, if each record that was read is the tree's.
+pub record MakesTreeAsRead (objects : List (ObjectId × ObjectChanges)) (entries : List ObjectEntry) (frame : Frame) (old new : Place → Pointer) (bs : List NewBlock) (after : FinMap nat_cmp (List ℕ)) : Type 0 where
+  pub held : FinMap nat_cmp (List ℕ)
+  pub as_long : (n : ℕ) → object_length held n ≡ object_length after n
+  pub planned : (before : FinMap nat_cmp (List ℕ)) → IsCoveredBy objects old before held → AreChanges objects held → AreTreePointers objects (entry_pointer_of entries) old held
+      → IsTreePlan bs frame old new before held
+
+-- The pointers before are the tree's at its root and its directories. A plan of these changes leaves the root, if none
+-- of them is on an object, and has entries only of objects that a tree may have.
+pub record KeepsUpperTree (objects : List (ObjectId × ObjectChanges)) (old : Place → Pointer) (tree : Tree) (p : TreePlan) : Type 0 where
+  pub root : old Root ≡ tree.root
+  pub directories : (d : ℕ) → old (Directory d) ≡ pointers_of tree (Directory d)
+  pub kept_root : is_any_touched objects ≡ false → p.root ≡ tree.root
+  pub entries : (n : ℕ) (e : ObjectEntry) → entry_of p.entries.entries n ≡ Some e → n < object_count
 
 -- Some changes are those of the group's operations among records, on a tree with these entries. Where they are in
 -- range, fewer of these blocks are free than there are places that are written.
@@ -88,12 +111,14 @@ TakesLowest free p = map address_of p.blocks.items ≡ take (length p.blocks.ite
 
 -- It makes of a tree, whose pointers before are these, one of the group of the frame, whose operations are among these
 -- records and lead to these objects. Its pointers are placed, and its blocks are whole and lie at the places that the
--- operations write. Its lengths are those after the group.
+-- operations write. Its lengths are those after the group, and its blocks hold the records as they were read.
 pub record MakesGroupTree (frame : Frame) (old : Place → Pointer) (tree : Tree) (records : List Record) (after : FinMap nat_cmp (List ℕ)) (p : TreePlan) : Type 0 where
   pub placed : ∥ ArePlaced frame.blocks (plan_pointers tree p) ∥₁
   pub places : TakesGroupPlaces frame.group records tree.entries.items old (plan_pointers tree p) (map new_block p.blocks.items) p.freed.items after
   pub whole : (i : ℕ) (b : NewBlock) → slice_get (map new_block p.blocks.items) i ≡ Some b → length b.content ≡ block_size
   pub lengths : HasGroupLengths frame.group records tree.entries.items (lengths_after p.entries tree) after
+  pub upper : KeepsUpperTree places.objects old tree p
+  pub read : MakesTreeAsRead places.objects tree.entries.items frame old (plan_pointers tree p) (map new_block p.blocks.items) after
 
 -- And so whichever pointers were read: the tree has told ones, which a device that doesn't hold it need not give.
 abbrev pub MakesReadTree : Frame → Tree → List Record → FinMap nat_cmp (List ℕ) → TreePlan → Type 0

@@ -1,5 +1,6 @@
 -- The plan of a group whose changes are known, and whose old maps were read.
-use Rattle.std.specs.Prelude.{ℕ, ◌≡◌, ◌<◌, List, Some, is_some, length, map, option_map, slice_get, if◌then◌else◌}
+use Rattle.std.specs.Prelude.{ℕ, ◌≡◌, ◌<◌, List, [], Some, is_some, length, map, nat_eq, option_map, slice_get, if◌then◌else◌}
+use Rattle.std.specs.List.{IsDistinct}
 use Rattle.std.specs.Ordering.{nat_cmp}
 use Rattle.std.specs.FinMap as finite
 use Rattle.std.specs.FinMap.{FinMap}
@@ -23,9 +24,9 @@ use Rattle.tree_blocks.specs.Pointers.{pointers_of}
 use Rattle.tree_plans.specs.declared.changes.ObjectChanges.{ObjectChanges}
 use Rattle.tree_plans.specs.declared.planner.TreePlan.{TreePlan}
 use Rattle.tree_plans.specs.Changes.{AreBornBefore, AreChanges, AreInRange, AreTreePointers, IsCoveredBy, changes_of_group}
-use Rattle.tree_plans.specs.Plans.{new_block}
+use Rattle.tree_plans.specs.Plans.{AreApart, new_block}
 use Rattle.tree_plans.specs.Pointers.{entry_of, entry_pointer_of}
-use Rattle.group_plans.specs.GroupPlans.{plan_pointers}
+use Rattle.group_plans.specs.GroupPlans.{KeepsUpperTree, MakesTreeAsRead, plan_pointers}
 use Rattle.tree_blocks.specs.SyncedTrees.{lengths_after}
 
 -- What a plan makes of a tree, whose pointers before are these, by these changes: what `MakesGroupTree` says of the
@@ -36,8 +37,12 @@ pub record PlansReadTree (frame : Frame) (old : Place → Pointer) (tree : Tree)
       → map (λ (b : NewBlock). b.address) (map new_block p.blocks.items) ≡ map (λ (place : Place). (plan_pointers tree p place).address) (written_by (changes_of_group objects old after))
   pub used : AreUsed (map new_block p.blocks.items) (plan_pointers tree p)
   pub freed : AreBornBefore frame.group old → AreFreed old (plan_pointers tree p) p.freed.items
+  pub once : AreApart old → IsDistinct nat_eq p.freed.items
+  pub none : objects ≡ [] → map new_block p.blocks.items ≡ []
   pub whole : (i : ℕ) (b : NewBlock) → slice_get (map new_block p.blocks.items) i ≡ Some b → length b.content ≡ block_size
   pub lengths : (n : ℕ) → n < object_count → lengths_after p.entries tree n ≡ (if is_some (entry_of objects n) then option_map length (finite.get after n) else length_in tree.entries.items n)
+  pub upper : KeepsUpperTree objects old tree p
+  pub read : MakesTreeAsRead objects tree.entries.items frame old (plan_pointers tree p) (map new_block p.blocks.items) after
 
 -- the pointers before are the tree's, and the blocks hold these objects
 pub record HoldsPlanned (frame : Frame) (tree : Tree) (objects : List (ObjectId × ObjectChanges)) (after : FinMap nat_cmp (List ℕ)) (p : TreePlan) : Type 0 where

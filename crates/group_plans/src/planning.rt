@@ -67,7 +67,8 @@ pub struct GroupSource<'a> {
 /// - `fits`: each block that is written or comes back lies in the block area of the device.
 /// - `taken`: the blocks are the lowest free ones, in their order.
 /// - `tree`: the blocks make a tree after the group, with its pointers and its lengths, and what comes back is what
-///   that tree replaces, by the pointers that were read.
+///   that tree replaces, by the pointers that were read: each once, if no two places had blocks at one address. If no
+///   operation is on an object, the root stays and nothing is written. The blocks hold the records as they were read.
 /// - `objects`: if the device keeps the model and holds the tree of the contents, and the tree has their lengths
 ///   (`HoldsTreeOf`), these are the tree's pointers, and the new tree has the objects after the group.
 ///
