@@ -146,10 +146,10 @@ module _ (source : PlanSource) (changes : BTreeMap ObjectId ObjectChanges)
   holds_planned wanted is taken made lengths entries back =
       let read : PlansReadTree frame old source.tree.now objects wanted p = plans_tree wanted wanted (λ n. refl) taken made lengths entries back in
       let planned : (before : FinMap nat_cmp (List ℕ)) → IsCoveredBy objects told before wanted → AreChanges objects wanted → AreTreePointers objects (entry_pointer_of source.tree.now.entries.items) told wanted
-          → IsTreePlan bs frame told new before wanted = λ before covered changes_are whole.
-          plan_as old told is objects bs frame new before wanted
-          (subst (λ (f : Place → Pointer). IsTreePlan bs frame old f before wanted) (kept_as wanted entries)
-          (made.planned before (covered_as old told is objects before wanted covered) changes_are (tree_as old told is objects (entry_pointer_of source.tree.now.entries.items) wanted whole))) in
+      → IsTreePlan bs frame told new before wanted = λ before covered changes_are whole.
+      plan_as old told is objects bs frame new before wanted
+      (subst (λ (f : Place → Pointer). IsTreePlan bs frame old f before wanted) (kept_as wanted entries)
+      (made.planned before (covered_as old told is objects before wanted covered) changes_are (tree_as old told is objects (entry_pointer_of source.tree.now.entries.items) wanted whole))) in
       record {
         made = record {
           placed = read.placed;
