@@ -7,10 +7,10 @@ _ztxg() {
         esac
     done
     if [[ -z $command ]]; then
-        COMPREPLY=($(compgen -W "create put get ls rm show check labels load serve script help --verbose --wait --help --version" -- "$word"))
+        COMPREPLY=($(compgen -W "create put get ls rm show check labels load serve script help -v --verbose --wait -h --help -V --version" -- "$word"))
         return
     fi
-    local options="--verbose --wait --help"
+    local options="-v --verbose --wait -h --help"
     case $command in
         create) options+=" --new --moment" ;;
         put) options+=" --offset --moment" ;;
@@ -24,7 +24,7 @@ _ztxg() {
     if [[ $word == -* ]]; then
         COMPREPLY=($(compgen -W "$options" -- "$word"))
     else
-        COMPREPLY=($(compgen -f -- "$word"))
+        mapfile -t COMPREPLY < <(compgen -f -- "$word")
     fi
 }
 complete -o filenames -F _ztxg ztxg

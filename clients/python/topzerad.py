@@ -84,7 +84,10 @@ class Pool:
 
     def close(self):
         """Ends the process once it has synced the pool."""
-        self.process.stdin.close()
+        try:
+            self.process.stdin.close()
+        except BrokenPipeError:
+            pass  # the process has ended already, and its status says why
         status = self.process.wait()
         self.process.stdout.close()
         if status:

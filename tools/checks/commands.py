@@ -7,7 +7,8 @@ files hold.
 - New files, byte for byte; a file that is there keeps what a create doesn't write.
 - What `show`, `check` and `ls` print of a pool that is new, synced, logged, damaged or missing. The moments that are
   stored. Bytes that are put and got. What labels hold. What a script may do at its end.
-- Faults of the command line, files that can't be used and why, locks of other processes, output that can't be written.
+- Faults of the command line, files that can't be used and why, locks of other processes, output that can't be
+  written, standard streams that are closed.
 - A script answers each line before the next one comes. A load shows its progress on a terminal alone.
 - The help and the version.
 
@@ -21,6 +22,7 @@ import os
 import pathlib
 import pty
 import re
+import shlex
 import shutil
 import subprocess
 import tempfile
@@ -433,6 +435,21 @@ class Commands(Judge):
                 if status != 3 or errors and "--" not in words[-1]:
                     self.differ(words, "into a full output ends with", (status, errors))
 
+    def closed_streams(self):
+        """A standard stream that is closed doesn't give its place to the pool's file: no text goes there."""
+        name = self.make("closed.pool")
+        for words in [words for words in commands(name).values() if words[0] != "create"]:
+            for closed in ("<&-", ">&-", "2>&-"):
+                self.runs += 1
+                line = f"exec {shlex.join([self.ztxg, *words])} {closed}"
+                subprocess.run(["sh", "-c", line], input=b"import 1048576\nstatus\n", capture_output=True, timeout=SECONDS)
+                if os.path.getsize(name) != SIZE:
+                    self.differ(line, "leaves a file of", os.path.getsize(name), "bytes")
+                    os.truncate(name, SIZE)
+        status = self.run(["check", name])[0]
+        if status:
+            self.differ("a pool under closed streams has a check of", status)
+
     def scripts(self):
         """Each answer comes before the next line. With a file, a crash and a planned failure are no commands."""
         self.runs += 1
@@ -512,6 +529,7 @@ def main(ztxg):
         judge.unusable_files()
         judge.denied_files()
         judge.full_output()
+        judge.closed_streams()
         judge.scripts()
         judge.loads()
         judge.texts()

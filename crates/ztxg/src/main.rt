@@ -9,6 +9,7 @@ mod help;
 
 use arguments::{parse_arguments, read_arguments, read_options};
 use commands::run;
+use std::fs::File;
 use std::io;
 use std::process::ExitCode;
 
@@ -18,7 +19,17 @@ const BAD_ARGUMENTS: u8 = 2;
 /// The status of a help or a version that can't be written.
 const UNWRITTEN: u8 = 3;
 
+/// A folder that each system has.
+const FOLDER: &str = "/";
+
 fn main(rt: HostRuntime) -> ExitCode {
+    // A standard stream that is closed would give its number to the pool's file, and texts would go there. The folder
+    // takes the number: it can be neither read nor written as a stream.
+    let _streams = [
+        File::open(&rt, FOLDER),
+        File::open(&rt, FOLDER),
+        File::open(&rt, FOLDER),
+    ];
     let Ok(words) = read_words(&rt) else {
         // Arguments that are no text are a fault of the command line.
         let _ = eprintln!(rt; "error: invalid UTF-8 was detected in one or more arguments");
