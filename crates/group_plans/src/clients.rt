@@ -77,6 +77,27 @@ fn a_plan_over_a_tree_that_is_held_finds_no_damage<B: BlockReader>(
     plan_group(reader, before, source, records, extents, contents)
 }
 
+// A group without records leaves the root and writes nothing, whatever the device holds.
+fn a_group_without_records_leaves_the_root<B: BlockReader>(
+    reader: &mut B,
+    before: &Frame,
+    source: &GroupSource<'_>,
+    records: &[Record],
+    extents: &Extents,
+    contents: &Contents,
+) -> Result<TreePlan, PoolError>
+    requires room { block_address before.now.blocks ≤ B.size reader.old }
+    requires area { before.now.blocks ≡ block_count source.now.geometry }
+    requires sized { source.now.free.now.blocks ≡ block_count source.now.geometry }
+    requires placed { ∥ ArePlaced (block_count source.now.geometry)
+        (pointers_of source.now.tree.now) ∥₁ }
+    requires none { records.now ≡ [] }
+    ensures { IfOk result (λ p. (p.root ≡ source.now.tree.now.root)
+        × (length p.blocks.items ≡ 0)) }
+{
+    plan_group(reader, before, source, records, extents, contents)
+}
+
 // A plan writes nothing: the disk is as it was.
 fn a_plan_leaves_the_disk<B: BlockReader>(
     reader: &mut B,
