@@ -6,7 +6,7 @@ use Rattle.std.proofs.lemmas.List.{append-nil}
 use Rattle.base.specs.declared.error.PoolError.{PoolError}
 use Rattle.base.specs.declared.names.Group.{Group}
 use Rattle.device_model.specs.declared.device.SectorDevice.{Ghosts}
-use Rattle.frame_answers.specs.Serving.{AnswersFrames, EndsWell, Exchange, ServesFrames, Streams, answers_of, frames_of, program}
+use Rattle.frame_answers.specs.Serving.{AnswersFrames, BeginsWithFrames, EndsWell, Exchange, ServesFrames, Streams, answers_of, frames_of, program}
 use Rattle.frame_answers.specs.declared.serving.Ending.{Ending}
 use Rattle.frame_answers.specs.declared.serving.Ending.TheVariants.{Done}
 use Rattle.pool_threads.specs.Handles.{IsNewHandle, OpensBehind, moment_in, opening_view}
@@ -17,9 +17,10 @@ use Rattle.commands.specs.Serving.{ServesOn, ServesPool}
 use Rattle.commands.specs.declared.arguments.ServeArguments.{ServeArguments}
 
 module _ {Dev : Type 0} {G : Ghosts Dev} (p : Shared Dev G) (ending : Ending) (old new : Streams) (exchanges : List Exchange) where
-  pub synced_well : (synced : Result Group PoolError) → IsOk synced → ServesFrames program p exchanges synced → EndsWell ending exchanges old new → ServesPool p ending old new
-  synced_well (Ok group) is serves ends = record { exchanges = exchanges; group = group; serves = serves; ends = ends }
-  synced_well (Err e) is serves ends = absurd (false≢true is)
+  pub synced_well : (synced : Result Group PoolError) (first last : Handle Dev G) → IsOk synced → IsNewHandle p first → ServesFrames program exchanges synced first last → BeginsWithFrames exchanges old.input
+      → EndsWell ending exchanges old new → ServesPool p ending old new
+  synced_well (Ok group) first last is is_new serves begins ends = record { exchanges = exchanges; group = group; first = first; is_new = is_new; last = last; serves = serves; begins = begins; ends = ends }
+  synced_well (Err e) first last is is_new serves begins ends = absurd (false≢true is)
 
 -- what is known of a serve whose input and output hold known bytes, by what they hold when it ends
 module _ {Dev K : Type 0} (G : Ghosts Dev) (device : Dev) (given : ServeArguments) (input output : K → List ℕ) (asked held : List ℕ) where
@@ -34,4 +35,4 @@ module _ {Dev K : Type 0} (G : Ghosts Dev) (device : Dev) (given : ServeArgument
       let q = s.serves in
       let f = q.serves in
       let all : frames_of q.exchanges ≡ asked = sym (q.ends.0.reads ∙ ap (λ (l : List ℕ). frames_of q.exchanges ++ l) q.ends.1 ∙ append-nil (frames_of q.exchanges)) in
-      (s.pool, s.opens, s.moment, q.exchanges, f.first, f.served, f.last, q.group, f.is_new, f.answers, f.syncs, all, q.ends.0.writes)
+      (s.pool, s.opens, s.moment, q.exchanges, q.first, f.served, q.last, q.group, q.is_new, f.answers, f.syncs, all, q.ends.0.writes)

@@ -24,7 +24,8 @@ use std::thread::Threads;
 /// The status is 0 if the input ended after a whole frame, or after none, and the pool was synced. It is 1 if the
 /// engine refused to open or to sync the pool, and 3 if the file was not opened as a device, if the input can't be read
 /// or ends within a frame, or if the output can't be written. A failure is reported on `errors`. What was answered is
-/// made, whatever the status. If the pool was not opened, or a sync was refused, the input and the output are dropped.
+/// made, whatever the status. Only frames that stand whole in the input are made, from its beginning and in order. If
+/// the pool was not opened, or a sync was refused, the input and the output are dropped.
 pub fn run_serve<
     R: Threads + Wait + Sync + AllocGlobal,
     D: SectorDevice + NotesRefusals + Send + Drop,
@@ -132,7 +133,7 @@ fn serve_beside_loops<
     })
 }
 
-// Answers the frames of an input that it has, syncs the pool, and hands the input and the output back.
+// Makes a handle, answers the frames of an input by it, and syncs the pool. It hands the input and the output back.
 fn serve_kept<W: Wait, D: SectorDevice, I: Read + Drop, O: Write + Drop>(
     rt: &W,
     alloc: Global,
@@ -145,7 +146,8 @@ fn serve_kept<W: Wait, D: SectorDevice, I: Read + Drop, O: Write + Drop>(
         (record { input = I.remaining kept.1; output = O.contents kept.2 })) }
 {
     let (mut input, mut output) = (input, output);
-    match serve(rt, alloc, pool, &mut input, &mut output) {
+    let mut handle = pool.handle();
+    match serve(&mut handle, rt, alloc, &mut input, &mut output) {
         Ok(ending) => Ok((ending, input, output)),
         Err(refusal) => Err(refusal),
     }

@@ -1,9 +1,11 @@
 -- What a frame's contract says of the frames that clients speak of.
-use Rattle.std.proofs.Common.{◌≡◌, ◌⊎◌, ◌++◌, ◌∷◌, [], ℕ, List, inl, inr, refl, sym, ap, subst, ◌∙◌}
+use Rattle.std.proofs.Common.{◌≡◌, ◌≤◌, ◌<◌, ◌+◌, ◌⊎◌, ◌++◌, ◌∷◌, [], ℕ, List, arith, inl, inr, length, length-append, refl, sym, ap, subst, ◌∙◌}
 use Rattle.std.specs.Prelude.{All, IfErr, IfSome, IsSome, None, OnErr, OnOk, Option, Result, Ok, Err, Some}
+use Rattle.std.proofs.Transfers.{starts_with_length}
 use Rattle.std.proofs.lemmas.Bool.{false≢true}
 use Rattle.std.proofs.lemmas.List.Elements.{All-cons, All-nil}
 use Rattle.base.specs.declared.error.PoolError.{PoolError}
+use Rattle.base.specs.declared.names.Group.{Group}
 use Rattle.base.specs.declared.names.Owner.{Owner}
 use Rattle.base.specs.declared.names.Receipt.{Receipt}
 use Rattle.device_model.specs.declared.device.SectorDevice.{Ghosts}
@@ -19,10 +21,11 @@ use Rattle.frames.specs.declared.request.Request.{Request}
 use Rattle.pool_threads.specs.declared.handle.Handle.{Handle}
 use Rattle.pool_threads.specs.Answers.{Sees}
 use Rattle.pool_threads.specs.Transacts.{TransactsOrLacks}
-use Rattle.pool_threads.specs.Waits.{LeavesDurable}
+use Rattle.pool_threads.specs.Waits.{LeavesDurable, SyncsPool}
 use Rattle.transactions.specs.declared.record.Record.{Record}
 use Rattle.frame_answers.specs.Calls.{AwaitsFlush, AwaitsNoFlush, MakesCalls, MakesDurable, durable_receipt, outcome_of}
 use Rattle.frame_answers.specs.Frames.{AnswersFrame, RefusesFrame}
+use Rattle.frame_answers.specs.Serving.{AnswersFrames, BeginsWithFrames, Exchange, IsLengthAlone, IsWhole, ServesFrames, frames_of}
 use Rattle.frame_answers.proofs.Durable.{never}
 
 module _ {Dev : Type 0} {G : Ghosts Dev} (owner : Owner) (bytes answer : List ℕ) (old new : Handle Dev G) where
@@ -126,3 +129,31 @@ module _ {Dev : Type 0} {G : Ghosts Dev} (owner : Owner) (a b : Record) (agree :
           × OnOk result (new_out ≡ out ++ bytes_of_answers (answers_to_both first second)))
       by (inl same) = inl same
       by (inr (answers, m, is)) = inr (m.first, m.second, m.next, m.one, m.other, ok_with result added (λ e. e ∙ ap (λ (l : List ℕ). out ++ l) (is ∙ ap bytes_of_answers m.answers_are)))
+
+-- frames, and maybe a length, that have fewer than four bytes are none
+short_none : (good last : List Exchange) → All (λ (x : Exchange). IsWhole x.frame) good → IsLengthAlone last → length (frames_of (good ++ last)) < 4 → good ++ last ≡ []
+short_none [] [] whole alone short = refl
+short_none [] (x ∷ []) whole four short =
+    let few : length (x.frame ++ []) < 4 = short in
+    let size : length (x.frame ++ []) ≡ length x.frame + 0 = length-append x.frame [] in
+    absurd (omega (arith, few, size, four))
+short_none [] (x ∷ y ∷ more) whole alone short = absurd alone
+short_none (x ∷ good) last whole alone short =
+    let head : IsWhole x.frame = whole 0 x (omega arith) in
+    let least : 12 ≤ length x.frame = head.least in
+    let few : length (x.frame ++ frames_of (good ++ last)) < 4 = short in
+    let size : length (x.frame ++ frames_of (good ++ last)) ≡ length x.frame + length (frames_of (good ++ last)) = length-append x.frame (frames_of (good ++ last)) in
+    absurd (omega (arith, few, size, least))
+
+none_among : (bytes : List ℕ) (xs : List Exchange) → length bytes < 4 → BeginsWithFrames xs (Some bytes) → xs ≡ []
+none_among bytes xs short b =
+    let fits : length (frames_of xs) ≤ length bytes = starts_with_length bytes (frames_of xs) b.begins in
+    let few : length (frames_of xs) < 4 = omega (arith, fits, short) in
+    b.parts ∙ short_none b.good b.last b.whole b.alone (subst (λ (l : List Exchange). length (frames_of l) < 4) b.parts few)
+
+-- an input of fewer bytes than a length has no frame, so a serve of it only syncs
+pub only_synced : {Dev : Type 0} {G : Ghosts Dev} (owner : Owner) (bytes : List ℕ) (xs : List Exchange) (synced : Result Group PoolError) (old new : Handle Dev G) → length bytes < 4 → BeginsWithFrames xs (Some bytes)
+    → ServesFrames owner xs synced old new → SyncsPool synced old new
+only_synced {Dev} {G} owner bytes xs synced old new short begins s =
+    let same : s.served ≡ old = subst (λ (l : List Exchange). AnswersFrames owner l old s.served) (none_among bytes xs short begins) s.answers in
+    subst (λ (h : Handle Dev G). SyncsPool synced h new) same s.syncs

@@ -1,53 +1,87 @@
--- Frames that are answered one after another, as a loop does, are all answered; and the bytes of all were moved.
+-- Frames that are answered one after another, as a loop does, are all answered; the bytes of all were moved, and stood at
+-- the beginning of the input.
 use Rattle.std.proofs.Common.{◌≡◌, ◌≢◌, ◌⊎◌, ◌∷◌, ◌++◌, [], ℕ, List, append_assoc, append-nil, ap, inl, inr, length, refl, subst, sym, ◌∙◌}
-use Rattle.std.specs.Prelude.{None, Option, Some}
+use Rattle.std.specs.Prelude.{Err, IfSome, None, Option, Some, drop, take}
+use Rattle.std.specs.Io.{StartsWith}
 use Rattle.std.specs.Io.KnownBytes.{Appends, Consumes}
+use Rattle.std.proofs.KnownBytes.{Appends-nil, Appends-trans, Consumes-nil, Consumes-trans, starts_with_rest}
+use Rattle.std.proofs.Math.Seq.{take-append_seam}
 use Rattle.std.proofs.lemmas.Grind.{flat_map-append}
 use Rattle.std.proofs.lemmas.List.Elements.{All-append, All-cons, All-nil}
 use Rattle.base.specs.declared.names.Owner.{Owner}
 use Rattle.device_model.specs.declared.device.SectorDevice.{Ghosts}
 use Rattle.pool_threads.specs.declared.handle.Handle.{Handle}
 use Rattle.frame_answers.specs.Frames.{AnswersFrame}
-use Rattle.frame_answers.specs.Serving.{AnswersFrames, EndsWell, Exchange, Exchanges, IsWhole, Streams, answers_of, frames_of}
+use Rattle.frame_answers.specs.Serving.{AnswersFrames, BeginsWithFrames, EndsWell, Exchange, Exchanges, IsWhole, ReadsFrame, Streams, answers_of, frames_of}
 use Rattle.frame_answers.specs.declared.serving.Ending.{Ending}
 use Rattle.frame_answers.specs.declared.serving.Ending.TheVariants as ending
 
-pub consumes_then : (a b c : Option (List ℕ)) (x y : List ℕ) → Consumes a b x → Consumes b c y → Consumes a c (x ++ y)
-consumes_then None b c x y p q = tt
-consumes_then (Some xs) None c x y p q = absurd p
-consumes_then (Some xs) (Some ys) None x y p q = absurd q
-consumes_then (Some xs) (Some ys) (Some zs) x y p q = p ∙ ap (λ (l : List ℕ). x ++ l) q ∙ sym (append_assoc x y zs)
+-- bytes that were consumed stood at the beginning
+begins_of_consumed : (a b : Option (List ℕ)) (bs : List ℕ) → Consumes a b bs → IfSome a (λ bytes. StartsWith bytes bs)
+begins_of_consumed None b bs p = tt
+begins_of_consumed (Some xs) None bs p = absurd p
+begins_of_consumed (Some xs) (Some ys) bs p = ap (take (length bs)) p ∙ take-append_seam bs ys
 
-pub appends_then : (a b c : Option (List ℕ)) (x y : List ℕ) → Appends a b x → Appends b c y → Appends a c (x ++ y)
-appends_then None b c x y p q = tt
-appends_then (Some xs) None c x y p q = absurd p
-appends_then (Some xs) (Some ys) None x y p q = absurd q
-appends_then (Some xs) (Some ys) (Some zs) x y p q = q ∙ ap (λ (l : List ℕ). l ++ y) p ∙ append_assoc xs x y
+-- what follows them stood after them
+begins_on : (a b : Option (List ℕ)) (bs cs : List ℕ) → Consumes a b bs → IfSome b (λ bytes. StartsWith bytes cs) → IfSome a (λ bytes. StartsWith bytes (bs ++ cs))
+begins_on None b bs cs p q = tt
+begins_on (Some xs) None bs cs p q = absurd p
+begins_on (Some xs) (Some ys) bs cs p q =
+    let rest : List ℕ = drop (length cs) ys in
+    let whole : xs ≡ (bs ++ cs) ++ rest = p ∙ ap (λ (l : List ℕ). bs ++ l) (starts_with_rest ys cs q) ∙ sym (append_assoc bs cs rest) in
+    ap (take (length (bs ++ cs))) whole ∙ take-append_seam (bs ++ cs) rest
+
+-- the answers to more frames follow
+writes_then : (xs ys : List Exchange) (a b c : Option (List ℕ)) → Appends a b (answers_of xs) → Appends b c (answers_of ys) → Appends a c (answers_of (xs ++ ys))
+writes_then xs ys a b c p q = subst (Appends a c) (sym (flat_map-append (λ (x : Exchange). x.answer) xs ys)) (Appends-trans a b c (answers_of xs) (answers_of ys) p q)
 
 pub exchanges_then : (xs ys : List Exchange) (a b c : Streams) → Exchanges xs a b → Exchanges ys b c → Exchanges (xs ++ ys) a c
 exchanges_then xs ys a b c p q = record {
   whole = All-append (λ (x : Exchange). IsWhole x.frame) xs ys p.whole q.whole;
-  reads = subst (Consumes a.input c.input) (sym (flat_map-append (λ (x : Exchange). x.frame) xs ys)) (consumes_then a.input b.input c.input (frames_of xs) (frames_of ys) p.reads q.reads);
-  writes = subst (Appends a.output c.output) (sym (flat_map-append (λ (x : Exchange). x.answer) xs ys)) (appends_then a.output b.output c.output (answers_of xs) (answers_of ys) p.writes q.writes);
+  reads = subst (Consumes a.input c.input) (sym (flat_map-append (λ (x : Exchange). x.frame) xs ys)) (Consumes-trans a.input b.input c.input (frames_of xs) (frames_of ys) p.reads q.reads);
+  writes = writes_then xs ys a.output b.output c.output p.writes q.writes;
+}
+
+-- whole frames, and then what the rest of the input begins with
+pub begins_then : (xs ys : List Exchange) (a b : Streams) → Exchanges xs a b → BeginsWithFrames ys b.input → BeginsWithFrames (xs ++ ys) a.input
+begins_then xs ys a b p q = record {
+  good = xs ++ q.good;
+  last = q.last;
+  parts = ap (λ (l : List Exchange). xs ++ l) q.parts ∙ sym (append_assoc xs q.good q.last);
+  whole = All-append (λ (x : Exchange). IsWhole x.frame) xs q.good p.whole q.whole;
+  alone = q.alone;
+  begins = subst (λ (l : List ℕ). IfSome a.input (λ bytes. StartsWith bytes l)) (sym (flat_map-append (λ (x : Exchange). x.frame) xs ys)) (begins_on a.input b.input (frames_of xs) (frames_of ys) p.reads q.begins);
 }
 
 pub ends_then : (e : Ending) (xs ys : List Exchange) (a b c : Streams) → Exchanges xs a b → EndsWell e ys b c → EndsWell e (xs ++ ys) a c
 ends_then ending.Done xs ys a b c p q = (exchanges_then xs ys a b c p q.0, q.1)
-ends_then ending.CutOff xs ys a b c p q = tt
+ends_then ending.CutOff xs ys a b c p q = writes_then xs ys a.output b.output c.output p.writes q
 ends_then ending.Failed xs ys a b c p q = tt
 ends_then ending.NoMemory xs ys a b c p q = tt
 
-consumes_none : (a : Option (List ℕ)) → Consumes a a []
-consumes_none None = tt
-consumes_none (Some xs) = refl
-
-appends_none : (a : Option (List ℕ)) → Appends a a []
-appends_none None = tt
-appends_none (Some xs) = sym (append-nil xs)
-
 -- no frames
+exchanges_nothing : (i j o : Option (List ℕ)) → Consumes i j [] → Exchanges [] (record { input = i; output = o }) (record { input = j; output = o })
+exchanges_nothing i j o reads = record { whole = All-nil (λ (x : Exchange). IsWhole x.frame); reads = reads; writes = Appends-nil o }
+
 pub exchanges_none : (a : Streams) → Exchanges [] a a
-exchanges_none a = record { whole = All-nil (λ (x : Exchange). IsWhole x.frame); reads = consumes_none a.input; writes = appends_none a.output }
+exchanges_none a = exchanges_nothing a.input a.input a.output (Consumes-nil a.input)
+
+pub begins_none : (input : Option (List ℕ)) → BeginsWithFrames [] input
+begins_none input = record {
+  good = [];
+  last = [];
+  parts = refl;
+  whole = All-nil (λ (x : Exchange). IsWhole x.frame);
+  alone = tt;
+  begins = begins_of_consumed input input [] (Consumes-nil input);
+}
+
+-- the input ended before a frame, or within it: none is answered
+pub ends_none : (e : Ending) (frame : List ℕ) (i j o : Option (List ℕ)) → ReadsFrame (Err e) frame i j → EndsWell e [] (record { input = i; output = o }) (record { input = j; output = o })
+ends_none ending.Done frame i j o reads = (exchanges_nothing i j o reads.0, reads.1)
+ends_none ending.CutOff frame i j o reads = Appends-nil o
+ends_none ending.Failed frame i j o reads = tt
+ends_none ending.NoMemory frame i j o reads = tt
 
 -- one frame and its answer
 exchanges_one : (x : Exchange) (a b : Streams) → IsWhole x.frame → Consumes a.input b.input x.frame → Appends a.output b.output x.answer → Exchanges (x ∷ []) a b
@@ -57,20 +91,55 @@ exchanges_one x a b whole reads writes = record {
   writes = subst (Appends a.output b.output) (sym (append-nil x.answer)) writes;
 }
 
+-- one frame, or a length alone
+begins_one : (x : Exchange) (a b : Option (List ℕ)) → (length x.frame ≡ 4) ⊎ IsWhole x.frame → Consumes a b x.frame → BeginsWithFrames (x ∷ []) a
+begins_one x a b (inl four) reads = record {
+  good = [];
+  last = x ∷ [];
+  parts = refl;
+  whole = All-nil (λ (y : Exchange). IsWhole y.frame);
+  alone = four;
+  begins = begins_of_consumed a b (x.frame ++ []) (subst (Consumes a b) (sym (append-nil x.frame)) reads);
+}
+begins_one x a b (inr whole) reads = record {
+  good = x ∷ [];
+  last = [];
+  parts = refl;
+  whole = All-cons (λ (y : Exchange). IsWhole y.frame) x [] whole (All-nil (λ (y : Exchange). IsWhole y.frame));
+  alone = tt;
+  begins = begins_of_consumed a b (x.frame ++ []) (subst (Consumes a b) (sym (append-nil x.frame)) reads);
+}
+
 -- bytes that were read are a whole frame, unless they are a length alone
 whole_of : (frame : List ℕ) → length frame ≢ 4 → (length frame ≡ 4) ⊎ IsWhole frame → IsWhole frame
 whole_of frame is_longer (inl four) = absurd (is_longer four)
 whole_of frame is_longer (inr whole) = whole
 
 module _ {Dev : Type 0} {G : Ghosts Dev} (owner : Owner) where
-  -- a frame that was answered, and what was written of it
-  pub exchanged : (frame shown cleared out sent : List ℕ) (a b : Streams) (old new : Handle Dev G) → ((answer : List ℕ) × AnswersFrame owner shown answer old new × (out ≡ cleared ++ answer))
-      → cleared ≡ [] → shown ≡ frame → sent ≡ out → length frame ≢ 4 → (length frame ≡ 4) ⊎ IsWhole frame → Consumes a.input b.input frame → Appends a.output b.output sent → (xs : List Exchange) × AnswersFrames owner xs old new × Exchanges xs a b
-  exchanged frame shown cleared out sent a b old new (answer, answered, added) empty same all_sent is_longer whole reads writes =
-      let x : Exchange = record { frame = shown; answer = answer } in
-      let all : sent ≡ answer = all_sent ∙ added ∙ ap (λ (l : List ℕ). l ++ answer) empty in
-      (x ∷ [], (new, answered, refl), exchanges_one x a b (subst IsWhole (sym same) (whole_of frame is_longer whole)) (subst (Consumes a.input b.input) (sym same) reads) (subst (Appends a.output b.output) all writes))
-
   pub answers_then : (xs ys : List Exchange) (a b c : Handle Dev G) → AnswersFrames owner xs a b → AnswersFrames owner ys b c → AnswersFrames owner (xs ++ ys) a c
   answers_then [] ys a b c same rest = subst (λ (h : Handle Dev G). AnswersFrames owner ys h c) same rest
   answers_then (x ∷ xs) ys a b c (next, one, more) rest = (next, one, answers_then xs ys next b c more rest)
+
+  -- a frame that was read, and what was made of it
+  module _ (frame shown : List ℕ) (a b : Streams) (old new : Handle Dev G) (same : shown ≡ frame) (whole : (length frame ≡ 4) ⊎ IsWhole frame) (reads : Consumes a.input b.input frame) where
+    abbrev exchange : List ℕ → Exchange
+    exchange answer = record { frame = shown; answer = answer }
+
+    exchange_begins : (answer : List ℕ) → BeginsWithFrames (exchange answer ∷ []) a.input
+    exchange_begins answer = begins_one (exchange answer) a.input b.input (subst (λ (l : List ℕ). (length l ≡ 4) ⊎ IsWhole l) (sym same) whole) (subst (Consumes a.input b.input) (sym same) reads)
+
+    -- it was answered, whatever was written
+    pub answered : (answer : List ℕ) → AnswersFrame owner shown answer old new → (xs : List Exchange) × AnswersFrames owner xs old new × BeginsWithFrames xs a.input
+    answered answer made = (exchange answer ∷ [], (new, made, refl), exchange_begins answer)
+
+    module _ (cleared out sent : List ℕ) (made : (answer : List ℕ) × AnswersFrame owner shown answer old new × (out ≡ cleared ++ answer)) (empty : cleared ≡ []) (all_sent : sent ≡ out) (writes : Appends a.output b.output sent) where
+      written : Appends a.output b.output made.0
+      written = subst (Appends a.output b.output) (all_sent ∙ made.2 ∙ ap (λ (l : List ℕ). l ++ made.0) empty) writes
+
+      -- its answer was written
+      pub answer_written : (xs : List Exchange) × AnswersFrames owner xs old new × BeginsWithFrames xs a.input × Appends a.output b.output (answers_of xs)
+      answer_written = (exchange made.0 ∷ [], (new, made.1, refl), exchange_begins made.0, subst (Appends a.output b.output) (sym (append-nil made.0)) written)
+
+      -- and it was whole
+      pub exchanged : length frame ≢ 4 → (xs : List Exchange) × AnswersFrames owner xs old new × BeginsWithFrames xs a.input × Exchanges xs a b
+      exchanged is_longer = (exchange made.0 ∷ [], (new, made.1, refl), exchange_begins made.0, exchanges_one (exchange made.0) a b (subst IsWhole (sym same) (whole_of frame is_longer whole)) (subst (Consumes a.input b.input) (sym same) reads) written)

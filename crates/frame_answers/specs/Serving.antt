@@ -1,7 +1,8 @@
 -- What a handle does for the frames of an input, and what becomes of the input's and the output's bytes.
-use Rattle.std.specs.Prelude.{ℕ, ◌≡◌, ◌≤◌, All, List, [], ◌∷◌, length, take, Option, Result, Ok, Err}
+use Rattle.std.specs.Prelude.{ℕ, ◌≡◌, ◌≤◌, ◌++◌, All, IfSome, List, [], ◌∷◌, length, take, Option, Result, Ok, Err}
 use Rattle.std.specs.Int.{from_le_bytes, w32}
 use Rattle.std.specs.List.{flat_map}
+use Rattle.std.specs.Io.{StartsWith}
 use Rattle.std.specs.Io.KnownBytes.{Appends, Consumes, IsAtEnd}
 use Rattle.base.specs.declared.error.PoolError.{PoolError}
 use Rattle.base.specs.declared.names.Group.{Group}
@@ -9,8 +10,6 @@ use Rattle.base.specs.declared.names.Owner.{Owner}
 use Rattle.device_model.specs.declared.device.SectorDevice.{Ghosts}
 use Rattle.frames.specs.Limits.{frame_head, max_frame}
 use Rattle.pool_threads.specs.declared.handle.Handle.{Handle}
-use Rattle.pool_threads.specs.declared.shared.Shared.{Shared}
-use Rattle.pool_threads.specs.Handles.{IsNewHandle}
 use Rattle.pool_threads.specs.Waits.{SyncsPool}
 use Rattle.frame_answers.specs.Frames.{AnswersFrame}
 use Rattle.frame_answers.specs.declared.serving.Ending.{Ending}
@@ -38,15 +37,11 @@ module _ {Dev : Type 0} {G : Ghosts Dev} where
   AnswersFrames owner [] old new = new ≡ old
   AnswersFrames owner (x ∷ xs) old new = (next : Handle Dev G) × AnswersFrame owner x.frame x.answer old next × AnswersFrames owner xs next new
 
-  -- A new handle of this pool answered the frames, one after another. Then it synced the pool, with this result, and
-  -- did no more.
-  pub record ServesFrames (owner : Owner) (p : Shared Dev G) (xs : List Exchange) (synced : Result Group PoolError) : Type 0 where
-    pub first : Handle Dev G
-    pub is_new : IsNewHandle p first
+  -- The handle answered the frames, one after another. Then it synced the pool, with this result, and did no more.
+  pub record ServesFrames (owner : Owner) (xs : List Exchange) (synced : Result Group PoolError) (old new : Handle Dev G) : Type 0 where
     pub served : Handle Dev G
-    pub answers : AnswersFrames owner xs first served
-    pub last : Handle Dev G
-    pub syncs : SyncsPool synced served last
+    pub answers : AnswersFrames owner xs old served
+    pub syncs : SyncsPool synced served new
 
 -- what is known of the bytes that an input has left, and of those that an output holds
 pub record Streams : Type 0 where
@@ -59,15 +54,33 @@ pub record IsWhole (frame : List ℕ) : Type 0 where
   pub most : length frame ≤ max_frame
   pub said : from_le_bytes w32 (take 4 frame) ≡ length frame
 
+-- none, or one that is as long as a length: four bytes
+abbrev pub IsLengthAlone : List Exchange → Type 0
+IsLengthAlone [] = Unit {0}
+IsLengthAlone (x ∷ []) = length x.frame ≡ 4
+IsLengthAlone (x ∷ y ∷ xs) = ⊥
+
+-- The frames that were answered stand in the input from its beginning, each whole, in order. Only the last may be a
+-- length alone, which is no frame: it is refused.
+pub record BeginsWithFrames (xs : List Exchange) (input : Option (List ℕ)) : Type 0 where
+  pub good : List Exchange
+  pub last : List Exchange
+  pub parts : xs ≡ good ++ last
+  pub whole : All (λ (x : Exchange). IsWhole x.frame) good
+  pub alone : IsLengthAlone last
+  pub begins : IfSome input (λ bytes. StartsWith bytes (frames_of xs))
+
 -- the frames were read from the input, each whole, and their answers were written to the output
 pub record Exchanges (xs : List Exchange) (old new : Streams) : Type 0 where
   pub whole : All (λ (x : Exchange). IsWhole x.frame) xs
   pub reads : Consumes old.input new.input (frames_of xs)
   pub writes : Appends old.output new.output (answers_of xs)
 
--- so it was if the input ended after a whole frame, or after none; nothing of it is left then
+-- The input ended after a whole frame, or after none: nothing of it is left then. Or it was cut off: then the answers to
+-- all frames that were answered were written.
 abbrev pub EndsWell : Ending → List Exchange → Streams → Streams → Type 0
 EndsWell ending.Done xs old new = Exchanges xs old new × IsAtEnd new.input
+EndsWell ending.CutOff xs old new = Appends old.output new.output (answers_of xs)
 EndsWell e xs old new = Unit {0}
 
 -- so it was after one more frame

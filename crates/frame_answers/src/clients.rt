@@ -1,7 +1,7 @@
 //! What callers rest on: one function for each promise of this crate's calls, proved from the contract of the call
 //! alone. So it is refused as soon as that contract says less.
 
-ghost use Rattle.std.specs.Prelude.{◌≡◌, ◌⊎◌, ◌++◌, ◌∷◌, [], All, IfSome, List, Ok, OnErr, OnOk, Result};
+ghost use Rattle.std.specs.Prelude.{◌≡◌, ◌⊎◌, ◌++◌, ◌∷◌, [], All, IfSome, List, Ok, OnErr, OnOk, Result, length};
 ghost use Rattle.base.specs.declared.error.PoolError as error;
 ghost use Rattle.base.specs.declared.names.Group as group;
 ghost use Rattle.base.specs.declared.names.Receipt as receipt;
@@ -17,7 +17,6 @@ ghost use Rattle.frames.specs.declared.request.Call.TheVariants as call;
 ghost use Rattle.frames.specs.declared.request.Request as request;
 ghost use Rattle.pool_threads.specs.declared.handle.Handle as handles;
 ghost use Rattle.pool_threads.specs.Answers.{Sees};
-ghost use Rattle.pool_threads.specs.Handles.{IsNewHandle, shared_of};
 ghost use Rattle.pool_threads.specs.Transacts.{TransactsOrLacks};
 ghost use Rattle.pool_threads.specs.Waits.{LeavesDurable, SyncsPool};
 ghost use Rattle.transactions.specs.declared.record.Record as records;
@@ -27,7 +26,7 @@ use crate::serving::{Ending, serve};
 use base::{Owner, PoolError};
 use device_model::{MemDevice, SectorDevice};
 use frames::{FrameError, frames_agree};
-use pool_threads::{Handle, Pool};
+use pool_threads::Handle;
 use std::alloc::Global;
 use std::io::{Read, Write};
 use std::sync::Wait;
@@ -103,21 +102,34 @@ fn two_transactions_of_a_frame_are_made_in_order<D: SectorDevice, W: Wait>(
     answer_frame(handle, rt, alloc, Owner(1), bytes, out)
 }
 
-// It answered frames, and then synced the pool: it made no other steps.
+// The handle answered frames, and then it synced the pool. It made no other steps.
 fn a_serve_only_answers_frames_and_syncs<D: SectorDevice, W: Wait, R: Read, O: Write>(
     rt: &W,
     alloc: Global,
-    pool: &Pool<D>,
+    handle: &mut Handle<'_, D>,
     input: &mut R,
     output: &mut O,
 ) -> Result<Ending, PoolError>
-    ensures { (exchanges : List Exchange) × (first served last : handles.Handle _ _)
+    ensures { (exchanges : List Exchange) × (served : handles.Handle _ _)
         × (synced : Result group.Group error.PoolError)
-        × IsNewHandle (shared_of pool.entry.now) first
-        × AnswersFrames program exchanges first served
-        × SyncsPool synced served last }
+        × AnswersFrames program exchanges handle.old served
+        × SyncsPool synced served handle.new }
 {
-    serve(rt, alloc, pool, input, output)
+    serve(handle, rt, alloc, input, output)
+}
+
+// An input of three bytes has no whole frame, so the handle only syncs the pool.
+fn a_frame_that_is_cut_off_is_not_made<D: SectorDevice, W: Wait, O: Write>(
+    rt: &W,
+    alloc: Global,
+    handle: &mut Handle<'_, D>,
+    input: &mut &[u8],
+    output: &mut O,
+) -> Result<Ending, PoolError>
+    ensures { length input.old.now ≡ 3 → (synced : Result group.Group error.PoolError)
+        × SyncsPool synced handle.old handle.new }
+{
+    serve(handle, rt, alloc, input, output)
 }
 
 // An input of known bytes that ended after a whole frame is those frames, each of which says its own length, and the
@@ -125,7 +137,7 @@ fn a_serve_only_answers_frames_and_syncs<D: SectorDevice, W: Wait, R: Read, O: W
 fn a_serve_that_ends_well_answered_all_of_its_input<D: SectorDevice, W: Wait>(
     rt: &W,
     alloc: Global,
-    pool: &Pool<D>,
+    handle: &mut Handle<'_, D>,
     input: &mut &[u8],
     output: &mut Vec<u8>,
 ) -> Result<Ending, PoolError>
@@ -133,5 +145,5 @@ fn a_serve_that_ends_well_answered_all_of_its_input<D: SectorDevice, W: Wait>(
         × All (λ x. IsWhole x.frame) exchanges × (frames_of exchanges ≡ input.old.now)
         × (output.new.items ≡ output.old.items ++ answers_of exchanges) }
 {
-    serve(rt, alloc, pool, input, output)
+    serve(handle, rt, alloc, input, output)
 }

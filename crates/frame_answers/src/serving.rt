@@ -4,15 +4,14 @@ ghost use Rattle.std.specs.Prelude.{ℕ, ◌≡◌, ◌≤◌, ◌⊎◌, ◌++�
 ghost use Rattle.std.specs.Io.KnownBytes.{Appends, Consumes};
 ghost use Rattle.base.specs.declared.error.PoolError as declared_error;
 ghost use Rattle.base.specs.declared.names.Group as group;
-ghost use Rattle.frame_answers.specs.Serving.{AnswersFrames, EndsWell, Exchange, GoesOnWell, IsWhole, ReadsFrame, ServesFrames, program};
+ghost use Rattle.frame_answers.specs.Serving.{AnswersFrames, BeginsWithFrames, EndsWell, Exchange, GoesOnWell, IsWhole, ReadsFrame, ServesFrames, program};
 ghost use Rattle.frames.specs.Limits.{frame_head, max_frame};
-ghost use Rattle.pool_threads.specs.Handles.{shared_of};
 
 use crate::answering::answer_frame;
 use base::{Owner, PoolError};
 use device_model::SectorDevice;
 use frames::{FRAME_HEAD, MAX_FRAME};
-use pool_threads::{Handle, Pool};
+use pool_threads::Handle;
 use std::alloc::Global;
 use std::io::{self, Read, Write};
 use std::sync::Wait;
@@ -38,29 +37,32 @@ pub enum Ending {
 
 /// Answers all frames of the input, until it ends. Then it syncs the pool.
 ///
+/// The handle makes no other steps. Only frames that stand whole in the input are made, from its beginning and in
+/// order, however the input ends.
+///
 /// A frame that is none is answered by its refusal, and the next one is read. After one whose length can't be a frame's
 /// nothing more is read, since nobody knows where the next begins.
 ///
 /// # Errors
 ///
 /// Those of `Handle::sync_pool` at the end.
-pub fn serve<'b, D: SectorDevice, W: Wait, R: Read, O: Write>(
+pub fn serve<'a, 'b, 'p, D: SectorDevice, W: Wait, R: Read, O: Write>(
+    handle: &'a mut Handle<'p, D>,
     rt: &'b W,
     alloc: Global,
-    pool: &Pool<D>,
     input: &mut R,
     output: &mut O,
 ) -> Result<Ending, PoolError>
     ensures served { (exchanges : List Exchange)
         × (synced : Result group.Group declared_error.PoolError)
-        × ServesFrames program (shared_of pool.entry.now) exchanges synced
+        × ServesFrames program exchanges synced handle.old handle.new
+        × BeginsWithFrames exchanges (R.remaining input.old)
         × IfErr result (λ e. synced ≡ Err e)
         × IfOk result (λ ending. IsOk synced × EndsWell ending exchanges
         (record { input = R.remaining input.old; output = O.contents output.old })
         (record { input = R.remaining input.new; output = O.contents output.new })) }
 {
-    let mut handle = pool.handle();
-    let ending = answer_all(&mut handle, rt, alloc, input, output);
+    let ending = answer_all(handle, rt, alloc, input, output);
     match handle.sync_pool(rt) {
         Ok(_) => Ok(ending),
         Err(error) => Err(error),
@@ -76,6 +78,7 @@ fn answer_all<'a, 'b, 'p, D: SectorDevice, W: Wait, R: Read, O: Write>(
     output: &mut O,
 ) -> Ending
     ensures { (exchanges : List Exchange) × AnswersFrames program exchanges handle.old handle.new
+        × BeginsWithFrames exchanges (R.remaining input.old)
         × EndsWell result exchanges
         (record { input = R.remaining input.old; output = O.contents output.old })
         (record { input = R.remaining input.new; output = O.contents output.new }) }
@@ -102,6 +105,7 @@ fn answer_next<'a, 'b, 'p, D: SectorDevice, W: Wait, R: Read, O: Write>(
     answer: &mut Vec<u8>,
 ) -> Result<(), Ending>
     ensures { (exchanges : List Exchange) × AnswersFrames program exchanges handle.old handle.new
+        × BeginsWithFrames exchanges (R.remaining input.old)
         × GoesOnWell result exchanges
         (record { input = R.remaining input.old; output = O.contents output.old })
         (record { input = R.remaining input.new; output = O.contents output.new }) }

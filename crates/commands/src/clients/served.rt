@@ -25,7 +25,7 @@ const LIMITED: ServeArguments<'static> = ServeArguments {
     moment: 9,
 };
 
-// The pool of the device was opened with the limit and the moment. A new handle of it answered frames and then synced
+// The pool of the device was opened with the limit and the moment. One new handle of it answered frames, then synced
 // the pool, and made no other steps. The frames are the bytes of the input, and the output got the answers to them.
 fn a_serve_of_status_0_answered_all_of_its_input<
     'a,

@@ -5,9 +5,9 @@ use Rattle.frame_answers.proofs.serving.serve.Goals as goal
 pub returns-in-Ok : goal.returns-in-Ok
 returns-in-Ok g c =
     let all = c.answer_all-ending.ensures in
-    record { served = (all.0, Ok c.in-Ok.field-0, record { first = c.handle-handle.result; is_new = c.handle-handle.ensures; served = c.answer_all-ending.new.handle; answers = all.1; last = c.sync_pool.new.self; syncs = c.in-Ok.ensures.synced }, tt, (refl, all.2)) }
+    record { served = (all.0, Ok c.in-Ok.field-0, record { served = c.answer_all-ending.new.handle; answers = all.1; syncs = c.in-Ok.ensures.synced }, all.2, tt, (refl, all.3)) }
 
-pub returns : goal.returns
-returns g c =
+pub returns-in-Err : goal.returns-in-Err
+returns-in-Err g c =
     let all = c.answer_all-ending.ensures in
-    record { served = (all.0, Err c.in-Err.error, record { first = c.handle-handle.result; is_new = c.handle-handle.ensures; served = c.answer_all-ending.new.handle; answers = all.1; last = c.sync_pool.new.self; syncs = c.in-Err.ensures.synced }, refl, tt) }
+    record { served = (all.0, Err c.in-Err.error, record { served = c.answer_all-ending.new.handle; answers = all.1; syncs = c.in-Err.ensures.synced }, all.2, refl, tt) }

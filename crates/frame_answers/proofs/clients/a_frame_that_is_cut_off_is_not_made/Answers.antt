@@ -1,0 +1,10 @@
+use Rattle.std.proofs.Common.{◌<◌, arith, length}
+use Rattle.frame_answers.specs.Serving.{program}
+use Rattle.frame_answers.proofs.ClientFrames.{only_synced}
+use Rattle.frame_answers.proofs.clients.a_frame_that_is_cut_off_is_not_made.Goals as goal
+
+pub returns : goal.returns
+returns g c = λ three.
+    let s = c.serve.ensures.served in
+    let short : length c.args.input.now.now < 4 = omega (arith, three) in
+    (s.1, only_synced program c.args.input.now.now s.0 s.1 c.args.handle.now c.serve.new.handle short s.3 s.2)
