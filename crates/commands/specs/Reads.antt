@@ -1,5 +1,6 @@
 -- What `get` writes: bytes of an object in what the image mounts.
-use Rattle.std.specs.Prelude.{ℕ, ◌≡◌, ◌≢◌, ◌+◌, List, Option, None, Some, min}
+use Rattle.std.specs.Prelude.{ℕ, ◌≡◌, ◌≢◌, ◌+◌, IsSome, List, Option, None, Some, min}
+use Rattle.std.specs.FinMap as finite
 use Rattle.std.specs.Io.KnownBytes.{Appends}
 use Rattle.base.specs.tree.Mount.{MountsTo}
 use Rattle.base.specs.declared.error.PoolError.{PoolError}
@@ -18,9 +19,10 @@ asked_high offset (Some length) = min (offset + length) max_length
 abbrev pub asked_range : GetArguments → Range
 asked_range given = record { low = given.offset; high = asked_high given.offset given.length }
 
--- these are the bytes of a range of an object in the contents that the image mounts
+-- the object is in the contents that the image mounts, and these are the bytes of a range of it
 abbrev pub IsMountedRange : List ℕ → ℕ → Range → List ℕ → Type 0
-IsMountedRange image object range bytes = (contents : Contents) × MountsTo image contents × (bytes ≡ range_in contents.objects (record { 0 = object }) range)
+IsMountedRange image object range bytes = (contents : Contents) × MountsTo image contents × IsSome (finite.get contents.objects object)
+    × (bytes ≡ range_in contents.objects (record { 0 = object }) range)
 
 -- they were written after what the writer had, if that is known
 abbrev pub WritesMounted : List ℕ → ℕ → Range → Option (List ℕ) → Option (List ℕ) → Type 0

@@ -20,8 +20,9 @@ use std::num::NonZeroUsize;
 /// Writes to `out` the bytes of an object of the pool in a file, and nothing else. Returns the exit status, and what
 /// was opened. It only reads the file: it makes no write and no flush, whatever it returns.
 ///
-/// The status is 0 if all was written. It is 1 if the engine refused it, and 3 if the file was not opened as a device
-/// or `out` can't be written. A failure is reported on `errors`. Nothing is written to `out` if a block can't be read.
+/// The status is 0 if all was written. It is 1 if the engine refused it, as it does if there is no such object, and 3
+/// if the file was not opened as a device or `out` can't be written. A failure is reported on `errors`. Nothing is
+/// written to `out` if a block can't be read.
 pub fn run_get<D: SectorDevice + NotesRefusals, W: Write, E: Write>(
     alloc: Global,
     arguments: GetArguments<'_>,

@@ -68,6 +68,21 @@ fn a_get_writes_the_bytes_that_the_image_mounts<
     status
 }
 
+// If object 7 isn't in the contents that the image mounts, the status is not 0.
+fn a_get_finds_its_object<D: SectorDevice + NotesRefusals + Drop, W: Write, E: Write>(
+    alloc: Global,
+    device: D,
+    out: &mut W,
+    errors: &mut E,
+) -> u8
+    ensures { IsTrue D.keeps_model → (contents : Contents)
+        → MountsTo (bytes_of (D.disk device).now) contents
+        → finite.get contents.objects 7 ≡ None → result ≢ 0 }
+{
+    let (status, _) = run_get(alloc, TWO_BYTES, BRIEF, Ok(device), out, errors);
+    status
+}
+
 // Whatever a get finds, it leaves the disk as it was, and the device refused no write and no flush.
 fn a_get_writes_nothing_to_the_device<D: SectorDevice + NotesRefusals, W: Write, E: Write>(
     alloc: Global,

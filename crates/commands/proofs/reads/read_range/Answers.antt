@@ -1,10 +1,8 @@
-use Rattle.std.proofs.Common.{List, ℕ, ap, subst, sym, ◌∙◌}
-use Rattle.std.proofs.lemmas.Result.{IfErr-weaker, IfOk-weaker, err_from_is_err_and}
-use Rattle.std.specs.FinMap.{FinMap}
-use Rattle.std.specs.Ordering.{nat_cmp}
+use Rattle.std.proofs.Common.{subst, sym}
+use Rattle.std.proofs.lemmas.Result.{IfErr-weaker, err_from_is_err_and}
 use Rattle.base.specs.disk.Disk.{Disk, bytes_of}
 use Rattle.import_replay.specs.Views.{IsViewOfImage}
-use Rattle.object_maps.specs.Sources.{range_in}
+use Rattle.commands.proofs.MountedBytes.{mounted_range}
 use Rattle.commands.proofs.OnlyRead.{by_inspection, by_view}
 use Rattle.commands.proofs.reads.read_range.Goals as goal
 
@@ -12,8 +10,7 @@ pub returns-clause-bytes : goal.returns-clause-bytes
 returns-clause-bytes g c = λ keeps.
     let still = c.view_pool.ensures.reads.disk keeps in
     let is = c.in_ok-view.ensures.mounted keeps in
-    IfOk-weaker c.read.result _ _
-    (λ bytes read. (is.contents, is.mounts, read ∙ ap (λ (objects : FinMap nat_cmp (List ℕ)). range_in objects c.args.object c.args.range) (sym is.objects)))
+    mounted_range _ is.contents is.mounts _ is.objects c.args.object c.args.range c.read.result c.read.ensures.outside c.read.ensures.missing
     (c.read.ensures.exact keeps (subst (λ (d : Disk). IsViewOfImage (bytes_of d.now) c.in_ok-view.view) (sym still) is))
 
 pub returns-in_err-view-clause-refused : goal.returns-in_err-view-clause-refused
