@@ -1,4 +1,4 @@
--- What a check of all damages finds, and what it writes.
+-- What a check writes of a finding, and what a check of all damages finds and writes.
 use Rattle.std.specs.Global.{Vec}
 use Rattle.std.specs.Prelude.{ℕ, ◌≡◌, ◌⊎◌, ◌++◌, codes, List, [], ◌∷◌, Option, Ok, Err, Result, MatchResult, map}
 use Rattle.std.specs.Fmt.{decimal}
@@ -55,6 +55,11 @@ AreFoundIn image list = ((group : Group) × (records : ℕ) × (list ≡ Clean g
 abbrev pub all_status : List Finding → ℕ
 all_status [] = 1
 all_status (f ∷ list) = finding_status f
+
+-- A finding was written as a line. It is so of the image of a device that keeps the model.
+pub record WritesFinding (keeps : Type 0) (image : List ℕ) (f : Finding) (old new : Option (List ℕ)) : Type 0 where
+  pub found : keeps → IsFoundIn image f
+  pub writes : Appends old new (finding_line f)
 
 -- All findings were written, a line each. They are so of the image of a device that keeps the model.
 pub record WritesFindings (keeps : Type 0) (image : List ℕ) (list : List Finding) (old new : Option (List ℕ)) : Type 0 where

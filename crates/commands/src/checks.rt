@@ -1,10 +1,12 @@
 //! The command `check`: whether the pool in a file is whole. It only reads, and finds what an inspection finds.
 
-ghost use Rattle.std.specs.Prelude.{◌≡◌, ◌≢◌, ◌≤◌, Err, IfErr, IfOk, IsErr, IsTrue, OnOk};
+ghost use Rattle.std.specs.Prelude.{◌≡◌, ◌≢◌, ◌≤◌, ◌⊎◌, Err, IfErr, IfOk, IsErr, IsTrue, OnOk};
 ghost use Rattle.base.specs.disk.Disk.{bytes_of};
 ghost use Rattle.base.specs.formats.Geometry.{IsGeometry};
 ghost use Rattle.device_model.specs.Reading.{OnlyReads};
-ghost use Rattle.commands.specs.Checks.{IsCheckRefusal, IsFoundIn, MountsWhole, StaysOpened, finding_status, found_of};
+ghost use Rattle.commands.specs.Checks.{IsCheckRefusal, IsFoundIn, StaysOpened, finding_status, found_of};
+ghost use Rattle.commands.specs.FoundDamages.{WritesFinding};
+ghost use Rattle.commands.specs.declared.checks.Finding.{Finding as ShownFinding};
 
 use crate::failure::{Failure, NotesRefusals, REFUSED, Verbosity, report_failure};
 use base::{Group, PoolError};
@@ -95,12 +97,12 @@ fn finding_of(inspected: Result<Inspected, PoolError>) -> Result<Finding, PoolEr
     }
 }
 
-/// Writes to `out` what a check of the pool in a file found, and returns the exit status. It only reads the file: it
-/// makes no write and no flush, whatever it returns.
+/// Writes to `out` what a check of the pool in a file found, as a line, and returns the exit status. It only reads the
+/// file: it makes no write and no flush, whatever it returns.
 ///
 /// The status is 0 if the pool is whole. It is 1 if a block is damaged, if there is no pool, or if the engine refused
-/// the check. It is 3 if the file was not opened as a device or `out` can't be written. A failure is reported on
-/// `errors`.
+/// the check; then nothing is written. It is 3 if the file was not opened as a device or `out` can't be written. A
+/// failure is reported on `errors`.
 pub fn run_check<D: SectorDevice + NotesRefusals, W: Write, E: Write>(
     alloc: Global,
     file: &str,
@@ -112,21 +114,29 @@ pub fn run_check<D: SectorDevice + NotesRefusals, W: Write, E: Write>(
     ensures only_read { StaysOpened D.SectorDevice opened.old opened.new }
     ensures unusable { IsErr opened.old → result ≡ 3 }
     ensures size { IfOk opened.old (λ device. (IsGeometry (D.size device) → ⊥) → result ≡ 1) }
-    ensures clean { result ≡ 0 → IfOk opened.old (λ device. IsTrue D.keeps_model
-        → MountsWhole (bytes_of (D.disk device).now)) }
+    ensures clean { result ≡ 0 → IfOk opened.old (λ device. (found : ShownFinding)
+        × (finding_status found ≡ 0) × WritesFinding (IsTrue D.keeps_model)
+        (bytes_of (D.disk device).now) found (W.contents out.old) (W.contents out.new)) }
+    ensures damaged { result ≡ 1 → IfOk opened.old (λ device.
+        (W.contents out.new ≡ W.contents out.old) ⊎ ((found : ShownFinding)
+        × (finding_status found ≡ 1) × WritesFinding (IsTrue D.keeps_model)
+        (bytes_of (D.disk device).now) found (W.contents out.old) (W.contents out.new))) }
     ensures range { result ≤ 3 }
     ensures no_usage { result ≢ 2 }
 {
-    match check_opened(alloc, opened, out) {
-        Ok(finding) => finding.status(),
-        Err(failure) => report_failure(failure, file, verbosity, errors),
+    let finding = match check_opened(alloc, opened) {
+        Ok(finding) => finding,
+        Err(failure) => return report_failure(failure, file, verbosity, errors),
+    };
+    match writeln!(out, "{finding}") {
+        Ok(()) => finding.status(),
+        Err(_) => report_failure(Failure::Unwritten, file, verbosity, errors),
     }
 }
 
-fn check_opened<D: SectorDevice + NotesRefusals, W: Write>(
+fn check_opened<D: SectorDevice + NotesRefusals>(
     alloc: Global,
     opened: &mut Result<D, FileRefusal>,
-    out: &mut W,
 ) -> Result<Finding, Failure>
     ensures only_read { StaysOpened D.SectorDevice opened.old opened.new }
     ensures unusable { IfErr opened.old (λ cause. result ≡ Err (Failure.Unusable cause)) }
@@ -139,12 +149,8 @@ fn check_opened<D: SectorDevice + NotesRefusals, W: Write>(
         Ok(device) => device,
         Err(cause) => return Err(Failure::Unusable(*cause)),
     };
-    let finding = match check_pool(alloc, device) {
-        Ok(finding) => finding,
-        Err(refusal) => return Err(Failure::of_pool(refusal, device)),
-    };
-    if writeln!(out, "{finding}").is_err() {
-        return Err(Failure::Unwritten);
+    match check_pool(alloc, device) {
+        Ok(finding) => Ok(finding),
+        Err(refusal) => Err(Failure::of_pool(refusal, device)),
     }
-    Ok(finding)
 }

@@ -6,11 +6,13 @@ mod objects;
 mod refusals;
 mod served;
 
-ghost use Rattle.std.specs.Prelude.{◌≡◌, ◌≢◌, ℕ, IfOk, IsOk, IsTrue};
+ghost use Rattle.std.specs.Prelude.{◌≡◌, ◌≢◌, ◌⊎◌, ℕ, [], IfOk, IsOk, IsTrue, Some, codes};
 ghost use Rattle.base.specs.tree.Mount.{IsTreeDamaged, MountsTo};
 ghost use Rattle.base.specs.disk.Disk.{bytes_of};
 ghost use Rattle.base.specs.history.Contents.{Contents};
-ghost use Rattle.commands.specs.Checks.{finding_status};
+ghost use Rattle.commands.specs.Checks.{IsFoundIn, finding_status};
+ghost use Rattle.commands.specs.declared.checks.Finding.{Finding as ShownFinding};
+ghost use Rattle.commands.specs.declared.checks.Finding.TheVariants.{Damaged};
 
 use crate::arguments::{CreateArguments, LoadArguments, Options, ScriptArguments, ScriptDevice};
 use crate::checks::{Finding, check_pool, run_check};
@@ -209,6 +211,21 @@ fn a_damaged_pool_is_not_clean<D: SectorDevice + NotesRefusals + Drop, W: Write,
 ) -> u8
     ensures { IsTrue D.keeps_model → (kind address : ℕ)
         → IsTreeDamaged (bytes_of (D.disk device).now) kind address → result ≢ 0 }
+{
+    run_check(alloc, "tank.pool", BRIEF, &mut Ok(device), out, errors)
+}
+
+// A damaged data block is printed if a check can find nothing else, or nothing is if the check is refused.
+fn a_check_prints_the_damage<D: SectorDevice + NotesRefusals + Drop, W: Write, E: Write>(
+    alloc: Global,
+    device: D,
+    out: &mut W,
+    errors: &mut E,
+) -> u8
+    ensures { result ≡ 1 → IsTrue D.keeps_model → ((found : ShownFinding)
+        → IsFoundIn (bytes_of (D.disk device).now) found → found ≡ Damaged 5 4194304)
+        → W.contents out.old ≡ Some [] → (W.contents out.new ≡ Some [])
+        ⊎ (W.contents out.new ≡ Some (codes "damaged 5 4194304\n")) }
 {
     run_check(alloc, "tank.pool", BRIEF, &mut Ok(device), out, errors)
 }
