@@ -4,6 +4,7 @@ mod Findings
 mod MountedBytes
 mod OnlyRead
 mod Pieces
+mod PoolLines
 mod PutBytes
 mod PutClients
 mod RefusedClients

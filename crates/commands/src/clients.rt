@@ -6,7 +6,7 @@ mod objects;
 mod refusals;
 mod served;
 
-ghost use Rattle.std.specs.Prelude.{◌≡◌, ◌≢◌, ◌⊎◌, ℕ, [], IfOk, IsOk, IsTrue, Some, codes};
+ghost use Rattle.std.specs.Prelude.{◌≡◌, ◌≢◌, ◌⊎◌, ◌++◌, ℕ, List, [], IfOk, IsOk, IsTrue, Some, codes};
 ghost use Rattle.base.specs.tree.Mount.{IsTreeDamaged, MountsTo};
 ghost use Rattle.base.specs.disk.Disk.{bytes_of};
 ghost use Rattle.base.specs.history.Contents.{Contents};
@@ -100,6 +100,28 @@ where
     run_create(rt, arguments, OPTIONS, out, errors)
 }
 
+// The output had no bytes before.
+fn a_create_prints_the_name_and_the_blocks<R: Files + Wait, W: Write, E: Write>(
+    rt: &R,
+    out: &mut W,
+    errors: &mut E,
+) -> u8
+where
+    R::File: FileExt + HeldFile,
+    ensures { result ≡ 0 → W.contents out.old ≡ Some []
+        → W.contents out.new ≡ Some (codes "created tank 896 blocks\n") }
+{
+    let arguments = CreateArguments {
+        file: "tank.pool",
+        name: "tank",
+        guid: 77,
+        size: 8_388_608,
+        only_new: false,
+        moment: 0,
+    };
+    run_create(rt, arguments, OPTIONS, out, errors)
+}
+
 fn a_pool_that_is_not_opened_shows_status_3<
     D: SectorDevice + NotesRefusals + Drop,
     W: Write,
@@ -109,6 +131,21 @@ fn a_pool_that_is_not_opened_shows_status_3<
 {
     let mut opened: Result<D, FileRefusal> = Err(FileRefusal::InUse);
     run_show(alloc, "tank.pool", BRIEF, &mut opened, out, errors)
+}
+
+// The output had no bytes before.
+fn a_show_begins_with_the_name<D: SectorDevice + NotesRefusals + Drop, W: Write, E: Write>(
+    alloc: Global,
+    device: D,
+    out: &mut W,
+    errors: &mut E,
+) -> u8
+    ensures { result ≡ 0 → IsTrue D.keeps_model → (contents : Contents)
+        → MountsTo (bytes_of (D.disk device).now) contents → contents.name ≡ codes "tank"
+        → W.contents out.old ≡ Some []
+        → (rest : List ℕ) × (W.contents out.new ≡ Some (codes "name tank\nguid " ++ rest)) }
+{
+    run_show(alloc, "tank.pool", BRIEF, &mut Ok(device), out, errors)
 }
 
 // Whatever a show finds, it leaves the disk as it was, and the device refused no write and no flush.

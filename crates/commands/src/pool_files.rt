@@ -4,33 +4,37 @@
 //! The size is tested first, then the name, and only then the file is opened. So the file is unchanged if either is
 //! refused: a file is opened for a `NewPool`, which only these tests make. `show` and `ls` only read.
 
-ghost use Rattle.std.specs.Prelude.{◌≡◌, ◌≢◌, ◌≤◌, false, Err, IfErr, IsErr, OnOk};
-ghost use Rattle.base.specs.formats.Geometry.{IsGeometry, is_geometry};
+ghost use Rattle.std.specs.Io.KnownBytes.{Appends};
+ghost use Rattle.std.specs.Prelude.{◌≡◌, ◌≢◌, ◌≤◌, false, Err, IfErr, IfOk, IsErr, IsTrue, OnOk};
+ghost use Rattle.base.specs.disk.Disk.{bytes_of};
+ghost use Rattle.base.specs.formats.Geometry.{IsGeometry, block_count, is_geometry};
 ghost use Rattle.base.specs.formats.Names.{is_name};
 ghost use Rattle.import_replay.specs.CreateRefusals.{CanCreate};
+ghost use Rattle.import_replay.specs.Inspections.{AgreesWithImports, IsInspectionOf};
 ghost use Rattle.commands.specs.Checks.{StaysOpened};
-ghost use Rattle.commands.specs.Failures.{IsNewPoolRefusal, sector_bytes};
+ghost use Rattle.commands.specs.Failures.{IsNewPoolRefusal, failure_status, sector_bytes};
+ghost use Rattle.commands.specs.PoolLines.{WritesInspected, created_line, listed_lines, number_lines, object_lines, shown_lines};
 
 use crate::arguments::{CreateArguments, Options};
 use crate::failure::{Failure, NotesRefusals, Verbosity, report_failure};
 use crate::waiting::NewFile;
-use base::{PoolError, PoolName, Reply};
+use base::{ObjectId, PoolError, PoolName};
 use device_model::{FileRefusal, HeldFile, SectorDevice};
 use import_replay::{Inspected, create, inspect};
 use labels::{Geometry, SECTOR_SIZE};
-use scripts::Answer;
 use std::alloc::Global;
 use std::io::{self, Write};
 use std::os::unix::fs::FileExt;
 use std::rt::Files;
 use std::sync::Wait;
 
-/// Makes a pool in a file, writes its name and its blocks to `out`, and returns the exit status.
+/// Makes a pool in a file, writes a line with its name and the number of its blocks to `out`, and returns the exit
+/// status.
 ///
-/// The status is 0 if the pool was made, 1 if the engine refused it, and 3 if the file can't be used or `out` can't be
-/// written. A failure is reported on `errors`. A file can't be used if it isn't a regular file, can't be opened, made
-/// or resized, is open as a pool in this or another process after the seconds of the options, or exists though only a
-/// new one will do.
+/// The status is 0 if the pool was made. It is 1 if the engine refused it; then nothing is written. It is 3 if the file
+/// can't be used or `out` can't be written. A failure is reported on `errors`. A file can't be used if it isn't a
+/// regular file, can't be opened, made or resized, is open as a pool in this or another process after the seconds of
+/// the options, or exists though only a new one will do.
 pub fn run_create<R: Files + Wait, W: Write, E: Write>(
     rt: &R,
     arguments: CreateArguments<'_>,
@@ -42,6 +46,9 @@ where
     R::File: FileExt + HeldFile,
     ensures size { is_geometry (sector_bytes arguments.entry.size) ≡ false → result ≡ 1 }
     ensures name { is_name arguments.entry.name.now ≡ false → result ≡ 1 }
+    ensures created { result ≡ 0 → Appends (W.contents out.old) (W.contents out.new)
+        (created_line arguments.entry.name.now (block_count (sector_bytes arguments.entry.size))) }
+    ensures unprinted { result ≡ 1 → W.contents out.new ≡ W.contents out.old }
     ensures range { result ≤ 3 }
     ensures no_usage { result ≢ 2 }
 {
@@ -66,6 +73,10 @@ where
     ensures name { IsGeometry (sector_bytes arguments.entry.size)
         → is_name arguments.entry.name.now ≡ false
         → result ≡ Err (Failure.Refused PoolError.BadRange) }
+    ensures created { OnOk result (Appends (W.contents out.old) (W.contents out.new)
+        (created_line arguments.entry.name.now (block_count (sector_bytes arguments.entry.size)))) }
+    ensures unprinted { IfErr result (λ failure. failure_status failure ≡ 1
+        → W.contents out.new ≡ W.contents out.old) }
 {
     let pool = NewPool::new(arguments)?;
     let device = pool
@@ -96,6 +107,8 @@ impl<'a> NewPool<'a> {
     fn new(arguments: CreateArguments<'a>) -> Result<Self, PoolError>
         ensures tested { OnOk result
             (CanCreate (sector_bytes arguments.entry.size) arguments.entry.name.now) }
+        ensures geometry { IfOk result
+            (λ pool. pool.geometry ≡ sector_bytes arguments.entry.size) }
         ensures refused { IfErr result
             (IsNewPoolRefusal arguments.entry.size arguments.entry.name.now) }
     {
@@ -125,11 +138,11 @@ impl<'a> NewPool<'a> {
     }
 }
 
-/// Writes to `out` what an import of the pool in a file would mount, and returns the exit status. It only reads the
-/// file: it makes no write and no flush, whatever it returns.
+/// Writes to `out` the name and the numbers of what an import of the pool in a file would mount, a line for each of its
+/// objects, and returns the exit status. It only reads the file: it makes no write and no flush, whatever it returns.
 ///
-/// The status is 0 if it was written, 1 if the engine refused it, and 3 if the file was not opened as a device or
-/// `out` can't be written. A failure is reported on `errors`.
+/// The status is 0 if it was written. It is 1 if the engine refused it; then nothing is written. It is 3 if the file
+/// was not opened as a device or `out` can't be written. A failure is reported on `errors`.
 pub fn run_show<D: SectorDevice + NotesRefusals, W: Write, E: Write>(
     alloc: Global,
     file: &str,
@@ -140,10 +153,18 @@ pub fn run_show<D: SectorDevice + NotesRefusals, W: Write, E: Write>(
 ) -> u8
     ensures only_read { StaysOpened D.SectorDevice opened.old opened.new }
     ensures unusable { IsErr opened.old → result ≡ 3 }
+    ensures shown { result ≡ 0 → IfOk opened.old (λ device.
+        WritesInspected (IsTrue D.keeps_model) (bytes_of (D.disk device).now) shown_lines
+        (W.contents out.old) (W.contents out.new)) }
+    ensures unprinted { result ≡ 1 → W.contents out.new ≡ W.contents out.old }
     ensures range { result ≤ 3 }
     ensures no_usage { result ≢ 2 }
 {
-    match show_pool(alloc, opened, out) {
+    let inspected = match inspect_opened(alloc, opened) {
+        Ok(inspected) => inspected,
+        Err(failure) => return report_failure(failure, file, verbosity, errors),
+    };
+    match write_inspected(&inspected, out) {
         Ok(()) => 0,
         Err(failure) => report_failure(failure, file, verbosity, errors),
     }
@@ -163,27 +184,20 @@ pub fn run_list<D: SectorDevice + NotesRefusals, W: Write, E: Write>(
 ) -> u8
     ensures only_read { StaysOpened D.SectorDevice opened.old opened.new }
     ensures unusable { IsErr opened.old → result ≡ 3 }
+    ensures listed { result ≡ 0 → IfOk opened.old (λ device.
+        WritesInspected (IsTrue D.keeps_model) (bytes_of (D.disk device).now) listed_lines
+        (W.contents out.old) (W.contents out.new)) }
+    ensures unprinted { result ≡ 1 → W.contents out.new ≡ W.contents out.old }
     ensures range { result ≤ 3 }
     ensures no_usage { result ≢ 2 }
 {
-    match list_pool(alloc, opened, out) {
+    let inspected = match inspect_opened(alloc, opened) {
+        Ok(inspected) => inspected,
+        Err(failure) => return report_failure(failure, file, verbosity, errors),
+    };
+    match write_objects(&inspected.objects, out) {
         Ok(()) => 0,
         Err(failure) => report_failure(failure, file, verbosity, errors),
-    }
-}
-
-fn list_pool<D: SectorDevice + NotesRefusals, W: Write>(
-    alloc: Global,
-    opened: &mut Result<D, FileRefusal>,
-    out: &mut W,
-) -> Result<(), Failure>
-    ensures only_read { StaysOpened D.SectorDevice opened.old opened.new }
-    ensures unusable { IfErr opened.old (λ cause. result ≡ Err (Failure.Unusable cause)) }
-{
-    let inspected = inspect_opened(alloc, opened)?;
-    match write_objects(&inspected, out) {
-        Ok(()) => Ok(()),
-        Err(_) => Err(Failure::Unwritten),
     }
 }
 
@@ -194,6 +208,10 @@ fn inspect_opened<D: SectorDevice + NotesRefusals>(
 ) -> Result<Inspected, Failure>
     ensures only_read { StaysOpened D.SectorDevice opened.old opened.new }
     ensures unusable { IfErr opened.old (λ cause. result ≡ Err (Failure.Unusable cause)) }
+    ensures mounted { IfOk opened.old (λ device. IsTrue D.keeps_model
+        → IfOk result (IsInspectionOf (bytes_of (D.disk device).now))) }
+    ensures agrees { IfOk opened.old (λ device. IsTrue D.keeps_model
+        → IfOk result (AgreesWithImports (bytes_of (D.disk device).now))) }
 {
     let device = match opened {
         Ok(device) => device,
@@ -205,38 +223,46 @@ fn inspect_opened<D: SectorDevice + NotesRefusals>(
     }
 }
 
-fn show_pool<D: SectorDevice + NotesRefusals, W: Write>(
-    alloc: Global,
-    opened: &mut Result<D, FileRefusal>,
-    out: &mut W,
-) -> Result<(), Failure>
-    ensures only_read { StaysOpened D.SectorDevice opened.old opened.new }
-    ensures unusable { IfErr opened.old (λ cause. result ≡ Err (Failure.Unusable cause)) }
+// Writes the name and the numbers of a pool, a line each, and then a line for each object that is there.
+fn write_inspected<W: Write>(inspected: &Inspected, out: &mut W) -> Result<(), Failure>
+    ensures written { OnOk result (Appends (W.contents out.old) (W.contents out.new)
+        (shown_lines inspected.now)) }
+    ensures failed { IfErr result (λ failure. failure ≡ Failure.Unwritten) }
 {
-    let inspected = inspect_opened(alloc, opened)?;
-    match write_inspected(&inspected, out) {
-        Ok(()) => Ok(()),
-        Err(_) => Err(Failure::Unwritten),
-    }
+    let Ok(()) = write_numbers(inspected, out) else {
+        return Err(Failure::Unwritten);
+    };
+    write_objects(&inspected.objects, out)
 }
 
-// The numbers of a pool, a line each, and then a line for each object that is there.
-fn write_inspected<W: Write>(inspected: &Inspected, out: &mut W) -> io::Result<()> {
-    let name = Answer::Reply(Reply::Name(inspected.name.copy()));
-    writeln!(out, "{name}")?;
-    writeln!(out, "guid {}", inspected.guid)?;
-    writeln!(out, "group {}", inspected.group.0)?;
-    writeln!(out, "import {}", inspected.import_number)?;
-    writeln!(out, "blocks {} used {}", inspected.blocks, inspected.used)?;
-    writeln!(out, "records {}", inspected.records)?;
-    writeln!(out, "objects {}", inspected.objects.len())?;
-    write_objects(inspected, out)
+fn write_numbers<W: Write>(inspected: &Inspected, out: &mut W) -> io::Result<()>
+    ensures { OnOk result (Appends (W.contents out.old) (W.contents out.new)
+        (number_lines inspected.now)) }
+{
+    writeln!(
+        out,
+        "name {}\nguid {}\ngroup {}\nimport {}\nblocks {} used {}\nrecords {}\nobjects {}",
+        inspected.name.as_str(),
+        inspected.guid,
+        inspected.group.0,
+        inspected.import_number,
+        inspected.blocks,
+        inspected.used,
+        inspected.records,
+        inspected.objects.len()
+    )
 }
 
-// A line for each object that is there.
-fn write_objects<W: Write>(inspected: &Inspected, out: &mut W) -> io::Result<()> {
-    for (id, length) in inspected.objects.as_slice() {
-        writeln!(out, "{} {length}", id.0)?;
+// Writes a line for each object.
+fn write_objects<W: Write>(objects: &[(ObjectId, u64)], out: &mut W) -> Result<(), Failure>
+    ensures written { OnOk result (Appends (W.contents out.old) (W.contents out.new)
+        (object_lines objects.now)) }
+    ensures failed { IfErr result (λ failure. failure ≡ Failure.Unwritten) }
+{
+    for object in objects {
+        let Ok(()) = writeln!(out, "{} {}", object.0.0, object.1) else {
+            return Err(Failure::Unwritten);
+        };
     }
     Ok(())
 }

@@ -100,6 +100,21 @@ fn a_get_writes_nothing_to_the_device<D: SectorDevice + NotesRefusals, W: Write,
     opened
 }
 
+// Object 7 is the only one, and the output had no bytes before.
+fn a_list_has_the_number_and_the_length<D: SectorDevice + NotesRefusals + Drop, W: Write, E: Write>(
+    alloc: Global,
+    device: D,
+    out: &mut W,
+    errors: &mut E,
+) -> u8
+    ensures { result ≡ 0 → IsTrue D.keeps_model → (contents : Contents)
+        → MountsTo (bytes_of (D.disk device).now) contents
+        → finite.entries contents.objects ≡ (7, 10 ∷ 11 ∷ []) ∷ []
+        → W.contents out.old ≡ Some [] → W.contents out.new ≡ Some (codes "7 2\n") }
+{
+    run_list(alloc, "tank.pool", BRIEF, &mut Ok(device), out, errors)
+}
+
 fn a_list_writes_nothing_to_the_device<D: SectorDevice + NotesRefusals, W: Write, E: Write>(
     alloc: Global,
     device: D,
