@@ -1,4 +1,5 @@
 -- All that a check finds is so of the image, as the search for damages says.
+use Rattle.std.proofs.KnownBytes.{Appends-trans}
 use Rattle.std.proofs.Common.{◌≡◌, ◌⊎◌, ◌++◌, ◌+◌, ◌<◌, ap, append-nil, append_assoc, arith, drop, get_or, inl, inr, length, map, ℕ, List, [], ◌∷◌, Result, Ok, Err, IsTrue, refl, subst, sym, ◌∙◌}
 use Rattle.std.specs.Global.{Vec}
 use Rattle.std.specs.Fmt.{decimal}
@@ -15,7 +16,6 @@ use Rattle.base.specs.history.Contents.{Contents}
 use Rattle.device_model.specs.Reading.{OnlyReads}
 use Rattle.device_model.specs.declared.device.SectorDevice.{Ghosts}
 use Rattle.device_model.specs.declared.held_file.FileRefusal.{FileRefusal}
-use Rattle.frame_answers.proofs.Served.{appends_then}
 use Rattle.import_replay.specs.Inspections.{mount_of}
 use Rattle.import_replay.specs.Refused.{IsInspectionRefused}
 use Rattle.import_replay.specs.PoolDamages.{IsOfNoDamage, IsSoundnessOf}
@@ -97,7 +97,7 @@ pub next_line : (all : List Finding) (i : ℕ) (d : Finding) (before now after :
 next_line all i d before now after front within written left line =
     let f = get_or all i d in (
       front ++ finding_line f,
-      appends_then before now after front (finding_line f) written line,
+      Appends-trans before now after front (finding_line f) written line,
       left ∙ ap (λ (l : List Finding). front ++ finding_lines l) (drop_more all i d within) ∙ sym (append_assoc front (finding_line f) (finding_lines (drop (i + 1) all))),
     )
 

@@ -4,6 +4,7 @@ use Rattle.std.specs.FinMap as finite
 use Rattle.std.specs.Fmt.{digits}
 use Rattle.std.specs.Io.KnownBytes.{Appends}
 use Rattle.std.specs.Prelude.{IfOk, Option, Some, codes}
+use Rattle.std.proofs.KnownBytes.{Appends-trans}
 use Rattle.std.proofs.lemmas.List.{drop_more}
 use Rattle.base.specs.tree.Mount.{MountsTo}
 use Rattle.base.specs.declared.names.ObjectId.{ObjectId}
@@ -13,10 +14,8 @@ use Rattle.base.specs.history.Contents.{Contents}
 use Rattle.base.proofs.crash.OneMount.{mounts_agree}
 use Rattle.device_model.specs.declared.device.SectorDevice.{Ghosts}
 use Rattle.device_model.specs.declared.held_file.FileRefusal.{FileRefusal}
-use Rattle.frame_answers.proofs.Served.{appends_then}
 use Rattle.import_replay.specs.Inspections.{AgreesWithImports, IsInspectionOf, IsToldOf}
 use Rattle.import_replay.specs.declared.inspection.Inspected.{Inspected}
-use Rattle.tree_blocks.specs.ListedObjects.{listed}
 use Rattle.commands.specs.Failures.{sector_bytes}
 use Rattle.commands.specs.PoolLines.{WritesInspected, created_line, listed_lines, object_line, object_lines, shown_lines}
 use Rattle.commands.proofs.MountedBytes.{appended}
@@ -28,7 +27,7 @@ pub next_object : (all : List (ObjectId × ℕ)) (i : ℕ) (d : ObjectId × ℕ)
 next_object all i d before now after front within written left line =
     let object = get_or all i d in (
       front ++ object_line object,
-      appends_then before now after front (object_line object) written line,
+      Appends-trans before now after front (object_line object) written line,
       left ∙ ap (λ (l : List (ObjectId × ℕ)). front ++ object_lines l) (drop_more all i d within) ∙ sym (append_assoc front (object_line object) (object_lines (drop (i + 1) all))),
     )
 
@@ -55,9 +54,9 @@ pub two_listed : (keeps : Type 0) (image : List ℕ) (before after : Option (Lis
     → finite.entries contents.objects ≡ (7, 10 ∷ 11 ∷ []) ∷ [] → before ≡ Some [] → WritesInspected keeps image listed_lines before after → after ≡ Some (codes "7 2\n")
 two_listed keeps image before after kept contents mounts alone empty w =
     let told = told_of image w.inspected (w.mounted kept) contents mounts in
-    let one : listed contents.objects ≡ (record { 0 = 7 }, 2) ∷ [] = ap (map (λ (e : ℕ × List ℕ). (record { 0 = e.0 }, length e.1))) alone in
+    let row : ℕ × List ℕ → ObjectId × ℕ = λ e. (record { 0 = e.0 }, length e.1) in
     appended after (listed_lines w.inspected) (subst (λ (b : Option (List ℕ)). Appends b after (listed_lines w.inspected)) empty w.writes)
-    ∙ ap (λ (l : List (ObjectId × ℕ)). Some (object_lines l)) (told.objects_are ∙ one) ∙ ap Some seven_line
+    ∙ ap (λ (l : List (ObjectId × ℕ)). Some (object_lines l)) (told.objects_are ∙ ap (map row) alone) ∙ ap Some seven_line
 
 -- lines with this name begin with it
 begins : (name rest more : List ℕ) → name ≡ codes "tank" → (codes "name " ++ (name ++ (codes "\nguid " ++ rest))) ++ more ≡ codes "name tank\nguid " ++ (rest ++ more)
