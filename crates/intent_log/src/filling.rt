@@ -3,6 +3,7 @@
 ghost use Rattle.std.specs.Prelude.{◌≡◌, IfErr, IfOk, map};
 ghost use Rattle.intent_log.specs.Fillings.{receipt_of};
 
+use crate::ahead::Ahead;
 use crate::begun::BegunRecord;
 use base::{PoolError, Receipt};
 use checked_blocks::Block;
@@ -27,6 +28,8 @@ pub struct NextLogBlock {
     pub block: Block,
     /// What it has of records.
     pub filling: Filling,
+    /// The blocks that were sealed beside it, if there are some.
+    pub ahead: Option<Ahead>,
 }
 
 /// The receipts of records, in order.

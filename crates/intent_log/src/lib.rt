@@ -2,6 +2,7 @@
 //! chain of them that an import reads.
 #![tactic(auto)]
 
+mod ahead;
 mod begun;
 mod chains;
 mod clients;
@@ -13,6 +14,7 @@ mod packing;
 mod parts;
 mod records;
 
+pub use ahead::{AHEAD, Ahead};
 pub use begun::BegunRecord;
 pub use chains::{ChainHeader, LoggedPiece, chain};
 pub use filling::{Filling, NextLogBlock};

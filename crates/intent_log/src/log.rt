@@ -21,10 +21,13 @@ ghost use Rattle.intent_log.specs.Kept.{AreNumberedTo, AreRising, HasBlockRoom, 
 ghost use Rattle.intent_log.specs.Receipts.{begins_of, committed, ends_of};
 ghost use Rattle.intent_log.specs.RunLogs.{IsLogOf, KeepsHeader, KeepsHeaders, is_unsynced_in, pending_after, records_after};
 
+use crate::ahead::{AHEAD, Ahead, Sealer};
 use crate::begun::BegunRecord;
 use crate::filling::{Filling, NextLogBlock, receipts_of};
 use crate::kept_block::{Holds, KeptBlock, LogHeader};
-use crate::packing::{FirstPart, LOG_BLOCK_ROOM, NewBlock, Packed, PackedBlock, pack, pack_part};
+use crate::packing::{
+    FirstPart, LOG_BLOCK_ROOM, NewBlock, Packed, PackedBlock, pack_by, pack_part,
+};
 use base::{Group, LAST_NUMBER, Ordinal, PoolError, Receipt};
 use std::alloc::Global;
 use std::collections::VecDeque;
@@ -43,6 +46,8 @@ pub struct Log {
     flushed: usize,
     begun: Option<BegunRecord>,
     next: LogHeader,
+    // what may be written soon
+    ahead: Ahead,
 }
 
 impl Model for Log {
@@ -75,6 +80,7 @@ impl Log {
             flushed: 0,
             begun: None,
             next: LogHeader { address, number: 0 },
+            ahead: Ahead::none(alloc),
         }
     }
 
@@ -162,33 +168,52 @@ impl Log {
     }
 
     /// The next block, for this place: the next part of the record that is begun, or else as many whole pending records
-    /// from the front as fit, or else the first part of the first one.
+    /// from the front as fit, or else the first part of the first one. `after` are the addresses that the blocks after
+    /// the next two are likely to have: if they have them, their checks cost less.
     ///
     /// # Errors
     /// `NoMemory` if there is no memory for the bytes of the records and their receipts. The next part of a begun
-    /// record takes none.
-    pub fn pack_next(&self, alloc: Global, place: &NewBlock) -> Result<NextLogBlock, PoolError>
+    /// record needs none.
+    pub fn pack_next(
+        &self,
+        alloc: Global,
+        place: &NewBlock,
+        after: &[u64; AHEAD],
+    ) -> Result<NextLogBlock, PoolError>
         requires { ((length self.now.pending == 0) && is_none self.now.begun) ≡ false }
         ensures packs { IfOk result (IsNextBlock place.now self.now) }
         ensures part { is_none self.now.begun ≡ false → IsOk result }
         ensures refused { IfErr result (λ e. e ≡ PoolError.NoMemory) }
     {
+        let mut sealer = Sealer::new(alloc, &self.ahead, after);
+        let pending = &self.unsynced[self.written..];
         if let Some(begun) = &self.begun {
             return Ok(NextLogBlock {
-                block: pack_part(place, begun),
+                block: pack_part(&mut sealer, place, begun, pending),
                 filling: Filling::Part,
+                ahead: sealer.sealed,
             });
         }
-        let pending = &self.unsynced[self.written..];
-        match pack(alloc, place, pending)? {
+        match pack_by(&mut sealer, alloc, place, pending)? {
             Packed::Whole(PackedBlock { block, count }) => Ok(NextLogBlock {
                 block,
                 filling: Filling::Whole(receipts_of(alloc, &pending[..count])?),
+                ahead: sealer.sealed,
             }),
             Packed::First(FirstPart { block, begun }) => Ok(NextLogBlock {
                 block,
                 filling: Filling::First(begun),
+                ahead: sealer.sealed,
             }),
+        }
+    }
+
+    /// Blocks that were sealed beside the next one wait for their turn, in place of those before.
+    pub fn keep_ahead(&mut self, ahead: Option<Ahead>)
+        ensures { self.new ≡ self.old }
+    {
+        if let Some(ahead) = ahead {
+            self.ahead = ahead;
         }
     }
 

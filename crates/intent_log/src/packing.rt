@@ -12,6 +12,7 @@ ghost use Rattle.intent_log.specs.Packing.{HoldsBytes, HoldsUsed, IsEncoded, IsF
 ghost use Rattle.base.specs.steps.Logs.{next_part};
 ghost use Rattle.intent_log.specs.Kept.{begun_shown};
 
+use crate::ahead::Sealer;
 use crate::begun::{BegunRecord, tell_record};
 use crate::chains::ChainHeader;
 use base::{Group, PoolError, Receipt, write_bytes, write_u64};
@@ -76,26 +77,60 @@ pub fn pack(alloc: Global, place: &NewBlock, pending: &[Record]) -> Result<Packe
     ensures packed { IfOk result (IsPackedAs place.now (map record_fields pending.now)) }
     ensures refused { IfErr result (λ e. e ≡ PoolError.NoMemory) }
 {
+    pack_by(&mut Sealer::alone(alloc), alloc, place, pending)
+}
+
+/// The same, sealed by a sealer.
+pub(crate) fn pack_by(
+    sealer: &mut Sealer<'_>,
+    alloc: Global,
+    place: &NewBlock,
+    pending: &[Record],
+) -> Result<Packed, PoolError>
+    requires some { 0 < length pending.now }
+    requires allowed { All IsAllowed (map record_fields pending.now) }
+    ensures packed { IfOk result (IsPackedAs place.now (map record_fields pending.now)) }
+    ensures refused { IfErr result (λ e. e ≡ PoolError.NoMemory) }
+{
     match encode_front(alloc, pending)? {
-        Encoded::Front(bytes, count) => Ok(Packed::Whole(PackedBlock {
-            block: seal_records(place, bytes.as_slice()),
-            count,
-        })),
-        Encoded::Long(bytes) => Ok(Packed::First(begin(place, &pending[0], bytes))),
+        Encoded::Front(bytes, count) => {
+            let (_, behind) = pending.split_at(count);
+            Ok(Packed::Whole(PackedBlock {
+                block: sealer.seal(place, bytes.as_slice(), &[], behind),
+                count,
+            }))
+        }
+        Encoded::Long(bytes) => {
+            let (_, behind) = pending.split_at(1);
+            Ok(Packed::First(begin(sealer, place, &pending[0], bytes, behind)))
+        }
     }
 }
 
-/// The block with the next part of a record that is begun. It takes no memory.
-pub(crate) fn pack_part(place: &NewBlock, begun: &BegunRecord) -> Block
+/// The block with the next part of a record that is begun, before these pending records. It needs no memory.
+pub(crate) fn pack_part(
+    sealer: &mut Sealer<'_>,
+    place: &NewBlock,
+    begun: &BegunRecord,
+    pending: &[Record],
+) -> Block
+    requires { All IsAllowed (map record_fields pending.now) }
     ensures { HoldsUsed place.now result (next_part (begun_shown begun.now)) }
 {
-    seal_records(place, begun.next_part())
+    sealer.seal(place, begun.next_part(), begun.behind_next_part(), pending)
 }
 
-// The block with the first part of a record, of which these are all the bytes.
-fn begin(place: &NewBlock, first: &Record, bytes: Vec<u8>) -> FirstPart
+// The block with the first part of a record, of which these are all the bytes, before these pending records.
+fn begin(
+    sealer: &mut Sealer<'_>,
+    place: &NewBlock,
+    first: &Record,
+    bytes: Vec<u8>,
+    pending: &[Record],
+) -> FirstPart
     requires long { log_block_room < size_of (record_fields first.now) }
     requires spelled { bytes.items ≡ bytes_of_record (record_fields first.now) }
+    requires allowed { All IsAllowed (map record_fields pending.now) }
     ensures { IsFirstPart place.now (record_fields first.now) result }
 {
     let begun = BegunRecord {
@@ -107,20 +142,21 @@ fn begin(place: &NewBlock, first: &Record, bytes: Vec<u8>) -> FirstPart
         bytes,
         written: LOG_BLOCK_ROOM,
     };
-    let block = seal_records(place, &begun.bytes[..LOG_BLOCK_ROOM]);
+    let (part, rest) = begun.bytes.split_at(LOG_BLOCK_ROOM);
+    let block = sealer.seal(place, part, rest, pending);
     FirstPart { block, begun }
 }
 
-// What the front of the pending records is as bytes.
+/// What the front of the pending records is as bytes.
 #[derive(Debug, Drop)]
-enum Encoded {
-    // the bytes of as many records as fit, and how many these are
+pub(crate) enum Encoded {
+    /// The bytes of as many records as fit, and how many these are.
     Front(Vec<u8>, usize),
-    // the bytes of the first one, which doesn't fit
+    /// The bytes of the first one, which doesn't fit.
     Long(Vec<u8>),
 }
 
-fn encode_front(alloc: Global, pending: &[Record]) -> Result<Encoded, PoolError>
+pub(crate) fn encode_front(alloc: Global, pending: &[Record]) -> Result<Encoded, PoolError>
     requires some { 0 < length pending.now }
     requires allowed { All IsAllowed (map record_fields pending.now) }
     ensures front { IfOk result (IsEncoded (map record_fields pending.now)) }
@@ -142,8 +178,8 @@ fn encode_front(alloc: Global, pending: &[Record]) -> Result<Encoded, PoolError>
     Ok(Encoded::Front(bytes, pending.len()))
 }
 
-// The block that holds these bytes of records.
-fn seal_records(place: &NewBlock, records: &[u8]) -> Block
+/// The block that holds these bytes of records.
+pub(crate) fn seal_records(place: &NewBlock, records: &[u8]) -> Block
     requires { length records.now ≤ log_block_room }
     ensures { HoldsBytes place.now result records.now }
 {
@@ -158,8 +194,8 @@ fn seal_records(place: &NewBlock, records: &[u8]) -> Block
     .unwrap()
 }
 
-// Chain number, next address, used length and the records, and then zeros.
-fn payload_of(chain: u64, next: u64, records: &[u8]) -> [u8; PAYLOAD_SIZE]
+/// Chain number, next address, used length and the records, and then zeros.
+pub(crate) fn payload_of(chain: u64, next: u64, records: &[u8]) -> [u8; PAYLOAD_SIZE]
     requires { length records.now ≤ log_block_room }
     ensures payload { take (24 + length records.now) result ≡ log_bytes chain next records.now }
     ensures chain_fits { chain < 2 ^ 64 }

@@ -127,7 +127,7 @@ fn a_pending_record_fills_its_block(
     requires size { total_size log.now.pending ≡ 100 }
     ensures { IfOk result (λ b. number_at b.block 80 ≡ 100) }
 {
-    log.pack_next(alloc, place)
+    log.pack_next(alloc, place, &[0; 3])
 }
 
 // What is left of a begun record has a block of its own, also if others are pending.
@@ -143,5 +143,5 @@ fn a_last_part_has_a_block_of_its_own(
     ensures { IfOk result (λ b. number_at b.block 80 ≡ 1) }
 {
     let _ = logged;
-    log.pack_next(alloc, place)
+    log.pack_next(alloc, place, &[0; 3])
 }

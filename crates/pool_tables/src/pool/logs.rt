@@ -12,7 +12,7 @@ ghost use Rattle.space.specs.FreeSets.{IsLowestFree};
 use crate::pool::PoolTables;
 use base::{KEPT_BACK, PoolError, WRITTEN_VERSION};
 use device_model::SectorDevice;
-use intent_log::{ChainHeader, Filling, NewBlock, NextLogBlock};
+use intent_log::{AHEAD, Ahead, ChainHeader, Filling, NewBlock, NextLogBlock};
 
 impl PoolTables {
     ghost use Rattle.base.specs.disk.Calls.{Flushes, counted};
@@ -40,11 +40,18 @@ impl PoolTables {
         self.check_log_write()?;
         self.reserve_log()?;
         let next = self.lowest_free();
-        let NextLogBlock { block, filling } = self.pack_next(next)?;
+        let NextLogBlock {
+            block,
+            filling,
+            ahead,
+        } = self.pack_next(next)?;
         let address = self.log.next().address;
         let ends = self.note_written(filling, next);
         match device.write(address, block.as_bytes()) {
-            Ok(()) => Ok(ends as u64),
+            Ok(()) => {
+                self.keep_ahead(ahead);
+                Ok(ends as u64)
+            }
             Err(error) => {
                 self.suspended = true;
                 Err(error)
@@ -84,7 +91,29 @@ impl PoolTables {
             (IsNextBlock (next_place (block_address next) self.now) self.now.log) }
         ensures refused { IfErr result (λ e. e ≡ PoolError.NoMemory) }
     {
-        self.log.pack_next(self.alloc, &self.next_place(next))
+        self.log
+            .pack_next(self.alloc, &self.next_place(next), &self.free_after(next))
+    }
+
+    // The addresses of the lowest free blocks after this one, and 0 where there is none.
+    fn free_after(&self, block: usize) -> [u64; AHEAD] {
+        let mut addresses = [0; AHEAD];
+        let mut block = block;
+        for address in &mut addresses {
+            if let Some(next) = self.free.next_from(block.saturating_add(1)) {
+                *address = self.geometry.block_address(next as u64);
+                block = next;
+            }
+        }
+        addresses
+    }
+
+    // The blocks that were sealed beside a log block wait for their turn.
+    fn keep_ahead(&mut self, ahead: Option<Ahead>)
+        ensures tree { KeepsTree self.old self.new }
+        ensures unchanged { pool_shown self.new ≡ pool_shown self.old }
+    {
+        self.log.keep_ahead(ahead);
     }
 
     // Where the next log block goes, if the one after it lies at this index.

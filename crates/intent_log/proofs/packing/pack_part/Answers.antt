@@ -5,5 +5,5 @@ use Rattle.intent_log.proofs.packing.pack_part.Goals as goal
 
 pub returns : goal.returns
 returns c =
-    subst (λ (l : List ℕ). HoldsUsed c.args.place.now c.seal_records.result l) c.next_part.ensures.part
-    (holds_used c.args.place.now c.seal_records.result c.next_part.result.now c.next_part.ensures.fits c.seal_records.ensures)
+    subst (λ (l : List ℕ). HoldsUsed c.args.place.now c.seal.result l) c.next_part.ensures.part
+    (holds_used c.args.place.now c.seal.result c.next_part.result.now c.next_part.ensures.fits c.seal.ensures)

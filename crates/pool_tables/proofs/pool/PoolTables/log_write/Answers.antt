@@ -42,16 +42,16 @@ write-requires g c =
     rw (size, at, long) (on_device pool.geometry pool.log.next.address (next_in_area pool))
 
 pub returns-in-Ok-clause-step : goal.returns-in-Ok-clause-step
-returns-in-Ok-clause-step g c =
-    block_written c.reserve_log.new.self c.lowest_free-next.result c.lowest_free-next.ensures c.in_ok-block.field-0 c.in_ok-block.ensures.packs (pool_shown c.args.self.now) c.in_ok-reserve_log.ensures.unchanged
-    (pool_shown c.note_written-ends.new.self) c.in_ok-check_log_write.ensures c.note_written-ends.result c.note_written-ends.ensures.ends c.note_written-ends.ensures.shown
+returns-in-Ok-clause-step g c = rw c.keep_ahead.ensures.unchanged
+    (block_written c.reserve_log.new.self c.lowest_free-next.result c.lowest_free-next.ensures c.in_ok-block.field-0 c.in_ok-block.ensures.packs (pool_shown c.args.self.now) c.in_ok-reserve_log.ensures.unchanged
+    (pool_shown c.note_written-ends.new.self) c.in_ok-check_log_write.ensures c.note_written-ends.result c.note_written-ends.ensures.ends c.note_written-ends.ensures.shown)
 
 pub returns-in-Ok-clause-wrote : goal.returns-in-Ok-clause-wrote
 returns-in-Ok-clause-wrote g c = λ keeps.
     let at = ap (λ (h : Header). h.address) c.next-address.ensures.header in
-    puts_written c.reserve_log.new.self c.lowest_free-next.result c.lowest_free-next.ensures c.in_ok-block.field-0 c.in_ok-block.ensures.packs (pool_shown c.args.self.now) c.in_ok-reserve_log.ensures.unchanged
+    rw c.keep_ahead.ensures.unchanged (puts_written c.reserve_log.new.self c.lowest_free-next.result c.lowest_free-next.ensures c.in_ok-block.field-0 c.in_ok-block.ensures.packs (pool_shown c.args.self.now) c.in_ok-reserve_log.ensures.unchanged
     (pool_shown c.note_written-ends.new.self) (g.D.SectorDevice.disk c.args.device.now) (g.D.SectorDevice.disk c.write.new.self)
-    (rw (at, c.as_bytes.ensures.bytes) at (c.in-Ok.ensures.disk keeps)) c.note_written-ends.ensures.shown
+    (rw (at, c.as_bytes.ensures.bytes) at (c.in-Ok.ensures.disk keeps)) c.note_written-ends.ensures.shown)
 
 pub returns-in-Err-clause-step : goal.returns-in-Err-clause-step
 returns-in-Err-clause-step g c =

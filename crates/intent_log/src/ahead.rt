@@ -1,0 +1,369 @@
+//! Log blocks that are sealed before their turn. The checks of four blocks side by side cost less than those of two
+//! alone (`checked_blocks::seal_four`), so the next block is sealed beside three that follow it, if one is known.
+//!
+//! 1. The bytes of a block are known if it has a part of a long record, or whole records behind which the next one
+//!    doesn't fit. Those of the last pending records aren't: others may come to them.
+//! 2. A block waits for its turn, and is used if it is the one that is written then: at the same place, with the same
+//!    bytes of records. The open group may be another by then, or an address. Then the block is sealed again.
+//! 3. So no clause rests on what waits. A seal that is refused memory seals one block alone, which needs none.
+
+ghost use Rattle.std.specs.Prelude.{◌≡◌, ◌<◌, ◌≤◌, ◌+◌, ◌^◌, All, IfOk, IfSome, IsTrue, length, map, take, vec_len};
+ghost use Rattle.base.specs.formats.Limits.{log_block_room};
+ghost use Rattle.base.specs.formats.Records.{IsAllowed};
+ghost use Rattle.transactions.specs.Records.{record_fields};
+ghost use Rattle.intent_log.specs.Ahead.{FitsBlock, log_block, place_beside};
+ghost use Rattle.intent_log.specs.Packing.{HoldsBytes, log_bytes};
+
+use crate::chains::ChainHeader;
+use crate::packing::{
+    Encoded, LOG_BLOCK_ROOM, NewBlock, RECORDS_AT, encode_front, payload_of, seal_records,
+};
+use base::PoolError;
+use checked_blocks::{Block, Content, Kind, PAYLOAD_SIZE, seal_four};
+use std::alloc::{AllocError, Global};
+use std::marker::Model;
+use transactions::Record;
+
+/// How many blocks are sealed beside one.
+pub const AHEAD: usize = 3;
+
+/// Log blocks that wait for their turn.
+#[derive(Debug, Drop)]
+pub struct Ahead {
+    blocks: Vec<SealedAhead>,
+}
+
+impl Ahead {
+    /// No block waits. It takes no memory.
+    pub(crate) fn none(alloc: Global) -> Self {
+        Ahead {
+            blocks: Vec::new(alloc),
+        }
+    }
+
+    // The block at this place with these bytes of records, if it waits.
+    fn block(&self, place: &NewBlock, records: &[u8]) -> Option<Block>
+        ensures { IfSome result (λ block. HoldsBytes place.now block records.now) }
+    {
+        for sealed in &self.blocks {
+            if sealed.is_for(place, records) {
+                return Some(sealed.block.copy());
+            }
+        }
+        None
+    }
+}
+
+/// A log block that waits for its turn: the place that it was sealed for, and its bytes of records.
+#[derive(Debug, Drop)]
+struct SealedAhead {
+    place: NewBlock,
+    records: Vec<u8>,
+    block: Block,
+}
+
+impl Model for SealedAhead {
+    ghost use Rattle.intent_log.specs.Ahead.{AheadBlock};
+    ghost use Rattle.intent_log.specs.Packing.{HoldsBytes};
+
+    ghost Value = { AheadBlock };
+
+    ghost view = { λ a. record { place = a.place; records = a.records.items; block = a.block } };
+
+    ghost invariant = { λ a. HoldsBytes a.place a.block a.records.items };
+}
+
+impl SealedAhead {
+    // Whether it is the block at this place with these bytes of records.
+    fn is_for(&self, place: &NewBlock, records: &[u8]) -> bool
+        ensures { IsTrue result → HoldsBytes place.now self.now.block records.now }
+    {
+        self.place == *place && self.records.as_slice() == records
+    }
+}
+
+/// Seals the next log block, with those that follow it.
+#[derive(Debug, Drop)]
+pub(crate) struct Sealer<'a> {
+    alloc: Global,
+    waiting: Option<&'a Ahead>,
+    // the addresses that the blocks after the next two are likely to have
+    after: [u64; AHEAD],
+    /// The blocks that were sealed beside it, which wait now in place of all others.
+    pub(crate) sealed: Option<Ahead>,
+}
+
+impl<'a> Sealer<'a> {
+    /// A sealer with the blocks that wait, and the addresses that the blocks after the next two are likely to have.
+    pub fn new(alloc: Global, waiting: &'a Ahead, after: &[u64; AHEAD]) -> Self {
+        Sealer {
+            alloc,
+            waiting: Some(waiting),
+            after: *after,
+            sealed: None,
+        }
+    }
+
+    /// A sealer of one block alone.
+    pub fn alone(alloc: Global) -> Self {
+        Sealer {
+            alloc,
+            waiting: None,
+            after: [0; AHEAD],
+            sealed: None,
+        }
+    }
+
+    /// The block at this place with these bytes of records. `rest` is what is left of the record whose part it has, and
+    /// `pending` are the records after it.
+    pub fn seal(
+        &mut self,
+        place: &NewBlock,
+        records: &[u8],
+        rest: &[u8],
+        pending: &[Record],
+    ) -> Block
+        requires fits { length records.now ≤ log_block_room }
+        requires allowed { All IsAllowed (map record_fields pending.now) }
+        ensures { HoldsBytes place.now result records.now }
+    {
+        let Some(waiting) = self.waiting else {
+            return seal_records(place, records);
+        };
+        if let Some(block) = waiting.block(place, records) {
+            return block;
+        }
+        match self.seal_beside(place, records, rest, pending) {
+            Ok(Some((block, ahead))) => {
+                self.sealed = Some(ahead);
+                block
+            }
+            _ => seal_records(place, records),
+        }
+    }
+
+    // The same, sealed beside those that follow. `None` if none of them is known.
+    fn seal_beside(
+        &self,
+        place: &NewBlock,
+        records: &[u8],
+        rest: &[u8],
+        pending: &[Record],
+    ) -> Result<Option<(Block, Ahead)>, PoolError>
+        requires fits { length records.now ≤ log_block_room }
+        requires allowed { All IsAllowed (map record_fields pending.now) }
+        ensures { IfOk result (λ sealed. IfSome sealed
+            (λ s. HoldsBytes place.now s.0 records.now)) }
+    {
+        let mut known = Vec::with_capacity(self.alloc, AHEAD)?;
+        self.know_parts(&mut known, place, rest)?;
+        self.know_records(&mut known, place, pending)?;
+        if known.is_empty() {
+            return Ok(None);
+        }
+        for _ in known.len()..AHEAD {
+            self.know(&mut known, place, &[])?;
+        }
+        seal_with(self.alloc, place, records, known)
+    }
+
+    // The blocks that follow have these bytes of one record or more, as far as there is room.
+    fn know_parts(
+        &self,
+        known: &mut Vec<Known>,
+        place: &NewBlock,
+        bytes: &[u8],
+    ) -> Result<(), AllocError> {
+        for part in bytes.chunks(LOG_BLOCK_ROOM) {
+            if known.len() >= AHEAD {
+                break;
+            }
+            self.know(known, place, part)?;
+        }
+        Ok(())
+    }
+
+    // And then what pending records fill.
+    fn know_records(
+        &self,
+        known: &mut Vec<Known>,
+        place: &NewBlock,
+        pending: &[Record],
+    ) -> Result<(), PoolError>
+        requires { All IsAllowed (map record_fields pending.now) }
+    {
+        let mut pending = pending;
+        for _ in 0..AHEAD {
+            if known.len() >= AHEAD || pending.is_empty() {
+                break;
+            }
+            let (bytes, count) = match encode_front(self.alloc, pending)? {
+                // more may be behind them by then
+                Encoded::Front(_, count) if count >= pending.len() => break,
+                Encoded::Front(bytes, count) => (bytes, count),
+                Encoded::Long(bytes) => (bytes, 1),
+            };
+            self.know_parts(known, place, &bytes)?;
+            let (_, rest) = pending.split_at(count);
+            pending = rest;
+        }
+        Ok(())
+    }
+
+    // One more block follows, with these bytes of records.
+    fn know(
+        &self,
+        known: &mut Vec<Known>,
+        place: &NewBlock,
+        bytes: &[u8],
+    ) -> Result<(), AllocError> {
+        let index = known.len();
+        let Some(next) = self.after.get(index) else {
+            return Ok(());
+        };
+        let address = match index.checked_sub(1) {
+            Some(before) => self.after.get(before).copied().unwrap_or(place.next),
+            None => place.next,
+        };
+        let header = ChainHeader {
+            address,
+            number: place.header.number.wrapping_add(index as u64 + 1),
+            import_number: place.header.import_number,
+            version: place.header.version,
+        };
+        let part = &bytes[..bytes.len().min(LOG_BLOCK_ROOM)];
+        known.push(Known {
+            header,
+            next: *next,
+            records: Vec::from_slice(self.alloc, part)?,
+        })?;
+        Ok(())
+    }
+}
+
+// A block that follows: its place in the chain, the address of the block after it, and its bytes of records.
+#[derive(Debug, Drop)]
+struct Known {
+    header: ChainHeader,
+    next: u64,
+    records: Vec<u8>,
+    ghost fits: { vec_len records ≤ log_block_room },
+}
+
+impl Known {
+    fn payload(&self) -> [u8; PAYLOAD_SIZE]
+        ensures payload { take (24 + vec_len self.now.records) result
+            ≡ log_bytes self.now.header.import_number self.now.next self.now.records.items }
+        ensures chain_fits { self.now.header.import_number < 2 ^ 64 }
+        ensures next_fits { self.now.next < 2 ^ 64 }
+    {
+        payload_of(self.header.import_number, self.next, &self.records)
+    }
+
+    // The place of the block, in the pool and the group of another one.
+    fn place(&self, beside: &NewBlock) -> NewBlock
+        ensures { result ≡ place_beside beside.now self.now.header self.now.next }
+    {
+        NewBlock {
+            guid: beside.guid,
+            group: beside.group,
+            header: self.header,
+            next: self.next,
+        }
+    }
+
+    // It waits: this is the block.
+    fn wait(self, beside: &NewBlock, block: Block) -> SealedAhead
+        requires { block ≡ log_block (place_beside beside.now self.header self.next)
+            self.records.items }
+    {
+        let place = self.place(beside);
+        let block = holds(&place, &self.records, block);
+        SealedAhead {
+            place,
+            records: self.records,
+            block,
+        }
+    }
+}
+
+// The block that is sealed of a place and its bytes of records holds these.
+fn holds(place: &NewBlock, records: &[u8], block: Block) -> Block
+    requires fits { length records.now ≤ log_block_room }
+    requires sealed { block ≡ log_block place.now records.now }
+    ensures { HoldsBytes place.now result records.now }
+{
+    have_bits(place);
+    block
+}
+
+// The numbers of a place have 64 bits.
+fn have_bits(place: &NewBlock)
+    ensures { FitsBlock place.now }
+{
+    let NewBlock {
+        guid,
+        group,
+        header,
+        next,
+    } = *place;
+    are_numbers(guid, group.0, header.number, header.import_number, next);
+}
+
+fn are_numbers(a: u64, b: u64, c: u64, d: u64, e: u64)
+    ensures a { a < 2 ^ 64 }
+    ensures b { b < 2 ^ 64 }
+    ensures c { c < 2 ^ 64 }
+    ensures d { d < 2 ^ 64 }
+    ensures e { e < 2 ^ 64 }
+{}
+
+// The block at this place with these bytes of records, sealed beside three that follow.
+fn seal_with(
+    alloc: Global,
+    place: &NewBlock,
+    records: &[u8],
+    known: Vec<Known>,
+) -> Result<Option<(Block, Ahead)>, PoolError>
+    requires { length records.now ≤ log_block_room }
+    ensures { IfOk result (λ sealed. IfSome sealed
+        (λ s. HoldsBytes place.now s.0 records.now)) }
+{
+    let mut known = known;
+    let (Some(d), Some(c), Some(b)) = (known.pop(), known.pop(), known.pop()) else {
+        return Ok(None);
+    };
+    let first = payload_of(place.header.import_number, place.next, records);
+    let (second, third, fourth) = (b.payload(), c.payload(), d.payload());
+    let sealed = seal_four(
+        Kind::Log as u64,
+        place.guid,
+        place.group,
+        &content(place.header.number, &first, records.len()),
+        &content(b.header.number, &second, b.records.len()),
+        &content(c.header.number, &third, c.records.len()),
+        &content(d.header.number, &fourth, d.records.len()),
+    );
+    let Ok([block, second, third, fourth]) = sealed else {
+        return Ok(None);
+    };
+    let block = holds(place, records, block);
+    let blocks = vec![in alloc;
+        b.wait(place, second),
+        c.wait(place, third),
+        d.wait(place, fourth),
+    ]?;
+    Ok(Some((block, Ahead { blocks })))
+}
+
+// What a block has of its own: its number, and so many bytes of records behind the fields of its payload.
+fn content(number: u64, payload: &[u8; PAYLOAD_SIZE], count: usize) -> Content<'_>
+    requires { count ≤ log_block_room }
+    ensures number { result.number ≡ number }
+    ensures payload { result.payload.now ≡ take (24 + count) payload.now }
+{
+    Content {
+        number,
+        payload: &payload[..RECORDS_AT + count],
+    }
+}
