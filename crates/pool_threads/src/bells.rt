@@ -2,6 +2,7 @@
 //!
 //! 1. The sync of a group costs much the same whatever the group holds, so small groups cost most. A quiescer looks
 //!    when a `begin` is throttled, and else after a period (`txg_quiesce_thread` waits for a timeout or a full group).
+//!    The period is the shorter the fewer blocks are available.
 //! 2. While transactions of a closed group are open, the quiescer looks each time that a transaction has ended.
 //! 3. The syncer looks when a group was quiesced, and again at once after each sync.
 //! 4. A `begin` that is throttled does not call while a group is quiesced and unsynced: the quiescer would close a
@@ -17,9 +18,15 @@ use pool_core::Duty;
 use std::sync::Wait;
 use std::sync::atomic::{AtomicU64, Ordering};
 
-// How long a quiescer rests that nobody calls. Each round of the log takes blocks until a group is synced, so a period
-// that is far longer would fill a small pool.
-const PERIOD_IN_MICROSECONDS: u64 = 25_000;
+// How long a quiescer rests that nobody calls, at the least and at the most (`zfs_txg_timeout` is 5 seconds). A sync
+// costs its callers the pool for a time that grows with its group.
+const LEAST_PERIOD_IN_MICROSECONDS: u64 = 25_000;
+
+const MOST_PERIOD_IN_MICROSECONDS: u64 = 250_000;
+
+// How long it rests for each available block. The log and the open group take blocks until a group is synced: threads
+// that write at full speed take one in 12 microseconds, so a period takes a third of them.
+const PERIOD_FOR_A_BLOCK_IN_MICROSECONDS: u64 = 4;
 
 /// What rings for the loops: a begin that is throttled, a group that may be quiesced or synced, and the end of the
 /// loops.
@@ -35,6 +42,8 @@ pub(crate) struct Bells {
     opened: AtomicU64,
     quiesced: AtomicU64,
     synced: AtomicU64,
+    // how many blocks were available after the last turn for a duty
+    available: AtomicU64,
     quiescer: Bell,
     syncer: Bell,
     /// Rung when a transaction has ended.
@@ -59,6 +68,7 @@ impl Bells {
             opened: AtomicU64::new(0),
             quiesced: AtomicU64::new(0),
             synced: AtomicU64::new(0),
+            available: AtomicU64::new(0),
             quiescer: Bell::new(),
             syncer: Bell::new(),
             ended: Bell::new(),
@@ -126,6 +136,19 @@ impl Bells {
         self.synced.fetch_max(group.0, Ordering::SeqCst);
     }
 
+    /// So many blocks are available.
+    pub(crate) fn note_available(&self, blocks: u64) {
+        self.available.store(blocks, Ordering::SeqCst);
+    }
+
+    // How long a quiescer rests that nobody calls.
+    fn period(&self) -> u64 {
+        self.available
+            .load(Ordering::SeqCst)
+            .saturating_mul(PERIOD_FOR_A_BLOCK_IN_MICROSECONDS)
+            .clamp(LEAST_PERIOD_IN_MICROSECONDS, MOST_PERIOD_IN_MICROSECONDS)
+    }
+
     // Whether a group is quiesced and unsynced, as far as it was noted.
     fn awaits_sync(&self) -> bool {
         self.synced.load(Ordering::SeqCst) < self.quiesced.load(Ordering::SeqCst)
@@ -165,8 +188,7 @@ impl Bells {
         if self.is_quiescing() {
             self.ended.sleep_briefly(rt, heard.ended);
         } else {
-            self.quiescer
-                .sleep_for(rt, heard.quiescer, PERIOD_IN_MICROSECONDS);
+            self.quiescer.sleep_for(rt, heard.quiescer, self.period());
         }
     }
 

@@ -244,7 +244,7 @@ impl<'p, D: SectorDevice> Handle<'p, D> {
     {
         let guard = self.seat.acquire(rt, &self.shared.lock);
         let group = open_group(&guard.held.value);
-        let (reply, _) = serve_turn(guard, Duty::SyncUpTo(group, moment));
+        let (reply, _, _) = serve_turn(guard, Duty::SyncUpTo(group, moment));
         self.shared.note_last(&reply);
         reply
     }

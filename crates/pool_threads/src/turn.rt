@@ -118,11 +118,11 @@ fn may_pass<D: SectorDevice, C: RetriedCall<D> + Drop>(
 const STEPS_IN_A_TURN: u32 = 1_000;
 
 /// Makes the steps that are due on the pool of a lock that a seat has, and frees the lock: the reply of the last step,
-/// and the group that is synced then.
+/// the group that is synced then, and how many blocks are available.
 pub(crate) fn serve_turn<'s, 'l, D: SectorDevice>(
     guard: Guard<'s, 'l, Box<PoolState<D>>, PoolRule<D>>,
     duty: Duty,
-) -> (Option<Reply>, Group)
+) -> (Option<Reply>, Group, u64)
     requires own { seat_table guard.seat.now ≡ lock_table guard.lock.now }
     requires held { IsHolding guard.seat.now }
     requires view { guard.held.view.value ≡ seen guard.seat.now }
@@ -138,9 +138,9 @@ pub(crate) fn serve_turn<'s, 'l, D: SectorDevice>(
     let mut held = held;
     let reply = serve_noted(&mut held, duty);
     let Held { value, view } = held;
-    let synced = value.status().synced;
+    let status = value.status();
     seat.put_back(lock, value, &view);
-    (reply, synced)
+    (reply, status.synced, status.available)
 }
 
 // Makes the steps that are due one after another, up to one after which none is due at once, and goes on to the view

@@ -179,7 +179,8 @@ impl<'p, D: SectorDevice> Handle<'p, D> {
             (state_seen self.new).past ∥₁ }
     {
         let guard = self.seat.acquire(rt, &self.shared.lock);
-        let (reply, synced) = serve_turn(guard, duty);
+        let (reply, synced, available) = serve_turn(guard, duty);
+        self.shared.bells.note_available(available);
         self.shared.note_last(&reply);
         (reply, synced)
     }
