@@ -147,6 +147,9 @@ def options(tank):
         "size=0": "a multiple of 4096",
         "dirty=1048575": "no dirty limit",
         "dirty=1048577M": "no dirty limit",
+        "cache=0": "no size of a cache",
+        "cache=5000": "no size of a cache",
+        "cache=16388K": "no size of a cache",
         "colour=red": "no option colour",
         "ro=true": "no disk yet",
         "program=/": "can't be started",
@@ -166,21 +169,26 @@ def options(tank):
     assert "no disk" in tank.refusal("size=64M")
     tank.pool.unlink()
     assert "No such file" in tank.refusal("size=64M")
-    return "thirteen refusals, and the size is kept"
+    return "sixteen refusals, and the size is kept"
 
 
-def dirty_limit(tank):
-    for words, limit in ((), 4 * MIB), (("dirty=1M",), MIB), (("dirty=1T",), 1 << 40):
+def limits(tank):
+    for words, dirty, cache in (
+        ((), 4 * MIB, 4096),
+        (("dirty=1M", "cache=4K"), MIB, 1),
+        (("dirty=1T", "cache=1M"), 1 << 40, 256),
+    ):
         process = tank.start("size=8M", *words)
         (program,) = processes_of(process.pid)
         asked = pathlib.Path(f"/proc/{program}/cmdline").read_bytes().split(b"\0")
-        assert asked[asked.index(b"--dirty") + 1] == b"%d" % limit, asked
+        assert asked[asked.index(b"--dirty") + 1] == b"%d" % dirty, asked
+        assert asked[asked.index(b"--cache") + 1] == b"%d" % cache, asked
         with tank.disk() as disk:
             disk.write(0, b"d" * 64 * KIB)
             disk.flush()
             assert disk.read(0, 64 * KIB) == b"d" * 64 * KIB
         tank.stop(process)
-    return "three limits"
+    return "three dirty limits and caches"
 
 
 def the_greatest_disk(tank):
@@ -514,7 +522,7 @@ def killed_program(tank):
 
 
 TESTS = (
-    options, dirty_limit, the_greatest_disk, patterns, random_steps, copies, verified, file_system, read_only, growth,
+    options, limits, the_greatest_disk, patterns, random_steps, copies, verified, file_system, read_only, growth,
     extents, transactions, whole_blocks, full_pool, refused_device, killed_nbdkit, killed_program,
 )  # fmt: skip
 

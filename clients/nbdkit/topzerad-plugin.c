@@ -19,8 +19,12 @@
 #define LEAST_DIRTY (INT64_C(1) << 20)
 #define MOST_DIRTY (INT64_C(1) << 40)
 
+/* The greatest cache that the program takes. */
+#define MOST_CACHE (INT64_C(16) << 20)
+
 static char *file, *program;
 static int64_t dirty_limit = 4 << 20; /* the most bytes that unsynced transactions may be charged */
+static int64_t cache_size = MOST_CACHE; /* the most bytes of tree blocks that stay in memory once read */
 static int64_t wanted_size; /* 0 if it is not given */
 static int is_read_only;
 
@@ -69,16 +73,28 @@ static int set_dirty_limit(const char *value) {
     return 0;
 }
 
+static int set_cache_size(const char *value) {
+    cache_size = nbdkit_parse_size(value);
+    if (cache_size < 0) return -1;
+    if (cache_size == 0 || cache_size > MOST_CACHE || cache_size % DISK_BLOCK) {
+        nbdkit_error("cache=%s is no size of a cache: give a multiple of %u bytes, at most %" PRId64, value, DISK_BLOCK,
+                     MOST_CACHE);
+        return -1;
+    }
+    return 0;
+}
+
 static int topzerad_config(const char *key, const char *value) {
     if (!strcmp(key, "file")) return set_path(&file, nbdkit_realpath(value));
     if (!strcmp(key, "program")) return set_path(&program, program_path(value));
     if (!strcmp(key, "size")) return set_size(value);
     if (!strcmp(key, "dirty")) return set_dirty_limit(value);
+    if (!strcmp(key, "cache")) return set_cache_size(value);
     if (!strcmp(key, "ro")) {
         is_read_only = nbdkit_parse_bool(value);
         return is_read_only < 0 ? -1 : 0;
     }
-    nbdkit_error("there is no option %s: the options are file, size, program, dirty and ro", key);
+    nbdkit_error("there is no option %s: the options are file, size, program, dirty, cache and ro", key);
     return -1;
 }
 
@@ -158,9 +174,11 @@ static void close_pool(void) {
 
 /* Starts the process once nbdkit has forked: it has to be a child of the process that waits for its end. */
 static int topzerad_after_fork(void) {
-    char dirty[24];
+    char dirty[24], cache[24];
     snprintf(dirty, sizeof dirty, "%" PRId64, dirty_limit);
-    const char *const words[] = {program, "serve", file, "--wait", WAIT_SECONDS, "--dirty", dirty, NULL};
+    snprintf(cache, sizeof cache, "%" PRId64, cache_size / DISK_BLOCK);
+    const char *const words[] = {program,   "serve", file,      "--wait", WAIT_SECONDS,
+                                 "--dirty", dirty,   "--cache", cache,    NULL};
     if (topzerad_open_with(&pool, words)) {
         nbdkit_error("%s can't be started: %m", program);
         return -1;
@@ -258,6 +276,7 @@ static struct nbdkit_plugin plugin = {
                    "size=BYTES    the size of the disk: it is made or grows to it\n"
                    "program=PATH  the program, if not given ztxg\n"
                    "dirty=BYTES   what may wait for a sync, if not given 4M\n"
+                   "cache=BYTES   what stays of blocks that were read, if not given 16M\n"
                    "ro=true       the disk can only be read\n",
     .unload = topzerad_unload,
     .after_fork = topzerad_after_fork,
