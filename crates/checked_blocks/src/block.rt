@@ -11,7 +11,7 @@ ghost use Rattle.base.specs.disk.Disk.{put};
 ghost use Rattle.base.specs.formats.Fields.{part};
 ghost use Rattle.base.specs.formats.Geometry.{block_size};
 ghost use Rattle.base.specs.formats.Limits.{payload_size};
-ghost use Rattle.checked_blocks.specs.Sealing.{IsKind, padded, zeros};
+ghost use Rattle.checked_blocks.specs.Sealing.{AreBlocks, IsKind, padded, zeros};
 
 use base::{BLOCK_SIZE, Group, PoolError, write_bytes, write_u64};
 use hash_lanes::digest_four;
@@ -126,6 +126,8 @@ pub fn seal_four(
         ∷ sealed_block kind guid group.0 second.now.number (padded second.now.payload.now)
         ∷ sealed_block kind guid group.0 third.now.number (padded third.now.payload.now)
         ∷ sealed_block kind guid group.0 fourth.now.number (padded fourth.now.payload.now) ∷ []) }
+    ensures block { IfOk result (AreBlocks kind guid group.0
+        (first.now ∷ second.now ∷ third.now ∷ fourth.now ∷ [])) }
     ensures ok { IsOk result ↔ (IsKind kind × (length first.now.payload.now ≤ payload_size)
         × (length second.now.payload.now ≤ payload_size) × (length third.now.payload.now ≤ payload_size)
         × (length fourth.now.payload.now ≤ payload_size)) }
@@ -155,7 +157,8 @@ fn unsealed(
     ensures clear { IfOk result (λ bytes. part bytes 32 32 ≡ replicate 32 0) }
     ensures whole { IfOk result (λ bytes. take 32 bytes ++ sha256 bytes ++ drop 64 bytes
         ≡ sealed_block kind guid group.0 number (padded payload.now)) }
-    ensures fits { IfOk result (λ _. (group.0 < 2 ^ 64) × (length payload.now ≤ payload_size)) }
+    ensures block { IfOk result (λ bytes. IsBlock (take 32 bytes ++ sha256 bytes ++ drop 64 bytes)
+        kind guid group.0 number (padded payload.now)) }
     ensures ok { IsOk result ↔ (IsKind kind × (length payload.now ≤ payload_size)) }
     ensures refused { IfErr result (λ e. e ≡ PoolError.BadRange) }
 {

@@ -1,8 +1,9 @@
-use Rattle.std.proofs.Common.{◌≡◌, ◌+◌, ◌-◌, List, ℕ, ◌++◌, length, replicate, ap, ◌∙◌, arith, refl}
-use Rattle.base.specs.formats.Blocks.{block_head_bytes}
+use Rattle.std.proofs.Common.{◌≡◌, ◌+◌, ◌-◌, List, ℕ, ◌++◌, length, replicate, ap, subst, sym, ◌∙◌, arith, refl}
+use Rattle.std.proofs.lemmas.List.{length-append, length-replicate}
+use Rattle.base.specs.formats.Blocks.{IsBlock, block_head_bytes}
 use Rattle.base.specs.disk.Disk.{put}
 use Rattle.checked_blocks.specs.Sealing.{padded, zeros}
-use Rattle.checked_blocks.proofs.SealedBlocks.{length-head_bytes, unsealed-parts}
+use Rattle.checked_blocks.proofs.SealedBlocks.{length-head_bytes, sealed_block-is, unsealed-parts}
 use Rattle.checked_blocks.proofs.Placed.{put-payload}
 use Rattle.checked_blocks.proofs.block.unsealed.Goals as goal
 
@@ -31,3 +32,11 @@ pub returns-clause-whole : goal.returns-clause-whole
 returns-clause-whole c =
     let a = c.args in
     (unsealed-parts c.write_bytes.new.bytes (block_head_bytes a.kind a.guid a.group.0 a.number) (padded a.payload.now) (length-head_bytes a.kind a.guid a.group.0 a.number) (whole c)).1
+
+pub returns-clause-block : goal.returns-clause-block
+returns-clause-block c =
+    let a = c.args in
+    let payload : List ℕ = padded a.payload.now in
+    let long : length payload ≡ 4032 = length-append a.payload.now (replicate (4032 - length a.payload.now) 0) ∙ omega (arith, length-replicate {A = ℕ} (4032 - length a.payload.now) 0) in
+    subst (λ (bytes : List ℕ). IsBlock bytes a.kind a.guid a.group.0 a.number payload) (sym (returns-clause-whole c))
+    (sealed_block-is a.kind a.guid a.group.0 a.number payload (omega arith) (omega arith) c.write_head.ensures.group_fits (omega arith) long)
