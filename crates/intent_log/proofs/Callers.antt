@@ -202,6 +202,10 @@ none_is_before header old new (Some address) none same end = absurd cc
 pub used_number : (place : NewBlock) (l : RunLog) (b : NextLogBlock) → IsNextBlock place l b → number_at b.block 80 ≡ length (taken_of l b.filling).used
 used_number place l b is = number_behind b.block is.holds.payload 16 is.holds.sealed.payload_is ∙ is.holds.fields.used_is
 
+-- and the address of the block after it
+pub next_number : (place : NewBlock) (l : RunLog) (b : NextLogBlock) → IsNextBlock place l b → number_at b.block 72 ≡ place.next
+next_number place l b is = number_behind b.block is.holds.payload 8 is.holds.sealed.payload_is ∙ is.holds.fields.next_is
+
 -- all of one record that fits
 pub one_used : (place : NewBlock) (l : RunLog) (b : NextLogBlock) → l.begun ≡ None → length l.pending ≡ 1 → total_size l.pending ≡ 100 → IsNextBlock place l b → number_at b.block 80 ≡ 100
 one_used place l b none one size is =

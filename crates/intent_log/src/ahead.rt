@@ -1,17 +1,19 @@
-//! Log blocks that are sealed before their turn. The checks of four blocks side by side cost less than those of two
-//! alone (`checked_blocks::seal_four`), so the next block is sealed beside three that follow it, if one is known.
+//! Log blocks that are sealed before their turn. The checks of four blocks side by side cost about as much as those of
+//! two alone (`checked_blocks::seal_four`). So the next block is sealed beside three that follow it, if two of these are
+//! known at least.
 //!
-//! 1. The bytes of a block are known if it has a part of a long record, or whole records behind which the next one
-//!    doesn't fit. Those of the last pending records aren't: others may come to them.
-//! 2. A block waits for its turn, and is used if it is the one that is written then: at the same place, with the same
-//!    bytes of records. The open group may be another by then, or an address. Then the block is sealed again.
-//! 3. So no clause rests on what waits. A seal that is refused memory seals one block alone, which needs none.
+//! 1. A block that follows is known if it has a part of a long record. It is also known if it has whole records behind
+//!    which the next pending one doesn't fit. The last pending records make no known block: others may come behind them.
+//! 2. A block waits for its turn. It is used if the block that is written then is the same: of the same pool and group,
+//!    with the same header, next address and bytes of records. If not, the block is sealed again.
+//! 3. So no clause rests on what waits. If the blocks that follow are refused memory, the next block is sealed alone,
+//!    which needs none.
 
 ghost use Rattle.std.specs.Prelude.{◌≡◌, ◌<◌, ◌≤◌, ◌+◌, ◌^◌, All, IfOk, IfSome, IsTrue, length, map, take, vec_len};
 ghost use Rattle.base.specs.formats.Limits.{log_block_room};
 ghost use Rattle.base.specs.formats.Records.{IsAllowed};
 ghost use Rattle.transactions.specs.Records.{record_fields};
-ghost use Rattle.intent_log.specs.Ahead.{FitsBlock, log_block, place_beside};
+ghost use Rattle.intent_log.specs.Ahead.{place_beside};
 ghost use Rattle.intent_log.specs.Packing.{HoldsBytes, log_bytes};
 
 use crate::chains::ChainHeader;
@@ -27,10 +29,11 @@ use transactions::Record;
 /// How many blocks are sealed beside one.
 pub const AHEAD: usize = 3;
 
-/// Log blocks that wait for their turn.
+/// Log blocks that wait for their turn: at most 3, which are 12 KiB of blocks and 12 KiB of their records.
 #[derive(Debug, Drop)]
 pub struct Ahead {
     blocks: Vec<SealedAhead>,
+    ghost few: { vec_len blocks ≤ 3 },
 }
 
 impl Ahead {
@@ -142,7 +145,7 @@ impl<'a> Sealer<'a> {
         }
     }
 
-    // The same, sealed beside those that follow. `None` if none of them is known.
+    // The same, sealed beside those that follow. `None` if fewer than two of them are known.
     fn seal_beside(
         &self,
         place: &NewBlock,
@@ -155,38 +158,41 @@ impl<'a> Sealer<'a> {
         ensures { IfOk result (λ sealed. IfSome sealed
             (λ s. HoldsBytes place.now s.0 records.now)) }
     {
-        let mut known = Vec::with_capacity(self.alloc, AHEAD)?;
-        self.know_parts(&mut known, place, rest)?;
-        self.know_records(&mut known, place, pending)?;
-        if known.is_empty() {
+        if rest.is_empty() && pending.is_empty() {
             return Ok(None);
         }
-        for _ in known.len()..AHEAD {
-            self.know(&mut known, place, &[])?;
+        let mut following = Vec::with_capacity(self.alloc, AHEAD)?;
+        self.add_parts(&mut following, place, rest)?;
+        self.add_records(&mut following, place, pending)?;
+        if following.len() < 2 {
+            return Ok(None);
         }
-        seal_with(self.alloc, place, records, known)
+        for _ in following.len()..AHEAD {
+            self.add_following(&mut following, place, &[])?;
+        }
+        seal_with(self.alloc, place, records, following)
     }
 
     // The blocks that follow have these bytes of one record or more, as far as there is room.
-    fn know_parts(
+    fn add_parts(
         &self,
-        known: &mut Vec<Known>,
+        following: &mut Vec<FollowingBlock>,
         place: &NewBlock,
         bytes: &[u8],
     ) -> Result<(), AllocError> {
         for part in bytes.chunks(LOG_BLOCK_ROOM) {
-            if known.len() >= AHEAD {
+            if following.len() >= AHEAD {
                 break;
             }
-            self.know(known, place, part)?;
+            self.add_following(following, place, part)?;
         }
         Ok(())
     }
 
     // And then what pending records fill.
-    fn know_records(
+    fn add_records(
         &self,
-        known: &mut Vec<Known>,
+        following: &mut Vec<FollowingBlock>,
         place: &NewBlock,
         pending: &[Record],
     ) -> Result<(), PoolError>
@@ -194,7 +200,7 @@ impl<'a> Sealer<'a> {
     {
         let mut pending = pending;
         for _ in 0..AHEAD {
-            if known.len() >= AHEAD || pending.is_empty() {
+            if following.len() >= AHEAD || pending.is_empty() {
                 break;
             }
             let (bytes, count) = match encode_front(self.alloc, pending)? {
@@ -203,7 +209,7 @@ impl<'a> Sealer<'a> {
                 Encoded::Front(bytes, count) => (bytes, count),
                 Encoded::Long(bytes) => (bytes, 1),
             };
-            self.know_parts(known, place, &bytes)?;
+            self.add_parts(following, place, &bytes)?;
             let (_, rest) = pending.split_at(count);
             pending = rest;
         }
@@ -211,28 +217,24 @@ impl<'a> Sealer<'a> {
     }
 
     // One more block follows, with these bytes of records.
-    fn know(
+    fn add_following(
         &self,
-        known: &mut Vec<Known>,
+        following: &mut Vec<FollowingBlock>,
         place: &NewBlock,
         bytes: &[u8],
     ) -> Result<(), AllocError> {
-        let index = known.len();
+        let index = following.len();
         let Some(next) = self.after.get(index) else {
             return Ok(());
         };
-        let address = match index.checked_sub(1) {
-            Some(before) => self.after.get(before).copied().unwrap_or(place.next),
-            None => place.next,
-        };
         let header = ChainHeader {
-            address,
+            address: following.last().map_or(place.next, |block| block.next),
             number: place.header.number.wrapping_add(index as u64 + 1),
             import_number: place.header.import_number,
             version: place.header.version,
         };
         let part = &bytes[..bytes.len().min(LOG_BLOCK_ROOM)];
-        known.push(Known {
+        following.push(FollowingBlock {
             header,
             next: *next,
             records: Vec::from_slice(self.alloc, part)?,
@@ -243,14 +245,14 @@ impl<'a> Sealer<'a> {
 
 // A block that follows: its place in the chain, the address of the block after it, and its bytes of records.
 #[derive(Debug, Drop)]
-struct Known {
+struct FollowingBlock {
     header: ChainHeader,
     next: u64,
     records: Vec<u8>,
     ghost fits: { vec_len records ≤ log_block_room },
 }
 
-impl Known {
+impl FollowingBlock {
     fn payload(&self) -> [u8; PAYLOAD_SIZE]
         ensures payload { take (24 + vec_len self.now.records) result
             ≡ log_bytes self.now.header.import_number self.now.next self.now.records.items }
@@ -260,79 +262,41 @@ impl Known {
         payload_of(self.header.import_number, self.next, &self.records)
     }
 
-    // The place of the block, in the pool and the group of another one.
-    fn place(&self, beside: &NewBlock) -> NewBlock
-        ensures { result ≡ place_beside beside.now self.now.header self.now.next }
-    {
-        NewBlock {
-            guid: beside.guid,
-            group: beside.group,
-            header: self.header,
-            next: self.next,
-        }
-    }
-
-    // It waits: this is the block.
-    fn wait(self, beside: &NewBlock, block: Block) -> SealedAhead
-        requires { block ≡ log_block (place_beside beside.now self.header self.next)
+    // It waits: this is the block, in the pool and the group of another one.
+    fn into_sealed(self, beside: &NewBlock, block: Block) -> SealedAhead
+        requires { HoldsBytes (place_beside beside.now self.header self.next) block
             self.records.items }
     {
-        let place = self.place(beside);
-        let block = holds(&place, &self.records, block);
         SealedAhead {
-            place,
+            place: NewBlock {
+                guid: beside.guid,
+                group: beside.group,
+                header: self.header,
+                next: self.next,
+            },
             records: self.records,
             block,
         }
     }
 }
 
-// The block that is sealed of a place and its bytes of records holds these.
-fn holds(place: &NewBlock, records: &[u8], block: Block) -> Block
-    requires fits { length records.now ≤ log_block_room }
-    requires sealed { block ≡ log_block place.now records.now }
-    ensures { HoldsBytes place.now result records.now }
-{
-    have_bits(place);
-    block
-}
-
-// The numbers of a place have 64 bits.
-fn have_bits(place: &NewBlock)
-    ensures { FitsBlock place.now }
-{
-    let NewBlock {
-        guid,
-        group,
-        header,
-        next,
-    } = *place;
-    are_numbers(guid, group.0, header.number, header.import_number, next);
-}
-
-fn are_numbers(a: u64, b: u64, c: u64, d: u64, e: u64)
-    ensures a { a < 2 ^ 64 }
-    ensures b { b < 2 ^ 64 }
-    ensures c { c < 2 ^ 64 }
-    ensures d { d < 2 ^ 64 }
-    ensures e { e < 2 ^ 64 }
-{}
-
 // The block at this place with these bytes of records, sealed beside three that follow.
 fn seal_with(
     alloc: Global,
     place: &NewBlock,
     records: &[u8],
-    known: Vec<Known>,
+    following: Vec<FollowingBlock>,
 ) -> Result<Option<(Block, Ahead)>, PoolError>
     requires { length records.now ≤ log_block_room }
     ensures { IfOk result (λ sealed. IfSome sealed
         (λ s. HoldsBytes place.now s.0 records.now)) }
 {
-    let mut known = known;
-    let (Some(d), Some(c), Some(b)) = (known.pop(), known.pop(), known.pop()) else {
+    let mut following = following;
+    let (Some(d), Some(c), Some(b)) = (following.pop(), following.pop(), following.pop()) else {
         return Ok(None);
     };
+    // before any check is made: a refusal costs none
+    let mut blocks = Vec::with_capacity(alloc, AHEAD)?;
     let first = payload_of(place.header.import_number, place.next, records);
     let (second, third, fourth) = (b.payload(), c.payload(), d.payload());
     let sealed = seal_four(
@@ -347,12 +311,9 @@ fn seal_with(
     let Ok([block, second, third, fourth]) = sealed else {
         return Ok(None);
     };
-    let block = holds(place, records, block);
-    let blocks = vec![in alloc;
-        b.wait(place, second),
-        c.wait(place, third),
-        d.wait(place, fourth),
-    ]?;
+    blocks.push_reserved(b.into_sealed(place, second));
+    blocks.push_reserved(c.into_sealed(place, third));
+    blocks.push_reserved(d.into_sealed(place, fourth));
     Ok(Some((block, Ahead { blocks })))
 }
 

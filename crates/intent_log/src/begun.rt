@@ -55,6 +55,7 @@ impl BegunRecord {
         let left = &self.bytes[from..];
         &left[..left.len().min(LOG_BLOCK_ROOM)]
     }
+
     /// The bytes behind the next part.
     pub(crate) fn behind_next_part(&self) -> &[u8] {
         let from = self.written.min(self.bytes.len());

@@ -26,7 +26,7 @@ use crate::begun::BegunRecord;
 use crate::filling::{Filling, NextLogBlock, receipts_of};
 use crate::kept_block::{Holds, KeptBlock, LogHeader};
 use crate::packing::{
-    FirstPart, LOG_BLOCK_ROOM, NewBlock, Packed, PackedBlock, pack_by, pack_part,
+    Encoded, FirstPart, LOG_BLOCK_ROOM, NewBlock, encode_front, pack_first, pack_front, pack_part,
 };
 use base::{Group, LAST_NUMBER, Ordinal, PoolError, Receipt};
 use std::alloc::Global;
@@ -46,7 +46,7 @@ pub struct Log {
     flushed: usize,
     begun: Option<BegunRecord>,
     next: LogHeader,
-    // what may be written soon
+    // blocks that were sealed before their turn
     ahead: Ahead,
 }
 
@@ -194,17 +194,24 @@ impl Log {
                 ahead: sealer.sealed,
             });
         }
-        match pack_by(&mut sealer, alloc, place, pending)? {
-            Packed::Whole(PackedBlock { block, count }) => Ok(NextLogBlock {
-                block,
-                filling: Filling::Whole(receipts_of(alloc, &pending[..count])?),
-                ahead: sealer.sealed,
-            }),
-            Packed::First(FirstPart { block, begun }) => Ok(NextLogBlock {
-                block,
-                filling: Filling::First(begun),
-                ahead: sealer.sealed,
-            }),
+        match encode_front(alloc, pending)? {
+            Encoded::Front(bytes, count) => {
+                // before blocks are sealed ahead: the receipts are not refused memory that these take
+                let receipts = receipts_of(alloc, &pending[..count])?;
+                Ok(NextLogBlock {
+                    block: pack_front(&mut sealer, place, &bytes, count, pending),
+                    filling: Filling::Whole(receipts),
+                    ahead: sealer.sealed,
+                })
+            }
+            Encoded::Long(bytes) => {
+                let FirstPart { block, begun } = pack_first(&mut sealer, place, bytes, pending);
+                Ok(NextLogBlock {
+                    block,
+                    filling: Filling::First(begun),
+                    ahead: sealer.sealed,
+                })
+            }
         }
     }
 

@@ -1,14 +1,15 @@
 //! Packing: as many whole records from the front of the pending ones as fit a log block, or a part of one that a block
 //! can't hold, and the block that holds them.
 //!
-//! A record is encoded when its block or its first part is written, and one time more if it did not fit behind others.
-//! A record whose group is synced before that is never encoded.
+//! A record is encoded when its block or its first part is written, and again if it did not fit behind others. It may
+//! also be encoded before its turn, when its block is sealed ahead with an earlier one. A record is never encoded if its
+//! group is synced before all of this.
 
 ghost use Rattle.std.specs.Prelude.{◌≡◌, ◌<◌, ◌≤◌, ◌+◌, ◌^◌, All, IfErr, IfOk, length, map, take};
 ghost use Rattle.base.specs.formats.Limits.{log_block_room, payload_size};
 ghost use Rattle.base.specs.formats.Records.{IsAllowed, bytes_of_record, size_of};
 ghost use Rattle.transactions.specs.Records.{record_fields};
-ghost use Rattle.intent_log.specs.Packing.{HoldsBytes, HoldsUsed, IsEncoded, IsFirstPart, IsPackedAs, log_bytes};
+ghost use Rattle.intent_log.specs.Packing.{HoldsBytes, HoldsUsed, IsEncoded, IsEncodedFront, IsEncodedLong, IsFirstPart, IsPackedAs, IsPackedFirst, IsPackedWhole, log_bytes};
 ghost use Rattle.base.specs.steps.Logs.{next_part};
 ghost use Rattle.intent_log.specs.Kept.{begun_shown};
 
@@ -77,34 +78,46 @@ pub fn pack(alloc: Global, place: &NewBlock, pending: &[Record]) -> Result<Packe
     ensures packed { IfOk result (IsPackedAs place.now (map record_fields pending.now)) }
     ensures refused { IfErr result (λ e. e ≡ PoolError.NoMemory) }
 {
-    pack_by(&mut Sealer::alone(alloc), alloc, place, pending)
+    let mut sealer = Sealer::alone(alloc);
+    match encode_front(alloc, pending)? {
+        Encoded::Front(bytes, count) => Ok(Packed::Whole(PackedBlock {
+            block: pack_front(&mut sealer, place, &bytes, count, pending),
+            count,
+        })),
+        Encoded::Long(bytes) => Ok(Packed::First(pack_first(&mut sealer, place, bytes, pending))),
+    }
 }
 
-/// The same, sealed by a sealer.
-pub(crate) fn pack_by(
+/// The block with so many whole records from the front, of which these are the bytes. It needs no memory.
+pub(crate) fn pack_front(
     sealer: &mut Sealer<'_>,
-    alloc: Global,
     place: &NewBlock,
+    bytes: &[u8],
+    count: usize,
     pending: &[Record],
-) -> Result<Packed, PoolError>
-    requires some { 0 < length pending.now }
+) -> Block
+    requires front { IsEncodedFront (map record_fields pending.now) count bytes.now }
     requires allowed { All IsAllowed (map record_fields pending.now) }
-    ensures packed { IfOk result (IsPackedAs place.now (map record_fields pending.now)) }
-    ensures refused { IfErr result (λ e. e ≡ PoolError.NoMemory) }
+    ensures { IsPackedWhole place.now (map record_fields pending.now) count result }
 {
-    match encode_front(alloc, pending)? {
-        Encoded::Front(bytes, count) => {
-            let (_, behind) = pending.split_at(count);
-            Ok(Packed::Whole(PackedBlock {
-                block: sealer.seal(place, bytes.as_slice(), &[], behind),
-                count,
-            }))
-        }
-        Encoded::Long(bytes) => {
-            let (_, behind) = pending.split_at(1);
-            Ok(Packed::First(begin(sealer, place, &pending[0], bytes, behind)))
-        }
-    }
+    let (_, behind) = pending.split_at(count);
+    sealer.seal(place, bytes, &[], behind)
+}
+
+/// The block with the first part of the first record, of which these are the bytes. It needs no memory.
+pub(crate) fn pack_first(
+    sealer: &mut Sealer<'_>,
+    place: &NewBlock,
+    bytes: Vec<u8>,
+    pending: &[Record],
+) -> FirstPart
+    requires some { 0 < length pending.now }
+    requires long { IsEncodedLong (map record_fields pending.now) bytes.items }
+    requires allowed { All IsAllowed (map record_fields pending.now) }
+    ensures { IsPackedFirst place.now (map record_fields pending.now) result }
+{
+    let (_, behind) = pending.split_at(1);
+    begin(sealer, place, &pending[0], bytes, behind)
 }
 
 /// The block with the next part of a record that is begun, before these pending records. It needs no memory.
@@ -156,6 +169,7 @@ pub(crate) enum Encoded {
     Long(Vec<u8>),
 }
 
+/// The bytes of as many records from the front as fit a log block, or those of the first one if it doesn't fit.
 pub(crate) fn encode_front(alloc: Global, pending: &[Record]) -> Result<Encoded, PoolError>
     requires some { 0 < length pending.now }
     requires allowed { All IsAllowed (map record_fields pending.now) }

@@ -10,6 +10,7 @@ ghost use Rattle.transactions.specs.Records.{record_fields};
 ghost use Rattle.intent_log.specs.Chains.{IsBlockAt};
 ghost use Rattle.intent_log.specs.Packing.{IsBegunFirst, IsCount, block_of, logged, used_of};
 
+use crate::ahead::Ahead;
 use crate::filling::NextLogBlock;
 use crate::log::Log;
 use crate::packing::{NewBlock, Packed, pack};
@@ -143,5 +144,23 @@ fn a_last_part_has_a_block_of_its_own(
     ensures { IfOk result (λ b. number_at b.block 80 ≡ 1) }
 {
     let _ = logged;
+    log.pack_next(alloc, place, &[0; 3])
+}
+
+// What waits changes neither the log nor the next block, which has the pending record and the address of its own place.
+fn blocks_that_wait_change_no_log_write(
+    alloc: Global,
+    place: &NewBlock,
+    log: &mut Log,
+    waiting: Option<Ahead>,
+) -> Result<NextLogBlock, PoolError>
+    requires begun { log.old.begun ≡ None }
+    requires one { length log.old.pending ≡ 1 }
+    requires size { total_size log.old.pending ≡ 100 }
+    ensures same { log.new ≡ log.old }
+    ensures next { IfOk result (λ b. number_at b.block 72 ≡ place.now.next) }
+    ensures used { IfOk result (λ b. number_at b.block 80 ≡ 100) }
+{
+    log.keep_ahead(waiting);
     log.pack_next(alloc, place, &[0; 3])
 }

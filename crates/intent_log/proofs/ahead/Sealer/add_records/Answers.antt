@@ -3,7 +3,7 @@ use Rattle.base.specs.formats.Records.{IsAllowed}
 use Rattle.transactions.specs.Records.{record_fields}
 use Rattle.transactions.specs.declared.record.Record as code
 use Rattle.intent_log.proofs.Fillings.{allowed_rest}
-use Rattle.intent_log.proofs.ahead.Sealer.know_records.Goals as goal
+use Rattle.intent_log.proofs.ahead.Sealer.add_records.Goals as goal
 
 pub loop-init : goal.loop-init
 loop-init c = c.requires
