@@ -54,7 +54,8 @@ fn is_same(number: u64, other: u64) -> bool
 }
 
 impl<'a, 'b> SealedObjects<'a, 'b> {
-    // The objects with their records at hand, sealed four side by side. Up to two may be left.
+    // The objects with their records at hand, sealed four side by side, and the last one or two alone. Two records at
+    // most are left to `sealed_record`.
     pub(crate) fn new(
         alloc: Global,
         prepared: &'a PreparedObjects<'b>,
@@ -75,6 +76,11 @@ impl<'a, 'b> SealedObjects<'a, 'b> {
             match four {
                 [a, b, c, d] => sealed.seal_records(*a, *b, *c, *d)?,
                 [a, b, c] => sealed.seal_records(*a, *b, *c, *c)?,
+                [a, b] if keys.len() > 2 => {
+                    sealed.seal_record(*a)?;
+                    sealed.seal_record(*b)?;
+                }
+                [a] if keys.len() > 2 => sealed.seal_record(*a)?,
                 _ => {}
             }
         }
@@ -95,6 +101,20 @@ impl<'a, 'b> SealedObjects<'a, 'b> {
             number: block_number(key),
             payload: payload.as_slice(),
         })
+    }
+
+    // Seals the record of a key.
+    fn seal_record(&mut self, key: u64) -> Result<(), PoolError>
+        ensures prepared { self.new.prepared.now ≡ self.old.prepared.now }
+        ensures refused { IfErr result (λ e. e ≡ error.NoMemory) }
+    {
+        let Some(Content { number, payload }) = self.content(key) else {
+            return Ok(());
+        };
+        let Ok(block) = seal(Kind::Data as u64, self.guid, self.group, number, payload) else {
+            return Ok(());
+        };
+        self.keep(key, block)
     }
 
     // Seals the records of four keys side by side.
@@ -169,5 +189,13 @@ impl<'a, 'b> SealedSource for SealedObjects<'a, 'b> {
         };
         let number = place.data_place().number();
         seal(Kind::Data as u64, guid, group, number, payload.as_slice())
+    }
+
+    fn record_check(&self, guid: u64, group: Group, place: RecordPlace) -> Option<[u8; 32]> {
+        if guid != self.guid || group != self.group {
+            return None;
+        }
+        let key = record_number(place.id, place.number());
+        Some(self.blocks.get(&key)?.check())
     }
 }

@@ -1,6 +1,7 @@
 //! Plans of syncs: which blocks the tree of a group has, and where they lie.
 #![tactic(auto)]
 
+mod ahead;
 mod changed_object;
 mod changes;
 mod clients;

@@ -37,4 +37,11 @@ pub trait SealedSource: ObjectSource {
             (object_record (Self.objects self.now) place.id.0
             (record_of_strip place.strip place.index))) }
         ensures refused { IfErr result (λ e. e ≡ error.NoMemory) };
+
+    /// The check of that block, if it was sealed. A plan that knows the checks may seal what is above the records side
+    /// by side too; what it makes doesn't depend on them.
+    fn record_check(&self, guid: u64, group: Group, place: RecordPlace) -> Option<[u8; 32]>
+        requires id { place.id.0 < object_count }
+        requires strip { place.strip < pointer_count }
+        requires index { place.index < pointer_count };
 }

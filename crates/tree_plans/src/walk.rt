@@ -29,6 +29,7 @@ ghost use Rattle.tree_plans.specs.Room.{changed_blocks, count_if, directory_bloc
 ghost use Rattle.tree_plans.specs.TreePlans.{GivesBack, GivesTree, HasEntries, HasLengths, TakesBlocks, TellsFull};
 ghost use Rattle.tree_plans.specs.Walks.{has_object, has_objects, is_directory_touched, is_emptied, root_state};
 
+use crate::ahead::IndirectsAhead;
 use crate::changed_object::ChangedObject;
 use crate::changes::ObjectChanges;
 use crate::new_entry::entry_strips;
@@ -248,8 +249,10 @@ fn place_objects<O: SealedSource>(
     ensures refused { IfErr result IsWant }
 {
     let mut entries = BTreeMap::new(source.alloc);
+    let mut ahead = IndirectsAhead::none(source.alloc);
     for (id, changes) in objects.iter() {
-        place_changed(planner, source, after, &mut entries, *id, changes)?;
+        ahead.go_on(source, after, objects, *id, planner.next);
+        place_changed(planner, source, after, &mut entries, *id, changes, &ahead)?;
     }
     Ok(entries)
 }
@@ -262,6 +265,7 @@ fn place_changed<O: SealedSource>(
     entries: &mut BTreeMap<ObjectId, ObjectEntry>,
     id: ObjectId,
     changes: &ObjectChanges,
+    ahead: &IndirectsAhead,
 ) -> Result<(), PoolError>
     requires geometry { planner.old.geometry ≡ source.now.geometry }
     requires free { source.now.free.now.blocks ≡ block_count source.now.geometry }
@@ -289,7 +293,7 @@ fn place_changed<O: SealedSource>(
         changes,
     };
     let told = entry_strips(&source.tree.entries[id.0 as usize]);
-    let entry = planner.place_object(source.free, &object, after, &told)?;
+    let entry = planner.place_object(source.free, &object, after, &told, ahead)?;
     entries.insert(id, entry)?;
     Ok(())
 }

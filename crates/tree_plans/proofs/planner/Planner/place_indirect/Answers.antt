@@ -37,8 +37,8 @@ returns-clause-planned c =
     let some : (may_have_blocks object.is_long object.changes.now.is_changed c.args.strip && list_any has_address c.args.records.now) ≡ true =
     (let yes = c.if-not-has_indirect.false in let is = c.has_indirect.ensures in search rules) in
     let fits : FitsPointers c.args.records.now (padded c.pointer_payload.result) = rw (padded-full c.pointer_payload.result c.pointer_payload.ensures.size) c.pointer_payload.ensures.pointers in
-    IfOk-weaker c.place.result _ _ (λ pointer done. indirect_done _ object c.args.strip _ c.args.records.now _ _ _ _ (ap (λ m. Indirect m) c.strip_number.ensures.number)
-    (taken _ _ _ _ _ _ (above_made _ _ goes some) fits _ _ _ done)) c.place.ensures.taken
+    IfOk-weaker c.place_pointers.result _ _ (λ pointer done. indirect_done _ object c.args.strip _ c.args.records.now _ _ _ _ (ap (λ m. Indirect m) c.strip_number-number.ensures.number)
+    (taken _ _ _ _ _ _ (above_made _ _ goes some) fits _ _ _ done)) c.place_pointers.ensures.taken
 
 pub returns-then-not-has_indirect-clause-full : goal.returns-then-not-has_indirect-clause-full
 returns-then-not-has_indirect-clause-full c = IfErr-weaker c.clear.result _ _ (λ e no_memory no_space. not_space e no_memory no_space) c.clear.ensures.refused
@@ -49,4 +49,4 @@ returns-clause-full c =
     let goes : is_strip_replaced object.is_long object.changes.now c.args.strip ≡ true = (let no = c.if-keeps_strip.false in let is = c.keeps_strip.ensures in search rules) in
     let some : (may_have_blocks object.is_long object.changes.now.is_changed c.args.strip && list_any has_address c.args.records.now) ≡ true =
     (let yes = c.if-not-has_indirect.false in let is = c.has_indirect.ensures in search rules) in
-    IfErr-weaker c.place.result _ _ (λ e full no_space. lacks_here _ (progress_of c.args.self.now) _ (above_made _ _ goes some) (full no_space)) c.place.ensures.full
+    IfErr-weaker c.place_pointers.result _ _ (λ e full no_space. lacks_here _ (progress_of c.args.self.now) _ (above_made _ _ goes some) (full no_space)) c.place_pointers.ensures.full
