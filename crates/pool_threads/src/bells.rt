@@ -1,8 +1,8 @@
 //! When the loops of a pool look at it. No clause rests on it.
 //!
-//! 1. The sync of a group costs much the same whatever the group holds, so small groups cost most. A quiescer looks
-//!    when a `begin` is throttled, and else after a period (`txg_quiesce_thread` waits for a timeout or a full group).
-//!    The period is the shorter the fewer blocks are available.
+//! 1. A sync writes a block once, however often its group changed it, and the blocks above it. So many small groups
+//!    cost more than a great one. A quiescer looks when a `begin` is throttled, and else after a period
+//!    (`txg_quiesce_thread` waits for a timeout or a full group). The period is shorter if fewer blocks are available.
 //! 2. While transactions of a closed group are open, the quiescer looks each time that a transaction has ended.
 //! 3. The syncer looks when a group was quiesced, and again at once after each sync.
 //! 4. A `begin` that is throttled does not call while a group is quiesced and unsynced: the quiescer would close a
@@ -11,6 +11,7 @@
 //! 5. Before a turn each loop reads the numbers of its bells, and then tests whether the loops are to end. After the
 //!    turn it sleeps only if its bell was not rung since (`bell.rt`). So neither a ring nor the end is slept over.
 //! 6. The numbers of groups only rise. Threads note them after their turns, in any order, and the greatest one stands.
+//!    Of the available blocks the number that was noted last stands. It may be an older one, which only moves a period.
 
 use crate::bell::Bell;
 use base::{Group, Reply};
@@ -19,13 +20,13 @@ use std::sync::Wait;
 use std::sync::atomic::{AtomicU64, Ordering};
 
 // How long a quiescer rests that nobody calls, at the least and at the most (`zfs_txg_timeout` is 5 seconds). A sync
-// costs its callers the pool for a time that grows with its group.
+// holds callers up for a time that grows with its group, so no group is left open for longer.
 const LEAST_PERIOD_IN_MICROSECONDS: u64 = 25_000;
 
 const MOST_PERIOD_IN_MICROSECONDS: u64 = 250_000;
 
-// How long it rests for each available block. The log and the open group take blocks until a group is synced: threads
-// that write at full speed take one in 12 microseconds, so a period takes a third of them.
+// How long it rests for each available block. The log and the open group take blocks until a group is synced. Threads
+// that write at full speed take one in some 12 microseconds, so a period that is longer than the least takes a third.
 const PERIOD_FOR_A_BLOCK_IN_MICROSECONDS: u64 = 4;
 
 /// What rings for the loops: a begin that is throttled, a group that may be quiesced or synced, and the end of the
@@ -136,7 +137,7 @@ impl Bells {
         self.synced.fetch_max(group.0, Ordering::SeqCst);
     }
 
-    /// So many blocks are available.
+    /// Notes how many blocks are available.
     pub(crate) fn note_available(&self, blocks: u64) {
         self.available.store(blocks, Ordering::SeqCst);
     }
