@@ -107,13 +107,16 @@ static void *write_both_ends(void *of) {
     return NULL;
 }
 
-/* Reads all of an object while threads write its ends, each both of them at once. */
+/* Reads all of an object, and its ends alone, while threads write its ends, each both of them at once. */
 static void *read_both_ends(void *of) {
-    uint8_t *bytes = of;
+    uint8_t *bytes = of, ends[2][4];
     size_t count;
     for (uint32_t i = 0; i < COMMITS / 10; i++) {
         WANT(topzerad_read(&pool, 300, 0, READ_LONG, bytes, &count) == 0 && count == READ_LONG);
         WANT(memcmp(bytes, bytes + READ_LONG - 4, 4) == 0);
+        topzerad_range ranges[] = {{300, READ_LONG - 4, READ_LONG + 9, ends[0], 0, 0}, {300, 0, 4, ends[1], 0, 0}};
+        WANT(topzerad_read_many(&pool, ranges, 2) == 0 && ranges[0].count == 4 && ranges[1].count == 4);
+        WANT(memcmp(ends[0], ends[1], 4) == 0);
     }
     return NULL;
 }
@@ -132,6 +135,21 @@ static void read_at_one_moment(void) {
     for (size_t i = 0; i < 4; i++) WANT(pthread_join(threads[i], NULL) == 0);
 }
 
+/* Ranges of several objects: the first of them is refused, and one is read in several frames. */
+static void read_ranges(void) {
+    static topzerad_range ranges[TOPZERAD_MAX_RANGES + 1];
+    uint8_t ends[2][4];
+    ranges[0] = (topzerad_range){201, 0, 4, ends[0], 9, 9};
+    ranges[1] = (topzerad_range){200, 0, TOPZERAD_MAX_LENGTH, back, 0, 0};
+    ranges[2] = (topzerad_range){50, 4, 8, ends[1], 0, 0};
+    WANT(topzerad_read_many(&pool, ranges, 3) == TOPZERAD_NO_OBJECT);
+    WANT(ranges[0].refusal == TOPZERAD_NO_OBJECT && ranges[0].count == 0);
+    WANT(ranges[1].refusal == 0 && ranges[1].count == 2 * PIECE && memcmp(back, content, 2 * PIECE) == 0);
+    WANT(ranges[2].refusal == 0 && ranges[2].count == 4);
+    WANT(topzerad_read_many(&pool, ranges, 0) == 0);
+    WANT(topzerad_read_many(&pool, ranges, TOPZERAD_MAX_RANGES + 1) == TOPZERAD_TOO_MANY);
+}
+
 static void make_each_call(void) {
     topzerad_tx tx;
     topzerad_receipt receipt;
@@ -140,6 +158,7 @@ static void make_each_call(void) {
     uint64_t length, group;
     size_t count;
     int committed, durable;
+    uint8_t *to;
     char name[TOPZERAD_MAX_NAME + 1];
 
     WANT(topzerad_name(&pool, name) == 0 && strcmp(name, "tank") == 0);
@@ -162,9 +181,12 @@ static void make_each_call(void) {
     WANT(topzerad_tx_create(&tx, 2) == 0);
     WANT(topzerad_tx_write(&tx, 2, 0, big, sizeof big) == 0);
     WANT(topzerad_tx_write(&tx, 2, 0, big, sizeof big) == TOPZERAD_TOO_LARGE);
+    WANT(topzerad_tx_write_to(&tx, 2, 0, sizeof big, &to) == TOPZERAD_TOO_LARGE);
+    WANT(topzerad_tx_write_to(&tx, 2, BIG, 3, &to) == 0);
+    memcpy(to, "end", 3);
     WANT(topzerad_transact(&pool, &tx, 1, NULL, NULL) == 0);
     WANT(topzerad_read(&pool, 2, 0, TOPZERAD_MAX_LENGTH, back, &count) == 0);
-    WANT(count == BIG && memcmp(back, big, BIG) == 0);
+    WANT(count == BIG + 3 && memcmp(back, big, BIG) == 0 && memcmp(back + BIG, "end", 3) == 0);
 
     topzerad_tx_start(&tx, memory, sizeof memory);
     WANT(topzerad_tx_set_length(&tx, 2, 10) == 0 && topzerad_tx_create(&tx, 3) == 0);
@@ -186,6 +208,7 @@ int main(int count, char **words) {
     for (size_t i = 0; i < THREADS; i++) WANT(pthread_create(&threads[i], NULL, commit_many, (void *)i) == 0);
     for (size_t i = 0; i < THREADS; i++) WANT(pthread_join(threads[i], NULL) == 0);
     read_long_object();
+    read_ranges();
     read_at_one_moment();
     WANT(topzerad_close(&pool) == 0);
     WANT(topzerad_open(&pool, "/", "/") == TOPZERAD_SYSTEM);

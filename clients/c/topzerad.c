@@ -80,14 +80,21 @@ int topzerad_tx_create(topzerad_tx *tx, uint32_t object) { return add_object(tx,
 
 int topzerad_tx_remove(topzerad_tx *tx, uint32_t object) { return add_object(tx, 2, object); }
 
-int topzerad_tx_write(topzerad_tx *tx, uint32_t object, uint64_t offset, const void *bytes, size_t count) {
+int topzerad_tx_write_to(topzerad_tx *tx, uint32_t object, uint64_t offset, size_t count, uint8_t **content) {
     uint8_t *op = count > TOPZERAD_MAX_RECORD ? NULL : add(tx, 3, 17 + count);
     if (!op) return TOPZERAD_TOO_LARGE;
     put(op + 1, object, 4);
     put(op + 5, offset, 8);
     put(op + 13, count, 4);
-    if (count) memcpy(op + 17, bytes, count);
+    *content = op + 17;
     return 0;
+}
+
+int topzerad_tx_write(topzerad_tx *tx, uint32_t object, uint64_t offset, const void *bytes, size_t count) {
+    uint8_t *content;
+    int refusal = topzerad_tx_write_to(tx, object, offset, count, &content);
+    if (!refusal && count) memcpy(content, bytes, count);
+    return refusal;
 }
 
 int topzerad_tx_set_length(topzerad_tx *tx, uint32_t object, uint64_t length) {
@@ -410,18 +417,46 @@ int topzerad_transact_many(topzerad *pool, const topzerad_tx *txs, size_t count,
     return first;
 }
 
-int topzerad_read(topzerad *pool, uint32_t object, uint64_t low, uint64_t high, void *into, size_t *count) {
+static call new_read(const topzerad_range *range) {
     call c = new_call(READ);
-    /* The pool has to refuse a range above the limit, however short the object is. */
-    if (low < high && high > TOPZERAD_MAX_LENGTH) low = high - 1;
-    add_field(&c, object, 4);
+    add_field(&c, range->object, 4);
     c.field_count += 16;
-    c.into = into;
-    c.low = low;
-    c.high = high;
+    c.into = range->into;
+    c.low = range->low;
+    c.high = range->high;
+    /* The pool has to refuse a range above the limit, however short the object is. */
+    if (c.low < c.high && c.high > TOPZERAD_MAX_LENGTH) c.low = c.high - 1;
     ask_piece(&c);
-    int refusal = make(pool, &c);
-    *count = refusal ? 0 : c.low - low + c.count;
+    return c;
+}
+
+/* Sets what came of a range, and returns its refusal. */
+static int take_read(topzerad_range *range, const call *c) {
+    range->refusal = c->refusal;
+    range->count = c->refusal ? 0 : c->low - range->low + c->count;
+    return c->refusal;
+}
+
+int topzerad_read_many(topzerad *pool, topzerad_range *ranges, size_t count) {
+    call calls[TOPZERAD_MAX_RANGES];
+    int first = 0;
+    if (count > TOPZERAD_MAX_RANGES) return TOPZERAD_TOO_MANY;
+    if (!count) return 0;
+    for (size_t i = 0; i < count; i++) calls[i] = new_read(&ranges[i]);
+    make_all(pool, calls, count);
+    for (size_t i = 0; i < count; i++) {
+        int refusal = take_read(&ranges[i], &calls[i]);
+        if (!first) first = refusal;
+    }
+    return first;
+}
+
+int topzerad_read(topzerad *pool, uint32_t object, uint64_t low, uint64_t high, void *into, size_t *count) {
+    topzerad_range range = {object, low, high, into, 0, 0};
+    call c = new_read(&range);
+    make_all(pool, &c, 1);
+    int refusal = take_read(&range, &c);
+    *count = range.count;
     return refusal;
 }
 

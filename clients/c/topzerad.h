@@ -58,6 +58,7 @@ enum {
 #define TOPZERAD_MAX_LENGTH 28449792u  /* the most bytes of an object */
 #define TOPZERAD_MAX_RECORD 65536u     /* the most bytes of a transaction */
 #define TOPZERAD_MAX_NAME 64u          /* the most bytes of a name */
+#define TOPZERAD_MAX_RANGES 64u        /* the most ranges that are read at one moment */
 
 /* A pool that is open, in the caller's memory. Its fields are the library's. */
 typedef struct topzerad {
@@ -93,6 +94,16 @@ typedef struct {
     uint64_t length;
 } topzerad_listed;
 
+/* The bytes of [low, high) of an object that lie below its length. `into` has room for high - low; `count` says how
+ * many there were, and `refusal` is 0 or why they weren't read. */
+typedef struct {
+    uint32_t object;
+    uint64_t low, high;
+    void *into;
+    size_t count;
+    int refusal;
+} topzerad_range;
+
 /* The operations of one transaction: all take place, or none. */
 typedef struct {
     uint8_t *bytes;
@@ -110,6 +121,8 @@ int topzerad_tx_remove(topzerad_tx *tx, uint32_t object);
 int topzerad_tx_write(topzerad_tx *tx, uint32_t object, uint64_t offset, const void *bytes, size_t count);
 int topzerad_tx_set_length(topzerad_tx *tx, uint32_t object, uint64_t length);
 int topzerad_tx_set_name(topzerad_tx *tx, const void *name, size_t count);
+/* Adds a write whose bytes the caller puts to `*content` before the transaction is committed. */
+int topzerad_tx_write_to(topzerad_tx *tx, uint32_t object, uint64_t offset, size_t count, uint8_t **content);
 
 /* Starts `program serve path`. `ztxg create` makes a pool. If the process can't open it, the first call returns
  * TOPZERAD_ENDED. The process has a process group of its own: a Ctrl-C that ends the caller lets it sync the pool. */
@@ -131,6 +144,9 @@ int topzerad_transact_many(topzerad *pool, const topzerad_tx *txs, size_t count,
 /* Reads the bytes of [low, high) that lie below the object's length, at one moment. `into` has room for high - low,
  * `count` says how many there were. More than 1 MiB are read in several frames, and other calls wait for the last. */
 int topzerad_read(topzerad *pool, uint32_t object, uint64_t low, uint64_t high, void *into, size_t *count);
+/* Reads ranges in their order, all at one moment: no change comes between. Returns 0, or the first refusal, which keeps
+ * no other range from being read. TOPZERAD_TOO_MANY above TOPZERAD_MAX_RANGES: nothing is read. */
+int topzerad_read_many(topzerad *pool, topzerad_range *ranges, size_t count);
 int topzerad_length(topzerad *pool, uint32_t object, uint64_t *length);
 /* Which objects are there from `first` on, below `past`, by rising number. `into` has room for past - first. */
 int topzerad_objects(topzerad *pool, uint32_t first, uint32_t past, topzerad_listed *into, size_t *count);
