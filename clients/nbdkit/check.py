@@ -19,6 +19,7 @@ import pathlib
 import random
 import shutil
 import signal
+import struct
 import subprocess
 import sys
 import tempfile
@@ -37,6 +38,7 @@ from tools.model.pool_bytes import read_records  # noqa: E402
 PACKAGES = "nbdkit nbdkit-plugin-dev libnbd-bin qemu-utils fio e2fsprogs".split()
 KIB, MIB = 1 << 10, 1 << 20
 BLOCK, PART = 4 * KIB, 335_872
+FRONT, FRONTS = 4_032, 8_064  # the bytes of a block's front, and where the fronts begin in a part's object
 SECTOR = 512
 MOMENTS_OF_POOL = 10  # kills before a new pool is made
 STAND_IN = str(HERE.parent / "stand_in")
@@ -167,9 +169,14 @@ def options(tank):
     with topzerad.Pool(tank.options.program, str(tank.pool)) as pool:
         pool.transact([topzerad.create(5)])
     assert "no disk" in tank.refusal("size=64M")
+    tank.create()
+    with topzerad.Pool(tank.options.program, str(tank.pool)) as pool:
+        header = b"topzdisk" + struct.pack("<QQQ", 64 * MIB, PART, FRONT - 64)
+        pool.transact([topzerad.create(0), topzerad.write(0, 0, header)])
+    assert "no disk" in tank.refusal("size=64M")
     tank.pool.unlink()
     assert "No such file" in tank.refusal("size=64M")
-    return "sixteen refusals, and the size is kept"
+    return "seventeen refusals, and the size is kept"
 
 
 def limits(tank):
@@ -188,7 +195,12 @@ def limits(tank):
             disk.flush()
             assert disk.read(0, 64 * KIB) == b"d" * 64 * KIB
         tank.stop(process)
-    return "three dirty limits and caches"
+    with tank.served("size=32M", "dirty=1M"), tank.disk() as disk:
+        for part in range(99):
+            disk.write(part * PART, b"p" * BLOCK)
+        disk.trim(BLOCK, 98 * PART)
+        assert disk.read(0, 90 * PART) == b"p" * BLOCK + bytes(90 * PART - BLOCK)
+    return "three dirty limits and caches, and a trim of 99 parts"
 
 
 def the_greatest_disk(tank):
@@ -336,12 +348,66 @@ def extents(tank):
         disk.write(5 * PART + BLOCK, b"b" * BLOCK)
         disk.write(7 * PART, b"c" * PART)
         disk.trim(7 * PART + 10 * BLOCK, PART)
+        disk.write(24 * PART, b"d" * 3 * BLOCK)
+        disk.trim(24 * PART, 8 * MIB - 24 * PART)
         rows = json.loads(run("nbdinfo", "--map", "--json", tank.uri))
     found = [(row["offset"], row["length"], row["type"]) for row in rows]
     expected = [(0, 3 * BLOCK, 0), (5 * PART, 2 * BLOCK, 0), (7 * PART, 10 * BLOCK, 0)]
     assert [row for row in found if row[2] == 0] == expected, found
     assert {row[2] for row in found} == {0, 3} and sum(row[1] for row in found) == 8 * MIB, found
     return "three pieces with bytes, and holes"
+
+
+def places(tank):
+    """Where the bytes of blocks are in the pool."""
+    with tank.served("size=8M"), tank.disk() as disk:
+        disk.write(PART + 3 * BLOCK, b"a" * FRONT + b"b" * 64 + b"c" * FRONT + b"d" * 64)
+        disk.write(2 * PART + 5 * BLOCK + FRONT + 10, b"e" * 20)
+        disk.write(3 * PART + 81 * BLOCK, b"f" * 2 * BLOCK, fua=True)
+    with topzerad.Pool(tank.options.program, str(tank.pool)) as pool:
+        assert pool.read(0) == b"topzdisk" + struct.pack("<QQQ", 8 * MIB, PART, FRONT)
+        part = pool.read(2)
+        assert part[: 64 * 5] == bytes(64 * 3) + b"b" * 64 + b"d" * 64
+        assert part[64 * 5 :] == bytes(FRONTS + 3 * FRONT - 64 * 5) + b"a" * FRONT + b"c" * FRONT
+        assert pool.read(3) == bytes(64 * 5 + 10) + b"e" * 20
+        part = pool.read(4)
+        assert len(part) == FRONTS + 82 * FRONT and part[-FRONT:] == b"f" * FRONT and part[64 * 81 : 64 * 82] == b"f" * 64
+        assert pool.read(5) == b"f" * 64 + bytes(FRONTS - 64) + b"f" * FRONT
+    with tank.served(), tank.disk() as disk:
+        rows = json.loads(run("nbdinfo", "--map", "--json", tank.uri)) if shutil.which("nbdinfo") else None
+        disk.trim(2 * PART + 5 * BLOCK, PART - 5 * BLOCK)
+        disk.zero(PART + 3 * BLOCK + FRONT + 1, PART)
+        assert disk.read(PART + 3 * BLOCK, 3 * BLOCK) == b"a" * FRONT + b"b" + bytes(2 * BLOCK + 63)
+        assert disk.read(2 * PART, PART) == bytes(PART)
+    if rows:
+        found = [(row["offset"], row["length"]) for row in rows if row["type"] == 0]
+        assert found == [(PART, 5 * BLOCK), (2 * PART, 6 * BLOCK), (3 * PART, PART + BLOCK)], found
+    return "fronts, tails and the header"
+
+
+def older_disk(tank):
+    """A disk whose header has no size of fronts: its blocks are whole."""
+    with topzerad.Pool(tank.options.program, str(tank.pool)) as pool:
+        header = b"topzdisk" + struct.pack("<QQ", 2 * PART, PART)
+        pool.transact([topzerad.create(number) for number in range(3)] + [topzerad.write(0, 0, header)])
+        pool.transact([topzerad.write(1, 5_000, content(20_000, 1)), topzerad.write(2, PART - 9, b"nine ends")])
+    copy = bytearray(2 * PART)
+    copy[5_000:25_000], copy[-9:] = content(20_000, 1), b"nine ends"
+    with tank.served(), tank.disk() as disk:
+        assert disk.read(0, 2 * PART) == copy
+        copy[8_000:78_000] = content(70_000, 2)
+        disk.write(8_000, bytes(copy[8_000:78_000]))
+        copy[PART - 20_000 : PART] = bytes(20_000)
+        disk.trim(PART - 20_000, 20_000)
+        copy[30_000:31_000] = bytes(1_000)
+        disk.zero(30_000, 1_000)
+        assert disk.read(0, 2 * PART) == copy
+    with tank.served(f"size={3 * PART}"), tank.disk() as disk:
+        assert disk.read(0, 3 * PART) == copy + bytes(PART)
+    with topzerad.Pool(tank.options.program, str(tank.pool)) as pool:
+        assert pool.read(0) == b"topzdisk" + struct.pack("<QQ", 3 * PART, PART)
+        assert pool.read(1).ljust(PART, b"\0") == copy[:PART] and pool.read(2) == copy[PART:]
+    return "it is read, written, trimmed and grows as before"
 
 
 def whole_blocks(tank):
@@ -381,11 +447,13 @@ def transactions(tank):
         disk.zero(BLOCK, 20 * BLOCK)
         disk.write(BLOCK + 1, b"a" * 100_000)
     records = read_records(tank.pool.read_bytes())
-    writes = [[op for op in record.ops if op[0] == "w" and op[1]] for record in records]
-    ends = {(place % BLOCK, (place + len(content)) % BLOCK) for some in writes for _, _, place, content in some}
-    assert ends == {(0, 0), (1, 0), (0, 100_001 % BLOCK)}, ends
-    sizes = [sum(len(op[3]) for op in some) for some in writes if some]
-    assert sizes[:4] == [BLOCK, 15 * BLOCK, 15 * BLOCK, BLOCK] and max(sizes) <= 65_480, sizes
+    writes = [[op[2:] for op in record.ops if op[0] == "w" and op[1]] for record in records]
+    ranges = [(place, place + len(content)) for some in writes for place, content in some]
+    fronts = {((low - FRONTS) % FRONT, (high - FRONTS) % FRONT) for low, high in ranges if low >= FRONTS}
+    tails = {(low % (BLOCK - FRONT), high % (BLOCK - FRONT)) for low, high in ranges if low < FRONTS}
+    assert fronts == {(0, 0), (1, 0), (0, 100_001 % BLOCK)} and tails == {(0, 0)}, (fronts, tails)
+    sizes = [sum(len(content) for _, content in some) for some in writes if some]
+    assert sizes[:4] == [BLOCK, 15 * BLOCK, 15 * BLOCK, BLOCK] and max(sizes) <= 65_446, sizes
     return f"{len(sizes)} of them, each to the end of a block"
 
 
@@ -401,7 +469,8 @@ def full_pool(tank):
             assert written < disk.size
         disk.flush()
         assert disk.read(0, 64 * KIB) == content(64 * KIB, 0)
-        disk.trim(0, 4 * MIB)
+        disk.trim(PART + 2 * BLOCK, 2 * BLOCK)
+        disk.trim(PART + 2 * BLOCK, 4 * MIB)
         disk.write(0, b"a" * MIB, fua=True)
     with tank.served(), tank.disk() as disk:
         assert disk.read(0, MIB) == b"a" * MIB
@@ -523,7 +592,7 @@ def killed_program(tank):
 
 TESTS = (
     options, limits, the_greatest_disk, patterns, random_steps, copies, verified, file_system, read_only, growth,
-    extents, transactions, whole_blocks, full_pool, refused_device, killed_nbdkit, killed_program,
+    extents, places, older_disk, transactions, whole_blocks, full_pool, refused_device, killed_nbdkit, killed_program,
 )  # fmt: skip
 
 

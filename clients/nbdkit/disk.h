@@ -1,8 +1,13 @@
 /* disk.h: a disk in a pool. Its blocks have 4,096 bytes, and each is written whole or not at all.
  *
- * Object 0 has the disk's header: `topzdisk`, then the size of the disk and DISK_PART, 8 bytes each, little-endian.
- * Object 1 + k has part k: the bytes of the disk from k * DISK_PART on, at most DISK_PART of them. Those past the
- * length of the object are zeros. So block b is at 4,096 * (b mod 82) in object 1 + b div 82.
+ * Object 0 has the disk's header: `topzdisk`, then the size of the disk, DISK_PART and 4,032, 8 bytes each,
+ * little-endian. Object 1 + k has part k: the bytes of the disk from k * DISK_PART on, at most DISK_PART of them. The
+ * front of a block, its first 4,032 bytes, is a data block of the pool. The tails, the last 64 bytes of each block,
+ * stand before the fronts, in two data blocks. So a write of a block replaces the data block of its front without a
+ * read, and 64 bytes of one with tails. Of block b, with i = b mod 82, object 1 + b div 82 has the tail at 64 * i, and
+ * the front at 8,064 + 4,032 * i. Bytes past the length of the object are zeros.
+ *
+ * A header of an older disk has no 4,032. Its block b is whole at 4,096 * i.
  *
  * Each call returns 0 or a refusal of topzerad.h. Once the disk is open and has its size, any thread may make any call.
  */
@@ -19,6 +24,7 @@
 typedef struct {
     topzerad *pool;
     uint64_t size;
+    uint32_t front; /* the bytes of a block that are its front */
 } disk;
 
 /* What a pool has. */
@@ -43,7 +49,8 @@ int disk_write(disk *d, const uint8_t *bytes, uint64_t offset, uint64_t count, i
 /* Makes the bytes of a range zeros. It gives back their space where the range has a part to its end, and writes zeros
  * elsewhere. Call disk_flush to make that durable. */
 int disk_zero(disk *d, uint64_t offset, uint64_t count);
-/* Does the same where it gives back space, and nothing elsewhere. */
+/* Does the same where it gives back space, and nothing elsewhere, or if the pool has no space for the tails of a part
+ * that is cut inside. */
 int disk_trim(disk *d, uint64_t offset, uint64_t count);
 /* Makes durable what was changed by calls that have returned. */
 int disk_flush(disk *d);
