@@ -8,7 +8,6 @@ pub mod FirstWrites
 pub mod OwnCreations
 mod NamedBlocks
 pub mod FreeBlocks
-pub mod GivenBlocks
 pub mod LeftBlocks
 pub mod Rings
 pub mod Configs

@@ -34,10 +34,11 @@ use Rattle.sync.specs.Made.{BlocksWritten}
 use Rattle.tree_plans.specs.declared.planner.PlannedBlock.{PlannedBlock}
 use Rattle.import_replay.specs.FreeBlocks.{IsNamed, IsUsedBy}
 use Rattle.import_replay.specs.ImportRefusals.{CanImport, HasSoundPool}
-use Rattle.import_replay.specs.Mounts.{IsMountedAnew, IsMountedFrom, StandsOnDevice, frame_of_import, parts_mounted, shown_of_import}
+use Rattle.import_replay.specs.Mounts.{IsMountedAnew, IsMountedFrom, StandsOnDevice, frame_of_import, parts_mounted}
+use Rattle.mounted.specs.ShownMounted.{shown_of_import}
 use Rattle.import_replay.specs.NextPools.{AreMadeOver, ArePartsFor, AreWithinLimits, PoolParts, next_frame}
 use Rattle.import_replay.specs.ReadPools.{IsReadPool, frame_of_size}
-use Rattle.import_replay.specs.declared.mounted.Mounted.{Mounted}
+use Rattle.mounted.specs.declared.mounted.Mounted.{Mounted}
 
 pub not_zero : (blocks address : ℕ) → IsBlockAddress blocks address → address ≢ 0
 not_zero blocks address is none = let e = is.2 in omega (arith, e, none)

@@ -71,7 +71,7 @@ use Rattle.import_replay.specs.Mounts.{IsImport, IsMountedFrom}
 use Rattle.import_replay.specs.NextPools.{AreMadeOver, ArePartsFor, AreWithinLimits, IsPlannedPool, IsReadyFor, IsReplayedPool, LacksBlocks, LacksTreeBlocks, PoolParts, next_frame, objects_replayed, pool_parts, synced_with}
 use Rattle.import_replay.specs.ReadPools.{IsLoadedFor, IsReadPool, frame_of_size}
 use Rattle.import_replay.specs.TakenBlocks.{AreForEachPlace, AreLowestSpare, replayed_places}
-use Rattle.import_replay.specs.declared.mounted.Mounted.{Mounted}
+use Rattle.mounted.specs.declared.mounted.Mounted.{Mounted}
 use Rattle.import_replay.specs.declared.next_pool.NextPool.{NextPool}
 use Rattle.import_replay.specs.declared.next_pool.ReplayedPool.{ReplayedPool}
 use Rattle.import_replay.proofs.FreeBlocks.{at_planned, planned_at}

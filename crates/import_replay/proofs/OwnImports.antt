@@ -39,10 +39,11 @@ use Rattle.import_replay.specs.ImportStops.{next_config, writes_of_next}
 use Rattle.import_replay.specs.ImportSyncs.{writes_of_import}
 use Rattle.import_replay.specs.ImportViews.{EndsBehind, IsReadyBehind, IsSpareFor, KeepsViews, MayBeWritten, ViewTree, view_of}
 use Rattle.import_replay.specs.LabelSyncs.{ImportWrites, is_even}
-use Rattle.import_replay.specs.Mounts.{IsMountedFrom, parts_mounted, shown_of_import}
+use Rattle.import_replay.specs.Mounts.{IsMountedFrom, parts_mounted}
+use Rattle.mounted.specs.ShownMounted.{shown_of_import}
 use Rattle.import_replay.specs.NextPools.{AreMadeOver, ArePartsFor, IsUnusedBlock, PoolParts, pool_parts, tree_of}
 use Rattle.import_replay.specs.RunStarts.{IsRunStart, StartsRun}
-use Rattle.import_replay.specs.declared.mounted.Mounted.{Mounted}
+use Rattle.mounted.specs.declared.mounted.Mounted.{Mounted}
 use Rattle.import_replay.specs.declared.next_pool.NextPool.{NextPool}
 use Rattle.import_replay.proofs.WrittenImports.{written_same}
 use Rattle.import_replay.proofs.ReadViews.{IsRestedOwn, found_mounts, found_name, found_uberblock, kept_count, kept_rested, rested_own, spared_at, unused_spare}

@@ -19,7 +19,7 @@ use Rattle.import_replay.specs.Mounts.{IsMountedFrom}
 use Rattle.import_replay.specs.NextPools.{AreMadeOver, ArePartsFor, pool_parts}
 use Rattle.import_replay.specs.ReadPools.{IsReadPool}
 use Rattle.import_replay.specs.RunStarts.{StartsRun}
-use Rattle.import_replay.specs.declared.mounted.Mounted.{Mounted}
+use Rattle.mounted.specs.declared.mounted.Mounted.{Mounted}
 use Rattle.import_replay.specs.declared.next_pool.NextPool.{NextPool}
 use Rattle.import_replay.specs.declared.next_pool.ReplayedPool.{ReplayedPool}
 use Rattle.import_replay.proofs.NextPools.{IsPrepared, prepared_mounts, prepared_over, prepared_parts}

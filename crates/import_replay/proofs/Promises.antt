@@ -23,11 +23,11 @@ use Rattle.import_replay.specs.Creations.{IsCreatedOn, IsNewPool, first_uberbloc
 use Rattle.import_replay.specs.ImportRefusals.{CanImport, IsImportRefusal, IsReason, IsInspectionRefusal, IsReadingRefusal}
 use Rattle.import_replay.specs.ImportSyncs.{IsImportSynced, uberblock_of_import}
 use Rattle.import_replay.specs.Inspections.{IsInspectionOf}
-use Rattle.import_replay.specs.Mounts.{shown_of_import}
+use Rattle.mounted.specs.ShownMounted.{shown_of_import}
 use Rattle.import_replay.specs.Refused.{IsInspectionRefused}
 use Rattle.import_replay.specs.Outside.{IsPoolByte, KeepsOutside, WritesPoolBytes}
 use Rattle.import_replay.specs.declared.inspection.Inspected.{Inspected}
-use Rattle.import_replay.specs.declared.mounted.Mounted.{Mounted}
+use Rattle.mounted.specs.declared.mounted.Mounted.{Mounted}
 use Rattle.import_replay.proofs.PoolDamages.{not_of_tree}
 
 -- what a refusal, or an answer, has of a clause on both

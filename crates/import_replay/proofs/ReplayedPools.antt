@@ -1,9 +1,9 @@
 -- The records of a chain, as the operations of the group that an import syncs: they take place on the tree that was
 -- loaded, keep within the limits, and are estimated at what the records are.
-use Rattle.std.proofs.Common.{◌≡◌, ℕ, ◌+◌, ◌<◌, ◌≤◌, true, List, [], ◌∷◌, ◌++◌, length, map, Ok, None, Some, refl, ap, sym, subst, ◌∙◌, nat_lt}
-use Rattle.std.specs.Prelude.{All, IfSome, Option, sum_by}
+use Rattle.std.proofs.Common.{◌≡◌, ℕ, ◌+◌, ◌<◌, ◌≤◌, List, [], ◌∷◌, ◌++◌, length, map, Ok, refl, ap, sym, subst, ◌∙◌}
+use Rattle.std.specs.Prelude.{All, sum_by}
 use Rattle.std.specs.FinMap as finite
-use Rattle.std.specs.List.{flat_map, list_all}
+use Rattle.std.specs.List.{flat_map}
 use Rattle.std.proofs.lemmas.List.{length-map}
 use Rattle.std.proofs.lemmas.List.Elements.{All-append, All-cons, All-head, All-nil, All-tail, All-weaker}
 use Rattle.std.proofs.lemmas.List.Sums.{sum_by-cons}
@@ -11,15 +11,12 @@ use Rattle.base.specs.tree.Mount.{Placed, entry_of_record, records_above}
 use Rattle.base.specs.declared.operation.Op.{Op}
 use Rattle.base.specs.formats.Chain.{LogPiece}
 use Rattle.base.specs.formats.Geometry.{block_count}
-use Rattle.base.specs.formats.Limits.{max_length, object_count}
 use Rattle.base.specs.formats.Names.{IsName}
 use Rattle.base.specs.formats.Uberblocks.{Uberblock}
-use Rattle.base.specs.history.Contents.{Contents, apply}
-use Rattle.base.specs.history.History.{Entry, apply_all, replay, run}
+use Rattle.base.specs.history.Contents.{Contents}
+use Rattle.base.specs.history.History.{Entry, apply_all}
 use Rattle.base.specs.history.Plans.{estimate_of, shape_of}
-use Rattle.base.specs.history.Sequences.{in_turn}
 use Rattle.base.specs.steps.Exact.{IsBounded}
-use Rattle.base.proofs.common.Sequences.{in_turn-append, parted}
 use Rattle.extents.specs.Synced.{patched_contents}
 use Rattle.extents.specs.Tables.{name_of, patches_of}
 use Rattle.group_plans.specs.Operations.{AreSized, TakesPlace}
@@ -39,13 +36,6 @@ use Rattle.import_replay.specs.PlacedRecords.{ops_of_placed, placed_estimate}
 use Rattle.import_replay.specs.NextPools.{IsReplayedPool}
 use Rattle.import_replay.specs.ReadPools.{IsLoadedFor}
 use Rattle.import_replay.specs.declared.next_pool.ReplayedPool.{ReplayedPool}
-
--- transactions in order are their operations in order
-pub flat_replay : (es : List Entry) (a b : Contents) → replay es a ≡ Ok b → apply_all (flat_map (λ (e : Entry). e.ops) es) a ≡ Ok b
-flat_replay [] a b h = h
-flat_replay (e ∷ es) a b h =
-    let p = parted (run e a) (in_turn run es) b h in
-    in_turn-append apply e.ops (flat_map (λ (x : Entry). x.ops) es) a p.0 b p.1 (flat_replay es p.0 b p.2)
 
 -- Records that were replayed are those of the chain, as of one group.
 abbrev AreTaken : ℕ → List Record → List Placed → Type 0
@@ -108,10 +98,6 @@ all_allowed : (xs : List Record) → All (λ (x : Record). AreOpsAllowed x.ops) 
 all_allowed [] all = All-nil IsOpAllowed
 all_allowed (x ∷ xs) all =
     All-append IsOpAllowed x.ops (ops_of_records xs) (All-head (λ (r : Record). AreOpsAllowed r.ops) x xs all) (all_allowed xs (All-tail (λ (r : Record). AreOpsAllowed r.ops) x xs all))
-
-pub sized_object : (o : Option (List ℕ)) (n : ℕ) → IfSome o (λ bytes. (n < object_count) × (length bytes ≤ max_length) × (list_all (λ b. nat_lt b 256) bytes ≡ true)) → IfSome o (λ bytes. length bytes ≤ max_length)
-sized_object None n h = tt
-sized_object (Some x) n h = h.1
 
 module _ (size : ℕ) (u : Uberblock) (name : List ℕ) (tree : Tree) (slots : List Slot) (chain : List LogPiece) (pool : ReplayedPool) (named : IsName name) (loaded : IsLoadedFor u (block_count size) tree slots chain)
     (r : IsReplayedPool size u.group name tree slots chain pool) where

@@ -7,10 +7,10 @@ use Rattle.base.specs.formats.Uberblocks.{IsActive}
 use Rattle.base.proofs.stored.StoredImports.{new-configs, new-shows}
 use Rattle.labels.specs.Configs.{IsConfigBlock}
 use Rattle.object_maps.specs.ContentsShown.{contents_of}
-use Rattle.import_replay.specs.declared.mounted.Mounted.{Mounted}
+use Rattle.mounted.specs.declared.mounted.Mounted.{Mounted}
 use Rattle.import_replay.specs.ImportSyncs.{config_of_import, uberblock_of_import}
 use Rattle.import_replay.specs.Labelled.{HoldConfig}
-use Rattle.import_replay.specs.Mounts.{shown_of_import}
+use Rattle.mounted.specs.ShownMounted.{shown_of_import}
 use Rattle.import_replay.specs.ShownMounts.{LabelsShow}
 
 module _ (now : List ℕ) (moment : ℕ) (m : Mounted) (long : length now ≡ m.geometry) (configs : HoldConfig m.geometry 4 (config_of_import m) now) where

@@ -46,7 +46,7 @@ use Rattle.import_replay.specs.FreeBlocks.{is_planned}
 use Rattle.import_replay.specs.ImportSyncs.{IsImportWritten}
 use Rattle.import_replay.specs.Mounts.{IsImport, frame_of_import}
 use Rattle.import_replay.specs.TakenBlocks.{AreForEachPlace, AreLowestSpare, ChangesBlock, KeepsBlock, replayed_places}
-use Rattle.import_replay.specs.declared.mounted.Mounted.{Mounted}
+use Rattle.mounted.specs.declared.mounted.Mounted.{Mounted}
 use Rattle.import_replay.proofs.FreeBlocks.{at_planned, planned_at}
 use Rattle.import_replay.proofs.WrittenPlaces.{IsWrittenAt, each_place, each_written, root_last}
 

@@ -21,7 +21,7 @@ use Rattle.import_replay.specs.LabelSyncs.{ImportWrites, IsGroupSynced, calls_of
 use Rattle.import_replay.specs.Mounts.{IsMountedFrom}
 use Rattle.import_replay.specs.NextPools.{AreMadeOver, PoolParts, pool_parts}
 use Rattle.import_replay.specs.TakenBlocks.{AreForEachPlace}
-use Rattle.import_replay.specs.declared.mounted.Mounted.{Mounted}
+use Rattle.mounted.specs.declared.mounted.Mounted.{Mounted}
 use Rattle.import_replay.specs.declared.next_pool.NextPool.{NextPool}
 use Rattle.import_replay.proofs.ImportedLabels.{active_now}
 

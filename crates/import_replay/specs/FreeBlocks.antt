@@ -10,6 +10,7 @@ use Rattle.base.specs.formats.Geometry.{block_address, IsBlockAddress}
 use Rattle.base.specs.tree.Places.{Place, IsPlace}
 use Rattle.object_maps.specs.FreeBlocks.{BlocksTaken, is_block_at}
 use Rattle.space.specs.FreeSets.{FreeSpace, after_take, is_free}
+use Rattle.mounted.specs.GivenBlocks.{after_gives}
 use Rattle.tree_plans.specs.declared.planner.PlannedBlock.{PlannedBlock}
 use Rattle.tree_plans.specs.declared.planner.TreePlan.{TreePlan}
 
@@ -37,10 +38,6 @@ pub record AreAllOthers (pointers : Place → Pointer) (blocks address : ℕ) (f
 -- whether one of the blocks of a piece is the k-th block
 abbrev pub logs_block : ℕ → LogPiece → Bool
 logs_block k piece = list_any (is_block_at k) (addresses_of piece)
-
--- these addresses are free once more
-abbrev pub after_gives : List ℕ → FreeSpace → FreeSpace
-after_gives addresses s = record s { free = set.union s.free (set.from_list addresses) }
 
 -- whether one of these planned blocks is the k-th block
 abbrev pub plans_block : ℕ → PlannedBlock → Bool

@@ -17,7 +17,7 @@ use Rattle.import_replay.specs.Labelled.{HoldLabels}
 use Rattle.import_replay.specs.LabelSyncs.{ImportWrites, calls_of_import}
 use Rattle.import_replay.specs.NextPools.{IsUnusedBlock}
 use Rattle.import_replay.specs.TakenBlocks.{AreForEachPlace, AreLowestSpare}
-use Rattle.import_replay.specs.declared.mounted.Mounted.{Mounted}
+use Rattle.mounted.specs.declared.mounted.Mounted.{Mounted}
 
 -- the config that an import writes
 abbrev pub config_of_import : Mounted → Config

@@ -1,5 +1,5 @@
 -- What an import mounts, as contracts see the pool that it gives.
-use Rattle.std.specs.Prelude.{ℕ, ◌≡◌, ◌+◌, ◌<◌, ◌≤◌, false, List, [], length, None}
+use Rattle.std.specs.Prelude.{ℕ, ◌≡◌, ◌+◌, ◌<◌, ◌≤◌, false, List, [], length}
 use Rattle.std.specs.FinMap as finite
 use Rattle.base.specs.formats.Versions.{written_version}
 use Rattle.base.specs.formats.Blocks.{Frame}
@@ -14,40 +14,12 @@ use Rattle.base.specs.tree.Mount.{IsChainOf, IsUsed}
 use Rattle.base.specs.history.Past.{new_past}
 use Rattle.base.specs.kept.PlacedTrees.{HoldsTree}
 use Rattle.base.specs.tree.Places.{IsInTree}
-use Rattle.base.specs.steps.Shown.{Shown, listed}
 use Rattle.base.specs.formats.Uberblocks.{Uberblock, IsActive}
 use Rattle.object_maps.specs.ContentsShown.{contents_of}
-use Rattle.tree_blocks.specs.Lengths.{lengths_of}
 use Rattle.tree_blocks.specs.Pointers.{pointers_of}
 use Rattle.import_replay.specs.ImportRefusals.{CanImport}
 use Rattle.import_replay.specs.NextPools.{PoolParts}
-use Rattle.import_replay.specs.declared.mounted.Mounted.{Mounted}
-
--- the pool as it is shown when the import is done: the synced group is the import's, the next one is open, and nothing
--- else has happened
-abbrev pub shown_of_import : Mounted → Shown
-shown_of_import m = record {
-  suspended = false;
-  guid = m.guid;
-  blocks = block_count m.geometry;
-  import_number = m.import_number;
-  dirty_max = m.dirty_max;
-  locks = [];
-  next_lock = 0;
-  line = record { synced = m.group.0; syncing = None; middle = None; open_group = m.group.0 + 1 };
-  transactions = [];
-  next_tx = 0;
-  contents = contents_of m.contents;
-  next_ordinal = 0;
-  dirty = finite.empty;
-  reserved = finite.empty;
-  free = m.free.free;
-  log = record { unsynced = []; begun = None; pending = []; kept = []; next = record { address = m.log_address; number = 0 } };
-  root = m.tree.root;
-  synced_contents = contents_of m.contents;
-  lengths = listed (lengths_of m.tree);
-  sync = None;
-}
+use Rattle.mounted.specs.declared.mounted.Mounted.{Mounted}
 
 -- the pool's frame, of the version that is written and its synced group
 abbrev pub frame_of_import : Mounted → Frame

@@ -6,8 +6,8 @@ use Rattle.base.specs.disk.Disk.{Disk, Moment}
 use Rattle.base.specs.history.Contents.{Contents}
 use Rattle.base.specs.history.Past.{new_past}
 use Rattle.object_maps.specs.ContentsShown.{contents_of}
-use Rattle.import_replay.specs.Mounts.{shown_of_import}
-use Rattle.import_replay.specs.declared.mounted.Mounted.{Mounted}
+use Rattle.mounted.specs.ShownMounted.{shown_of_import}
+use Rattle.mounted.specs.declared.mounted.Mounted.{Mounted}
 
 -- The disk has the views of what is shown, with a past in which nothing happened since this create, and nothing is
 -- unflushed; the pool is that of the guid, and what was mounted are the contents.

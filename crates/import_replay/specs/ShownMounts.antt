@@ -5,8 +5,8 @@ use Rattle.base.specs.history.Past.{new_past}
 use Rattle.base.specs.kept.LabelConfigs.{HoldConfigs}
 use Rattle.base.specs.kept.ShownLabels.{ShowsSynced}
 use Rattle.object_maps.specs.ContentsShown.{contents_of}
-use Rattle.import_replay.specs.Mounts.{shown_of_import}
-use Rattle.import_replay.specs.declared.mounted.Mounted.{Mounted}
+use Rattle.mounted.specs.ShownMounted.{shown_of_import}
+use Rattle.mounted.specs.declared.mounted.Mounted.{Mounted}
 
 -- The bytes are those of a pool's device. Their labels show the import's group, and each has a config with its name,
 -- with a past in which nothing happened, whenever the pool was created.

@@ -1,5 +1,5 @@
 -- What a view of a pool has: the objects of what the image mounts, and the tree that they are read from.
-use Rattle.std.specs.Prelude.{ℕ, ◌≡◌, ◌≤◌, ◌⊎◌, ◌&&◌, ◌++◌, All, Bool, false, List, nat_lt}
+use Rattle.std.specs.Prelude.{ℕ, ◌≡◌, ◌≤◌, ◌⊎◌, ◌&&◌, ◌++◌, All, false, List}
 use Rattle.std.specs.Ordering.{nat_cmp}
 use Rattle.std.specs.FinMap.{FinMap}
 use Rattle.base.specs.tree.Mount.{MountsTo}
@@ -9,9 +9,7 @@ use Rattle.base.specs.declared.names.ObjectId.{ObjectId}
 use Rattle.base.specs.declared.operation.Op.{Op}
 use Rattle.base.specs.declared.range.Range.{Range}
 use Rattle.base.specs.formats.Geometry.{block_address}
-use Rattle.base.specs.formats.Limits.{object_count}
 use Rattle.base.specs.history.Contents.{Contents}
-use Rattle.base.specs.steps.Locks.{is_range_allowed}
 use Rattle.base.specs.kept.PlacedTrees.{HoldsTree}
 use Rattle.extents.specs.declared.unsynced.UnsyncedExtents.{UnsyncedExtents}
 use Rattle.extents.specs.Patches.{ArePatchesOf, no_patch}
@@ -54,10 +52,6 @@ pub record IsViewOfImage (image : List ℕ) (v : View) : Type 0 where
   pub objects : contents.objects ≡ objects_seen v
   pub tree : HoldsTree image v.frame (pointers_of v.tree) (contents_of v.synced).objects
   pub lengths : HasLengthsOf v.tree (contents_of v.synced).objects
-
--- a range of an object within the limits, with a byte at least
-abbrev pub is_readable : ℕ → Range → Bool
-is_readable number range = nat_lt number object_count && is_range_allowed range.low range.high
 
 -- a read of a range is refused: outside the limits, for no object, or as its blocks are
 abbrev pub IsViewRefusal : ObjectId → Range → PoolError → Type 0

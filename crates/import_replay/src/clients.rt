@@ -14,17 +14,14 @@ ghost use Rattle.base.specs.history.Contents.{Contents};
 ghost use Rattle.base.specs.tree.Damages.{IsSoundAt};
 ghost use Rattle.base.specs.tree.Places.{IsInTree, Place, data_pointer, indirect_pointer, kind_of, pointer_of};
 ghost use Rattle.base.specs.tree.Syncs.{is_on};
-ghost use Rattle.group_plans.specs.Areas.{AreBlocksOf};
 ghost use Rattle.object_maps.specs.ContentsShown.{contents_of};
 ghost use Rattle.tree_blocks.specs.ListedObjects.{listed};
 ghost use Rattle.object_maps.specs.declared.damages.BlockDamage.{BlockDamage};
-ghost use Rattle.space.specs.FreeSets.{is_free};
 ghost use Rattle.import_replay.specs.PlacedRecords.{ops_of_placed};
 ghost use Rattle.import_replay.specs.TakenBlocks.{ChangesBlock, KeepsBlock};
 
 use crate::creation::create;
 use crate::damages::{Soundness, find_damages};
-use crate::free_blocks::give_all;
 use crate::imported::Imported;
 use crate::importing::{import, import_with};
 use crate::inspection::{Inspected, inspect};
@@ -150,16 +147,6 @@ fn an_import_lets_256_blocks_stay<D: SectorDevice>(
     ensures { IfOk result (λ i. i.cache.cap ≡ 256) }
 {
     import(alloc, device, 1_048_576, 0)
-}
-
-// The block at address 4,198,400 comes back: block 1 is free then.
-fn a_block_that_comes_back_is_free(free: &mut FreeSet, geometry: Geometry, addresses: &[u64])
-    requires count { free.old.blocks ≡ block_count geometry }
-    requires placed { AreBlocksOf (block_count geometry) addresses.now }
-    requires addresses { addresses.now ≡ 4198400 ∷ [] }
-    ensures { is_free 1 free.new ≡ true }
-{
-    give_all(free, geometry, addresses);
 }
 
 // If an import synced group 9 and replayed 3 records, `group` returns 9 and `records` returns 3.

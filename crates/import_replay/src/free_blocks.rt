@@ -5,8 +5,7 @@ ghost use Rattle.std.specs.Prelude.{◌≡◌, IfErr, IfOk};
 ghost use Rattle.std.specs.List.{list_any};
 ghost use Rattle.base.specs.formats.Geometry.{block_count};
 ghost use Rattle.object_maps.specs.FreeBlocks.{BlocksTaken, is_block_at};
-ghost use Rattle.group_plans.specs.Areas.{AreBlocksOf};
-ghost use Rattle.import_replay.specs.FreeBlocks.{AreAllPlanned, IsLowestLeft, after_gives, is_planned, logs_block};
+ghost use Rattle.import_replay.specs.FreeBlocks.{AreAllPlanned, IsLowestLeft, is_planned, logs_block};
 
 use base::PoolError;
 use intent_log::LoggedPiece;
@@ -64,16 +63,5 @@ pub(crate) fn take_planned(free: &mut FreeSet, planned: &[PlannedBlock])
 {
     for block in planned {
         free.take(block.index);
-    }
-}
-
-/// The blocks at these addresses come back. It takes no memory.
-pub fn give_all(free: &mut FreeSet, geometry: Geometry, addresses: &[u64])
-    requires count { free.old.blocks ≡ block_count geometry }
-    requires placed { AreBlocksOf (block_count geometry) addresses.now }
-    ensures { free.new ≡ after_gives addresses.now free.old }
-{
-    for address in addresses {
-        free.give(geometry.block_index(*address) as usize);
     }
 }

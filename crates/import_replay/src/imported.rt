@@ -6,9 +6,9 @@ ghost use Rattle.base.specs.formats.Limits.{first_group, last_number};
 ghost use Rattle.import_replay.specs.Mounts.{IsExplainedAnew, StandsOnDevice};
 ghost use Rattle.import_replay.specs.ShownMounts.{LabelsShow};
 
-use crate::mounted::Mounted;
 use base::Group;
 use device_model::SectorDevice;
+use mounted::Mounted;
 use object_maps::BlockCache;
 
 /// An imported pool, with the device that it lies on.

@@ -50,7 +50,6 @@ ghost use Rattle.import_replay.specs.RunStarts.{StartsRun};
 use crate::finding::Found;
 use crate::imported::Imported;
 use crate::label_sync::sync_group;
-use crate::mounted::Mounted;
 use crate::next_pool::{NextPool, plan_pool, replay_pool};
 use crate::reading::read_pool;
 use base::{
@@ -59,6 +58,7 @@ use base::{
 };
 use device_model::SectorDevice;
 use labels::Geometry;
+use mounted::Mounted;
 use object_maps::{BlockCache, BlockReader, CachedDevice};
 use std::alloc::Global;
 use std::num::NonZeroUsize;

@@ -12,16 +12,13 @@ mod imported;
 mod importing;
 mod inspection;
 mod label_sync;
-mod mounted;
 mod next_pool;
 mod reading;
 mod viewing;
 
 pub use creation::create;
 pub use damages::{Soundness, find_damages};
-pub use free_blocks::give_all;
 pub use imported::Imported;
 pub use importing::{import, import_with};
 pub use inspection::{Inspected, inspect};
-pub use mounted::Mounted;
 pub use viewing::{View, view_pool};

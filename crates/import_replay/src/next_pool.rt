@@ -26,13 +26,14 @@ ghost use Rattle.import_replay.specs.Devices.{IsSizedFor};
 ghost use Rattle.import_replay.specs.NextPools.{HoldsLoaded, HoldsNextObjects, IsNextRefused, IsPlannedPool, IsReplayedPool, MakesReadNext, TellsShortPlan, TellsShortTree, synced_with};
 
 use crate::finding::Found;
-use crate::free_blocks::{give_all, lowest_left, take_logged, take_planned};
+use crate::free_blocks::{lowest_left, take_logged, take_planned};
 use crate::reading::frame_of;
 use base::{Group, PoolError};
 use group_plans::{GroupSource, plan_group};
 use intent_log::LoggedPiece;
 use labels::Geometry;
 use log_replay::{Replayed, replay};
+use mounted::give_all;
 use object_maps::{BlockReader, Contents, Loaded};
 use space::FreeSet;
 use std::alloc::Global;

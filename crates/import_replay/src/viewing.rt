@@ -17,7 +17,8 @@ ghost use Rattle.log_replay.specs.Replays.{ops_of_records};
 ghost use Rattle.object_maps.specs.Ops.{AreOpsAllowed};
 ghost use Rattle.transactions.specs.declared.record.Record.{Record as Logged};
 ghost use Rattle.import_replay.specs.Refused.{IsInspectionRefused};
-ghost use Rattle.import_replay.specs.Views.{AreAllChanges, FitsOn, IsViewOfImage, is_readable};
+ghost use Rattle.import_replay.specs.Views.{AreAllChanges, FitsOn, IsViewOfImage};
+ghost use Rattle.mounted.specs.Ranges.{is_readable};
 
 use crate::next_pool::{ReplayedPool, replay_pool};
 use crate::reading::{frame_of, read_pool};
@@ -122,7 +123,8 @@ impl View {
     ghost use Rattle.base.specs.disk.Disk.{bytes_of};
     ghost use Rattle.device_model.specs.Reading.{OnlyReads};
     ghost use Rattle.object_maps.specs.Sources.{object_length, range_in};
-    ghost use Rattle.import_replay.specs.Views.{FitsOn, IsViewOfImage, IsViewRefusal, is_readable, objects_seen};
+    ghost use Rattle.import_replay.specs.Views.{FitsOn, IsViewOfImage, IsViewRefusal, objects_seen};
+    ghost use Rattle.mounted.specs.Ranges.{is_readable};
 
     /// The length of an object in bytes, if it is there. It takes no memory.
     pub fn length(&self, object: ObjectId) -> Option<u64>

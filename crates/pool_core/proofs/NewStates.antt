@@ -16,8 +16,9 @@ use Rattle.base.proofs.common.KeptLists.{none_at}
 use Rattle.object_maps.specs.ContentsShown.{contents_of}
 use Rattle.tree_blocks.specs.Pointers.{pointers_of}
 use Rattle.tree_blocks.specs.ListedObjects.{AreWithin}
-use Rattle.import_replay.specs.declared.mounted.Mounted.{Mounted}
-use Rattle.import_replay.specs.Mounts.{IsExplainedAnew, StandsOnDevice, shown_of_import}
+use Rattle.mounted.specs.declared.mounted.Mounted.{Mounted}
+use Rattle.import_replay.specs.Mounts.{IsExplainedAnew, StandsOnDevice}
+use Rattle.mounted.specs.ShownMounted.{shown_of_import}
 use Rattle.import_replay.specs.ShownMounts.{LabelsShow}
 use Rattle.pool_tables.specs.declared.pool.PoolTables.{PoolTables}
 use Rattle.pool_tables.specs.Told.{held_with, new_tree_of, pool_told}

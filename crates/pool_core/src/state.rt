@@ -39,7 +39,7 @@ impl<D: SectorDevice> PoolState<D> {
     ghost use Rattle.base.specs.steps.Locks.{AreLocksSound};
     ghost use Rattle.range_locks.specs.Locks.{grant_of, is_blocked_by_own};
     ghost use Rattle.range_locks.specs.Pieces.{pieces_of};
-    ghost use Rattle.import_replay.specs.Mounts.{shown_of_import};
+    ghost use Rattle.mounted.specs.ShownMounted.{shown_of_import};
     ghost use Rattle.sync.specs.Calls.{plain_answer};
     ghost use Rattle.pool_tables.specs.BeginTests.{is_above_limit};
     ghost use Rattle.pool_tables.specs.Duties.{due_step};

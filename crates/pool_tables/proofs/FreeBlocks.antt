@@ -12,8 +12,8 @@ use Rattle.base.specs.formats.Geometry.{block_address}
 use Rattle.space.specs.FreeSets.{FreeSpace, after_give, after_sync_take}
 use Rattle.tree_plans.specs.declared.planner.PlannedBlock.{PlannedBlock}
 use Rattle.tree_plans.specs.Plans.{address_of}
-use Rattle.import_replay.specs.FreeBlocks.{after_gives}
-use Rattle.import_replay.proofs.GivenBlocks.{one_more}
+use Rattle.mounted.specs.GivenBlocks.{after_gives}
+use Rattle.mounted.proofs.GivenBlocks.{one_more}
 use Rattle.pool_tables.specs.Areas.{after_sync_takes}
 
 and_true : (b : Bool) → (b && true) ≡ b

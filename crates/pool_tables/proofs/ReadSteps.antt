@@ -10,7 +10,7 @@ use Rattle.base.specs.history.Plans.{NumberRange}
 use Rattle.base.specs.steps.Refusals.{object_range, read_refusal}
 use Rattle.base.specs.steps.Shown.{Shown}
 use Rattle.base.proofs.common.Choices.{some_there}
-use Rattle.import_replay.specs.Views.{is_readable}
+use Rattle.mounted.specs.Ranges.{is_readable}
 
 abbrev pub is_unreadable : NumberRange → Bool
 is_unreadable t = nat_le object_count t.number || not (is_range_allowed t.low t.high)

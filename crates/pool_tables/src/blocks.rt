@@ -10,7 +10,7 @@ ghost use Rattle.throttle.specs.Blocks.{AreWholeBlocks, blocks_in};
 ghost use Rattle.throttle.specs.DirtyBytes.{after_synced, sum_of, total_of};
 ghost use Rattle.tree_plans.specs.Plans.{address_of};
 ghost use Rattle.group_plans.specs.Areas.{AreBlocksOf};
-ghost use Rattle.import_replay.specs.FreeBlocks.{after_gives};
+ghost use Rattle.mounted.specs.GivenBlocks.{after_gives};
 ghost use Rattle.pool_tables.specs.Areas.{addresses_before, after_sync_takes, blocks_from};
 ghost use Rattle.pool_tables.specs.Forgotten.{HasNoneOf};
 

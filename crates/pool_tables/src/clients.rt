@@ -42,7 +42,7 @@ use base::{
     Receipt, Shape, Step, TxId,
 };
 use device_model::SectorDevice;
-use import_replay::Mounted;
+use mounted::Mounted;
 use intent_log::{Log, LogHeader};
 use labels::Geometry;
 use object_maps::BlockReader;

@@ -53,7 +53,7 @@ ghost use Rattle.intent_log.specs.RunLogs.{IsLogOf, KeepsHeader};
 ghost use Rattle.throttle.specs.DirtyBytes.{total_of};
 ghost use Rattle.group_plans.specs.Areas.{AreBlocksOf, is_block_of};
 ghost use Rattle.tree_blocks.specs.SyncedTrees.{pointers_after};
-ghost use Rattle.import_replay.specs.Views.{is_readable};
+ghost use Rattle.mounted.specs.Ranges.{is_readable};
 ghost use Rattle.pool_tables.specs.Accounts.{AreAccounted, IsFreeSetOf};
 ghost use Rattle.pool_tables.specs.Unsynced.{KeepsUnsynced};
 ghost use Rattle.pool_tables.specs.Running.{IsRunning};
@@ -71,7 +71,7 @@ use base::{
 use checked_blocks::Frame;
 use extents::{Laid, UnsyncedExtents};
 use groups::Groups;
-use import_replay::Mounted;
+use mounted::Mounted;
 use intent_log::{Log, LogHeader};
 use labels::Geometry;
 use object_maps::{BlockReader, Contents, ObjectSource};
@@ -188,7 +188,7 @@ type Objects<'a> = Laid<'a, Laid<'a, Laid<'a, &'a Contents>>>;
 
 impl PoolTables {
     ghost use Rattle.std.specs.Map.Iter.{ShowsInOrder, deref_pair};
-    ghost use Rattle.import_replay.specs.Mounts.{shown_of_import};
+    ghost use Rattle.mounted.specs.ShownMounted.{shown_of_import};
     ghost use Rattle.base.specs.formats.Limits.{max_locks};
     ghost use Rattle.base.specs.steps.Locks.{AreLocksSound};
     ghost use Rattle.range_locks.specs.Locks.{grant_of, is_blocked_by_own};

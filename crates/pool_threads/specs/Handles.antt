@@ -11,9 +11,9 @@ use Rattle.device_model.specs.declared.device.SectorDevice.{Ghosts}
 use Rattle.import_replay.specs.ImportRefusals.{IsReadingRefusal, IsReason, IsSyncRefusal}
 use Rattle.import_replay.specs.ImportStops.{IsImportStopped}
 use Rattle.import_replay.specs.ImportSyncs.{IsImportSynced}
-use Rattle.import_replay.specs.Mounts.{shown_of_import}
+use Rattle.mounted.specs.ShownMounted.{shown_of_import}
 use Rattle.import_replay.specs.RunStarts.{StartsRun}
-use Rattle.import_replay.specs.declared.mounted.Mounted.{Mounted}
+use Rattle.mounted.specs.declared.mounted.Mounted.{Mounted}
 use Rattle.pool_core.specs.declared.state.PoolState.{PoolState}
 use Rattle.pool_core.specs.KeptSafe.{disk_of}
 use Rattle.pool_core.specs.States.{device_of, shown}

@@ -3,7 +3,7 @@ ghost use Rattle.std.specs.Prelude.{◌≡◌};
 ghost use Rattle.pool_threads.specs.Handles.{opened_of};
 
 use base::Group;
-use import_replay::Mounted;
+use mounted::Mounted;
 
 /// What the import of a pool found and did (`Pool::opened`).
 #[derive(Clone, Copy, Debug, PartialEq, Eq)]

@@ -1,6 +1,6 @@
 //! A pool of one owner.
 ghost use Rattle.std.specs.Prelude.{◌≡◌, IfErr, IfOk, IfSome, IsSome, IsTrue};
-ghost use Rattle.import_replay.specs.Mounts.{shown_of_import};
+ghost use Rattle.mounted.specs.ShownMounted.{shown_of_import};
 ghost use Rattle.pool_threads.specs.Handles.{IsBackIn, IsFirstSeen, IsLastState, IsReadyToOpen, OpensBehind, ShowsMounted, StartsBehind, WasOf, kin_left, moment_in, opening_view, owned_of};
 ghost use Rattle.pool_threads.specs.Views.{Explains, view_behind_disk};
 

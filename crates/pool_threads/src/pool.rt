@@ -30,7 +30,7 @@ impl<D: SectorDevice> Pool<D> {
     ghost use Rattle.base.specs.kept.Imports.{are_limits_allowed, is_cache_allowed, is_dirty_max_allowed};
     ghost use Rattle.base.specs.disk.Calls.{with_refusal};
     ghost use Rattle.import_replay.specs.ImportRefusals.{IsImportRefusal};
-    ghost use Rattle.import_replay.specs.Mounts.{shown_of_import};
+    ghost use Rattle.mounted.specs.ShownMounted.{shown_of_import};
     ghost use Rattle.pool_core.specs.States.{device_of, shown};
     ghost use Rattle.pool_threads.specs.Finishes.{Finishes};
     ghost use Rattle.pool_threads.specs.Handles.{IsLastState, IsLaterState, IsLeftByOpen, IsNewHandle, IsReadyToOpen, LeavesSame, OpensBehind, ShowsImport, ShowsMounted, StartsBehind, WasOf, kin_left, moment_in, opened_in, opened_of, opening_view, shared_of};

@@ -30,10 +30,10 @@ use Rattle.device_model.specs.declared.device.SectorDevice.{Ghosts}
 use Rattle.object_maps.specs.ContentsShown.{contents_of}
 use Rattle.import_replay.specs.Creations.{IsNewPool}
 use Rattle.import_replay.specs.ImportRefusals.{CanImport, FindsOwn, IsImportRefusal, IsReason}
-use Rattle.import_replay.specs.Mounts.{shown_of_import}
+use Rattle.mounted.specs.ShownMounted.{shown_of_import}
 use Rattle.import_replay.specs.OwnCreations.{first_contents}
 use Rattle.import_replay.specs.RunStarts.{StartsRun}
-use Rattle.import_replay.specs.declared.mounted.Mounted.{Mounted}
+use Rattle.mounted.specs.declared.mounted.Mounted.{Mounted}
 use Rattle.pool_core.specs.declared.state.PoolState.{PoolState}
 use Rattle.pool_core.specs.Calls.{counted_in_turn}
 use Rattle.pool_core.specs.KeptSafe.{IsKeptSafe, SafeOn, disk_of, on_disk}

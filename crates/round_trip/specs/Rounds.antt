@@ -5,8 +5,8 @@ use Rattle.base.specs.tree.Mount.{MountsTo}
 use Rattle.base.specs.formats.Uberblocks.{Uberblock, IsActive}
 use Rattle.base.specs.history.Contents.{Contents}
 use Rattle.base.specs.steps.Shown.{Shown}
-use Rattle.import_replay.specs.Mounts.{shown_of_import}
-use Rattle.import_replay.specs.declared.mounted.Mounted.{Mounted}
+use Rattle.mounted.specs.ShownMounted.{shown_of_import}
+use Rattle.mounted.specs.declared.mounted.Mounted.{Mounted}
 
 -- an import of these bytes shows the contents that they mount
 abbrev pub ShowsMountedContents : List ℕ → Contents → Type 0

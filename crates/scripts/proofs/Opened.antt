@@ -4,8 +4,8 @@ use Rattle.std.proofs.Common.{◌≡◌, ◌∙◌, ap, sym, subst}
 use Rattle.std.specs.Prelude.{IsTrue, [], true}
 use Rattle.base.specs.disk.Disk.{Disk}
 use Rattle.device_model.specs.MemState.{MemState}
-use Rattle.import_replay.specs.Mounts.{shown_of_import}
-use Rattle.import_replay.specs.declared.mounted.Mounted.{Mounted}
+use Rattle.mounted.specs.ShownMounted.{shown_of_import}
+use Rattle.mounted.specs.declared.mounted.Mounted.{Mounted}
 use Rattle.pool_threads.specs.Handles.{IsReadyToOpen, OpensBehind, ShowsMounted}
 use Rattle.pool_threads.specs.Views.{SeenPool, view_behind_disk, viewed_state}
 use Rattle.scripts.specs.OwnPools.{MemPool}

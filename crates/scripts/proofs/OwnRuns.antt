@@ -8,9 +8,9 @@ use Rattle.base.specs.kept.CrashRule.{KeepsOwn}
 use Rattle.base.specs.disk.Disk.{Disk, disk_size}
 use Rattle.base.specs.history.Past.{Past}
 use Rattle.device_model.specs.declared.device.SectorDevice.{Ghosts}
-use Rattle.import_replay.specs.Mounts.{shown_of_import}
+use Rattle.mounted.specs.ShownMounted.{shown_of_import}
 use Rattle.import_replay.specs.RunStarts.{StartsRun}
-use Rattle.import_replay.specs.declared.mounted.Mounted.{Mounted}
+use Rattle.mounted.specs.declared.mounted.Mounted.{Mounted}
 use Rattle.pool_core.specs.KeptSafe.{BeginsSafe, IsKeptSafe, IsSafeStep, on_disk}
 use Rattle.pool_core.specs.NewStates.{IsHeldAtFirst}
 use Rattle.pool_core.specs.States.{device_of, told}

@@ -12,7 +12,7 @@ use Rattle.device_model.specs.MemState.{MemState}
 use Rattle.device_model.specs.contracts.memory.MemDeviceSectorDevice.TheImpl.{ghosts}
 use Rattle.device_model.specs.declared.fault.Fault.{Fault}
 use Rattle.import_replay.specs.CreateRefusals.{IsCreateRefusal}
-use Rattle.import_replay.specs.declared.mounted.Mounted.{Mounted}
+use Rattle.mounted.specs.declared.mounted.Mounted.{Mounted}
 use Rattle.pool_core.specs.States.{shown}
 use Rattle.script_lines.specs.declared.answer.Answer.{Answer}
 use Rattle.script_lines.specs.declared.answer.Answer.TheVariants as answer

@@ -9,8 +9,8 @@ use Rattle.base.specs.disk.Disk.{Disk}
 use Rattle.base.specs.history.Past.{Grows, Past}
 use Rattle.base.specs.steps.Runs.{Run}
 use Rattle.device_model.specs.MemState.{MemState}
-use Rattle.import_replay.specs.Mounts.{shown_of_import}
-use Rattle.import_replay.specs.declared.mounted.Mounted.{Mounted}
+use Rattle.mounted.specs.ShownMounted.{shown_of_import}
+use Rattle.mounted.specs.declared.mounted.Mounted.{Mounted}
 use Rattle.pool_core.specs.States.{device_of}
 use Rattle.pool_threads.specs.Handles.{OpensBehind, opening_view, owned_of}
 use Rattle.pool_threads.specs.Turns.{dated}

@@ -13,7 +13,7 @@ use Rattle.import_replay.specs.Creations.{IsNewPool}
 use Rattle.import_replay.specs.ImportRefusals.{IsImportRefusal, IsReadingRefusal, IsReason, IsSyncRefusal}
 use Rattle.import_replay.specs.ImportStops.{IsImportStopped}
 use Rattle.import_replay.specs.ImportSyncs.{IsImportSynced}
-use Rattle.import_replay.specs.declared.mounted.Mounted.{Mounted}
+use Rattle.mounted.specs.declared.mounted.Mounted.{Mounted}
 use Rattle.script_lines.specs.Answers.{imported_answer}
 use Rattle.script_lines.specs.declared.answer.Answer.{Answer}
 use Rattle.script_lines.specs.declared.answer.Answer.TheVariants as answer

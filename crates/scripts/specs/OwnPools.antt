@@ -17,8 +17,8 @@ use Rattle.device_model.specs.Plans.{with_plan}
 use Rattle.device_model.specs.contracts.memory.MemDeviceSectorDevice.TheImpl.{ghosts}
 use Rattle.device_model.specs.declared.device.SectorDevice.{Ghosts}
 use Rattle.device_model.specs.declared.fault.Fault.{Fault}
-use Rattle.import_replay.specs.Mounts.{shown_of_import}
-use Rattle.import_replay.specs.declared.mounted.Mounted.{Mounted}
+use Rattle.mounted.specs.ShownMounted.{shown_of_import}
+use Rattle.mounted.specs.declared.mounted.Mounted.{Mounted}
 use Rattle.pool_core.specs.KeptSafe.{IsKeptSafe, IsSafeStep, on_disk}
 use Rattle.pool_core.specs.States.{device_of, shown, told}
 use Rattle.pool_core.specs.Turns.{MakesStep}

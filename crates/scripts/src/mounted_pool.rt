@@ -9,7 +9,7 @@ ghost use Rattle.base.specs.declared.step.Reply.{Reply};
 ghost use Rattle.base.specs.disk.Disk.{Disk};
 ghost use Rattle.base.specs.history.Past.{Past};
 ghost use Rattle.device_model.specs.declared.fault.Fault.{Fault};
-ghost use Rattle.import_replay.specs.declared.mounted.Mounted.{Mounted};
+ghost use Rattle.mounted.specs.declared.mounted.Mounted.{Mounted};
 ghost use Rattle.pool_threads.specs.Handles.{LeavesSame};
 ghost use Rattle.base.specs.kept.LeftDisks.{IsLeft};
 ghost use Rattle.script_lines.specs.declared.command.PoolCommand.{PoolCommand};

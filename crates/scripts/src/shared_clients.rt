@@ -18,7 +18,7 @@ ghost use Rattle.base.specs.history.Past.{Grows, Past};
 ghost use Rattle.device_model.specs.MemState.{MemState, after_crash};
 ghost use Rattle.device_model.specs.contracts.memory.MemDeviceSectorDevice.TheImpl.{ghosts};
 ghost use Rattle.import_replay.specs.ImportSyncs.{IsImportSynced};
-ghost use Rattle.import_replay.specs.declared.mounted.Mounted.{Mounted};
+ghost use Rattle.mounted.specs.declared.mounted.Mounted.{Mounted};
 ghost use Rattle.pool_threads.specs.Handles.{opening_view, owned_of};
 ghost use Rattle.pool_threads.specs.Views.{SeenPool, viewed_state};
 ghost use Rattle.pool_threads.specs.Views.CrashRule.{Behind};

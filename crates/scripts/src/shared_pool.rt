@@ -5,7 +5,7 @@
 
 ghost use Rattle.std.specs.Prelude.{◌≡◌, IfErr, IfOk, IsTrue, true};
 ghost use Rattle.base.specs.declared.error.PoolError.TheVariants.{NoMemory};
-ghost use Rattle.import_replay.specs.Mounts.{shown_of_import};
+ghost use Rattle.mounted.specs.ShownMounted.{shown_of_import};
 ghost use Rattle.pool_core.specs.States.{device_of};
 ghost use Rattle.pool_threads.specs.Handles.{IsFirstSeen, OpensBehind, ShowsMounted, StartsBehind, WasOf, kin_left, moment_in, opening_view, owned_of};
 ghost use Rattle.scripts.specs.Plans.{ArePlansOf};

@@ -98,9 +98,10 @@ pub use device_model::{
     SectorDevice, SectorFile,
 };
 pub use import_replay::{
-    Imported, Inspected, Mounted, Soundness, View, create, find_damages, import, import_with,
-    inspect, view_pool,
+    Imported, Inspected, Soundness, View, create, find_damages, import, import_with, inspect,
+    view_pool,
 };
+pub use mounted::Mounted;
 pub use object_maps::BlockDamage;
 pub use pool_core::{Duty, PoolState, Progress, run};
 pub use pool_loops::{Halt, run_beside_loops};

@@ -15,9 +15,9 @@ use Rattle.base.proofs.crash.LeftDisks.{IsLeftOnceFlushed, IsStillLeft, import_l
 use Rattle.base.proofs.disk.Moments.{joins, starts, weaker}
 use Rattle.base.proofs.steps.Additions.{step_grows}
 use Rattle.device_model.specs.declared.device.SectorDevice.{Ghosts}
-use Rattle.import_replay.specs.Mounts.{shown_of_import}
+use Rattle.mounted.specs.ShownMounted.{shown_of_import}
 use Rattle.import_replay.specs.RunStarts.{IsRunStart, StartsRun}
-use Rattle.import_replay.specs.declared.mounted.Mounted.{Mounted}
+use Rattle.mounted.specs.declared.mounted.Mounted.{Mounted}
 use Rattle.object_maps.specs.ContentsShown.{contents_of}
 use Rattle.pool_core.specs.KeptSafe.{BeginsSafe, IsKeptSafe, IsSafeStep, OnDisk, disk_of, on_disk}
 use Rattle.pool_core.specs.NewStates.{IsHeldAtFirst, first_past}

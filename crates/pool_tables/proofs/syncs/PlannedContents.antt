@@ -21,7 +21,7 @@ use Rattle.transactions.specs.declared.record.Record.{Record}
 use Rattle.tree_plans.specs.Marks.{pending_ops}
 use Rattle.transactions.specs.Records.{record_fields}
 use Rattle.pool_tables.proofs.PendingOps.{unsynced_are}
-use Rattle.import_replay.proofs.ReplayedPools.{flat_replay}
+use Rattle.mounted.proofs.Replays.{flat_replay}
 
 -- the unsynced operations of a group lead from the synced contents to these, within the limits, and the entries up to
 -- the group leave them

@@ -34,7 +34,7 @@ use Rattle.group_plans.specs.GroupPlans.{IsPlannedGroup}
 use Rattle.group_plans.specs.Operations.{AreSized, TakesPlace}
 use Rattle.group_plans.proofs.GroupTrees.{tree_planned}
 use Rattle.pool_tables.proofs.PendingOps.{unsynced_are}
-use Rattle.import_replay.proofs.ReplayedPools.{sized_object}
+use Rattle.mounted.proofs.Replays.{sized_object}
 
 -- objects within the limits of contents are no longer than the greatest length
 pub bounded_sized : (c : Contents) → IsBounded c → AreSized c.objects

@@ -22,7 +22,7 @@ use crate::pool::{PoolTables, Progress, RunningSync};
 use base::{Group, PoolError, WRITTEN_VERSION};
 use extents::UnsyncedExtents;
 use group_plans::{GroupSource, plan_group};
-use import_replay::give_all;
+use mounted::give_all;
 use labels::Stage;
 use object_maps::{BlockReader, Contents};
 use sync::{SyncCall, SyncRun};

@@ -7,7 +7,7 @@ ghost use Rattle.base.specs.formats.Chain.{LogPiece};
 ghost use Rattle.base.specs.formats.Uberblocks.{IsActive, Uberblock};
 ghost use Rattle.base.specs.history.Past.{Past};
 ghost use Rattle.base.specs.steps.Explains.{IsLeftBy};
-ghost use Rattle.import_replay.specs.Mounts.{shown_of_import};
+ghost use Rattle.mounted.specs.ShownMounted.{shown_of_import};
 ghost use Rattle.pool_threads.specs.Finishes.{SyncsAtEnd};
 ghost use Rattle.pool_threads.specs.Handles.{StartsBehind, kin_of, moment_in, moment_of, opening_view, shared_of, taken_by, turns_of, view_seen};
 ghost use Rattle.pool_threads.specs.Views.{Explains, GrowsTo, SeenPool, viewed_state};

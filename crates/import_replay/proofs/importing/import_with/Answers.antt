@@ -8,7 +8,8 @@ use Rattle.base.specs.steps.Tables.{AreTablesExplained}
 use Rattle.object_maps.specs.CachedDevices.{device_in}
 use Rattle.object_maps.specs.ContentsShown.{contents_of}
 use Rattle.import_replay.specs.ImportRefusals.{IsImportRefusal}
-use Rattle.import_replay.specs.Mounts.{IsImport, StandsOnDevice, shown_of_import}
+use Rattle.import_replay.specs.Mounts.{IsImport, StandsOnDevice}
+use Rattle.mounted.specs.ShownMounted.{shown_of_import}
 use Rattle.import_replay.specs.Refused.{IsMountRefused}
 use Rattle.import_replay.specs.RunStarts.{StartsRun}
 use Rattle.import_replay.specs.ShownMounts.{LabelsShow}

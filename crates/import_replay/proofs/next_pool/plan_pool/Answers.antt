@@ -6,7 +6,8 @@ use Rattle.space.specs.FreeSets.{FreeSpace, after_take}
 use Rattle.object_maps.specs.FreeBlocks.{BlocksTaken}
 use Rattle.tree_plans.specs.declared.planner.PlannedBlock.{PlannedBlock}
 use Rattle.tree_plans.specs.declared.planner.TreePlan.{TreePlan}
-use Rattle.import_replay.specs.FreeBlocks.{AreAllPlanned, IsLeftByPlan, IsLowestLeft, after_gives, is_planned}
+use Rattle.import_replay.specs.FreeBlocks.{AreAllPlanned, IsLeftByPlan, IsLowestLeft, is_planned}
+use Rattle.mounted.specs.GivenBlocks.{after_gives}
 use Rattle.import_replay.proofs.LeftBlocks.{left_idle, left_sized}
 use Rattle.import_replay.proofs.Reasons.{passed_on}
 use Rattle.import_replay.proofs.Refused.{next_full}

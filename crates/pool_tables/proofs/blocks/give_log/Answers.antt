@@ -8,9 +8,9 @@ use Rattle.intent_log.proofs.Callers.{none_is_before}
 use Rattle.space.specs.FreeSets.{FreeSpace}
 use Rattle.group_plans.specs.Areas.{AreBlocksOf}
 use Rattle.group_plans.proofs.PlannedBlocks.{block_of}
-use Rattle.import_replay.specs.FreeBlocks.{after_gives}
+use Rattle.mounted.specs.GivenBlocks.{after_gives}
 use Rattle.pool_tables.specs.Areas.{addresses_before}
-use Rattle.import_replay.proofs.GivenBlocks.{none_given}
+use Rattle.mounted.proofs.GivenBlocks.{none_given}
 use Rattle.pool_tables.proofs.FreeBlocks.{gives_first}
 use Rattle.pool_tables.proofs.GivenLogs.{addresses-given, from-given, placed-given}
 use Rattle.pool_tables.proofs.blocks.give_log.Goals as goal

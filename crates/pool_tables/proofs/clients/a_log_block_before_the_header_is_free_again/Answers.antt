@@ -4,8 +4,8 @@ use Rattle.std.proofs.lemmas.Bool.{lt-leb, lt-ltb}
 use Rattle.base.specs.steps.Logs.{Log}
 use Rattle.intent_log.specs.Kept.{header_fields}
 use Rattle.space.specs.FreeSets.{FreeSpace}
-use Rattle.import_replay.specs.FreeBlocks.{after_gives}
-use Rattle.import_replay.proofs.GivenBlocks.{given_free}
+use Rattle.mounted.specs.GivenBlocks.{after_gives}
+use Rattle.mounted.proofs.GivenBlocks.{given_free}
 use Rattle.pool_tables.specs.Areas.{addresses_before, blocks_from}
 use Rattle.pool_tables.proofs.clients.a_log_block_before_the_header_is_free_again.Goals as goal
 

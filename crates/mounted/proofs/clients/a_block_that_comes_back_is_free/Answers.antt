@@ -1,8 +1,8 @@
 use Rattle.std.proofs.Common.{ℕ, List, ◌∙◌, ap}
 use Rattle.space.specs.FreeSets.{FreeSpace, is_free}
-use Rattle.import_replay.specs.FreeBlocks.{after_gives}
-use Rattle.import_replay.proofs.GivenBlocks.{given_free}
-use Rattle.import_replay.proofs.clients.a_block_that_comes_back_is_free.Goals as goal
+use Rattle.mounted.specs.GivenBlocks.{after_gives}
+use Rattle.mounted.proofs.GivenBlocks.{given_free}
+use Rattle.mounted.proofs.clients.a_block_that_comes_back_is_free.Goals as goal
 
 pub returns : goal.returns
 returns c =

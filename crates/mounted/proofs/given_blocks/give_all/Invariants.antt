@@ -1,6 +1,6 @@
 use Rattle.std.proofs.Common.{◌≡◌, take}
-use Rattle.import_replay.specs.FreeBlocks.{after_gives}
-use Rattle.import_replay.proofs.free_blocks.give_all.Given as goal
+use Rattle.mounted.specs.GivenBlocks.{after_gives}
+use Rattle.mounted.proofs.given_blocks.give_all.Given as goal
 
 -- the addresses so far have come back
 abbrev pub invariant-loop-address : goal.invariant-loop-address

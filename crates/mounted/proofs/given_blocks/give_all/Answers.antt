@@ -2,8 +2,8 @@ use Rattle.std.proofs.Common.{◌<◌, ap, arith}
 use Rattle.base.specs.formats.Geometry.{block_count}
 use Rattle.space.specs.FreeSets.{FreeSpace}
 use Rattle.group_plans.proofs.PlannedBlocks.{block_of}
-use Rattle.import_replay.proofs.GivenBlocks.{given_more, none_given}
-use Rattle.import_replay.proofs.free_blocks.give_all.Goals as goal
+use Rattle.mounted.proofs.GivenBlocks.{given_more, none_given}
+use Rattle.mounted.proofs.given_blocks.give_all.Goals as goal
 
 pub loop-address-init : goal.loop-address-init
 loop-address-init c = none_given c.args.free.now

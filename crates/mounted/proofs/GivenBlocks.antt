@@ -12,7 +12,7 @@ use Rattle.std.specs.FinSet as set
 use Rattle.std.specs.FinSet.{FinSet, contains-empty, contains-insert, contains-from_list, contains-union, same_set, nat_cmp-IsAntisymmetric}
 use Rattle.base.specs.formats.Geometry.{block_address}
 use Rattle.space.specs.FreeSets.{FreeSpace, after_give}
-use Rattle.import_replay.specs.FreeBlocks.{after_gives}
+use Rattle.mounted.specs.GivenBlocks.{after_gives}
 
 -- a union with no numbers
 pub union_none : (s : FinSet nat_cmp) → s ≡ set.union s (set.from_list [])

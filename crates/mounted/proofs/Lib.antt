@@ -1,0 +1,2 @@
+pub mod GivenBlocks
+pub mod Replays

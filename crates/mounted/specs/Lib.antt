@@ -1,0 +1,3 @@
+pub mod GivenBlocks
+pub mod Ranges
+pub mod ShownMounted
