@@ -2,6 +2,7 @@
 words it takes the stand-in."""
 
 import pathlib
+import signal
 import sys
 import threading
 import unittest
@@ -10,6 +11,21 @@ import topzerad
 from topzerad import MAX_LENGTH, PIECE, create, remove, set_length, set_name, write
 
 WORDS = [str(pathlib.Path(__file__).resolve().parent.parent / "stand_in"), "-"]
+
+
+def interrupt_after(seconds, call, *words):
+    """Makes a call that a signal's handler ends by an `InterruptedError` after these seconds."""
+
+    def interrupt(*_):
+        raise InterruptedError
+
+    before = signal.signal(signal.SIGALRM, interrupt)
+    signal.setitimer(signal.ITIMER_REAL, seconds)
+    try:
+        return call(*words)
+    finally:
+        signal.setitimer(signal.ITIMER_REAL, 0)
+        signal.signal(signal.SIGALRM, before)
 
 
 class Calls(unittest.TestCase):
@@ -38,6 +54,25 @@ class Calls(unittest.TestCase):
             with self.assertRaises(topzerad.RefusedFrame) as caught:
                 pool.transact([])
             self.assertEqual(caught.exception.number, 7)
+
+    def test_a_call_that_is_cut_off_hands_out_no_other_calls_answer(self):
+        with topzerad.Pool(*WORDS) as pool:
+            pool.transact([create(400), write(400, 0, b"one"), create(401), write(401, 0, b"two")])
+            pool.process.send_signal(signal.SIGSTOP)
+            with self.assertRaises(InterruptedError):
+                interrupt_after(0.2, pool.read, 400)
+            pool.process.send_signal(signal.SIGCONT)
+            for call in (lambda: pool.read(401), lambda: pool.transact([create(402)]), pool.status):
+                with self.assertRaises(OSError):
+                    call()
+
+    def test_what_is_too_large_is_refused_before_it_is_sent(self):
+        with topzerad.Pool(*WORDS) as pool:
+            pool.transact([create(500)])
+            self.refused(18, pool.transact, [write(500, 0, bytes(65_536))])
+            outcomes = pool.transact_many([[write(500, 60_000 * at, bytes(60_000))] for at in range(100)])
+            self.assertEqual(len({outcome.ordinal for outcome in outcomes}), 100)
+            self.assertEqual(pool.length(500), 6_000_000)
 
     def test_threads(self):
         with topzerad.Pool(*WORDS) as pool:

@@ -2,6 +2,7 @@
 frames (docs/FORMATS.md, "Frames")."""
 
 import collections
+import itertools
 import struct
 import subprocess
 import threading
@@ -12,6 +13,9 @@ TRANSACT, TRANSACT_DURABLY, READ, LENGTH, OBJECTS, STATUS, DURABLE, FLUSH, SYNC,
 MAX_LENGTH, OBJECT_COUNT = 28_449_792, 5_292
 # The most bytes that one request reads. The answers of a frame have at most four times as many.
 PIECE = 1_048_576
+# The most bytes of a frame, and of the record of a transaction.
+MAX_FRAME, MAX_RECORD = 4_194_304, 65_536
+TOO_LARGE = 18
 
 Receipt = collections.namedtuple("Receipt", "ordinal group")
 Status = collections.namedtuple("Status", "synced syncing middle open dirty free available")
@@ -62,7 +66,10 @@ def set_name(name):
 
 
 def record(ops):
+    """The operations of a transaction as a log record. Too many bytes are refused here, as the pool would."""
     body = struct.pack("<QQH", 0, 0, len(ops)) + b"".join(ops)
+    if 4 + len(body) > MAX_RECORD:
+        raise Refused(TOO_LARGE)
     return struct.pack("<I", 4 + len(body)) + body
 
 
@@ -75,6 +82,8 @@ class Pool:
             [program, "serve", path], stdin=subprocess.PIPE, stdout=subprocess.PIPE, start_new_session=True
         )
         self.lock = threading.RLock()
+        self.numbers = itertools.count()
+        self.is_broken = False
 
     def __enter__(self):
         return self
@@ -101,7 +110,15 @@ class Pool:
         """Commits several transactions in their order, each by itself, in one frame: a receipt or a `Refused` for each.
         If `durable`, they share one flush."""
         call = TRANSACT_DURABLY if durable else TRANSACT
-        return self._ask([(call, record(ops)) for ops in transactions])
+        outcomes, calls, size = [], [], HEAD.size
+        with self.lock:
+            for needs in [record(ops) for ops in transactions]:
+                if size + 9 + len(needs) > MAX_FRAME or len(calls) == 50_000:
+                    outcomes += self._ask(calls)
+                    calls, size = [], HEAD.size
+                calls.append((call, needs))
+                size += 9 + len(needs)
+            return outcomes + self._ask(calls) if calls else outcomes
 
     def read(self, number, low=0, high=MAX_LENGTH):
         """The bytes of the range that lie below the object's length, at one moment. More than `PIECE` are read in
@@ -149,21 +166,29 @@ class Pool:
         return outcome
 
     def _ask(self, calls):
-        items = b"".join(struct.pack("<QB", at, call) + needs for at, (call, needs) in enumerate(calls))
         with self.lock:
+            if self.is_broken:
+                raise OSError("a call before this one was cut off, so answers can't be told apart: close the pool")
+            # An exception from here on, also one that a signal's handler raises, leaves an answer unread.
+            self.is_broken = True
+            numbers = [next(self.numbers) for _ in calls]
+            items = b"".join(struct.pack("<QB", at, call) + needs for at, (call, needs) in zip(numbers, calls))
             self.process.stdin.write(HEAD.pack(HEAD.size + len(items), VERSION, REQUESTS, len(calls)) + items)
             self.process.stdin.flush()
             size, version, kind, count = HEAD.unpack(self._take(HEAD.size))
+            if version != VERSION or kind not in (ANSWERS, REFUSED_FRAME) or size < HEAD.size:
+                raise OSError("the process answered what is no frame")
             content = self._take(size - HEAD.size)
-        if version != VERSION or kind not in (ANSWERS, REFUSED_FRAME):
-            raise OSError("the process answered what is no frame")
+            answers, at = [], 0
+            if kind == ANSWERS:
+                for number in numbers:
+                    if struct.unpack_from("<Q", content, at) != (number,):
+                        raise OSError("the process answered another request")
+                    outcome, at = read_outcome(content[at + 8], content, at + 9)
+                    answers.append(outcome)
+            self.is_broken = False
         if kind == REFUSED_FRAME:
             raise RefusedFrame(count)
-        answers, at = [], 0
-        for _ in range(count):
-            came = content[at + 8]
-            outcome, at = read_outcome(came, content, at + 9)
-            answers.append(outcome)
         return answers
 
     def _take(self, count):
