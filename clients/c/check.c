@@ -1,9 +1,14 @@
 /* Makes each call once, and then many by several threads, on a pool without objects that is named tank. */
+#define _GNU_SOURCE
 #include "topzerad.h"
 
+#include <signal.h>
 #include <stdio.h>
 #include <stdlib.h>
 #include <string.h>
+#include <sys/wait.h>
+#include <time.h>
+#include <unistd.h>
 
 enum { THREADS = 8, COMMITS = 200, BIG = 60000, LONG = 5000000, PIECE = 1048576, READ_LONG = 3 * PIECE };
 
@@ -199,6 +204,41 @@ static void make_each_call(void) {
     WANT(topzerad_sync(&pool, &group) == 0 && status.open <= group);
 }
 
+/* Its name isn't on the stack: the sanitizer looks for what a cancelled thread leaves there. */
+static void *ask_name(void *unused) {
+    static char name[TOPZERAD_MAX_NAME + 1];
+    (void)unused;
+    topzerad_name(&pool, name);
+    pthread_testcancel();
+    return NULL;
+}
+
+/* A thread is cancelled while it waits for the process, and the others are answered. */
+static void cancel_a_leader(void) {
+    const struct timespec while_it_waits = {0, 200000000};
+    pthread_t thread;
+    void *ended;
+    char name[TOPZERAD_MAX_NAME + 1];
+    WANT(kill(pool.process, SIGSTOP) == 0);
+    WANT(pthread_create(&thread, NULL, ask_name, NULL) == 0);
+    nanosleep(&while_it_waits, NULL);
+    WANT(pthread_cancel(thread) == 0);
+    WANT(kill(pool.process, SIGCONT) == 0);
+    WANT(pthread_join(thread, &ended) == 0 && ended == PTHREAD_CANCELED);
+    WANT(topzerad_name(&pool, name) == 0 && strcmp(name, "pond") == 0);
+}
+
+/* A child is refused, and its end leaves the parent's pool open. */
+static void fork_with_an_open_pool(void) {
+    char name[TOPZERAD_MAX_NAME + 1];
+    int status;
+    pid_t child = fork();
+    WANT(child >= 0);
+    if (!child) _exit(topzerad_name(&pool, name) != TOPZERAD_FORKED || topzerad_close(&pool) != TOPZERAD_FORKED);
+    WANT(waitpid(child, &status, 0) == child && status == 0);
+    WANT(topzerad_name(&pool, name) == 0 && strcmp(name, "pond") == 0);
+}
+
 int main(int count, char **words) {
     pthread_t threads[THREADS];
     if (count != 3) return 2;
@@ -210,6 +250,8 @@ int main(int count, char **words) {
     read_long_object();
     read_ranges();
     read_at_one_moment();
+    cancel_a_leader();
+    fork_with_an_open_pool();
     WANT(topzerad_close(&pool) == 0);
     WANT(topzerad_open(&pool, "/", "/") == TOPZERAD_SYSTEM);
     WANT(topzerad_open(&pool, "false", "/") == 0);

@@ -332,8 +332,12 @@ static int put_back(topzerad *pool, call *c) {
     return 1;
 }
 
+/* Whether this process is a child of the one that opened the pool. Both have the socket then, and an answer goes to the
+ * one that reads first. */
+static int is_forked(const topzerad *pool) { return pool->opener != getpid(); }
+
 /* Queues calls in their order, at least one, and returns once all are answered: the last is answered last. */
-static void make_all(topzerad *pool, call *made, size_t count) {
+static void lead_all(topzerad *pool, call *made, size_t count) {
     call *last = &made[count - 1];
     for (size_t i = 0; i < count; i++) made[i].next = i + 1 < count ? &made[i + 1] : NULL;
     pthread_mutex_lock(&pool->lock);
@@ -360,6 +364,19 @@ static void make_all(topzerad *pool, call *made, size_t count) {
         pthread_cond_broadcast(&pool->turn);
     }
     pthread_mutex_unlock(&pool->lock);
+}
+
+/* Makes calls, at least one. A thread that is cancelled while it leads would leave the others waiting for ever, and its
+ * calls on a stack that is gone, so it is cancelled afterwards. */
+static void make_all(topzerad *pool, call *made, size_t count) {
+    int state;
+    if (is_forked(pool)) {
+        for (size_t i = 0; i < count; i++) made[i].refusal = TOPZERAD_FORKED;
+        return;
+    }
+    pthread_setcancelstate(PTHREAD_CANCEL_DISABLE, &state);
+    lead_all(pool, made, count);
+    pthread_setcancelstate(state, NULL);
 }
 
 /* Makes a call, and returns its refusal. */
@@ -555,6 +572,7 @@ int topzerad_open_with(topzerad *pool, const char *const words[]) {
         return TOPZERAD_SYSTEM;
     }
     pool->socket = ends[0];
+    pool->opener = getpid();
     pool->led = pool->ended = 0;
     pool->first = NULL;
     pool->last = &pool->first;
@@ -572,6 +590,10 @@ int topzerad_open(topzerad *pool, const char *program, const char *path) {
 int topzerad_close(topzerad *pool) {
     int status;
     pid_t waited;
+    if (is_forked(pool)) {
+        close(pool->socket);
+        return TOPZERAD_FORKED;
+    }
     shutdown(pool->socket, SHUT_WR); /* it fails if the process is gone, as waitpid says */
     do waited = waitpid(pool->process, &status, 0);
     while (waited < 0 && errno == EINTR);
@@ -612,5 +634,6 @@ const char *topzerad_text(int refusal) {
     if (refusal >= 0 && refusal < (int)(sizeof texts / sizeof *texts)) return texts[refusal];
     if (refusal == TOPZERAD_SYSTEM) return "a call of the system failed";
     if (refusal == TOPZERAD_ENDED) return "the process with the pool ended";
+    if (refusal == TOPZERAD_FORKED) return "the pool was opened before a fork, by the parent";
     return "the frame was refused";
 }

@@ -2,7 +2,7 @@
  *
  * topzerad_open starts `PROGRAM serve FILE`, a process that has the pool. Calls are sent to it as frames
  * (docs/FORMATS.md, "Frames"). Any thread may make any call at any time. What several threads ask at once is sent in
- * one frame, so their durable transactions share one flush.
+ * one frame, so their durable transactions share one flush. A thread isn't cancelled within a call, but after it.
  *
  * Each call returns 0 or a refusal; topzerad_text has its words. A refused transaction changes nothing. After
  * TOPZERAD_WRITE and TOPZERAD_FLUSH the pool is suspended: close it and open it again. All memory is the caller's: the
@@ -51,7 +51,9 @@ enum {
     /* A call of the system failed: errno has its cause. */
     TOPZERAD_SYSTEM = 200,
     /* The process ended, or answered what is no frame. What was not durable may be lost. */
-    TOPZERAD_ENDED = 201
+    TOPZERAD_ENDED = 201,
+    /* The pool was opened before a fork, and the caller is the child. It opens a pool of its own. */
+    TOPZERAD_FORKED = 202
 };
 
 #define TOPZERAD_OBJECTS 5292u         /* objects have the numbers below this */
@@ -63,7 +65,7 @@ enum {
 /* A pool that is open, in the caller's memory. Its fields are the library's. */
 typedef struct topzerad {
     int socket;
-    pid_t process;
+    pid_t process, opener;
     pthread_mutex_t lock;
     pthread_cond_t turn;
     int led, ended;
@@ -130,7 +132,7 @@ int topzerad_open(topzerad *pool, const char *program, const char *path);
 /* The same with a command line of the caller's, as {"ztxg", "serve", "tank.pool", "--wait", "10", NULL}. */
 int topzerad_open_with(topzerad *pool, const char *const words[]);
 /* Ends the process once it has synced the pool, and waits for its end. TOPZERAD_ENDED if it did not end well. No other
- * call may run. */
+ * call may run. After a fork the child's call ends nothing: it gives up the child's end of the socket. */
 int topzerad_close(topzerad *pool);
 
 /* Commits a transaction. If `durable`, it returns once no power failure loses it. The receipt may be NULL. `committed`

@@ -55,7 +55,7 @@ class Calls(unittest.TestCase):
                 pool.transact([])
             self.assertEqual(caught.exception.number, 7)
 
-    def test_a_call_that_is_cut_off_hands_out_no_other_calls_answer(self):
+    def test_no_answer_of_a_call_that_was_cut_off(self):
         with topzerad.Pool(*WORDS) as pool:
             pool.transact([create(400), write(400, 0, b"one"), create(401), write(401, 0, b"two")])
             pool.process.send_signal(signal.SIGSTOP)
@@ -66,7 +66,7 @@ class Calls(unittest.TestCase):
                 with self.assertRaises(OSError):
                     call()
 
-    def test_what_is_too_large_is_refused_before_it_is_sent(self):
+    def test_what_is_too_large_is_refused_unsent(self):
         with topzerad.Pool(*WORDS) as pool:
             pool.transact([create(500)])
             self.refused(18, pool.transact, [write(500, 0, bytes(65_536))])
