@@ -1,7 +1,6 @@
 //! Transactions: the plans that they keep to, which of them are open, and their records for the intent log (`zil.c`).
 #![tactic(auto)]
 
-mod clients;
 mod indexed;
 mod laws;
 mod lock_plan;

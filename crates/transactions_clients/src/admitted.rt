@@ -5,9 +5,9 @@ ghost use Rattle.base.specs.declared.operation.Shape.TheVariants as shape;
 ghost use Rattle.base.specs.history.Plans.{is_plan_allowed};
 ghost use Rattle.base.specs.steps.Refusals.{is_plan_blocked};
 
-use crate::open::OpenTransactions;
 use base::{Group, ObjectId, ObjectRange, Owner, Plan, PoolError, Range, Shape, TxId};
 use std::alloc::Global;
+use transactions::OpenTransactions;
 
 // At first none is open, and so nothing is in use or blocked.
 fn no_transaction_is_open_at_first(alloc: Global) {

@@ -4,13 +4,12 @@ ghost use Rattle.std.specs.Prelude.{◌≡◌, ◌∷◌, [], IfOk, None, Some, 
 ghost use Rattle.base.specs.history.Contents.{Contents, length_of};
 ghost use Rattle.transactions.specs.Lengths.{TellsLengths};
 
-use crate::lock_plan::lock_ranges;
-use crate::plan::{
-    charge, estimate, is_in_plan, is_plan_allowed, is_shrinking, is_too_large, plans_overlap,
-    range_of, record_size,
-};
 use base::{ObjectId, ObjectRange, Op, Shape};
 use std::alloc::{AllocError, Global};
+use transactions::{
+    charge, estimate, is_in_plan, is_plan_allowed, is_shrinking, is_too_large, lock_ranges,
+    plans_overlap, range_of, record_size,
+};
 
 // A plan has a shape, and its writes end at the greatest length at most.
 fn a_write_ends_at_the_greatest_length() {

@@ -5,9 +5,9 @@ ghost use Rattle.base.specs.declared.operation.Op.TheVariants as op;
 ghost use Rattle.transactions.specs.Records.{Decodes};
 ghost use Rattle.transactions.specs.Writing.{HasRoomFor};
 
-use crate::record::{Record, decode_record, encode_into, encode_record, is_one_level};
 use base::PoolError;
 use std::alloc::Global;
+use transactions::{Record, decode_record, encode_into, encode_record, is_one_level};
 
 // A record has its length, its group, its ordinal and the number of its operations, and then these.
 fn a_record_of_a_create_has_27_bytes(
