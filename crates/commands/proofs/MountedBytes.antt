@@ -15,7 +15,7 @@ use Rattle.base.specs.history.Contents.{Contents}
 use Rattle.base.proofs.crash.OneMount.{mounts_agree}
 use Rattle.device_model.specs.declared.held_file.FileRefusal.{FileRefusal}
 use Rattle.mounted.specs.Ranges.{is_readable}
-use Rattle.object_maps.specs.Sources.{object_length, range_in}
+use Rattle.tree_blocks.specs.Sources.{object_length, range_in}
 use Rattle.commands.specs.Reads.{IsMountedRange, WritesMounted}
 use Rattle.commands.specs.declared.failure.Failure.{Failure}
 

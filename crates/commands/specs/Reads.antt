@@ -8,7 +8,7 @@ use Rattle.base.specs.declared.error.PoolError.TheVariants.{Flush, Write}
 use Rattle.base.specs.declared.range.Range.{Range}
 use Rattle.base.specs.formats.Limits.{max_length}
 use Rattle.base.specs.history.Contents.{Contents}
-use Rattle.object_maps.specs.Sources.{range_in}
+use Rattle.tree_blocks.specs.Sources.{range_in}
 use Rattle.commands.specs.declared.arguments.GetArguments.{GetArguments}
 
 -- the range that is asked for, up to the greatest length

@@ -8,7 +8,7 @@ use Rattle.std.specs.FinMap as finite
 use Rattle.std.specs.FinMap.{FinMap}
 use Rattle.base.specs.formats.Limits.{object_count}
 use Rattle.base.proofs.common.Choices.{none_there}
-use Rattle.object_maps.specs.Sources.{AreBytesFrom, object_bytes, object_length}
+use Rattle.tree_blocks.specs.Sources.{AreBytesFrom, object_bytes, object_length}
 use Rattle.extents.specs.declared.basis.Basis.{Basis}
 use Rattle.extents.specs.declared.basis.Basis.TheVariants.{Grown, Cut, Made, Gone}
 use Rattle.extents.specs.Patches.{IsSized, Patch, Patches, is_shown, laid_over, length_over, no_patch, patched}

@@ -4,7 +4,7 @@ use Rattle.std.specs.Prelude.{Bool, not, ◌||◌, is_some, nat_lt, option_map, 
 use Rattle.std.proofs.lemmas.List.{get_or_past}
 use Rattle.std.proofs.lemmas.Bool.{cases_lt, lt-ltb, le-ltb}
 use Rattle.std.proofs.Math.Bool.{or-true}
-use Rattle.object_maps.specs.Sources.{AreBytesFrom}
+use Rattle.tree_blocks.specs.Sources.{AreBytesFrom}
 use Rattle.extents.specs.declared.basis.Basis.{Basis}
 use Rattle.extents.specs.declared.basis.Basis.TheVariants.{Grown, Cut, Made, Gone}
 use Rattle.extents.specs.Objects.{HidesBelow, LaysOn}

@@ -16,7 +16,7 @@ use Rattle.extents.specs.declared.basis.Basis.TheVariants.{Grown, Cut, Made, Gon
 use Rattle.extents.proofs.PatchedBytes.{filled-in, length-filled}
 use Rattle.extents.proofs.PatchedObjects.{changes_follow, patched_nothing}
 use Rattle.extents.proofs.LaidWithin.{patches_sized}
-use Rattle.object_maps.specs.Sources.{AreBytesFrom}
+use Rattle.tree_blocks.specs.Sources.{AreBytesFrom}
 use Rattle.extents.specs.Objects.{HasRoomFrom, KeepsRoom, LaysOver}
 use Rattle.extents.specs.Tables.{CanApply, CanStillApply, IsLeft, IsSame, KeepsRooms, AppliesOps, entry_at, patches_of}
 

@@ -7,7 +7,7 @@ use Rattle.std.specs.Ordering.{nat_cmp}
 use Rattle.std.specs.FinMap as finite
 use Rattle.std.specs.FinMap.{FinMap}
 use Rattle.base.specs.formats.Limits.{object_count}
-use Rattle.object_maps.specs.Sources.{object_bytes}
+use Rattle.tree_blocks.specs.Sources.{object_bytes}
 use Rattle.extents.specs.declared.basis.Basis.TheVariants.{Cut, Made}
 use Rattle.extents.specs.Objects.{HidesBelow}
 use Rattle.extents.specs.Patches.{Patch, Patches, filled, laid_over, no_patch, patched}

@@ -6,7 +6,7 @@ use Rattle.base.specs.formats.Limits.{record_size}
 use Rattle.extents.specs.declared.object.ObjectPatch.{ObjectPatch}
 use Rattle.extents.specs.Records.{patch_with, record_at, written_by}
 use Rattle.extents.specs.Patches.{Patch, is_shown, patched, written_after, written_below}
-use Rattle.object_maps.specs.Sources.{AreBytesFrom}
+use Rattle.tree_blocks.specs.Sources.{AreBytesFrom}
 
 -- the byte that was written at an offset of an object
 abbrev pub written_in : ObjectPatch → ℕ → Option ℕ

@@ -19,7 +19,7 @@ use Rattle.base.specs.kept.PlannedTrees.{AreFreed, IsTreePlan, NewBlock}
 use Rattle.base.specs.tree.Syncs.{GroupChanges, written_by}
 use Rattle.tree_blocks.specs.Lengths.{length_in}
 use Rattle.tree_blocks.specs.Pointers.{pointers_of}
-use Rattle.object_maps.specs.Sources.{object_length}
+use Rattle.tree_blocks.specs.Sources.{object_length}
 use Rattle.tree_plans.specs.declared.changes.ObjectChanges.{ObjectChanges}
 use Rattle.tree_plans.specs.declared.plan_source.PlanSource.{PlanSource}
 use Rattle.tree_plans.specs.declared.planner.TreePlan.{TreePlan}

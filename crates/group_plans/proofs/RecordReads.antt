@@ -16,8 +16,8 @@ use Rattle.base.specs.tree.Tree.{IsRecord}
 use Rattle.base.proofs.tree.Strips.{strip-low, strip-object, strip-which}
 use Rattle.object_maps.specs.declared.contents.Contents as slots
 use Rattle.extents.specs.declared.extents.Extents.{Extents}
-use Rattle.object_maps.specs.Sources.{AreBytesFrom, object_bytes, object_length, object_record}
-use Rattle.object_maps.proofs.Records.{get_or-record, length-record, whole_record_read}
+use Rattle.tree_blocks.specs.Sources.{AreBytesFrom, object_bytes, object_length, object_record}
+use Rattle.tree_blocks.proofs.Records.{get_or-record, length-record, whole_record_read}
 use Rattle.extents.specs.LaidReads.{LaysOnBelow}
 use Rattle.extents.specs.Objects.{HidesBelow}
 use Rattle.extents.specs.Patches.{Patches, laid_over}

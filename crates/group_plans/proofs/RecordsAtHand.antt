@@ -14,8 +14,8 @@ use Rattle.std.proofs.lemmas.List.{ext_get_or, get_or_past}
 use Rattle.std.proofs.lemmas.List.FromFn.{fill_by_all, get_or-map-range_with_len, length-map-range_with_len}
 use Rattle.base.specs.formats.Limits.{object_count, record_count}
 use Rattle.base.proofs.tree.Strips.{record-count}
-use Rattle.object_maps.specs.Sources.{object_bytes, object_length, object_record}
-use Rattle.object_maps.proofs.Records.{get_or-record, length-record}
+use Rattle.tree_blocks.specs.Sources.{object_bytes, object_length, object_record}
+use Rattle.tree_blocks.proofs.Records.{get_or-record, length-record}
 use Rattle.extents.proofs.LaidObjects.{get-objects_past, get-objects_up_to}
 use Rattle.group_plans.specs.Prepared.{AreClearedPast, AreExact, IsClearedPast, PutsRecord, at_hand, byte_with, bytes_with, with_records}
 

@@ -18,7 +18,7 @@ use Rattle.tree_blocks.proofs.Payloads.{padded-full}
 use Rattle.extents.specs.Tables.{patches_of}
 use Rattle.extents.proofs.LaidObjects.{get-laid_past}
 use Rattle.object_maps.specs.ContentsShown.{contents_of}
-use Rattle.object_maps.specs.Sources.{object_record}
+use Rattle.tree_blocks.specs.Sources.{object_record}
 use Rattle.group_plans.specs.declared.prepared.PreparedObjects.{PreparedObjects}
 use Rattle.group_plans.specs.GroupPlans.{objects_with}
 use Rattle.group_plans.specs.Prepared.{at_hand}

@@ -25,7 +25,7 @@ use Rattle.tree_blocks.specs.declared.tree.ObjectEntry.{ObjectEntry}
 use Rattle.tree_blocks.specs.declared.tree.Tree.{Tree}
 use Rattle.object_maps.specs.Cached.{IsReadRefusal}
 use Rattle.object_maps.specs.ContentsShown.{contents_of}
-use Rattle.object_maps.specs.Sources.{object_length}
+use Rattle.tree_blocks.specs.Sources.{object_length}
 use Rattle.tree_blocks.specs.Lengths.{length_in}
 use Rattle.tree_blocks.specs.Pointers.{pointers_of}
 use Rattle.extents.specs.declared.extents.Extents.{Extents}

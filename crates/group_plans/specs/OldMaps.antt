@@ -16,7 +16,7 @@ use Rattle.tree_blocks.specs.declared.tree.Tree.{Tree}
 use Rattle.object_maps.specs.Cached.{BeginsInside}
 use Rattle.tree_blocks.specs.Lengths.{HasLengthsOf}
 use Rattle.tree_blocks.specs.Pointers.{object_pointers, pointer_of_list, pointers_of}
-use Rattle.object_maps.specs.Sources.{object_length}
+use Rattle.tree_blocks.specs.Sources.{object_length}
 use Rattle.tree_plans.specs.declared.changes.ObjectChanges.{ObjectChanges}
 use Rattle.tree_blocks.specs.declared.object_map.ObjectMap.{ObjectMap}
 use Rattle.tree_plans.specs.Changes.{has_two_levels}

@@ -16,7 +16,7 @@ use Rattle.base.specs.tree.Places.{Place, record_of_strip, strip_number}
 use Rattle.base.specs.tree.Places.Place.{Data}
 use Rattle.base.specs.kept.PlacedTrees.{HoldsTree}
 use Rattle.object_maps.specs.Cached.{IsReadRefusal}
-use Rattle.object_maps.specs.Sources.{AreBytesFrom, object_bytes, object_record}
+use Rattle.tree_blocks.specs.Sources.{AreBytesFrom, object_bytes, object_record}
 use Rattle.extents.specs.Objects.{HidesBelow}
 use Rattle.extents.specs.Patches.{Patches, objects_up_to}
 use Rattle.tree_plans.specs.declared.changes.ObjectChanges.{ObjectChanges}

@@ -13,7 +13,7 @@ ghost use Rattle.base.specs.formats.Fields.{no_pointer};
 ghost use Rattle.base.specs.declared.pointer.Pointer.{Pointer};
 ghost use Rattle.object_maps.specs.ContentsShown.{contents_of};
 ghost use Rattle.tree_blocks.specs.Pointers.{pointer_of_list, pointers_of};
-ghost use Rattle.object_maps.specs.Sources.{object_length};
+ghost use Rattle.tree_blocks.specs.Sources.{object_length};
 ghost use Rattle.tree_plans.specs.declared.changes.ObjectChanges.{ObjectChanges};
 ghost use Rattle.tree_blocks.specs.declared.object_map.ObjectMap.{ObjectMap};
 ghost use Rattle.tree_plans.specs.Changes.{has_two_levels, is_strip_touched};

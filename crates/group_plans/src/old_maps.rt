@@ -28,12 +28,10 @@ use crate::planning::GroupSource;
 use base::{OBJECT_COUNT, ObjectId, POINTER_COUNT, Pointer, PoolError, RECORD_SIZE};
 use checked_blocks::Frame;
 use extents::{Extents, Laid};
-use object_maps::{
-    BlockReader, Contents, ObjectSource, read_indirect, read_top, record_pointer, strip_pointer,
-};
+use object_maps::{BlockReader, Contents, read_indirect, read_top, record_pointer, strip_pointer};
 use std::alloc::Global;
 use std::collections::BTreeMap;
-use tree_blocks::{ObjectMap, Tree, is_long, strip_number};
+use tree_blocks::{ObjectMap, ObjectSource, Tree, is_long, strip_number};
 use tree_plans::ObjectChanges;
 
 // An object whose map is read.

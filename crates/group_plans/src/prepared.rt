@@ -3,16 +3,16 @@
 ghost use Rattle.std.specs.Prelude.{◌≡◌, ◌<◌, ◌+◌, ◌*◌, ℕ, IfErr, None, OnOk, is_some, length, true};
 ghost use Rattle.base.specs.declared.error.PoolError.TheVariants as error;
 ghost use Rattle.base.specs.formats.Limits.{record_count, record_size};
-ghost use Rattle.object_maps.specs.Sources.{object_bytes};
+ghost use Rattle.tree_blocks.specs.Sources.{object_bytes};
 ghost use Rattle.group_plans.specs.GroupPlans.{objects_with};
 ghost use Rattle.group_plans.specs.Prepared.{AreClearedPast, IsClearedPast, KeepsFront, KeepsHand, PutsRecord, at_hand, with_records};
 
 use base::{Bytes, ObjectId, PoolError, RECORD_SIZE};
 use extents::{Extents, Laid};
-use object_maps::{Contents, ObjectSource};
+use object_maps::Contents;
 use std::alloc::Global;
 use std::collections::BTreeMap;
-use tree_blocks::RECORD_COUNT;
+use tree_blocks::{ObjectSource, RECORD_COUNT};
 
 // The objects that contents have with the changes of a group laid over them. Some of their records are at hand, and
 // stand in the place of their own.

@@ -14,10 +14,9 @@ use crate::prepared::{PreparedObjects, record_number};
 use base::{Group, OBJECT_COUNT, ObjectId, POINTER_COUNT, PoolError};
 use checked_blocks::{Block, Content, Kind, seal, seal_four};
 use extents::Laid;
-use object_maps::ObjectSource;
 use std::alloc::Global;
 use std::collections::BTreeMap;
-use tree_blocks::{BlockPlace, RECORD_COUNT, RecordPlace, strip_number};
+use tree_blocks::{BlockPlace, ObjectSource, RECORD_COUNT, RecordPlace, strip_number};
 use tree_plans::SealedSource;
 
 // The records of all objects.

@@ -39,7 +39,7 @@ use Rattle.log_replay.specs.Replays.{IsReplayCause, ops_of_records}
 use Rattle.object_maps.specs.ContentsShown.{contents_of, objects_of}
 use Rattle.tree_blocks.specs.Lengths.{HasLengthsOf}
 use Rattle.object_maps.specs.Ops.{AreOpsAllowed}
-use Rattle.object_maps.specs.Sources.{range_in}
+use Rattle.tree_blocks.specs.Sources.{range_in}
 use Rattle.object_maps.specs.declared.contents.Slot.{Slot}
 use Rattle.tree_blocks.specs.declared.tree.Tree.{Tree}
 use Rattle.object_reads.specs.ShownTrees.{IsRangeRefusal, IsRangeRefusalOnTree, StandsOn, shown_objects}

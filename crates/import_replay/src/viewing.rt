@@ -27,11 +27,11 @@ use checked_blocks::Frame;
 use device_model::SectorDevice;
 use extents::UnsyncedExtents;
 use labels::Geometry;
-use object_maps::{BlockReader, Contents, ObjectSource};
+use object_maps::{BlockReader, Contents};
 use object_reads::ShownTree;
 use std::alloc::{AllocError, Global};
 use transactions::Record;
-use tree_blocks::Tree;
+use tree_blocks::{ObjectSource, Tree};
 
 /// A pool as an import would mount it. It doesn't hold the device: each read is handed a `BlockReader`.
 #[derive(Debug, Drop)]
@@ -122,7 +122,7 @@ impl View {
     ghost use Rattle.base.specs.declared.error.PoolError.TheVariants as error;
     ghost use Rattle.base.specs.disk.Disk.{bytes_of};
     ghost use Rattle.device_model.specs.Reading.{OnlyReads};
-    ghost use Rattle.object_maps.specs.Sources.{object_length, range_in};
+    ghost use Rattle.tree_blocks.specs.Sources.{object_length, range_in};
     ghost use Rattle.import_replay.specs.Views.{FitsOn, IsViewOfImage, IsViewRefusal, objects_seen};
     ghost use Rattle.mounted.specs.Ranges.{is_readable};
 

@@ -6,7 +6,8 @@ ghost use Rattle.object_maps.specs.Ops.{AreOpsAllowed};
 ghost use Rattle.log_replay.specs.Judged.{IsRefusedOver};
 
 use base::{Op, PoolError};
-use object_maps::{ObjectSource, judge};
+use object_maps::judge;
+use tree_blocks::ObjectSource;
 
 /// Judges the operations of a record of the piece at an address, over these objects. It takes no memory.
 ///

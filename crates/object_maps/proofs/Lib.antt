@@ -1,6 +1,5 @@
 pub mod ContentsShown
 pub mod Judged
-pub mod Records
 pub mod RisingObjects
 pub mod FreeBlocks
 pub mod TakenStrips

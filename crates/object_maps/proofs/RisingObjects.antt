@@ -12,7 +12,7 @@ use Rattle.base.specs.formats.Digest.{contents_text, object_text}
 use Rattle.base.specs.formats.Limits.{object_count}
 use Rattle.object_maps.specs.Digests.{text_at}
 use Rattle.object_maps.specs.Judging.{with_name}
-use Rattle.object_maps.specs.Sources.{object_bytes, object_length}
+use Rattle.tree_blocks.specs.Sources.{object_bytes, object_length}
 use Rattle.tree_blocks.specs.ListedObjects.{AreWithin}
 use Rattle.tree_blocks.proofs.ListedObjects.{entries_below, entries_below-all, entry_at}
 

@@ -20,7 +20,7 @@ ghost use Rattle.device_model.specs.Reading.{OnlyReads};
 ghost use Rattle.object_maps.specs.Cached.{BeginsInside, HasNoneAt, HoldsStrip, HoldsTop, IsBlockRefusal, IsPointerInside, IsReadPart, IsReadPayload, OnlyLeft};
 ghost use Rattle.object_maps.specs.Kinds.{kind_number};
 ghost use Rattle.tree_blocks.specs.BlockPlaces.{place_of};
-ghost use Rattle.object_maps.specs.Sources.{AreBytesFrom};
+ghost use Rattle.tree_blocks.specs.Sources.{AreBytesFrom};
 
 use crate::walk::damaged;
 use base::{ObjectId, POINTER_COUNT, Pointer, PoolError, RECORD_SIZE, are_zeros};

@@ -4,10 +4,12 @@
 ghost use Rattle.std.specs.Prelude.{◌≡◌, false, option_map, All, IfOk, vec_len, length as count};
 ghost use Rattle.std.specs.FinMap as finite;
 ghost use Rattle.base.specs.formats.Limits.{object_count};
+ghost use Rattle.object_maps.specs.ContentsShown.{contents_of};
 
 use crate::told_bytes::{BytesView, no_bytes};
 use base::{OBJECT_COUNT, ObjectId, PoolName, Told};
 use std::alloc::{AllocError, Global};
+use tree_blocks::ObjectSource;
 
 /// The place of one object: whether it is there, its length, and its bytes for proofs. If it is not there, the others
 /// mean nothing.
@@ -67,8 +69,6 @@ impl Slot {
 }
 
 impl Contents {
-    ghost use Rattle.object_maps.specs.ContentsShown.{contents_of};
-
     /// The contents with this name and no objects. They are refused if no memory is left.
     pub fn new(alloc: Global, name: PoolName) -> Result<Self, AllocError>
         ensures { IfOk result (λ c.
@@ -93,5 +93,14 @@ impl Contents {
     {
         let slot = self.slots.get(id.0 as usize)?;
         slot.length()
+    }
+}
+
+/// The objects of contents.
+impl ObjectSource for &Contents {
+    ghost objects = { λ c. (contents_of c.now).objects };
+
+    fn length(&self, id: ObjectId) -> Option<u64> {
+        Contents::length(self, id)
     }
 }

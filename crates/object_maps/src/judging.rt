@@ -11,8 +11,8 @@ ghost use Rattle.object_maps.specs.Judging.{ApplyTo, JudgesOver, TellsAfter};
 ghost use Rattle.object_maps.specs.Ops.{AreOpsAllowed, IsOpAllowed};
 ghost use Rattle.object_maps.specs.Presence.{AreNoted, IsMade, IsMadeFor, is_present_after, is_there_noted};
 
-use crate::source::ObjectSource;
 use base::{OBJECT_COUNT, ObjectId, Op, PoolError};
+use tree_blocks::ObjectSource;
 
 /// What operations made of an object.
 #[derive(Debug, Clone, Copy, PartialEq, Eq)]

@@ -8,7 +8,7 @@ use borrow.Rule.Slice.PartMut.{put_mid}
 use Rattle.base.specs.formats.Fields.{part}
 use Rattle.base.specs.formats.Limits.{max_length, object_count}
 use Rattle.base.proofs.common.KeptLists.{Some-injective}
-use Rattle.object_maps.specs.Sources.{AreBytesFrom}
+use Rattle.tree_blocks.specs.Sources.{AreBytesFrom}
 
 -- the bytes up to a part, and those of the part, are read
 pub read_more : (object into bytes : List ℕ) (low done count k offset : ℕ) → done ≤ length into → length bytes ≡ count → offset ≡ low + done

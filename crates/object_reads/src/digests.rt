@@ -11,14 +11,15 @@ ghost use Rattle.device_model.specs.Reading.{OnlyReads};
 ghost use Rattle.object_maps.specs.Cached.{IsReadRefusal};
 ghost use Rattle.object_maps.specs.Digests.{Feeds, text_at};
 ghost use Rattle.object_maps.specs.Judging.{with_name};
-ghost use Rattle.object_maps.specs.Sources.{object_bytes};
+ghost use Rattle.tree_blocks.specs.Sources.{object_bytes};
 ghost use Rattle.tree_blocks.specs.ListedObjects.{AreWithin};
 
 use crate::pointer_blocks::PointerBlocks;
 use crate::shown_tree::ShownTree;
 use base::{OBJECT_COUNT, ObjectId, PoolError, PoolName, RECORD_SIZE};
-use object_maps::{BlockReader, ObjectSource};
+use object_maps::BlockReader;
 use sha2::{Digest, Sha256};
+use tree_blocks::ObjectSource;
 
 impl<'a> ShownTree<'a> {
     ghost use Rattle.object_reads.specs.ShownTrees.{StandsOn, shown_objects};

@@ -12,7 +12,7 @@ ghost use Rattle.base.specs.tree.Places.Place.{Indirect};
 ghost use Rattle.device_model.specs.Reading.{OnlyReads};
 ghost use Rattle.object_maps.specs.Cached.{IsReadRefusal};
 ghost use Rattle.tree_blocks.specs.Pointers.{pointers_of};
-ghost use Rattle.object_maps.specs.Sources.{object_length};
+ghost use Rattle.tree_blocks.specs.Sources.{object_length};
 
 use crate::shown_tree::ShownTree;
 use base::{ObjectId, Pointer, PoolError};

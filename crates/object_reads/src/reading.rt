@@ -8,7 +8,7 @@ ghost use Rattle.base.specs.formats.Geometry.{block_address};
 ghost use Rattle.base.specs.formats.Limits.{max_length, object_count};
 ghost use Rattle.device_model.specs.Reading.{OnlyReads};
 ghost use Rattle.object_maps.specs.Cached.{IsReadRefusal};
-ghost use Rattle.object_maps.specs.Sources.{object_bytes, object_length, range_in};
+ghost use Rattle.tree_blocks.specs.Sources.{object_bytes, object_length, range_in};
 ghost use Rattle.object_reads.specs.ShownTrees.{IsRangeRefusal, IsRangeRefusalOnTree, StandsOn, shown_objects};
 
 use crate::pointer_blocks::PointerBlocks;

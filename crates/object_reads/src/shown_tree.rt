@@ -10,14 +10,14 @@ ghost use Rattle.base.specs.formats.Geometry.{block_address};
 ghost use Rattle.base.specs.formats.Limits.{object_count, record_count, record_size};
 ghost use Rattle.device_model.specs.Reading.{OnlyReads};
 ghost use Rattle.object_maps.specs.Cached.{IsReadRefusal};
-ghost use Rattle.object_maps.specs.Sources.{AreBytesFrom, object_bytes, object_length};
+ghost use Rattle.tree_blocks.specs.Sources.{AreBytesFrom, object_bytes, object_length};
 
 use crate::pointer_blocks::PointerBlocks;
 use base::{ObjectId, POINTER_COUNT, PoolError};
 use checked_blocks::Frame;
 use extents::{Laid, UnsyncedExtents};
-use object_maps::{BlockReader, Contents, ObjectSource, read_part, record_pointer};
-use tree_blocks::{Tree, strip_number};
+use object_maps::{BlockReader, Contents, read_part, record_pointer};
+use tree_blocks::{ObjectSource, Tree, strip_number};
 
 /// What a pool has in memory of the objects that it shows. Reads of their bytes are handed the device.
 #[derive(Clone, Copy, Debug)]

@@ -71,10 +71,10 @@ use base::{
 use checked_blocks::Frame;
 use extents::{Laid, UnsyncedExtents};
 use groups::Groups;
-use mounted::Mounted;
 use intent_log::{Log, LogHeader};
 use labels::Geometry;
-use object_maps::{BlockReader, Contents, ObjectSource};
+use mounted::Mounted;
+use object_maps::{BlockReader, Contents};
 use object_reads::ShownTree;
 use range_locks::{HeldLock, HeldLocks, HeldPiece, RangeLocks};
 use space::FreeSet;
@@ -83,7 +83,7 @@ use std::collections::BTreeMap;
 use sync::SyncRun;
 use throttle::Dirty;
 use transactions::OpenTransactions;
-use tree_blocks::{ObjectEntry, Tree};
+use tree_blocks::{ObjectEntry, ObjectSource, Tree};
 
 /// What a step of a sync answers.
 #[derive(Clone, Copy, Debug, PartialEq, Eq)]

@@ -5,3 +5,4 @@ pub mod ListedObjects
 pub mod ReadPointers
 pub mod Payloads
 pub mod Entries
+pub mod Records

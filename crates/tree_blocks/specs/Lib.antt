@@ -8,3 +8,4 @@ pub mod BlockPlaces
 pub mod Forms
 pub mod ReadPointers
 pub mod SyncedTrees
+pub mod Sources

@@ -6,6 +6,7 @@ mod forms;
 mod object_map;
 mod payload;
 mod place;
+mod source;
 mod strips;
 mod told_strips;
 mod tree;
@@ -16,6 +17,7 @@ pub use forms::{
 pub use object_map::{ObjectMap, pointer_of_list};
 pub use payload::{empty_payload, pointer_payload, put_entry};
 pub use place::{BlockPlace, RecordPlace};
+pub use source::ObjectSource;
 pub use strips::{record_number, strip_number, strip_of};
 pub use told_strips::{StripsView, no_strips, with_strip};
 pub use tree::{ObjectEntry, RECORD_COUNT, Tree, empty_entries, is_long};

@@ -18,10 +18,11 @@ use crate::plan_source::PlanSource;
 use crate::sealed_source::SealedSource;
 use base::{Group, OBJECT_COUNT, ObjectId, POINTER_COUNT, Pointer, PoolError, RecordState};
 use checked_blocks::{Block, Content, Kind, PAYLOAD_SIZE, seal, seal_four};
-use object_maps::ObjectSource;
 use std::alloc::{AllocError, Global};
 use std::collections::BTreeMap;
-use tree_blocks::{RecordPlace, is_long, pointer_of_list, pointer_payload, strip_number};
+use tree_blocks::{
+    ObjectSource, RecordPlace, is_long, pointer_of_list, pointer_payload, strip_number,
+};
 
 // How many blocks are sealed side by side.
 const COUNT: usize = 4;

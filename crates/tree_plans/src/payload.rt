@@ -10,9 +10,8 @@ ghost use Rattle.tree_plans.specs.Walks.{AreEntriesWritten};
 use crate::plan_source::PlanSource;
 use base::{ENTRY_COUNT, ObjectId, Pointer};
 use checked_blocks::PAYLOAD_SIZE;
-use object_maps::ObjectSource;
 use std::collections::BTreeMap;
-use tree_blocks::{ObjectEntry, empty_payload, put_entry};
+use tree_blocks::{ObjectEntry, ObjectSource, empty_payload, put_entry};
 
 /// Whether one of these pointers names a block.
 pub fn has_block(pointers: &[Pointer]) -> bool

@@ -8,12 +8,11 @@ ghost use Rattle.base.specs.formats.Blocks.{IsBlock};
 ghost use Rattle.base.specs.formats.Limits.{object_count, pointer_count};
 ghost use Rattle.base.specs.tree.Places.{kind_of, number_of_place, record_of_strip, strip_number};
 ghost use Rattle.base.specs.tree.Places.Place.{Data};
-ghost use Rattle.object_maps.specs.Sources.{object_record};
+ghost use Rattle.tree_blocks.specs.Sources.{object_record};
 
 use base::{Group, PoolError};
 use checked_blocks::Block;
-use object_maps::ObjectSource;
-use tree_blocks::RecordPlace;
+use tree_blocks::{ObjectSource, RecordPlace};
 
 /// Objects of which the records that a plan writes are at hand, as blocks.
 pub trait SealedSource: ObjectSource {

@@ -38,9 +38,8 @@ use crate::plan_source::PlanSource;
 use crate::planner::{Planner, TreePlan};
 use crate::sealed_source::SealedSource;
 use base::{ENTRY_COUNT, OBJECT_COUNT, ObjectId, POINTER_COUNT, Pointer, PoolError, RecordState};
-use object_maps::ObjectSource;
 use std::collections::BTreeMap;
-use tree_blocks::{BlockPlace, ObjectEntry, is_long, pointer_payload};
+use tree_blocks::{BlockPlace, ObjectEntry, ObjectSource, is_long, pointer_payload};
 
 // Whether an operation is on an object of a directory.
 fn is_touched(objects: &BTreeMap<ObjectId, ObjectChanges>, directory: usize) -> bool

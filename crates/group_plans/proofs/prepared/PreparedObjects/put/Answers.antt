@@ -8,7 +8,7 @@ use Rattle.std.specs.Ordering.{nat_cmp}
 use Rattle.base.specs.formats.Limits.{record_count}
 use Rattle.group_plans.specs.GroupPlans.{objects_with}
 use Rattle.group_plans.specs.Prepared.{AreClearedPast, IsClearedPast, PutsRecord, at_hand}
-use Rattle.object_maps.specs.Sources.{object_bytes}
+use Rattle.tree_blocks.specs.Sources.{object_bytes}
 use Rattle.group_plans.proofs.RecordsAtHand.{cut_more, puts_record}
 use Rattle.group_plans.proofs.prepared.PreparedObjects.put.Goals as goal
 

@@ -2,8 +2,8 @@ use Rattle.std.proofs.Common.{rules, ◌≡◌, ◌+◌, ◌-◌, ◌*◌, ◌�
 use Rattle.std.specs.Prelude.{min}
 use Rattle.std.proofs.lemmas.Result.{err_from_is_err_and}
 use Rattle.base.proofs.tree.Strips.{record-count}
-use Rattle.object_maps.specs.Sources.{object_bytes}
-use Rattle.object_maps.proofs.Records.{records_more, whole_record_read}
+use Rattle.tree_blocks.specs.Sources.{object_bytes}
+use Rattle.tree_blocks.proofs.Records.{records_more, whole_record_read}
 use Rattle.object_reads.specs.ShownTrees.{shown_objects}
 use Rattle.object_reads.proofs.Feeds.{feeds_both}
 use Rattle.object_reads.proofs.SyncedObjects.{stands_still, stood_before}

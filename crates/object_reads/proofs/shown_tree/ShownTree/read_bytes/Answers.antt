@@ -1,7 +1,7 @@
 use Rattle.std.proofs.Common.{rules, ◌≡◌, ◌+◌, ◌*◌, ◌/◌, ◌%◌, ◌∙◌, length, arith}
 use Rattle.std.proofs.lemmas.Result.{err_from_is_err_and}
 use Rattle.base.proofs.tree.Strips.{record-count}
-use Rattle.object_maps.specs.Sources.{object_bytes}
+use Rattle.tree_blocks.specs.Sources.{object_bytes}
 use Rattle.object_reads.specs.ShownTrees.{shown_objects}
 use Rattle.object_reads.proofs.ReadParts.{part_read, read_more}
 use Rattle.object_reads.proofs.SyncedObjects.{stands_still, stood_before}

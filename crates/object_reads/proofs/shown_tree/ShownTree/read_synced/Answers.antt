@@ -3,7 +3,7 @@ use Rattle.std.specs.Prelude.{OnOk, unwrap_or}
 use Rattle.std.specs.FinMap as finite
 use Rattle.base.specs.formats.Fields.{pointer_in}
 use Rattle.base.proofs.tree.Strips.{record-count}
-use Rattle.object_maps.specs.Sources.{AreBytesFrom}
+use Rattle.tree_blocks.specs.Sources.{AreBytesFrom}
 use Rattle.object_reads.specs.ShownTrees.{synced_objects}
 use Rattle.object_reads.proofs.SyncedObjects.{bytes_long, holds_record, record_begins, record_formed, stands_still}
 use Rattle.object_reads.proofs.shown_tree.ShownTree.read_synced.Goals as goal

@@ -2,7 +2,7 @@ use Rattle.std.proofs.Common.{◌≡◌, ℕ, List, arith, ap, length, sym, ◌�
 use Rattle.std.specs.Prelude.{if◌then◌else◌}
 use Rattle.base.specs.formats.Limits.{pointer_count}
 use Rattle.tree_blocks.specs.Pointers.{pointer_of_list}
-use Rattle.object_maps.specs.Sources.{object_bytes}
+use Rattle.tree_blocks.specs.Sources.{object_bytes}
 use Rattle.base.specs.tree.Syncs.{is_dirty}
 use Rattle.tree_plans.specs.Parts.{old_in}
 use Rattle.tree_plans.specs.Plans.{is_dirty_in, is_indirect_made, progress_of, records_with, state_over_indirects}

@@ -4,7 +4,7 @@ use Rattle.std.proofs.lemmas.Result.{IfErr-weaker}
 use Rattle.base.specs.declared.error.PoolError.TheVariants.{NoMemory}
 use Rattle.std.specs.Cmp.{unsigned_tied}
 use Rattle.std.proofs.lemmas.Bool.{or_parts}
-use Rattle.object_maps.specs.Sources.{object_bytes}
+use Rattle.tree_blocks.specs.Sources.{object_bytes}
 use Rattle.tree_plans.specs.Changes.{is_strip_dirty}
 use Rattle.tree_blocks.specs.ReadPointers.{records_among}
 use Rattle.tree_plans.proofs.Levels.{passes_met, passes_unmet}

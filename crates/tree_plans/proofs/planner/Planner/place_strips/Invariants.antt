@@ -1,5 +1,5 @@
 use Rattle.std.proofs.Common.{◌≡◌}
-use Rattle.object_maps.specs.Sources.{object_bytes}
+use Rattle.tree_blocks.specs.Sources.{object_bytes}
 use Rattle.tree_plans.specs.Parts.{AreMet, PlansStripsBelow}
 use Rattle.tree_plans.proofs.planner.Planner.place_strips.Given as goal
 

@@ -8,7 +8,7 @@ use Rattle.base.specs.formats.Limits.{record_size}
 use Rattle.base.specs.kept.PlacedTrees.{padded_record}
 use Rattle.base.specs.tree.Tree.{record_bytes}
 use Rattle.base.proofs.common.KeptLists.{get_or-zeros}
-use Rattle.object_maps.specs.Sources.{AreBytesFrom}
+use Rattle.tree_blocks.specs.Sources.{AreBytesFrom}
 
 -- a byte of a record, and one that is not there
 pub length-record : (index : ℕ) (bytes : List ℕ) → length (padded_record index bytes) ≡ 4032
