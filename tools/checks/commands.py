@@ -24,6 +24,7 @@ import pty
 import re
 import shlex
 import shutil
+import socket
 import subprocess
 import tempfile
 import time
@@ -36,6 +37,8 @@ from tools.model import layout
 from tools.model.formats import table
 from tools.model.layout import AREA, BLOCK, CONFIG_AT, LABEL, MIB, block_count, slot_places
 from tools.model.pool_bytes import number_at
+from tools.model.serial_pool import LEAST
+from tools.rows.many_groups import many_groups
 
 SIZE = 8 * MIB
 SECONDS = 20
@@ -147,11 +150,32 @@ class Commands(Judge):
         self.ends(["show", "new.pool"], 0, NEW.replace("77", guid))
         made = pathlib.Path("new.pool").read_bytes()
         self.ends(["create", "new.pool", "pond", "78", str(SIZE), "--new"], 3, errors="ztxg: cannot use new.pool\n")
-        refused = [(0, "", "8 BadGeometry"), (SIZE - 1, "tank", "8 BadGeometry"), (SIZE, "4", "11 BadRange")]
-        for size, name, refusal in refused:
-            self.ends(["create", "new.pool", name, "77", str(size)], 1, errors=f"ztxg: refused {refusal}\n")
-        if pathlib.Path("new.pool").read_bytes() != made:
+        for file in ("new.pool", "none.pool", "."):
+            for size, name, refusal in [
+                (0, "", "8 BadGeometry"),
+                (0, "4tank", "8 BadGeometry"),
+                (SIZE - 1, "tank", "8 BadGeometry"),
+                (6 * MIB - 1, "tank", "8 BadGeometry"),
+                (SIZE, "4", "11 BadRange"),
+                (SIZE, "4tank", "11 BadRange"),
+                (SIZE, "", "11 BadRange"),
+            ]:
+                self.ends(["create", file, name, "77", str(size)], 1, errors=f"ztxg: refused {refusal}\n")
+        if pathlib.Path("new.pool").read_bytes() != made or os.path.exists("none.pool"):
             self.differ("a refused create changes its file")
+        # A size that is no number of sectors is the file's, too.
+        self.ends(["create", "new.pool", "pond", "77", str(6 * MIB + 44)], 0, "created pond 384 blocks\n")
+        if os.path.getsize("new.pool") != 6 * MIB + 44:
+            self.differ("a file has another size than it was given")
+
+    def synced_bytes(self):
+        """The file after a sync with an object and 121 empty ones, whose uberblocks go on in slot 0 after slot 127."""
+        self.ends(["create", "round.pool", "tank", "77", str(LEAST), "--moment", "5"], 0, "created tank 384 blocks\n")
+        words = ["script", "--file", "round.pool", "-", "--moment", "6"]
+        answers = SYNC_ANSWERS + "".join(f"synced {group}\n" for group in range(10, 131))
+        self.ends(words, 0, answers, script=SYNC + "sync\n" * 121)
+        if pathlib.Path("round.pool").read_bytes() != bytes(many_groups(LEAST, 5, 6, 6, range(10, 131)).content):
+            self.differ("130 groups leave another file")
 
     def kept_bytes(self):
         """The boot area and the ends of the labels stay; a longer file is cut, a shorter one gets zeros."""
@@ -183,6 +207,13 @@ class Commands(Judge):
         self.ends(["check", "synced.pool", "--all"], 1, f"damaged 5 {DATA}\n")
         for name in ("show", "ls"):
             self.ends([name, "synced.pool"], 1, errors=f"ztxg: {refusal}")
+        # Of two damages a check tells the first one, or both. The third record's block is the one after the first's.
+        self.make("twice.pool", SYNC.replace("w:1:0:4", "w:1:0:4 w:1:8064:4").replace("abcd", "abcd wxyz"))
+        self.ends(["check", "twice.pool"], 0, "clean group 9 records 0\n")
+        damages = [f"damaged 5 {DATA + BLOCK * at}\n" for at in range(2)]
+        flawed(flawed("twice.pool", DATA + 64), DATA + BLOCK + 64)
+        self.ends(["check", "twice.pool"], 1, damages[0])
+        self.ends(["check", "twice.pool", "--all"], 1, "".join(damages))
         self.ends(["load", "synced.pool", *LOAD], 1, errors=f"ztxg: {refusal}")
         self.ends(["script", "--file", "synced.pool", "-"], 0, refusal, script="import 1048576\n")
         for size, checked, errors in [
@@ -208,7 +239,13 @@ class Commands(Judge):
             (["put", name, "7"], "hello", "put 5 bytes in 1 transactions\n"),
             (["put", name, "7", "--offset", "5"], " there", "put 6 bytes in 1 transactions\n"),
             (["get", name, "7"], "", "hello there"),
+            (["put", name, "7"], "bye", "put 3 bytes in 1 transactions\n"),
+            (["get", name, "7"], "", "bye"),
+            (["ls", name], "", "7 3\n"),
+            (["put", name, "7"], "hello there", "put 11 bytes in 1 transactions\n"),
             (["get", name, "7", "--offset", "3", "--length", "4"], "", "lo t"),
+            (["put", name, "7"], big[:64_513], "put 64513 bytes in 2 transactions\n"),
+            (["get", name, "7"], "", big[:64_513]),
             (["put", name, "7"], big, f"put {size} bytes in 6 transactions\n"),
             (["get", name, "7"], "", big),
             (["put", name, "8"], "", "put 0 bytes in 1 transactions\n"),
@@ -231,22 +268,47 @@ class Commands(Judge):
             (["get", name, "8", "--offset", str(most)], "11 BadRange"),
             (["put", name, "5292"], "11 BadRange"),
             (["put", name, "8", "--offset", str(most)], "11 BadRange"),
+            (["put", name, "8", "--offset", str(most - 1)], "11 BadRange"),
         ]:
-            found = self.put(words, "x")
+            found = self.put(words, "xy")
             if found != (1, "", f"ztxg: refused {refusal}\n"):
                 self.differ(words, "ends with", found)
         if pathlib.Path(name).read_bytes() != made:
             self.differ("a refused command on an object changes the file")
+        for number, refusal in [("7", "9 NoObject"), ("5292", "11 BadRange")]:
+            self.ends(["rm", name, number], 1, errors=f"ztxg: refused {refusal}\n")
+        self.ends(["put", "none.pool", "7"], 3, errors="ztxg: cannot use none.pool\n")
+        if os.path.exists("none.pool"):
+            self.differ("a put makes a file")
         self.ends(["get", self.make("logged.pool", LOG), "1"], 0, "\0" * 100 + "wxyz")
         for number in range(20):
             status, out, errors = self.put(["put", name, str(number)], big)
             if status:
                 break
-        if (status, out) != (1, "") or not re.fullmatch(
-            r"ztxg: refused 16 NoSpace\n(ztxg: committed \d+ bytes in \d transactions\n)?", errors
-        ):
+        told = re.fullmatch(r"ztxg: refused 16 NoSpace\n(?:ztxg: committed (\d+) bytes in \d transactions\n)?", errors)
+        if (status, out) != (1, "") or not told:
             self.differ("a put into a full pool ends with", (status, out, errors))
+        elif told[1]:
+            self.ends(["get", name, str(number)], 0, big[: int(told[1])])
         self.ends(["check", name, "-v"], 0, self.run(["check", name])[1])
+
+    def parts(self):
+        """What is synced of an object, and in the log alone."""
+        lines = "unlock 1 0\nlock 1 1 w 2 6\nbegin 1 w:1:2:4\ncommit 1 wxyz\nlog-write\nlog-flush\n"
+        name = self.make("parts.pool", SYNC + lines)
+        for low, count, out in [(0, 6, "abwxyz"), (1, 2, "bw"), (4, layout.MAX_LENGTH, "yz"), (6, 1, ""), (0, 1, "a")]:
+            self.ends(["get", name, "1", "--offset", str(low), "--length", str(count)], 0, out)
+        self.ends(["get", name, "2", "--length", "1"], 1, errors="ztxg: refused 9 NoObject\n")
+
+    def long_puts(self):
+        """A put whose bytes pass the dirty limit, and one for which there is room once what it replaces is free."""
+        self.ends(["create", "large.pool", "tank", "77", str(16 * MIB)], 0, "created tank 2944 blocks\n")
+        self.ends(["create", "small.pool", "tank", "77", str(LEAST)], 0, "created tank 384 blocks\n")
+        for name, size, letter in [("large.pool", 8_000_000, "a"), ("small.pool", 900_000, "b"), ("small.pool", 900_000, "c")]:
+            done = f"put {size} bytes in {-(-size // 64_512)} transactions\n"
+            if (found := self.put(["put", name, "1"], letter * size)) != (0, done, ""):
+                self.differ(f"a put of {size} bytes ends with", found)
+            self.ends(["get", name, "1"], 0, letter * size)
 
     def put(self, words, text):
         """How a run ends whose input has no newline at its end."""
@@ -267,6 +329,11 @@ class Commands(Judge):
         flawed(name, CONFIG_AT)
         lines[0] = lines[0].replace(f"size {SIZE}", "check")
         self.ends(["labels", name], 0, "".join(lines) + "active 4 of label 0\n")
+        pathlib.Path(name).write_bytes(bytes(6 * MIB))
+        zeros = "".join(f"label {n} config none zeros\nlabel {n} uberblocks 0\n" for n in range(4))
+        self.ends(["labels", name], 0, zeros + "active none\n")
+        os.truncate(name, 6 * MIB - 1)
+        self.ends(["labels", name], 1, errors="ztxg: refused 8 BadGeometry\n")
 
     def endings(self):
         """A script that stops at a refusal, one that syncs, and commits that aren't durable."""
@@ -434,6 +501,35 @@ class Commands(Judge):
                 status, _, errors = self.run(words, "import 1048576\nstatus\n", out=full)
                 if status != 3 or errors and "--" not in words[-1]:
                     self.differ(words, "into a full output ends with", (status, errors))
+            # Only the line is missing: what it would tell of is done.
+            self.run(["put", "full.pool", "7"], "hello", out=full)
+            self.ends(["get", "full.pool", "7"], 0, "hello\n")
+            self.run(["rm", "full.pool", "7"], out=full)
+            self.ends(["get", "full.pool", "7"], 1, errors="ztxg: refused 9 NoObject\n")
+
+    def failed_streams(self):
+        """A script whose input fails after some bytes, or whose output after some answers: nothing more is printed."""
+        line, answer = b"create t 77\n", "refused 8 BadGeometry\n"
+        for count, rest in [(0, b""), (0, line[:6]), (1, b""), (1, line[:6]), (2, b""), (2, line[:11]), (3, b"")]:
+            # What the other end wrote is read. Since it leaves a byte unread, the next read fails.
+            ours, theirs = socket.socketpair()
+            ours.sendall(line * count + rest)
+            theirs.send(b"x")
+            ours.close()
+            with theirs:
+                ran = subprocess.run([self.ztxg, "script", "0", "-"], stdin=theirs, capture_output=True, timeout=SECONDS)
+            self.runs += 1
+            if (ran.returncode, ran.stdout, ran.stderr) != (3, answer.encode() * count, b""):
+                self.differ(f"a script whose input fails after {count} lines ends with", ran)
+        for count in range(3):
+            self.runs += 1
+            with Conversation([self.ztxg, "script", "0", "-"], SECONDS) as running:
+                found = [running.ask(line[:-1]) for _ in range(count)]
+                running.process.stdout.close()
+                running.process.stdin.write(line)
+                status = running.process.wait(SECONDS)
+            if (status, found) != (3, [answer] * count):
+                self.differ(f"a script whose output fails after {count} answers ends with", status, found)
 
     def closed_streams(self):
         """A standard stream that is closed doesn't give its place to the pool's file: no text goes there."""
@@ -473,6 +569,18 @@ class Commands(Judge):
             found = self.run(loaded, seconds=LOAD_SECONDS)
             if found != (0, f"committed {17 + 16 * int(count)}\ndigest {digest}\n", ""):
                 self.differ(loaded, "ends with", found)
+        # A reading of the rules in another language has this digest, too. 32 bits don't hold the seed.
+        loaded = ["load", self.make("load.pool"), "--workers", "2", "--ops", "17", "--seed", str(2**63 + 6)]
+        digest = "19706f79f345039a3c33694766bd726609acfd08cc942250317488d097ec0e98"
+        self.ends(loaded, 0, f"committed 289\ndigest {digest}\n", seconds=LOAD_SECONDS)
+        # A create is charged 8,192 bytes, and these writes 20,480 bytes each.
+        digests = dict(table("| N | digest |"))
+        for count, dirty in [("0", 8_192), ("8", 20_480)]:
+            loaded = ["load", self.make("load.pool"), "--workers", "2", "--ops", count, "--seed", "5", "--dirty"]
+            self.ends([*loaded, str(dirty - 1)], 1, errors="ztxg: refused 17 Throttled\n")
+            self.make("load.pool")
+            done = f"committed {17 + 16 * int(count)}\ndigest {digests[count]}\n"
+            self.ends([*loaded, str(dirty)], 0, done, seconds=LOAD_SECONDS)
         main, other = pty.openpty()
         words = [self.ztxg, "load", self.make("load.pool"), "--workers", "2", "--ops", "8", "--seed", "5"]
         with subprocess.Popen(words, stdout=subprocess.PIPE, stderr=other) as running:
@@ -518,9 +626,12 @@ def main(ztxg):
     with tempfile.TemporaryDirectory() as folder:
         os.chdir(folder)
         judge.new_files()
+        judge.synced_bytes()
         judge.kept_bytes()
         judge.pools()
         judge.objects()
+        judge.parts()
+        judge.long_puts()
         judge.labels()
         judge.endings()
         judge.waits()
@@ -529,6 +640,7 @@ def main(ztxg):
         judge.unusable_files()
         judge.denied_files()
         judge.full_output()
+        judge.failed_streams()
         judge.closed_streams()
         judge.scripts()
         judge.loads()

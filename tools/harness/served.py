@@ -7,11 +7,12 @@ from tools import Failed
 
 
 class Served:
-    """A process that serves a pool."""
+    """A process that serves a pool. It may get options of `serve`, and what `subprocess.Popen` takes besides."""
 
-    def __init__(self, ztxg, file):
+    def __init__(self, ztxg, file, *options, **process):
         pipe = subprocess.PIPE
-        self.process = subprocess.Popen([ztxg, "serve", file], stdin=pipe, stdout=pipe, stderr=pipe)
+        words = [ztxg, "serve", file, *options]
+        self.process = subprocess.Popen(words, stdin=pipe, stdout=pipe, stderr=pipe, **process)
 
     def send(self, content):
         self.process.stdin.write(content)

@@ -3,12 +3,13 @@ import random
 import unittest
 
 from tools.checks.hostile import Expected
-from tools.model.layout import DATA, DIRECTORY, INDIRECT, ROOT
+from tools.model.layout import DATA, DIRECTORY, INDIRECT, MIB, ROOT
 from tools.model.pool_image import mount, read_pool, show_lines
 from tools.rows import hostile_images, hostile_logs
 from tools.rows.hostile_edits import Edits
 from tools.rows.hostile_images import Tank
 from tools.rows.hostile_logs import LONG, PARTS, SECOND, THIRD
+from tools.rows.many_groups import many_groups
 
 
 class Images(unittest.TestCase):
@@ -33,6 +34,14 @@ class Images(unittest.TestCase):
         """The sum is that of the file that a program of version 1 made by the same script."""
         checksum = "b1eea58176b5353f05443cc3f49f05b5018642ae604881fbadde2040595bf53e"
         self.assertEqual(hashlib.sha256(Tank(version=1).content).hexdigest(), checksum)
+
+    def test_130_groups(self):
+        """The sum is by another writer of the formats, of a pool that is created at moment 5, imported at 6, and synced at
+        7. The last three uberblocks lie in slots 0 to 2."""
+        checksum = "6f99c930a92c98708d22ef387c7bb268fe5d774ff34fa41d2fdf60846e7865c2"
+        image = many_groups(6 * MIB, 5, 6, 7, range(10, 131))
+        self.assertEqual(hashlib.sha256(image.content).hexdigest(), checksum)
+        self.assertEqual(show_lines(mount(read_pool(image)))[2:5], ["group 130", "import 1", "blocks 384 used 4"])
 
     def test_the_blocks_of_a_long_record_are_used_if_it_is_whole(self):
         """Beside the four blocks of the tree."""
