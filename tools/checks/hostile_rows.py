@@ -2,9 +2,10 @@
 
 The images are those of `tools/rows/hostile_images.py`, `hostile_logs.py` and `hostile_levels.py`, each with what
 `check` has to print, and the name. `show` and an import have to agree: they mount the same group, name and records, or
-are refused with the same kind and address. A refused import leaves the file as it was. Another one leaves the name in
-the configs of all four labels, and an uberblock of the version that is written. The file before the edits is also made
-without the program, byte for byte.
+are refused with the same kind and address. What else they mount is worked out by `tools/model/pool_image.py`: the used
+blocks, the objects with their lengths, the lowest free block for the log, and how many blocks are free then. A refused
+import leaves the file as it was. Another one leaves the name in the configs of all four labels, and an uberblock of the
+version that is written. The file before the edits is also made without the program, byte for byte.
 
 The first difference ends it with status 1. The end prints how many images were judged.
 """
@@ -12,11 +13,11 @@ The first difference ends it with status 1. The end prints how many images were 
 import pathlib
 
 from tools import Failed
-from tools.harness.pool_files import create, pool_file
+from tools.harness.pool_files import IN_MEMORY, create, pool_file
 from tools.harness.program import add_program, run
 from tools.model.layout import VERSION
 from tools.model.pool_bytes import Config
-from tools.model.pool_image import Image
+from tools.model.pool_image import Image, free_places, mount, read_pool, show_lines
 from tools.rows import hostile_images, hostile_levels, hostile_logs
 from tools.rows.hostile_images import GUID, SIZE, Tank
 from tools.rows.hostile_levels import Tall
@@ -58,7 +59,7 @@ def judge_row(ztxg, file, image, line, name="tank"):
     if refused:
         return judge_refused(ztxg, file, image, refused)
     _, _, group, _, records = line.split()
-    return judge_clean(ztxg, file, int(group), records, name)
+    return judge_clean(ztxg, file, image, int(group), records, name)
 
 
 def judge_refused(ztxg, file, image, refused):
@@ -70,20 +71,33 @@ def judge_refused(ztxg, file, image, refused):
     return None if pathlib.Path(file).read_bytes() == bytes(image.content) else "import: the file"
 
 
-def judge_clean(ztxg, file, group, records, name):
+def judge_clean(ztxg, file, image, group, records, name):
     """How `show` and an import differ on an image that they mount, or what the import leaves, or None."""
+    before = mount(read_pool(image))
     shown = [f"name {name}", f"group {group}", f"records {records}"]
     found = run([ztxg, "show", file], seconds=SECONDS).in_lines()
-    if (found.status, [*found.out[:1], *found.out[2:6:3]], found.errors) != (0, shown, []):
+    if found != (0, show_lines(before), []) or [*found.out[:1], *found.out[2:6:3]] != shown:
         return f"show: {found}"
-    answers = [f"synced {group + 4} open {group + 5} records {records}", f"name {name}"]
-    if (found := import_file(ztxg, file, ["name"])) != (0, answers, []):
-        return f"import: {found}"
+    found = import_file(ztxg, file, ["name", "status"])
     left = Image(bytearray(pathlib.Path(file).read_bytes()))
-    if left.configs() != [Config(GUID, group + 4, name.encode())] * 4:
+    after = mount(read_pool(left))
+    free = after.blocks - len(after.nodes) - 1
+    status = f"synced {group + 4} syncing - middle - open {group + 5} dirty 0 free {free} available {free}"
+    answers = [f"synced {group + 4} open {group + 5} records {records}", f"name {name}", status]
+    if found != (0, answers, []) or after.objects != before.objects:
+        return f"import: {found}"
+    return difference_left(left, before, name)
+
+
+def difference_left(left, before, name):
+    """What an import leaves otherwise than it has to, or None. The first free block behind those that the records change
+    is the log's."""
+    read, group = before.uberblock, before.uberblock.group + 4
+    if left.configs() != [Config(GUID, group, name.encode())] * 4:
         return "import: the configs"
-    active = left.active()
-    return None if (active.group, active.version) == (group + 4, VERSION) else f"import: {active}"
+    active, log = left.active(), free_places(before)[before.needed - 1]
+    found = active.group, active.version, active.import_number, active.log_address
+    return None if found == (group, VERSION, read.import_number + 1, log) else f"import: {active}"
 
 
 def import_file(ztxg, file, lines):
@@ -97,7 +111,7 @@ def add_arguments(parser):
 
 def main(ztxg):
     rows = all_rows()
-    with pool_file() as file:
+    with pool_file(IN_MEMORY) as file:
         make_pool(ztxg, file, hostile_images.script(), 9, Tank())
         make_pool(ztxg, file, hostile_levels.script(), 10, Tall())
         for title, make, line, *names in rows:

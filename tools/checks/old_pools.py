@@ -21,8 +21,8 @@ from tools.harness.judge import Judge
 from tools.harness.pool_files import IN_MEMORY, SIZE, pool_file
 from tools.harness.program import add_program, run
 from tools.model.contents import digest
-from tools.model.layout import AREA, BLOCK, CONFIG_AT, SLOT, VERSION, label_places, slot_places
-from tools.model.pool_image import Image, mount, read_pool
+from tools.model.layout import BLOCK, CONFIG_AT, SLOT, VERSION, label_places, slot_places
+from tools.model.pool_image import Image, free_places, mount, read_pool
 from tools.rows.crash_rows import some_strings
 from tools.rows.old_pools import POOLS
 from tools.rows.script_row import all_strings
@@ -36,9 +36,8 @@ FLUSH = ("fsync", 0, 0)
 def calls_of(mounted):
     """The calls of an import of a pool that mounts this: a flush; the blocks of its records, at the lowest free places,
     and a flush; the configs of labels 0 and 2, the uberblocks, and the configs of labels 1 and 3, each with a flush."""
-    used, group = {node.address for node in mounted.nodes}, mounted.uberblock.group + 4
-    free = [place for place in range(AREA, AREA + BLOCK * mounted.blocks, BLOCK) if place not in used]
-    blocks = [("write", place, BLOCK) for place in free[: mounted.needed - 1]]
+    group = mounted.uberblock.group + 4
+    blocks = [("write", place, BLOCK) for place in free_places(mounted)[: mounted.needed - 1]]
     configs = [("write", label + CONFIG_AT, BLOCK) for label in label_places(SIZE)]
     uberblocks = [("write", place, SLOT) for place in slot_places(SIZE, group)]
     return [FLUSH, *blocks, FLUSH, *configs[::2], FLUSH, *uberblocks, FLUSH, *configs[1::2], FLUSH]

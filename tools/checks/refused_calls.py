@@ -50,6 +50,7 @@ CREATE = [("c", 2, 0, b"")]
 # What a served pool says at its end that was suspended.
 SUSPENDED = ("ztxg: refused 4 Flush\n", "ztxg: refused 5 Suspended\n")
 SHORTER = r"ztxg: refused (3 Write|5 Suspended)\nztxg: cause: (write at byte \d+|flush): the file has become shorter\n"
+NEW = "name tank\nguid 77\ngroup 4\nimport 0\nblocks 896 used 0\nrecords 0\nobjects 0\n"
 # The first write of an import is that of the config of label 0.
 FIRST_WRITE = f"write at byte {CONFIG_AT}: {EIO}"
 
@@ -113,8 +114,12 @@ class RefusedCalls(Judge):
             told = rf"ztxg: refused 2 Read\nztxg: cause: read at byte \d+: {re.escape(EIO)}\n"
             if (ran.status, ran.out) != (1, b"") or not re.fullmatch(told, ran.error_text()):
                 self.differ(f"read 1 of {words} ends with", ran)
+        # Four arrays of uberblocks and four configs are read, and no tree.
+        for at in range(1, 10):
+            refused = (1, "", f"ztxg: refused {REFUSALS['read']}\n") if at < 9 else (0, NEW, "")
+            self.ends(["show", file], "read", at, *refused)
         if pathlib.Path(file).read_bytes() != made:
-            self.differ("a run whose first call is refused changes the file")
+            self.differ("a run whose call is refused before its first write changes the file")
 
     # A served pool
 

@@ -11,6 +11,7 @@ import struct
 from tools.model.charges import count_blocks
 from tools.model.contents import apply, rename
 from tools.model.layout import (
+    AREA,
     ARRAY_AT,
     BLOCK,
     CONFIG_AT,
@@ -332,6 +333,13 @@ def mount(found):
     needed, _ = count_blocks(walk.objects, walk.records, entries, walk.strips)
     nodes = walk.nodes + [node for piece in chain for node in piece.nodes]
     return Mount(name, active, block_count(found.image.size), nodes, len(above), objects, needed + 1)
+
+
+def free_places(mount):
+    """The blocks that neither the tree nor the log of a pool has, rising. An import takes them for those that its records
+    change, and the next one for its log."""
+    used = {node.address for node in mount.nodes}
+    return [place for place in range(AREA, AREA + BLOCK * mount.blocks, BLOCK) if place not in used]
 
 
 # What the program prints

@@ -66,8 +66,9 @@ class Tank(Image):
         self.record = 0
         self.data = b"abcd"
         self.indirect = lambda data: data.bytes()
-        self.length = 4
+        self.present, self.length = 1, 4
         self.entry = lambda indirect: indirect
+        self.entry_2 = b""
         self.root = lambda directory: directory.bytes()
         self.write()
 
@@ -80,8 +81,8 @@ class Tank(Image):
         """Writes the tree, each block with its check, and the uberblock of group 9 with the pointer to its root."""
         data = self.put_block(DATA, data_number(1, self.record), DATA_AT, self.data)
         indirect = self.put_block(INDIRECT, 1, INDIRECT_AT, self.indirect(data))
-        entry = numbers(1, self.length) + self.entry(indirect).bytes()
-        directory = self.put_block(DIRECTORY, 0, DIRECTORY_AT, bytes(64) + entry)
+        entry = numbers(self.present, self.length) + self.entry(indirect).bytes()
+        directory = self.put_block(DIRECTORY, 0, DIRECTORY_AT, bytes(64) + entry + self.entry_2)
         written = self.put_block(ROOT, 0, ROOT_AT, self.root(directory))
         self.put_uberblock(uberblock(GROUP, GUID, root or written, 1, LOG_AT, version=self.version))
         return self
@@ -118,7 +119,14 @@ def without_root():
     return Tank().write(root._replace(address=0))
 
 
-def torn():
+def torn(address):
+    """The block at this address has other bytes."""
+    tank = Tank()
+    tank.put(address, bytes([0xAA]) * BLOCK)
+    return tank
+
+
+def without_uberblocks():
     tank = Tank()
     for group in (4, 8, 9):
         for place in slot_places(SIZE, group):
@@ -139,6 +147,9 @@ def naming(content):
     return ("n", NAMED, 0, content)
 
 
+# A pointer to nothing that isn't all zeros.
+ODD_NONE = Pointer(0, GROUP, bytes(32)).bytes()
+
 # What is edited, what `check` prints, and the name if it isn't `tank`.
 ROWS = [
     ("nothing", Tank, "clean group 9 records 0"),
@@ -146,6 +157,42 @@ ROWS = [
         "the root's pointer 0 names the root itself",
         lambda: edited(root=lambda directory: directory._replace(address=ROOT_AT).bytes()),
         "damaged 3 4210688",
+    ),
+    (
+        "the root's pointer 2 has address 0 and birth 9",
+        lambda: edited(root=lambda directory: directory.bytes() + bytes(48) + ODD_NONE),
+        "damaged 2 4210688",
+    ),
+    (
+        "the root's pointer 1 names directory 0",
+        lambda: edited(root=lambda directory: bytes(48) + directory.bytes()),
+        "damaged 3 4206592",
+    ),
+    ("the root is torn", lambda: torn(ROOT_AT), "damaged 2 4210688"),
+    ("the directory is torn", lambda: torn(DIRECTORY_AT), "damaged 3 4206592"),
+    ("the indirect block is torn", lambda: torn(INDIRECT_AT), "damaged 4 4202496"),
+    ("the record is torn", lambda: torn(DATA_AT), "damaged 5 4198400"),
+    ("entry 1 has two levels and four bytes", lambda: edited(present=2), "damaged 3 4206592"),
+    ("entry 2 is absent and has a length", lambda: edited(entry_2=numbers(0, 1)), "damaged 3 4206592"),
+    (
+        "entry 1 has a byte more than a strip, and byte 4 of record 0 is 1",
+        lambda: edited(length=STRIP + 1, data=b"abcd\1"),
+        "damaged 3 4206592",
+    ),
+    (
+        "entry 1's pointer has address 0",
+        lambda: edited(entry=lambda indirect: indirect._replace(address=0)),
+        "damaged 3 4206592",
+    ),
+    (
+        "the indirect block's pointer 1 has address 0 and birth 9",
+        lambda: edited(indirect=lambda data: data.bytes() + ODD_NONE),
+        "damaged 4 4202496",
+    ),
+    (
+        "the indirect block's pointer 1 names record 0",
+        lambda: edited(indirect=lambda data: data.bytes() * 2),
+        "damaged 4 4202496",
     ),
     ("entry 1 has one level and a byte more than a strip", lambda: edited(length=STRIP + 1), "damaged 3 4206592"),
     ("entry 1 has the length of a strip", lambda: edited(length=STRIP), "clean group 9 records 0"),
@@ -164,11 +211,13 @@ ROWS = [
     ("the root pointer has address 0 and birth 9", without_root, "damaged 2 0"),
     ("a log block creates object 2 in group 10", lambda: Tank().log(), "clean group 9 records 1"),
     ("the same in group 9", lambda: Tank().log(group=9), "clean group 9 records 0"),
+    ("the same in group 8", lambda: Tank().log(group=8), "clean group 9 records 0"),
     ("the same with used 4,009", lambda: Tank().log(used=4_009), "clean group 9 records 0"),
     ("the same with record length 28", lambda: Tank().log(length=28), "clean group 9 records 0"),
     ("the same with record length and used 28", lambda: Tank().log(length=28, used=28), "clean group 9 records 0"),
     ("a log block writes to object 2", lambda: Tank().log(op=("w", 2, 0, b"x")), "damaged 6 4194304"),
-    ("all uberblocks are torn", torn, "no pool"),
+    ("a log block creates object 1, which is there", lambda: Tank().log(op=("c", 1, 0, b"")), "damaged 6 4194304"),
+    ("all uberblocks are torn", without_uberblocks, "no pool"),
     ("labels 0 and 2 have another name of group 9", lambda: even_configs(9), "clean group 9 records 0", "pond"),
     ("labels 0 and 2 have another name of group 10", lambda: even_configs(10), "clean group 9 records 0"),
     (
