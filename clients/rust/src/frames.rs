@@ -71,22 +71,28 @@ fn add_string(bytes: &mut Vec<u8>, content: &[u8]) {
     bytes.extend(content);
 }
 
-/// Asks a call, and returns what came of it: its number and the bytes of its answer. A refusal is an error.
-pub(crate) fn ask(input: &mut impl Write, output: &mut impl Read, call: u8, needs: &[u8]) -> Result<Answer, Error> {
+/// Asks a call by a request of this number, and returns the bytes of its answer. A refusal is an error.
+pub(crate) fn ask(
+    input: &mut impl Write,
+    output: &mut impl Read,
+    number: u64,
+    call: u8,
+    needs: &[u8],
+) -> Result<Answer, Error> {
     let size = HEAD + 9 + needs.len();
     let mut frame = Vec::with_capacity(size);
     frame.extend((size as u32).to_le_bytes());
     frame.extend(VERSION.to_le_bytes());
     frame.extend(REQUESTS.to_le_bytes());
     frame.extend(1_u32.to_le_bytes());
-    frame.extend(0_u64.to_le_bytes());
+    frame.extend(number.to_le_bytes());
     frame.push(call);
     frame.extend(needs);
     input.write_all(&frame).and_then(|()| input.flush()).map_err(|_| Error::Ended)?;
-    read_answer(output, call)
+    read_answer(output, number, call)
 }
 
-fn read_answer(output: &mut impl Read, call: u8) -> Result<Answer, Error> {
+fn read_answer(output: &mut impl Read, number: u64, call: u8) -> Result<Answer, Error> {
     let mut head = [0; HEAD];
     output.read_exact(&mut head).map_err(|_| Error::Ended)?;
     let mut head = Answer::new(head.to_vec());
@@ -100,7 +106,7 @@ fn read_answer(output: &mut impl Read, call: u8) -> Result<Answer, Error> {
         return Err(Error::FrameRefused(count));
     }
     let mut answer = Answer::new(content);
-    if kind != ANSWERS || count != 1 || answer.u64()? != 0 {
+    if kind != ANSWERS || count != 1 || answer.u64()? != number {
         return Err(Error::Ended);
     }
     match answer.u8()? {

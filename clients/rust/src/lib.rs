@@ -79,6 +79,7 @@ pub struct Status {
 struct Pipes {
     input: ChildStdin,
     output: ChildStdout,
+    next_number: u64,
     is_broken: bool,
 }
 
@@ -87,12 +88,15 @@ impl Pipes {
         if self.is_broken {
             return Err(Error::Ended);
         }
-        let came = frames::ask(&mut self.input, &mut self.output, call, needs).and_then(|mut answer| {
+        // A panic from here on leaves an answer unread. So where the next one begins is not known then.
+        self.is_broken = true;
+        let number = self.next_number;
+        self.next_number += 1;
+        let came = frames::ask(&mut self.input, &mut self.output, number, call, needs).and_then(|mut answer| {
             let value = read(&mut answer)?;
             answer.end()?;
             Ok(value)
         });
-        // Where the next answer begins is not known then.
         self.is_broken = matches!(came, Err(Error::Ended));
         came
     }
@@ -119,7 +123,7 @@ impl Pool {
             .spawn()
             .map_err(Error::System)?;
         let pipes = match (process.stdin.take(), process.stdout.take()) {
-            (Some(input), Some(output)) => Some(Mutex::new(Pipes { input, output, is_broken: false })),
+            (Some(input), Some(output)) => Some(Mutex::new(Pipes { input, output, next_number: 0, is_broken: false })),
             _ => None,
         };
         Ok(Pool { process, pipes })
