@@ -34,11 +34,8 @@ pub mod OwnRefusals
 pub mod Refused
 pub mod CachedImports
 pub mod ShownMounts
-pub mod SpareRoom
 pub mod UsedBlocks
 pub mod ChainRecords
 pub mod Inspections
 pub mod PoolDamages
 pub mod Views
-pub mod TakenBlocks
-pub mod Promises

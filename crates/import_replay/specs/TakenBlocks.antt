@@ -6,10 +6,8 @@ use Rattle.std.specs.FinSet.{FinSet}
 use Rattle.base.specs.common.Rising.{rising}
 use Rattle.base.specs.tree.Mount.{IsFound, IsUsed, records_above}
 use Rattle.base.specs.declared.pointer.Pointer.{Pointer}
-use Rattle.base.specs.disk.Disk.{Disk, bytes_of}
 use Rattle.base.specs.formats.Chain.{LogPiece}
-use Rattle.base.specs.formats.Fields.{part}
-use Rattle.base.specs.formats.Geometry.{IsBlockAddress, block_address, block_count, block_size}
+use Rattle.base.specs.formats.Geometry.{IsBlockAddress, block_count}
 use Rattle.base.specs.formats.Uberblocks.{Uberblock}
 use Rattle.base.specs.history.Contents.{Contents}
 use Rattle.base.specs.tree.Places.{Place, has_block}
@@ -36,10 +34,3 @@ pub record AreForEachPlace (image : List ℕ) (u : Uberblock) (chain : List LogP
   pub synced : Contents
   pub found : IsFound image u synced chain
   pub each : map (λ (place : Place). (pointers place).address) (replayed_places image u chain synced) ≡ addresses
-
--- block k has the same bytes on both disks, or other ones
-abbrev pub KeepsBlock : Disk → Disk → ℕ → Type 0
-KeepsBlock old new k = part (bytes_of new.now) (block_address k) block_size ≡ part (bytes_of old.now) (block_address k) block_size
-
-abbrev pub ChangesBlock : Disk → Disk → ℕ → Type 0
-ChangesBlock old new k = KeepsBlock old new k → ⊥

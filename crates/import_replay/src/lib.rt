@@ -3,7 +3,6 @@
 //! `create` makes a new pool, `import` opens the one that is there, and `inspect` reports what `import` would mount.
 #![tactic(auto)]
 
-mod clients;
 mod creation;
 mod damages;
 mod finding;

@@ -1,14 +1,17 @@
 -- Blocks that are taken from the free ones, or come back to them, one after another.
-use Rattle.std.proofs.Common.{◌≡◌, ℕ, ◌+◌, ◌<◌, Bool, true, false, not, ◌&&◌, ◌||◌, List, [], ◌∷◌, ◌++◌, length, map, take, refl, sym, ◌∙◌, ap, arith, add-zero}
+use Rattle.std.proofs.Common.{◌≡◌, ℕ, ◌+◌, ◌<◌, Bool, true, false, not, ◌&&◌, ◌||◌, List, [], ◌∷◌, ◌++◌, length, map, nat_eq, take, refl, sym, ◌∙◌, ap, arith, add-zero}
 use Rattle.std.specs.Prelude.{get_or}
 use Rattle.std.specs.List.{list_any}
 use Rattle.std.specs.Ordering.{nat_cmp, eq_by_cmp}
 use Rattle.std.proofs.lemmas.List.{length-append, length-map, length-take-le, take_more, map-append}
 use Rattle.std.proofs.lemmas.List.Folds.{list_any-append}
+use Rattle.std.proofs.lemmas.Bool.{eq-eqb}
 use Rattle.std.proofs.lemmas.Cmp.{nat_cmp_total}
+use Rattle.std.proofs.Math.Bool.{and-false}
 use Rattle.std.specs.FinSet as set
-use Rattle.std.specs.FinSet.{FinSet, contains-empty, contains-insert, contains-remove, contains-from_list, contains-difference, contains-union, same_set, nat_cmp-IsAntisymmetric}
+use Rattle.std.specs.FinSet.{FinSet, contains-empty, contains-insert, contains-remove, contains-from_list, contains-from_list_nat, contains-difference, contains-union, same_set, nat_cmp-IsAntisymmetric}
 use Rattle.base.specs.formats.Geometry.{block_address}
+use Rattle.base.proofs.common.KeptLists.{any_at}
 use Rattle.space.specs.FreeSets.{FreeSpace, after_give, after_sync_take}
 use Rattle.tree_plans.specs.declared.planner.PlannedBlock.{PlannedBlock}
 use Rattle.tree_plans.specs.Plans.{address_of}
@@ -97,3 +100,10 @@ pub taken_so_far : (first old : FreeSpace) (blocks : List PlannedBlock) (i : ℕ
 taken_so_far first old blocks i low none so_far =
     let count : length (map address_of (take i blocks)) ≡ i = length-map (take i blocks) address_of ∙ length-take-le i blocks (omega (arith, low)) in
     omega (arith, none, count, ap (λ (s : FreeSpace). s.taken) so_far)
+
+-- an address that a sync takes is free no more
+pub taken_away : (free : FinSet nat_cmp) (address : ℕ) → set.contains (set.difference free (set.from_list (address ∷ []))) address ≡ false
+taken_away free address =
+    contains-difference nat_cmp_total free (set.from_list (address ∷ [])) address
+    ∙ ap (λ (b : Bool). set.contains free address && not b) (contains-from_list_nat (address ∷ []) address ∙ any_at (λ y. nat_eq y address) (address ∷ []) 0 address refl (eq-eqb address address refl))
+    ∙ and-false (set.contains free address)

@@ -22,7 +22,6 @@ pub mod FreeBlocks
 pub mod GivenLogs
 pub mod Aborts
 pub mod Callers
-pub mod Passed
 pub mod syncs
 pub mod Receipts
 pub mod DueSteps

@@ -5,7 +5,6 @@ pub mod Answered
 pub mod Seen
 pub mod AnswersSeen
 pub mod ListedObjects
-pub mod ObjectClients
 pub mod Tried
 pub mod InTime
 pub mod CountedTries
@@ -21,8 +20,6 @@ pub mod FreshLocks
 pub mod Released
 pub mod Fetched
 pub mod FetchesSeen
-pub mod FetchClients
-pub mod AnswerClients
 pub mod Served
 pub mod TransactsSeen
 mod TransactsShort
@@ -32,15 +29,10 @@ pub mod TransactsRelease
 pub mod LongWrites
 pub mod OneTurn
 pub mod TransactTurns
-mod Waited
-mod WaitsSeen
+pub mod Waited
+pub mod WaitsSeen
 mod DurableLogs
-mod FsyncedAll
+pub mod FsyncedAll
 mod TransactLoops
 mod TransactsDurably
-pub mod TransactClients
-pub mod LongWriteClients
 mod Looped
-mod WaitClients
-mod OwnWays
-mod LoopClients

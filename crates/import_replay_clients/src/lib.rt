@@ -1,0 +1,8 @@
+//! What callers of `import_replay` rest on: one function for each promise of its calls, proved from the contract of the
+//! call alone. So it is refused as soon as that contract says less.
+#![tactic(auto)]
+
+mod creates;
+mod imports;
+mod replays;
+mod reports;

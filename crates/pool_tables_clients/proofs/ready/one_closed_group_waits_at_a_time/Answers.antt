@@ -1,0 +1,15 @@
+use Rattle.std.proofs.Common.{refl}
+use Rattle.base.specs.declared.error.PoolError.TheVariants as error
+use Rattle.pool_tables.specs.Shows.{pool_shown}
+use Rattle.pool_tables.specs.StepAnswers.{group_number}
+use Rattle.pool_tables_clients.proofs.Callers.{refused_as}
+use Rattle.pool_tables.proofs.OfNoDevice.{some_past}
+use Rattle.pool_tables_clients.proofs.ready.one_closed_group_waits_at_a_time.Goals as goal
+
+pub returns-clause-refused : goal.returns-clause-refused
+returns-clause-refused c =
+    (refused_as group_number _ error.NotReady c.close_group.result (pool_shown c.args.pool.now) (pool_shown c.close_group.new.self) _ _ _ _ (rw (c.requires.running, c.requires.closed) refl) (c.close_group.ensures.step (some_past (pool_shown c.args.pool.now))).1).0
+
+pub returns-clause-unchanged : goal.returns-clause-unchanged
+returns-clause-unchanged c =
+    (refused_as group_number _ error.NotReady c.close_group.result (pool_shown c.args.pool.now) (pool_shown c.close_group.new.self) _ _ _ _ (rw (c.requires.running, c.requires.closed) refl) (c.close_group.ensures.step (some_past (pool_shown c.args.pool.now))).1).1

@@ -1,0 +1,12 @@
+//! What callers of `pool_tables` rest on: one function for each promise of its calls, proved from the contract of the
+//! call alone. So it is refused as soon as that contract says less.
+#![tactic(auto)]
+
+mod duties;
+mod locks;
+mod logs;
+mod reads;
+mod ready;
+mod refused;
+mod syncs;
+mod transactions;

@@ -1,4 +1,0 @@
-use Rattle.pool_threads.proofs.clients.a_begin_takes_turns.Goals as goal
-
-pub returns : goal.returns
-returns g c = let made = c.begin.ensures.made.made in (made.had, made.took, made.turn, made.met_none)

@@ -1,4 +1,0 @@
-use Rattle.pool_threads.proofs.clients.an_abort_takes_one_turn.Goals as goal
-
-pub returns : goal.returns
-returns g c = let made = c.abort.ensures.made.made in (made.took, made.turn, made.met_none)

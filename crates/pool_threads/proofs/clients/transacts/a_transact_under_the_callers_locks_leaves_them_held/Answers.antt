@@ -1,5 +1,0 @@
-use Rattle.pool_threads.proofs.TransactClients.{keeps_locks}
-use Rattle.pool_threads.proofs.clients.transacts.a_transact_under_the_callers_locks_leaves_them_held.Goals as goal
-
-pub returns : goal.returns
-returns g c = keeps_locks c.args.owner c.args.ops c.args.handle.now c.transact_locked.new.self c.transact_locked.ensures.released

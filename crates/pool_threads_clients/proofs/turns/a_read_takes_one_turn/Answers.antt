@@ -1,0 +1,4 @@
+use Rattle.pool_threads_clients.proofs.turns.a_read_takes_one_turn.Goals as goal
+
+pub returns : goal.returns
+returns g c = let made = c.read.ensures.made.made in (made.took, made.turn, made.met_none)

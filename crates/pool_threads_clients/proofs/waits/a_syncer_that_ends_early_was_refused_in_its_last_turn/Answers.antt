@@ -1,0 +1,7 @@
+use Rattle.pool_tables.specs.declared.duty.Duty.TheVariants as duty
+use Rattle.pool_threads.specs.Handles.{moment_of}
+use Rattle.pool_threads_clients.proofs.LoopClients.{ended_early}
+use Rattle.pool_threads_clients.proofs.waits.a_syncer_that_ends_early_was_refused_in_its_last_turn.Goals as goal
+
+pub returns : goal.returns
+returns g c = ended_early (duty.Sync (moment_of c.args.handle.now)) c.syncer.result c.args.handle.now c.syncer.new.self c.syncer.ensures.worked

@@ -1,0 +1,85 @@
+//! What callers rest on of `fetch`.
+
+ghost use Rattle.std.specs.Prelude.{◌≡◌, ◌⊎◌, IfErr, IfOk, IsTrue, Result};
+ghost use Rattle.base.specs.declared.error.PoolError.{PoolError};
+ghost use Rattle.base.specs.declared.error.PoolError.TheVariants as error;
+ghost use Rattle.base.specs.declared.names.LockId.{LockId};
+ghost use Rattle.base.specs.declared.range.Mode.TheVariants.{Reader};
+ghost use Rattle.base.specs.declared.step.Reply.TheVariants as reply;
+ghost use Rattle.base.specs.declared.step.Step.TheVariants as step;
+ghost use Rattle.base.specs.steps.Refusals.{object_range};
+ghost use Rattle.base.specs.steps.Runs.{reply_of};
+ghost use Rattle.base.specs.steps.Seen.{IsReadBetween};
+ghost use Rattle.pool_threads.specs.Answers.{Makes, MakesAtLast, Sees};
+ghost use Rattle.pool_threads.specs.Handles.{kin_of};
+ghost use Rattle.pool_threads.specs.declared.handle.Handle.{Handle};
+
+use base::{Bytes, ObjectId, Owner, PoolError, Range};
+use device_model::SectorDevice;
+use pool_threads::Handle;
+use std::sync::Wait;
+
+// These are all its steps: nothing lies between them but tries that were refused.
+fn a_fetch_locks_reads_and_unlocks<D: SectorDevice, W: Wait>(
+    rt: &W,
+    handle: &mut Handle<'_, D>,
+    owner: Owner,
+    object: ObjectId,
+    range: Range,
+) -> Result<Bytes, PoolError>
+    ensures { IfOk result (λ b. (id : LockId) × (answer : Result (Unit {0}) PoolError)
+        × (locked : Handle _ _) × (done : Handle _ _)
+        × MakesAtLast (step.Lock owner object range Reader) error.Busy (reply.Locked id)
+        handle.old locked
+        × Makes (step.Read owner object range) (reply.Bytes b) locked done
+        × Makes (step.Unlock owner id) (reply_of (λ _. reply.Done) answer) done handle.new) }
+{
+    handle.fetch(rt, owner, object, range)
+}
+
+// Under the name of the lock that it got, unless it was refused that.
+fn a_refused_fetch_unlocks_what_it_locked<D: SectorDevice, W: Wait>(
+    rt: &W,
+    handle: &mut Handle<'_, D>,
+    owner: Owner,
+    object: ObjectId,
+    range: Range,
+) -> Result<Bytes, PoolError>
+    ensures { IfErr result (λ e. MakesAtLast (step.Lock owner object range Reader) error.Busy
+        (reply.Refused e) handle.old handle.new
+        ⊎ ((id : LockId) × (answer : Result (Unit {0}) PoolError)
+        × (locked : Handle _ _) × (done : Handle _ _)
+        × MakesAtLast (step.Lock owner object range Reader) error.Busy (reply.Locked id)
+        handle.old locked
+        × Makes (step.Read owner object range) (reply.Refused e) locked done
+        × Makes (step.Unlock owner id) (reply_of (λ _. reply.Done) answer) done handle.new)) }
+{
+    handle.fetch(rt, owner, object, range)
+}
+
+fn a_fetch_has_the_bytes_of_its_range<D: SectorDevice, W: Wait>(
+    rt: &W,
+    handle: &mut Handle<'_, D>,
+    owner: Owner,
+) -> Result<Bytes, PoolError>
+    ensures bytes { IsTrue D.keeps_model → IfOk result
+        (λ b. Sees (IsReadBetween (object_range 5 2 9) b) handle.old handle.new) }
+    ensures number { kin_of handle.new ≡ kin_of handle.old }
+{
+    handle.fetch(rt, owner, ObjectId(5), Range { low: 2, high: 9 })
+}
+
+// Also if it is refused.
+fn a_fetch_of_the_only_handle_leaves_no_lock<D: SectorDevice, W: Wait>(
+    rt: &W,
+    handle: &mut Handle<'_, D>,
+    range: Range,
+) -> Result<Bytes, PoolError>
+    ensures locks { kin_of handle.old ≡ 0
+        → Sees (λ before after. after.shown.locks ≡ before.shown.locks) handle.old handle.new }
+    ensures contents { kin_of handle.old ≡ 0
+        → Sees (λ before after. after.shown.contents ≡ before.shown.contents)
+        handle.old handle.new }
+{
+    handle.fetch(rt, Owner(3), ObjectId(5), range)
+}
