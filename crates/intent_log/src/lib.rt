@@ -5,7 +5,6 @@
 mod ahead;
 mod begun;
 mod chains;
-mod clients;
 mod filling;
 mod kept_block;
 mod log;

@@ -1,8 +1,0 @@
-use Rattle.std.proofs.Common.{map}
-use Rattle.std.proofs.lemmas.Result.{IfOk-weaker}
-use Rattle.transactions.specs.Records.{record_fields}
-use Rattle.intent_log.proofs.Callers.{begun_is}
-use Rattle.intent_log.proofs.clients.packed.a_long_record_is_begun.Goals as goal
-
-pub returns : goal.returns
-returns c = IfOk-weaker c.pack.result _ _ (λ p is. begun_is c.args.place.now (map record_fields c.args.pending.now) p c.requires.long is) c.pack.ensures.packed

@@ -1,0 +1,2 @@
+pub mod ReadChains
+pub mod PackedBlocks

@@ -1,0 +1,12 @@
+use Rattle.std.proofs.Common.{map, ◌∙◌}
+use Rattle.std.proofs.lemmas.List.{length-map}
+use Rattle.std.proofs.lemmas.Result.{IfOk-weaker}
+use Rattle.transactions.specs.Records.{record_fields}
+use Rattle.intent_log_clients.proofs.PackedBlocks.{count_is, one_packed, short_of_total}
+use Rattle.intent_log_clients.proofs.packed.a_record_is_packed.Goals as goal
+
+pub returns : goal.returns
+returns c =
+    let records = map record_fields c.args.pending.now in
+    IfOk-weaker c.pack.result _ _ (λ p is. count_is c.args.place.now records 1 p (short_of_total records c.requires.short)
+    (λ count front. one_packed records count (length-map c.args.pending.now record_fields ∙ c.requires.one) front) is) c.pack.ensures.packed

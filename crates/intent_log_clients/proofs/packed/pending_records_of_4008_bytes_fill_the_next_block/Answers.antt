@@ -1,0 +1,8 @@
+use Rattle.std.proofs.Common.{◌∙◌, arith}
+use Rattle.std.proofs.lemmas.Result.{IfOk-weaker}
+use Rattle.intent_log_clients.proofs.PackedBlocks.{all_used}
+use Rattle.intent_log_clients.proofs.packed.pending_records_of_4008_bytes_fill_the_next_block.Goals as goal
+
+pub returns : goal.returns
+returns c =
+    IfOk-weaker c.pack_next.result _ _ (λ b is. all_used c.args.place.now c.args.log.now b c.requires.begun (omega (arith, c.requires.two)) (omega (arith, c.requires.full)) is ∙ c.requires.full) c.pack_next.ensures.packs
