@@ -1,11 +1,11 @@
 //! What callers rest on of payloads: what is written into one is read from it, in its place.
 
-ghost use Rattle.std.specs.Prelude.{◌≡◌, length, slice_index_or};
+ghost use Rattle.std.specs.Prelude.{◌≡◌, false, length, slice_index_or};
 ghost use Rattle.base.specs.formats.Fields.{no_pointer, pointer_in};
 ghost use Rattle.base.specs.formats.Limits.{payload_size, pointer_count};
 ghost use Rattle.tree_blocks.specs.Pointers.{pointer_of_list};
 
-use crate::forms::{Entry, pointer_in, read_entry, read_pointers};
+use crate::forms::{Entry, are_strips, pointer_in, read_entry, read_pointers};
 use crate::object_map::ObjectMap;
 use crate::payload::{empty_payload, pointer_payload, put_entry};
 use base::Pointer;
@@ -25,6 +25,15 @@ fn all_pointers_are_read_from_their_places(payload: &[u8], pointers: &mut [Point
     ensures { pointer_of_list pointers.new 83 ≡ pointer_in payload.now 83 }
 {
     read_pointers(payload, pointers)
+}
+
+// A top has no pointer to a strip that begins at the end of its object: the first strip has 338,688 bytes.
+fn a_top_names_no_strip_past_the_length(payload: &[u8]) -> bool
+    requires size { length payload.now ≡ payload_size }
+    requires second { (pointer_in payload.now 1).address ≡ 4202496 }
+    ensures { result ≡ false }
+{
+    are_strips(payload, 338_688)
 }
 
 // The entry of an object of five bytes is read as it was written. The object has one level.
