@@ -11,7 +11,7 @@ ghost use Rattle.tree_plans.specs.declared.planner.PlannedBlock.{PlannedBlock};
 ghost use Rattle.uberblocks.specs.Slots.{IsWithinLimits, fields_of};
 ghost use Rattle.sync.specs.Runs.{call_count};
 
-use crate::run::{SyncCall, SyncRun};
+use crate::run::{LabelStages, SyncCall, SyncRun};
 use base::{PoolError, PoolName};
 use device_model::SectorDevice;
 use labels::{Geometry, Stage};
@@ -82,6 +82,24 @@ fn a_flush_follows_the_last_block<D: SectorDevice>(
         → OnOk result ((D.disk device.new).now.unflushed ≡ []) }
     ensures refused { IfErr result (λ e. e ≡ PoolError.Flush) }
 {
+    run.next(device)
+}
+
+// In a sync that gives a name, a flush comes after the configs of the first two labels.
+fn a_flush_follows_the_first_configs<D: SectorDevice>(
+    run: &mut SyncRun,
+    device: &mut D,
+    stages: &LabelStages,
+) -> Result<SyncCall, PoolError>
+    requires sized { D.size device.old ≡ run.old.geometry }
+    requires written { run.old.done ≡ 3 }
+    requires none { vec_len run.old.blocks ≡ 0 }
+    requires named { run.old.stages ≡ Some stages.now }
+    ensures flushed { IsTrue D.keeps_model
+        → OnOk result ((D.disk device.new).now.unflushed ≡ []) }
+    ensures refused { IfErr result (λ e. e ≡ PoolError.Flush) }
+{
+    let _ = stages;
     run.next(device)
 }
 
