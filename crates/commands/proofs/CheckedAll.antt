@@ -22,7 +22,7 @@ use Rattle.import_replay.specs.PoolDamages.{IsOfNoDamage, IsSoundnessOf}
 use Rattle.import_replay.specs.declared.damages.Soundness.{Soundness}
 use Rattle.import_replay.specs.declared.damages.Soundness.TheVariants as soundness
 use Rattle.import_replay.proofs.PoolDamages.{mounted_whole}
-use Rattle.object_maps.specs.declared.damages.BlockDamage.{BlockDamage}
+use Rattle.trees.specs.declared.damages.BlockDamage.{BlockDamage}
 use Rattle.commands.specs.FoundDamages.{AreFoundIn, ListsFindings, WritesFindings, all_status, damage_finding, finding_line, finding_lines}
 use Rattle.commands.specs.Checks.{IsCheckRefusal, IsFoundIn, MountsWhole}
 use Rattle.commands.specs.declared.checks.Finding.{Finding}

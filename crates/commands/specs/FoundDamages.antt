@@ -10,7 +10,7 @@ use Rattle.base.specs.declared.names.Group.{Group}
 use Rattle.import_replay.specs.PoolDamages.{HasDamages}
 use Rattle.import_replay.specs.declared.damages.Soundness.{Soundness}
 use Rattle.import_replay.specs.declared.damages.Soundness.TheVariants as soundness
-use Rattle.object_maps.specs.declared.damages.BlockDamage.{BlockDamage}
+use Rattle.trees.specs.declared.damages.BlockDamage.{BlockDamage}
 use Rattle.commands.specs.Checks.{IsFoundIn, finding_status}
 use Rattle.commands.specs.declared.checks.Finding.{Finding}
 use Rattle.commands.specs.declared.checks.Finding.TheVariants.{Clean, Damaged, NoPool}

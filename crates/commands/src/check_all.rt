@@ -14,9 +14,9 @@ use crate::failure::{Failure, NotesRefusals, REFUSED, Verbosity, report_failure}
 use base::PoolError;
 use device_model::{FileRefusal, SectorDevice};
 use import_replay::{Soundness, find_damages};
-use object_maps::BlockDamage;
 use std::alloc::{AllocError, Global};
 use std::io::Write;
+use trees::BlockDamage;
 
 /// All that a check finds on a device: that its pool is whole, that there is none, or each damage of the tree, in the
 /// order of its walk. What lies below a damaged block isn't read. If the tree is whole and the log isn't, it is the

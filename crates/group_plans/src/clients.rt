@@ -1,122 +1,31 @@
 //! What callers rest on: one function for each promise of this crate's calls, proved from the contract of the call
 //! alone. So it is refused as soon as that contract says less.
 
-ghost use Rattle.std.specs.Prelude.{ℕ, ◌≡◌, ◌≢◌, ◌≤◌, ◌∷◌, [], IfErr, IfOk, IsTrue, None, Some, false, length, map, true};
+ghost use Rattle.std.specs.Prelude.{◌≡◌, ◌≤◌, IfOk, None, Some, false, length, map, true};
 ghost use Rattle.std.specs.Global.{Vec};
 ghost use Rattle.std.specs.FinMap as finite;
-ghost use Rattle.base.specs.declared.error.PoolError.TheVariants as error;
-ghost use Rattle.base.specs.common.Rising.{rising};
-ghost use Rattle.base.specs.formats.Geometry.{block_address, block_count};
-ghost use Rattle.base.specs.disk.Disk.{bytes_of};
-ghost use Rattle.base.specs.kept.PlacedTrees.{ArePlaced};
+ghost use Rattle.base.specs.formats.Geometry.{block_address};
 ghost use Rattle.base.specs.formats.Fields.{no_pointer};
 ghost use Rattle.base.specs.declared.pointer.Pointer.{Pointer};
 ghost use Rattle.object_maps.specs.ContentsShown.{contents_of};
-ghost use Rattle.tree_blocks.specs.Pointers.{pointer_of_list, pointers_of};
+ghost use Rattle.tree_blocks.specs.Pointers.{pointer_of_list};
 ghost use Rattle.tree_blocks.specs.Sources.{object_length};
 ghost use Rattle.tree_plans.specs.declared.changes.ObjectChanges.{ObjectChanges};
 ghost use Rattle.tree_blocks.specs.declared.object_map.ObjectMap.{ObjectMap};
 ghost use Rattle.tree_plans.specs.Changes.{has_two_levels, is_strip_touched};
-ghost use Rattle.tree_plans.specs.Plans.{address_of};
 ghost use Rattle.tree_plans.specs.Pointers.{entry_of};
 ghost use Rattle.tree_blocks.specs.ReadPointers.{records_among};
 ghost use Rattle.group_plans.specs.GroupPlans.{objects_with};
-ghost use Rattle.group_plans.specs.OldMaps.{HoldsTreeOf};
 
 use crate::old_maps::read_maps;
-use crate::planning::{GroupSource, plan_group};
+use crate::planning::GroupSource;
 use base::{ObjectId, PoolError};
 use checked_blocks::Frame;
 use extents::Extents;
 use object_maps::{BlockReader, Contents};
 use std::collections::BTreeMap;
-use transactions::Record;
 use tree_blocks::ObjectMap;
-use tree_plans::{ObjectChanges, TreePlan};
-
-// Blocks 0, 1 and 4 are free: a plan of two blocks takes blocks 0 and 1.
-fn a_group_takes_the_lowest_free_blocks<B: BlockReader>(
-    reader: &mut B,
-    before: &Frame,
-    source: &GroupSource<'_>,
-    records: &[Record],
-    extents: &Extents,
-    contents: &Contents,
-) -> Result<TreePlan, PoolError>
-    requires room { block_address before.now.blocks ≤ B.size reader.old }
-    requires area { before.now.blocks ≡ block_count source.now.geometry }
-    requires sized { source.now.free.now.blocks ≡ block_count source.now.geometry }
-    requires placed { ∥ ArePlaced (block_count source.now.geometry)
-        (pointers_of source.now.tree.now) ∥₁ }
-    requires free { rising source.now.free.now.free ≡ 4194304 ∷ 4198400 ∷ 4210688 ∷ [] }
-    ensures { IfOk result (λ p. length p.blocks.items ≡ 2
-        → map address_of p.blocks.items ≡ 4194304 ∷ 4198400 ∷ []) }
-{
-    plan_group(reader, before, source, records, extents, contents)
-}
-
-// The blocks of a tree that the device holds are whole: a plan finds none that is damaged.
-fn a_plan_over_a_tree_that_is_held_finds_no_damage<B: BlockReader>(
-    reader: &mut B,
-    before: &Frame,
-    source: &GroupSource<'_>,
-    records: &[Record],
-    extents: &Extents,
-    contents: &Contents,
-) -> Result<TreePlan, PoolError>
-    requires room { block_address before.now.blocks ≤ B.size reader.old }
-    requires area { before.now.blocks ≡ block_count source.now.geometry }
-    requires sized { source.now.free.now.blocks ≡ block_count source.now.geometry }
-    requires placed { ∥ ArePlaced (block_count source.now.geometry)
-        (pointers_of source.now.tree.now) ∥₁ }
-    requires keeps { IsTrue B.keeps_model }
-    requires held { HoldsTreeOf (bytes_of (B.disk reader.old).now) before.now
-        source.now.tree.now (contents_of contents.now).objects }
-    ensures { IfErr result (λ e. (kind address : ℕ) → e ≢ error.Damaged kind address) }
-{
-    plan_group(reader, before, source, records, extents, contents)
-}
-
-// A group without records leaves the root and writes nothing, whatever the device holds.
-fn a_group_without_records_leaves_the_root<B: BlockReader>(
-    reader: &mut B,
-    before: &Frame,
-    source: &GroupSource<'_>,
-    records: &[Record],
-    extents: &Extents,
-    contents: &Contents,
-) -> Result<TreePlan, PoolError>
-    requires room { block_address before.now.blocks ≤ B.size reader.old }
-    requires area { before.now.blocks ≡ block_count source.now.geometry }
-    requires sized { source.now.free.now.blocks ≡ block_count source.now.geometry }
-    requires placed { ∥ ArePlaced (block_count source.now.geometry)
-        (pointers_of source.now.tree.now) ∥₁ }
-    requires none { records.now ≡ [] }
-    ensures { IfOk result (λ p. (p.root ≡ source.now.tree.now.root)
-        × (length p.blocks.items ≡ 0)) }
-{
-    plan_group(reader, before, source, records, extents, contents)
-}
-
-// A plan writes nothing: the disk is as it was.
-fn a_plan_leaves_the_disk<B: BlockReader>(
-    reader: &mut B,
-    before: &Frame,
-    source: &GroupSource<'_>,
-    records: &[Record],
-    extents: &Extents,
-    contents: &Contents,
-) -> Result<TreePlan, PoolError>
-    requires room { block_address before.now.blocks ≤ B.size reader.old }
-    requires area { before.now.blocks ≡ block_count source.now.geometry }
-    requires sized { source.now.free.now.blocks ≡ block_count source.now.geometry }
-    requires placed { ∥ ArePlaced (block_count source.now.geometry)
-        (pointers_of source.now.tree.now) ∥₁ }
-    requires keeps { IsTrue B.keeps_model }
-    ensures { B.disk reader.new ≡ B.disk reader.old }
-{
-    plan_group(reader, before, source, records, extents, contents)
-}
+use tree_plans::ObjectChanges;
 
 // An object of 8,064 bytes has the records 0 and 1: the map that is read of it has no pointer to record 2.
 fn a_map_has_no_pointer_past_the_end<B: BlockReader>(

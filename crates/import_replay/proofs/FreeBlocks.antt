@@ -17,8 +17,8 @@ use Rattle.tree_blocks.specs.declared.tree.Tree.{Tree}
 use Rattle.tree_blocks.specs.Pointers.{pointers_of}
 use Rattle.space.specs.FreeSets.{FreeSpace, IsLowestFree, after_take, is_free}
 use Rattle.tree_plans.specs.declared.planner.PlannedBlock.{PlannedBlock}
-use Rattle.object_maps.specs.FreeBlocks.{AreUnnamed, BlocksTaken, is_block_at}
-use Rattle.object_maps.proofs.FreeBlocks.{address_taken, blocks_kept, taken_more, taken_twice}
+use Rattle.trees.specs.FreeBlocks.{AreUnnamed, BlocksTaken, is_block_at}
+use Rattle.trees.proofs.FreeBlocks.{address_taken, blocks_kept, taken_more, taken_twice}
 use Rattle.import_replay.specs.FreeBlocks.{AreAllPlanned, AreUnused, IsLowestLeft, IsUsedBy, is_planned, logs_block, plans_block}
 use Rattle.import_replay.proofs.NamedBlocks.{named_or_not}
 

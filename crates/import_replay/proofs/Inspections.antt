@@ -19,7 +19,7 @@ use Rattle.base.specs.tree.Tree.{IsTree}
 use Rattle.base.proofs.crash.OneMount.{mounts_agree}
 use Rattle.base.proofs.tree.PlacedTrees.{holds-tree}
 use Rattle.tree_blocks.specs.declared.tree.Tree.{Tree}
-use Rattle.object_maps.specs.Loading.{IsLimitedObject}
+use Rattle.trees.specs.Loading.{IsLimitedObject}
 use Rattle.tree_blocks.specs.Pointers.{pointers_of}
 use Rattle.tree_blocks.specs.ListedObjects.{AreWithin, ListsObjectsOf}
 use Rattle.import_replay.specs.declared.inspection.Inspected.{Inspected}

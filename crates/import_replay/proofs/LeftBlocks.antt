@@ -15,10 +15,10 @@ use Rattle.base.proofs.common.Choices.{and_not_parts, not_and_parts}
 use Rattle.base.proofs.stored.StoredSets.{IsAt, at-set, set-at}
 use Rattle.group_plans.specs.Areas.{AreBlocksOf, is_block_of}
 use Rattle.group_plans.proofs.PlannedBlocks.{block_of}
-use Rattle.object_maps.specs.FreeBlocks.{AreUnnamed}
+use Rattle.trees.specs.FreeBlocks.{AreUnnamed}
 use Rattle.tree_blocks.specs.Pointers.{pointers_of}
 use Rattle.tree_blocks.specs.declared.tree.Tree.{Tree}
-use Rattle.object_maps.proofs.FreeBlocks.{blocks_kept, contains-without}
+use Rattle.trees.proofs.FreeBlocks.{blocks_kept, contains-without}
 use Rattle.space.specs.FreeSets.{FreeSpace, IsIdle, is_free}
 use Rattle.tree_plans.specs.declared.planner.PlannedBlock.{PlannedBlock}
 use Rattle.tree_plans.specs.declared.planner.TreePlan.{TreePlan}

@@ -51,7 +51,7 @@ use Rattle.intent_log.specs.Chains.{IsSoundPiece}
 use Rattle.log_replay.specs.Replays.{IsPieceAllowed, IsChainAllowed, IsReplayCause, IsReplayRefusal}
 use Rattle.object_maps.specs.ContentsShown.{contents_of, objects_of}
 use Rattle.tree_blocks.specs.Lengths.{HasLengthsOf}
-use Rattle.object_maps.specs.Loading.{IsLimitedObject}
+use Rattle.trees.specs.Loading.{IsLimitedObject}
 use Rattle.tree_blocks.specs.Pointers.{pointers_of}
 use Rattle.object_maps.specs.declared.contents.Slot.{Slot}
 use Rattle.tree_blocks.specs.declared.tree.Tree.{Tree}

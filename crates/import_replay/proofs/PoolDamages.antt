@@ -11,9 +11,9 @@ use Rattle.base.specs.tree.Places.{Place, kind_of, pointer_of}
 use Rattle.base.specs.tree.Places.Place.{Root, Directory, Top, Indirect, Data}
 use Rattle.base.proofs.crash.LogChains.{mounted_not_damaged}
 use Rattle.base.proofs.crash.OneMount.{one-active}
-use Rattle.object_maps.specs.DamageLists.{ListsDamages}
-use Rattle.object_maps.specs.declared.damages.BlockDamage.{BlockDamage}
-use Rattle.object_maps.proofs.DamageLists.{first_listed, listed_damaged, none_listed}
+use Rattle.trees.specs.DamageLists.{ListsDamages}
+use Rattle.trees.specs.declared.damages.BlockDamage.{BlockDamage}
+use Rattle.trees.proofs.DamageLists.{first_listed, listed_damaged, none_listed}
 use Rattle.import_replay.specs.ImportRefusals.{IsDamagedWith, IsFindRefusal, IsWalkRefusal}
 use Rattle.import_replay.specs.ReadPools.{frame_of_size}
 use Rattle.import_replay.proofs.OwnRefusals.{is_sound}

@@ -17,7 +17,7 @@ use Rattle.intent_log.specs.Chains.{IsSoundPiece}
 use Rattle.object_maps.specs.declared.contents.Slot.{Slot}
 use Rattle.tree_blocks.specs.declared.tree.Tree.{Tree}
 use Rattle.tree_blocks.specs.Pointers.{pointers_of}
-use Rattle.object_maps.specs.Surveys.{HasObjects}
+use Rattle.trees.specs.Surveys.{HasObjects}
 use Rattle.import_replay.specs.ReadPools.{HoldsPool, IsReadPool, IsSurveyedFor, frame_of_size}
 
 module _ (image : List ℕ) (found : Disk) (size : ℕ) (frame : Frame) (u : Uberblock) (name : List ℕ) (long : length image ≡ size) (same : bytes_of found.now ≡ image)

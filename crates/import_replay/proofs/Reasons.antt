@@ -8,7 +8,7 @@ use Rattle.base.specs.formats.Uberblocks.{Uberblock, IsActive}
 use Rattle.group_plans.specs.GroupPlans.{IsHeldRefusal}
 use Rattle.intent_log.specs.Chains.{IsChainRefusal}
 use Rattle.log_replay.specs.Replays.{IsReplayCause}
-use Rattle.object_maps.specs.Loading.{IsLoadRefusal}
+use Rattle.object_maps.specs.BlockReads.{IsLoadRefusal}
 use Rattle.import_replay.specs.Found.{LacksName, LacksUberblock}
 use Rattle.import_replay.specs.ImportRefusals.{HasLastNumbers, LacksImportRoom, IsDamagedWith, IsFindRefusal, IsReason, IsOpenRefusal, IsReadingRefusal, IsSyncRefusal}
 

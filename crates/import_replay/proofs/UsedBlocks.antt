@@ -24,7 +24,7 @@ use Rattle.tree_blocks.specs.Pointers.{pointers_of}
 use Rattle.space.proofs.Counts.{one_there}
 use Rattle.import_replay.specs.FreeBlocks.{AreUnused, IsNamed, IsUsedBy}
 use Rattle.import_replay.specs.ReadPools.{HoldsPool, frame_of_size}
-use Rattle.object_maps.proofs.FreeBlocks.{contains-without}
+use Rattle.trees.proofs.FreeBlocks.{contains-without}
 use Rattle.import_replay.proofs.MountedPools.{named-of_tree, used_on_image}
 
 -- the addresses of those below the n-th that the set does not have

@@ -8,7 +8,7 @@ use Rattle.base.specs.declared.pointer.Pointer.{Pointer}
 use Rattle.base.specs.formats.Chain.{LogPiece, addresses_of}
 use Rattle.base.specs.formats.Geometry.{block_address, IsBlockAddress}
 use Rattle.base.specs.tree.Places.{Place, IsPlace}
-use Rattle.object_maps.specs.FreeBlocks.{BlocksTaken, is_block_at}
+use Rattle.trees.specs.FreeBlocks.{BlocksTaken, is_block_at}
 use Rattle.space.specs.FreeSets.{FreeSpace, after_take, is_free}
 use Rattle.mounted.specs.GivenBlocks.{after_gives}
 use Rattle.tree_plans.specs.declared.planner.PlannedBlock.{PlannedBlock}

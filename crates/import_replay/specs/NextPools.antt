@@ -29,9 +29,9 @@ use Rattle.group_plans.specs.OldMaps.{HoldsTreeOf}
 use Rattle.tree_blocks.specs.SyncedTrees.{lengths_after}
 use Rattle.log_replay.specs.Replays.{IsReplay}
 use Rattle.object_maps.specs.ContentsShown.{contents_of, objects_of}
-use Rattle.object_maps.specs.FreeBlocks.{AreUnnamed}
+use Rattle.trees.specs.FreeBlocks.{AreUnnamed}
 use Rattle.tree_blocks.specs.Lengths.{HasLengthsOf, lengths_of}
-use Rattle.object_maps.specs.Loading.{IsLimitedObject}
+use Rattle.trees.specs.Loading.{IsLimitedObject}
 use Rattle.tree_blocks.specs.Pointers.{pointers_of}
 use Rattle.object_maps.specs.declared.contents.Contents as declared
 use Rattle.object_maps.specs.declared.contents.Slot.{Slot}

@@ -4,8 +4,8 @@ use Rattle.base.specs.tree.Mount.{HasPool, IsChainDamaged, frame_of}
 use Rattle.base.specs.declared.error.PoolError.{PoolError}
 use Rattle.base.specs.declared.error.PoolError.TheVariants as refusal
 use Rattle.base.specs.formats.Uberblocks.{Uberblock}
-use Rattle.object_maps.specs.DamageLists.{ListsDamages}
-use Rattle.object_maps.specs.declared.damages.BlockDamage.{BlockDamage}
+use Rattle.trees.specs.DamageLists.{ListsDamages}
+use Rattle.trees.specs.declared.damages.BlockDamage.{BlockDamage}
 use Rattle.import_replay.specs.Inspections.{AgreesWithImports, IsInspectionOf}
 use Rattle.import_replay.specs.declared.damages.Soundness.{Soundness}
 use Rattle.import_replay.specs.declared.damages.Soundness.TheVariants.{Whole, Damaged}

@@ -14,7 +14,7 @@ use Rattle.intent_log.specs.Chains.{IsSoundPiece}
 use Rattle.object_maps.specs.declared.contents.Slot.{Slot}
 use Rattle.tree_blocks.specs.declared.tree.Tree.{Tree}
 use Rattle.tree_blocks.specs.Lengths.{HasLengthsOf}
-use Rattle.object_maps.specs.Loading.{IsLimitedObject}
+use Rattle.trees.specs.Loading.{IsLimitedObject}
 use Rattle.object_maps.specs.ContentsShown.{objects_of}
 use Rattle.tree_blocks.specs.Pointers.{pointers_of}
 

@@ -17,8 +17,8 @@ use base::PoolError;
 use checked_blocks::Kind;
 use device_model::SectorDevice;
 use labels::Geometry;
-use object_maps::{BlockDamage, list_damages};
 use std::alloc::Global;
+use trees::{BlockDamage, list_damages};
 
 /// Whether a pool is whole.
 #[derive(Debug, PartialEq, Eq, Drop)]

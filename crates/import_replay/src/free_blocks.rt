@@ -4,7 +4,7 @@
 ghost use Rattle.std.specs.Prelude.{◌≡◌, IfErr, IfOk};
 ghost use Rattle.std.specs.List.{list_any};
 ghost use Rattle.base.specs.formats.Geometry.{block_count};
-ghost use Rattle.object_maps.specs.FreeBlocks.{BlocksTaken, is_block_at};
+ghost use Rattle.trees.specs.FreeBlocks.{BlocksTaken, is_block_at};
 ghost use Rattle.import_replay.specs.FreeBlocks.{AreAllPlanned, IsLowestLeft, is_planned, logs_block};
 
 use base::PoolError;

@@ -18,7 +18,7 @@ ghost use Rattle.device_model.specs.Reading.{OnlyReads};
 ghost use Rattle.group_plans.specs.GroupPlans.{FitsIn, IsHeldRefusal, IsPlanRefusal, TakesLowest, plan_pointers};
 ghost use Rattle.tree_blocks.specs.SyncedTrees.{lengths_after};
 ghost use Rattle.log_replay.specs.Replays.{IsChainAllowed, IsReplayCause, IsReplayRefusal};
-ghost use Rattle.object_maps.specs.FreeBlocks.{AreUnnamed};
+ghost use Rattle.trees.specs.FreeBlocks.{AreUnnamed};
 ghost use Rattle.tree_blocks.specs.Lengths.{lengths_of};
 ghost use Rattle.tree_blocks.specs.Pointers.{pointers_of};
 ghost use Rattle.uberblocks.specs.Slots.{fields_of};
@@ -34,11 +34,12 @@ use intent_log::LoggedPiece;
 use labels::Geometry;
 use log_replay::{Replayed, replay};
 use mounted::give_all;
-use object_maps::{BlockReader, Contents, Loaded};
+use object_maps::{BlockReader, Contents};
 use space::FreeSet;
 use std::alloc::Global;
 use tree_blocks::Tree;
 use tree_plans::{PlannedBlock, TreePlan};
+use trees::Loaded;
 use uberblocks::Uberblock;
 
 /// A pool that was read, with the records of its chain replayed.

@@ -8,7 +8,7 @@ ghost use Rattle.base.specs.disk.Disk.{bytes_of};
 ghost use Rattle.base.specs.formats.Geometry.{block_count};
 ghost use Rattle.base.specs.tree.Mount.{IsChainOf};
 ghost use Rattle.device_model.specs.Reading.{OnlyReads};
-ghost use Rattle.object_maps.specs.FreeBlocks.{AreUnnamed};
+ghost use Rattle.trees.specs.FreeBlocks.{AreUnnamed};
 ghost use Rattle.uberblocks.specs.Slots.{fields_of};
 ghost use Rattle.intent_log.specs.Chains.{IsChainRefusal, IsSoundPiece};
 ghost use Rattle.import_replay.specs.Devices.{IsSizedFor};
@@ -23,10 +23,10 @@ use checked_blocks::Frame;
 use device_model::SectorDevice;
 use intent_log::{ChainHeader, LoggedPiece, chain};
 use labels::Geometry;
-use object_maps::{Loaded, load, survey};
 use space::FreeSet;
 use std::alloc::Global;
 use tree_blocks::Tree;
+use trees::{Loaded, load, survey};
 use uberblocks::Uberblock;
 
 // The pool of a device, with its tree, the lengths of its objects, the blocks that the tree leaves free, and its chain.

@@ -22,7 +22,7 @@ ghost use Rattle.object_maps.specs.Kinds.{kind_number};
 ghost use Rattle.tree_blocks.specs.BlockPlaces.{place_of};
 ghost use Rattle.tree_blocks.specs.Sources.{AreBytesFrom};
 
-use crate::walk::damaged;
+use crate::block_reads::damaged;
 use base::{ObjectId, POINTER_COUNT, Pointer, PoolError, RECORD_SIZE, are_zeros};
 use checked_blocks::{Block, Frame, Kind, PAYLOAD_SIZE};
 use device_model::SectorDevice;

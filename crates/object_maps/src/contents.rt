@@ -4,7 +4,6 @@
 ghost use Rattle.std.specs.Prelude.{◌≡◌, false, option_map, All, IfOk, vec_len, length as count};
 ghost use Rattle.std.specs.FinMap as finite;
 ghost use Rattle.base.specs.formats.Limits.{object_count};
-ghost use Rattle.object_maps.specs.ContentsShown.{contents_of};
 
 use crate::told_bytes::{BytesView, no_bytes};
 use base::{OBJECT_COUNT, ObjectId, PoolName, Told};
@@ -69,6 +68,8 @@ impl Slot {
 }
 
 impl Contents {
+    ghost use Rattle.object_maps.specs.ContentsShown.{contents_of};
+
     /// The contents with this name and no objects. They are refused if no memory is left.
     pub fn new(alloc: Global, name: PoolName) -> Result<Self, AllocError>
         ensures { IfOk result (λ c.
@@ -98,6 +99,8 @@ impl Contents {
 
 /// The objects of contents.
 impl ObjectSource for &Contents {
+    ghost use Rattle.object_maps.specs.ContentsShown.{contents_of};
+
     ghost objects = { λ c. (contents_of c.now).objects };
 
     fn length(&self, id: ObjectId) -> Option<u64> {

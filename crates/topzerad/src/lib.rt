@@ -102,12 +102,12 @@ pub use import_replay::{
     view_pool,
 };
 pub use mounted::Mounted;
-pub use object_maps::BlockDamage;
 pub use pool_core::{Duty, PoolState, Progress, run};
 pub use pool_loops::{Halt, run_beside_loops};
 pub use pool_threads::{Handle, Opened, PIECE_SIZE, Pool};
 pub use range_locks::{HeldLock, HeldLocks, HeldPiece};
 pub use transactions::{charge, is_plan_allowed, record_size};
+pub use trees::BlockDamage;
 
 // For proofs alone: pools and handles with what was seen of them, and the rule of the pool under its lock.
 pub use pool_threads::{LastSeen, OwnedPool, PoolRule, PoolView};

@@ -14,4 +14,3 @@ mod NewObjects
 mod Passes
 mod DirtyStrips
 mod PassedStrips
-pub mod Promises

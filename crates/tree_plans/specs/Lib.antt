@@ -8,4 +8,3 @@ pub mod Order
 pub mod Room
 pub mod Parts
 pub mod TreePlans
-pub mod NewBlocks

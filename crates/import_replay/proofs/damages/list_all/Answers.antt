@@ -2,7 +2,7 @@ use Rattle.std.proofs.Common.{◌∙◌, ◌++◌, ◌∷◌, ℕ, List, [], ap,
 use Rattle.std.proofs.lemmas.Result.{IfOk-weaker}
 use Rattle.base.specs.declared.error.PoolError.TheVariants.{NoMemory}
 use Rattle.base.specs.disk.Disk.{bytes_of}
-use Rattle.object_maps.specs.declared.damages.BlockDamage.{BlockDamage}
+use Rattle.trees.specs.declared.damages.BlockDamage.{BlockDamage}
 use Rattle.import_replay.specs.ImportRefusals.{IsReason}
 use Rattle.import_replay.proofs.Reasons.{passed_on, reason-chain}
 use Rattle.import_replay.proofs.PoolDamages.{log_damage, tree_damages}

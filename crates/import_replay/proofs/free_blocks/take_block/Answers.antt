@@ -1,4 +1,4 @@
-use Rattle.object_maps.proofs.FreeBlocks.{address_taken}
+use Rattle.trees.proofs.FreeBlocks.{address_taken}
 use Rattle.import_replay.proofs.free_blocks.take_block.Goals as goal
 
 pub returns-then-is_block_address-clause-taken : goal.returns-then-is_block_address-clause-taken

@@ -1,7 +1,7 @@
 use Rattle.std.proofs.Common.{◌≡◌, take}
 use Rattle.std.specs.List.{list_any}
 use Rattle.base.specs.formats.Geometry.{block_count}
-use Rattle.object_maps.specs.FreeBlocks.{BlocksTaken, is_block_at}
+use Rattle.trees.specs.FreeBlocks.{BlocksTaken, is_block_at}
 use Rattle.import_replay.proofs.free_blocks.take_blocks.Given as goal
 
 -- the blocks at the addresses so far are taken

@@ -1,5 +1,5 @@
 use Rattle.import_replay.specs.FreeBlocks.{logs_block}
-use Rattle.object_maps.proofs.FreeBlocks.{taken_more}
+use Rattle.trees.proofs.FreeBlocks.{taken_more}
 use Rattle.import_replay.proofs.FreeBlocks.{piece_taken}
 use Rattle.import_replay.proofs.free_blocks.take_logged.Goals as goal
 

@@ -1,7 +1,7 @@
 use Rattle.std.proofs.Common.{◌≡◌, take}
 use Rattle.std.specs.List.{list_any}
 use Rattle.base.specs.formats.Geometry.{block_count}
-use Rattle.object_maps.specs.FreeBlocks.{BlocksTaken}
+use Rattle.trees.specs.FreeBlocks.{BlocksTaken}
 use Rattle.import_replay.specs.FreeBlocks.{logs_block}
 use Rattle.import_replay.proofs.free_blocks.take_logged.Given as goal
 

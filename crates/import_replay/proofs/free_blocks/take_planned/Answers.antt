@@ -1,5 +1,5 @@
 use Rattle.import_replay.specs.FreeBlocks.{plans_block}
-use Rattle.object_maps.proofs.FreeBlocks.{taken_more}
+use Rattle.trees.proofs.FreeBlocks.{taken_more}
 use Rattle.import_replay.proofs.FreeBlocks.{number_taken}
 use Rattle.import_replay.proofs.free_blocks.take_planned.Goals as goal
 

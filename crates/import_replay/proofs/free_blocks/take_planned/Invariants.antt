@@ -1,6 +1,6 @@
 use Rattle.std.proofs.Common.{take}
 use Rattle.std.specs.List.{list_any}
-use Rattle.object_maps.specs.FreeBlocks.{BlocksTaken}
+use Rattle.trees.specs.FreeBlocks.{BlocksTaken}
 use Rattle.import_replay.specs.FreeBlocks.{plans_block}
 use Rattle.import_replay.proofs.free_blocks.take_planned.Given as goal
 

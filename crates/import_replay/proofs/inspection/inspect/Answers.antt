@@ -7,7 +7,7 @@ use Rattle.base.specs.formats.Chain.{LogPiece}
 use Rattle.base.specs.formats.Geometry.{IsGeometry, block_count}
 use Rattle.uberblocks.specs.Slots.{fields_of}
 use Rattle.intent_log.specs.Chains.{IsSoundPiece}
-use Rattle.object_maps.specs.FreeBlocks.{BlocksTaken}
+use Rattle.trees.specs.FreeBlocks.{BlocksTaken}
 use Rattle.std.specs.List.{list_any}
 use Rattle.import_replay.proofs.FreeBlocks.{unused-from_taken}
 use Rattle.import_replay.specs.FreeBlocks.{logs_block}

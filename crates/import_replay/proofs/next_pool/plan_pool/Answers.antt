@@ -3,7 +3,7 @@ use Rattle.std.specs.Global.{Vec}
 use Rattle.std.proofs.lemmas.Result.{err_from_is_err_and}
 use Rattle.base.specs.formats.Geometry.{block_count}
 use Rattle.space.specs.FreeSets.{FreeSpace, after_take}
-use Rattle.object_maps.specs.FreeBlocks.{BlocksTaken}
+use Rattle.trees.specs.FreeBlocks.{BlocksTaken}
 use Rattle.tree_plans.specs.declared.planner.PlannedBlock.{PlannedBlock}
 use Rattle.tree_plans.specs.declared.planner.TreePlan.{TreePlan}
 use Rattle.import_replay.specs.FreeBlocks.{AreAllPlanned, IsLeftByPlan, IsLowestLeft, is_planned}

@@ -3,7 +3,7 @@ use Rattle.std.specs.Global.{Vec}
 use Rattle.std.specs.List.{list_any}
 use Rattle.base.specs.formats.Chain.{LogPiece}
 use Rattle.base.specs.formats.Geometry.{block_count}
-use Rattle.object_maps.specs.FreeBlocks.{BlocksTaken}
+use Rattle.trees.specs.FreeBlocks.{BlocksTaken}
 use Rattle.object_maps.specs.declared.contents.Slot.{Slot}
 use Rattle.space.specs.FreeSets.{FreeSpace}
 use Rattle.import_replay.specs.FreeBlocks.{logs_block}

@@ -1,7 +1,7 @@
 use Rattle.std.proofs.Common.{ℕ, List, sym, subst}
-use Rattle.object_maps.specs.Loading.{AreBytes}
+use Rattle.object_maps.specs.Bytes.{AreBytes}
 use Rattle.object_maps.proofs.Judged.{all_bytes}
-use Rattle.object_maps.proofs.LoadedRecords.{bytes-put}
+use Rattle.object_maps.proofs.Bytes.{bytes-put}
 use Rattle.object_maps.proofs.told_bytes.with_bytes.Goals as goal
 
 pub returns-clause-are : goal.returns-clause-are

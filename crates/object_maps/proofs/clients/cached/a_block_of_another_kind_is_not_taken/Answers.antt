@@ -1,6 +1,0 @@
-use Rattle.std.proofs.Common.{arith}
-use Rattle.base.proofs.tree.Strips.{indirect-count}
-use Rattle.object_maps.proofs.clients.cached.a_block_of_another_kind_is_not_taken.Goals as goal
-
-pub read_payload-requires-clause-place : goal.read_payload-requires-clause-place
-read_payload-requires-clause-place g c = (omega (arith, indirect-count), omega arith)

@@ -1,0 +1,2 @@
+mod HeldTrees
+mod JudgedLists

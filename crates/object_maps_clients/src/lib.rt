@@ -1,0 +1,11 @@
+//! What callers of `object_maps` and `trees` rest on: one function for each promise of their calls, proved from the
+//! contract of the call alone. So it is refused as soon as that contract says less.
+#![tactic(auto)]
+
+mod blocks;
+mod cached;
+mod damages;
+mod judged;
+mod loads;
+mod reads;
+mod strips;

@@ -1,0 +1,6 @@
+//! What callers of `tree_plans` and `group_plans` rest on: one function for each promise of their calls, proved from the
+//! contract of the call alone. So it is refused as soon as that contract says less.
+#![tactic(auto)]
+
+mod groups;
+mod trees;

@@ -1,6 +1,0 @@
-use Rattle.std.proofs.lemmas.Result.{IfOk-weaker}
-use Rattle.tree_plans.proofs.Promises.{new_top}
-use Rattle.tree_plans.proofs.clients.a_new_top_has_the_number_of_its_object.Goals as goal
-
-pub returns : goal.returns
-returns g c = IfOk-weaker c.plan.result _ _ (λ p told. new_top c.args.source.now (g.O.ObjectSource.objects c.args.after.now) c.args.objects.now p told) c.plan.ensures.tree

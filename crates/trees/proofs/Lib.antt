@@ -1,0 +1,13 @@
+pub mod FreeBlocks
+pub mod TakenStrips
+pub mod PutObjects
+pub mod LoadedBlocks
+pub mod LoadedRecords
+pub mod LoadedObjects
+pub mod LoadedEntries
+pub mod LoadedTrees
+pub mod WalkOrder
+pub mod WalkDamages
+pub mod ReadAheads
+pub mod WalkParts
+pub mod DamageLists

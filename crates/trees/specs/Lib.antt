@@ -1,0 +1,7 @@
+pub mod FreeBlocks
+pub mod Loading
+pub mod Walking
+pub mod DamageLists
+pub mod Loaders
+pub mod ReadAhead
+pub mod Surveys

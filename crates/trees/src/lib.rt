@@ -1,0 +1,11 @@
+//! What is read of a whole tree: its load and its survey in the order of its walk, and the list of its damages.
+#![tactic(auto)]
+
+mod damages;
+mod marks;
+mod objects;
+mod read_ahead;
+mod walk;
+
+pub use damages::{BlockDamage, list_damages};
+pub use walk::{Loaded, load, survey};
