@@ -1,6 +1,6 @@
 -- What callers of `give_back` conclude: once it gives none, those from the header on are left.
 use Rattle.std.proofs.Common.{◌≡◌, ℕ, Bool, true, false, ◌<◌, ◌≤◌, List, [], ◌∷◌, length, sym, ap, refl, ◌∙◌, arith}
-use Rattle.std.specs.Prelude.{◌-◌, IfNone, IfSome, Option, None, Some, filter, is_some, nat_le, nat_lt}
+use Rattle.std.specs.Prelude.{IfNone, IfSome, Option, None, Some, filter, is_some, nat_le, nat_lt}
 use Rattle.std.proofs.lemmas.Bool.{le-leb, lt-leb, ltb-false}
 use Rattle.base.specs.formats.Chain.{Header}
 use Rattle.base.specs.steps.Logs.{KeptBlock, blocks_before}

@@ -1,5 +1,4 @@
-use Rattle.std.proofs.Common.{◌≡◌, ◌≤◌, ◌∙◌, refl, ap, List, ℕ, length, take, subst, sym, arith}
-use Rattle.std.proofs.lemmas.List.{length-take-le}
+use Rattle.std.proofs.Common.{◌≡◌, ◌≤◌, ◌∙◌, refl, ap, List, ℕ, length, take, subst, arith}
 use Rattle.base.specs.formats.Records.{bytes_of_record}
 use Rattle.base.proofs.formats.RecordSizes.{length-bytes_of_record}
 use Rattle.transactions.specs.Records.{record_fields}
