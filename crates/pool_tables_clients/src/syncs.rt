@@ -64,8 +64,7 @@ fn a_start_finds_no_damage<B: BlockReader>(
     pool.start_sync(reader, moment)
 }
 
-// After the flush before it, the sync of a group that gives a name, and has no block to write, writes the config of label
-// 0 first.
+// A sync without a block begins with a flush. If its group gives a name, the config of label 0 comes next.
 fn a_rename_writes_label_0_first<B: BlockReader>(
     pool: &mut PoolTables,
     device: &mut B,
