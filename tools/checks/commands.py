@@ -156,13 +156,13 @@ class Commands(Judge):
                 (0, "4tank", "8 BadGeometry"),
                 (SIZE - 1, "tank", "8 BadGeometry"),
                 (6 * MIB - 1, "tank", "8 BadGeometry"),
-                (SIZE, "4", "11 BadRange"),
-                (SIZE, "4tank", "11 BadRange"),
-                (SIZE, "", "11 BadRange"),
+                *((SIZE, name, "11 BadRange") for name in ("4", "4tank", "-tank", "ta nk", "tank\n", "", "a" * 65)),
             ]:
-                self.ends(["create", file, name, "77", str(size)], 1, errors=f"ztxg: refused {refusal}\n")
+                self.ends(["create", "--", file, name, "77", str(size)], 1, errors=f"ztxg: refused {refusal}\n")
         if pathlib.Path("new.pool").read_bytes() != made or os.path.exists("none.pool"):
             self.differ("a refused create changes its file")
+        for name in ("T-1_a.b", "a" * 64):
+            self.ends(["create", "new.pool", name, "77", str(SIZE)], 0, f"created {name} 896 blocks\n")
         # A size that is no number of sectors is the file's, too.
         self.ends(["create", "new.pool", "pond", "77", str(6 * MIB + 44)], 0, "created pond 384 blocks\n")
         if os.path.getsize("new.pool") != 6 * MIB + 44:
@@ -207,6 +207,8 @@ class Commands(Judge):
         self.ends(["check", "synced.pool", "--all"], 1, f"damaged 5 {DATA}\n")
         for name in ("show", "ls"):
             self.ends([name, "synced.pool"], 1, errors=f"ztxg: {refusal}")
+        cause = f"the block of kind 5 at byte {DATA} is damaged"
+        self.ends(["-v", "show", "synced.pool"], 1, errors=f"ztxg: {refusal}ztxg: cause: {cause}\n")
         # Of two damages a check tells the first one, or both. The third record's block is the one after the first's.
         self.make("twice.pool", SYNC.replace("w:1:0:4", "w:1:0:4 w:1:8064:4").replace("abcd", "abcd wxyz"))
         self.ends(["check", "twice.pool"], 0, "clean group 9 records 0\n")
@@ -304,7 +306,11 @@ class Commands(Judge):
         """A put whose bytes pass the dirty limit, and one for which there is room once what it replaces is free."""
         self.ends(["create", "large.pool", "tank", "77", str(16 * MIB)], 0, "created tank 2944 blocks\n")
         self.ends(["create", "small.pool", "tank", "77", str(LEAST)], 0, "created tank 384 blocks\n")
-        for name, size, letter in [("large.pool", 8_000_000, "a"), ("small.pool", 900_000, "b"), ("small.pool", 900_000, "c")]:
+        for name, size, letter in [
+            ("large.pool", 8_000_000, "a"),
+            ("small.pool", 900_000, "b"),
+            ("small.pool", 900_000, "c"),
+        ]:
             done = f"put {size} bytes in {-(-size // 64_512)} transactions\n"
             if (found := self.put(["put", name, "1"], letter * size)) != (0, done, ""):
                 self.differ(f"a put of {size} bytes ends with", found)
@@ -517,7 +523,8 @@ class Commands(Judge):
             theirs.send(b"x")
             ours.close()
             with theirs:
-                ran = subprocess.run([self.ztxg, "script", "0", "-"], stdin=theirs, capture_output=True, timeout=SECONDS)
+                words = [self.ztxg, "script", "0", "-"]
+                ran = subprocess.run(words, stdin=theirs, capture_output=True, timeout=SECONDS)
             self.runs += 1
             if (ran.returncode, ran.stdout, ran.stderr) != (3, answer.encode() * count, b""):
                 self.differ(f"a script whose input fails after {count} lines ends with", ran)

@@ -90,8 +90,8 @@ def judge_clean(ztxg, file, image, group, records, name):
 
 
 def difference_left(left, before, name):
-    """What an import leaves otherwise than it has to, or None. The first free block behind those that the records change
-    is the log's."""
+    """What an import leaves otherwise than it has to, or None. The first free block behind those that the records
+    change is the log's."""
     read, group = before.uberblock, before.uberblock.group + 4
     if left.configs() != [Config(GUID, group, name.encode())] * 4:
         return "import: the configs"

@@ -197,8 +197,8 @@ def add_arguments(parser):
 
 
 def main(ztxg, seed):
-    with shims.compiled("calls") as calls, shims.compiled("refusals") as refusals, shims.shared_counts(*KINDS) as counts:
-        with pool_file(IN_MEMORY) as path:
+    with shims.compiled("calls") as calls, shims.compiled("refusals") as refusals:
+        with shims.shared_counts(*KINDS) as counts, pool_file(IN_MEMORY) as path:
             failures = PowerFailures(ztxg, calls, refusals, counts, path, random.Random(seed))
             failures.judge_all()
     print(f"{len(ROUNDS)} rounds, {failures.images} images, {failures.differences} differences")

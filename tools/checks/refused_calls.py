@@ -32,8 +32,8 @@ KINDS = ["write", "flush", "read"]
 REFUSALS = {"write": "3 Write", "flush": "4 Flush", "read": "2 Read"}
 EIO = f"{os.strerror(errno.EIO)} (os error {errno.EIO})"
 
-# A `put` of two transactions on a new pool. Its import makes five flushes, and the sync of its group two (docs/FORMATS.md,
-# 4 and 5).
+# A `put` of two transactions on a new pool. Its import makes five flushes, and the sync of its group two
+# (docs/FORMATS.md, 4 and 5).
 BYTES = "a" * 100_000
 DONE = f"put {len(BYTES)} bytes in 2 transactions\n"
 LOST = f"ztxg: committed {len(BYTES)} bytes in 2 transactions, not durable\n"

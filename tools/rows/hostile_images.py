@@ -23,7 +23,18 @@ from tools.model.layout import (
     label_places,
     slot_places,
 )
-from tools.model.pool_bytes import Pointer, Uberblock, check_of, config, log_block, numbers, record, seal, uberblock
+from tools.model.pool_bytes import (
+    Pointer,
+    Uberblock,
+    check_of,
+    config,
+    log_block,
+    numbers,
+    record,
+    seal,
+    sha,
+    uberblock,
+)
 from tools.model.pool_image import Image
 
 SIZE, GUID, GROUP = 8 * MIB, 77, 9
@@ -134,6 +145,20 @@ def without_uberblocks():
     return tank
 
 
+def odd_slot(place, byte, is_sealed=True):
+    """The active uberblock has another byte in each label, with or without its check."""
+
+    def make():
+        tank = Tank()
+        for at in slot_places(SIZE, GROUP):
+            slot = bytearray(tank.slot(at))
+            slot[place] = byte
+            tank.put(at, bytes(slot[:992]) + sha(slot[:992]) if is_sealed else slot)
+        return tank
+
+    return make
+
+
 def even_configs(group):
     """The configs of labels 0 and 2 have this group and another name."""
     tank = Tank()
@@ -149,6 +174,13 @@ def naming(content):
 
 # A pointer to nothing that isn't all zeros.
 ODD_NONE = Pointer(0, GROUP, bytes(32)).bytes()
+
+# Bytes of an uberblock with which it is none: of the magic, the version, the group, the import number, the log number
+# and the zeros. One of group 10 doesn't count in slot 9.
+ODD_BYTES = [
+    *[(0, 0x0D), (8, 3), (15, 1), (16, 3), (16, 10), (23, 0x11)],
+    *[(95, 0x11), (111, 0x11), (112, 1), (991, 1)],
+]
 
 # What is edited, what `check` prints, and the name if it isn't `tank`.
 ROWS = [
@@ -218,6 +250,15 @@ ROWS = [
     ("a log block writes to object 2", lambda: Tank().log(op=("w", 2, 0, b"x")), "damaged 6 4194304"),
     ("a log block creates object 1, which is there", lambda: Tank().log(op=("c", 1, 0, b"")), "damaged 6 4194304"),
     ("all uberblocks are torn", without_uberblocks, "no pool"),
+    *(
+        (f"byte {place} of the uberblocks is {byte}", odd_slot(place, byte), "clean group 8 records 0")
+        for place, byte in ODD_BYTES
+    ),
+    ("byte 32 of the uberblocks, of the moment, is 1", odd_slot(32, 1), "clean group 9 records 0"),
+    *(
+        (f"the same of byte {place} without its check", odd_slot(place, 1, is_sealed=False), "clean group 8 records 0")
+        for place in (32, 992, 1_023)
+    ),
     ("labels 0 and 2 have another name of group 9", lambda: even_configs(9), "clean group 9 records 0", "pond"),
     ("labels 0 and 2 have another name of group 10", lambda: even_configs(10), "clean group 9 records 0"),
     (

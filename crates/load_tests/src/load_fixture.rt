@@ -20,8 +20,8 @@ impl Gate for Open {
     fn at(&self, _stream: u32) {}
 }
 
-/// A device with a new pool of 6 MiB, with 384 blocks.
-pub fn new_device(alloc: Global) -> Result<MemDevice, PoolError> {
+// A device with a new pool of 6 MiB, with 384 blocks.
+fn new_device(alloc: Global) -> Result<MemDevice, PoolError> {
     let device = MemDevice::new(alloc, 12_288)?;
     let device = create(device, b"tank", 77, 0)?;
     Ok(device)

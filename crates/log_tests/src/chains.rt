@@ -24,11 +24,7 @@ pub(crate) struct Stored {
     pub used: u64,
     /// The first byte of the record's length.
     pub length: u8,
-    /// The record's group.
-    pub committed: u8,
-    /// Whether the record writes `x` at 0, in place of creating the object. It has 40 bytes then.
-    pub writes: bool,
-    /// The byte after the record that creates.
+    /// The byte after the record.
     pub after: u8,
 }
 
@@ -43,8 +39,6 @@ pub(crate) const FIRST: Stored = Stored {
     next: 4_202_496,
     used: 27,
     length: 27,
-    committed: 9,
-    writes: false,
     after: 0,
 };
 
@@ -113,14 +107,7 @@ fn payload_of(stored: &Stored) -> [u8; PAYLOAD_SIZE] {
     write_u64(&mut payload, 16, stored.used);
     payload[24..51].copy_from_slice(&CREATE);
     payload[24] = stored.length;
-    payload[28] = stored.committed;
     payload[51] = stored.after;
-    if stored.writes {
-        // the tag, and one byte at offset 0
-        payload[46] = 3;
-        payload[59] = 1;
-        payload[63] = b'x';
-    }
     payload
 }
 

@@ -6,7 +6,7 @@ use checked_blocks::{Kind, PAYLOAD_SIZE, seal};
 use device_model::MemDevice;
 use std::alloc::Global;
 
-/// A record that writes `x` to an object from 0 on, in blocks of its own that follow one another on the device.
+/// A record that writes `x` to object 1 from 0 on, in blocks of its own that follow one another on the device.
 #[derive(Clone, Copy)]
 pub(crate) struct Long {
     /// The address and the log number of its first block, and the number of its chain.
@@ -15,7 +15,6 @@ pub(crate) struct Long {
     pub chain: u64,
     /// The record's group.
     pub committed: u8,
-    pub object: u8,
     /// How many bytes it has: 39, and those that it writes.
     pub size: u32,
     /// How many it says that it writes.
@@ -59,7 +58,8 @@ impl Long {
         // one operation, a write at 0
         front[20] = 1;
         front[22] = 3;
-        front[23] = self.object;
+        // to object 1
+        front[23] = 1;
         front[35..].copy_from_slice(&self.writes.to_le_bytes());
         front
     }
@@ -136,7 +136,6 @@ fn length_around(
         number: 8,
         chain: 3,
         committed: 9,
-        object: 1,
         size,
         writes,
     };

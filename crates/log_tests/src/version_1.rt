@@ -134,7 +134,6 @@ fn found_with_long(alloc: Global, version: Version) -> Result<[u64; 4], PoolErro
         number: 2,
         chain: 1,
         committed: 11,
-        object: 1,
         size: 4_009,
         writes: 3_970,
     };

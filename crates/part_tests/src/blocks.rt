@@ -1,6 +1,6 @@
-//! Blocks: their bytes and checks, as another program makes them, and what is refused.
+//! Blocks: their bytes and checks, as another program makes them.
 
-use base::{BLOCK_SIZE, Group, PoolError};
+use base::{Group, PoolError};
 use checked_blocks::{Expected, Kind, PAYLOAD_SIZE, open, seal};
 
 // The fields, the check and the first bytes of the payload, as Python's hashlib makes them.
@@ -56,23 +56,4 @@ fn seals_and_opens_blocks(rt: HostRuntime) {
         (seal_and_open(), check_full()),
         (Ok((true, Group(9), true, PAYLOAD_SIZE)), Ok(FULL_CHECK))
     );
-}
-
-fn seal_refusal(kind: u64, payload: &[u8]) -> Option<PoolError> {
-    seal(kind, 77, Group(9), 0, payload).err()
-}
-
-fn open_refusal(bytes: &[u8; BLOCK_SIZE]) -> Option<PoolError> {
-    open(bytes, &expected()).err()
-}
-
-#[test]
-fn refuses(rt: HostRuntime) {
-    assert_eq!(rt; seal_refusal(8, b""), Some(PoolError::BadRange));
-    assert_eq!(rt; seal_refusal(1, &[0; 4033]), Some(PoolError::BadRange));
-    let damaged = PoolError::Damaged {
-        kind: 5,
-        address: 4194304,
-    };
-    assert_eq!(rt; open_refusal(&[0; BLOCK_SIZE]), Some(damaged));
 }

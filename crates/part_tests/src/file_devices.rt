@@ -1,12 +1,12 @@
-//! A device on a file: what it writes outlives it, what a file refuses is counted, and a refused sync is not made
-//! again.
+//! A device on a file: what a file refuses is counted and told, and a refused sync is not made again.
 
-use crate::devices::place_of;
+ghost use Rattle.std.specs.Prelude.{IfOk};
+ghost use Rattle.base.specs.disk.Calls.{IsOnDevice};
+
 use base::{PoolError, RefusedCalls};
-use device_model::{FileDevice, FileRefusal, SectorDevice};
-use std::alloc::Allocator;
+use device_model::{FileDevice, SectorDevice};
 use std::cell::Cell;
-use std::fs::{self, File, Metadata, OpenFile, OpenOptions};
+use std::fs::{self, File, Metadata, OpenFile};
 use std::io::{self, Seek, SeekFrom};
 use std::os::unix::fs::FileExt;
 use std::rt::Files;
@@ -24,63 +24,14 @@ fn new_file<R: Files>(files: &R, path: &str, size: u64) -> io::Result<R::File> {
     Ok(file)
 }
 
-// The bytes of two sectors.
-fn fives() -> [u8; 1024] {
-    [5; 1024]
-}
-
-// Writes the middle two of four sectors.
-fn write_middle<D: SectorDevice>(device: &mut D) -> Result<(), PoolError> {
-    let place = place_of(device, 1, 2)?;
-    device.write(place, &fives())?;
-    device.flush()
-}
-
-// The bytes of four sectors.
-fn ones() -> [u8; 2048] {
-    [1; 2048]
-}
-
-// The bytes at the ends of the middle two, on either side, and how many sectors there are.
-fn read_middle<D: SectorDevice>(device: &mut D) -> Result<([u8; 4], u64), PoolError> {
-    let place = place_of(device, 0, 4)?;
-    let mut all = ones();
-    device.read(place, &mut all)?;
-    Ok(([all[511], all[512], all[1535], all[1536]], device.sectors()))
-}
-
-// What a device on a new file counts as refused once it wrote its middle.
-fn write_file(rt: &HostRuntime, path: &str) -> Result<RefusedCalls, Fail> {
-    let mut device = FileDevice::new(new_file(rt, path, 2148)?)?;
-    write_middle(&mut device)?;
-    Ok(device.refused())
-}
-
-// What a device on a file reads about its middle.
-fn read_file(rt: &HostRuntime, path: &str) -> Result<([u8; 4], u64), Fail> {
-    let mut device = FileDevice::new(File::open(rt, path)?)?;
-    Ok(read_middle(&mut device)?)
-}
-
-// Both, one after the other, and how long the file is then.
-fn write_and_read(
-    rt: &HostRuntime,
-    path: &str,
-) -> Result<(RefusedCalls, ([u8; 4], u64), u64), Fail> {
-    let refused = write_file(rt, path)?;
-    let read = read_file(rt, path)?;
-    let length = fs::metadata(rt, path)?.len();
-    fs::remove_file(rt, path)?;
-    Ok((refused, read, length))
-}
-
-#[test]
-fn what_is_written_outlives_the_device(rt: HostRuntime) -> Result<(), Fail> {
-    assert_eq!(rt;
-        write_and_read(&rt, "outlives")?,
-        (RefusedCalls::NONE, ([0, 5, 5, 0], 4), 2148)
-    );
-    Ok(())
+// The byte address of a sector of the device. It is refused `BadRange` if there is none, or if it is above 2^20.
+fn place_of<D: SectorDevice>(device: &D, sector: u64) -> Result<u64, PoolError>
+    ensures { IfOk result (λ place. IsOnDevice (D.size device.now) place 512) }
+{
+    if sector > 1 << 20 || sector >= device.sectors() {
+        return Err(PoolError::BadRange);
+    }
+    Ok(512 * sector)
 }
 
 // The bytes of a sector.
@@ -99,12 +50,12 @@ enum Row {
 }
 
 fn read<D: SectorDevice>(device: &mut D, sector: u64) -> Result<(), PoolError> {
-    let place = place_of(device, sector, 1)?;
+    let place = place_of(device, sector)?;
     device.read(place, &mut sector_of_ones())
 }
 
 fn write<D: SectorDevice>(device: &mut D, sector: u64) -> Result<(), PoolError> {
-    let place = place_of(device, sector, 1)?;
+    let place = place_of(device, sector)?;
     device.write(place, &sector_of_ones())
 }
 
@@ -330,157 +281,4 @@ fn a_call_that_stops_short_is_refused_and_a_refused_sync_is_not_made_again(rt: H
         Row::Flush(Ok(())),
     ];
     assert_eq!(rt; count_on_stuck(&rows), Ok(7));
-}
-
-// Whether a device was refused since another one holds its file.
-fn is_in_use(opened: Result<FileDevice, FileRefusal>) -> bool {
-    matches!(opened, Err(FileRefusal::InUse))
-}
-
-// Whether each other device on a file is refused while one writes to it. A device that would size it leaves its size.
-fn excludes_all(rt: &HostRuntime, path: &str) -> Result<bool, Fail> {
-    let device = FileDevice::create_new(rt, path, 2048)?;
-    let refused = is_in_use(FileDevice::open(rt, path))
-        && is_in_use(FileDevice::open_to_read(rt, path))
-        && is_in_use(FileDevice::create(rt, path, 1024));
-    Ok(refused && device.sectors() == 4 && fs::metadata(rt, path)?.len() == 2048)
-}
-
-// Whether two devices may read a file, and none may write to it meanwhile.
-fn excludes_writers(rt: &HostRuntime, path: &str) -> Result<bool, Fail> {
-    let first = FileDevice::open_to_read(rt, path)?;
-    let second = FileDevice::open_to_read(rt, path)?;
-    let refused = is_in_use(FileDevice::open(rt, path));
-    Ok(refused && first.sectors() == second.sectors())
-}
-
-#[test]
-fn one_device_at_a_time_writes_to_a_file(rt: HostRuntime) -> Result<(), Fail> {
-    assert!(rt; excludes_all(&rt, "held")?);
-    assert!(rt; excludes_writers(&rt, "held")?);
-
-    // Each lock is released with its device.
-    let device = FileDevice::create(&rt, "held", 1024)?;
-    assert_eq!(rt; device.sectors(), 2);
-    fs::remove_file(&rt, "held")?;
-    Ok(())
-}
-
-#[test]
-fn a_new_file_replaces_none(rt: HostRuntime) -> Result<(), Fail> {
-    fs::write(&rt, "there", "as it is")?;
-    let opened = FileDevice::create_new(&rt, "there", 2048);
-    assert!(rt; matches!(opened, Err(FileRefusal::System(_))));
-    assert_eq!(rt; fs::metadata(&rt, "there")?.len(), 8);
-    fs::remove_file(&rt, "there")?;
-    Ok(())
-}
-
-// Whether a device was refused since its file is no regular one.
-fn is_not_regular(opened: Result<FileDevice, FileRefusal>) -> bool {
-    matches!(opened, Err(FileRefusal::NotRegular))
-}
-
-// The refusal of a device on what has no size.
-fn refusal_of(rt: &HostRuntime, path: &str) -> Result<Option<PoolError>, Fail> {
-    Ok(FileDevice::new(File::open(rt, path)?).err())
-}
-
-#[test]
-fn only_a_regular_file_is_opened(rt: HostRuntime) -> Result<(), Fail> {
-    for path in [".", "/dev/null"] {
-        assert!(rt; is_not_regular(FileDevice::open(&rt, path)));
-        assert!(rt; is_not_regular(FileDevice::open_to_read(&rt, path)));
-        assert!(rt; is_not_regular(FileDevice::create(&rt, path, 2048)));
-    }
-    let missing = FileDevice::open(&rt, "nowhere");
-    assert!(rt; matches!(missing, Err(FileRefusal::System(_))));
-    assert_eq!(rt; refusal_of(&rt, ".")?, Some(PoolError::Read));
-    Ok(())
-}
-
-// The files of the host, except for one folder, which can't be opened.
-#[derive(Drop)]
-struct Closed<'a> {
-    host: &'a HostRuntime,
-    folder: &'a str,
-}
-
-// What no device asks for.
-fn unasked<T>() -> io::Result<T> {
-    Err(io::Error::from(io::ErrorKind::Unsupported))
-}
-
-impl Files for Closed<'_> {
-    type File = File;
-
-    type Dir = File;
-
-    fn open_file(&self, how: &OpenOptions, path: &str) -> io::Result<File> {
-        if path == self.folder {
-            return Err(io::Error::from(io::ErrorKind::PermissionDenied));
-        }
-        self.host.open_file(how, path)
-    }
-
-    fn metadata(&self, path: &str) -> io::Result<Metadata> {
-        self.host.metadata(path)
-    }
-
-    fn open_dir(&self, _path: &str) -> io::Result<File> {
-        unasked()
-    }
-
-    fn symlink_metadata(&self, _path: &str) -> io::Result<Metadata> {
-        unasked()
-    }
-
-    fn copy(&self, _from: &str, _to: &str) -> io::Result<u64> {
-        unasked()
-    }
-
-    fn rename(&self, _from: &str, _to: &str) -> io::Result<()> {
-        unasked()
-    }
-
-    fn remove_file(&self, _path: &str) -> io::Result<()> {
-        unasked()
-    }
-
-    fn create_dir(&self, _path: &str) -> io::Result<()> {
-        unasked()
-    }
-
-    fn remove_dir(&self, _path: &str) -> io::Result<()> {
-        unasked()
-    }
-
-    fn remove_dir_all<B: Allocator>(&self, _alloc: B, _path: &str) -> io::Result<()> {
-        unasked()
-    }
-}
-
-// Whether a device on a file is refused for its folder, with the length that the file has then.
-fn make_below(rt: &HostRuntime, path: &str, folder: &str) -> Result<(bool, u64), Fail> {
-    let files = Closed { host: rt, folder };
-    let is_refused = matches!(
-        FileDevice::create(&files, path, 2048),
-        Err(FileRefusal::Folder(_))
-    );
-    let length = fs::metadata(rt, path)?.len();
-    fs::remove_file(rt, path)?;
-    Ok((is_refused, length))
-}
-
-#[test]
-fn a_file_whose_folder_is_not_synced_is_refused(rt: HostRuntime) -> Result<(), Fail> {
-    fs::create_dir(&rt, "inner")?;
-    let made = [
-        make_below(&rt, "below", ".")?,
-        make_below(&rt, "inner/below", "inner")?,
-        make_below(&rt, "inner/below", ".")?,
-    ];
-    fs::remove_dir(&rt, "inner")?;
-    assert_eq!(rt; made, [(true, 0), (true, 0), (false, 2048)]);
-    Ok(())
 }

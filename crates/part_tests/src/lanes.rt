@@ -1,7 +1,5 @@
-//! Four blocks side by side: their digests, as Python's hashlib makes them, and the blocks that are sealed so.
+//! Four blocks side by side: their digests, as Python's hashlib makes them.
 
-use base::{Group, PoolError};
-use checked_blocks::{Content, Expected, ReadBlock, are_expected, seal, seal_four};
 use hash_lanes::digest_four;
 
 const DIGESTS: [[u8; 32]; 4] = [
@@ -38,62 +36,4 @@ fn four_different_blocks_have_their_known_digests(rt: HostRuntime) {
         mixed[i] = ((7 * i + i / 256) % 251) as u8;
     }
     assert_eq!(rt; digest_four(&zeros, &ones, &counted, &mixed), DIGESTS);
-}
-
-// Whether four blocks that are sealed together, the last of them empty, are those that are sealed alone.
-fn are_sealed_alike() -> Result<[bool; 4], PoolError> {
-    let empty = Content {
-        number: 1,
-        payload: b"",
-    };
-    let short = Content {
-        number: 84,
-        payload: b"abcd",
-    };
-    let [a, b, c, d] = seal_four(5, 77, Group(9), &short, &empty, &short, &empty)?;
-    let alone = seal(5, 77, Group(9), 84, b"abcd")?;
-    let none = seal(5, 77, Group(9), 1, b"")?;
-    Ok([a == alone, b == none, c.copy() == alone, d == none])
-}
-
-#[test]
-fn four_blocks_are_sealed_as_each_alone(rt: HostRuntime) {
-    assert_eq!(rt; are_sealed_alike(), Ok([true; 4]));
-}
-
-// Which of four blocks are accepted: the second has another byte, and the fourth another number than it should have.
-fn accepted() -> Result<(bool, bool, bool, bool), PoolError> {
-    let block = seal(5, 77, Group(9), 84, b"abcd")?;
-    let expected = Expected {
-        address: 4194304,
-        kind: 5,
-        guid: 77,
-        number: 84,
-        group: Some(Group(9)),
-        check: Some(block.check()),
-    };
-    let other = Expected {
-        number: 85,
-        ..expected
-    };
-    let mut torn = *block.as_bytes();
-    torn[4095] = 1;
-    let good = ReadBlock {
-        block: block.as_bytes(),
-        expected: &expected,
-    };
-    let torn = ReadBlock {
-        block: &torn,
-        expected: &expected,
-    };
-    let misplaced = ReadBlock {
-        block: block.as_bytes(),
-        expected: &other,
-    };
-    Ok(are_expected(&good, &torn, &good, &misplaced))
-}
-
-#[test]
-fn four_blocks_are_accepted_as_each_alone(rt: HostRuntime) {
-    assert_eq!(rt; accepted(), Ok((true, false, true, false)));
 }

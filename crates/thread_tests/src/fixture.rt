@@ -22,8 +22,8 @@ pub const SMALL: Size = Size {
     dirty_max: 16_777_216,
 };
 
-/// A device of so many sectors with a new pool, whose group 4 is synced.
-pub fn new_device(alloc: Global, sectors: u64) -> Result<MemDevice, PoolError> {
+// A device of so many sectors with a new pool, whose group 4 is synced.
+fn new_device(alloc: Global, sectors: u64) -> Result<MemDevice, PoolError> {
     let device = MemDevice::new(alloc, sectors)?;
     create(device, b"tank", 77, 5).map_err(|(error, _)| error)
 }

@@ -4,21 +4,15 @@
 #![tactic(auto)]
 
 #[cfg(test)]
-mod answers;
-#[cfg(test)]
-mod durable;
-#[cfg(test)]
-mod each_call;
-#[cfg(test)]
 mod fixture;
 #[cfg(test)]
 mod four_jobs;
 #[cfg(test)]
+mod free_pools;
+#[cfg(test)]
 mod load;
 #[cfg(test)]
 mod lock_calls;
-#[cfg(test)]
-mod long_writes;
 #[cfg(test)]
 mod own_ways;
 #[cfg(test)]

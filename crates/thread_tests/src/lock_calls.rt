@@ -1,12 +1,14 @@
-//! Calls that wait for another handle: a lock for its unlock, and a begin at the dirty limit for its sync.
+//! Calls that wait for another handle: a lock for its unlock, and a begin at the dirty limit for its sync. And a lock
+//! that waits for no longer than it is told.
 
-use crate::fixture::{SMALL, Size, new_pool};
+use crate::fixture::{SMALL, Size, new_pool, on_pool};
 use base::{LockId, Mode, ObjectId, Op, Ops, Owner, Plan, PoolError, Range, Reply, Step};
 use device_model::MemDevice;
 use pool_threads::{Handle, Pool};
 use std::alloc::Global;
 use std::sync::Wait;
 use std::sync::atomic::{AtomicBool, Ordering};
+use std::test::Fail;
 use std::thread::{Threads, join, sleep};
 use std::time::{Clock, Duration};
 
@@ -209,4 +211,25 @@ fn a_lock_waits_for_an_unlock_and_a_begin_for_a_sync(rt: HostRuntime) {
         Ok((Ok(()), Ok(asked)))
     });
     assert_eq!(rt; found, wanted);
+}
+
+// What a lock with a limit returns while another owner has the range, and whether it gets it then.
+fn lock_twice<W: Wait>(
+    rt: &W,
+    handle: &mut Handle<'_, MemDevice>,
+) -> Result<(Option<PoolError>, bool), PoolError> {
+    let limit = Duration::from_millis(2);
+    let held = handle.lock(rt, HOLDER, OBJECT, Range::WHOLE, Mode::Writer)?;
+    let first = handle.lock_within(rt, ASKER, OBJECT, Range::WHOLE, Mode::Reader, limit);
+    handle.unlock(rt, HOLDER, held)?;
+    let second = handle.lock_within(rt, ASKER, OBJECT, Range::WHOLE, Mode::Reader, limit);
+    Ok((first.err(), second.is_ok()))
+}
+
+#[test]
+fn a_lock_with_a_limit_is_refused_at_its_end(rt: HostRuntime) -> Result<(), Fail> {
+    let pool = new_pool(rt.alloc(), SMALL)?;
+    let locked = on_pool(pool, |handle| lock_twice(&rt, handle));
+    assert_eq!(rt; locked, Ok((Some(PoolError::Busy), true)));
+    Ok(())
 }

@@ -1,9 +1,7 @@
 //! Whole transactions, each by one call of a handle.
 
-use crate::fixture::{SMALL, Size, new_pool, on_pool, read_all};
-use base::{
-    Bytes, LockId, Mode, ObjectId, Op, Ops, Ordinal, Owner, PoolError, Range, Receipt, Reply, Step,
-};
+use crate::fixture::{SMALL, new_pool, on_pool, read_all};
+use base::{Bytes, Mode, ObjectId, Op, Ops, Ordinal, Owner, PoolError, Range, Receipt};
 use device_model::MemDevice;
 use pool_threads::{Handle, Pool};
 use std::alloc::Global;
@@ -148,55 +146,6 @@ fn four_threads_transact_on_one_object(rt: HostRuntime) -> Result<(), Fail> {
     Ok(())
 }
 
-// What a write to no object returns, and then a lock of it that does not wait, and the unlock of this.
-fn write_to_none<W: Wait>(
-    rt: &W,
-    alloc: Global,
-    handle: &mut Handle<'_, MemDevice>,
-) -> Result<(Result<Receipt, PoolError>, bool, Result<(), PoolError>), PoolError> {
-    let ops = Ops::new(vec![in alloc; write(alloc, 0, 1)?]?);
-    let refused = handle.transact(rt, Owner(1), ops);
-    // locks are named in the order in which they are granted, from 0 on
-    let lock = Step::Lock(Owner(2), OBJECT, Range::WHOLE, Mode::Writer);
-    let is_second = matches!(handle.step(rt, lock), Reply::Locked(LockId(1)));
-    Ok((refused, is_second, handle.unlock(rt, Owner(2), LockId(1))))
-}
-
-// They, what a transaction of no operation returns, and then the ordinal of one, and whether the object has its byte.
-fn write_to_none_and_create<W: Wait>(
-    rt: &W,
-    alloc: Global,
-    handle: &mut Handle<'_, MemDevice>,
-) -> Result<
-    (
-        (Result<Receipt, PoolError>, bool, Result<(), PoolError>),
-        Result<Receipt, PoolError>,
-        (Ordinal, bool),
-    ),
-    PoolError,
-> {
-    let returned = write_to_none(rt, alloc, handle)?;
-    let empty = handle.transact(rt, Owner(1), Ops::new(Vec::new(alloc)));
-    let receipt = create_and_write(rt, alloc, handle, Owner(1))?;
-    let has_byte = has_bytes(rt, handle, &[7])?;
-    Ok((returned, empty, (receipt.ordinal, has_byte)))
-}
-
-// The object is absent, so the commit is refused. The range is free afterwards, and so is the place of the transaction.
-// The create touches the whole object, so the write's range overlaps it: a plan may overlap itself.
-#[test]
-fn a_refused_transaction_leaves_no_lock(rt: HostRuntime) -> Result<(), Fail> {
-    let pool = new_pool(rt.alloc(), SMALL)?;
-    let returned = on_pool(
-        pool,
-        |handle| write_to_none_and_create(&rt, rt.alloc(), handle),
-    );
-    let refused = (Err(PoolError::NoObject), true, Ok(()));
-    let empty = Err(PoolError::BadRange);
-    assert_eq!(rt; returned, Ok((refused, empty, (Ordinal(0), true))));
-    Ok(())
-}
-
 // What a write of the first byte returns whose owner holds a lock of these bytes, and whether another is refused them
 // after it.
 fn write_locked<W: Wait>(
@@ -238,74 +187,5 @@ fn a_transaction_under_the_callers_locks_leaves_them_held(rt: HostRuntime) -> Re
         (Some(PoolError::NotLocked), true),
     ];
     assert_eq!(rt; written, Ok((rows, true)));
-    Ok(())
-}
-
-// Makes the object, and writes its first byte in so many transactions: the ordinal of the last one.
-fn write_again<W: Wait>(
-    rt: &W,
-    alloc: Global,
-    handle: &mut Handle<'_, MemDevice>,
-    count: u32,
-) -> Result<Ordinal, PoolError> {
-    let mut receipt = create_and_write(rt, alloc, handle, Owner(1))?;
-    for _ in 0..count {
-        let ops = Ops::new(vec![in alloc; write(alloc, 0, 9)?]?);
-        receipt = handle.transact(rt, Owner(1), ops)?;
-    }
-    Ok(receipt.ordinal)
-}
-
-// No loop syncs, and 1 MiB has room for 51 of them, of 20,480 bytes each.
-#[test]
-fn one_thread_commits_on_at_the_dirty_limit(rt: HostRuntime) -> Result<(), Fail> {
-    let size = Size {
-        sectors: 16_384,
-        dirty_max: 1_048_576,
-    };
-    let pool = new_pool(rt.alloc(), size)?;
-    let last = on_pool(pool, |handle| write_again(&rt, rt.alloc(), handle, 10_000));
-    assert_eq!(rt; last, Ok(Ordinal(10_000)));
-    Ok(())
-}
-
-// The least pool, whose dirty limit is above what it has room for.
-const CRAMPED: Size = Size {
-    sectors: 12_288,
-    dirty_max: 16_777_216,
-};
-
-// Its blocks have room for 73 of them. No loop syncs.
-#[test]
-fn one_thread_commits_on_without_space(rt: HostRuntime) -> Result<(), Fail> {
-    let pool = new_pool(rt.alloc(), CRAMPED)?;
-    let last = on_pool(pool, |handle| write_again(&rt, rt.alloc(), handle, 2_000));
-    assert_eq!(rt; last, Ok(Ordinal(2_000)));
-    Ok(())
-}
-
-// Makes objects of 60,000 bytes, each in a transaction, until one is refused: the refusal, and the bytes that are
-// charged then.
-fn fill<W: Wait>(
-    rt: &W,
-    alloc: Global,
-    handle: &mut Handle<'_, MemDevice>,
-) -> Result<(PoolError, u64), PoolError> {
-    for number in 0..1_000u32 {
-        let object = ObjectId(number);
-        let bytes = Bytes::new(vec![in alloc; 7; 60_000]?);
-        let ops = vec![in alloc; Op::Create(object), Op::Write(object, 0, bytes)]?;
-        if let Err(refusal) = handle.transact(rt, Owner(1), Ops::new(ops)) {
-            return Ok((refusal, handle.status(rt).dirty));
-        }
-    }
-    Err(PoolError::TooMany)
-}
-
-#[test]
-fn a_full_pool_is_synced_before_it_refuses(rt: HostRuntime) -> Result<(), Fail> {
-    let pool = new_pool(rt.alloc(), CRAMPED)?;
-    let refused = on_pool(pool, |handle| fill(&rt, rt.alloc(), handle));
-    assert_eq!(rt; refused, Ok((PoolError::NoSpace, 0)));
     Ok(())
 }
