@@ -2,6 +2,7 @@
 //! call alone. So it is refused as soon as that contract says less.
 #![tactic(auto)]
 
+mod commits;
 mod duties;
 mod locks;
 mod logs;
@@ -9,4 +10,3 @@ mod reads;
 mod ready;
 mod refused;
 mod syncs;
-mod transactions;

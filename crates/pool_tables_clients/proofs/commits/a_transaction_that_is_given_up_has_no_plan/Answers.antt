@@ -1,7 +1,7 @@
 use Rattle.std.proofs.Common.{◌∙◌}
 use Rattle.pool_tables.specs.Shows.{pool_shown}
 use Rattle.pool_tables_clients.proofs.Callers.{given_up, none_mapped}
-use Rattle.pool_tables_clients.proofs.transactions.a_transaction_that_is_given_up_has_no_plan.Goals as goal
+use Rattle.pool_tables_clients.proofs.commits.a_transaction_that_is_given_up_has_no_plan.Goals as goal
 
 pub returns : goal.returns
 returns c =

@@ -4,7 +4,7 @@ use Rattle.pool_tables.specs.Shows.{pool_shown}
 use Rattle.pool_tables_clients.proofs.Callers.{given_up}
 use Rattle.pool_tables.proofs.Callers.{refused_by}
 use Rattle.pool_tables.proofs.OfNoDevice.{some_past}
-use Rattle.pool_tables_clients.proofs.transactions.a_transaction_is_given_up_once.Goals as goal
+use Rattle.pool_tables_clients.proofs.commits.a_transaction_is_given_up_once.Goals as goal
 
 pub returns : goal.returns
 returns c =
