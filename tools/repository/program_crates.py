@@ -1,13 +1,14 @@
 """Looks whether the programs of `tools/programs` name only crates that are there, and whether each can be built.
 
-A crate is one of `crates`, or one of the kit that a crate here uses. Each program has to have a line of `crates.txt` in
-`build_program`, and may use no crate that its line doesn't have.
+A crate is one of `crates`, or one of the kit that a crate here or a program of `readme_program` uses. Each program has
+to have a line of `crates.txt` in `build_program`, and may use no crate that its line doesn't have.
 """
 
 import re
 
 from tools import TOP
 from tools.repository.build_program import PROGRAMS, SOURCES
+from tools.repository.readme_program import LINES
 
 # What a source names besides crates.
 BUILT_IN = {"std", "core", "crate", "self", "super"}
@@ -22,7 +23,8 @@ def crates_of(line):
 
 def known_crates():
     """The crates that are there, and those of the kit that they use."""
-    used = {name for line in (TOP / "crates.txt").read_text().splitlines() for name in crates_of(line)}
+    lines = [*(TOP / "crates.txt").read_text().splitlines(), *LINES.values()]
+    used = {name for line in lines for name in crates_of(line)}
     return used | {path.name for path in (TOP / "crates").iterdir() if path.is_dir()}
 
 

@@ -42,7 +42,7 @@ def ran(command, name):
 
 
 def add_arguments(parser):
-    told = "try, which proves nothing and takes a minute or two for each (not given), or run, which proves all crates below"
+    told = "try, which proves nothing and takes a minute or two for each (not given), or run, which proves all below"
     parser.add_argument("command", metavar="COMMAND", nargs="?", default="try", choices=WORDS, help=told)
     parser.add_argument("names", metavar="NAME", nargs="*", help=f"{', '.join(LINES)}; all if not given")
 
