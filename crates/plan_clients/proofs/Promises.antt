@@ -176,7 +176,7 @@ module _ (source : PlanSource) (after : FinMap nat_cmp (List ℕ)) (objects : BT
 -- a block of a record that lies past the end of its object
 module _ (source : PlanSource) (after : FinMap nat_cmp (List ℕ)) (objects : BTreeMap ObjectId ObjectChanges) (plan : TreePlan) (told : GivesTree source after objects plan) (back : GivesBack source plan)
     (object : finite.get after 7 ≡ Some (1 ∷ 2 ∷ 3 ∷ [])) (at : (pointers_before source (Data (strip_number 7 1) 0)).address ≡ 4194304) where
-  here : Place
+  abbrev here : Place
   here = Data (strip_number 7 1) 0
 
   in_range : IsPlace here
