@@ -35,11 +35,15 @@ def parts(name):
     return found
 
 
-def difference(ztxg, script, wanted, count):
-    """What a script prints otherwise with so many blocks, or None. Its first line is the one before it."""
+def with_blocks(script, count):
+    """A script whose imports have so many blocks."""
+    return [b"%s %d" % (line, count) if IMPORT.fullmatch(line) else line for line in script]
+
+
+def difference(ztxg, script, wanted):
+    """What a script prints otherwise, or None. Its first line is the one before it."""
     size, moment = script[0].split(b" ", 3)[1:3]
-    lines = [b"%s %d" % (line, count) if IMPORT.fullmatch(line) else line for line in script[1:]]
-    ran = run([ztxg, "script", size, "-", "--moment", moment], lines, SECONDS)
+    ran = run([ztxg, "script", size, "-", "--moment", moment], script[1:], SECONDS)
     found = [script[0], *lines_of(ran.out), f"== status {ran.status}".encode()]
     for at, both in enumerate(zip(wanted, found)):
         if both[0] != both[1]:
@@ -61,7 +65,7 @@ def main(ztxg):
     wrong = 0
     for count in COUNTS:
         for script, wanted in picked:
-            differs = difference(ztxg, script, wanted, count)
+            differs = difference(ztxg, with_blocks(script, count), wanted)
             if differs:
                 wrong += 1
                 print(f"{script[0].decode(errors='replace')}, with {count} blocks: {differs}", flush=True)

@@ -1,7 +1,10 @@
-"""Builds a program of tools/programs, in a copy of the repository.
+"""Builds a program of tools/programs, or `ztxg` without proofs, in a copy of the repository.
 
-The crates that it uses have to be checked (`rt all check`), or they are proved first. The gate doesn't build these
-programs. It reads each file that ends in `.rt`, so theirs end in `.rt.txt`.
+The crates that a program of tools/programs uses have to be checked (`rt all check`), or they are proved first. The gate
+doesn't build these programs. It reads each file that ends in `.rt`, so theirs end in `.rt.txt`.
+
+`ztxg` is built without any proof (`tools/harness/unproved.py`), and its `--version` says `unproved`. It does what the
+gate's program does, half as fast, and ends if a check fails that a proof would have ruled out.
 """
 
 import pathlib
@@ -10,6 +13,7 @@ import subprocess
 import tempfile
 
 from tools import TOP, Failed
+from tools.harness import unproved
 
 SOURCES = TOP / "tools/programs"
 # The line of each program in crates.txt.
@@ -32,13 +36,23 @@ def copied(room, line, *left_out):
     return copy / "crates"
 
 
+def build_unproved(room, path):
+    """Builds `ztxg` without proofs. The copy of the repository that it is built in is `copy` of the folder."""
+    crates = copied(room, "", "out")
+    unproved.say_unproved(crates.parent)
+    unproved.build(crates / unproved.PROGRAM, pathlib.Path(path).absolute(), pathlib.Path(room))
+
+
 def add_arguments(parser):
-    parser.add_argument("name", metavar="NAME", choices=PROGRAMS, help=", ".join(PROGRAMS))
+    names = [*PROGRAMS, unproved.PROGRAM]
+    parser.add_argument("name", metavar="NAME", choices=names, help=", ".join(names))
     parser.add_argument("path", metavar="PATH", type=pathlib.Path, help="the file that the built program goes to")
 
 
 def main(name, path):
     with tempfile.TemporaryDirectory() as room:
+        if name == unproved.PROGRAM:
+            return build_unproved(room, path)
         crate = copied(room, PROGRAMS[name]) / name
         (crate / "src").mkdir(parents=True)
         for source in (SOURCES / name / "src").glob("*.rt.txt"):

@@ -1,0 +1,123 @@
+"""Runs all checks of a built program side by side.
+
+They are those of `checks` that need the program alone, the scripts of `crates/script_rows`, and the tests of the
+clients. Each has a limit of eight minutes, after which it fails, and all together take that long at most on four
+processors. A check is skipped by name if a command that it needs isn't installed; so is each client.
+
+- `crashes` and `frames` have a minute each. The seed of `crashes` is the day, which its name tells: the same words make
+  the same scripts again.
+- `hostile` judges 2,000 images.
+- `stops` and `lacking_memory` would take hours on all scripts. Here they get a few that touch each part of a pool and
+  take 5 to 20 processor seconds each: answers, a sync, the log, a long record and a name. `stops` also stops a create
+  over a pool, in a minute. Of the imports after a stop each hundredth is stopped too: all would take ten times as long.
+
+A line tells how each check ended, and after how many seconds. What a failed one printed follows. The last line is
+`N passed, M failed`.
+"""
+
+import datetime
+import os
+import shlex
+import shutil
+import sys
+from typing import List, NamedTuple
+
+from tools import TOP
+from tools.harness.pool_files import IN_MEMORY
+from tools.harness.program import add_program, run
+from tools.harness.side_by_side import Part, SideBySide
+
+LIMIT = 480
+# Words of the scripts that are stopped, and of those whose requests for memory fail.
+STOPPED = [
+    "a create over a pool",
+    "answers.rows",
+    "a commit is durable after the flush of its log block",
+    "one transaction is synced, and read after a crash",
+    "four blocks are synced in ten steps",
+    "records of a log that was flushed",
+]
+LACKING = [
+    "answers.rows",
+    "records of a log that was flushed",
+    "each step of a sync is a device call",
+    "the last part of a record",
+    "a name and an object",
+]
+# Each so many imports after a stop are stopped too.
+SHARE = "100"
+# The files of pools and what else the checks make, at most.
+FILES = 4 * 2**30
+
+
+class Check(NamedTuple):
+    """A tool with the words behind the program's, and the commands that it needs."""
+
+    tool: str
+    words: List[str] = []
+    needs: List[str] = []
+
+
+def seed_of_day():
+    return datetime.datetime.now(datetime.timezone.utc).strftime("%Y%m%d")
+
+
+def all_checks():
+    """The checks, the longest first."""
+    cc = ["cc"]
+    return [
+        Check("caches"),
+        Check("old_pools", needs=cc),
+        Check("hostile", ["0:1000"]),
+        Check("hostile", ["1000:2000"]),
+        Check("crashes", ["60", seed_of_day()]),
+        Check("frames", ["60"]),
+        Check("script_rows"),
+        *(Check("stops", [word, "1", SHARE]) for word in STOPPED),
+        *(Check("lacking_memory", [word], cc) for word in LACKING),
+        Check("hostile_rows"),
+        Check("power_failures", needs=cc),
+        Check("commands"),
+        Check("two_creates", ["20"]),
+        Check("frame_rows"),
+        Check("refused_calls", needs=cc),
+        Check("file_calls", needs=cc),
+    ]
+
+
+def parts(ztxg, top):
+    """The commands of all checks, which are made by the tools in this folder."""
+    for check in all_checks():
+        name = shlex.join([check.tool, *check.words])
+        missing = [command for command in check.needs if not shutil.which(command)]
+        if missing:
+            print(f"skipped {name}: {' '.join(missing)} not installed", flush=True)
+        else:
+            words = [sys.executable, top / "tools", check.tool, ztxg, *check.words]
+            yield Part(name, words, LIMIT, top)
+    yield Part("clients", [sys.executable, top / "clients/check", ztxg], LIMIT, top)
+
+
+def use_memory():
+    """Has the checks make their files in memory, if there is room: a flush of a disk takes most of the time of some."""
+    room = os.statvfs(IN_MEMORY) if IN_MEMORY else None
+    if room and room.f_bavail * room.f_frsize >= FILES:
+        os.environ["TMPDIR"] = IN_MEMORY
+
+
+def start_all(ztxg, side_by_side, top=TOP):
+    """Starts all checks of a program."""
+    print(f"the checks of {run([ztxg, '--version']).text().strip()}", flush=True)
+    use_memory()
+    for part in parts(ztxg, top):
+        side_by_side.start(part)
+
+
+def add_arguments(parser):
+    add_program(parser)
+
+
+def main(ztxg):
+    side_by_side = SideBySide()
+    start_all(ztxg, side_by_side)
+    return side_by_side.end()

@@ -1,0 +1,89 @@
+import contextlib
+import io
+import pathlib
+import re
+import sys
+import tempfile
+import time
+import unittest
+
+from tools import TOP, runner
+from tools.checks import program_checks
+from tools.harness.side_by_side import Part, SideBySide
+from tools.repository import quick
+from tools.rows.script_row import rows_with
+from tools.rows.stopped_rows import Creates
+
+
+def part(name, code, limit=60):
+    """A part that is a program in Python."""
+    return Part(name, [sys.executable, "-c", code], limit)
+
+
+def ends(*parts):
+    """The status of parts that run side by side, and the lines that are told of them, without the seconds."""
+    out = io.StringIO()
+    with contextlib.redirect_stdout(out):
+        side_by_side = SideBySide()
+        for one in parts:
+            side_by_side.start(one)
+        status = side_by_side.end()
+    return status, re.sub(r", \d+ s$", "", out.getvalue(), flags=re.M).splitlines()
+
+
+class Parts(unittest.TestCase):
+    def test_one_that_passes_tells_only_what_it_skips(self):
+        status, lines = ends(part("one", "print('a line'); print('skipped two: no two')"))
+        self.assertEqual((status, lines), (0, ["passed one", "skipped two: no two", "1 passed, 0 failed"]))
+
+    def test_one_that_fails_tells_all_that_it_printed(self):
+        status, lines = ends(part("one", "import sys; print('a line', flush=True); sys.exit('a fault')"))
+        told = ["FAILED one", "a line", "a fault", "failed: one", "0 passed, 1 failed"]
+        self.assertEqual((status, lines), (1, told))
+
+    def test_one_that_waits_fails_by_name(self):
+        with tempfile.TemporaryDirectory() as room:
+            # What it started itself ends, too.
+            inner = f"import time, pathlib; time.sleep(2); pathlib.Path('{room}', 'later').touch()"
+            outer = f"import subprocess, sys; subprocess.run([sys.executable, '-c', {inner!r}])"
+            status, lines = ends(part("one", outer, 1), part("two", ""))
+            self.assertEqual((status, lines[-1]), (1, "1 passed, 1 failed"))
+            self.assertIn("failed: one", lines)
+            self.assertTrue(any(line.startswith("one had no end after 1 seconds") for line in lines))
+            time.sleep(2)
+            self.assertFalse(pathlib.Path(room, "later").exists())
+
+
+class Checks(unittest.TestCase):
+    def test_each_check_is_a_tool_that_takes_its_words(self):
+        for check in program_checks.all_checks():
+            module = runner.module_of(runner.tools()[check.tool])
+            words = runner.parser_of(check.tool, module).parse_args([sys.executable, *check.words])
+            self.assertEqual(words.ztxg, sys.executable)
+
+    def test_each_word_picks_scripts(self):
+        for word in program_checks.STOPPED + program_checks.LACKING:
+            self.assertTrue(rows_with(word) or word == Creates.TITLE, word)
+
+    def test_what_is_missing_is_skipped_by_name(self):
+        out, found = io.StringIO(), program_checks.shutil.which
+        self.addCleanup(setattr, program_checks.shutil, "which", found)
+        program_checks.shutil.which = lambda command: None
+        with contextlib.redirect_stdout(out):
+            names = [one.name for one in program_checks.parts("ztxg", TOP)]
+        self.assertIn("skipped file_calls: cc not installed\n", out.getvalue())
+        self.assertNotIn("file_calls", names)
+        self.assertIn("commands", names)
+
+
+class Quick(unittest.TestCase):
+    def test_crates_without_a_test_are_skipped_by_name(self):
+        out = io.StringIO()
+        with contextlib.redirect_stdout(out):
+            names = [one.name for one in quick.tests(["log_tests", "groups"])]
+        self.assertEqual(names, ["tests of log_tests"])
+        self.assertEqual(out.getvalue(), "skipped groups: it has no test\n")
+
+    def test_what_is_no_crate(self):
+        with self.assertRaises(quick.argparse.ArgumentTypeError):
+            quick.crate("nothing")
