@@ -11,13 +11,21 @@ those that no flush came after. `tools/model/pool_image.py` says what it mounts,
 hold the transactions up to a number and no other ones. No transaction is lost that was answered as durable before that
 call, and none is there that wasn't asked for yet. The next round serves the last image of a round, and finds the same.
 
+The same is judged of a load by four threads, which shows on a terminal how many percent of its writes are durable. An
+image has to hold as many, of each stream the first ones. A stream that has begun leaves no stream of the same thread
+before it short of a write.
+
 Each difference is printed, and then the status is 1. The end prints how many images were judged.
 """
 
 import bisect
+import os
 import pathlib
+import pty
 import random
+import re
 import struct
+import subprocess
 
 from tools.harness import shims
 from tools.harness.judge import Judge
@@ -26,6 +34,7 @@ from tools.harness.program import add_program
 from tools.harness.served import Served
 from tools.model.frames import Request, Server, read_answers, requests_frame
 from tools.model.layout import OBJECTS
+from tools.model.load import BETWEEN, STREAMS, contents, counts_held
 from tools.model.pool_image import Damaged, Image, NoPool, mount, read_pool
 from tools.model.serial_pool import LEAST
 from tools.rows.script_row import all_strings
@@ -37,6 +46,24 @@ COUNT = 40
 FRAME, LENGTHS = [1, 1, 1, 2, 5], [1, 100, 3_000, 4_500, 9_000]
 # Which call of a kind is refused in a round, counted from the end of its import on.
 ROUNDS = [("", 0), ("flush", 1), ("flush", 2), ("write", 1), ("write", 2), ("write", 5), ("flush", 9), ("write", 40)]
+
+
+# A load.
+WORKERS, WRITES, SEED = 4, 16, 5
+
+
+def read_terminal(file):
+    """What a terminal shows, nothing once its other end is closed."""
+    try:
+        return os.read(file, 65_536)
+    except OSError:
+        return b""
+
+
+def held_of(objects, stream):
+    """The numbers of first writes of a stream that leave what a pool holds."""
+    found = [counts_held(objects, SEED, stream, at) for at in range(0, WRITES + 1, BETWEEN)]
+    return {count for held in found for count, _ in held if count <= WRITES}
 
 
 class Numbered:
@@ -73,15 +100,18 @@ class PowerFailures(Judge):
         self.noted, self.copied = pathlib.Path(f"{path}.calls"), pathlib.Path(f"{path}.bytes")
         self.images = 0
 
-    def serve(self, kind="", at=0):
-        """A process that serves the pool, whose calls are noted. It may refuse a call."""
+    def environment(self, kind="", at=0):
+        """That of a process whose calls are noted from now on. It may refuse a call."""
         for file in (self.noted, self.copied):
             file.write_bytes(b"")
         self.counts.clear()
         refusing = self.refusals.environment(FAIL_KIND=kind, FAIL_AT=str(at), COUNT_FILE=self.counts.path)
         noting = self.calls.environment(CALLS_FILE=str(self.noted), BYTES_FILE=str(self.copied))
-        both = f"{self.refusals.library} {self.calls.library}"
-        return Served(self.ztxg, self.path, env={**refusing, **noting, "LD_PRELOAD": both})
+        return {**refusing, **noting, "LD_PRELOAD": f"{self.refusals.library} {self.calls.library}"}
+
+    def serve(self, kind="", at=0):
+        """A process that serves the pool."""
+        return Served(self.ztxg, self.path, env=self.environment(kind, at))
 
     def made(self):
         """How many calls are noted."""
@@ -169,6 +199,50 @@ class PowerFailures(Judge):
             last = self.judge_image(what, image, numbered, least, most)
         return image, last
 
+    # A load
+
+    def load(self):
+        """Runs a load. Returns how many percent of its writes were durable after how many calls."""
+        words = [self.ztxg, "load", self.path, "--workers", str(WORKERS), "--ops", str(WRITES), "--seed", str(SEED)]
+        main, other = pty.openpty()
+        shown = []
+        with subprocess.Popen(words, stdout=subprocess.PIPE, stderr=other, env=self.environment()) as running:
+            os.close(other)
+            for text in iter(lambda: read_terminal(main), b""):
+                shown += [(self.made(), int(percent)) for percent in re.findall(rb"(\d+) percent", text)]
+            running.stdout.read()
+        os.close(main)
+        if running.returncode or not shown or shown[-1][1] != 100:
+            self.differ("a load ends with", running.returncode, shown)
+        return shown
+
+    def judge_loaded(self, what, objects, percent):
+        """What an image of a load holds, of whose writes so many percent were durable."""
+        held = [held_of(objects, stream) for stream in range(STREAMS)]
+        # A stream reports each eighth write, and these are counted.
+        reports = -(-percent * STREAMS * WRITES // BETWEEN // 100)
+        if not all(held) or sum(map(max, held)) < BETWEEN * reports:
+            self.differ(f"{what} holds {held}, and {percent} percent of the writes were durable")
+        for stream in range(WORKERS, STREAMS):
+            if held[stream] and min(held[stream]) and WRITES not in held[stream - WORKERS]:
+                self.differ(f"{what} holds writes of stream {stream}, and of the one before it only {held}")
+
+    def judge_load(self):
+        create(self.ztxg, self.path, LEAST)
+        before = pathlib.Path(self.path).read_bytes()
+        shown = self.load()
+        for made, letters, image in self.images_of(before, self.copied.read_bytes()):
+            self.images += 1
+            what = f"a load: a failure after {made} calls with `{letters}`"
+            try:
+                objects = mount(read_pool(image)).objects
+            except (NoPool, Damaged) as error:
+                self.differ(f"{what} leaves {error!r}")
+                continue
+            self.judge_loaded(what, objects, max([0, *(percent for at, percent in shown if at <= made)]))
+        if objects != contents(SEED, WRITES):
+            self.differ("a load leaves other objects at its end")
+
     def judge_all(self):
         numbered, first = Numbered(self.chance), 0
         create(self.ztxg, self.path, LEAST)
@@ -201,5 +275,6 @@ def main(ztxg, seed):
         with shims.shared_counts(*KINDS) as counts, pool_file(IN_MEMORY) as path:
             failures = PowerFailures(ztxg, calls, refusals, counts, path, random.Random(seed))
             failures.judge_all()
-    print(f"{len(ROUNDS)} rounds, {failures.images} images, {failures.differences} differences")
+            failures.judge_load()
+    print(f"{len(ROUNDS)} rounds and a load, {failures.images} images, {failures.differences} differences")
     return int(failures.differences > 0)
