@@ -1,6 +1,6 @@
 -- What the second call of a sync without blocks writes, if its group gives a name: the config of label 0.
 use Rattle.std.proofs.Common.{◌≡◌, ◌∙◌, ℕ, List, [], ap, length, refl, subst, sym}
-use Rattle.std.specs.Prelude.{Some, None, Result, Ok, Err, IfOk, slice_get}
+use Rattle.std.specs.Prelude.{Some, Result, Ok, Err, IfOk, slice_get}
 use Rattle.base.specs.declared.error.PoolError.{PoolError}
 use Rattle.base.specs.disk.Disk.{put}
 use Rattle.base.specs.disk.DiskCalls.{DiskCall, bytes_made}
@@ -16,7 +16,10 @@ use Rattle.pool_tables.proofs.OfNoDevice.{some_past}
 
 first_config : (size group : ℕ) (tree : NewTree) (config : List ℕ) → tree.blocks ≡ [] → tree.stages ≡ Some config → tree.done ≡ 1
     → slice_get (calls_of_tree size group tree) tree.done ≡ Some (Put 16384 config)
-first_config size group tree config none named flushed = rw (none, named, flushed) refl
+first_config size group tree config none named flushed =
+    let whole : tree ≡ record tree { blocks = []; stages = Some config; done = 1 } =
+    ap (λ bs. record tree { blocks = bs }) none ∙ ap (λ s. record tree { blocks = []; stages = s }) named ∙ ap (λ n. record tree { blocks = []; stages = Some config; done = n }) flushed in
+    subst (λ (t : NewTree). slice_get (calls_of_tree size group t) t.done ≡ Some (Put 16384 config)) (sym whole) refl
 
 put_by : (old new : ShownPool) (past later : Past) (after tree : NewTree) (config : List ℕ) → IsCallMade (held_with old past) (held_with new later) after → old.running ≡ Some tree
     → tree.blocks ≡ [] → tree.stages ≡ Some config → tree.done ≡ 1 → new.now ≡ put 16384 config old.now
