@@ -123,10 +123,13 @@ class RefusedCalls(Judge):
 
     # A served pool
 
-    def ask(self, served, *requests):
-        """What came of each request, with its content."""
-        served.send(requests_frame([Request(at, call, needs) for at, (call, needs) in enumerate(requests)]))
-        return [(answer.came, answer.content) for answer in read_answers(served.answer())]
+    def ask(self, served, *frames):
+        """What came of each request of these frames, with its content. All are sent before the first one is answered, so
+        that they take no longer than they must."""
+        for requests in frames:
+            served.send(requests_frame([Request(at, *request) for at, request in enumerate(requests)]))
+        answers = [answer for _ in frames for answer in read_answers(served.answer())]
+        return [(answer.came, answer.content) for answer in answers]
 
     def end(self, served):
         """The status of a process and its errors, after the end of its input."""
@@ -146,7 +149,7 @@ class RefusedCalls(Judge):
         """How many flushes a served pool has made before its first frame."""
         self.make()
         served = Served(self.ztxg, self.file, env=self.environment())
-        self.ask(served, ("name", ()))
+        self.ask(served, [("name", ())])
         count = self.counts.read()["flush"]
         self.end(served)
         return count
@@ -156,10 +159,9 @@ class RefusedCalls(Judge):
         and how many flushes were made."""
         self.make()
         served = Served(self.ztxg, self.file, env=self.environment("flush", flush))
-        found = []
-        for at in range(5):
-            found += self.ask(served, ("transact_durably", [("w", 2, 0, b"%d" % at)] if at else CREATE))
-        found += self.ask(served, ("flush", ()), *(("durable", (at, 9)) for at in range(5)), ("name", ()))
+        commits = [[("transact_durably", [("w", 2, 0, b"%d" % at)] if at else CREATE)] for at in range(5)]
+        last = [("flush", ()), *(("durable", (at, 9)) for at in range(5)), ("name", ())]
+        found = self.ask(served, *commits, last)
         status, errors = self.end(served)
         got = program.run([self.ztxg, "get", self.file, "2"]).out
         return found, status, errors in SUSPENDED, got in (b"2", b"3"), self.counts.read()["flush"]
@@ -178,11 +180,11 @@ class RefusedCalls(Judge):
         self.make()
         self.ends(["put", self.file, "1"], "", 0, 0, "put 6 bytes in 1 transactions\n", text=["hello"])
         served = Served(self.ztxg, self.file, "-v")
-        self.ask(served, ("name", ()))
+        self.ask(served, [("name", ())])
         os.truncate(self.file, SIZE // 4)
         cut = pathlib.Path(self.file).read_bytes()
         asked = [("read", (1, 0, 6)), ("transact_durably", [("w", 2, 0, b"later")]), ("transact_durably", CREATE)]
-        found = [one for request in [*asked, ("flush", ())] for one in self.ask(served, request)]
+        found = self.ask(served, *([request] for request in [*asked, ("flush", ())]))
         status, errors = self.end(served)
         is_told = re.fullmatch(SHORTER, errors) is not None
         return [content[-17:] for _, content in found], status, is_told, pathlib.Path(self.file).read_bytes() == cut
