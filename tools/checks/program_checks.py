@@ -28,6 +28,8 @@ from tools.harness.program import add_program, run
 from tools.harness.side_by_side import Part, SideBySide
 
 LIMIT = 480
+# The tests of `clients/check`. Those of the disk take longest, if nbdkit is installed.
+CLIENTS = [["nbdkit"], ["c", "c_with_sanitizers", "python", "rust"]]
 # Words of the scripts that are stopped, and of those whose requests for memory fail.
 STOPPED = [
     "a create over a pool",
@@ -87,6 +89,8 @@ def all_checks():
 
 def parts(ztxg, top):
     """The commands of all checks, which are made by the tools in this folder."""
+    for tests in CLIENTS:
+        yield Part(f"clients: {', '.join(tests)}", [sys.executable, top / "clients/check", ztxg, *tests], LIMIT, top)
     for check in all_checks():
         name = shlex.join([check.tool, *check.words])
         missing = [command for command in check.needs if not shutil.which(command)]
@@ -95,7 +99,6 @@ def parts(ztxg, top):
         else:
             words = [sys.executable, top / "tools", check.tool, ztxg, *check.words]
             yield Part(name, words, LIMIT, top)
-    yield Part("clients", [sys.executable, top / "clients/check", ztxg], LIMIT, top)
 
 
 def use_memory():
@@ -118,6 +121,6 @@ def add_arguments(parser):
 
 
 def main(ztxg):
-    side_by_side = SideBySide()
-    start_all(ztxg, side_by_side)
-    return side_by_side.end()
+    with SideBySide() as side_by_side:
+        start_all(ztxg, side_by_side)
+        return side_by_side.end()

@@ -14,6 +14,8 @@ from tools import TOP
 
 # A line that begins so is printed of a command that passed, too.
 SKIPPED = "skipped "
+# Of a longer text so many characters of its front and of its end are printed.
+SHOWN = 8_000
 
 
 class Part(NamedTuple):
@@ -34,10 +36,18 @@ class Ended(NamedTuple):
     lines: List[str]
 
     def text(self):
-        """What is told of the part: all that a failed one printed, and what another one skipped."""
+        """What is told of the part: what a failed one printed, and what another one skipped."""
         told = f"{'passed' if self.is_passed else 'FAILED'} {self.part.name}, {self.seconds:.0f} s"
         skipped = [line for line in self.lines if line.startswith(SKIPPED)]
-        return "\n".join([told, *(skipped if self.is_passed else self.lines)])
+        return "\n".join([told, *(skipped if self.is_passed else shortened(self.lines))])
+
+
+def shortened(lines):
+    """These lines, or the front and the end of a longer text."""
+    text = "\n".join(lines)
+    if len(text) <= 2 * SHOWN:
+        return lines
+    return [text[:SHOWN], f".. {len(text) - 2 * SHOWN} characters ..", text[-SHOWN:]]
 
 
 def processors():
@@ -45,48 +55,66 @@ def processors():
     return len(os.sched_getaffinity(0))
 
 
-def wait(process, limit):
-    """Whether a process ended in so many seconds. If not, it is killed with all that it started in its group."""
-    try:
-        process.wait(limit)
-        return True
-    except subprocess.TimeoutExpired:
-        return False
-    finally:
-        with contextlib.suppress(ProcessLookupError):
-            os.killpg(process.pid, signal.SIGKILL)
-        process.wait()
-
-
-def run(part):
-    """Runs a part in a group of its own, and returns how it ended."""
-    started = time.monotonic()
-    with tempfile.TemporaryFile("w+", errors="replace") as printed:
-        how = {"stdin": subprocess.DEVNULL, "stdout": printed, "stderr": subprocess.STDOUT, "cwd": part.folder}
-        process = subprocess.Popen([str(word) for word in part.words], start_new_session=True, **how)
-        is_over = wait(process, part.limit)
-        printed.seek(0)
-        lines = printed.read().splitlines()
-    if not is_over:
-        lines.append(f"{part.name} had no end after {part.limit} seconds: {' '.join(map(str, part.words))}")
-    return Ended(part, is_over and process.returncode == 0, time.monotonic() - started, lines)
+def kill(process):
+    """Kills a process, with all that it started in its group."""
+    with contextlib.suppress(ProcessLookupError):
+        os.killpg(process.pid, signal.SIGKILL)
+    process.wait()
 
 
 class SideBySide:
-    """Parts that run side by side, as many as there are processors. Each is told when it ends."""
+    """Parts that run side by side, as many as there are processors. Each is told when it ends. Those that still run when
+    the `with` is left by an error, as by Ctrl-C, are killed."""
 
     def __init__(self):
-        self.pool, self.printing, self.ends = ThreadPoolExecutor(processors()), threading.Lock(), []
+        self.pool, self.lock = ThreadPoolExecutor(processors()), threading.Lock()
+        self.ends, self.running, self.is_over = [], set(), False
+
+    def __enter__(self):
+        return self
+
+    def __exit__(self, kind, *_):
+        with self.lock:
+            self.is_over = True
+            for process in self.running if kind else []:
+                kill(process)
+        self.pool.shutdown()
 
     def start(self, part):
         """Starts a part once a processor is free, and returns how to wait for its end."""
         return self.pool.submit(self.run, part)
 
+    def begin(self, part, printed):
+        """The process of a part, in a group of its own, or None if all is over."""
+        how = {"stdin": subprocess.DEVNULL, "stdout": printed, "stderr": subprocess.STDOUT, "cwd": part.folder}
+        with self.lock:
+            if self.is_over:
+                return None
+            process = subprocess.Popen([str(word) for word in part.words], start_new_session=True, **how)
+            self.running.add(process)
+        return process
+
     def run(self, part):
-        ended = run(part)
-        with self.printing:
-            print(ended.text(), flush=True)
-            self.ends.append(ended)
+        """Runs a part, tells how it ended, and returns that."""
+        started = time.monotonic()
+        with tempfile.TemporaryFile("w+", errors="replace") as printed:
+            process = self.begin(part, printed)
+            if not process:
+                return None
+            try:
+                process.wait(part.limit)
+                is_passed, late = process.returncode == 0, []
+            except subprocess.TimeoutExpired:
+                is_passed, late = False, [f"{part.name} had no end after {part.limit} seconds"]
+            # A process that it left behind ends, too.
+            kill(process)
+            printed.seek(0)
+            ended = Ended(part, is_passed, time.monotonic() - started, printed.read().splitlines() + late)
+        with self.lock:
+            self.running.remove(process)
+            if not self.is_over:
+                print(ended.text(), flush=True)
+                self.ends.append(ended)
         return ended
 
     def end(self):

@@ -24,10 +24,10 @@ def ends(*parts):
     """The status of parts that run side by side, and the lines that are told of them, without the seconds."""
     out = io.StringIO()
     with contextlib.redirect_stdout(out):
-        side_by_side = SideBySide()
-        for one in parts:
-            side_by_side.start(one)
-        status = side_by_side.end()
+        with SideBySide() as side_by_side:
+            for one in parts:
+                side_by_side.start(one)
+            status = side_by_side.end()
     return status, re.sub(r", \d+ s$", "", out.getvalue(), flags=re.M).splitlines()
 
 
@@ -41,6 +41,11 @@ class Parts(unittest.TestCase):
         told = ["FAILED one", "a line", "a fault", "failed: one", "0 passed, 1 failed"]
         self.assertEqual((status, lines), (1, told))
 
+    def test_a_long_text_has_its_front_and_its_end(self):
+        _, lines = ends(part("one", "print('front'); print('x' * 100_000); print('end'); raise SystemExit(1)"))
+        self.assertEqual((lines[1], lines[-3]), ("front", "end"))
+        self.assertIn(".. 84010 characters ..", lines)
+
     def test_one_that_waits_fails_by_name(self):
         with tempfile.TemporaryDirectory() as room:
             # What it started itself ends, too.
@@ -52,6 +57,16 @@ class Parts(unittest.TestCase):
             self.assertTrue(any(line.startswith("one had no end after 1 seconds") for line in lines))
             time.sleep(2)
             self.assertFalse(pathlib.Path(room, "later").exists())
+
+
+    def test_an_error_ends_all(self):
+        started, out = time.monotonic(), io.StringIO()
+        with contextlib.redirect_stdout(out), self.assertRaises(KeyboardInterrupt), SideBySide() as side_by_side:
+            for number in range(20):
+                side_by_side.start(part(str(number), "import time; time.sleep(60)"))
+            raise KeyboardInterrupt
+        self.assertLess(time.monotonic() - started, 30)
+        self.assertEqual(out.getvalue(), "")
 
 
 class Checks(unittest.TestCase):
