@@ -16,14 +16,12 @@ A line tells how each check ended, and after how many seconds. What a failed one
 """
 
 import datetime
-import os
 import shlex
 import shutil
 import sys
 from typing import List, NamedTuple
 
 from tools import TOP
-from tools.harness.pool_files import IN_MEMORY
 from tools.harness.program import add_program, run
 from tools.harness.side_by_side import Part, SideBySide
 
@@ -48,8 +46,6 @@ LACKING = [
 ]
 # Each so many imports after a stop are stopped too.
 SHARE = "100"
-# The files of pools and what else the checks make, at most.
-FILES = 4 * 2**30
 
 
 class Check(NamedTuple):
@@ -101,17 +97,9 @@ def parts(ztxg, top):
             yield Part(name, words, LIMIT, top)
 
 
-def use_memory():
-    """Has the checks make their files in memory, if there is room: a flush of a disk takes most of the time of some."""
-    room = os.statvfs(IN_MEMORY) if IN_MEMORY else None
-    if room and room.f_bavail * room.f_frsize >= FILES:
-        os.environ["TMPDIR"] = IN_MEMORY
-
-
 def start_all(ztxg, side_by_side, top=TOP):
     """Starts all checks of a program."""
     print(f"the checks of {run([ztxg, '--version']).text().strip()}", flush=True)
-    use_memory()
     for part in parts(ztxg, top):
         side_by_side.start(part)
 

@@ -2,8 +2,10 @@
 
 import contextlib
 import os
+import shutil
 import signal
 import subprocess
+import sys
 import tempfile
 import threading
 import time
@@ -11,11 +13,14 @@ from concurrent.futures import ThreadPoolExecutor
 from typing import List, NamedTuple
 
 from tools import TOP
+from tools.harness.pool_files import IN_MEMORY
 
 # A line that begins so is printed of a command that passed, too.
 SKIPPED = "skipped "
 # Of a longer text so many characters of its front and of its end are printed.
 SHOWN = 8_000
+# The files of pools and what else all parts make, at most.
+ROOM = 4 * 2**30
 
 
 class Part(NamedTuple):
@@ -62,15 +67,25 @@ def kill(process):
     process.wait()
 
 
+def new_room():
+    """A new folder for files, in memory if that has room: a flush of a disk takes most of the time of some parts."""
+    memory = os.statvfs(IN_MEMORY) if IN_MEMORY else None
+    has_room = memory and memory.f_bavail * memory.f_frsize >= ROOM
+    return tempfile.mkdtemp(prefix="side-by-side-", dir=IN_MEMORY if has_room else None)
+
+
 class SideBySide:
     """Parts that run side by side, as many as there are processors. Each is told when it ends. Those that still run when
-    the `with` is left by an error, as by Ctrl-C, are killed."""
+    the `with` is left by an error, by Ctrl-C or by SIGTERM are killed. All make their files in one folder, which goes at
+    the end."""
 
     def __init__(self):
         self.pool, self.lock = ThreadPoolExecutor(processors()), threading.Lock()
         self.ends, self.running, self.is_over = [], set(), False
 
     def __enter__(self):
+        self.room = new_room()
+        self.before = signal.signal(signal.SIGTERM, lambda number, _: sys.exit(128 + number))
         return self
 
     def __exit__(self, kind, *_):
@@ -79,6 +94,8 @@ class SideBySide:
             for process in self.running if kind else []:
                 kill(process)
         self.pool.shutdown()
+        shutil.rmtree(self.room, ignore_errors=True)
+        signal.signal(signal.SIGTERM, self.before)
 
     def start(self, part):
         """Starts a part once a processor is free, and returns how to wait for its end."""
@@ -86,11 +103,12 @@ class SideBySide:
 
     def begin(self, part, printed):
         """The process of a part, in a group of its own, or None if all is over."""
+        words, environment = [str(word) for word in part.words], {**os.environ, "TMPDIR": self.room}
         how = {"stdin": subprocess.DEVNULL, "stdout": printed, "stderr": subprocess.STDOUT, "cwd": part.folder}
         with self.lock:
             if self.is_over:
                 return None
-            process = subprocess.Popen([str(word) for word in part.words], start_new_session=True, **how)
+            process = subprocess.Popen(words, start_new_session=True, env=environment, **how)
             self.running.add(process)
         return process
 
