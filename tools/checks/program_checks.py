@@ -1,8 +1,8 @@
 """Runs all checks of a built program side by side.
 
 They are those of `checks` that need the program alone, the scripts of `crates/script_rows`, and the tests of the
-clients. Each has a limit of eight minutes, after which it fails, and all together take that long at most on four
-processors. A check is skipped by name if a command that it needs isn't installed; so is each client.
+clients. On four idle processors they take less than eight minutes. One that has no end after fifteen fails. A check is
+skipped by name if a command that it needs isn't installed; so is each client.
 
 - `crashes` and `frames` have a minute each. The seed of `crashes` is the day, which its name tells: the same words make
   the same scripts again.
@@ -25,7 +25,7 @@ from tools import TOP
 from tools.harness.program import add_program, run
 from tools.harness.side_by_side import Part, SideBySide
 
-LIMIT = 480
+LIMIT = 900
 # The tests of `clients/check`. Those of the disk take longest, if nbdkit is installed.
 CLIENTS = [["nbdkit"], ["c", "c_with_sanitizers", "python", "rust"]]
 # Words of the scripts that are stopped, and of those whose requests for memory fail.

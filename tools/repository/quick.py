@@ -21,7 +21,7 @@ from tools.harness.program import built, run
 from tools.harness.side_by_side import Part, SideBySide
 from tools.repository.build_program import copied
 
-LIMIT, BUILD_LIMIT = 480, 1_200
+LIMIT = 1_200
 TEST = re.compile(r"^\s*#\[test\]", re.M)
 NO_PROOF = "Nothing is proved here: only .ci/run proves, and tries the edits that have to be refused."
 
@@ -65,7 +65,7 @@ def main(crates, program):
     with tempfile.TemporaryDirectory() as room, SideBySide() as side_by_side:
         path = pathlib.Path(room, unproved.PROGRAM)
         build = [sys.executable, TOP / "tools", "build_program", unproved.PROGRAM, path]
-        building = None if program else side_by_side.start(Part("build", build, BUILD_LIMIT))
+        building = None if program else side_by_side.start(Part("build", build, LIMIT))
         side_by_side.start(Part("check", [sys.executable, TOP / "tools", "check"], LIMIT))
         for part in tests(crates):
             side_by_side.start(part)
