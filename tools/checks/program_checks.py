@@ -2,7 +2,8 @@
 
 They are those of `checks` that need the program alone, the scripts of `crates/script_rows`, and the tests of the
 clients. On four idle processors they take less than eight minutes. One that has no end after fifteen fails. A check is
-skipped by name if a command that it needs isn't installed; so is each client.
+skipped by name if a command that it needs isn't installed; so is each client. A WORD picks the checks whose names have
+it.
 
 - `crashes` and `frames` have a minute each. The seed of `crashes` is the day, which its name tells: the same words make
   the same scripts again.
@@ -83,32 +84,34 @@ def all_checks():
     ]
 
 
-def parts(ztxg, top):
-    """The commands of all checks, which are made by the tools in this folder."""
+def parts(ztxg, top, word=""):
+    """The commands of all checks whose names have a word, which are made by the tools in this folder."""
     for tests in CLIENTS:
-        yield Part(f"clients: {', '.join(tests)}", [sys.executable, top / "clients/check", ztxg, *tests], LIMIT, top)
+        name = f"clients: {', '.join(tests)}"
+        if word in name:
+            yield Part(name, [sys.executable, top / "clients/check", ztxg, *tests], LIMIT, top)
     for check in all_checks():
         name = shlex.join([check.tool, *check.words])
         missing = [command for command in check.needs if not shutil.which(command)]
-        if missing:
+        if word in name and missing:
             print(f"skipped {name}: {' '.join(missing)} not installed", flush=True)
-        else:
-            words = [sys.executable, top / "tools", check.tool, ztxg, *check.words]
-            yield Part(name, words, LIMIT, top)
+        elif word in name:
+            yield Part(name, [sys.executable, top / "tools", check.tool, ztxg, *check.words], LIMIT, top)
 
 
-def start_all(ztxg, side_by_side, top=TOP):
-    """Starts all checks of a program."""
+def start_all(ztxg, side_by_side, top=TOP, word=""):
+    """Starts all checks of a program whose names have a word."""
     print(f"the checks of {run([ztxg, '--version']).text().strip()}", flush=True)
-    for part in parts(ztxg, top):
+    for part in parts(ztxg, top, word):
         side_by_side.start(part)
 
 
 def add_arguments(parser):
     add_program(parser)
+    parser.add_argument("word", metavar="WORD", nargs="?", default="", help="of the checks that are run (all)")
 
 
-def main(ztxg):
+def main(ztxg, word):
     with SideBySide() as side_by_side:
-        start_all(ztxg, side_by_side)
+        start_all(ztxg, side_by_side, word=word)
         return side_by_side.end()

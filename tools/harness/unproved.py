@@ -31,6 +31,12 @@ printf '%s\\n' "$@" > {kept}/words
 for word; do case $word in *.bc) cp "$word" {kept} ;; esac; done
 exit 1
 """
+# `rt try` also asks a check for its first refusals, which takes as long as the front end, and is no matter here.
+ASKED = """\
+#!/bin/sh
+case " $* " in *" --start "*) exit 0 ;; esac
+exec {rattle} "$@"
+"""
 # They find the rest of the kit beside themselves, so they are copied.
 COPIED = ["rt", "rtlib.py"]
 LIBRARIES = ["c/libos_c.a", "c/liblibc_c.a"]
@@ -57,18 +63,22 @@ def keeper(clang, kept):
     return KEEPER.format(**{name: shlex.quote(str(value)) for name, value in names.items()})
 
 
+def put_script(path, text):
+    path.write_text(text)
+    path.chmod(0o755)
+
+
 def kit_that_keeps(folder, kept):
     """A kit in a new folder, whose clang keeps the module of a program in another folder."""
     real = kit()
     link_all(real, folder, "bin", "toolchain")
-    link_all(real / "bin", folder / "bin", *COPIED)
+    link_all(real / "bin", folder / "bin", "rattle", *COPIED)
     for name in COPIED:
         shutil.copy2(real / "bin" / name, folder / "bin")
     link_all(real / "toolchain", folder / "toolchain", "bin")
     link_all(real / "toolchain/bin", folder / "toolchain/bin", "clang")
-    clang = folder / "toolchain/bin/clang"
-    clang.write_text(keeper(real / "toolchain/bin/clang", kept))
-    clang.chmod(0o755)
+    put_script(folder / "bin/rattle", ASKED.format(rattle=shlex.quote(str(real / "bin/rattle"))))
+    put_script(folder / "toolchain/bin/clang", keeper(real / "toolchain/bin/clang", kept))
 
 
 def run(words, folder):
