@@ -1,9 +1,9 @@
 """Runs all checks of a built program side by side.
 
-They are those of `checks` that need the program alone, the scripts of `crates/script_rows`, and the tests of the
-clients. On four idle processors they take less than eight minutes. One that has no end after fifteen fails. A check is
-skipped by name if a command that it needs isn't installed; so is each client. A WORD picks the checks whose names have
-it.
+They are those of `checks` that need the program alone, the scripts of `crates/script_rows`, the tests of the clients,
+and the programs of README.md and of `examples`. On four idle processors they take less than eight minutes. One that has
+no end after fifteen fails. A check is skipped by name if a command that it needs isn't installed; so is each client. A
+WORD picks the checks whose names have it.
 
 - `crashes` and `frames` have a minute each. The seed of `crashes` is the day, which its name tells: the same words make
   the same scripts again.
@@ -27,6 +27,8 @@ from tools.harness.program import add_program, run
 from tools.harness.side_by_side import Part, SideBySide
 
 LIMIT = 900
+# The programs of README.md and of `examples`, which `rt try` compiles: minutes on one processor.
+EXAMPLES = "readme_program"
 # The tests of `clients/check`. Those of the disk take longest, if nbdkit is installed.
 CLIENTS = [["nbdkit"], ["c", "c_with_sanitizers", "python", "rust"]]
 # Words of the scripts that are stopped, and of those whose requests for memory fail.
@@ -86,6 +88,8 @@ def all_checks():
 
 def parts(ztxg, top, word=""):
     """The commands of all checks whose names have a word, which are made by the tools in this folder."""
+    if word in EXAMPLES:
+        yield Part(EXAMPLES, [sys.executable, top / "tools", EXAMPLES, "try"], LIMIT, top)
     for tests in CLIENTS:
         name = f"clients: {', '.join(tests)}"
         if word in name:
