@@ -1,8 +1,8 @@
 """Compares the version that the program and README.md name with the kit that is installed.
 
-`crates/ztxg/src/help.rt` has the version and the kit in one constant, since a build can't ask for them. Fails if
-README.md names another version or kit. If `rt version` names another kit, it says so: what passes with that kit, too,
-is no less tested.
+`crates/command_line/src/help.rt` has the version and the kit in one constant, since a build can't ask for them. Fails
+if README.md names another version or kit. If `rt version` names another kit, it says so: what passes with that kit,
+too, is no less tested.
 """
 
 import re
@@ -20,7 +20,7 @@ def installed():
 
 
 def main():
-    text = (TOP / "crates/ztxg/src/help.rt").read_text()
+    text = (TOP / "crates/command_line/src/help.rt").read_text()
     version, kit = re.search(r'VERSION: &str = "([0-9.]+) \(([^)]*)\)"', text).groups()
     readme = (TOP / "README.md").read_text()
     wrong = [f"README.md doesn't name {word}" for word in (f"version {version}", kit) if word not in readme]

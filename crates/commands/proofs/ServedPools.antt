@@ -14,7 +14,7 @@ use Rattle.pool_threads.specs.Waits.{SyncsPool}
 use Rattle.pool_threads.specs.declared.handle.Handle.{Handle}
 use Rattle.pool_threads.specs.declared.shared.Shared.{Shared}
 use Rattle.commands.specs.Serving.{ServesOn, ServesPool}
-use Rattle.commands.specs.declared.arguments.ServeArguments.{ServeArguments}
+use Rattle.command_arguments.specs.declared.arguments.ServeArguments.{ServeArguments}
 
 module _ {Dev : Type 0} {G : Ghosts Dev} (p : Shared Dev G) (ending : Ending) (old new : Streams) (exchanges : List Exchange) where
   pub synced_well : (synced : Result Group PoolError) (first last : Handle Dev G) → IsOk synced → IsNewHandle p first → ServesFrames program exchanges synced first last → BeginsWithFrames exchanges old.input

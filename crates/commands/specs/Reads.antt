@@ -9,7 +9,7 @@ use Rattle.base.specs.declared.range.Range.{Range}
 use Rattle.base.specs.formats.Limits.{max_length}
 use Rattle.base.specs.history.Contents.{Contents}
 use Rattle.tree_blocks.specs.Sources.{range_in}
-use Rattle.commands.specs.declared.arguments.GetArguments.{GetArguments}
+use Rattle.command_arguments.specs.declared.arguments.GetArguments.{GetArguments}
 
 -- the range that is asked for, up to the greatest length
 abbrev pub asked_high : ℕ → Option ℕ → ℕ

@@ -7,7 +7,7 @@ use Rattle.frame_answers.specs.declared.serving.Ending.{Ending}
 use Rattle.pool_threads.specs.Handles.{IsNewHandle, OpensBehind, moment_in, opening_view}
 use Rattle.pool_threads.specs.declared.handle.Handle.{Handle}
 use Rattle.pool_threads.specs.declared.shared.Shared.{Shared}
-use Rattle.commands.specs.declared.arguments.ServeArguments.{ServeArguments}
+use Rattle.command_arguments.specs.declared.arguments.ServeArguments.{ServeArguments}
 
 module _ {Dev : Type 0} {G : Ghosts Dev} where
   -- A new handle of this pool answered frames, one after another, and then synced the pool. The frames stand in the

@@ -20,12 +20,12 @@ ghost use Rattle.pool_threads.specs.Answers.{Makes};
 ghost use Rattle.pool_threads.specs.Handles.{shared_of};
 ghost use Rattle.pool_threads.specs.Transacts.{TransactsOrLacks};
 
-use crate::arguments::{PutArguments, RemoveArguments};
-use crate::failure::{Failure, NotesRefusals, Verbosity, report_failure};
+use crate::failure::{Failure, NotesRefusals, report_failure};
 use base::{
     Bytes, DEFAULT_DIRTY_MAX, Group, MAX_LENGTH, OBJECT_COUNT, ObjectId, Op, Ops, Owner, PoolError,
     Receipt,
 };
+use command_arguments::{PutArguments, RemoveArguments, Verbosity};
 use device_model::{FileRefusal, SectorDevice};
 use pool_threads::{Handle, PIECE_SIZE, Pool};
 use std::alloc::{AllocError, Global};

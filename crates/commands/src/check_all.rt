@@ -10,10 +10,12 @@ ghost use Rattle.commands.specs.Checks.{IsCheckRefusal, StaysOpened};
 ghost use Rattle.commands.specs.declared.checks.Finding.{Finding as ShownFinding};
 
 use crate::checks::Finding;
-use crate::failure::{Failure, NotesRefusals, REFUSED, Verbosity, report_failure};
+use crate::failure::{Failure, NotesRefusals, report_failure};
 use base::PoolError;
+use command_arguments::Verbosity;
 use device_model::{FileRefusal, SectorDevice};
 use import_replay::{Soundness, find_damages};
+use script_lines::REFUSED;
 use std::alloc::{AllocError, Global};
 use std::io::Write;
 use trees::BlockDamage;

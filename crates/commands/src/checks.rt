@@ -8,10 +8,12 @@ ghost use Rattle.commands.specs.Checks.{IsCheckRefusal, IsFoundIn, StaysOpened, 
 ghost use Rattle.commands.specs.FoundDamages.{WritesFinding};
 ghost use Rattle.commands.specs.declared.checks.Finding.{Finding as ShownFinding};
 
-use crate::failure::{Failure, NotesRefusals, REFUSED, Verbosity, report_failure};
+use crate::failure::{Failure, NotesRefusals, report_failure};
 use base::{Group, PoolError};
+use command_arguments::Verbosity;
 use device_model::{FileRefusal, SectorDevice};
 use import_replay::{Inspected, inspect};
+use script_lines::REFUSED;
 use std::alloc::Global;
 use std::fmt;
 use std::io::Write;

@@ -14,17 +14,15 @@ ghost use Rattle.commands.specs.Checks.{IsFoundIn, finding_status};
 ghost use Rattle.commands.specs.declared.checks.Finding.{Finding as ShownFinding};
 ghost use Rattle.commands.specs.declared.checks.Finding.TheVariants.{Damaged};
 
-use crate::arguments::{CreateArguments, LoadArguments, Options, ScriptArguments, ScriptDevice};
 use crate::checks::{Finding, check_pool, run_check};
-use crate::failure::{Failure, NotesRefusals, Verbosity, report_failure};
+use crate::failure::{Failure, NotesRefusals, report_failure};
 use crate::load::run_load;
 use crate::pool_files::{run_create, run_show};
-use crate::program::run_opened;
 use base::PoolError;
+use command_arguments::{CreateArguments, LoadArguments, Options, Order, Verbosity};
 use device_model::{FileRefusal, HeldFile, SectorDevice};
-use loads::Order;
 use std::alloc::Global;
-use std::io::{self, Eprint, ErrorKind, Read, Write};
+use std::io::{Eprint, Write};
 use std::os::unix::fs::FileExt;
 use std::rt::Files;
 use std::sync::Wait;
@@ -56,6 +54,13 @@ fn an_output_that_is_not_written_has_status_3<E: Write>(errors: &mut E) -> u8
     ensures { result ≡ 3 }
 {
     report_failure(Failure::Unwritten, "tank.pool", BRIEF, errors)
+}
+
+// No call of the device leads to this refusal, so none is named as its cause.
+fn a_bad_range_names_no_call_of_the_device<D: NotesRefusals>(device: &D) -> Failure
+    ensures { result ≡ Failure.Refused PoolError.BadRange }
+{
+    Failure::of_pool(PoolError::BadRange, device)
 }
 
 // A file of less than 6 MiB can hold no pool.
@@ -164,27 +169,6 @@ fn a_show_writes_nothing<D: SectorDevice + NotesRefusals, W: Write, E: Write>(
     let mut opened = Ok(device);
     run_show(alloc, "tank.pool", BRIEF, &mut opened, out, errors);
     opened
-}
-
-fn a_script_that_is_not_opened_has_status_3<
-    H: Files + Wait + AllocGlobal,
-    R: Read + Drop,
-    W: Write + Drop,
-    E: Write,
->(rt: &H, out: W, errors: &mut E) -> u8
-where
-    H::File: FileExt + HeldFile,
-    ensures { result ≡ 3 }
-{
-    let arguments = ScriptArguments {
-        device: ScriptDevice::Memory(8_388_608),
-        script: "no/script",
-        moment: 0,
-        stops: false,
-        syncs: false,
-    };
-    let opened: io::Result<R> = Err(io::Error::from(ErrorKind::NotFound));
-    run_opened(rt, arguments, OPTIONS, opened, out, errors)
 }
 
 // What is loaded by so many workers.

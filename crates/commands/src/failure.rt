@@ -4,23 +4,12 @@ ghost use Rattle.std.specs.Prelude.{◌≡◌, ◌≢◌, ◌≤◌, false};
 ghost use Rattle.commands.specs.Failures.{IsFailureFor, failure_status, is_of_device};
 
 use base::PoolError;
+use command_arguments::Verbosity;
 use device_model::{FileDevice, FileRefusal, MemDevice, RefusedCall, SectorDevice, SectorFile};
 use pool_threads::Pool;
-use scripts::{Answer, FAILED};
+use script_lines::{Answer, FAILED, REFUSED};
 use std::fmt;
 use std::io::Write;
-
-/// The status of a refusal, and of a pool that is not whole.
-pub(crate) const REFUSED: u8 = 1;
-
-/// How much is reported of a command that was not done.
-#[derive(Clone, Copy, Debug, PartialEq, Eq)]
-pub enum Verbosity {
-    /// That it was not done, in one line.
-    Brief,
-    /// Also the cause, in a second line.
-    Verbose,
-}
 
 /// Why a command was not done.
 #[derive(Clone, Copy, Debug)]
@@ -84,7 +73,7 @@ impl Failure {
     }
 
     /// The failure of a command that a pool refused while it ran. The pool is closed.
-    pub fn of_running<D: SectorDevice + NotesRefusals + Drop>(
+    pub(crate) fn of_running<D: SectorDevice + NotesRefusals + Drop>(
         refusal: PoolError,
         pool: Pool<D>,
     ) -> Failure

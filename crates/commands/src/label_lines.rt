@@ -8,8 +8,9 @@ ghost use Rattle.device_model.specs.Reading.{OnlyReads};
 ghost use Rattle.commands.specs.Checks.{IsCheckRefusal, StaysOpened};
 ghost use Rattle.uberblocks.specs.Rings.{ring_size};
 
-use crate::failure::{Failure, NotesRefusals, Verbosity, report_failure};
+use crate::failure::{Failure, NotesRefusals, report_failure};
 use base::{BLOCK_SIZE, Group, PoolError, are_zeros, read_u64};
+use command_arguments::Verbosity;
 use device_model::{FileRefusal, SectorDevice};
 use labels::{ARRAY_AT, Geometry, LabelConfig};
 use std::alloc::Global;

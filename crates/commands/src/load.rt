@@ -4,15 +4,15 @@
 //! done.
 
 ghost use Rattle.std.specs.Prelude.{◌≡◌, ◌≢◌, ◌≤◌, Err, IfErr, IfOk, IsErr, false};
-ghost use Rattle.loads.specs.Orders.{is_order};
+ghost use Rattle.command_arguments.specs.Orders.{is_order};
 
-use crate::arguments::LoadArguments;
-use crate::failure::{Failure, NotesRefusals, Verbosity, report_failure};
+use crate::failure::{Failure, NotesRefusals, report_failure};
 use base::{PoolError, Reply};
+use command_arguments::{LoadArguments, Order, STREAMS, Verbosity};
 use device_model::{FileRefusal, SectorDevice};
-use loads::{Gate, Loaded, Order, STREAMS, WRITES_BETWEEN_WAITS, load};
+use loads::{Gate, Loaded, WRITES_BETWEEN_WAITS, load};
 use pool_threads::Pool;
-use scripts::Answer;
+use script_lines::Answer;
 use std::alloc::Global;
 use std::io::{self, Eprint, Write};
 use std::sync::Wait;

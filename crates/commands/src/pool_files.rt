@@ -15,10 +15,10 @@ ghost use Rattle.commands.specs.Checks.{StaysOpened};
 ghost use Rattle.commands.specs.Failures.{IsNewPoolRefusal, failure_status, sector_bytes};
 ghost use Rattle.commands.specs.PoolLines.{WritesInspected, created_line, listed_lines, number_lines, object_lines, shown_lines};
 
-use crate::arguments::{CreateArguments, Options};
-use crate::failure::{Failure, NotesRefusals, Verbosity, report_failure};
+use crate::failure::{Failure, NotesRefusals, report_failure};
 use crate::waiting::NewFile;
 use base::{ObjectId, PoolError, PoolName};
+use command_arguments::{CreateArguments, Options, Verbosity};
 use device_model::{FileRefusal, HeldFile, SectorDevice};
 use import_replay::{Inspected, create, inspect};
 use labels::{Geometry, SECTOR_SIZE};

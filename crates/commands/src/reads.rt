@@ -7,9 +7,9 @@ ghost use Rattle.device_model.specs.Reading.{OnlyReads};
 ghost use Rattle.commands.specs.Checks.{StaysOpened};
 ghost use Rattle.commands.specs.Reads.{IsMountedRange, IsReadersRefusal, WritesMounted, asked_range};
 
-use crate::arguments::GetArguments;
-use crate::failure::{Failure, NotesRefusals, Verbosity, report_failure};
+use crate::failure::{Failure, NotesRefusals, report_failure};
 use base::{Bytes, MAX_LENGTH, ObjectId, PoolError, Range};
+use command_arguments::{GetArguments, Verbosity};
 use device_model::{FileRefusal, SectorDevice};
 use import_replay::view_pool;
 use object_maps::{BlockCache, BlockReader, CachedDevice};
@@ -89,7 +89,7 @@ fn get_bytes<D: SectorDevice + NotesRefusals>(
         alloc,
         &mut reader,
         ObjectId(arguments.object),
-        arguments.range(),
+        range_of(&arguments),
     );
     let (device, _) = reader.into_parts();
     match read {
@@ -114,19 +114,17 @@ fn read_range<B: BlockReader>(
     view.read(reader, alloc, object, range)
 }
 
-impl GetArguments<'_> {
-    // The range that is asked for, up to the last byte that an object may have. It has no byte if the offset is there
-    // or above it.
-    fn range(&self) -> Range
-        ensures { result ≡ asked_range self.now }
-    {
-        let high = match self.length {
-            Some(length) => self.offset.saturating_add(length).min(MAX_LENGTH),
-            None => MAX_LENGTH,
-        };
-        Range {
-            low: self.offset,
-            high,
-        }
+// The range that is asked for, up to the last byte that an object may have. It has no byte if the offset is there or
+// above it.
+fn range_of(arguments: &GetArguments<'_>) -> Range
+    ensures { result ≡ asked_range arguments.now }
+{
+    let high = match arguments.length {
+        Some(length) => arguments.offset.saturating_add(length).min(MAX_LENGTH),
+        None => MAX_LENGTH,
+    };
+    Range {
+        low: arguments.offset,
+        high,
     }
 }

@@ -5,14 +5,14 @@ ghost use Rattle.std.specs.Prelude.{◌≡◌, ◌≢◌, ◌≤◌, Err, IfErr,
 ghost use Rattle.commands.specs.Serving.{ServesOn, ServesPool};
 ghost use Rattle.pool_threads.specs.Handles.{shared_of};
 
-use crate::arguments::ServeArguments;
-use crate::failure::{Failure, NotesRefusals, Verbosity, report_failure};
+use crate::failure::{Failure, NotesRefusals, report_failure};
 use base::PoolError;
+use command_arguments::{ServeArguments, Verbosity};
 use device_model::{FileRefusal, SectorDevice};
 use frame_answers::{Ending, serve};
 use pool_loops::{Halt, run_beside_loops};
 use pool_threads::Pool;
-use scripts::FAILED;
+use script_lines::FAILED;
 use std::alloc::Global;
 use std::io::{Read, Write};
 use std::sync::Wait;

@@ -16,7 +16,7 @@ const PAUSE_IN_MILLISECONDS: u64 = 50;
 ///
 /// # Errors
 /// Those of these calls. If another device has the file, it tries again for so many seconds first.
-pub(crate) fn open_within<R: Files + Wait>(
+pub fn open_within<R: Files + Wait>(
     rt: &R,
     path: &str,
     access: Access,

@@ -6,10 +6,11 @@ ghost use Rattle.loads.specs.Digests.{RepliesDigest};
 ghost use Rattle.pool_threads.specs.Handles.{shared_of};
 
 use crate::gate::Gate;
-use crate::order::{Loaded, Order};
+use crate::order::Loaded;
 use crate::words::Word;
 use crate::workers::load;
 use base::PoolError;
+use command_arguments::Order;
 use device_model::SectorDevice;
 use pool_threads::Pool;
 use std::alloc::Global;

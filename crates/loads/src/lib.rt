@@ -23,6 +23,7 @@ mod words;
 mod workers;
 mod writer;
 
+pub use command_arguments::{MAX_WORKERS, MAX_WRITES, Order, STREAMS};
 pub use gate::Gate;
-pub use order::{Loaded, MAX_WORKERS, MAX_WRITES, Order, STREAMS, WRITES_BETWEEN_WAITS};
+pub use order::{Loaded, WRITES_BETWEEN_WAITS};
 pub use workers::load;

@@ -10,8 +10,8 @@
 ghost use Rattle.std.specs.Prelude.{◌≡◌, ◌+◌, ◌<◌};
 ghost use Rattle.loads.specs.Words.{IsOwnPlace, byte_drawn, length_drawn, low_drawn, object_drawn};
 
-use crate::order::STREAMS;
 use base::{ObjectId, ObjectRange, Range};
+use command_arguments::STREAMS;
 use rand_pcg::Lcg64Xsh32;
 use rand_pcg::rand_core::Rng;
 

@@ -2,13 +2,15 @@
 
 ghost use Rattle.std.specs.Prelude.{◌≡◌, Err, IfOk, false};
 ghost use Rattle.loads.specs.Digests.{RepliesDigest};
-ghost use Rattle.loads.specs.Orders.{committed_by, is_order};
+ghost use Rattle.command_arguments.specs.Orders.{is_order};
+ghost use Rattle.loads.specs.Orders.{committed_by};
 ghost use Rattle.pool_threads.specs.Handles.{shared_of};
 
 use crate::gate::Gate;
-use crate::order::{Loaded, Order, STREAMS};
+use crate::order::{Loaded, count_committed};
 use crate::writer::Writer;
 use base::{Owner, PoolError, Reply, Step};
+use command_arguments::{Order, STREAMS};
 use device_model::SectorDevice;
 use pool_loops::{Halt, run_beside_loops};
 use pool_threads::Pool;
@@ -46,7 +48,7 @@ pub fn load<D: SectorDevice + Send, G: Gate + Sync, R: Threads + Wait + Sync>(
     let halt = &halt;
     run_beside_loops(rt, pool, halt, || work(rt, alloc, pool, order, gate, halt))?;
     Ok(Loaded {
-        committed: order.committed(),
+        committed: count_committed(order),
         digest: digest(rt, pool)?,
     })
 }

@@ -4,9 +4,10 @@
 //! A refused transaction holds no range, so no other thread waits for it, also while its stream syncs the pool.
 
 use crate::gate::Gate;
-use crate::order::{Order, STREAMS, WRITES_BETWEEN_WAITS};
+use crate::order::WRITES_BETWEEN_WAITS;
 use crate::words::{PART, SHARED, Word, Words};
 use base::{Bytes, Mode, ObjectId, Op, Ops, Owner, PoolError, Range, Receipt};
+use command_arguments::{Order, STREAMS};
 use device_model::SectorDevice;
 use pool_loops::Halt;
 use pool_threads::{Handle, Pool};

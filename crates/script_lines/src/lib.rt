@@ -6,6 +6,8 @@ mod answer;
 mod clients;
 mod command;
 mod number;
+mod status;
 
 pub use answer::Answer;
 pub use command::{Command, LineError, PoolCommand, parse_command};
+pub use status::{FAILED, REFUSED};

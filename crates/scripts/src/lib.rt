@@ -29,7 +29,7 @@ pub use device_session::{DeviceSession, FileSession};
 pub use mounted_pool::{FaultyPool, MountedPool};
 pub use place::Place;
 pub use pool_commands::run_pool_command;
-pub use script::{AfterRefusal, FAILED, run_script, run_script_on, run_script_with};
+pub use script::{AfterRefusal, run_script, run_script_on, run_script_with};
 pub use script_lines::{Answer, Command, LineError, PoolCommand, parse_command};
 pub use session::{BadCommand, OwnSession, Session, SharedSession, new_device};
 pub use shared_pool::SharedPool;

@@ -8,15 +8,9 @@ ghost use Rattle.scripts.specs.Lines.{RunsBadLine, RunsLine};
 use crate::command_runner::CommandRunner;
 use crate::session::{BadCommand, OwnSession};
 use base::PoolError;
-use script_lines::{Answer, LineError, parse_command};
+use script_lines::{Answer, FAILED, LineError, REFUSED, parse_command};
 use std::alloc::Global;
 use std::io::{self, BufRead, BufReader, BufWriter, Read, Write};
-
-/// The exit status of a script that a refusal ended.
-const REFUSED: u8 = 1;
-
-/// The exit status if the script could not be read, or its answers could not be written.
-pub const FAILED: u8 = 3;
 
 /// What follows if the pool refuses a command of a script.
 #[derive(Clone, Copy, Debug, PartialEq, Eq)]

@@ -4,11 +4,8 @@
 //! memory.
 #![tactic(auto)]
 
-mod arguments;
-mod help;
-
-use arguments::{parse_arguments, read_arguments, read_options};
-use commands::run;
+use command_line::{parse_arguments, read_arguments, read_options};
+use script_commands::run;
 use std::fs::File;
 use std::io;
 use std::process::ExitCode;

@@ -1,4 +1,4 @@
-//! What callers rely on of the commands on objects, on labels, and of scripts.
+//! What callers rely on of the commands on objects and on labels.
 
 ghost use Rattle.std.specs.Prelude.{ℕ, ◌≡◌, ◌≢◌, ◌≤◌, ◌⊎◌, [], ◌∷◌, IfOk, IsOk, IsTrue, List, None, Ok, Some, codes, length, slice_get};
 ghost use Rattle.std.specs.FinMap as finite;
@@ -13,22 +13,17 @@ ghost use Rattle.commands.specs.Committed.{HappensOn};
 ghost use Rattle.commands.specs.Puts.{put_transactions};
 ghost use Rattle.commands.specs.declared.changes.Start.TheVariants.{Empties};
 
-use super::{BRIEF, OPTIONS};
-use crate::arguments::{
-    GetArguments, PutArguments, RemoveArguments, ScriptArguments, ScriptDevice,
-};
+use super::BRIEF;
 use crate::changes::{run_put, run_remove};
 use crate::failure::NotesRefusals;
 use crate::label_lines::run_labels;
 use crate::laws::puts_leave_bytes;
 use crate::pool_files::run_list;
-use crate::program::run_opened;
 use crate::reads::run_get;
-use device_model::{FileRefusal, HeldFile, SectorDevice};
+use command_arguments::{GetArguments, PutArguments, RemoveArguments};
+use device_model::{FileRefusal, SectorDevice};
 use std::alloc::Global;
-use std::io::{self, ErrorKind, Read, Write};
-use std::os::unix::fs::FileExt;
-use std::rt::Files;
+use std::io::{self, ErrorKind, Write};
 use std::sync::Wait;
 
 // Two bytes of object 7, from byte 1 on.
@@ -273,25 +268,4 @@ fn an_object_of_a_pool_that_is_not_opened_is_removed_with_status_3<
 {
     let opened: Result<D, FileRefusal> = Err(FileRefusal::InUse);
     run_remove(rt, OBJECT_7, BRIEF, opened, out, errors)
-}
-
-// Its refused lines are answers.
-fn a_script_that_neither_stops_nor_syncs_has_no_status_1<
-    H: Files + Wait + AllocGlobal,
-    R: Read + Drop,
-    W: Write + Drop,
-    E: Write,
->(rt: &H, opened: io::Result<R>, out: W, errors: &mut E) -> u8
-where
-    H::File: FileExt + HeldFile,
-    ensures { result ≢ 1 }
-{
-    let arguments = ScriptArguments {
-        device: ScriptDevice::File("tank.pool"),
-        script: "script",
-        moment: 0,
-        stops: false,
-        syncs: false,
-    };
-    run_opened(rt, arguments, OPTIONS, opened, out, errors)
 }

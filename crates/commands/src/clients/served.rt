@@ -9,9 +9,9 @@ ghost use Rattle.pool_threads.specs.declared.handle.Handle as handles;
 ghost use Rattle.pool_threads.specs.declared.shared.Shared as shared;
 
 use super::BRIEF;
-use crate::arguments::ServeArguments;
 use crate::failure::NotesRefusals;
 use crate::serving::run_serve;
+use command_arguments::ServeArguments;
 use device_model::SectorDevice;
 use std::io::Write;
 use std::sync::Wait;

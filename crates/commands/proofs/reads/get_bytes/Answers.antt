@@ -12,8 +12,8 @@ returns-in-Ok-read-clause-bytes g c =
     let object : ℕ = c.args.arguments.object in
     let bytes : List ℕ = c.in-Ok-read.bytes in
     range_of_opened D c.args.opened c.in-Ok.device c.in-Ok.is object (asked_range c.args.arguments) bytes
-    (λ keeps. subst (λ (range : Range). IsMountedRange (bytes_of (D.disk c.in-Ok.device).now) object range bytes) c.range.ensures
-    (subst (λ device. IsMountedRange (bytes_of (D.disk device).now) object c.range.result bytes) c.new-reader.ensures.device (c.in-Ok-read.ensures.bytes keeps)))
+    (λ keeps. subst (λ (range : Range). IsMountedRange (bytes_of (D.disk c.in-Ok.device).now) object range bytes) c.range_of.ensures
+    (subst (λ device. IsMountedRange (bytes_of (D.disk device).now) object c.range_of.result bytes) c.new-reader.ensures.device (c.in-Ok-read.ensures.bytes keeps)))
 
 pub returns-in-Err-read-clause-only_read : goal.returns-in-Err-read-clause-only_read
 returns-in-Err-read-clause-only_read g c =

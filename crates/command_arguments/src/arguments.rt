@@ -1,7 +1,15 @@
 //! The arguments of the program: which command, and what it works on.
 
-use crate::failure::Verbosity;
-use loads::Order;
+use crate::order::Order;
+
+/// How much is reported of a command that was not done.
+#[derive(Clone, Copy, Debug, PartialEq, Eq)]
+pub enum Verbosity {
+    /// That it was not done, in one line.
+    Brief,
+    /// Also the cause, in a second line.
+    Verbose,
+}
 
 /// What a command is given whichever it is.
 #[derive(Clone, Copy, Debug, PartialEq, Eq)]

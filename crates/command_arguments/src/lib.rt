@@ -1,0 +1,12 @@
+//! What the program's commands are asked to do: the arguments of each, and the options of all.
+#![tactic(auto)]
+
+mod arguments;
+mod clients;
+mod order;
+
+pub use arguments::{
+    Arguments, CheckArguments, CreateArguments, GetArguments, LoadArguments, Options, PutArguments,
+    RemoveArguments, ScriptArguments, ScriptDevice, ServeArguments, Verbosity,
+};
+pub use order::{MAX_WORKERS, MAX_WRITES, Order, STREAMS};

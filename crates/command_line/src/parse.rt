@@ -1,0 +1,48 @@
+//! The program's words, matched against its command line.
+
+use crate::commands::COMMANDS;
+use crate::help;
+use crate::words::{flag, option};
+use clap::{Arg, ArgMatches, Command, Error, value_parser};
+use std::alloc::{AllocError, Global};
+
+/// Matches the program's words, its name first, against the command line.
+///
+/// # Errors
+/// A fault of the command line, or the help or the version, with the text to print and the exit status.
+pub fn parse_arguments<'a>(alloc: Global, words: &'a [String]) -> Result<ArgMatches<'a>, Error> {
+    program(alloc)?.try_get_matches_from(words)
+}
+
+fn program<'a>(alloc: Global) -> Result<Command<'a>, AllocError> {
+    let mut program = with_options(alloc, described_program(alloc))?;
+    for name in COMMANDS {
+        program = program.subcommand(name.command(alloc)?)?;
+    }
+    Ok(program)
+}
+
+fn described_program<'a>(alloc: Global) -> Command<'a> {
+    Command::new(alloc, "ztxg")
+        .about("The write engine of a copy-on-write storage pool, in memory or in a file")
+        .version(help::VERSION)
+        .after_help(help::PROGRAM)
+        .subcommand_required(true)
+}
+
+// The options of each command, which may stand before its name or after it.
+fn with_options<'a>(alloc: Global, program: Command<'a>) -> Result<Command<'a>, AllocError> {
+    program.arg(verbose(alloc))?.arg(wait(alloc))
+}
+
+fn verbose<'a>(alloc: Global) -> Arg<'a> {
+    let help = "If the command is not done, reports the cause as well";
+    flag(alloc, "verbose", help).short('v').global(true)
+}
+
+fn wait<'a>(alloc: Global) -> Arg<'a> {
+    let help = "Waits up to S seconds for a FILE that another process has: 0 to 86400";
+    option(alloc, "wait", "S", help)
+        .value_parser(value_parser!(u32).range(0..=86_400))
+        .global(true)
+}

@@ -1,0 +1,136 @@
+//! What the words matched, read as the arguments of a command.
+
+use clap::ArgMatches;
+use command_arguments::{
+    Arguments, CheckArguments, CreateArguments, GetArguments, LoadArguments, Options, Order,
+    PutArguments, RemoveArguments, ScriptArguments, ScriptDevice, ServeArguments, Verbosity,
+};
+
+/// The arguments of the command that was named.
+pub fn read_arguments<'a>(matches: &ArgMatches<'a>) -> Option<Arguments<'a>> {
+    let (name, given) = matches.subcommand()?;
+    match name {
+        "script" => Some(Arguments::Script(read_script(given)?)),
+        "create" => Some(Arguments::Create(read_create(given)?)),
+        "show" => Some(Arguments::Show(text(given, "FILE")?)),
+        "check" => Some(Arguments::Check(read_check(given)?)),
+        "ls" => Some(Arguments::List(text(given, "FILE")?)),
+        "labels" => Some(Arguments::Labels(text(given, "FILE")?)),
+        "get" => Some(Arguments::Get(read_get(given)?)),
+        "put" => Some(Arguments::Put(read_put(given)?)),
+        "rm" => Some(Arguments::Remove(read_remove(given)?)),
+        "load" => Some(Arguments::Load(read_load(given)?)),
+        "serve" => Some(Arguments::Serve(read_serve(given)?)),
+        _ => None,
+    }
+}
+
+/// What the command is given whichever it is.
+pub fn read_options(matches: &ArgMatches<'_>) -> Options {
+    let verbosity = if matches.get_flag("verbose") {
+        Verbosity::Verbose
+    } else {
+        Verbosity::Brief
+    };
+    Options {
+        verbosity,
+        wait: small_number(matches, "wait").unwrap_or(0),
+    }
+}
+
+fn read_script<'a>(given: &ArgMatches<'a>) -> Option<ScriptArguments<'a>> {
+    Some(ScriptArguments {
+        device: read_device(given)?,
+        script: text(given, "SCRIPT")?,
+        moment: number(given, "moment")?,
+        stops: given.get_flag("stop"),
+        syncs: given.get_flag("sync"),
+    })
+}
+
+fn read_device<'a>(given: &ArgMatches<'a>) -> Option<ScriptDevice<'a>> {
+    match text(given, "file") {
+        Some(file) => Some(ScriptDevice::File(file)),
+        None => Some(ScriptDevice::Memory(number(given, "SIZE")?)),
+    }
+}
+
+fn read_create<'a>(given: &ArgMatches<'a>) -> Option<CreateArguments<'a>> {
+    Some(CreateArguments {
+        file: text(given, "FILE")?,
+        name: text(given, "NAME")?,
+        guid: number(given, "GUID")?,
+        size: number(given, "SIZE")?,
+        only_new: given.get_flag("new"),
+        moment: number(given, "moment")?,
+    })
+}
+
+fn read_load<'a>(given: &ArgMatches<'a>) -> Option<LoadArguments<'a>> {
+    Some(LoadArguments {
+        file: text(given, "FILE")?,
+        order: Order {
+            workers: small_number(given, "workers")?,
+            writes: small_number(given, "ops")?,
+            seed: number(given, "seed")?,
+        },
+        dirty_max: number(given, "dirty")?,
+        cache_blocks: number(given, "cache")?,
+        moment: number(given, "moment")?,
+    })
+}
+
+fn read_get<'a>(given: &ArgMatches<'a>) -> Option<GetArguments<'a>> {
+    Some(GetArguments {
+        file: text(given, "FILE")?,
+        object: small_number(given, "OBJECT")?,
+        offset: number(given, "offset")?,
+        length: number(given, "length"),
+    })
+}
+
+fn read_put<'a>(given: &ArgMatches<'a>) -> Option<PutArguments<'a>> {
+    Some(PutArguments {
+        file: text(given, "FILE")?,
+        object: small_number(given, "OBJECT")?,
+        offset: number(given, "offset"),
+        moment: number(given, "moment")?,
+    })
+}
+
+fn read_remove<'a>(given: &ArgMatches<'a>) -> Option<RemoveArguments<'a>> {
+    Some(RemoveArguments {
+        file: text(given, "FILE")?,
+        object: small_number(given, "OBJECT")?,
+        moment: number(given, "moment")?,
+    })
+}
+
+fn read_check<'a>(given: &ArgMatches<'a>) -> Option<CheckArguments<'a>> {
+    Some(CheckArguments {
+        file: text(given, "FILE")?,
+        all: given.get_flag("all"),
+    })
+}
+
+fn read_serve<'a>(given: &ArgMatches<'a>) -> Option<ServeArguments<'a>> {
+    Some(ServeArguments {
+        file: text(given, "FILE")?,
+        dirty_max: number(given, "dirty")?,
+        cache_blocks: number(given, "cache")?,
+        moment: number(given, "moment")?,
+    })
+}
+
+fn text<'a>(given: &ArgMatches<'a>, name: &str) -> Option<&'a str> {
+    given.get_str(name)
+}
+
+fn number(given: &ArgMatches<'_>, name: &str) -> Option<u64> {
+    given.get_one::<u64>(name)
+}
+
+// A number below 2^32.
+fn small_number(given: &ArgMatches<'_>, name: &str) -> Option<u32> {
+    given.get_one::<u32>(name)
+}

@@ -1,0 +1,86 @@
+//! The words of the commands, each with its help.
+
+use clap::{Arg, ArgAction, value_parser};
+use std::alloc::Global;
+
+/// What the help says of a size.
+pub(crate) const SIZE_HELP: &str =
+    "The bytes of the device, in whole sectors of 512 bytes (a rest is ignored): \
+    6291456 to 1073741824, a multiple of 262144";
+
+/// A word that has to be there.
+pub(crate) fn word<'a>(alloc: Global, name: &'a str, help: &'a str) -> Arg<'a> {
+    Arg::new(alloc, name).required(true).help(help)
+}
+
+/// A number below 2^64 that has to be there.
+pub(crate) fn number<'a>(alloc: Global, name: &'a str, help: &'a str) -> Arg<'a> {
+    word(alloc, name, help).value_parser(value_parser!(u64))
+}
+
+/// An option with a value, which the help gives this name.
+pub(crate) fn option<'a>(alloc: Global, name: &'a str, value: &'a str, help: &'a str) -> Arg<'a> {
+    Arg::new(alloc, name)
+        .long(name)
+        .value_name(value)
+        .help(help)
+}
+
+/// An option whose value is a number below 2^64.
+pub(crate) fn number_option<'a>(
+    alloc: Global,
+    name: &'a str,
+    value: &'a str,
+    help: &'a str,
+) -> Arg<'a> {
+    option(alloc, name, value, help).value_parser(value_parser!(u64))
+}
+
+/// An option without a value.
+pub(crate) fn flag<'a>(alloc: Global, name: &'a str, help: &'a str) -> Arg<'a> {
+    Arg::new(alloc, name)
+        .long(name)
+        .help(help)
+        .action(ArgAction::SetTrue)
+}
+
+/// The file of a pool that the command only reads.
+pub(crate) fn read_file<'a>(alloc: Global) -> Arg<'a> {
+    word(
+        alloc,
+        "FILE",
+        "The path of the file, a regular file that no process has open as a pool to write",
+    )
+}
+
+/// The file of a pool that the command changes.
+pub(crate) fn written_file<'a>(alloc: Global) -> Arg<'a> {
+    word(
+        alloc,
+        "FILE",
+        "The path of the file, a regular file that no process has open as a pool",
+    )
+}
+
+/// The object that the command is about.
+pub(crate) fn object<'a>(alloc: Global) -> Arg<'a> {
+    word(alloc, "OBJECT", "The object's number: 0 to 5291").value_parser(value_parser!(u32))
+}
+
+/// The moment of a command that writes uberblocks.
+pub(crate) fn moment<'a>(alloc: Global) -> Arg<'a> {
+    let help = "The moment, in seconds, that each written uberblock gets: below 2^64";
+    number_option(alloc, "moment", "M", help).default_value("0")
+}
+
+/// The limit of what is dirty in a pool that runs.
+pub(crate) fn dirty_limit<'a>(alloc: Global) -> Arg<'a> {
+    let help = "The most bytes that unsynced transactions may be charged: 4096 to 2^40";
+    number_option(alloc, "dirty", "D", help).default_value("1048576")
+}
+
+/// How many tree blocks of a pool that runs stay in memory.
+pub(crate) fn cache_blocks<'a>(alloc: Global) -> Arg<'a> {
+    let help = "The most tree blocks of 4096 bytes that stay in memory: 1 to 4096";
+    number_option(alloc, "cache", "C", help).default_value("256")
+}

@@ -1,0 +1,108 @@
+//! Whichever command of the program was asked for.
+
+ghost use Rattle.std.specs.Prelude.{◌≤◌};
+
+use crate::script::run_named_script;
+use command_arguments::{Arguments, CheckArguments, Options};
+use commands::{
+    open_within, read_input, run_check, run_check_all, run_create, run_get, run_labels, run_list,
+    run_load, run_put, run_remove, run_serve, run_show,
+};
+use device_model::{Access, HeldFile};
+use std::io::{self, Eprint, IsTerminal, Write};
+use std::os::unix::fs::FileExt;
+use std::rt::Files;
+use std::sync::Wait;
+use std::thread::Threads;
+
+/// Does a command of the program, and returns the exit status. A file that another process has is waited for as long as
+/// the options say, and a script may wait for its pool. A load has threads, and shows its progress if `errors`, which
+/// is standard error, is a terminal. Failures are reported there.
+pub fn run<
+    R: Files + Input + Print + Eprint + AllocGlobal + Threads + Wait + Sync,
+    E: Write + IsTerminal,
+>(rt: &R, arguments: Arguments<'_>, options: Options, errors: &mut E) -> u8
+where
+    R::File: FileExt + HeldFile + Send,
+    ensures { result ≤ 3 }
+{
+    let Options { verbosity, wait } = options;
+    match arguments {
+        Arguments::Create(arguments) => {
+            run_create(rt, arguments, options, &mut io::writer(rt), errors)
+        }
+        Arguments::Script(arguments) => run_named_script(rt, arguments, options, errors),
+        Arguments::Load(arguments) => run_load(
+            rt,
+            arguments,
+            verbosity,
+            open_within(rt, arguments.file, Access::Write, wait),
+            errors.is_terminal(),
+            &mut io::writer(rt),
+            errors,
+        ),
+        Arguments::Show(file) => run_show(
+            rt.alloc(),
+            file,
+            verbosity,
+            &mut open_within(rt, file, Access::Read, wait),
+            &mut io::writer(rt),
+            errors,
+        ),
+        Arguments::Check(CheckArguments { file, all }) => {
+            let mut opened = open_within(rt, file, Access::Read, wait);
+            let mut out = io::writer(rt);
+            if all {
+                run_check_all(rt.alloc(), file, verbosity, &mut opened, &mut out, errors)
+            } else {
+                run_check(rt.alloc(), file, verbosity, &mut opened, &mut out, errors)
+            }
+        }
+        Arguments::List(file) => run_list(
+            rt.alloc(),
+            file,
+            verbosity,
+            &mut open_within(rt, file, Access::Read, wait),
+            &mut io::writer(rt),
+            errors,
+        ),
+        Arguments::Labels(file) => run_labels(
+            rt.alloc(),
+            file,
+            verbosity,
+            &mut open_within(rt, file, Access::Read, wait),
+            &mut io::writer(rt),
+            errors,
+        ),
+        Arguments::Get(arguments) => {
+            let opened = open_within(rt, arguments.file, Access::Read, wait);
+            let mut out = io::writer(rt);
+            let (status, _) = run_get(rt.alloc(), arguments, verbosity, opened, &mut out, errors);
+            status
+        }
+        // The input is read first: nobody waits for it with the file's lock.
+        Arguments::Put(arguments) => run_put(
+            rt,
+            arguments,
+            verbosity,
+            read_input(rt.alloc(), rt.reader()),
+            open_within(rt, arguments.file, Access::Write, wait),
+            &mut io::writer(rt),
+            errors,
+        ),
+        Arguments::Remove(arguments) => run_remove(
+            rt,
+            arguments,
+            verbosity,
+            open_within(rt, arguments.file, Access::Write, wait),
+            &mut io::writer(rt),
+            errors,
+        ),
+        Arguments::Serve(arguments) => {
+            let opened = open_within(rt, arguments.file, Access::Write, wait);
+            let (input, out) = (rt.reader(), io::writer(rt));
+            let (status, _) = run_serve(rt, arguments, verbosity, opened, input, out, errors);
+            status
+        }
+    }
+}
