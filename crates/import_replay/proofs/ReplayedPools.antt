@@ -32,6 +32,7 @@ use Rattle.tree_blocks.specs.declared.tree.Tree.{Tree}
 use Rattle.transactions.specs.declared.record.Record.{Record}
 use Rattle.transactions.specs.Records.{record_fields}
 use Rattle.tree_plans.specs.Marks.{pending_ops}
+use Rattle.mounted.proofs.Replays.{flat_replay, sized_object}
 use Rattle.import_replay.specs.PlacedRecords.{ops_of_placed, placed_estimate}
 use Rattle.import_replay.specs.NextPools.{IsReplayedPool}
 use Rattle.import_replay.specs.ReadPools.{IsLoadedFor}

@@ -20,6 +20,7 @@ use Rattle.tree_blocks.specs.Pointers.{pointers_of}
 use Rattle.import_replay.specs.ImportRefusals.{CanImport}
 use Rattle.import_replay.specs.NextPools.{PoolParts}
 use Rattle.mounted.specs.declared.mounted.Mounted.{Mounted}
+use Rattle.mounted.specs.ShownMounted.{shown_of_import}
 
 -- the pool's frame, of the version that is written and its synced group
 abbrev pub frame_of_import : Mounted → Frame

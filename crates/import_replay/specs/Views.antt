@@ -20,6 +20,7 @@ use Rattle.tree_blocks.specs.Lengths.{HasLengthsOf}
 use Rattle.object_maps.specs.Ops.{AreOpsAllowed}
 use Rattle.tree_blocks.specs.Pointers.{pointers_of}
 use Rattle.object_reads.specs.ShownTrees.{IsRangeRefusal}
+use Rattle.mounted.specs.Ranges.{is_readable}
 use Rattle.transactions.specs.declared.record.Record.{Record}
 use Rattle.import_replay.specs.declared.viewing.View.{View}
 
