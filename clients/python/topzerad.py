@@ -8,7 +8,7 @@ import subprocess
 import threading
 
 HEAD = struct.Struct("<IHHI")
-VERSION, REQUESTS, ANSWERS, REFUSED_FRAME = 1, 1, 2, 3
+VERSION, REQUESTS, ANSWERS, REFUSED_FRAME, OPENED = 1, 1, 2, 3, 4
 TRANSACT, TRANSACT_DURABLY, READ, LENGTH, OBJECTS, STATUS, DURABLE, FLUSH, SYNC, NAME, NOT_DURABLE = range(1, 12)
 MAX_LENGTH, OBJECT_COUNT = 28_449_792, 5_292
 # The most bytes that one request reads. The answers of a frame have at most four times as many.
@@ -84,6 +84,14 @@ class Pool:
         self.lock = threading.RLock()
         self.numbers = itertools.count()
         self.is_broken = False
+        self._read_opening()
+
+    def _read_opening(self):
+        size, _, kind, _ = HEAD.unpack(self._take(HEAD.size))
+        content = self._take(size - HEAD.size)
+        if kind != OPENED:
+            self.process.communicate()
+            raise OSError(content[24:].decode(errors="replace"))
 
     def __enter__(self):
         return self

@@ -9,7 +9,7 @@ from tools.model.layout import LAST, LOG_RECORD_MAX, OBJECTS
 from tools.model.pool_bytes import read_record, record
 
 VERSION, HEAD, MAX_FRAME = 1, 12, 4_194_304
-REQUESTS, ANSWERS, REFUSAL = 1, 2, 3
+REQUESTS, ANSWERS, REFUSAL, OPENED, UNOPENED = range(1, 6)
 
 # The calls by their names, and the fields of each besides a record.
 CALLS = {
@@ -186,6 +186,42 @@ def read_answers(content):
     return answers
 
 
+# The opening
+
+# What a served pool says of itself: its guid, its synced group, and how many records its import replayed.
+Opened = collections.namedtuple("Opened", "guid synced records")
+
+# Why no pool is served: the number of a refusal, or 0 if the file can't be used; the kind and the address of `Damaged`;
+# the system's error number or 0; and the cause as a text.
+Unopened = collections.namedtuple("Unopened", "refusal kind address error cause")
+
+
+def opened_frame(opened):
+    return frame(OPENED, 0, struct.pack("<3Q", *opened))
+
+
+def unopened_frame(unopened):
+    refusal, kind, address, error, cause = unopened
+    return frame(UNOPENED, refusal, struct.pack("<QQI", kind, address, error) + string(cause.encode()))
+
+
+def read_opening(content):
+    """What an opening says: it is an `Opened` or an `Unopened`."""
+    length, version, kind, number = struct.unpack_from("<IHHI", content)
+    assert length == len(content) <= MAX_FRAME and version == VERSION
+    cursor = Cursor(content)
+    cursor.take(HEAD)
+    if kind == OPENED:
+        assert number == 0
+        opening = Opened(*cursor.numbers("<3Q"))
+    else:
+        assert kind == UNOPENED
+        fields = cursor.numbers("<QQI")
+        opening = Unopened(number, *fields, cursor.take(*cursor.numbers("<I")).decode())
+    assert not cursor.left()
+    return opening
+
+
 # A server
 
 
@@ -193,8 +229,12 @@ class Server:
     """A pool in memory that answers frames. It has room for all and loses nothing, so every commit is durable at a
     flush. It is for the tests of clients."""
 
-    def __init__(self, name=b"tank", group=9):
+    def __init__(self, name=b"tank", group=9, guid=77, records=0):
         self.name, self.objects, self.group, self.ordinal, self.flushed = name, {}, group, 0, 0
+        self.guid, self.records = guid, records
+
+    def opening(self):
+        return opened_frame(Opened(self.guid, self.group - 1, self.records))
 
     def answer(self, content):
         """The frame that answers these bytes."""
@@ -270,7 +310,9 @@ class Server:
         return 0
 
     def serve(self, source, sink):
-        """Answers the frames of a stream until it ends."""
+        """Writes the opening, and answers the frames of a stream until it ends."""
+        sink.write(self.opening())
+        sink.flush()
         while True:
             head = source.read(4)
             if len(head) < 4:

@@ -16,16 +16,21 @@ from tools.model.frames import (
     CUT_OFF,
     SURPLUS,
     Answer,
+    Opened,
     Refused,
     Request,
     Server,
+    Unopened,
     answers_frame,
     frame,
+    opened_frame,
     read_answers,
+    read_opening,
     read_requests,
     refused,
     refused_frame,
     requests_frame,
+    unopened_frame,
 )
 
 CREATE = [("c", 1, 0, b"")]
@@ -40,6 +45,14 @@ ANSWERS = {
         2, 1, struct.pack("<QQ", 3, 9)
     ),
     "26000000 0100 0200 01000000 0200000000000000 00 10 0000000000000000 0000000000000000": refused(2, 16),
+}
+
+# That of a new pool with guid 77, and that of a file that isn't there.
+OPENINGS = {
+    "24000000 0100 0400 00000000 4d00000000000000 0800000000000000 0000000000000000": Opened(77, 8, 0),
+    "4a000000 0100 0500 00000000 0000000000000000 0000000000000000 02000000 26000000": Unopened(
+        0, 0, 0, 2, "No such file or directory (os error 2)"
+    ),
 }
 
 # One request of each call.
@@ -62,6 +75,14 @@ class Frames(unittest.TestCase):
             self.assertEqual(read_answers(bytes.fromhex(spelled)), [answer])
         self.assertIn("`0c000000 0100 0300 06000000`", TEXT)
         self.assertEqual(refused_frame(6), bytes.fromhex("0c000000 0100 0300 06000000"))
+
+    def test_openings_are_spelled_so(self):
+        for spelled, opening in OPENINGS.items():
+            self.assertIn(f"`{spelled}`", TEXT)
+            written = opened_frame(opening) if isinstance(opening, Opened) else unopened_frame(opening)
+            cause = b"" if isinstance(opening, Opened) else opening.cause.encode()
+            self.assertEqual(written, bytes.fromhex(spelled) + cause)
+            self.assertEqual(read_opening(written), opening)
 
     def test_what_is_written_is_read(self):
         self.assertEqual({request.call for request in EACH}, set(CALLS))
@@ -107,11 +128,12 @@ class Frames(unittest.TestCase):
 
 
 class Serving(unittest.TestCase):
-    def test_a_stream_is_answered_frame_by_frame(self):
+    def test_a_stream_is_opened_and_answered_frame_by_frame(self):
         source = io.BytesIO(requests_frame(EACH) + requests_frame([Request(5, "status", ())])[:-1] + b"\x0b")
         sink = io.BytesIO()
         Server().serve(source, sink)
-        whole = sink.getvalue()
+        opening, whole = sink.getvalue()[:36], sink.getvalue()[36:]
+        self.assertEqual(read_opening(opening), Opened(77, 8, 0))
         (length,) = struct.unpack_from("<I", whole)
         answers = read_answers(whole[:length])
         self.assertEqual([answer.number for answer in answers], [request.number for request in EACH])
