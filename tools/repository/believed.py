@@ -1,20 +1,61 @@
 """Lists the definitions that the headline of docs/PROVED.md rests on, by their files.
 
-The headline is what `Explains` and `WereSafe` of `crates/base/specs/steps/Explains` say. A reader has to read the
-definitions that these name, and those that they name in turn. Those of Rust types are not listed: the code shows them.
-docs/DEFINITIONS.md has the list as a table; with --check nothing is printed but whether the table is as it should be.
+A reader has to read the roots below, the definitions that these name, and those that they name in turn. Those of Rust
+types are not listed: the code shows them. docs/DEFINITIONS.md has the list as a table; with --check nothing is printed
+but whether the table is as it should be.
 """
 
 import re
 
 from tools import TOP
 
-SPECS = TOP / "crates/base/specs"
-ROOTS = [("steps/Explains", "Explains"), ("steps/Runs", "Step"), ("steps/Explains", "WereSafe")]
-HEAD = re.compile(r"^(?: *(?:abbrev|unfoldable|data|record) (?:pub )?|(?:abbrev |unfoldable )?(?:pub )?(?:data |record )?)([^\s:({]+)(?: .*)? : ")
-USE = re.compile(r"^use Rattle\.base\.specs\.(\S+?)(?:\.\{(.*)\}| as (\w+))$")
-WORD = re.compile(r"[^\s(){},;.λ→]+(?:\.[^\s(){},;.λ→]+)?")
-TABLE = re.compile(r"(?<=\n\| file \| definitions that the headline rests on \|\n\|---\|---\|\n)(?:\|.*\n)*")
+# By what they say. A file of `base` is named by its path below `specs`, one of another crate by the crate's name first.
+ROOTS = {
+    "one history explains the pool whenever its lock is free, and at each moment of a step": [
+        ("steps/Explains", "Explains"),
+        ("steps/Explains", "WereSafe"),
+        ("pool_threads/Laws", "SteppedPoolsAreExplained"),
+        ("pool_threads/Laws", "SteppedPoolsAreSafe"),
+    ],
+    "the premise of these laws": [("pool_threads/Views", "IsFollowed")],
+    "what a step answers, and what it makes of the pool": [("steps/Runs", "Step")],
+    "what the calls of a device make of its disk": [("disk/Calls", "Writes"), ("disk/Calls", "Flushes")],
+    "which steps a call of a handle made, in which turns": [
+        ("pool_threads/Answers", "Makes"),
+        ("pool_threads/Answers", "MakesAtLast"),
+    ],
+    "what its answer says of the pool": [
+        ("pool_threads/Answers", "Sees"),
+        ("pool_threads/Answers", "IsRefusal"),
+        ("steps/Seen", "IsGranted"),
+        ("steps/Seen", "IsLetGo"),
+        ("steps/Seen", "IsAdmitted"),
+        ("steps/Seen", "IsThrottledForGood"),
+        ("steps/Seen", "IsCommitted"),
+        ("steps/Seen", "IsAborted"),
+        ("steps/Seen", "IsReadBetween"),
+        ("steps/Seen", "IsLengthBetween"),
+        ("steps/Seen", "IsNameBetween"),
+        ("steps/Seen", "IsDigestBetween"),
+        ("steps/Seen", "IsStatusBetween"),
+        ("steps/Seen", "IsKnownDurable"),
+        ("steps/Seen", "IsPoolSynced"),
+    ],
+    "all turns with the lock are one line": [
+        ("word_lock/Kept", "Kept"),
+        ("word_lock/Seats", "HasTaken"),
+        ("word_lock/Seats", "HasTurned"),
+    ],
+}
+# A call promises it, and a law asks for it. So who reads what the law concludes needn't know what it says.
+BETWEEN = {("pool_threads/Views", "IsSafeBetween")}
+
+KEYWORDS = r"(?:abbrev|unfoldable|data|record)"
+HEAD = re.compile(rf"^(?: *(?:pub )?{KEYWORDS} (?:pub )?|(?:pub )?)([^\s:({{]+)(?: .*)? : ")
+USE = re.compile(r"^use Rattle\.(\w+)\.specs\.(\S+?)(?:\.\{(.*)\}| as (\w+))$")
+FIELD = re.compile(r"(?:^|[{;]) *(?:pub )?[^\s(){};:=]+(?= [:=] )", re.MULTILINE)
+WORD = re.compile(r"(?<![^\s(){},;λ→])[^\s(){},;.λ→]+(?:\.[^\s(){},;.λ→]+)?")
+TABLE = r"(?<=\n\| {} \|\n\|---\|---\|\n)(?:\|.*\n)*"
 
 
 class File:
@@ -24,12 +65,14 @@ class File:
         self.definitions, self.names, self.files, lines = {}, {}, {}, []
         for line in text.split("\n"):
             if use := USE.match(line):
-                path = use[1].replace(".", "/")
-                for item in (use[2] or "").split(", "):
+                path = path_of(use[1], use[2].replace(".", "/"))
+                for item in (use[3] or "").split(", "):
                     own = item.split(" as ")
                     self.names[own[-1]] = (path, own[0])
-                if use[3]:
-                    self.files[use[3]] = path
+                if use[4]:
+                    self.files[use[4]] = path
+            elif line.lstrip().startswith("module "):
+                lines = []
             elif not line.lstrip().startswith(("--", "use ")):
                 if head := HEAD.match(line):
                     lines = self.definitions.setdefault(head[1], [])
@@ -37,7 +80,7 @@ class File:
 
     def named_by(self, name, path):
         """Where the definitions are that this one names."""
-        for word in WORD.findall("\n".join(self.definitions[name])):
+        for word in WORD.findall(FIELD.sub("", "\n".join(self.definitions[name]))):
             first, _, rest = word.partition(".")
             if first in self.definitions:
                 yield path, first
@@ -45,6 +88,10 @@ class File:
                 yield self.names[first]
             if first in self.files:
                 yield self.files[first], rest
+
+
+def path_of(crate, path):
+    return path if crate == "base" else f"{crate}/{path}"
 
 
 def found_at(files, path, name):
@@ -55,42 +102,67 @@ def found_at(files, path, name):
     return (above, kind) if above in files and kind in files[above].definitions else None
 
 
-def believed(files, roots):
-    """The places of all definitions that these name, and of those that they name in turn."""
+def believed(files, roots, between=frozenset()):
+    """The places of all definitions that these name, and of those that they name in turn, but for those between."""
     seen, left = set(), list(roots)
     while left:
         path, name = left.pop()
         if (path, name) not in seen:
             seen.add((path, name))
-            left += filter(None, (found_at(files, *place) for place in files[path].named_by(name, path)))
+            if (path, name) not in between:
+                left += filter(None, (found_at(files, *place) for place in files[path].named_by(name, path)))
     return seen
 
 
-def files_of_base():
-    paths = [path for path in SPECS.glob("**/*.antt") if "declared" not in path.parts]
-    return {str(path.relative_to(SPECS).with_suffix("")): File(path.read_text()) for path in paths}
+def files_of_crates():
+    files = {}
+    for specs in TOP.glob("crates/*/specs"):
+        for path in specs.glob("**/*.antt"):
+            if "declared" not in path.parts:
+                own = str(path.relative_to(specs).with_suffix(""))
+                files[path_of(specs.parent.name, own)] = File(path.read_text())
+    return files
 
 
 def rows(files, roots):
-    """A row of the table for each file, in which its definitions stand in their order."""
-    places = believed(files, roots)
-    for path in sorted({path for path, _ in places}):
+    """A row of the table for each file, those of `base` first, in which its definitions stand in their order."""
+    places = believed(files, roots, BETWEEN)
+    for path in sorted({path for path, _ in places}, key=lambda path: (is_of_other_crate(path), path)):
         named = [f"`{name}`" for name in files[path].definitions if (path, name) in places]
         yield f"| {path} | {', '.join(named)} |\n"
 
 
+def is_of_other_crate(path):
+    return (TOP / "crates" / path.partition("/")[0] / "specs").is_dir()
+
+
+def root_rows():
+    """A row for what some roots say, with their files."""
+    for says, roots in ROOTS.items():
+        named = {}
+        for path, name in roots:
+            named.setdefault(path, []).append(f"`{name}`")
+        yield f"| {says} | {'; '.join(f'{path}: ' + ', '.join(names) for path, names in named.items())} |\n"
+
+
 def add_arguments(parser):
-    parser.add_argument("--check", action="store_true", help="compare the table of docs/DEFINITIONS.md")
+    parser.add_argument("--check", action="store_true", help="compare the tables of docs/DEFINITIONS.md")
 
 
 def main(check=False):
-    table = "".join(rows(files_of_base(), ROOTS))
+    roots = [root for those in ROOTS.values() for root in those]
+    tables = {
+        "what is said | definitions": "".join(root_rows()),
+        "file | definitions that the headline rests on": "".join(rows(files_of_crates(), roots)),
+    }
     if not check:
-        print(table, end="")
+        print("\n".join(tables.values()), end="")
         return 0
-    held = TABLE.search((TOP / "docs/DEFINITIONS.md").read_text())
-    if held is None or held[0] != table:
-        print("believed: the table of docs/DEFINITIONS.md is not what `python3 tools believed` prints")
-        return 1
+    document = (TOP / "docs/DEFINITIONS.md").read_text()
+    for head, table in tables.items():
+        held = re.search(TABLE.format(re.escape(head)), document)
+        if held is None or held[0] != table:
+            print(f"believed: the table '{head}' of docs/DEFINITIONS.md is not what `python3 tools believed` prints")
+            return 1
     print(f"the headline rests on {table.count('`') // 2} definitions, which docs/DEFINITIONS.md lists")
     return 0

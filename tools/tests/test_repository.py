@@ -62,3 +62,33 @@ class Believed(unittest.TestCase):
     def test_a_file_may_be_named_by_a_word(self):
         rows = list(believed.rows(self.files, [("high/Rules", "Other")]))
         self.assertEqual(rows, ["| high/Rules | `Other` |\n", "| low/Calls | `Call`, `unused` |\n"])
+
+    def test_a_file_of_another_crate_is_named_with_its_crate(self):
+        turns = "\n".join([
+            "use Rattle.base.specs.low.Calls.{unused}",
+            "module _ {T : Type 0} where",
+            "  pub record Turn (t : T) : Type 0 where",
+            "    pub last : unused",
+        ])
+        more = "use Rattle.word_lock.specs.Turns.{Turn}\n\nabbrev pub More : Type 0\nMore = Turn zero"
+        files = {**self.files, "word_lock/Turns": believed.File(turns), "high/More": believed.File(more)}
+        rows = list(believed.rows(files, [("high/More", "More")]))
+        self.assertEqual(
+            rows, ["| high/More | `More` |\n", "| low/Calls | `Call`, `unused` |\n", "| word_lock/Turns | `Turn` |\n"]
+        )
+
+    def test_a_field_names_no_definition_of_its_name(self):
+        turns = "\n".join([
+            "use Rattle.base.specs.low.Calls.{unused, Call}",
+            "pub record Turn : Type 0 where",
+            "  pub unused : Nat",
+            "abbrev pub Of : Turn -> Nat",
+            "Of t = (one (record { unused = zero; Call = one })).unused",
+        ])
+        files = {**self.files, "high/Turns": believed.File(turns)}
+        places = believed.believed(files, [("high/Turns", "Of")])
+        self.assertEqual(places, {("high/Turns", "Of"), ("high/Turns", "Turn")})
+
+    def test_what_stands_between_a_call_and_a_law_is_not_opened(self):
+        places = believed.believed(self.files, [("high/Rules", "Rule")], {("high/Rules", "IsLow")})
+        self.assertEqual(places, {("high/Rules", "Rule"), ("high/Rules", "IsLow")})
