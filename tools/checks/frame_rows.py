@@ -2,6 +2,9 @@
 
 The frames are those of `tools/rows/frame_rows.py`.
 
+- What a process writes before it reads a frame: of a pool that is open, and if its file can't be used, has no pool or a
+  damaged one, or a limit is out of range. Such a process ends, though its input doesn't, with the status and the text of
+  every command, and leaves the file as it is.
 - The bytes of some frames and of their answers, whole and cut off at some places, and records with a field wrong.
 - What was committed is read, listed and named. A refused transaction leaves no lock. At a limit, or in a pool, that has
   room for some transactions at once, all are committed. A full pool is synced before it refuses.
@@ -13,15 +16,18 @@ Those threads close a group within some 25 milliseconds of its first commit. So 
 still may fail for them: it has to hold in one of some tries. Each difference is printed, and then the status is 1.
 """
 
+import os
+import pathlib
+import shutil
 import subprocess
 import time
 
 from tools.harness.judge import Judge
 from tools.harness.pool_files import IN_MEMORY, SIZE, create, pool_file
-from tools.harness.program import add_program, run
+from tools.harness.program import Ran, add_program, run
 from tools.harness.served import Served
-from tools.model.frames import Request, Server, read_answers, refused_frame, requests_frame
-from tools.model.layout import MIB
+from tools.model.frames import Request, Server, opened_frame, read_answers, refused_frame, requests_frame
+from tools.model.layout import BLOCK, MIB
 from tools.model.serial_pool import LEAST
 from tools.rows import frame_rows
 from tools.rows.frame_rows import is_wanted
@@ -29,6 +35,18 @@ from tools.rows.frame_rows import is_wanted
 SECONDS = 60
 TRIES = 40
 CUT_OFF = b"ztxg: the input ended within a frame\n"
+NOBODY = {"user": 65_534, "group": 65_534, "extra_groups": []}
+
+
+def run_on_nothing(words, **process):
+    """A run whose input has no byte and no end."""
+    reading, writing = os.pipe()
+    try:
+        ran = subprocess.run(words, stdin=reading, capture_output=True, timeout=SECONDS, **process)
+    finally:
+        os.close(reading)
+        os.close(writing)
+    return Ran(ran.returncode, ran.stdout, ran.stderr)
 
 
 def answers_to(served, asked):
@@ -90,9 +108,66 @@ class FrameRows(Judge):
             frames = ([frame_rows.counted(at) for at in range(first, first + step)] for first in range(0, count, step))
             self.judge(title, self.ask_new(frames, *row))
 
+    # Openings
+
+    def judge_unopened(self, wanted, file, *options, ztxg=None, **process):
+        """How a process has to end that doesn't open the pool in a file."""
+        words = ["serve", "-v", file, *options]
+        ran = run_on_nothing([ztxg or self.ztxg, *words], **process)
+        if not frame_rows.is_unopened(wanted, file, ran):
+            self.differ(words, "ends with", ran, "and not with", wanted)
+
+    def judge_unusable(self):
+        """Files that can't be used. For root the last one is asked for as nobody does."""
+        with pool_file() as file:
+            folder = os.path.dirname(file)
+            self.judge_unopened(frame_rows.MISSING, file)
+            self.judge_unopened(frame_rows.NOT_REGULAR, folder)
+            if os.listdir(folder):
+                self.differ("a process that serves no file makes one")
+            create(self.ztxg, file)
+            served = Served(self.ztxg, file)
+            self.judge_unopened(frame_rows.IN_USE, file)
+            self.judge("a pool that another process asked for", self.ask(served, [("name", (), frame_rows.TANK)]))
+            served.end()
+            os.chmod(file, 0)
+            if os.geteuid():
+                self.judge_unopened(frame_rows.DENIED, file)
+            else:
+                os.chmod(folder, 0o755)
+                copy = shutil.copy(self.ztxg, folder)
+                self.judge_unopened(frame_rows.DENIED, file, ztxg=copy, **NOBODY)
+
+    def judge_refused(self):
+        """Files without a pool and with a damaged one, limits out of range, and words that are none."""
+        with pool_file(IN_MEMORY) as file:
+            for count, wanted in frame_rows.ZEROS:
+                pathlib.Path(file).write_bytes(bytes(count))
+                self.judge_unopened(wanted, file)
+            create(self.ztxg, file)
+            served = Served(self.ztxg, file)
+            self.judge("the first object", self.ask(served, frame_rows.FIRST))
+            served.end()
+            made = pathlib.Path(file).read_bytes()
+            for options in frame_rows.BAD_LIMITS:
+                self.judge_unopened(frame_rows.refusal(11), file, *options)
+            ran = run_on_nothing([self.ztxg, "serve", file, "--dirty", "x"])
+            if (ran.status, ran.out) != (2, b"") or not ran.errors:
+                self.differ("a limit that is no number ends with", ran)
+            if pathlib.Path(file).read_bytes() != made:
+                self.differ("a limit that is refused changes the file")
+            damaged = bytearray(made)
+            damaged[frame_rows.FIRST_DATA + BLOCK - 1] ^= 1
+            pathlib.Path(file).write_bytes(damaged)
+            self.judge_unopened(frame_rows.DAMAGED, file)
+            if pathlib.Path(file).read_bytes() != damaged:
+                self.differ("a damaged pool that isn't opened changes")
+
+    # Frames
+
     def judge_stream(self):
-        """Each front of a stream of frames has its status and its answers, byte by byte."""
-        server = Server()
+        """Each front of a stream of frames has its status and its answers behind the opening, byte by byte."""
+        server, opening = Server(), opened_frame(frame_rows.NEW)
         answers = b"".join(server.answer(content) for content in frame_rows.STREAM)
         stream = b"".join(frame_rows.STREAM)
         for count, status, answered in frame_rows.STREAM_ROWS:
@@ -101,7 +176,7 @@ class FrameRows(Judge):
                 words = [self.ztxg, "serve", file]
                 ran = subprocess.run(words, input=stream[:count], capture_output=True, timeout=SECONDS)
             found = ran.returncode, ran.stdout, ran.stderr
-            if found != (status, answers[:answered], CUT_OFF if status else b""):
+            if found != (status, opening + answers[:answered], CUT_OFF if status else b""):
                 self.differ(f"{count} bytes of a stream end with {found}")
 
     def judge_records(self):
@@ -144,7 +219,9 @@ class FrameRows(Judge):
             served = Served(self.ztxg, file)
             found = found or self.ask(served, frame_rows.MOUNTED)
             served.end()
-        return found or (None if shown.lines() == frame_rows.SHOWN else f"show prints {shown}")
+        if shown.lines() != frame_rows.SHOWN:
+            found = found or f"show prints {shown}"
+        return found or (None if served.opening == frame_rows.REOPENED else f"it is opened as {served.opening}")
 
     def judge_loops(self):
         """Two commits, the second one once the group of the first is synced. Nobody waits for either."""
@@ -170,6 +247,8 @@ def add_arguments(parser):
 
 def main(ztxg):
     rows = FrameRows(ztxg)
+    rows.judge_unusable()
+    rows.judge_refused()
     rows.judge_stream()
     rows.judge_records()
     rows.judge_rows()

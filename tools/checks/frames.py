@@ -9,6 +9,8 @@ a serial pool that reads and writes frames from the document alone (`tools/model
 - Each process is ended by the end of its input, or killed after a frame was sent and before its answer is read. Then the
   pool is served again. It has all that was answered as durable or came before such an answer, and of the frame that was
   not answered the first transactions, none or all. Such a frame has durable transactions alone.
+- Each opening has the pool's guid. No record is replayed of a pool that is new, or whose process was ended by the end of
+  its input.
 
 The first difference ends it with status 1.
 """
@@ -113,9 +115,17 @@ def after_some(pool, frame):
     return pools
 
 
+def serve(ztxg, file, pool, is_synced):
+    """A process that serves the pool, whose opening is judged."""
+    served = Served(ztxg, file)
+    if served.opening.guid != pool.guid or is_synced and served.opening.records:
+        raise Failed(f"a pool with the guid {pool.guid}{' that was synced' if is_synced else ''}: {served.opening}")
+    return served
+
+
 def serve_once(ztxg, file, chance, pool):
     """Serves the pool until its process ends. Returns the serial pool then, and how many answers were compared."""
-    served, number, count = Served(ztxg, file), 0, 0
+    served, number, count = serve(ztxg, file, pool, is_synced=True), 0, 0
     pool.ordinal = pool.flushed = 0
     for _ in range(chance.randint(1, 40)):
         asked = [request(chance, number + at, CALLS) for at in range(chance.randint(0, 6))]
@@ -135,7 +145,7 @@ def serve_once(ztxg, file, chance, pool):
     served.send(last)
     time.sleep(chance.random() * 0.002)
     served.kill()
-    again = Served(ztxg, file)
+    again = serve(ztxg, file, pool, is_synced=False)
     found = contents(again)
     again.end()
     for after in after_some(pool, last):

@@ -1,18 +1,79 @@
-"""Worked frames, with what `docs/FORMATS.md` says of their answers.
+"""Worked frames, with what `docs/FORMATS.md` says of their answers, and of pools that aren't opened.
 
 A request stands here as its call, what it needs, and the wanted answer: what came of it, and its content. A receipt and
 a status have their numbers one by one, and None for one that isn't judged.
 """
 
 import collections
+import errno
+import os
 import struct
 
 from tools.harness.pool_files import SIZE
 from tools.model import layout
-from tools.model.frames import BAD_RECORD, REQUESTS, Request, frame, refusal_bytes, requests_frame, string
-from tools.model.layout import MIB, OBJECTS, RECORD
+from tools.model.formats import table
+from tools.model.frames import (
+    BAD_RECORD,
+    REQUESTS,
+    Opened,
+    Request,
+    Unopened,
+    frame,
+    refusal_bytes,
+    requests_frame,
+    string,
+    unopened_frame,
+)
+from tools.model.layout import AREA, BLOCK, DATA, MIB, OBJECTS, RECORD
 from tools.model.pool_bytes import record
 from tools.model.serial_pool import LEAST
+
+# Openings
+
+# That of a new pool, and that of the pool of `REPLAYED`, once its process was killed.
+NEW, REOPENED = Opened(77, 8, 0), Opened(77, 12, 4)
+NAMES = {int(number): name.split()[0] for number, name, _ in table("| n | name | when |")}
+CAUSE = "ztxg: cause: "
+
+
+def system(number):
+    """The opening of a file for which the system has this error."""
+    return Unopened(0, 0, 0, number, f"{os.strerror(number)} (os error {number})")
+
+
+def refusal(number, kind=0, address=0):
+    """The opening of a pool with this refusal, whose cause is any sentence."""
+    return Unopened(number, kind, address, 0, None)
+
+
+MISSING, DENIED = system(errno.ENOENT), system(errno.EACCES)
+NOT_REGULAR = Unopened(0, 0, 0, 0, "not a regular file")
+IN_USE = Unopened(0, 0, 0, errno.EAGAIN, "in use by another process or device")
+# So many zeros are no pool.
+ZEROS = [(SIZE, refusal(6)), (LEAST - 1, refusal(8)), (0, refusal(8))]
+BAD_LIMITS = [("--dirty", "4095"), ("--dirty", "1099511627777"), ("--cache", "0"), ("--cache", "4097")]
+# The data block of the first object of a new pool lies behind the block that the import took for the log.
+FIRST_DATA = AREA + BLOCK
+DAMAGED = refusal(7, DATA, FIRST_DATA)
+
+
+def first_line(opening, file):
+    """What a process says first on standard error that doesn't open the pool in a file."""
+    if not opening.refusal:
+        return f"ztxg: cannot use {file}\n"
+    damage = f" {opening.kind} {opening.address}" if opening.kind else ""
+    return f"ztxg: refused {opening.refusal} {NAMES[opening.refusal]}{damage}\n"
+
+
+def is_unopened(wanted, file, ran):
+    """Whether a run of `serve -v` ended as one that doesn't open the pool in a file. Its opening has the cause that
+    standard error has."""
+    if wanted.cause is None:
+        wanted = wanted._replace(cause=ran.error_text().partition(CAUSE)[2].rstrip("\n"))
+    errors = f"{first_line(wanted, file)}{CAUSE}{wanted.cause}\n"
+    status = 1 if wanted.refusal else 3
+    return bool(wanted.cause) and ran == (status, unopened_frame(wanted), errors.encode())
+
 
 # Frames on a new pool of a size that is served with these options.
 Row = collections.namedtuple("Row", "title frames options size", defaults=[(), SIZE])
@@ -22,6 +83,7 @@ Row = collections.namedtuple("Row", "title frames options size", defaults=[(), S
 FIELDS = {1: "<2Q", 2: "<2Q", 6: "<7Q"}
 STATUS = ("synced", "syncing", "middle", "open", "dirty", "free", "available")
 FLUSHED = (8, b"")
+TANK = (10, string(b"tank"))
 ABSENT, EXISTS, BAD_RANGE, NO_SPACE, THROTTLED = 9, 10, 11, 16, 17
 
 
@@ -95,6 +157,8 @@ def asks_status(**fields):
 
 FLUSH = ("flush", (), FLUSHED)
 HELLO = [*create(2, 3, 7), write(b"hello", 3)]
+# An object of one data block, which is `FIRST_DATA`.
+FIRST = [("transact", [*create(1), write(b"abcd")], committed(0, 9))]
 
 
 def limit(count):
@@ -135,7 +199,7 @@ ROWS = [
     Row(
         "a pool has its name, and each sync that of the group that was open",
         [
-            [("name", (), (10, string(b"tank"))), asks_status(synced=8, open=9, dirty=0)],
+            [("name", (), TANK), asks_status(synced=8, open=9, dirty=0)],
             *([("sync", (), synced(group)), asks_status(synced=group, open=group + 1)] for group in (9, 10, 11)),
             [
                 ("transact", [*create(1), ("n", layout.NAMED, 0, b"pond")], committed(0)),
