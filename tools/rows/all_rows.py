@@ -7,6 +7,7 @@
   each of its device calls, each string of kept, lost and torn writes, and the next import. The same of syncs that give
   the pool a name, and of imports after them (`name_rows.py`).
 - The same of objects that go from one level of indirect blocks to two and back (`level_rows.py`).
+- Imports that let so many blocks stay in memory (`cache_rows.py`).
 - Rounds of worked rows and of those of the log, whose calls are refused, which are stopped, and whose imports are
   stopped; and of creates that are stopped (`stop_rows.py`).
 
@@ -15,6 +16,7 @@ written when. Nothing is taken from a program.
 """
 
 from tools.rows.bad_rows import bad_lines, silent_lines
+from tools.rows.cache_rows import rooms
 from tools.rows.crash_rows import (
     lost_log_blocks,
     lost_parts,
@@ -81,6 +83,7 @@ MADE = [
     lost_imports,
     stopped_levels,
     stopped_replays_of_levels,
+    rooms,
 ]
 
 
