@@ -1,15 +1,17 @@
 """Notes the calls of a served pool, and judges what a power failure after each of them leaves.
 
-A pool is served, and asked by frames that number durable transactions. Each writes its number to two objects, and
-between them some bytes by chance, of which a log block has the record or several. Two threads sync beside them. `cc`
-compiles a `pwrite64` and an `fsync` that note each call on the pool's file with its bytes
+A pool is served, and asked by frames of numbered transactions, which each make durable: they ask for durable
+transactions, a flush or a sync. Each transaction writes its number to two objects, and between them some bytes by
+chance, of which a log block has the record or several. Two threads sync beside them. `cc` compiles a `pwrite64`, an
+`fsync` and a `write` that note each call on the pool's file with its bytes, and each write of an answer, in one order
 (`tools/harness/shims/calls.c`). One more refuses a write or a flush of all rounds but the first
 (`tools/harness/shims/refusals.c`): then a round ends.
 
 From these calls the image of each failure is made: after each call, with strings of kept, lost and torn writes over
-those that no flush came after. `tools/model/pool_image.py` says what it mounts, with nothing of the program. It has to
-hold the transactions up to a number and no other ones. No transaction is lost that was answered as durable before that
-call, and none is there that wasn't asked for yet. The next round serves the last image of a round, and finds the same.
+those that no flush has ended after. `tools/model/pool_image.py` says what it mounts, with nothing of the program. It has
+to hold the transactions up to a number and no other ones. No transaction is lost once the first byte goes out of the
+frame that answers it as durable, and none is there that wasn't asked for yet. The next round serves the last image of a
+round, and finds the same.
 
 The same is judged of a load by four threads, which shows on a terminal how many percent of its writes are durable. An
 image has to hold as many, of each stream the first ones. A stream that has begun leaves no stream of the same thread
@@ -32,7 +34,7 @@ from tools.harness.judge import Judge
 from tools.harness.pool_files import IN_MEMORY, create, pool_file
 from tools.harness.program import add_program
 from tools.harness.served import Served
-from tools.model.frames import Request, Server, read_answers, requests_frame
+from tools.model.frames import CALLS, Request, Server, read_answers, requests_frame
 from tools.model.layout import OBJECTS
 from tools.model.load import BETWEEN, STREAMS, contents, counts_held
 from tools.model.pool_image import Damaged, Image, NoPool, mount, read_pool
@@ -44,6 +46,8 @@ TORN = b"\xaa"
 COUNT = 40
 # The transactions of a frame; the bytes of each between its numbers.
 FRAME, LENGTHS = [1, 1, 1, 2, 5], [1, 100, 3_000, 4_500, 9_000]
+# What makes the transactions of a frame durable: their own calls, or one behind them.
+DURABLY = ["transact_durably"] * 6 + ["flush"] * 2 + ["sync"]
 # Which call of a kind is refused in a round, counted from the end of its import on.
 ROUNDS = [("", 0), ("flush", 1), ("flush", 2), ("write", 1), ("write", 2), ("write", 5), ("flush", 9), ("write", 40)]
 
@@ -64,6 +68,12 @@ def held_of(objects, stream):
     """The numbers of first writes of a stream that leave what a pool holds."""
     found = [counts_held(objects, SEED, stream, at) for at in range(0, WRITES + 1, BETWEEN)]
     return {count for held in found for count, _ in held if count <= WRITES}
+
+
+def first_output(calls, made):
+    """The number of the first write to standard output behind so many calls. A frame is sent once the answer to the one
+    before was read, so it is the first one of its answer."""
+    return next(at for at, (name, _, _) in enumerate(calls[made:], made + 1) if name == "output")
 
 
 class Numbered:
@@ -106,7 +116,7 @@ class PowerFailures(Judge):
             file.write_bytes(b"")
         self.counts.clear()
         refusing = self.refusals.environment(FAIL_KIND=kind, FAIL_AT=str(at), COUNT_FILE=self.counts.path)
-        noting = self.calls.environment(CALLS_FILE=str(self.noted), BYTES_FILE=str(self.copied))
+        noting = self.calls.environment(CALLS_FILE=str(self.noted), BYTES_FILE=str(self.copied), NOTE_OUTPUT="1")
         return {**refusing, **noting, "LD_PRELOAD": f"{self.refusals.library} {self.calls.library}"}
 
     def serve(self, kind="", at=0):
@@ -118,10 +128,9 @@ class PowerFailures(Judge):
         return self.noted.read_bytes().count(b"\n")
 
     def calls_of_import(self):
-        """How many calls of each kind a served pool has made before its first frame. The file stays as it is."""
+        """How many calls of each kind a served pool has made before its opening. The file stays as it is."""
         before = pathlib.Path(self.path).read_bytes()
         served = self.serve()
-        self.ask(served, [("name", ())])
         counts = self.counts.read()
         served.kill()
         pathlib.Path(self.path).write_bytes(before)
@@ -138,18 +147,26 @@ class PowerFailures(Judge):
         read = self.ask(served, [("read", (number, 0, length or 1)) for number, length in lengths.items()])
         return {number: answer.content[4:] for number, answer in zip(lengths, read)}
 
+    def frame(self, numbered):
+        """The requests of a frame that makes its transactions durable."""
+        durably, count = self.chance.choice(DURABLY), self.chance.choice(FRAME)
+        if durably == "transact_durably":
+            return [(durably, numbered.more()) for _ in range(count)]
+        return [*(("transact", numbered.more()) for _ in range(count)), (durably, ())]
+
     def commit(self, served, numbered, count):
         """Commits until so many are made or one is refused. Returns how many calls were noted before each frame, with
-        the number of the last transaction before it, and after each answer, with that of the last durable one."""
+        the number of the last transaction before it, and of those whose transactions are answered as durable, with that
+        of the last transaction in it."""
         asked, durable = [], []
         ends = len(numbered.after) + count
         while len(numbered.after) < ends:
             asked.append((self.made(), len(numbered.after) - 1))
-            frame = [("transact_durably", numbered.more()) for _ in range(numbered.chance.choice(FRAME))]
+            frame = self.frame(numbered)
             answers = self.ask(served, frame)
-            if any(answer.came != 2 for answer in answers):
+            if [answer.came for answer in answers] != [CALLS[call] for call, _ in frame]:
                 break
-            durable.append((self.made(), len(numbered.after) - 1))
+            durable.append((asked[-1][0], len(numbered.after) - 1))
         return asked, durable
 
     def strings(self, count):
@@ -158,17 +175,20 @@ class PowerFailures(Judge):
             return all_strings(count)
         return [*(letter * count for letter in "klt"), "".join(self.chance.choices("klt", k=count))]
 
-    def images_of(self, before, content):
+    def images_of(self, before, calls, content):
         """The images that a power failure leaves: after how many calls, the letters, and the image."""
-        flushed, unflushed, at = bytearray(before), [], 0
-        for made, (name, place, size) in enumerate(shims.noted_calls(self.noted), 1):
+        flushed, unflushed, count, at = bytearray(before), [], 0, 0
+        for made, (name, place, size) in enumerate(calls, 1):
             if name == "write":
                 unflushed.append((place, content[at : at + size]))
                 at += size
-            else:
-                for place, written in unflushed:
+            elif name in ("fsync", "fdatasync"):
+                count = len(unflushed)
+                continue
+            elif name == "synced":
+                for place, written in unflushed[:count]:
                     flushed[place : place + len(written)] = written
-                unflushed = []
+                unflushed = unflushed[count:]
             for letters in self.strings(len(unflushed)):
                 image = Image(bytearray(flushed))
                 for letter, (place, written) in zip(letters, unflushed):
@@ -191,7 +211,9 @@ class PowerFailures(Judge):
 
     def judge_round(self, title, before, numbered, first, asked, durable):
         """Each image of a round. Returns the last one, with the number of the last transaction that it mounts."""
-        for made, letters, image in self.images_of(before, self.copied.read_bytes()):
+        calls = shims.noted_calls(self.noted)
+        durable = [(first_output(calls, made), number) for made, number in durable]
+        for made, letters, image in self.images_of(before, calls, self.copied.read_bytes()):
             least = max([first, *(number for at, number in durable if at <= made)])
             later = bisect.bisect_left([at for at, _ in asked], made)
             most = asked[later][1] if later < len(asked) else len(numbered.after) - 1
@@ -231,7 +253,8 @@ class PowerFailures(Judge):
         create(self.ztxg, self.path, LEAST)
         before = pathlib.Path(self.path).read_bytes()
         shown = self.load()
-        for made, letters, image in self.images_of(before, self.copied.read_bytes()):
+        calls = shims.noted_calls(self.noted)
+        for made, letters, image in self.images_of(before, calls, self.copied.read_bytes()):
             self.images += 1
             what = f"a load: a failure after {made} calls with `{letters}`"
             try:

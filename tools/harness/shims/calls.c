@@ -1,5 +1,6 @@
 /* Notes the writes, syncs and sizes of regular files and the syncs of folders, a line each, in the file that CALLS_FILE
-   names. The bytes of the writes go into the file that BYTES_FILE names, one after the other. */
+   names. The bytes of the writes go into the file that BYTES_FILE names, one after the other. With NOTE_OUTPUT each sync
+   of a regular file has a line at its end too, and each write to standard output one before it. */
 
 #include "shim.h"
 #include <stdio.h>
@@ -7,7 +8,7 @@
 #include <sys/types.h>
 #include <unistd.h>
 
-static int noted = -1, copied = -1;
+static int noted = -1, copied = -1, notes_output;
 
 static int opened(const char *variable) {
     const char *path = getenv(variable);
@@ -17,6 +18,7 @@ static int opened(const char *variable) {
 __attribute__((constructor)) static void begin(void) {
     noted = opened("CALLS_FILE");
     copied = opened("BYTES_FILE");
+    notes_output = getenv("NOTE_OUTPUT") != NULL;
 }
 
 static int note(int file, const char *name, long long place, long long size) {
@@ -24,6 +26,18 @@ static int note(int file, const char *name, long long place, long long size) {
     if (noted < 0 || fstat(file, &is) || !S_ISREG(is.st_mode)) return 0;
     dprintf(noted, "%s %lld %lld\n", name, place, size);
     return 1;
+}
+
+/* What a sync returned, once its end is noted. */
+static int ended(int file, int result) {
+    if (notes_output && !result) note(file, "synced", 0, 0);
+    return result;
+}
+
+ssize_t write(int file, const void *bytes, size_t size) {
+    NEXT(ssize_t (*next)(int, const void *, size_t), "write");
+    if (notes_output && noted >= 0 && file == STDOUT_FILENO) dprintf(noted, "output 0 %zu\n", size);
+    return next(file, bytes, size);
 }
 
 ssize_t pwrite64(int file, const void *bytes, size_t size, off64_t place) {
@@ -39,13 +53,13 @@ int fsync(int file) {
     struct stat is;
     if (noted >= 0 && !fstat(file, &is) && S_ISDIR(is.st_mode)) dprintf(noted, "folder 0 0\n");
     note(file, "fsync", 0, 0);
-    return next(file);
+    return ended(file, next(file));
 }
 
 int fdatasync(int file) {
     NEXT(int (*next)(int), "fdatasync");
     note(file, "fdatasync", 0, 0);
-    return next(file);
+    return ended(file, next(file));
 }
 
 int ftruncate64(int file, off64_t size) {
