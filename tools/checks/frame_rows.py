@@ -3,8 +3,8 @@
 The frames are those of `tools/rows/frame_rows.py`.
 
 - What a process writes before it reads a frame: of a pool that is open, and if its file can't be used, has no pool or a
-  damaged one, or a limit is out of range. Such a process ends, though its input doesn't, with the status and the text of
-  every command, and leaves the file as it is.
+  damaged one, or a limit is out of range. Such a process ends, though its input doesn't, with the status and the text
+  of every command, and leaves the file as it is.
 - The bytes of some frames and of their answers, whole and cut off at some places, and records with a field wrong.
 - What was committed is read, listed and named. A refused transaction leaves no lock. At a limit, or in a pool, that has
   room for some transactions at once, all are committed. A full pool is synced before it refuses.

@@ -1,16 +1,16 @@
 """Asks a served pool by frames made by chance, kills the process at chance moments, and compares all answers.
 
 For SECONDS it makes pools of 8 MiB, and asks each by frames of up to six requests (docs/FORMATS.md, "Frames"):
-transactions, reads, lengths, lists, and whether a commit is durable. Some frames are malformed. The answers are those of
-a serial pool that reads and writes frames from the document alone (`tools/model/frames.py`).
+transactions, reads, lengths, lists, and whether a commit is durable. Some frames are malformed. The answers are those
+of a serial pool that reads and writes frames from the document alone (`tools/model/frames.py`).
 
 - The group of a receipt, the status and the group of a sync are not compared: two threads sync beside the frames.
 - A commit may be durable earlier than the serial pool says, by such a sync, and never later.
-- Each process is ended by the end of its input, or killed after a frame was sent and before its answer is read. Then the
-  pool is served again. It has all that was answered as durable or came before such an answer, and of the frame that was
-  not answered the first transactions, none or all. Such a frame has durable transactions alone.
-- Each opening has the pool's guid. No record is replayed of a pool that is new, or whose process was ended by the end of
-  its input.
+- Each process is ended by the end of its input, or killed after a frame was sent and before its answer is read. Then
+  the pool is served again. It has all that was answered as durable or came before such an answer, and of the frame that
+  was not answered the first transactions, none or all. Such a frame has durable transactions alone.
+- Each opening has the pool's guid. No record is replayed of a pool that is new, or whose process was ended by the end
+  of its input.
 
 The first difference ends it with status 1.
 """

@@ -1,17 +1,17 @@
 """Notes the calls of a served pool, and judges what a power failure after each of them leaves.
 
-A pool is served, and asked by frames of numbered transactions, which each make durable: they ask for durable
-transactions, a flush or a sync. Each transaction writes its number to two objects, and between them some bytes by
-chance, of which a log block has the record or several. Two threads sync beside them. `cc` compiles a `pwrite64`, an
-`fsync` and a `write` that note each call on the pool's file with its bytes, and each write of an answer, in one order
+A pool is served, and asked by frames of numbered transactions. Each frame makes its own durable, by their calls, by a
+flush or by a sync. A transaction writes its number to two objects, and between them some bytes by chance, of which a
+log block has the record or several. Two threads sync beside them. `cc` compiles a `pwrite64`, an `fsync` and a `write`
+that note each call on the pool's file with its bytes, and each write of an answer, in one order
 (`tools/harness/shims/calls.c`). One more refuses a write or a flush of all rounds but the first
 (`tools/harness/shims/refusals.c`): then a round ends.
 
 From these calls the image of each failure is made: after each call, with strings of kept, lost and torn writes over
-those that no flush has ended after. `tools/model/pool_image.py` says what it mounts, with nothing of the program. It has
-to hold the transactions up to a number and no other ones. No transaction is lost once the first byte goes out of the
-frame that answers it as durable, and none is there that wasn't asked for yet. The next round serves the last image of a
-round, and finds the same.
+those that no flush has ended after. `tools/model/pool_image.py` says what it mounts, with nothing of the program. It
+has to hold the transactions up to a number and no other ones. No transaction is lost once the first byte goes out of
+the frame that answers it as durable, and none is there that wasn't asked for yet. The next round serves the last image
+of a round, and finds the same.
 
 The same is judged of a load by four threads, which shows on a terminal how many percent of its writes are durable. An
 image has to hold as many, of each stream the first ones. A stream that has begun leaves no stream of the same thread

@@ -25,6 +25,15 @@ except OSError as error:
     print(error.errno)
 """
 KINDS = ["write", "flush", "read"]
+# Three writes to standard output; how many bytes each took, and the number of what failed.
+OUTPUT = """
+import os, sys
+try:
+    for content in (b"abc", b"de", b"f"):
+        print(os.write(1, content), file=sys.stderr)
+except OSError as error:
+    print(error.errno, file=sys.stderr)
+"""
 
 
 @unittest.skipUnless(shutil.which("cc"), "there is no cc")
@@ -47,6 +56,17 @@ class Shims(unittest.TestCase):
         self.assertEqual(pathlib.Path(copied).read_bytes(), b"abcde")
         lines = ["write 5 3", "write 0 2", "fsync 0 0", "fdatasync 0 0", "size 0 100"]
         self.assertEqual(pathlib.Path(noted).read_text().splitlines(), lines)
+
+    def test_the_ends_of_syncs_and_the_output_are_noted(self):
+        noted = os.path.join(self.folder, "noted")
+        self.assertEqual(self.calls(shims.Shim("calls", self.folder), CALLS_FILE=noted, NOTE_OUTPUT="1"), ["0"])
+        found = [name for name, _, _ in shims.noted_calls(noted)]
+        self.assertEqual(found[:8], ["write", "write", "fsync", "synced", "fdatasync", "synced", "size", "output"])
+
+    def test_output_has_room_for_some_bytes(self):
+        environment = shims.Shim("output", self.folder).environment(OUTPUT_ROOM="4")
+        ran = run([sys.executable, "-c", OUTPUT], env=environment)
+        self.assertEqual((ran.out, ran.error_text().split()), (b"abcd", ["3", "1", str(errno.ENOSPC)]))
 
     def test_a_call_is_refused(self):
         shim = shims.Shim("refusals", self.folder)
