@@ -201,6 +201,7 @@ def serve(ztxg, path):
     """The memory of a process that serves the pool, once it has answered a frame of each call: what is resident, and
     the most that was. The calls remove an object, then write to another one and read a third."""
     served = Served(ztxg, path)
+    tell((served.opening.guid, served.opening.records) == (GUID, 0), "serve")
     ask(served, ("transact", [("d", 1, 0, b"")]))
     ask(served, ("sync", ()))
     ask(served, ("transact_durably", [("w", 2, PAYLOAD - 2, b"abcd")]))

@@ -1,11 +1,19 @@
-"""Worked frames, asked of the server that stands in for the program's, which reads docs/FORMATS.md alone."""
+"""Worked frames, asked of the server that stands in for the program's, which reads docs/FORMATS.md alone, and how
+processes end that open no pool."""
 
+import shutil
 import struct
 import unittest
 
+from tools import TOP, Failed
 from tools.checks.frame_rows import difference
-from tools.model.frames import Answer, Request, Server, read_answers, requests_frame
+from tools.harness.pool_files import pool_file
+from tools.harness.program import Ran
+from tools.harness.served import Served
+from tools.model.frames import Answer, Request, Server, read_answers, requests_frame, unopened_frame
 from tools.rows import frame_rows
+
+STAND_IN = str(TOP / "clients/stand_in")
 
 
 def answers_of(server, asked):
@@ -40,3 +48,34 @@ class Rows(unittest.TestCase):
         self.assertIn("name", difference(asked, [name._replace(number=2), receipt]))
         self.assertIn("answered 7", difference(asked, 7))
         self.assertIsNotNone(difference(asked, [name]))
+
+
+class Openings(unittest.TestCase):
+    def judge(self, is_right, wanted, status, opening, errors):
+        ran = Ran(status, unopened_frame(opening), errors.encode())
+        self.assertEqual(frame_rows.is_unopened(wanted, "tank.pool", ran), is_right, ran)
+
+    def test_a_file_that_cannot_be_used(self):
+        wanted = frame_rows.MISSING
+        self.assertEqual(wanted, (0, 0, 0, 2, "No such file or directory (os error 2)"))
+        said = "ztxg: cannot use tank.pool\nztxg: cause: No such file or directory (os error 2)\n"
+        self.judge(True, wanted, 3, wanted, said)
+        self.judge(False, wanted, 1, wanted, said)
+        self.judge(False, wanted, 3, wanted._replace(error=0), said)
+        self.judge(False, wanted, 3, wanted, said.splitlines(keepends=True)[0])
+
+    def test_a_damaged_pool(self):
+        """docs/FORMATS.md, 4: the address of the first data block. The cause is any, and the same in both places."""
+        wanted, said = frame_rows.DAMAGED, "ztxg: refused 7 Damaged 5 4198400\nztxg: cause: a block is damaged\n"
+        opening = wanted._replace(cause="a block is damaged")
+        self.judge(True, wanted, 1, opening, said)
+        self.judge(False, wanted, 1, opening._replace(cause="a block"), said)
+        self.judge(False, wanted, 1, opening._replace(address=4_202_496), said)
+        self.judge(False, wanted, 1, opening._replace(cause=""), said.splitlines(keepends=True)[0])
+
+    def test_a_process_that_opens_no_pool(self):
+        """The stand-in says why, and a program that writes no opening has its status."""
+        with pool_file() as file:
+            for program, told in [(STAND_IN, "cannot use"), (shutil.which("false"), "nothing .* ends with 1")]:
+                with self.assertRaisesRegex(Failed, told):
+                    Served(program, file)
