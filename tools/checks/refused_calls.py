@@ -11,8 +11,8 @@
   refused, and what was durable stays so. No flush is made again.
 - `serve` on a file that becomes shorter meanwhile: reads and writes are refused, and no byte of it is written.
 - `serve`, whose output has room for some bytes, or is a pipe that its reader closes, also while an answer that is
-  longer than the pipe is written. What went out is a front of the opening and the answers, each once. The status is 3,
-  and nothing is said. The pool has what was answered as durable.
+  longer than the pipe is written; or whose input fails. What went out is a front of the opening and the answers, each
+  once. The status is 3, and nothing is said. The pool has what was answered as durable.
 
 Each difference is printed, and then the status is 1.
 """
@@ -21,6 +21,8 @@ import errno
 import os
 import pathlib
 import re
+import shlex
+import socket
 import struct
 import subprocess
 import tempfile
@@ -228,10 +230,10 @@ class RefusedCalls(Judge):
         wanted = [refusal_bytes(number) for number in (2, 9, 3, 5)], 1, True, True
         self.judge_soon("a file that becomes shorter", wanted, self.shorter)
 
-    # Standard output
+    # Standard streams
 
     def judge_output(self, what, ran, status, out, durable=b""):
-        """How a process has to end whose output fails, what went out, and what object 1 of the pool has at least."""
+        """How a process has to end one of whose streams fails, what went out, and what object 1 has then."""
         self.runs += 1
         if ran != (status, out, b""):
             right = len(os.path.commonprefix([ran.out, out]))
@@ -257,6 +259,25 @@ class RefusedCalls(Judge):
                 ran = Ran(ended.returncode, out.read(), ended.stderr)
             status, durable = 3 if room < len(whole) else 0, b"hello" if room >= durable_at else b""
             self.judge_output(f"an output that has room for {room} bytes", ran, status, whole[:room], durable)
+
+    def judge_inputs(self):
+        """Streams that are closed, and an input that fails after some frames: its other end left a byte unread."""
+        server, frames = Server(), STREAM[:3]
+        answers = [server.opening(), *map(server.answer, frames)]
+        for closed, out in [("<&-", answers[0]), (">&-", b"")]:
+            self.make()
+            line = f"exec {shlex.join([self.ztxg, 'serve', self.file])} {closed}"
+            self.judge_output(f"serve {closed}", program.run(["sh", "-c", line], (), SECONDS), 3, out)
+        self.make()
+        ours, theirs = socket.socketpair()
+        ours.sendall(b"".join(frames))
+        theirs.send(b"x")
+        ours.close()
+        with theirs:
+            words = [self.ztxg, "serve", self.file]
+            ended = subprocess.run(words, stdin=theirs, capture_output=True, timeout=SECONDS)
+        ran = Ran(ended.returncode, ended.stdout, ended.stderr)
+        self.judge_output("an input that fails", ran, 3, b"".join(answers), b"hello")
 
     def judge_pipes(self):
         """A pipe that is closed before the opening is written, and one after some bytes of the answers."""
@@ -295,5 +316,6 @@ def main(ztxg):
             judge.judge_shorter()
             judge.judge_rooms()
             judge.judge_pipes()
+            judge.judge_inputs()
     print(f"{judge.runs} runs, {judge.differences} differences")
     return int(judge.differences > 0)
