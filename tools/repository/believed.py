@@ -47,7 +47,7 @@ ROOTS = {
         ("word_lock/Seats", "HasTurned"),
     ],
 }
-# A call promises it, and a law asks for it. So who reads what the law concludes needn't know what it says.
+# A call promises it, and a law asks for it. A reader of what the law concludes doesn't need it.
 BETWEEN = {("pool_threads/Views", "IsSafeBetween")}
 
 KEYWORDS = r"(?:abbrev|unfoldable|data|record)"
