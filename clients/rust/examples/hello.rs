@@ -11,10 +11,10 @@ fn main() -> Result<(), Error> {
     let pool = Pool::open(program, file)?;
     match pool.transact(&[Op::Create(1)]) {
         Ok(receipt) => println!("made object 1: {receipt:?}"),
-        Err(Error::Refused(Refusal::Exists)) => println!("object 1 is there already"),
+        Err(Error::Refused { refusal: Refusal::Exists, .. }) => println!("object 1 is there already"),
         Err(error) => return Err(error),
     }
-    pool.transact(&[Op::Write { object: 1, offset: 0, bytes: b"hello" }])?;
+    pool.transact_durably(&[Op::Write { object: 1, offset: 0, bytes: b"hello" }])?;
     println!("{}", String::from_utf8_lossy(&pool.read(1, 0, 5)?));
     pool.close()
 }

@@ -1,28 +1,52 @@
 //! A pool of numbered objects in a file, changed by transactions that survive a power failure.
 //!
+//! [`Pool::transact`] commits: a power failure may lose it until a [`flush`](Pool::flush) or a [`sync`](Pool::sync).
+//! [`Pool::transact_durably`] returns once no power failure loses it.
+//!
 //! [`Pool::open`] starts `PROGRAM serve FILE`, a process that has the pool, and asks it by frames (`docs/FORMATS.md`,
-//! "Frames"). It ends when the pool is closed or dropped.
+//! "Frames"). It ends when the pool is closed or dropped. What several threads ask at once goes in one frame, so their
+//! durable transactions share a flush.
 //!
 //! ```no_run
 //! use topzerad::{Op, Pool};
 //!
 //! # fn main() -> Result<(), topzerad::Error> {
+//! Pool::create("ztxg", "tank.pool", "tank", 77, 64 << 20)?;
 //! let pool = Pool::open("ztxg", "tank.pool")?;
-//! pool.transact(&[Op::Create(1), Op::Write { object: 1, offset: 0, bytes: b"hello" }])?;
+//! pool.transact_durably(&[Op::Create(1), Op::Write { object: 1, offset: 0, bytes: b"hello" }])?;
 //! assert_eq!(pool.read(1, 0, 5)?, b"hello");
 //! pool.close()
 //! # }
 //! ```
+//!
+//! # Limits
+//!
+//! - The record of a transaction has at most 65,536 bytes: 22, and for each operation 5, 13 (a new length), 17 and its
+//!   bytes (a write), or 5 and its bytes (a name). Else it is refused `TooLarge`.
+//! - A transaction has at most 256 ranges, one for each operation. So 257 small writes are refused `TooMany`.
+//! - A small write is charged 20,480 bytes or more, and a transaction at most the dirty limit, 4 MiB if none is given.
+//!   So 204 small writes reach it, and 205 are refused `Throttled`.
+//! - Objects have numbers below [`OBJECTS`] and at most [`MAX_LENGTH`] bytes. Else a transaction is refused `BadRange`.
+//!
+//! The first and the last are tested before anything is sent.
+
+#![forbid(unsafe_code)]
 
 mod error;
 mod frames;
+mod options;
+mod record;
+mod server;
+mod turns;
 
 pub use error::{Error, Refusal};
+pub use options::{CreateOptions, Options};
 
-use frames::Answer;
+use frames::{Answer, Outcome, Request, Sizes};
+use server::{Connection, Server};
 use std::ffi::OsStr;
-use std::process::{Child, ChildStdin, ChildStdout, Command, Stdio};
-use std::sync::{Mutex, MutexGuard, PoisonError};
+use std::mem;
+use turns::Turns;
 
 /// Objects have the numbers below this one.
 pub const OBJECTS: u32 = 5_292;
@@ -30,8 +54,8 @@ pub const OBJECTS: u32 = 5_292;
 /// The most bytes of an object.
 pub const MAX_LENGTH: u64 = 28_449_792;
 
-/// The most bytes that one request reads. The answers of a frame have at most four times as many.
-const PIECE: u64 = 1_048_576;
+/// A write of [`Pool::write_long`] ends at a multiple of these bytes: 16 records of 4,032, so that none is written twice.
+const WRITE: u64 = 64_512;
 
 /// An operation of a transaction.
 #[derive(Clone, Copy, Debug, PartialEq, Eq)]
@@ -40,12 +64,21 @@ pub enum Op<'a> {
     Create(u32),
     /// Removes an object.
     Remove(u32),
-    /// Writes bytes to an object from an offset on, and lets it grow if it ends before them.
+    /// Writes bytes, one at least, to an object from an offset on. It grows if it ends before them.
     Write { object: u32, offset: u64, bytes: &'a [u8] },
     /// Cuts an object, or lets it grow by zeros.
     SetLength { object: u32, length: u64 },
-    /// Gives the pool a name of at most 64 bytes.
+    /// Gives the pool a name of 1 to 64 bytes: first an ASCII letter, then letters, digits, `-`, `_`, `.`.
     SetName(&'a [u8]),
+}
+
+/// What an open found: the pool's guid, the group that was synced last, and how many records of the log were replayed
+/// above it.
+#[derive(Clone, Copy, Debug, PartialEq, Eq)]
+pub struct Opened {
+    pub guid: u64,
+    pub group: u64,
+    pub replayed: u64,
 }
 
 /// Where a transaction stands in the history since the pool was opened, and its group.
@@ -75,68 +108,52 @@ pub struct Status {
     pub available: u64,
 }
 
-/// The input and the output of the process.
-struct Pipes {
-    input: ChildStdin,
-    output: ChildStdout,
-    next_number: u64,
-    is_broken: bool,
-}
-
-impl Pipes {
-    fn ask<T>(&mut self, call: u8, needs: &[u8], read: fn(&mut Answer) -> Result<T, Error>) -> Result<T, Error> {
-        if self.is_broken {
-            return Err(Error::Ended);
-        }
-        // A panic from here on leaves an answer unread. So where the next one begins is not known then.
-        self.is_broken = true;
-        let number = self.next_number;
-        self.next_number += 1;
-        let came = frames::ask(&mut self.input, &mut self.output, number, call, needs).and_then(|mut answer| {
-            let value = read(&mut answer)?;
-            answer.end()?;
-            Ok(value)
-        });
-        self.is_broken = matches!(came, Err(Error::Ended));
-        came
-    }
-}
-
-/// A pool that is open. Any thread may call it; the calls take turns.
+/// A pool that is open. Any thread may call it. Each call waits for its answer.
+///
+/// Besides the errors that it names, each call returns `Ended`, `TimedOut`, `BadAnswer` or `Broken` if the process
+/// doesn't answer, and `Forked` in a child of the process that opened the pool.
 pub struct Pool {
-    process: Child,
-    pipes: Option<Mutex<Pipes>>,
+    turns: Turns<Connection>,
+    /// None once it was ended.
+    server: Option<Server>,
+    opened: Opened,
+    opener: u32,
 }
 
 impl Pool {
-    /// Starts the process `program serve file`. `ztxg create` makes a file with a pool.
+    /// Opens the pool in a file by the process `program serve file`, with the options that `ztxg serve` takes if none
+    /// are given.
     ///
     /// # Errors
     ///
-    /// `System` if it can't be started. If it can't open the pool, the first call returns `Ended`.
+    /// Those of [`Options::open`].
     pub fn open(program: impl AsRef<OsStr>, file: impl AsRef<OsStr>) -> Result<Pool, Error> {
-        let mut process = Command::new(program)
-            .arg("serve")
-            .arg(file)
-            .stdin(Stdio::piped())
-            .stdout(Stdio::piped())
-            .spawn()
-            .map_err(Error::System)?;
-        let pipes = match (process.stdin.take(), process.stdout.take()) {
-            (Some(input), Some(output)) => Some(Mutex::new(Pipes { input, output, next_number: 0, is_broken: false })),
-            _ => None,
-        };
-        Ok(Pool { process, pipes })
+        Options::new().open(program, file)
     }
 
-    /// Commits operations: all of them take place, or none. It returns once no power failure loses them.
+    /// Makes a pool of `size` bytes in a new file by `program create`. A file that is there is refused.
     ///
     /// # Errors
     ///
-    /// `Refused`, and nothing took place. `NotDurable`, and all of them took place. `FrameRefused(7)` if there are no
-    /// operations.
-    pub fn transact(&self, ops: &[Op<'_>]) -> Result<Receipt, Error> {
-        self.ask(frames::TRANSACT_DURABLY, &frames::record(ops)?, Answer::receipt)
+    /// Those of [`CreateOptions::create`].
+    pub fn create(
+        program: impl AsRef<OsStr>,
+        file: impl AsRef<OsStr>,
+        name: &str,
+        guid: u64,
+        size: u64,
+    ) -> Result<(), Error> {
+        CreateOptions::new().create(program, file, name, guid, size)
+    }
+
+    pub(crate) fn of_server(server: Server, opened: Opened) -> Pool {
+        let turns = Turns::new(server.connection());
+        Pool { turns, server: Some(server), opened, opener: std::process::id() }
+    }
+
+    /// What the open found.
+    pub fn opened(&self) -> Opened {
+        self.opened
     }
 
     /// Commits operations: all of them take place, or none. A power failure may lose them until a
@@ -144,9 +161,51 @@ impl Pool {
     ///
     /// # Errors
     ///
-    /// Those of [`transact`](Pool::transact), except `NotDurable`.
-    pub fn transact_later(&self, ops: &[Op<'_>]) -> Result<Receipt, Error> {
-        self.ask(frames::TRANSACT, &frames::record(ops)?, Answer::receipt)
+    /// `Refused`, and nothing took place. `FrameRefused(7)` if there are no operations.
+    pub fn transact(&self, ops: &[Op<'_>]) -> Result<Receipt, Error> {
+        self.ask(Request::Transact(record::record(ops)?))?.receipt()
+    }
+
+    /// Commits operations: all of them take place, or none. It returns once no power failure loses them.
+    ///
+    /// # Errors
+    ///
+    /// Those of [`transact`](Pool::transact); and `NotDurable`, but all of them took place.
+    pub fn transact_durably(&self, ops: &[Op<'_>]) -> Result<Receipt, Error> {
+        self.ask(Request::TransactDurably(record::record(ops)?))?.receipt()
+    }
+
+    /// Commits transactions in their order, each by itself, and returns what came of each: a refusal doesn't keep the
+    /// next from being committed. They go in few frames.
+    pub fn transact_many<'a, T: AsRef<[Op<'a>]>>(&self, transactions: &[T]) -> Vec<Result<Receipt, Error>> {
+        self.ask_many(transactions, Request::Transact)
+    }
+
+    /// Commits transactions as [`transact_many`](Pool::transact_many) does. It returns once no power failure loses
+    /// them; those of a frame share a flush.
+    pub fn transact_many_durably<'a, T: AsRef<[Op<'a>]>>(&self, transactions: &[T]) -> Vec<Result<Receipt, Error>> {
+        self.ask_many(transactions, Request::TransactDurably)
+    }
+
+    /// Writes bytes of any number to an object from an offset on, in their order, by a transaction for each 64,512 of
+    /// them. Calls of other threads may come between. It returns once no power failure loses them.
+    ///
+    /// # Errors
+    ///
+    /// `BadRange` if the bytes end above [`MAX_LENGTH`]; those of [`transact`](Pool::transact) and
+    /// [`flush`](Pool::flush). If bytes were committed before, `CutShort` says how many, and has the error.
+    pub fn write_long(&self, object: u32, offset: u64, bytes: &[u8]) -> Result<(), Error> {
+        record::check_end(offset, bytes).map_err(|cause| Error::out_of_bounds(Refusal::BadRange, cause))?;
+        let mut committed = 0;
+        while committed < bytes.len() {
+            let at = offset + committed as u64;
+            let left = &bytes[committed..];
+            let (piece, _) = left.split_at(left.len().min((WRITE - at % WRITE) as usize));
+            let written = self.transact(&[Op::Write { object, offset: at, bytes: piece }]);
+            written.map_err(|error| error.after(committed))?;
+            committed += piece.len();
+        }
+        self.flush().map_err(|error| error.after(committed))
     }
 
     /// The bytes of an object from `low` on, below `high` and below its length, at one moment. More than 1 MiB are read
@@ -156,22 +215,10 @@ impl Pool {
     ///
     /// `NoObject`; `BadRange` unless `low < high` and `high` is at most [`MAX_LENGTH`].
     pub fn read(&self, object: u32, low: u64, high: u64) -> Result<Vec<u8>, Error> {
-        let mut pipes = self.pipes()?;
-        let mut low = low;
-        if low < high && high > MAX_LENGTH {
-            low = high - 1; // so that the pool refuses the range, however short the object is
-        }
-        let mut bytes = Vec::new();
-        loop {
-            let end = high.min(low.saturating_add(PIECE));
-            let needs = [&object.to_le_bytes()[..], &low.to_le_bytes(), &end.to_le_bytes()].concat();
-            let piece = pipes.ask(frames::READ, &needs, Answer::string)?;
-            bytes.extend_from_slice(&piece);
-            if end == high || (piece.len() as u64) < PIECE {
-                return Ok(bytes);
-            }
-            low = end;
-        }
+        let is_above = low < high && high > MAX_LENGTH;
+        // The pool has to refuse a range above the limit, however short the object is.
+        let low = if is_above { high - 1 } else { low };
+        self.ask(Request::Read { object, low, high, read: Vec::new() })?.bytes()
     }
 
     /// The length of an object in bytes.
@@ -180,74 +227,111 @@ impl Pool {
     ///
     /// `NoObject`.
     pub fn length(&self, object: u32) -> Result<u64, Error> {
-        self.ask(frames::LENGTH, &object.to_le_bytes(), Answer::u64)
+        self.ask(Request::Length { object })?.number()
     }
 
     /// Which objects are there from `first` on, below `past`, by rising number.
     pub fn objects(&self, first: u32, past: u32) -> Result<Vec<Listed>, Error> {
-        let needs = [first.to_le_bytes(), past.to_le_bytes()].concat();
-        self.ask(frames::OBJECTS, &needs, Answer::objects)
+        self.ask(Request::Objects { first, past })?.objects()
     }
 
+    /// The groups, and what is charged and free.
     pub fn status(&self) -> Result<Status, Error> {
-        self.ask(frames::STATUS, &[], Answer::status)
+        self.ask(Request::Status)?.status()
     }
 
     /// Whether no power failure loses a transaction.
     pub fn durable(&self, receipt: Receipt) -> Result<bool, Error> {
-        let needs = [receipt.ordinal.to_le_bytes(), receipt.group.to_le_bytes()].concat();
-        Ok(self.ask(frames::DURABLE, &needs, Answer::u8)? != 0)
+        self.ask(Request::Durable(receipt))?.durable()
     }
 
     /// Makes durable what was committed so far, by the log.
     pub fn flush(&self) -> Result<(), Error> {
-        self.ask(frames::FLUSH, &[], |_| Ok(()))
+        self.ask(Request::Flush).map(drop)
     }
 
     /// Syncs the open group, and returns it: what was committed so far is durable, and no longer charged.
     pub fn sync(&self) -> Result<u64, Error> {
-        self.ask(frames::SYNC, &[], Answer::u64)
+        self.ask(Request::Sync)?.number()
     }
 
     /// The pool's name.
     pub fn name(&self) -> Result<Vec<u8>, Error> {
-        self.ask(frames::NAME, &[], Answer::string)
+        self.ask(Request::Name)?.bytes()
     }
 
     /// Ends the process once it has synced the pool, and waits for its end. A drop does the same and tells no error.
     ///
     /// # Errors
     ///
-    /// `BadEnd` if the process did not end with status 0.
+    /// `BadEnd` if the process did not end with status 0. `TimedOut` if it did not end within the timeout of
+    /// [`Options`], and was killed. `Forked` in a child of the process that opened the pool: nothing is ended then.
     pub fn close(mut self) -> Result<(), Error> {
         self.end()
     }
 
     fn end(&mut self) -> Result<(), Error> {
-        drop(self.pipes.take());
-        let status = self.process.wait().map_err(Error::System)?;
-        if status.success() {
-            Ok(())
-        } else {
-            Err(Error::BadEnd(status))
+        let server = self.server.take();
+        self.test_opener()?;
+        let status = server.map_or(Ok(None), |mut server| server.end())?;
+        match status {
+            Some(status) if !status.success() => Err(Error::BadEnd(status)),
+            None if self.turns.found_the_end() => Err(Error::Ended),
+            _ => Ok(()),
         }
     }
 
-    fn ask<T>(&self, call: u8, needs: &[u8], read: fn(&mut Answer) -> Result<T, Error>) -> Result<T, Error> {
-        self.pipes()?.ask(call, needs, read)
+    fn ask(&self, request: Request) -> Result<Answer, Error> {
+        self.test_opener()?;
+        self.turns.ask(request)
     }
 
-    fn pipes(&self) -> Result<MutexGuard<'_, Pipes>, Error> {
-        let pipes = self.pipes.as_ref().ok_or(Error::Ended)?;
-        // A thread panics with the lock held only if there is no memory.
-        Ok(pipes.lock().unwrap_or_else(PoisonError::into_inner))
+    fn ask_all(&self, requests: Vec<Request>) -> Vec<Outcome> {
+        match self.test_opener() {
+            Ok(()) => self.turns.ask_all(requests),
+            Err(_) => requests.iter().map(|_| Err(Error::Forked)).collect(),
+        }
     }
-}
 
-impl Drop for Pool {
-    fn drop(&mut self) {
-        if self.pipes.is_some() {
-            let _ = self.end();
+    /// Asks transactions in their order, as many at once as fit a frame. Those that are no record are not sent.
+    fn ask_many<'a, T: AsRef<[Op<'a>]>>(
+        &self,
+        transactions: &[T],
+        request: fn(Vec<u8>) -> Request,
+    ) -> Vec<Result<Receipt, Error>> {
+        let requests = transactions.iter().map(|ops| record::record(ops.as_ref()).map(request));
+        let mut outcomes = Vec::with_capacity(transactions.len());
+        let (mut batch, mut sizes) = (Vec::new(), Sizes::NONE);
+        for request in requests {
+            if let Ok(request) = &request {
+                let more = sizes.with(request);
+                let is_full = !more.fit();
+                if is_full {
+                    outcomes.extend(self.ask_batch(mem::take(&mut batch)));
+                }
+                sizes = if is_full { Sizes::NONE.with(request) } else { more };
+            }
+            batch.push(request);
+        }
+        outcomes.extend(self.ask_batch(batch));
+        outcomes
+    }
+
+    fn ask_batch(&self, batch: Vec<Result<Request, Error>>) -> Vec<Result<Receipt, Error>> {
+        let mut requests = Vec::with_capacity(batch.len());
+        let unsent: Vec<_> = batch.into_iter().map(|request| request.map(|sent| requests.push(sent))).collect();
+        let mut came = self.ask_all(requests).into_iter();
+        let mut next = || came.next().unwrap_or(Err(Error::Broken))?.receipt();
+        unsent.into_iter().map(|is_sent| is_sent.and_then(|()| next())).collect()
+    }
+
+    /// A child of the process that opened the pool has the socket too, and an answer goes to the one that reads first.
+    /// This comes before each lock: another thread of the parent may have had it at the fork.
+    fn test_opener(&self) -> Result<(), Error> {
+        if self.opener == std::process::id() {
+            Ok(())
+        } else {
+            Err(Error::Forked)
         }
     }
 }

@@ -1,20 +1,84 @@
 //! Makes each call on a pool without objects that is named tank: in TOPZERAD_FILE by TOPZERAD_PROGRAM, or by the
 //! stand-in in memory.
 
+mod common;
+
+use common::{program, refusal, text};
 use topzerad::{Error, Listed, Op, Pool, Refusal, MAX_LENGTH, OBJECTS};
 
-const STAND_IN: &str = concat!(env!("CARGO_MANIFEST_DIR"), "/../stand_in");
-
 fn open() -> Pool {
-    let word = |name, default: &str| std::env::var_os(name).unwrap_or_else(|| default.into());
-    Pool::open(word("TOPZERAD_PROGRAM", STAND_IN), word("TOPZERAD_FILE", "-")).unwrap()
+    let file = std::env::var_os("TOPZERAD_FILE").unwrap_or_else(|| "-".into());
+    Pool::open(program(), file).unwrap()
 }
 
-fn refusal<T>(came: Result<T, Error>) -> Option<Refusal> {
-    match came {
-        Err(Error::Refused(refusal)) => Some(refusal),
-        _ => None,
+/// What is above a limit is refused with its value, and a value at the limit is not.
+fn keep_limits(pool: &Pool) {
+    let long = vec![7; 65_498];
+    let write = |bytes| [Op::Write { object: 3, offset: 0, bytes }];
+    assert!(matches!(pool.transact(&[]), Err(Error::FrameRefused(7))));
+    let came = pool.transact(&write(&long));
+    assert_eq!(refusal(came), Some(Refusal::TooLarge));
+    pool.transact(&write(&long[1..])).unwrap();
+    assert_eq!(pool.read(3, 0, MAX_LENGTH).unwrap(), long[1..]);
+    let last = Op::Write { object: 3, offset: MAX_LENGTH - 1, bytes: b"z" };
+    pool.transact(&[Op::Create(OBJECTS - 1), last, Op::SetName(&[b'n'; 64]), Op::Remove(OBJECTS - 1)]).unwrap();
+    pool.transact(&[Op::SetLength { object: 3, length: 7 }, Op::SetName(b"pond")]).unwrap();
+    for (op, cause) in [
+        (Op::Create(5_292), "object 5292: numbers go to 5291"),
+        (Op::Write { object: 3, offset: 0, bytes: b"" }, "a write of no bytes: 1 at least"),
+        (
+            Op::Write { object: 3, offset: MAX_LENGTH, bytes: b"z" },
+            "the bytes end at 28449793: an object has at most 28449792",
+        ),
+        (
+            Op::SetLength { object: 3, length: u64::MAX },
+            "length 18446744073709551615: an object has at most 28449792 bytes",
+        ),
+        (Op::SetName(b"1x"), "name \"1x\": 1 to 64 bytes, first a letter, then letters, digits, - _ ."),
+    ] {
+        let came = pool.transact_durably(&[op]);
+        assert_eq!(text(came), format!("a number, a range, a plan, a name or a limit is out of bounds: {cause}"));
     }
+}
+
+/// More than go in one frame. The second one is refused by the pool, and the third one before it is sent.
+fn commit_many_at_once(pool: &Pool) {
+    let bytes = [9; 65_000];
+    let write = |at: u64| vec![Op::Write { object: 50, offset: 65_000 * at, bytes: &bytes }];
+    let mut transactions = vec![vec![Op::Create(50)], vec![Op::Create(50)], vec![Op::Create(OBJECTS)]];
+    transactions.extend((0..70).map(write));
+    let outcomes = pool.transact_many_durably(&transactions);
+    let receipts: Vec<_> = outcomes.iter().filter_map(|outcome| outcome.as_ref().ok()).collect();
+    assert_eq!((outcomes.len(), receipts.len()), (73, 71));
+    assert!(receipts.windows(2).all(|pair| pair[0].ordinal + 1 == pair[1].ordinal));
+    assert!(receipts.iter().all(|receipt| pool.durable(**receipt).unwrap()));
+    let mut refused = outcomes.into_iter().filter_map(refusal);
+    assert_eq!((refused.next(), refused.next()), (Some(Refusal::Exists), Some(Refusal::BadRange)));
+    assert_eq!(pool.length(50).unwrap(), 70 * 65_000);
+    assert!(pool.transact_many::<Vec<Op<'_>>>(&[]).is_empty());
+}
+
+/// The object goes while it is written, so a piece is refused. If all was written before, it is tried again.
+fn write_in_part(pool: &Pool) {
+    let bytes = vec![1; 20_000_000];
+    let write_and_remove = || {
+        pool.transact(&[Op::Create(60)]).unwrap();
+        std::thread::scope(|scope| {
+            let writer = scope.spawn(|| pool.write_long(60, 1, &bytes));
+            while pool.length(60).unwrap() == 0 {}
+            pool.transact(&[Op::Remove(60)]).unwrap();
+            writer.join().unwrap().err()
+        })
+    };
+    match (0..20).find_map(|_| write_and_remove()) {
+        Some(Error::CutShort { committed, error }) => {
+            assert_eq!(committed % 64_512, 64_511);
+            assert_eq!(error.refusal(), Some(Refusal::NoObject));
+        }
+        other => panic!("{other:?}"),
+    }
+    assert_eq!(refusal(pool.write_long(60, 1, &bytes)), Some(Refusal::NoObject));
+    assert_eq!(refusal(pool.write_long(3, MAX_LENGTH - 19_999_999, &bytes)), Some(Refusal::BadRange));
 }
 
 /// Several threads, each with an object of its own.
@@ -24,7 +88,7 @@ fn commit_by_threads(pool: &Pool) {
             scope.spawn(move || {
                 pool.transact(&[Op::Create(object)]).unwrap();
                 for at in 0..50_u8 {
-                    pool.transact(&[Op::Write { object, offset: at.into(), bytes: &[at] }]).unwrap();
+                    pool.transact_durably(&[Op::Write { object, offset: at.into(), bytes: &[at] }]).unwrap();
                 }
             });
         }
@@ -40,10 +104,8 @@ fn read_long_object(pool: &Pool) {
     const PIECE: usize = 1 << 20;
     let content: Vec<u8> = (0..5_000_000_u64).map(|at| (at * at % 251) as u8).collect();
     pool.transact(&[Op::Create(200)]).unwrap();
-    for (at, bytes) in content.chunks(65_000).enumerate() {
-        pool.transact_later(&[Op::Write { object: 200, offset: 65_000 * at as u64, bytes }]).unwrap();
-    }
-    pool.flush().unwrap();
+    pool.write_long(200, 0, &content).unwrap();
+    pool.write_long(200, 64_511, &content[64_511..200_000]).unwrap();
     assert_eq!(pool.length(200).unwrap(), 5_000_000);
     let read = |low: usize, high: usize| pool.read(200, low as u64, high as u64).unwrap();
     assert!(read(0, MAX_LENGTH as usize) == content);
@@ -65,7 +127,7 @@ fn read_at_one_moment(pool: &Pool) {
         let writer = scope.spawn(move || {
             for at in 1..100_u8 {
                 let write = |offset| Op::Write { object: 300, offset, bytes: std::slice::from_ref(&at) };
-                pool.transact_later(&[write(0), write(length - 1)]).unwrap();
+                pool.transact(&[write(0), write(length - 1)]).unwrap();
             }
         });
         while !writer.is_finished() {
@@ -81,12 +143,12 @@ fn each_call_is_answered() {
     let pool = open();
     assert_eq!(pool.name().unwrap(), b"tank");
     assert_eq!(refusal(pool.length(1)), Some(Refusal::NoObject));
-    let first = pool.transact(&[Op::Create(1), Op::Write { object: 1, offset: 100, bytes: b"wxyz" }]).unwrap();
+    let first = pool.transact_durably(&[Op::Create(1), Op::Write { object: 1, offset: 100, bytes: b"wxyz" }]).unwrap();
     assert!(pool.durable(first).unwrap());
     assert_eq!(refusal(pool.transact(&[Op::Create(2), Op::Create(1)])), Some(Refusal::Exists));
     assert_eq!(pool.read(1, 98, 200).unwrap(), b"\0\0wxyz");
     assert_eq!(refusal(pool.read(1, 5, 5)), Some(Refusal::BadRange));
-    let second = pool.transact_later(&[Op::Create(3), Op::SetLength { object: 3, length: 7 }]).unwrap();
+    let second = pool.transact(&[Op::Create(3), Op::SetLength { object: 3, length: 7 }]).unwrap();
     assert_eq!(second.ordinal, first.ordinal + 1);
     pool.flush().unwrap();
     assert!(pool.durable(second).unwrap());
@@ -95,23 +157,11 @@ fn each_call_is_answered() {
     pool.transact(&[Op::Remove(1), Op::SetName(b"pond")]).unwrap();
     assert_eq!((pool.name().unwrap(), pool.length(3).unwrap()), (b"pond".to_vec(), 7));
     assert_eq!(pool.sync().unwrap(), pool.status().unwrap().synced);
-    assert!(matches!(pool.transact(&[]), Err(Error::FrameRefused(7))));
-    let long = vec![7; 65_498];
-    let write = |bytes| [Op::Write { object: 3, offset: 0, bytes }];
-    assert_eq!(refusal(pool.transact(&write(&long))), Some(Refusal::TooLarge));
-    pool.transact(&write(&long[1..])).unwrap();
-    assert_eq!(pool.read(3, 0, MAX_LENGTH).unwrap(), long[1..]);
+    keep_limits(&pool);
+    commit_many_at_once(&pool);
+    write_in_part(&pool);
     commit_by_threads(&pool);
     read_long_object(&pool);
     read_at_one_moment(&pool);
     pool.close().unwrap();
-}
-
-#[test]
-fn a_process_that_ends_is_told() {
-    assert!(matches!(Pool::open("/", "-"), Err(Error::System(_))));
-    let pool = Pool::open("false", "-").unwrap();
-    assert!(matches!(pool.flush(), Err(Error::Ended)));
-    assert_eq!(pool.flush().unwrap_err().to_string(), "the process with the pool ended");
-    assert!(matches!(pool.close(), Err(Error::BadEnd(_))));
 }

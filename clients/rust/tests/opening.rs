@@ -1,0 +1,107 @@
+//! Makes and opens pools in files of its own, by TOPZERAD_PROGRAM or the stand-in.
+
+mod common;
+
+use common::{new_path, new_pool, program, refusal, signal, text, SIZE, WITH_PID};
+use std::io::ErrorKind;
+use std::time::{Duration, Instant};
+use topzerad::{CreateOptions, Error, Op, Opened, Options, Pool, Refusal};
+
+/// The kind of the system's error of a file that can't be used.
+fn kind<T>(came: Result<T, Error>) -> Option<ErrorKind> {
+    match came {
+        Err(Error::Unusable { source: Some(source), .. }) => Some(source.kind()),
+        _ => None,
+    }
+}
+
+#[test]
+fn a_create_replaces_no_file_unless_it_is_told() {
+    let path = new_path("made.pool");
+    let create = |size| Pool::create(program(), &path, "tank", 77, size);
+    assert_eq!(refusal(create(7_000_000)), Some(Refusal::BadGeometry));
+    assert_eq!(refusal(Pool::create(program(), &path, "-1", 77, SIZE)), Some(Refusal::BadRange));
+    assert!(!path.exists());
+    create(SIZE).unwrap();
+    assert_eq!(kind(create(SIZE)), Some(ErrorKind::AlreadyExists));
+    let mut options = CreateOptions::new();
+    options.replace(true).moment(1_700_000_000);
+    options.create(program(), &path, "pond", 78, SIZE).unwrap();
+    let pool = Pool::open(program(), &path).unwrap();
+    assert_eq!((pool.opened().guid, pool.name().unwrap()), (78, b"pond".to_vec()));
+    let came = options.create(program(), &path, "pond", 78, SIZE);
+    assert!(text(came).ends_with("in use by another process or device"));
+    assert_eq!(kind(options.create(program(), &path, "pond", 78, SIZE)), Some(ErrorKind::WouldBlock));
+    pool.close().unwrap();
+    assert!(matches!(Pool::create("/", &path, "tank", 77, SIZE), Err(Error::System(_))));
+    assert!(matches!(Pool::create("false", &path, "tank", 77, SIZE), Err(Error::NotCreated { .. })));
+}
+
+/// A process that is killed loses what wasn't durable. The next open replays the rest.
+#[test]
+fn an_open_says_what_it_found() {
+    let path = new_pool("found.pool");
+    let pool = Pool::open(WITH_PID, &path).unwrap();
+    assert_eq!(pool.opened(), Opened { guid: 77, group: 8, replayed: 0 });
+    pool.transact(&[Op::Create(1)]).unwrap();
+    pool.transact_durably(&[Op::Create(2)]).unwrap();
+    pool.transact(&[Op::Create(3)]).unwrap();
+    signal("KILL", &path);
+    assert!(matches!(pool.flush(), Err(Error::Ended)));
+    assert!(matches!(pool.flush(), Err(Error::Ended)));
+    assert!(matches!(pool.close(), Err(Error::BadEnd(_))));
+    let pool = Pool::open(program(), &path).unwrap();
+    assert_eq!(pool.opened(), Opened { guid: 77, group: 8, replayed: 2 });
+    assert_eq!(pool.objects(0, 9).unwrap().len(), 2);
+    pool.close().unwrap();
+}
+
+#[test]
+fn an_open_that_fails_says_why() {
+    let path = new_pool("refused.pool");
+    let missing = Pool::open(program(), new_path("missing.pool"));
+    assert_eq!(text(missing), "the file can't be used: No such file or directory (os error 2)");
+    assert_eq!(kind(Pool::open(program(), new_path("missing.pool"))), Some(ErrorKind::NotFound));
+    let folder = Pool::open(program(), env!("CARGO_TARGET_TMPDIR"));
+    assert!(matches!(folder, Err(Error::Unusable { cause, source: None }) if cause == "not a regular file"));
+    assert_eq!(refusal(Options::new().dirty(4_095).open(program(), &path)), Some(Refusal::BadRange));
+    assert_eq!(refusal(Options::new().cache(4_097).open(program(), &path)), Some(Refusal::BadRange));
+    let too_long = Options::new().wait(Duration::from_millis(86_400_001)).open(program(), &path);
+    assert!(text(too_long).ends_with("wait 86401: 0 to 86400 seconds"));
+    let no_pool = new_path("zeros.pool");
+    std::fs::File::create(&no_pool).unwrap().set_len(SIZE).unwrap();
+    assert_eq!(refusal(Pool::open(program(), &no_pool)), Some(Refusal::NoPool));
+    let mut options = Options::new();
+    options.dirty(1 << 20).cache(16).moment(1_700_000_000).wait(Duration::from_millis(200));
+    let pool = options.open(program(), &path).unwrap();
+    assert_eq!(kind(Pool::open(program(), &path)), Some(ErrorKind::WouldBlock));
+    let begun = Instant::now();
+    assert_eq!(kind(options.open(program(), &path)), Some(ErrorKind::WouldBlock));
+    assert!(begun.elapsed() > Duration::from_millis(900)); // a second is the least that the program waits
+    pool.close().unwrap();
+}
+
+#[test]
+fn a_program_that_is_no_server_is_told() {
+    assert!(matches!(Pool::open("/", "-"), Err(Error::System(_))));
+    let text = |program| text(Pool::open(program, "tank.pool"));
+    assert_eq!(text("false"), "the process ended with exit status: 1 before it said whether the pool is open");
+    assert_eq!(text("echo"), "the process answered what is no frame, or another call");
+}
+
+/// The process is stopped, so that it doesn't answer.
+#[test]
+fn a_process_that_does_not_answer_is_left() {
+    let path = new_pool("stopped.pool");
+    let timeout = Duration::from_secs(2);
+    let pool = Options::new().timeout(timeout).wait(Duration::from_secs(60)).open(WITH_PID, &path).unwrap();
+    pool.transact_durably(&[Op::Create(1)]).unwrap();
+    signal("STOP", &path);
+    let begun = Instant::now();
+    assert!(matches!(pool.flush(), Err(Error::TimedOut)));
+    assert!(begun.elapsed() >= timeout);
+    assert!(matches!(pool.length(1), Err(Error::Broken)));
+    assert!(matches!(pool.transact_many(&[[Op::Create(2)]])[..], [Err(Error::Broken)]));
+    assert!(matches!(pool.close(), Err(Error::TimedOut)));
+    assert_eq!(Pool::open(program(), &path).unwrap().length(1).unwrap(), 0);
+}
