@@ -1,11 +1,14 @@
 """Judges worked images of a hostile writer by `check`, `show` and an import.
 
-The images are those of `tools/rows/hostile_images.py`, `hostile_logs.py` and `hostile_levels.py`, each with what
-`check` has to print, and the name. `show` and an import have to agree: they mount the same group, name and records, or
-are refused with the same kind and address. What else they mount is worked out by `tools/model/pool_image.py`: the used
-blocks, the objects with their lengths, the lowest free block for the log, and how many blocks are free then. A refused
-import leaves the file as it was. Another one leaves the name in the configs of all four labels, and an uberblock of the
-version that is written. The file before the edits is also made without the program, byte for byte.
+The images are those of `tools/rows/hostile_images.py`, `hostile_logs.py`, `hostile_levels.py` and `hostile_trees.py`,
+each with what `check` has to print, and the name. Those with several damages have what `check --all` has to print.
+Those of `full_images.py` are whole, and have what an import says that finds no room.
+
+`show` and an import have to agree: they mount the same group, name and records, or are refused with the same kind and
+address. What else they mount is worked out by `tools/model/pool_image.py`: the used blocks, the objects with their
+lengths, the lowest free block for the log, and how many blocks are free then. A refused import leaves the file as it
+was. Another one leaves the name in the configs of all four labels, and an uberblock of the version that is written. The
+file before the edits is also made without the program, byte for byte.
 
 The first difference ends it with status 1. The end prints how many images were judged.
 """
@@ -18,11 +21,12 @@ from tools.harness.program import add_program, run
 from tools.model.layout import VERSION
 from tools.model.pool_bytes import Config
 from tools.model.pool_image import Image, free_places, mount, read_pool, show_lines
-from tools.rows import hostile_images, hostile_levels, hostile_logs
+from tools.rows import full_images, hostile_images, hostile_levels, hostile_logs, hostile_trees
 from tools.rows.hostile_images import GUID, SIZE, Tank
 from tools.rows.hostile_levels import Tall
 
 SECONDS = 60
+
 
 def fail(reason):
     raise Failed(f"hostile_rows.py: {reason}")
@@ -36,7 +40,7 @@ def refusal(line):
 
 
 def all_rows():
-    return hostile_images.ROWS + hostile_logs.ROWS + hostile_levels.ROWS
+    return hostile_images.ROWS + hostile_logs.ROWS + hostile_levels.ROWS + hostile_trees.ROWS
 
 
 def make_pool(ztxg, file, script, synced, wanted):
@@ -49,8 +53,8 @@ def make_pool(ztxg, file, script, synced, wanted):
         fail("the program makes another pool")
 
 
-def judge_row(ztxg, file, image, line, name="tank"):
-    """Judges an image in a file by three commands, the import last."""
+def judge_row(ztxg, file, image, line, name="tank", no_room=None):
+    """Judges an image in a file by three commands, the import last. That is refused so if it finds no room."""
     pathlib.Path(file).write_bytes(image.content)
     refused = refusal(line)
     wanted = (int(refused is not None), [line], [])
@@ -59,25 +63,39 @@ def judge_row(ztxg, file, image, line, name="tank"):
     if refused:
         return judge_refused(ztxg, file, image, refused)
     _, _, group, _, records = line.split()
-    return judge_clean(ztxg, file, image, int(group), records, name)
+    return judge_clean(ztxg, file, image, int(group), records, name, no_room)
+
+
+def judge_all(ztxg, file, image, lines):
+    """How a check of all damages differs, or a command that finds the first one, or None."""
+    pathlib.Path(file).write_bytes(image.content)
+    if (found := run([ztxg, "check", file, "--all"], seconds=SECONDS).in_lines()) != (1, lines, []):
+        return f"check --all: {found}"
+    return judge_row(ztxg, file, image, lines[0])
 
 
 def judge_refused(ztxg, file, image, refused):
     """How `show` and an import differ on an image that they refuse, or None."""
     if (found := run([ztxg, "show", file], seconds=SECONDS).in_lines()) != (1, [], [f"ztxg: {refused}"]):
         return f"show: {found}"
+    return judge_refused_import(ztxg, file, image, refused)
+
+
+def judge_refused_import(ztxg, file, image, refused):
     if (found := import_file(ztxg, file, [])) != (0, [refused], []):
         return f"import: {found}"
     return None if pathlib.Path(file).read_bytes() == bytes(image.content) else "import: the file"
 
 
-def judge_clean(ztxg, file, image, group, records, name):
+def judge_clean(ztxg, file, image, group, records, name, no_room):
     """How `show` and an import differ on an image that they mount, or what the import leaves, or None."""
     before = mount(read_pool(image))
     shown = [f"name {name}", f"group {group}", f"records {records}"]
     found = run([ztxg, "show", file], seconds=SECONDS).in_lines()
     if found != (0, show_lines(before), []) or [*found.out[:1], *found.out[2:6:3]] != shown:
         return f"show: {found}"
+    if no_room:
+        return judge_refused_import(ztxg, file, image, no_room)
     found = import_file(ztxg, file, ["name", "status"])
     left = Image(bytearray(pathlib.Path(file).read_bytes()))
     after = mount(read_pool(left))
@@ -105,17 +123,27 @@ def import_file(ztxg, file, lines):
     return run([ztxg, "script", "--file", file, "-"], ["import 1048576", *lines], SECONDS).in_lines()
 
 
+def judged(ztxg, file):
+    """Each image: its title, what is wanted of it, and how it differs, or None."""
+    for title, make, line, *names in all_rows():
+        yield title, [line, *names], judge_row(ztxg, file, make(), line, *names)
+    for title, make, lines in hostile_trees.SEVERAL:
+        yield title, lines, judge_all(ztxg, file, make(), lines)
+    for title, make, line, no_room in full_images.ROWS:
+        yield title, [line, no_room], judge_row(ztxg, file, make(), line, no_room=no_room)
+
+
 def add_arguments(parser):
     add_program(parser)
 
 
 def main(ztxg):
-    rows = all_rows()
+    images = 0
     with pool_file(IN_MEMORY) as file:
         make_pool(ztxg, file, hostile_images.script(), 9, Tank())
         make_pool(ztxg, file, hostile_levels.script(), 10, Tall())
-        for title, make, line, *names in rows:
-            difference = judge_row(ztxg, file, make(), line, *names)
+        for title, wanted, difference in judged(ztxg, file):
+            images += 1
             if difference:
-                fail(f"{title}: wanted `{' '.join([line, *names])}`, found {difference}")
-    print(f"{len(rows)} images: check, show and import agree")
+                fail(f"{title}: wanted {wanted}, found {difference}")
+    print(f"{images} images: check, show and import agree")

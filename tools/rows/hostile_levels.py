@@ -29,7 +29,8 @@ from tools.rows.hostile_images import GUID, LOG_AT, ROOT_AT, Tank
 GROUP = 10
 DATA_AT, STRIP_AT, TOP_AT, DIRECTORY_AT, LAST_ROOT_AT = range(ROOT_AT + BLOCK, ROOT_AT + 6 * BLOCK, BLOCK)
 
-SOUND, BAD_ENTRY = f"clean group {GROUP} records 0", f"damaged 3 {DIRECTORY_AT}"
+SOUND, LOGGED = f"clean group {GROUP} records 0", f"clean group {GROUP} records 1"
+BAD_ENTRY = f"damaged 3 {DIRECTORY_AT}"
 
 
 def script():
@@ -125,6 +126,16 @@ def logged(version, *op):
     return lambda: Tank(version).log_blocks(record(10, 0, [op]))
 
 
+def over_empty_strip(*op, **fields):
+    """A log with a record of this operation, over an object whose second strip has no pointer. Its first strip has no
+    block."""
+
+    def top(first, second):
+        return bytes(48) + second.bytes()
+
+    return lambda: tall(second=lambda data: b"", top=top, **fields).log_blocks(record(11, 0, [op]))
+
+
 # What `check` prints of the images.
 ROWS = [
     ("an object of two levels", Tall, SOUND),
@@ -188,6 +199,15 @@ ROWS = [
         "an object of one level that names its strip",
         of_length(STRIP, levels=1, names=lambda top, first, second: first),
         SOUND,
+    ),
+    # An import writes the top, the directory and the root, and in the second row a record and its indirect block, too.
+    # In the third one the strip is cut, so the directory and the root alone are written.
+    ("a longer length over a strip without a pointer", over_empty_strip("l", 1, 3 * STRIP, b""), LOGGED),
+    ("a write beside a strip without a pointer", over_empty_strip("w", 1, 0, b"efgh"), LOGGED),
+    (
+        "a cut of a strip without a pointer",
+        over_empty_strip("l", 1, STRIP + RECORD, b"", whole_length=2 * STRIP),
+        LOGGED,
     ),
     ("an object of two levels in version 1", lambda: Tall(version=1), BAD_ENTRY),
     ("the same in the first label alone", lambda: Tall().versions(1, 2, group=GROUP), BAD_ENTRY),

@@ -6,6 +6,7 @@ import random
 import unittest
 
 from tools.checks.hostile import Expected
+from tools.checks.hostile_rows import all_rows
 from tools.model import layout
 from tools.model.charges import count_blocks, count_reads, estimate, tree_blocks
 from tools.model.contents import Entry, digest
@@ -25,7 +26,7 @@ from tools.model.layout import (
 )
 from tools.model.pool_bytes import log_block, numbers, read_record, record
 from tools.model.pool_image import Damaged, Walk, import_line, mount, read_pool, show_lines
-from tools.rows import hostile_images, hostile_levels, hostile_logs
+from tools.rows import full_images, hostile_trees
 from tools.rows.bad_rows import BAD_LINES
 from tools.rows.hostile_edits import Edits
 from tools.rows.hostile_images import Tank
@@ -180,8 +181,18 @@ class Syncs(unittest.TestCase):
 
 class Images(unittest.TestCase):
     def test_worked_images_are_judged_as_they_say(self):
-        for title, make, line, *_ in hostile_images.ROWS + hostile_logs.ROWS + hostile_levels.ROWS:
+        for title, make, line, *_ in all_rows():
             self.assertEqual(Expected(make()).check().out, [line], title)
+
+    def test_worked_images_with_several_damages_are_judged_as_they_say(self):
+        for title, make, lines in hostile_trees.SEVERAL:
+            self.assertEqual(Expected(make()).check_all().out, lines, title)
+
+    def test_worked_images_of_full_pools_are_judged_as_they_say(self):
+        for title, make, line, no_room in full_images.ROWS:
+            expected = Expected(make())
+            self.assertEqual(expected.check().out, [line], title)
+            self.assertEqual(expected.import_answer() == no_room, no_room is not None, title)
 
     def test_the_places_of_the_second_strip(self):
         nodes = [(node.kind, node.number, node.address) for node in mount(read_pool(Tall())).nodes]

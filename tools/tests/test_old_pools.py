@@ -5,8 +5,9 @@ import hashlib
 import unittest
 
 from tools.checks.old_pools import FLUSH, calls_of, crashes
-from tools.model.pool_image import import_line, mount, read_pool
-from tools.rows.old_pools import POOLS
+from tools.model.charges import estimate
+from tools.model.pool_image import free_places, import_line, mount, read_pool
+from tools.rows.old_pools import FULL, POOLS
 
 # The sums of the files that a program of version 1 made by these scripts, after a create of the pool tank with guid 77
 # on 8,388,608 bytes. The first script is this; the others go on with a log write after each commit, and a log flush.
@@ -35,6 +36,18 @@ class Pools(unittest.TestCase):
             self.assertEqual((mounted.name, mounted.records, mounted.objects), (name, records, objects), title)
             self.assertEqual(import_line(mounted), f"synced 13 open 14 records {records}", title)
             self.assertEqual((mounted.uberblock.group, mounted.uberblock.version), (9, 1), title)
+
+    def test_full_pools_have_less_room_than_is_reserved_now(self):
+        """What is free, what is reserved for the log's record, and what an import needs: a record, its indirect block,
+        the directory, the root and the next log block."""
+        found = []
+        for title, make, name, records, objects in FULL:
+            read = read_pool(make())
+            mounted, (piece,) = mount(read), read.chain
+            self.assertEqual((mounted.name, mounted.records, mounted.objects), (name, records, objects), title)
+            self.assertEqual(mounted.uberblock.version, 1, title)
+            found.append((len(free_places(mounted)), estimate(piece.entries[0]), mounted.needed))
+        self.assertEqual(found, [(383, 457, 5), (85, 85, 5)])
 
     def test_the_calls_of_an_import_without_records(self):
         """Group 13 has slot 13 of each label."""
