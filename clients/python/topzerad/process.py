@@ -1,0 +1,274 @@
+"""The program: a process that serves a pool, and one that makes a pool."""
+
+from __future__ import annotations
+
+import contextlib
+import errno
+import os
+import re
+import socket
+import subprocess
+import tempfile
+import time
+from typing import Iterator, List, Optional, Union
+
+from .errors import Broken, Ended, Error, FileUnusable, NoOpening, Refused, TimedOut, bad_argument, unusable
+from .frames import HEAD, MAX_FRAME, VERSION, Frame, Malformed, Opened, read_opening
+from .operations import checked_name, fitted
+
+Path = Union[str, bytes, "os.PathLike[str]", "os.PathLike[bytes]"]
+
+GREATEST, LONGEST_WAIT = 2**64 - 1, 86_400
+# A write to a process that is gone is an error, and no signal that ends the caller.
+_NO_SIGNAL = getattr(socket, "MSG_NOSIGNAL", 0)
+_IN_USE = "in use by another process or device"
+
+
+def file_word(path: Path) -> str:
+    """A path as a word that the program takes for no option."""
+    word = os.fsdecode(path)
+    return f"./{word}" if word.startswith("-") and word != "-" else word
+
+
+def option_words(most: int = GREATEST, **options: Optional[int]) -> Iterator[str]:
+    """The words for those options of the program that are given."""
+    for name, value in options.items():
+        if value is not None:
+            yield f"--{name}"
+            yield str(fitted(name, value, most))
+
+
+def checked_timeout(seconds: float) -> float:
+    if not seconds > 0:
+        raise bad_argument(f"timeout {seconds}: above 0")
+    return seconds
+
+
+def not_started(program: Path, error: OSError) -> FileUnusable:
+    number = error.errno or 0
+    return unusable(number, f"the program can't be started: {os.strerror(number)}", os.fsdecode(program))
+
+
+def described(status: Optional[int], said: str) -> str:
+    """How a process ended, and what it printed on standard error."""
+    if status is None:
+        how = "ended"
+    elif status < 0:
+        how = f"was killed by signal {-status}"
+    else:
+        how = f"ended with status {status}"
+    return f"{how} ({'; '.join(said.splitlines())})" if said else how
+
+
+class Process:
+    """A process `PROGRAM serve FILE`, and the socket to it. One thread at a time may call it.
+
+    The process has a session of its own, so a Ctrl-C that ends the caller lets it sync the pool."""
+
+    def __init__(self, program: Path, path: Path, options: List[str], timeout: Optional[float]) -> None:
+        self._opener = os.getpid()
+        self._timeout = None if timeout is None else checked_timeout(timeout)
+        self._received = bytearray()
+        self._path = file_word(path)
+        self._errors = tempfile.TemporaryFile()
+        self._socket, theirs = socket.socketpair()
+        try:
+            self._popen = subprocess.Popen(
+                [os.fspath(program), "serve", self._path, *options],
+                stdin=theirs,
+                stdout=theirs,
+                stderr=self._errors,
+                start_new_session=True,
+            )
+        except BaseException as error:
+            self._close_files()
+            if isinstance(error, OSError):
+                raise not_started(program, error) from None
+            raise
+        finally:
+            theirs.close()
+
+    @property
+    def pid(self) -> int:
+        return self._popen.pid
+
+    @property
+    def is_forked(self) -> bool:
+        """Whether the caller is a child of the process that opened the pool."""
+        return os.getpid() != self._opener
+
+    # Frames
+
+    def open(self, wait: int) -> Opened:
+        """Reads what the process says first. If the pool isn't open, the process is ended and its error raised. It may
+        wait so many seconds for the file besides the timeout."""
+        try:
+            return read_opening(self._receive(self._deadline(wait)), self._path)
+        except socket.timeout:
+            self.kill()
+            raise TimedOut(f"the process didn't open the pool in {self._timeout} seconds") from None
+        except ConnectionError:
+            status, said = self._wait_a_little(), self._said()
+            self.kill()
+            text = f"the process {described(status, said)}, and didn't say whether the pool is open"
+            raise NoOpening(text, status) from None
+        except Malformed:
+            self.kill()
+            raise Broken("the process said first what is no opening") from None
+        except BaseException:
+            self.kill()
+            raise
+
+    def exchange(self, content: bytes) -> Frame:
+        """Sends a frame, and returns the one that answers it."""
+        try:
+            deadline = self._deadline()
+            self._wait_until(deadline)
+            self._socket.sendall(content, _NO_SIGNAL)
+            return self._receive(deadline)
+        except socket.timeout:
+            raise TimedOut(f"the process with the pool gave no answer in {self._timeout} seconds") from None
+        except ConnectionError:
+            raise self._ended(self._wait_a_little()) from None
+
+    def _deadline(self, besides: int = 0) -> Optional[float]:
+        return None if self._timeout is None else time.monotonic() + self._timeout + besides
+
+    def _wait_until(self, deadline: Optional[float]) -> None:
+        """Sets how long the next call of the socket may wait."""
+        left = None if deadline is None else deadline - time.monotonic()
+        if left is not None and left <= 0:
+            raise socket.timeout
+        self._socket.settimeout(left)
+
+    def _receive(self, deadline: Optional[float]) -> Frame:
+        size, version, kind, number = HEAD.unpack(self._take(HEAD.size, deadline))
+        if version != VERSION or not HEAD.size <= size <= MAX_FRAME:
+            raise Malformed
+        return Frame(kind, number, self._take(size - HEAD.size, deadline))
+
+    def _take(self, count: int, deadline: Optional[float]) -> bytes:
+        """So many bytes of what the process writes."""
+        while len(self._received) < count:
+            self._wait_until(deadline)
+            more = self._socket.recv(max(count - len(self._received), 65_536))
+            if not more:
+                raise ConnectionResetError
+            self._received += more
+        content = bytes(self._received[:count])
+        del self._received[:count]
+        return content
+
+    # The end
+
+    def end(self) -> None:
+        """Ends the process once it has synced the pool. One that doesn't end within the timeout is killed."""
+        if self._errors.closed:
+            return
+        deadline = self._deadline()
+        try:
+            with contextlib.suppress(OSError):
+                self._socket.shutdown(socket.SHUT_WR)
+            self._drain(deadline)
+            self._popen.wait(None if deadline is None else max(deadline - time.monotonic(), 0.1))
+        except (socket.timeout, subprocess.TimeoutExpired):
+            self.kill()
+            raise TimedOut(f"the process with the pool didn't end in {self._timeout} seconds, and was killed") from None
+        error = self._ended(self._popen.returncode)
+        self._close_files()
+        if error.status:
+            raise error
+
+    def _drain(self, deadline: Optional[float]) -> None:
+        """Reads what is left of an answer that was cut off: the process waits until it is read."""
+        with contextlib.suppress(ConnectionError):
+            more = b"more"
+            while more:
+                self._wait_until(deadline)
+                more = self._socket.recv(65_536)
+
+    def kill(self) -> None:
+        """Ends the process at once."""
+        self._popen.kill()
+        self._popen.wait()
+        self._close_files()
+
+    def leave(self) -> None:
+        """Closes what a child has of it after a fork. The process is its parent's, and goes on."""
+        self._popen.returncode = 0  # so that nothing here waits for it
+        self._close_files()
+
+    def _close_files(self) -> None:
+        self._socket.close()
+        self._errors.close()
+
+    def _wait_a_little(self) -> Optional[int]:
+        """The status of a process that has closed its end of the socket."""
+        try:
+            return self._popen.wait(1)
+        except subprocess.TimeoutExpired:
+            return None
+
+    def _said(self) -> str:
+        # The process shares the place in the file, so it isn't moved.
+        return os.pread(self._errors.fileno(), 4_096, 0).decode(errors="replace").strip()
+
+    def _ended(self, status: Optional[int]) -> Ended:
+        return Ended(f"the process with the pool {described(status, self._said())}", status)
+
+
+# Making a pool.
+
+
+def create_pool(
+    program: Path,
+    path: Path,
+    name: Union[str, bytes],
+    guid: int,
+    size: int,
+    *,
+    replace: bool = False,
+    moment: Optional[int] = None,
+    wait: Optional[int] = None,
+    timeout: Optional[float] = None,
+) -> None:
+    """Makes a pool in a file by `PROGRAM create`. The file gets `size` bytes: 6 MiB to 1 GiB, in steps of 256 KiB.
+
+    `guid` is a number that distinguishes pools, and `moment` a time in seconds that the pool stores. A file that exists
+    is refused by `FilePresent`, unless `replace` says that the pool takes its place. `wait` is for how many seconds,
+    up to 86,400, it tries again while another process has the file. `timeout` is how many seconds it may take besides.
+
+    Raises `Refused` (8 for a size that no pool may have), `FileUnusable`, `Ended` for any other end of the program, and
+    `TimedOut`: then the file may be there without a pool.
+    """
+    place = file_word(path)
+    words = [os.fspath(program), "create", place, checked_name(name), str(fitted("guid", guid, GREATEST))]
+    words += [str(fitted("size", size, GREATEST)), "--verbose"]
+    words += [] if replace else ["--new"]
+    words += [*option_words(moment=moment), *option_words(LONGEST_WAIT, wait=wait)]
+    pipe, none = subprocess.PIPE, subprocess.DEVNULL
+    longest = None if timeout is None else checked_timeout(timeout) + (wait or 0)
+    try:
+        ran = subprocess.run(words, stdin=none, stdout=none, stderr=pipe, timeout=longest)
+    except subprocess.TimeoutExpired:
+        raise TimedOut(f"the program didn't make the pool in {timeout} seconds, and was killed") from None
+    except OSError as error:
+        raise not_started(program, error) from None
+    said = ran.stderr.decode(errors="replace").strip()
+    if said or ran.returncode:
+        raise create_error(ran.returncode, said, place)
+
+
+def create_error(status: int, said: str, path: str) -> Error:
+    """Why a pool wasn't made, by the status of the program and the text that it printed."""
+    causes = re.findall(r"^ztxg: cause: (.*)$", said, re.MULTILINE)
+    cause = causes[0] if causes else ""
+    refused = re.search(r"^ztxg: refused (\d+) \w+(?: (\d+) (\d+))?$", said, re.MULTILINE)
+    if refused:
+        number, *block = (int(word or 0) for word in refused.groups())
+        return Refused(number, *block, cause=cause)
+    if re.search(r"^ztxg: cannot use ", said, re.MULTILINE):
+        by_system = re.search(r"\(os error (\d+)\)$", cause)
+        number = int(by_system.group(1)) if by_system else errno.EAGAIN if cause == _IN_USE else 0
+        return unusable(number, cause or "the program doesn't say why", path)
+    return Ended(f"the program {described(status, said)}, and made no pool", status)
