@@ -1,4 +1,4 @@
-"""Runs what the gate checks besides `rt ci`: the documents, the rows, the version, the tools' programs and tests.
+"""Runs what the gate checks besides `rt ci`: documents, texts of refusals, rows, the version, the tools' programs and tests.
 
 It needs `rt version` and Python's standard library. Each part runs, whatever the others say. The status is 1 if one
 fails.
@@ -8,11 +8,12 @@ import sys
 import traceback
 
 from tools import Failed
-from tools.repository import believed, clauses, make_rows, mentions, program_crates, test, version
+from tools.repository import believed, clauses, client_texts, make_rows, mentions, program_crates, test, version
 
 PARTS = {
     "believed": lambda: believed.main(check=True),
     "clauses": lambda: clauses.main([], check=True),
+    "client_texts": client_texts.main,
     "make_rows": lambda: make_rows.main(check=True),
     "mentions": mentions.main,
     "program_crates": program_crates.main,
