@@ -34,16 +34,25 @@ static void expect_done(int refusal) {
         die("topzerad: %s (refusal %d)", topzerad_text(refusal), refusal);
 }
 
+/* The dirty limit, or 0 for that of the program. */
+static uint64_t dirty_limit(void) {
+    const char *text = getenv("TOPZERAD_DIRTY");
+    char *end;
+    if (text == NULL)
+        return 0;
+    uint64_t bytes = strtoull(text, &end, 10);
+    if (bytes == 0 || *end != '\0')
+        die("topzerad: TOPZERAD_DIRTY=%s is no number of bytes", text);
+    return bytes;
+}
+
 struct store *store_open(unsigned variant, const char *path) {
     (void)variant;
     struct store *store = need(sizeof *store);
-    const char *program = getenv("TOPZERAD_PROGRAM"), *dirty = getenv("TOPZERAD_DIRTY");
-    const char *words[] = {program == NULL ? "ztxg" : program, "serve", path, NULL, NULL, NULL};
-    if (dirty != NULL) {
-        words[3] = "--dirty";
-        words[4] = dirty;
-    }
-    expect_done(topzerad_open_with(&store->pool, words));
+    const char *program = getenv("TOPZERAD_PROGRAM");
+    const topzerad_options options = {.dirty = dirty_limit()};
+    if (topzerad_open_options(&store->pool, program == NULL ? "ztxg" : program, path, &options) != TOPZERAD_OK)
+        die("topzerad: %s can't be opened: %s", path, topzerad_cause(&store->pool));
     return store;
 }
 
@@ -60,7 +69,7 @@ void store_prepare(unsigned variant, const char *path, const struct load *load) 
     topzerad_tx_start(&tx, record, sizeof record);
     for (uint32_t object = 0; object < object_count(load); object++)
         expect_done(topzerad_tx_create(&tx, object));
-    expect_done(topzerad_transact(&store->pool, &tx, true, NULL, NULL));
+    expect_done(topzerad_transact_durably(&store->pool, &tx, NULL, NULL));
     store_close(store);
 }
 
@@ -77,7 +86,10 @@ void session_put(struct session *session, uint32_t object, uint64_t offset, cons
     topzerad_tx tx;
     topzerad_tx_start(&tx, session->record, sizeof session->record);
     expect_done(topzerad_tx_write(&tx, object, offset, bytes, length));
-    expect_done(topzerad_transact(&session->store->pool, &tx, is_durable, NULL, NULL));
+    if (is_durable)
+        expect_done(topzerad_transact_durably(&session->store->pool, &tx, NULL, NULL));
+    else
+        expect_done(topzerad_transact(&session->store->pool, &tx, NULL));
 }
 
 /* The bytes of each object. One that is longer than a load's writes are has another length than its bytes here. */

@@ -1,10 +1,9 @@
 /* Makes each call once, and then many by several threads, on a pool without objects that is named tank. */
 #define _GNU_SOURCE
+#include "check.h"
 #include "topzerad.h"
 
 #include <signal.h>
-#include <stdio.h>
-#include <stdlib.h>
 #include <string.h>
 #include <sys/wait.h>
 #include <time.h>
@@ -14,13 +13,6 @@ enum { THREADS = 8, COMMITS = 200, BIG = 60000, LONG = 5000000, PIECE = 1048576,
 
 static topzerad pool;
 static uint8_t memory[TOPZERAD_MAX_RECORD], big[BIG], content[LONG], back[TOPZERAD_MAX_LENGTH];
-
-static void want(int is, const char *what, int line) {
-    if (is) return;
-    fprintf(stderr, "check.c:%d: %s\n", line, what);
-    exit(1);
-}
-#define WANT(is) want((is) != 0, #is, __LINE__)
 
 static void *commit_many(void *of) {
     uint32_t object = 100 + (uint32_t)(size_t)of;
@@ -33,12 +25,16 @@ static void *commit_many(void *of) {
         topzerad_tx_start(&tx, room, sizeof room);
         if (i == 0) WANT(topzerad_tx_create(&tx, object) == 0);
         WANT(topzerad_tx_write(&tx, object, 4 * i, &i, 4) == 0);
-        WANT(topzerad_transact(&pool, &tx, 1, &receipt, NULL) == 0);
+        WANT(topzerad_transact_durably(&pool, &tx, &receipt, NULL) == 0);
         WANT(topzerad_durable(&pool, receipt, &durable) == 0 && durable);
         WANT(topzerad_read(&pool, object, 4 * i, 4 * i + 4, read, &count) == 0);
         WANT(count == 4 && memcmp(read, &i, 4) == 0);
     }
     return NULL;
+}
+
+static topzerad_range range_of(uint32_t object, uint64_t low, uint64_t high, void *into) {
+    return (topzerad_range){.object = object, .low = low, .high = high, .into = into};
 }
 
 /* More than go in one frame, the second of them refused. */
@@ -53,7 +49,7 @@ static void commit_many_at_once(void) {
         if (i < 2) WANT(topzerad_tx_create(&txs[i], 50) == 0);
         WANT(topzerad_tx_write(&txs[i], 50, 4 * i, &i, 4) == 0);
     }
-    WANT(topzerad_transact_many(&pool, txs, MANY, 1, outcomes) == TOPZERAD_EXISTS);
+    WANT(topzerad_transact_many_durably(&pool, txs, MANY, outcomes) == TOPZERAD_EXISTS);
     for (size_t i = 0; i < MANY; i++) {
         WANT(outcomes[i].refusal == (i == 1 ? TOPZERAD_EXISTS : 0) && outcomes[i].committed == (i != 1));
         if (i > 1) WANT(outcomes[i].receipt.ordinal == outcomes[0].receipt.ordinal + i - 1);
@@ -63,7 +59,7 @@ static void commit_many_at_once(void) {
         memcpy(&number, back + 4 * i, 4);
         WANT(number == (i == 1 ? 0 : i));
     }
-    WANT(topzerad_transact_many(&pool, txs, 0, 1, outcomes) == 0);
+    WANT(topzerad_transact_many(&pool, txs, 0, outcomes) == 0);
 }
 
 static void want_range(uint64_t low, uint64_t high, size_t expected) {
@@ -79,11 +75,11 @@ static void read_long_object(void) {
     size_t count;
     for (uint64_t i = 0; i < LONG; i++) content[i] = (uint8_t)(i * i % 251);
     topzerad_tx_start(&tx, memory, sizeof memory);
-    WANT(topzerad_tx_create(&tx, 200) == 0 && topzerad_transact(&pool, &tx, 0, NULL, NULL) == 0);
+    WANT(topzerad_tx_create(&tx, 200) == 0 && topzerad_transact(&pool, &tx, NULL) == 0);
     for (size_t at = 0; at < LONG; at += BIG) {
         topzerad_tx_start(&tx, memory, sizeof memory);
         WANT(topzerad_tx_write(&tx, 200, at, content + at, LONG - at < BIG ? LONG - at : BIG) == 0);
-        WANT(topzerad_transact(&pool, &tx, 0, NULL, NULL) == 0);
+        WANT(topzerad_transact(&pool, &tx, NULL) == 0);
     }
     WANT(topzerad_flush(&pool) == 0);
     want_range(0, TOPZERAD_MAX_LENGTH, LONG);
@@ -93,7 +89,7 @@ static void read_long_object(void) {
     want_range(1, 2 * PIECE + 2, 2 * PIECE + 1);
     WANT(topzerad_read(&pool, 200, LONG, TOPZERAD_MAX_LENGTH, back, &count) == 0 && count == 0);
     topzerad_tx_start(&tx, memory, sizeof memory);
-    WANT(topzerad_tx_set_length(&tx, 200, 2 * PIECE) == 0 && topzerad_transact(&pool, &tx, 0, NULL, NULL) == 0);
+    WANT(topzerad_tx_set_length(&tx, 200, 2 * PIECE) == 0 && topzerad_transact(&pool, &tx, NULL) == 0);
     want_range(0, TOPZERAD_MAX_LENGTH, 2 * PIECE);
     WANT(topzerad_read(&pool, 200, 0, TOPZERAD_MAX_LENGTH + 1, back, &count) == TOPZERAD_BAD_RANGE && count == 0);
     WANT(topzerad_read(&pool, 201, 0, TOPZERAD_MAX_LENGTH, back, &count) == TOPZERAD_NO_OBJECT && count == 0);
@@ -107,7 +103,7 @@ static void *write_both_ends(void *of) {
         topzerad_tx_start(&tx, room, sizeof room);
         WANT(topzerad_tx_write(&tx, 300, 0, &i, 4) == 0);
         WANT(topzerad_tx_write(&tx, 300, READ_LONG - 4, &i, 4) == 0);
-        WANT(topzerad_transact(&pool, &tx, 0, NULL, NULL) == 0);
+        WANT(topzerad_transact(&pool, &tx, NULL) == 0);
     }
     return NULL;
 }
@@ -119,7 +115,7 @@ static void *read_both_ends(void *of) {
     for (uint32_t i = 0; i < COMMITS / 10; i++) {
         WANT(topzerad_read(&pool, 300, 0, READ_LONG, bytes, &count) == 0 && count == READ_LONG);
         WANT(memcmp(bytes, bytes + READ_LONG - 4, 4) == 0);
-        topzerad_range ranges[] = {{300, READ_LONG - 4, READ_LONG + 9, ends[0], 0, 0}, {300, 0, 4, ends[1], 0, 0}};
+        topzerad_range ranges[] = {range_of(300, READ_LONG - 4, READ_LONG + 9, ends[0]), range_of(300, 0, 4, ends[1])};
         WANT(topzerad_read_many(&pool, ranges, 2) == 0 && ranges[0].count == 4 && ranges[1].count == 4);
         WANT(memcmp(ends[0], ends[1], 4) == 0);
     }
@@ -132,7 +128,7 @@ static void read_at_one_moment(void) {
     topzerad_tx tx;
     topzerad_tx_start(&tx, memory, sizeof memory);
     WANT(topzerad_tx_create(&tx, 300) == 0 && topzerad_tx_set_length(&tx, 300, READ_LONG) == 0);
-    WANT(topzerad_transact(&pool, &tx, 0, NULL, NULL) == 0);
+    WANT(topzerad_transact(&pool, &tx, NULL) == 0);
     for (size_t i = 0; i < 4; i++) {
         void *(*run)(void *) = i < 2 ? read_both_ends : write_both_ends;
         WANT(pthread_create(&threads[i], NULL, run, i < 2 ? bytes[i] : NULL) == 0);
@@ -144,13 +140,16 @@ static void read_at_one_moment(void) {
 static void read_ranges(void) {
     static topzerad_range ranges[TOPZERAD_MAX_RANGES + 1];
     uint8_t ends[2][4];
-    ranges[0] = (topzerad_range){201, 0, 4, ends[0], 9, 9};
-    ranges[1] = (topzerad_range){200, 0, TOPZERAD_MAX_LENGTH, back, 0, 0};
-    ranges[2] = (topzerad_range){50, 4, 8, ends[1], 0, 0};
-    WANT(topzerad_read_many(&pool, ranges, 3) == TOPZERAD_NO_OBJECT);
+    ranges[0] = range_of(201, 0, 4, ends[0]);
+    ranges[1] = range_of(200, 0, TOPZERAD_MAX_LENGTH, back);
+    ranges[2] = range_of(50, 8, 8, ends[1]);
+    ranges[3] = range_of(50, 4, 8, ends[1]);
+    ranges[0].count = 9;
+    WANT(topzerad_read_many(&pool, ranges, 4) == TOPZERAD_NO_OBJECT);
     WANT(ranges[0].refusal == TOPZERAD_NO_OBJECT && ranges[0].count == 0);
     WANT(ranges[1].refusal == 0 && ranges[1].count == 2 * PIECE && memcmp(back, content, 2 * PIECE) == 0);
-    WANT(ranges[2].refusal == 0 && ranges[2].count == 4);
+    WANT(ranges[2].refusal == TOPZERAD_BAD_RANGE && ranges[2].count == 0);
+    WANT(ranges[3].refusal == 0 && ranges[3].count == 4);
     WANT(topzerad_read_many(&pool, ranges, 0) == 0);
     WANT(topzerad_read_many(&pool, ranges, TOPZERAD_MAX_RANGES + 1) == TOPZERAD_TOO_MANY);
 }
@@ -170,11 +169,10 @@ static void make_each_call(void) {
     WANT(topzerad_length(&pool, 1, &length) == TOPZERAD_NO_OBJECT);
 
     topzerad_tx_start(&tx, memory, sizeof memory);
-    WANT(topzerad_transact(&pool, &tx, 0, NULL, NULL) == TOPZERAD_FRAME + 7);
     WANT(topzerad_tx_create(&tx, 1) == 0);
     WANT(topzerad_tx_write(&tx, 1, 100, "wxyz", 4) == 0);
-    WANT(topzerad_transact(&pool, &tx, 0, &receipt, &committed) == 0 && committed);
-    WANT(topzerad_transact(&pool, &tx, 1, NULL, &committed) == TOPZERAD_EXISTS && !committed);
+    WANT(topzerad_transact(&pool, &tx, &receipt) == 0);
+    WANT(topzerad_transact_durably(&pool, &tx, NULL, &committed) == TOPZERAD_EXISTS && !committed);
     WANT(topzerad_flush(&pool) == 0);
     WANT(topzerad_durable(&pool, receipt, &durable) == 0 && durable);
     WANT(topzerad_read(&pool, 1, 98, 200, back, &count) == 0);
@@ -189,19 +187,61 @@ static void make_each_call(void) {
     WANT(topzerad_tx_write_to(&tx, 2, 0, sizeof big, &to) == TOPZERAD_TOO_LARGE);
     WANT(topzerad_tx_write_to(&tx, 2, BIG, 3, &to) == 0);
     memcpy(to, "end", 3);
-    WANT(topzerad_transact(&pool, &tx, 1, NULL, NULL) == 0);
+    WANT(topzerad_transact_durably(&pool, &tx, NULL, NULL) == 0);
     WANT(topzerad_read(&pool, 2, 0, TOPZERAD_MAX_LENGTH, back, &count) == 0);
     WANT(count == BIG + 3 && memcmp(back, big, BIG) == 0 && memcmp(back + BIG, "end", 3) == 0);
 
     topzerad_tx_start(&tx, memory, sizeof memory);
     WANT(topzerad_tx_set_length(&tx, 2, 10) == 0 && topzerad_tx_create(&tx, 3) == 0);
     WANT(topzerad_tx_remove(&tx, 1) == 0 && topzerad_tx_set_name(&tx, "pond", 4) == 0);
-    WANT(topzerad_transact(&pool, &tx, 0, NULL, NULL) == 0);
+    WANT(topzerad_transact(&pool, &tx, NULL) == 0);
     WANT(topzerad_objects(&pool, 0, 16, listed, &count) == 0 && count == 2);
     WANT(listed[0].object == 2 && listed[0].length == 10 && listed[1].object == 3 && listed[1].length == 0);
     WANT(topzerad_name(&pool, name) == 0 && strcmp(name, "pond") == 0);
     WANT(topzerad_state(&pool, &status) == 0 && status.synced < status.open);
     WANT(topzerad_sync(&pool, &group) == 0 && status.open <= group);
+}
+
+/* What is outside the limits is refused here, and leaves the others of its frame alone. */
+static void keep_limits(void) {
+    const char *const bad_names[] = {"", "1x", "-x", "a/b", "a b", "n\303\244me"};
+    const char longest_name[] = "n234567890123456789012345678901234567890123456789012345678901234";
+    uint8_t rooms[3][128], *to;
+    topzerad_tx tx, txs[3];
+    topzerad_outcome outcomes[3];
+    topzerad_listed listed;
+    size_t count;
+    topzerad_tx_start(&tx, memory, sizeof memory);
+    WANT(topzerad_transact(&pool, &tx, NULL) == TOPZERAD_BAD_RANGE);
+    WANT(topzerad_tx_create(&tx, 5292) == TOPZERAD_BAD_RANGE && topzerad_tx_remove(&tx, 5292) == TOPZERAD_BAD_RANGE);
+    WANT(topzerad_tx_write(&tx, 5292, 0, "a", 1) == TOPZERAD_BAD_RANGE);
+    WANT(topzerad_tx_write(&tx, 5291, 0, "a", 0) == TOPZERAD_BAD_RANGE);
+    WANT(topzerad_tx_write(&tx, 5291, 28449792, "a", 1) == TOPZERAD_BAD_RANGE);
+    WANT(topzerad_tx_write(&tx, 5291, UINT64_MAX, "ab", 2) == TOPZERAD_BAD_RANGE);
+    WANT(topzerad_tx_write_to(&tx, 5291, 0, SIZE_MAX, &to) == TOPZERAD_BAD_RANGE);
+    WANT(topzerad_tx_set_length(&tx, 5291, 28449793) == TOPZERAD_BAD_RANGE);
+    WANT(topzerad_tx_set_length(&tx, 5292, 0) == TOPZERAD_BAD_RANGE);
+    for (size_t i = 0; i < sizeof bad_names / sizeof *bad_names; i++)
+        WANT(topzerad_tx_set_name(&tx, bad_names[i], strlen(bad_names[i])) == TOPZERAD_BAD_RANGE);
+    WANT(topzerad_tx_set_name(&tx, longest_name, 65) == TOPZERAD_BAD_RANGE);
+    WANT(tx.count == 0 && tx.length == 22);
+    WANT(topzerad_tx_set_name(&tx, longest_name, 64) == 0 && topzerad_tx_set_name(&tx, "p-o_n.d9", 8) == 0);
+    WANT(topzerad_tx_set_length(&tx, 5291, 28449792) == 0 && topzerad_tx_write(&tx, 5291, 28449791, "a", 1) == 0);
+    topzerad_tx_start(&tx, memory, sizeof memory);
+    WANT(topzerad_tx_create(&tx, 5291) == 0 && topzerad_transact(&pool, &tx, NULL) == 0);
+    WANT(topzerad_objects(&pool, 5291, 5292, &listed, &count) == 0 && count == 1 && listed.object == 5291);
+
+    /* the longest write, and one byte more */
+    topzerad_tx_start(&tx, memory, sizeof memory);
+    WANT(topzerad_tx_write_to(&tx, 5291, 0, 65498, &to) == TOPZERAD_TOO_LARGE);
+    WANT(topzerad_tx_write_to(&tx, 5291, 0, 65497, &to) == 0 && topzerad_transact(&pool, &tx, NULL) == 0);
+
+    for (size_t i = 0; i < 3; i++) topzerad_tx_start(&txs[i], rooms[i], i == 2 ? 21 : sizeof rooms[i]);
+    WANT(topzerad_tx_remove(&txs[1], 5291) == 0 && topzerad_tx_create(&txs[2], 5291) == TOPZERAD_TOO_LARGE);
+    WANT(topzerad_transact_many(&pool, txs, 3, outcomes) == TOPZERAD_BAD_RANGE);
+    WANT(outcomes[0].refusal == TOPZERAD_BAD_RANGE && !outcomes[0].committed);
+    WANT(outcomes[1].refusal == 0 && outcomes[1].committed);
+    WANT(outcomes[2].refusal == TOPZERAD_TOO_LARGE && !outcomes[2].committed);
 }
 
 /* Its name isn't on the stack: the sanitizer looks for what a cancelled thread leaves there. */
@@ -244,6 +284,7 @@ int main(int count, char **words) {
     if (count != 3) return 2;
     WANT(topzerad_open(&pool, words[1], words[2]) == 0);
     make_each_call();
+    keep_limits();
     commit_many_at_once();
     for (size_t i = 0; i < THREADS; i++) WANT(pthread_create(&threads[i], NULL, commit_many, (void *)i) == 0);
     for (size_t i = 0; i < THREADS; i++) WANT(pthread_join(threads[i], NULL) == 0);
@@ -253,10 +294,7 @@ int main(int count, char **words) {
     cancel_a_leader();
     fork_with_an_open_pool();
     WANT(topzerad_close(&pool) == 0);
-    WANT(topzerad_open(&pool, "/", "/") == TOPZERAD_SYSTEM);
-    WANT(topzerad_open(&pool, "false", "/") == 0);
-    WANT(topzerad_flush(&pool) == TOPZERAD_ENDED && topzerad_flush(&pool) == TOPZERAD_ENDED);
-    WANT(topzerad_close(&pool) == TOPZERAD_ENDED);
+    WANT(topzerad_flush(&pool) == TOPZERAD_ENDED && topzerad_close(&pool) == TOPZERAD_ENDED);
     puts("check: all calls are right");
     return 0;
 }

@@ -3,20 +3,14 @@
  *
  * A long read is made in pieces, each in a frame of its own. It is the last call of such a frame, and goes back to the
  * front of the queue, so no call comes between its pieces. */
-#define _GNU_SOURCE
-#include "topzerad.h"
+#define _POSIX_C_SOURCE 200809L
+#include "internal.h"
 
-#include <errno.h>
-#include <signal.h>
-#include <spawn.h>
+#include <inttypes.h>
+#include <stdio.h>
 #include <string.h>
-#include <sys/socket.h>
-#include <sys/wait.h>
 #include <unistd.h>
 
-extern char **environ;
-
-enum { HEAD = 12, MAX_FRAME = 4194304, VERSION = 1, REQUESTS = 1, ANSWERS = 2, REFUSED_FRAME = 3 };
 enum { LEAST_ROOM = 80, LISTED = 12, RECORD_HEAD = 22, MOST_AT_ONCE = 64 };
 enum { PIECE = 1048576 }; /* the most bytes that one request reads */
 enum { TRANSACT = 1, TRANSACT_DURABLY, READ, LENGTH, OBJECTS, STATUS, DURABLE, FLUSH, SYNC, NAME, NOT_DURABLE };
@@ -33,33 +27,41 @@ typedef struct topzerad_call {
     size_t most, count;
     uint64_t low, high;       /* of a read: where its piece begins, and where its range ends */
     uint64_t values[7];       /* the numbers of its answer */
+    uint64_t kind, address;   /* of a refusal: the block that is damaged */
     int refusal, committed, done;
     struct topzerad_call *next;
 } call;
 
-static void put(uint8_t *to, uint64_t value, size_t count) {
-    for (size_t i = 0; i < count; i++) to[i] = (uint8_t)(value >> (8 * i));
+/* The block that is damaged, by the last call of this thread that was refused for it. */
+static _Thread_local struct {
+    uint64_t kind, address;
+} damage;
+
+void topzerad_set_damage(uint64_t kind, uint64_t address) {
+    damage.kind = kind;
+    damage.address = address;
 }
 
-static uint64_t get(const uint8_t *from, size_t count) {
-    uint64_t value = 0;
-    for (size_t i = 0; i < count; i++) value |= (uint64_t)from[i] << (8 * i);
-    return value;
+void topzerad_damage(uint64_t *kind, uint64_t *address) {
+    *kind = damage.kind;
+    *address = damage.address;
 }
 
-/* Transactions: the bytes of a log record, whose group and ordinal stay 0. */
+/* Transactions: the bytes of a log record, whose group and ordinal stay 0. A frame with one record outside its limits
+ * is refused whole, with the calls of other threads. So each limit is tested here. */
 
 void topzerad_tx_start(topzerad_tx *tx, void *memory, size_t size) {
     tx->bytes = memory;
     tx->room = size < TOPZERAD_MAX_RECORD ? size : TOPZERAD_MAX_RECORD;
     tx->length = RECORD_HEAD;
     tx->count = 0;
+    if (size < RECORD_HEAD) return;
     memset(tx->bytes, 0, RECORD_HEAD);
     put(tx->bytes, RECORD_HEAD, 4);
 }
 
 static uint8_t *add(topzerad_tx *tx, uint8_t tag, size_t size) {
-    if (size > tx->room || tx->length > tx->room - size) return NULL;
+    if (tx->length > tx->room || size > tx->room - tx->length) return NULL;
     uint8_t *op = tx->bytes + tx->length;
     tx->length += size;
     tx->count++;
@@ -70,6 +72,7 @@ static uint8_t *add(topzerad_tx *tx, uint8_t tag, size_t size) {
 }
 
 static int add_object(topzerad_tx *tx, uint8_t tag, uint32_t object) {
+    if (object >= TOPZERAD_OBJECTS) return TOPZERAD_BAD_RANGE;
     uint8_t *op = add(tx, tag, 5);
     if (!op) return TOPZERAD_TOO_LARGE;
     put(op + 1, object, 4);
@@ -81,7 +84,9 @@ int topzerad_tx_create(topzerad_tx *tx, uint32_t object) { return add_object(tx,
 int topzerad_tx_remove(topzerad_tx *tx, uint32_t object) { return add_object(tx, 2, object); }
 
 int topzerad_tx_write_to(topzerad_tx *tx, uint32_t object, uint64_t offset, size_t count, uint8_t **content) {
-    uint8_t *op = count > TOPZERAD_MAX_RECORD ? NULL : add(tx, 3, 17 + count);
+    if (object >= TOPZERAD_OBJECTS || !count || count > TOPZERAD_MAX_LENGTH || offset > TOPZERAD_MAX_LENGTH - count)
+        return TOPZERAD_BAD_RANGE;
+    uint8_t *op = add(tx, 3, 17 + count);
     if (!op) return TOPZERAD_TOO_LARGE;
     put(op + 1, object, 4);
     put(op + 5, offset, 8);
@@ -93,11 +98,12 @@ int topzerad_tx_write_to(topzerad_tx *tx, uint32_t object, uint64_t offset, size
 int topzerad_tx_write(topzerad_tx *tx, uint32_t object, uint64_t offset, const void *bytes, size_t count) {
     uint8_t *content;
     int refusal = topzerad_tx_write_to(tx, object, offset, count, &content);
-    if (!refusal && count) memcpy(content, bytes, count);
+    if (!refusal) memcpy(content, bytes, count);
     return refusal;
 }
 
 int topzerad_tx_set_length(topzerad_tx *tx, uint32_t object, uint64_t length) {
+    if (object >= TOPZERAD_OBJECTS || length > TOPZERAD_MAX_LENGTH) return TOPZERAD_BAD_RANGE;
     uint8_t *op = add(tx, 4, 13);
     if (!op) return TOPZERAD_TOO_LARGE;
     put(op + 1, object, 4);
@@ -105,79 +111,33 @@ int topzerad_tx_set_length(topzerad_tx *tx, uint32_t object, uint64_t length) {
     return 0;
 }
 
+static int is_letter(char byte) { return (byte >= 'A' && byte <= 'Z') || (byte >= 'a' && byte <= 'z'); }
+
+static int is_name(const char *name, size_t count) {
+    if (!count || count > TOPZERAD_MAX_NAME || !is_letter(name[0])) return 0;
+    for (size_t i = 1; i < count; i++) {
+        int is_digit = name[i] >= '0' && name[i] <= '9', is_sign = name[i] && strchr("-_.", name[i]);
+        if (!is_letter(name[i]) && !is_digit && !is_sign) return 0;
+    }
+    return 1;
+}
+
 int topzerad_tx_set_name(topzerad_tx *tx, const void *name, size_t count) {
-    uint8_t *op = count > TOPZERAD_MAX_RECORD ? NULL : add(tx, 5, 5 + count);
+    if (!is_name(name, count)) return TOPZERAD_BAD_RANGE;
+    uint8_t *op = add(tx, 5, 5 + count);
     if (!op) return TOPZERAD_TOO_LARGE;
     put(op + 1, count, 4);
-    if (count) memcpy(op + 5, name, count);
+    memcpy(op + 5, name, count);
     return 0;
 }
 
-/* The socket, through the pool's buffer. Each returns 0, or -1 if the process is gone. */
-
-static int send_all(topzerad *pool, const uint8_t *from, size_t count) {
-    while (count) {
-        ssize_t sent = send(pool->socket, from, count, MSG_NOSIGNAL);
-        if (sent < 0 && errno == EINTR) continue;
-        if (sent <= 0) return -1;
-        from += sent;
-        count -= (size_t)sent;
-    }
-    return 0;
+/* Why a transaction can't be sent, or 0. */
+static int refusal_of(const topzerad_tx *tx) {
+    if (tx->room < RECORD_HEAD || tx->length > TOPZERAD_MAX_RECORD) return TOPZERAD_TOO_LARGE;
+    return tx->count ? 0 : TOPZERAD_BAD_RANGE;
 }
 
-static int empty_out(topzerad *pool) {
-    size_t used = pool->used;
-    pool->used = 0;
-    return send_all(pool, pool->bytes, used);
-}
-
-static int put_out(topzerad *pool, const uint8_t *from, size_t count) {
-    if (count > sizeof pool->bytes - pool->used && empty_out(pool)) return -1;
-    if (count > sizeof pool->bytes) return send_all(pool, from, count);
-    if (count) memcpy(pool->bytes + pool->used, from, count);
-    pool->used += count;
-    return 0;
-}
-
-static ssize_t receive(topzerad *pool, void *into, size_t count) {
-    ssize_t got;
-    do got = recv(pool->socket, into, count, 0);
-    while (got < 0 && errno == EINTR);
-    return got;
-}
-
-/* Takes bytes of an answer, and counts them off what is left of its frame. */
-static int take_in(topzerad *pool, void *to, size_t count, size_t *left) {
-    uint8_t *into = to;
-    if (count > *left) return -1;
-    *left -= count;
-    while (count) {
-        size_t there = pool->used - pool->taken;
-        if (!there && count >= sizeof pool->bytes) {
-            ssize_t got = receive(pool, into, count);
-            if (got <= 0) return -1;
-            into += got;
-            count -= (size_t)got;
-            continue;
-        }
-        if (!there) {
-            ssize_t got = receive(pool, pool->bytes, sizeof pool->bytes);
-            if (got <= 0) return -1;
-            pool->used = (size_t)got;
-            pool->taken = 0;
-            continue;
-        }
-        if (there > count) there = count;
-        memcpy(into, pool->bytes + pool->taken, there);
-        pool->taken += there;
-        into += there;
-        count -= there;
-    }
-    return 0;
-}
-
-/* Frames. */
+/* Frames. Functions return 0, or -1 if the process is gone, late, or answers what is no answer. */
 
 static size_t size_of(const call *c) { return 9 + c->field_count + c->content_count; }
 
@@ -191,35 +151,37 @@ static int send_frame(topzerad *pool, const call *calls) {
     put(head + 6, REQUESTS, 2);
     put(head + 8, count, 4);
     pool->used = 0;
-    if (put_out(pool, head, HEAD)) return -1;
+    if (topzerad_put_out(pool, head, HEAD)) return -1;
     count = 0;
     for (const call *c = calls; c; c = c->next, count++) {
-        put(start, count, 8);
+        put(start, pool->asked + count, 8);
         start[8] = c->number;
-        if (put_out(pool, start, 9) || put_out(pool, c->fields, c->field_count)
-            || put_out(pool, c->content, c->content_count))
+        if (topzerad_put_out(pool, start, 9) || topzerad_put_out(pool, c->fields, c->field_count)
+            || topzerad_put_out(pool, c->content, c->content_count))
             return -1;
     }
-    return empty_out(pool);
+    return topzerad_empty_out(pool);
 }
 
 static int read_values(topzerad *pool, call *c, size_t count, size_t *left) {
     uint8_t bytes[56];
-    if (take_in(pool, bytes, 8 * count, left)) return -1;
+    if (topzerad_take_in(pool, bytes, 8 * count, left)) return -1;
     for (size_t i = 0; i < count; i++) c->values[i] = get(bytes + 8 * i, 8);
     return 0;
 }
 
 static int read_refusal(topzerad *pool, call *c, size_t *left) {
     uint8_t bytes[17];
-    if (take_in(pool, bytes, 17, left)) return -1;
+    if (topzerad_take_in(pool, bytes, sizeof bytes, left)) return -1;
     c->refusal = bytes[0];
-    return c->refusal ? 0 : -1;
+    c->kind = get(bytes + 1, 8);
+    c->address = get(bytes + 9, 8);
+    return c->refusal >= 1 && c->refusal <= LAST_REFUSAL ? 0 : -1;
 }
 
 static int read_count(topzerad *pool, call *c, size_t *left) {
     uint8_t bytes[4];
-    if (take_in(pool, bytes, 4, left)) return -1;
+    if (topzerad_take_in(pool, bytes, 4, left)) return -1;
     c->count = get(bytes, 4);
     return c->count > c->most ? -1 : 0;
 }
@@ -229,7 +191,7 @@ static int read_objects(topzerad *pool, call *c, size_t *left) {
     uint8_t bytes[LISTED];
     if (read_count(pool, c, left)) return -1;
     for (size_t i = 0; i < c->count; i++) {
-        if (take_in(pool, bytes, LISTED, left)) return -1;
+        if (topzerad_take_in(pool, bytes, LISTED, left)) return -1;
         listed[i].object = (uint32_t)get(bytes, 4);
         listed[i].length = get(bytes + 4, 8);
     }
@@ -252,7 +214,7 @@ static int read_outcome(topzerad *pool, call *c, uint8_t came, size_t *left) {
         return read_values(pool, c, 2, left);
     case READ:
     case NAME:
-        return read_count(pool, c, left) || take_in(pool, c->into, c->count, left) ? -1 : 0;
+        return read_count(pool, c, left) || topzerad_take_in(pool, c->into, c->count, left) ? -1 : 0;
     case LENGTH:
     case SYNC:
         return read_values(pool, c, 1, left);
@@ -261,7 +223,7 @@ static int read_outcome(topzerad *pool, call *c, uint8_t came, size_t *left) {
     case STATUS:
         return read_values(pool, c, 7, left);
     case DURABLE:
-        if (take_in(pool, &byte, 1, left)) return -1;
+        if (topzerad_take_in(pool, &byte, 1, left)) return -1;
         c->values[0] = byte;
         return 0;
     default:
@@ -274,20 +236,22 @@ static int read_frame(topzerad *pool, call *calls) {
     size_t left = HEAD;
     uint64_t count = 0;
     pool->used = pool->taken = 0;
-    if (take_in(pool, head, HEAD, &left)) return -1;
+    if (topzerad_take_in(pool, head, HEAD, &left)) return -1;
     uint64_t size = get(head, 4), kind = get(head + 6, 2), said = get(head + 8, 4);
     if (get(head + 4, 2) != VERSION || size < HEAD || size > MAX_FRAME) return -1;
     left = size - HEAD;
     if (kind == REFUSED_FRAME) {
+        if (said < 1 || said >= TOPZERAD_SYSTEM - TOPZERAD_FRAME) return -1;
         for (call *c = calls; c; c = c->next) c->refusal = TOPZERAD_FRAME + (int)said;
         return left ? -1 : 0;
     }
     if (kind != ANSWERS) return -1;
     for (call *c = calls; c; c = c->next, count++) {
-        if (take_in(pool, start, 9, &left) || get(start, 8) != count) return -1;
+        if (topzerad_take_in(pool, start, 9, &left) || get(start, 8) != pool->asked + count) return -1;
         if (read_outcome(pool, c, start[8], &left)) return -1;
     }
-    return left || said != count ? -1 : 0;
+    pool->asked += count;
+    return left || said != count || pool->taken != pool->used ? -1 : 0;
 }
 
 /* Calls. */
@@ -332,57 +296,101 @@ static int put_back(topzerad *pool, call *c) {
     return 1;
 }
 
-/* Whether this process is a child of the one that opened the pool. Both have the socket then, and an answer goes to the
- * one that reads first. */
-static int is_forked(const topzerad *pool) { return pool->opener != getpid(); }
+int topzerad_is_forked(const topzerad *pool) { return pool->opener != getpid(); }
 
-/* Queues calls in their order, at least one, and returns once all are answered: the last is answered last. */
-static void lead_all(topzerad *pool, call *made, size_t count) {
-    call *last = &made[count - 1];
-    for (size_t i = 0; i < count; i++) made[i].next = i + 1 < count ? &made[i + 1] : NULL;
+/* Sends calls in one frame and reads their answers. Returns 0, or a refusal of all of them. */
+static int exchange(topzerad *pool, call *calls) {
+    pool->deadline = topzerad_deadline(pool->timeout);
+    pool->is_late = 0;
+    if (!send_frame(pool, calls) && !read_frame(pool, calls)) return 0;
+    return pool->is_late ? TOPZERAD_TIMED_OUT : TOPZERAD_ENDED;
+}
+
+/* Ends calls of a frame whose answers have come. */
+static void take_answers(topzerad *pool, call *calls) {
+    for (call *next; calls; calls = next) {
+        next = calls->next;
+        calls->done = !put_back(pool, calls);
+    }
+}
+
+/* Ends calls that get no answer. */
+static void refuse(call *calls, int refusal) {
+    for (; calls; calls = calls->next) {
+        calls->refusal = refusal;
+        calls->done = 1;
+    }
+}
+
+/* Ends the calls of a frame, and the connection with all calls that are queued: an answer may still come, and would be
+ * taken for that of another call. */
+static void end_all(topzerad *pool, call *calls, int refusal) {
+    pool->ended = 1;
+    refuse(calls, refusal);
+    refuse(pool->first, refusal);
+    pool->first = NULL;
+    pool->last = &pool->first;
+}
+
+/* Queues calls, and returns once all are answered: the last is answered last. */
+static void lead_all(topzerad *pool, call *first, call *last) {
     pthread_mutex_lock(&pool->lock);
-    *pool->last = made;
-    pool->last = &last->next;
+    if (pool->ended) {
+        refuse(first, TOPZERAD_ENDED);
+    } else {
+        *pool->last = first;
+        pool->last = &last->next;
+    }
     while (!last->done) {
         if (pool->led) {
             pthread_cond_wait(&pool->turn, &pool->lock);
             continue;
         }
         call *calls = take_calls(pool);
-        int failed = pool->ended;
         pool->led = 1;
         pthread_mutex_unlock(&pool->lock);
-        failed = failed || send_frame(pool, calls) || read_frame(pool, calls);
+        int refusal = exchange(pool, calls);
         pthread_mutex_lock(&pool->lock);
-        if (failed) pool->ended = 1;
-        for (call *next; calls; calls = next) {
-            next = calls->next;
-            if (failed) calls->refusal = TOPZERAD_ENDED;
-            calls->done = !put_back(pool, calls);
-        }
+        if (refusal)
+            end_all(pool, calls, refusal);
+        else
+            take_answers(pool, calls);
         pool->led = 0;
         pthread_cond_broadcast(&pool->turn);
     }
     pthread_mutex_unlock(&pool->lock);
 }
 
-/* Makes calls, at least one. A thread that is cancelled while it leads would leave the others waiting for ever, and its
- * calls on a stack that is gone, so it is cancelled afterwards. */
+/* Makes those of the calls that have no refusal yet, in their order. A thread that is cancelled while it leads would
+ * leave the others waiting for ever, and its calls on a stack that is gone, so it is cancelled afterwards. */
 static void make_all(topzerad *pool, call *made, size_t count) {
+    call *first = NULL, *last = NULL, **end = &first;
     int state;
-    if (is_forked(pool)) {
-        for (size_t i = 0; i < count; i++) made[i].refusal = TOPZERAD_FORKED;
+    for (size_t i = 0; i < count; i++) {
+        if (made[i].refusal) continue;
+        *end = last = &made[i];
+        end = &last->next;
+    }
+    if (!first) return;
+    if (pool->socket < 0 || topzerad_is_forked(pool)) {
+        refuse(first, pool->socket < 0 ? TOPZERAD_ENDED : TOPZERAD_FORKED);
         return;
     }
     pthread_setcancelstate(PTHREAD_CANCEL_DISABLE, &state);
-    lead_all(pool, made, count);
+    lead_all(pool, first, last);
     pthread_setcancelstate(state, NULL);
+}
+
+/* The refusal of a call that was made, of which the caller is told. */
+static int told(const call *c) {
+    if (c->refusal == TOPZERAD_DAMAGED) topzerad_set_damage(c->kind, c->address);
+    return c->refusal;
 }
 
 /* Makes a call, and returns its refusal. */
 static int make(topzerad *pool, call *c) {
     make_all(pool, c, 1);
-    return c->refusal;
+    return told(c);
 }
 
 static void add_field(call *c, uint64_t value, size_t count) {
@@ -398,40 +406,61 @@ static call new_call(uint8_t number) {
     return c;
 }
 
-static call new_transact(const topzerad_tx *tx, int durable) {
-    call c = new_call(durable ? TRANSACT_DURABLY : TRANSACT);
+static call new_transact(uint8_t number, const topzerad_tx *tx) {
+    call c = new_call(number);
     c.content = tx->bytes;
     c.content_count = tx->length;
+    c.refusal = refusal_of(tx);
     return c;
 }
 
 static topzerad_receipt receipt_of(const call *c) { return (topzerad_receipt){c->values[0], c->values[1]}; }
 
-int topzerad_transact(topzerad *pool, const topzerad_tx *tx, int durable, topzerad_receipt *receipt, int *committed) {
-    call c = new_transact(tx, durable);
+static int transact(topzerad *pool, uint8_t number, const topzerad_tx *tx, topzerad_receipt *receipt, int *committed) {
+    call c = new_transact(number, tx);
     int refusal = make(pool, &c);
     if (receipt) *receipt = receipt_of(&c);
     if (committed) *committed = c.committed;
     return refusal;
 }
 
-int topzerad_transact_many(topzerad *pool, const topzerad_tx *txs, size_t count, int durable,
-                           topzerad_outcome *outcomes) {
+int topzerad_transact(topzerad *pool, const topzerad_tx *tx, topzerad_receipt *receipt) {
+    return transact(pool, TRANSACT, tx, receipt, NULL);
+}
+
+int topzerad_transact_durably(topzerad *pool, const topzerad_tx *tx, topzerad_receipt *receipt, int *committed) {
+    return transact(pool, TRANSACT_DURABLY, tx, receipt, committed);
+}
+
+static topzerad_outcome outcome_of(const call *c) {
+    return (topzerad_outcome){c->refusal, c->committed, receipt_of(c), c->kind, c->address};
+}
+
+static int transact_many(topzerad *pool, uint8_t number, const topzerad_tx *txs, size_t count,
+                         topzerad_outcome *outcomes) {
     call calls[MOST_AT_ONCE];
     int first = 0;
     while (count) {
         size_t now = count < MOST_AT_ONCE ? count : MOST_AT_ONCE;
-        for (size_t i = 0; i < now; i++) calls[i] = new_transact(&txs[i], durable);
+        for (size_t i = 0; i < now; i++) calls[i] = new_transact(number, &txs[i]);
         make_all(pool, calls, now);
         for (size_t i = 0; i < now; i++) {
-            outcomes[i] = (topzerad_outcome){calls[i].refusal, calls[i].committed, receipt_of(&calls[i])};
-            if (!first) first = calls[i].refusal;
+            outcomes[i] = outcome_of(&calls[i]);
+            if (!first) first = told(&calls[i]);
         }
         txs += now;
         outcomes += now;
         count -= now;
     }
     return first;
+}
+
+int topzerad_transact_many(topzerad *pool, const topzerad_tx *txs, size_t count, topzerad_outcome *outcomes) {
+    return transact_many(pool, TRANSACT, txs, count, outcomes);
+}
+
+int topzerad_transact_many_durably(topzerad *pool, const topzerad_tx *txs, size_t count, topzerad_outcome *outcomes) {
+    return transact_many(pool, TRANSACT_DURABLY, txs, count, outcomes);
 }
 
 static call new_read(const topzerad_range *range) {
@@ -441,38 +470,38 @@ static call new_read(const topzerad_range *range) {
     c.into = range->into;
     c.low = range->low;
     c.high = range->high;
-    /* The pool has to refuse a range above the limit, however short the object is. */
-    if (c.low < c.high && c.high > TOPZERAD_MAX_LENGTH) c.low = c.high - 1;
+    if (range->object >= TOPZERAD_OBJECTS || c.low >= c.high || c.high > TOPZERAD_MAX_LENGTH)
+        c.refusal = TOPZERAD_BAD_RANGE;
     ask_piece(&c);
     return c;
 }
 
-/* Sets what came of a range, and returns its refusal. */
-static int take_read(topzerad_range *range, const call *c) {
+/* Sets what came of a range. */
+static void take_read(topzerad_range *range, const call *c) {
     range->refusal = c->refusal;
     range->count = c->refusal ? 0 : c->low - range->low + c->count;
-    return c->refusal;
+    range->kind = c->kind;
+    range->address = c->address;
 }
 
 int topzerad_read_many(topzerad *pool, topzerad_range *ranges, size_t count) {
     call calls[TOPZERAD_MAX_RANGES];
     int first = 0;
     if (count > TOPZERAD_MAX_RANGES) return TOPZERAD_TOO_MANY;
-    if (!count) return 0;
     for (size_t i = 0; i < count; i++) calls[i] = new_read(&ranges[i]);
     make_all(pool, calls, count);
     for (size_t i = 0; i < count; i++) {
-        int refusal = take_read(&ranges[i], &calls[i]);
-        if (!first) first = refusal;
+        take_read(&ranges[i], &calls[i]);
+        if (!first) first = told(&calls[i]);
     }
     return first;
 }
 
 int topzerad_read(topzerad *pool, uint32_t object, uint64_t low, uint64_t high, void *into, size_t *count) {
-    topzerad_range range = {object, low, high, into, 0, 0};
+    topzerad_range range = {.object = object, .low = low, .high = high, .into = into};
     call c = new_read(&range);
-    make_all(pool, &c, 1);
-    int refusal = take_read(&range, &c);
+    int refusal = make(pool, &c);
+    take_read(&range, &c);
     *count = range.count;
     return refusal;
 }
@@ -536,72 +565,13 @@ int topzerad_name(topzerad *pool, char name[TOPZERAD_MAX_NAME + 1]) {
     return refusal;
 }
 
-/* The process. */
+/* Texts. */
 
-/* Starts the process with `end` as its input and its output. It has a process group of its own, and blocks no signal.
- * Returns 0 or an error number. */
-static int start_process(pid_t *process, const char *const words[], int end) {
-    posix_spawn_file_actions_t actions;
-    posix_spawnattr_t attributes;
-    sigset_t none;
-    sigemptyset(&none);
-    int failed = posix_spawn_file_actions_init(&actions);
-    if (failed) return failed;
-    failed = posix_spawnattr_init(&attributes);
-    if (!failed) {
-        failed = posix_spawn_file_actions_adddup2(&actions, end, 0);
-        if (!failed) failed = posix_spawn_file_actions_adddup2(&actions, end, 1);
-        if (!failed) failed = posix_spawnattr_setflags(&attributes, POSIX_SPAWN_SETPGROUP | POSIX_SPAWN_SETSIGMASK);
-        if (!failed) failed = posix_spawnattr_setpgroup(&attributes, 0);
-        if (!failed) failed = posix_spawnattr_setsigmask(&attributes, &none);
-        if (!failed) failed = posix_spawnp(process, words[0], &actions, &attributes, (char **)words, environ);
-        posix_spawnattr_destroy(&attributes);
-    }
-    posix_spawn_file_actions_destroy(&actions);
-    return failed;
-}
-
-int topzerad_open_with(topzerad *pool, const char *const words[]) {
-    int ends[2];
-    if (socketpair(AF_UNIX, SOCK_STREAM | SOCK_CLOEXEC, 0, ends)) return TOPZERAD_SYSTEM;
-    int failed = start_process(&pool->process, words, ends[1]);
-    close(ends[1]);
-    if (failed) {
-        close(ends[0]);
-        errno = failed;
-        return TOPZERAD_SYSTEM;
-    }
-    pool->socket = ends[0];
-    pool->opener = getpid();
-    pool->led = pool->ended = 0;
-    pool->first = NULL;
-    pool->last = &pool->first;
-    pool->used = pool->taken = 0;
-    pthread_mutex_init(&pool->lock, NULL);
-    pthread_cond_init(&pool->turn, NULL);
-    return 0;
-}
-
-int topzerad_open(topzerad *pool, const char *program, const char *path) {
-    const char *const words[] = {program, "serve", path, NULL};
-    return topzerad_open_with(pool, words);
-}
-
-int topzerad_close(topzerad *pool) {
-    int status;
-    pid_t waited;
-    if (is_forked(pool)) {
-        close(pool->socket);
-        return TOPZERAD_FORKED;
-    }
-    shutdown(pool->socket, SHUT_WR); /* it fails if the process is gone, as waitpid says */
-    do waited = waitpid(pool->process, &status, 0);
-    while (waited < 0 && errno == EINTR);
-    close(pool->socket);
-    pthread_mutex_destroy(&pool->lock);
-    pthread_cond_destroy(&pool->turn);
-    if (waited < 0) return TOPZERAD_SYSTEM;
-    return WIFEXITED(status) && WEXITSTATUS(status) == 0 ? 0 : TOPZERAD_ENDED;
+static const char *damaged_text(void) {
+    static _Thread_local char text[96];
+    snprintf(text, sizeof text, "the block of kind %" PRIu64 " at byte %" PRIu64 " is damaged", damage.kind,
+             damage.address);
+    return text;
 }
 
 const char *topzerad_text(int refusal) {
@@ -612,8 +582,8 @@ const char *topzerad_text(int refusal) {
         "the device refused a write",
         "the device refused a flush",
         "the pool is suspended: a write or a flush was refused before",
-        "the device holds no pool",
-        "a block is damaged",
+        "the device holds no pool: no label has a valid uberblock with a config",
+        "the block of kind {kind} at byte {address} is damaged",
         "a pool can't have the size of this device",
         "there is no such object",
         "the object exists already",
@@ -623,17 +593,21 @@ const char *topzerad_text(int refusal) {
         "the range overlaps one that is locked",
         "an open transaction uses the lock",
         "there are not enough free blocks",
-        "too many bytes are not synced yet",
-        "the transaction is too long",
+        "too many bytes are not synced yet: sync a group first",
+        "the transaction's log record would have more than 65536 bytes",
         "no such transaction is open",
         "the transaction groups are not ready for this step",
         "the owner holds no such lock",
-        "there are as many locks or transactions as there may be",
+        "there are as many locks or transactions as there may be, or no number is left",
         "there is no block for the log, or no log number is left",
     };
-    if (refusal >= 0 && refusal < (int)(sizeof texts / sizeof *texts)) return texts[refusal];
+    if (refusal == TOPZERAD_DAMAGED) return damaged_text();
+    if (refusal >= 0 && refusal <= LAST_REFUSAL) return texts[refusal];
     if (refusal == TOPZERAD_SYSTEM) return "a call of the system failed";
     if (refusal == TOPZERAD_ENDED) return "the process with the pool ended";
     if (refusal == TOPZERAD_FORKED) return "the pool was opened before a fork, by the parent";
+    if (refusal == TOPZERAD_UNUSABLE) return "the file can't be used";
+    if (refusal == TOPZERAD_TIMED_OUT) return "the process with the pool did not answer in time";
+    if (refusal == TOPZERAD_NO_OPENING) return "the program did not say whether the pool is open";
     return "the frame was refused";
 }

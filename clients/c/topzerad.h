@@ -1,12 +1,19 @@
 /* topzerad.h: a pool of numbered objects in a file, changed by transactions that survive a power failure.
  *
+ * topzerad_transact commits a transaction: a power failure may lose it until a flush or a sync has returned.
+ * topzerad_transact_durably returns once no power failure loses it.
+ *
  * topzerad_open starts `PROGRAM serve FILE`, a process that has the pool. Calls are sent to it as frames
  * (docs/FORMATS.md, "Frames"). Any thread may make any call at any time. What several threads ask at once is sent in
  * one frame, so their durable transactions share one flush. A thread isn't cancelled within a call, but after it.
  *
  * Each call returns 0 or a refusal; topzerad_text has its words. A refused transaction changes nothing. After
  * TOPZERAD_WRITE and TOPZERAD_FLUSH the pool is suspended: close it and open it again. All memory is the caller's: the
- * library takes none, and keeps nothing that is passed after the call.
+ * library allocates none, and keeps nothing that is passed after the call.
+ *
+ * Limits: a transaction has at most 65,536 bytes and 256 operations; one of more operations is refused
+ * TOPZERAD_TOO_MANY. Each write is charged 20,480 bytes or more of the dirty limit, so at the default limit one
+ * transaction has at most 204 small writes; one of more is refused TOPZERAD_THROTTLED.
  */
 #ifndef TOPZERAD_H
 #define TOPZERAD_H
@@ -50,10 +57,16 @@ enum {
     TOPZERAD_FRAME = 100,
     /* A call of the system failed: errno has its cause. */
     TOPZERAD_SYSTEM = 200,
-    /* The process ended, or answered what is no frame. What was not durable may be lost. */
+    /* The process ended, answered what is no frame, or answered too late before. What was not durable may be lost. */
     TOPZERAD_ENDED = 201,
     /* The pool was opened before a fork, and the caller is the child. It opens a pool of its own. */
-    TOPZERAD_FORKED = 202
+    TOPZERAD_FORKED = 202,
+    /* The file can't be used, and the system has no error number for that, as for a file that is no regular one. */
+    TOPZERAD_UNUSABLE = 203,
+    /* The process didn't answer within the timeout. Whether the call took place is not known. */
+    TOPZERAD_TIMED_OUT = 204,
+    /* The program ended before it said whether the pool is open, or said something else. */
+    TOPZERAD_NO_OPENING = 205
 };
 
 #define TOPZERAD_OBJECTS 5292u         /* objects have the numbers below this */
@@ -61,6 +74,13 @@ enum {
 #define TOPZERAD_MAX_RECORD 65536u     /* the most bytes of a transaction */
 #define TOPZERAD_MAX_NAME 64u          /* the most bytes of a name */
 #define TOPZERAD_MAX_RANGES 64u        /* the most ranges that are read at one moment */
+#define TOPZERAD_MAX_CAUSE 511u        /* the most bytes of a cause; a longer one is cut off */
+
+/* What a pool said when it was opened: its guid, the group that was synced last, and how many records of the log the
+ * open replayed. */
+typedef struct {
+    uint64_t guid, group, records;
+} topzerad_opening;
 
 /* A pool that is open, in the caller's memory. Its fields are the library's. */
 typedef struct topzerad {
@@ -68,11 +88,26 @@ typedef struct topzerad {
     pid_t process, opener;
     pthread_mutex_t lock;
     pthread_cond_t turn;
-    int led, ended;
+    int led, ended, is_late;
     struct topzerad_call *first, **last;
+    uint64_t asked, timeout, deadline;
+    topzerad_opening opening;
+    char cause[TOPZERAD_MAX_CAUSE + 1];
     uint8_t bytes[65536];
     size_t used, taken;
 } topzerad;
+
+/* How a pool is opened or made. A field of 0 is the default. */
+typedef struct {
+    uint64_t dirty;  /* of an open: the most bytes that unsynced transactions may be charged, 4,096 to 2^40 */
+    uint32_t cache;  /* of an open: the tree blocks of 4,096 bytes that stay in memory, 1 to 4,096 */
+    uint64_t moment; /* the time in the uberblocks that are written, in seconds */
+    uint32_t wait;   /* the seconds to wait for a file that another process has, up to 86,400 */
+    int replace;     /* of a create: not 0 if it may replace a file that is there */
+    /* The seconds that the process may take to open or make the pool, besides `wait`; to answer a frame; and to end.
+     * Up to 86,400, and 0.25 is a quarter of one. By default it has any time. */
+    double timeout;
+} topzerad_options;
 
 /* Where a transaction stands in the history since the pool was opened, and its group. */
 typedef struct {
@@ -80,10 +115,11 @@ typedef struct {
 } topzerad_receipt;
 
 /* What came of a transaction. `refusal` is 0 or why it was refused. `committed` says whether it took place: after a
- * refusal it did if it could not be made durable. */
+ * refusal it did if it could not be made durable. `kind` and `address` are those of TOPZERAD_DAMAGED, else 0. */
 typedef struct {
     int refusal, committed;
     topzerad_receipt receipt;
+    uint64_t kind, address;
 } topzerad_outcome;
 
 /* The groups, 0 for one that isn't there; bytes charged to unsynced groups; blocks. */
@@ -97,13 +133,14 @@ typedef struct {
 } topzerad_listed;
 
 /* The bytes of [low, high) of an object that lie below its length. `into` has room for high - low; `count` says how
- * many there were, and `refusal` is 0 or why they weren't read. */
+ * many there were, and `refusal` is 0 or why they weren't read. `kind` and `address` are those of TOPZERAD_DAMAGED. */
 typedef struct {
     uint32_t object;
     uint64_t low, high;
     void *into;
     size_t count;
     int refusal;
+    uint64_t kind, address;
 } topzerad_range;
 
 /* The operations of one transaction: all take place, or none. */
@@ -117,7 +154,10 @@ typedef struct {
  * or a remove, 13 for a length, 17 and its bytes for a write, 5 and its bytes for a name. The memory is the
  * transaction's until it is committed or given up. */
 void topzerad_tx_start(topzerad_tx *tx, void *memory, size_t size);
-/* Each adds an operation. TOPZERAD_TOO_LARGE if there is no room for it, or above 65,536 bytes: nothing is added. */
+/* Each adds an operation, or returns a refusal and adds nothing. TOPZERAD_TOO_LARGE if there is no room for it, or it
+ * would end above 65,536 bytes. TOPZERAD_BAD_RANGE if the number is none of an object, if a write has no byte, if the
+ * object would be longer than TOPZERAD_MAX_LENGTH, or if the name is none: 1 to 64 bytes, first an ASCII letter, then
+ * letters, digits, `-`, `_`, `.`. */
 int topzerad_tx_create(topzerad_tx *tx, uint32_t object);
 int topzerad_tx_remove(topzerad_tx *tx, uint32_t object);
 int topzerad_tx_write(topzerad_tx *tx, uint32_t object, uint64_t offset, const void *bytes, size_t count);
@@ -126,23 +166,47 @@ int topzerad_tx_set_name(topzerad_tx *tx, const void *name, size_t count);
 /* Adds a write whose bytes the caller puts to `*content` before the transaction is committed. */
 int topzerad_tx_write_to(topzerad_tx *tx, uint32_t object, uint64_t offset, size_t count, uint8_t **content);
 
-/* Starts `program serve path`. `ztxg create` makes a pool. If the process can't open it, the first call returns
- * TOPZERAD_ENDED. The process has a process group of its own: a Ctrl-C that ends the caller lets it sync the pool. */
+/* Makes a pool of `size` bytes in a file by `program create`. Without `replace` a file that is there is an error (errno
+ * EEXIST). `options` may be NULL. Returns 0, the refusal, TOPZERAD_SYSTEM with errno or TOPZERAD_UNUSABLE if the file
+ * can't be used, TOPZERAD_TIMED_OUT, or TOPZERAD_ENDED if the program ended otherwise. After the last two the file may
+ * be there, and no pool. */
+int topzerad_create(const char *program, const char *path, const char *name, uint64_t guid, uint64_t size,
+                    const topzerad_options *options);
+/* Why this thread's last topzerad_create failed, in the program's words. */
+const char *topzerad_create_cause(void);
+
+/* Starts `program serve path` and waits until the pool is open. Returns 0; the refusal of the pool; TOPZERAD_SYSTEM
+ * with errno if the file can't be used or the program can't be started (EAGAIN: another process has the file), or
+ * TOPZERAD_UNUSABLE; TOPZERAD_TIMED_OUT; or TOPZERAD_NO_OPENING. A pool that failed to open needs no close, and
+ * topzerad_cause says why it did. A program older than this library says nothing: set a timeout if it may be one.
+ * The process has a process group of its own: a Ctrl-C that ends the caller lets it sync the pool. */
 int topzerad_open(topzerad *pool, const char *program, const char *path);
+/* The same with options, which may be NULL. TOPZERAD_BAD_RANGE if one is outside its limits. */
+int topzerad_open_options(topzerad *pool, const char *program, const char *path, const topzerad_options *options);
 /* The same with a command line of the caller's, as {"ztxg", "serve", "tank.pool", "--wait", "10", NULL}. */
 int topzerad_open_with(topzerad *pool, const char *const words[]);
-/* Ends the process once it has synced the pool, and waits for its end. TOPZERAD_ENDED if it did not end well. No other
- * call may run. After a fork the child's call ends nothing: it gives up the child's end of the socket. */
+/* What the pool said when it was opened. */
+topzerad_opening topzerad_opened(const topzerad *pool);
+/* Why the open failed, in the program's words; empty if it didn't. */
+const char *topzerad_cause(const topzerad *pool);
+/* Ends the process once it has synced the pool, and waits for its end. TOPZERAD_ENDED if it did not end well.
+ * TOPZERAD_TIMED_OUT if it didn't end within the timeout: it is killed then, and what was not durable may be lost. No
+ * other call may run. If the caller ignores SIGCHLD, or waits for all its children, how the process ended isn't known.
+ * It counts as a good end then, unless an earlier call returned TOPZERAD_ENDED or TOPZERAD_TIMED_OUT. After a fork the
+ * child's call ends nothing: it gives up the child's end of the socket. */
 int topzerad_close(topzerad *pool);
 
-/* Commits a transaction. If `durable`, it returns once no power failure loses it. The receipt may be NULL. `committed`
- * may be NULL too; after a refusal it says whether the transaction took place but could not be made durable. */
-int topzerad_transact(topzerad *pool, const topzerad_tx *tx, int durable, topzerad_receipt *receipt, int *committed);
+/* Commits a transaction. A power failure may lose it until topzerad_flush or topzerad_sync has returned. The receipt
+ * may be NULL. TOPZERAD_BAD_RANGE if it has no operation. */
+int topzerad_transact(topzerad *pool, const topzerad_tx *tx, topzerad_receipt *receipt);
+/* Commits a transaction, and returns once no power failure loses it. The receipt may be NULL. `committed` may be NULL
+ * too; after a refusal it says whether the transaction took place but could not be made durable. */
+int topzerad_transact_durably(topzerad *pool, const topzerad_tx *tx, topzerad_receipt *receipt, int *committed);
 /* Commits transactions in their order, each by itself: a refusal doesn't keep the next from being committed. They go in
- * one frame, or in few if they are long; the durable ones of a frame share one flush. Returns 0, or the first refusal.
- * `outcomes` has room for `count`. */
-int topzerad_transact_many(topzerad *pool, const topzerad_tx *txs, size_t count, int durable,
-                           topzerad_outcome *outcomes);
+ * one frame, or in few if they are long. Returns 0, or the first refusal. `outcomes` has room for `count`. */
+int topzerad_transact_many(topzerad *pool, const topzerad_tx *txs, size_t count, topzerad_outcome *outcomes);
+/* The same, and returns once no power failure loses them. Those of a frame share one flush. */
+int topzerad_transact_many_durably(topzerad *pool, const topzerad_tx *txs, size_t count, topzerad_outcome *outcomes);
 /* Reads the bytes of [low, high) that lie below the object's length, at one moment. `into` has room for high - low,
  * `count` says how many there were. More than 1 MiB are read in several frames, and other calls wait for the last. */
 int topzerad_read(topzerad *pool, uint32_t object, uint64_t low, uint64_t high, void *into, size_t *count);
@@ -162,8 +226,12 @@ int topzerad_sync(topzerad *pool, uint64_t *group);
 /* The pool's name, with a 0 after it. */
 int topzerad_name(topzerad *pool, char name[TOPZERAD_MAX_NAME + 1]);
 
-/* The words for a refusal. */
+/* The words for a refusal. Those for TOPZERAD_DAMAGED name the block that topzerad_damage has, and last until this
+ * thread asks for them again. */
 const char *topzerad_text(int refusal);
+/* Which block is damaged, by the last call of this thread that returned TOPZERAD_DAMAGED: its kind (2 root, 3
+ * directory, 4 indirect, 5 data, 6 log, 7 top), and its byte address in the file. Zeros if there was none. */
+void topzerad_damage(uint64_t *kind, uint64_t *address);
 
 #ifdef __cplusplus
 }

@@ -174,9 +174,11 @@ def options(tank):
         header = b"topzdisk" + struct.pack("<QQQ", 64 * MIB, PART, FRONT - 64)
         pool.transact([topzerad.create(0), topzerad.write(0, 0, header)])
     assert "no disk" in tank.refusal("size=64M")
+    tank.pool.write_bytes(bytes(8 * MIB))
+    assert "can't be opened: the device holds no pool: no label has" in tank.refusal("size=64M")
     tank.pool.unlink()
     assert "No such file" in tank.refusal("size=64M")
-    return "seventeen refusals, and the size is kept"
+    return "eighteen refusals, and the size is kept"
 
 
 def limits(tank):

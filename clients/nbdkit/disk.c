@@ -104,15 +104,24 @@ static void put_together(const disk *d, uint64_t low, uint64_t high, uint8_t *by
 
 /* Transactions. */
 
+static int transact(disk *d, const topzerad_tx *tx, int durable) {
+    return durable ? topzerad_transact_durably(d->pool, tx, NULL, NULL) : topzerad_transact(d->pool, tx, NULL);
+}
+
+static int transact_many(disk *d, const topzerad_tx *txs, size_t count, int durable, topzerad_outcome *outcomes) {
+    return durable ? topzerad_transact_many_durably(d->pool, txs, count, outcomes)
+                   : topzerad_transact_many(d->pool, txs, count, outcomes);
+}
+
 /* Commits transactions, at most AT_ONCE. Where the pool has no space it is tried again after a sync, since what is not
  * synced is charged more than it takes. */
 static int commit_all(disk *d, const topzerad_tx *txs, size_t count, int durable) {
     topzerad_outcome outcomes[AT_ONCE];
-    int refusal = topzerad_transact_many(d->pool, txs, count, durable, outcomes);
+    int refusal = transact_many(d, txs, count, durable, outcomes);
     if (refusal != TOPZERAD_NO_SPACE) return refusal;
     refusal = topzerad_sync(d->pool, NULL);
     for (size_t i = 0; i < count && !refusal; i++)
-        if (outcomes[i].refusal) refusal = topzerad_transact(d->pool, &txs[i], durable, NULL, NULL);
+        if (outcomes[i].refusal) refusal = transact(d, &txs[i], durable);
     return refusal;
 }
 
@@ -236,6 +245,10 @@ int disk_grow(disk *d, uint64_t size) {
 
 /* Reads and writes. */
 
+static topzerad_range range_of(uint32_t part, uint64_t low, uint64_t high, uint8_t *into) {
+    return (topzerad_range){.object = object_of(part), .low = low, .high = high, .into = into};
+}
+
 /* Reads bytes of a part: their fronts and their tails at one moment, so that no block is read in part before a write. */
 static int read_place(disk *d, uint8_t *into, place at) {
     uint8_t tails[MOST_TAILS];
@@ -244,8 +257,8 @@ static int read_place(disk *d, uint8_t *into, place at) {
     uint64_t low = tails_below(d, at.low), high = tails_below(d, at.high);
     topzerad_range ranges[2];
     size_t count = 0;
-    if (fronts) ranges[count++] = (topzerad_range){object_of(at.part), start, start + fronts, into, 0, 0};
-    if (low < high) ranges[count++] = (topzerad_range){object_of(at.part), low, high, tails, 0, 0};
+    if (fronts) ranges[count++] = range_of(at.part, start, start + fronts, into);
+    if (low < high) ranges[count++] = range_of(at.part, low, high, tails);
     int refusal = topzerad_read_many(d->pool, ranges, count);
     for (size_t i = 0; i < count; i++) {
         size_t wanted = ranges[i].high - ranges[i].low;

@@ -6,14 +6,13 @@
 
 #include <errno.h>
 #include <inttypes.h>
-#include <stdio.h>
 #include <stdlib.h>
 #include <string.h>
 
 #define THREAD_MODEL NBDKIT_THREAD_MODEL_PARALLEL
 
 /* The seconds that the program waits for a file that the process of a killed nbdkit still has. */
-#define WAIT_SECONDS "30"
+#define WAIT_SECONDS 30
 
 /* The least dirty limit, which has room for the longest write of the disk, and the most that the program takes. */
 #define LEAST_DIRTY (INT64_C(1) << 20)
@@ -174,13 +173,13 @@ static void close_pool(void) {
 
 /* Starts the process once nbdkit has forked: it has to be a child of the process that waits for its end. */
 static int topzerad_after_fork(void) {
-    char dirty[24], cache[24];
-    snprintf(dirty, sizeof dirty, "%" PRId64, dirty_limit);
-    snprintf(cache, sizeof cache, "%" PRId64, cache_size / DISK_BLOCK);
-    const char *const words[] = {program,   "serve", file,      "--wait", WAIT_SECONDS,
-                                 "--dirty", dirty,   "--cache", cache,    NULL};
-    if (topzerad_open_with(&pool, words)) {
-        nbdkit_error("%s can't be started: %m", program);
+    const topzerad_options options = {
+        .dirty = (uint64_t)dirty_limit,
+        .cache = (uint32_t)(cache_size / DISK_BLOCK),
+        .wait = WAIT_SECONDS,
+    };
+    if (topzerad_open_options(&pool, program, file, &options)) {
+        nbdkit_error("%s can't be opened: %s", file, topzerad_cause(&pool));
         return -1;
     }
     is_open = 1;
