@@ -433,6 +433,8 @@ class Ends(OnPools):
         self.addCleanup(signal.signal, signal.SIGCHLD, before)
         with self.open() as pool:
             pool.transact([create(1)])
+        with self.assertRaises(FileExistsError):
+            create_pool(PROGRAM, self.path, "tank", 77, 64 * MIB)
 
     def test_errors_are_copied(self):
         """Each thread that waits raises an error of its own."""

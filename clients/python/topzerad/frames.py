@@ -4,7 +4,7 @@ from __future__ import annotations
 
 import os
 import struct
-from typing import Any, Callable, Dict, Generic, List, NamedTuple, Sequence, Tuple, TypeVar, Union
+from typing import Any, Callable, Dict, Generic, List, NamedTuple, Optional, Sequence, Tuple, TypeVar, Union
 
 from .errors import Error, Refused, RefusedFrame, unusable
 
@@ -127,11 +127,11 @@ def _receipt(cursor: Cursor) -> Receipt:
     return Receipt(*cursor.numbers(_PAIR))
 
 
-def _refusal(cursor: Cursor) -> Tuple[int, ...]:
-    refusal = cursor.numbers(_REFUSAL)
-    if not refusal[0]:
+def _refused(cursor: Cursor, receipt: Optional[Receipt] = None) -> Refused:
+    number, kind, address = cursor.numbers(_REFUSAL)
+    if not number:
         raise Malformed
-    return refusal
+    return Refused(number, kind, address, receipt)
 
 
 def _objects(cursor: Cursor) -> Dict[int, int]:
@@ -186,10 +186,9 @@ def _outcome(number: int, kind: Kind[T], cursor: Cursor) -> Union[T, Error]:
     if answered != number:
         raise Malformed
     if came == 0:
-        return Refused(*_refusal(cursor))
+        return _refused(cursor)
     if came == NOT_DURABLE and kind is TRANSACT_DURABLY:
-        receipt = _receipt(cursor)
-        return Refused(*_refusal(cursor), receipt=receipt)
+        return _refused(cursor, _receipt(cursor))  # the receipt stands first
     if came != kind.number:
         raise Malformed
     return kind.read(cursor)

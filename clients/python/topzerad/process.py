@@ -176,7 +176,8 @@ class Process:
             raise TimedOut(f"the process with the pool didn't end in {self._timeout} seconds, and was killed") from None
         error = self._ended(self._popen.returncode)
         self._close_files()
-        if error.status:
+        # If the caller ignores SIGCHLD, no status is known, and 0 stands for it. The text still tells of a fault.
+        if error.status or "(ztxg: " in str(error):
             raise error
 
     def _drain(self, deadline: Optional[float]) -> None:
@@ -241,22 +242,21 @@ def create_pool(
     Raises `Refused` (8 for a size that no pool may have), `FileUnusable`, `Ended` for any other end of the program, and
     `TimedOut`: then the file may be there without a pool.
     """
-    place = file_word(path)
-    words = [os.fspath(program), "create", place, checked_name(name), str(fitted("guid", guid, GREATEST))]
-    words += [str(fitted("size", size, GREATEST)), "--verbose"]
+    place, pipe = file_word(path), subprocess.PIPE
+    words: List[Union[str, bytes]] = [os.fspath(program), "create", place, checked_name(name)]
+    words += [str(fitted("guid", guid, GREATEST)), str(fitted("size", size, GREATEST)), "--verbose"]
     words += [] if replace else ["--new"]
     words += [*option_words(moment=moment), *option_words(LONGEST_WAIT, wait=wait)]
-    pipe, none = subprocess.PIPE, subprocess.DEVNULL
     longest = None if timeout is None else checked_timeout(timeout) + (wait or 0)
     try:
-        ran = subprocess.run(words, stdin=none, stdout=none, stderr=pipe, timeout=longest)
+        ran = subprocess.run(words, stdin=subprocess.DEVNULL, stdout=pipe, stderr=pipe, timeout=longest)
     except subprocess.TimeoutExpired:
         raise TimedOut(f"the program didn't make the pool in {timeout} seconds, and was killed") from None
     except OSError as error:
         raise not_started(program, error) from None
-    said = ran.stderr.decode(errors="replace").strip()
-    if said or ran.returncode:
-        raise create_error(ran.returncode, said, place)
+    # If the caller ignores SIGCHLD, the status is 0 in any case. So what was printed counts, too.
+    if ran.returncode or not ran.stdout.startswith(b"created "):
+        raise create_error(ran.returncode, ran.stderr.decode(errors="replace").strip(), place)
 
 
 def create_error(status: int, said: str, path: str) -> Error:
@@ -265,8 +265,8 @@ def create_error(status: int, said: str, path: str) -> Error:
     cause = causes[0] if causes else ""
     refused = re.search(r"^ztxg: refused (\d+) \w+(?: (\d+) (\d+))?$", said, re.MULTILINE)
     if refused:
-        number, *block = (int(word or 0) for word in refused.groups())
-        return Refused(number, *block, cause=cause)
+        number, kind, address = (int(word or 0) for word in refused.groups())
+        return Refused(number, kind, address, cause=cause)
     if re.search(r"^ztxg: cannot use ", said, re.MULTILINE):
         by_system = re.search(r"\(os error (\d+)\)$", cause)
         number = int(by_system.group(1)) if by_system else errno.EAGAIN if cause == _IN_USE else 0

@@ -60,12 +60,12 @@ class Call(Generic[T]):
 
 
 class Turn:
-    """The calls that a thread makes together, in their order."""
+    """The calls that a thread makes together: how many are left, and where the thread waits."""
 
-    __slots__ = ("calls", "left", "is_given_up", "_sleep")
+    __slots__ = ("left", "is_given_up", "_sleep")
 
-    def __init__(self, calls: Sequence[Call[Any]]) -> None:
-        self.calls, self.left = calls, len(calls)
+    def __init__(self, calls: Sequence[Call[Any]] = ()) -> None:
+        self.left = len(calls)
         self.is_given_up = False
         self._sleep = threading.Lock()
         self._sleep.acquire()
@@ -115,7 +115,7 @@ class Turns:
         self._refuse_within_own_call()
         self._own.turn = turn
         try:
-            self._enter(turn)
+            self._enter(turn, calls)
             while turn.left:
                 if self._leader is turn:
                     self._lead(turn)
@@ -127,7 +127,7 @@ class Turns:
 
     def stop(self, refusal: Error) -> None:
         """Refuses all later calls so, and returns once the earlier ones are done."""
-        turn = Turn(())
+        turn = Turn()
         self._refuse_within_own_call()
         with self._lock:
             self._refusal = self._refusal or refusal
@@ -142,11 +142,11 @@ class Turns:
         if turn is not None and turn.is_under_way:
             raise Error("a signal's handler can't use a pool that its thread is asking")
 
-    def _enter(self, turn: Turn) -> None:
+    def _enter(self, turn: Turn, calls: Sequence[Call[Any]]) -> None:
         with self._lock:
             if self._refusal is not None:
                 raise copy.copy(self._refusal)
-            self._queue.extend(turn.calls)
+            self._queue.extend(calls)
             self._leader = self._leader or turn
 
     def _lead(self, turn: Turn) -> None:
@@ -155,8 +155,9 @@ class Turns:
             try:
                 outcomes = self._ask(self._asked)
             except Error as error:
+                later = copy.copy(error) if isinstance(error, Ended) else Broken(_CUT_OFF)
                 with self._lock:
-                    self._break(error, error if isinstance(error, Ended) else Broken(_CUT_OFF))
+                    self._break(error, later)
                 return
             self._hand_out(outcomes)
         with self._lock:
