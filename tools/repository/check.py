@@ -1,4 +1,4 @@
-"""Runs what the gate checks besides `rt ci`: documents, texts of refusals, rows, the version, the tools' programs and tests.
+"""Runs what the gate checks besides `rt ci`: documents, refusals, rows, the version, the tools' programs and tests.
 
 It needs `rt version` and Python's standard library. Each part runs, whatever the others say. The status is 1 if one
 fails.

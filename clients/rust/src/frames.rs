@@ -307,7 +307,7 @@ pub(crate) fn read_opening(from: &mut impl Read) -> Result<Result<Opened, Error>
     let frame = read_frame(from)?;
     let mut bytes = Bytes(&frame.content);
     let opening = match (frame.kind, frame.number) {
-        (OPEN, 0) => Ok(Opened { guid: bytes.u64()?, group: bytes.u64()?, replayed: bytes.u64()? }),
+        (OPEN, 0) => Ok(Opened { guid: bytes.u64()?, group: bytes.u64()?, records: bytes.u64()? }),
         (NOT_OPEN, number) => Err(bytes.no_opening(number)?),
         _ => return Err(Broken::BadAnswer),
     };
@@ -416,7 +416,7 @@ mod tests {
     fn the_worked_openings_are_read() {
         let open = bytes_of("24000000 0100 0400 00000000 4d00000000000000 0800000000000000 0000000000000000");
         let opened = read_opening(&mut &open[..]).unwrap().unwrap();
-        assert_eq!(opened, Opened { guid: 77, group: 8, replayed: 0 });
+        assert_eq!(opened, Opened { guid: 77, group: 8, records: 0 });
         let head = "4a000000 0100 0500 00000000 0000000000000000 0000000000000000 02000000 26000000";
         let missing = [bytes_of(head), b"No such file or directory (os error 2)".to_vec()].concat();
         match read_opening(&mut &missing[..]).unwrap() {

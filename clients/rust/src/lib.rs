@@ -78,7 +78,7 @@ pub enum Op<'a> {
 pub struct Opened {
     pub guid: u64,
     pub group: u64,
-    pub replayed: u64,
+    pub records: u64,
 }
 
 /// Where a transaction stands in the history since the pool was opened, and its group.
@@ -161,7 +161,7 @@ impl Pool {
     ///
     /// # Errors
     ///
-    /// `Refused`, and nothing took place. `FrameRefused(7)` if there are no operations.
+    /// `Refused`, and nothing took place: by `BadRange` also if there are no operations.
     pub fn transact(&self, ops: &[Op<'_>]) -> Result<Receipt, Error> {
         self.ask(Request::Transact(record::record(ops)?))?.receipt()
     }

@@ -3,10 +3,8 @@
 use crate::server::{self, Server};
 use crate::{Error, Pool, Refusal};
 use std::ffi::OsStr;
-use std::io::{self, Read};
-use std::os::unix::io::OwnedFd;
-use std::os::unix::net::UnixStream;
-use std::process::{Command, ExitStatus, Stdio};
+use std::io;
+use std::process::{Command, ExitStatus};
 use std::time::Duration;
 
 /// The most seconds that the program waits for a file.
@@ -98,6 +96,7 @@ pub struct CreateOptions {
     replace: bool,
     moment: Option<u64>,
     wait: Duration,
+    timeout: Option<Duration>,
 }
 
 impl CreateOptions {
@@ -123,13 +122,20 @@ impl CreateOptions {
         self
     }
 
+    /// How long the program may take, besides the time of [`wait`](CreateOptions::wait). There is no limit if none is
+    /// given.
+    pub fn timeout(&mut self, time: Duration) -> &mut CreateOptions {
+        self.timeout = Some(time);
+        self
+    }
+
     /// Runs `program create file name guid size`, and waits for its end.
     ///
     /// # Errors
     ///
     /// `Unusable` if the file is there already and not replaced, or can't be used. `Refused` by `BadGeometry` if no
-    /// pool may have the size, and by `BadRange` for the name. `NotCreated` if the program is no `ztxg`. `System` if
-    /// it can't be started.
+    /// pool may have the size, and by `BadRange` for the name. `NotCreated` if the program is no `ztxg`. `TimedOut`: the
+    /// program was killed, and the file may be there without a pool. `System` if it can't be started.
     pub fn create(
         &self,
         program: impl AsRef<OsStr>,
@@ -146,7 +152,8 @@ impl CreateOptions {
         add_number(&mut command, "--moment", self.moment);
         add_number(&mut command, "--wait", seconds_of(self.wait)?);
         command.arg("--").arg(file).arg(name).arg(guid.to_string()).arg(size.to_string());
-        let (status, text) = run(command)?;
+        let time = self.timeout.map(|timeout| timeout.saturating_add(self.wait));
+        let (status, text) = server::run(command, time)?;
         judge(status, text)
     }
 }
@@ -165,20 +172,6 @@ fn seconds_of(time: Duration) -> Result<Option<u64>, Error> {
         return Err(Error::out_of_bounds(Refusal::BadRange, cause));
     }
     Ok((seconds > 0).then_some(seconds))
-}
-
-/// Runs a command, and returns its status and all that it printed, by one socket for both of its streams.
-fn run(mut command: Command) -> Result<(Option<ExitStatus>, String), Error> {
-    let (mut ours, theirs) = UnixStream::pair().map_err(Error::System)?;
-    let other = theirs.try_clone().map_err(Error::System)?;
-    command.stdin(Stdio::null()).stdout(OwnedFd::from(other)).stderr(OwnedFd::from(theirs));
-    let mut process = command.spawn().map_err(Error::System)?;
-    drop(command); // it has the other end, so that the text would never end
-    let mut text = Vec::new();
-    let read = ours.read_to_end(&mut text);
-    let status = server::wait(&mut process)?;
-    read.map_err(Error::System)?;
-    Ok((status, String::from_utf8_lossy(&text).into_owned()))
 }
 
 /// What a `create` says by its status and its text: `docs/FORMATS.md`, "The program".

@@ -8,13 +8,12 @@ use crate::{Error, Op, Refusal, MAX_LENGTH, OBJECTS};
 const HEAD: usize = 22;
 const MAX_RECORD: usize = 65_536;
 const MAX_NAME: usize = 64;
-/// The number of a refused frame with a transaction that is no log record.
-const BAD_RECORD: u32 = 7;
 
 /// Operations as a log record, whose group and ordinal say nothing.
 pub(crate) fn record(ops: &[Op<'_>]) -> Result<Vec<u8>, Error> {
     if ops.is_empty() {
-        return Err(Error::FrameRefused(BAD_RECORD));
+        let cause = "a transaction of no operations: 1 at least".to_owned();
+        return Err(Error::out_of_bounds(Refusal::BadRange, cause));
     }
     let size = ops.iter().map(size_of).fold(HEAD, usize::saturating_add);
     if size > MAX_RECORD {

@@ -8,13 +8,15 @@ use std::io::{self, Read, Write};
 use std::net::Shutdown;
 use std::os::unix::io::OwnedFd;
 use std::os::unix::net::UnixStream;
-use std::process::{Child, Command, ExitStatus};
+use std::process::{Child, Command, ExitStatus, Stdio};
 use std::sync::Arc;
 use std::thread;
 use std::time::{Duration, Instant};
 
 /// What `waitpid` says of a child if the caller ignores SIGCHLD: the child has ended, and its status isn't known.
 const ECHILD: i32 = 10;
+/// How long a process may take to end if its pool isn't open.
+const GRACE: Duration = Duration::from_secs(1);
 /// How long a wait for the end of a process sleeps before it looks again: at first, and at most.
 const FIRST_SLEEP: Duration = Duration::from_millis(1);
 const LONGEST_SLEEP: Duration = Duration::from_millis(20);
@@ -40,9 +42,16 @@ impl Server {
         let deadline = self.timeout.and_then(|timeout| deadline_in(timeout.saturating_add(wait)));
         match frames::read_opening(&mut Timed { stream: &self.stream, deadline }) {
             Ok(Ok(opened)) => Ok(opened),
-            Ok(Err(error)) => self.end().and(Err(error)),
-            Err(Broken::Ended) => Err(Error::NoOpening(self.end()?)),
-            Err(broken) => self.kill().and(Err(broken.of_asked())),
+            Ok(Err(error)) => {
+                // How it ended adds nothing to why no pool is open.
+                let _ = self.end_by(deadline_in(GRACE));
+                Err(error)
+            }
+            Err(Broken::Ended) => Err(Error::NoOpening(self.end_by(deadline_in(GRACE)).unwrap_or(None))),
+            Err(broken) => {
+                kill(&mut self.process)?;
+                Err(broken.of_asked())
+            }
         }
     }
 
@@ -52,38 +61,61 @@ impl Server {
 
     /// Ends the input of the process, and waits for its end. After the timeout it is killed.
     pub(crate) fn end(&mut self) -> Result<Option<ExitStatus>, Error> {
-        let _ = self.stream.shutdown(Shutdown::Write); // it fails if the process is gone, as its status says
-        match self.timeout.and_then(deadline_in) {
-            None => wait(&mut self.process),
-            Some(deadline) => self.wait_until(deadline),
-        }
+        self.end_by(self.timeout.and_then(deadline_in))
     }
 
-    fn wait_until(&mut self, deadline: Instant) -> Result<Option<ExitStatus>, Error> {
-        let mut sleep = FIRST_SLEEP;
-        loop {
-            match self.process.try_wait() {
-                Ok(None) if Instant::now() >= deadline => return self.kill().and(Err(Error::TimedOut)),
-                Ok(None) => {}
-                ended => return status_of(ended),
-            }
-            thread::sleep(sleep);
-            sleep = LONGEST_SLEEP.min(2 * sleep);
-        }
-    }
-
-    fn kill(&mut self) -> Result<(), Error> {
-        // Only a process that wasn't waited for has this number for certain.
-        if let Ok(None) = self.process.try_wait() {
-            self.process.kill().map_err(Error::System)?;
-        }
-        wait(&mut self.process).map(drop)
+    fn end_by(&mut self, deadline: Option<Instant>) -> Result<Option<ExitStatus>, Error> {
+        // It fails if the process is gone, as its status says.
+        let _ = self.stream.shutdown(Shutdown::Write);
+        // The process waits until an answer that was cut off is read.
+        let _ = io::copy(&mut Timed { stream: &self.stream, deadline }, &mut io::sink());
+        wait(&mut self.process, deadline)
     }
 }
 
-/// Waits for the end of a process. Its status isn't known if the caller ignores SIGCHLD.
-pub(crate) fn wait(process: &mut Child) -> Result<Option<ExitStatus>, Error> {
-    status_of(process.wait().map(Some))
+/// Runs a command, and returns its status and all that it printed, by one socket for both of its streams. After the time
+/// it is killed.
+pub(crate) fn run(mut command: Command, time: Option<Duration>) -> Result<(Option<ExitStatus>, String), Error> {
+    let deadline = time.and_then(deadline_in);
+    let (ours, theirs) = UnixStream::pair().map_err(Error::System)?;
+    let other = theirs.try_clone().map_err(Error::System)?;
+    command.stdin(Stdio::null()).stdout(OwnedFd::from(other)).stderr(OwnedFd::from(theirs));
+    let mut process = command.spawn().map_err(Error::System)?;
+    drop(command); // it has the other end, so that the text would never end
+    let mut text = Vec::new();
+    let read = Timed { stream: &ours, deadline }.read_to_end(&mut text);
+    let status = wait(&mut process, deadline)?;
+    read.map_err(Error::System)?;
+    Ok((status, String::from_utf8_lossy(&text).into_owned()))
+}
+
+/// Waits for the end of a process, and kills it at the deadline. Its status isn't known if the caller ignores SIGCHLD.
+fn wait(process: &mut Child, deadline: Option<Instant>) -> Result<Option<ExitStatus>, Error> {
+    let deadline = match deadline {
+        Some(deadline) => deadline,
+        None => return status_of(process.wait().map(Some)),
+    };
+    let mut sleep = FIRST_SLEEP;
+    loop {
+        match process.try_wait() {
+            Ok(None) if Instant::now() >= deadline => {
+                kill(process)?;
+                return Err(Error::TimedOut);
+            }
+            Ok(None) => {}
+            ended => return status_of(ended),
+        }
+        thread::sleep(sleep);
+        sleep = LONGEST_SLEEP.min(2 * sleep);
+    }
+}
+
+fn kill(process: &mut Child) -> Result<(), Error> {
+    // Only a process that wasn't waited for has this number for certain.
+    if let Ok(None) = process.try_wait() {
+        process.kill().map_err(Error::System)?;
+    }
+    wait(process, None).map(drop)
 }
 
 fn status_of(waited: io::Result<Option<ExitStatus>>) -> Result<Option<ExitStatus>, Error> {

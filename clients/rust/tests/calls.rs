@@ -15,7 +15,7 @@ fn open() -> Pool {
 fn keep_limits(pool: &Pool) {
     let long = vec![7; 65_498];
     let write = |bytes| [Op::Write { object: 3, offset: 0, bytes }];
-    assert!(matches!(pool.transact(&[]), Err(Error::FrameRefused(7))));
+    assert_eq!(refusal(pool.transact(&[])), Some(Refusal::BadRange));
     let came = pool.transact(&write(&long));
     assert_eq!(refusal(came), Some(Refusal::TooLarge));
     pool.transact(&write(&long[1..])).unwrap();

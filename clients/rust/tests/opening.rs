@@ -2,7 +2,7 @@
 
 mod common;
 
-use common::{new_path, new_pool, program, refusal, signal, text, SIZE, WITH_PID};
+use common::{new_path, new_pool, program, refusal, signal, text, SILENT, SIZE, WITH_PID};
 use std::io::ErrorKind;
 use std::time::{Duration, Instant};
 use topzerad::{CreateOptions, Error, Op, Opened, Options, Pool, Refusal};
@@ -42,7 +42,7 @@ fn a_create_replaces_no_file_unless_it_is_told() {
 fn an_open_says_what_it_found() {
     let path = new_pool("found.pool");
     let pool = Pool::open(WITH_PID, &path).unwrap();
-    assert_eq!(pool.opened(), Opened { guid: 77, group: 8, replayed: 0 });
+    assert_eq!(pool.opened(), Opened { guid: 77, group: 8, records: 0 });
     pool.transact(&[Op::Create(1)]).unwrap();
     pool.transact_durably(&[Op::Create(2)]).unwrap();
     pool.transact(&[Op::Create(3)]).unwrap();
@@ -51,7 +51,7 @@ fn an_open_says_what_it_found() {
     assert!(matches!(pool.flush(), Err(Error::Ended)));
     assert!(matches!(pool.close(), Err(Error::BadEnd(_))));
     let pool = Pool::open(program(), &path).unwrap();
-    assert_eq!(pool.opened(), Opened { guid: 77, group: 8, replayed: 2 });
+    assert_eq!(pool.opened(), Opened { guid: 77, group: 8, records: 2 });
     assert_eq!(pool.objects(0, 9).unwrap().len(), 2);
     pool.close().unwrap();
 }
@@ -89,19 +89,37 @@ fn a_program_that_is_no_server_is_told() {
     assert_eq!(text("echo"), "the process answered what is no frame, or another call");
 }
 
-/// The process is stopped, so that it doesn't answer.
+#[test]
+fn a_program_that_says_nothing_is_ended() {
+    let time = Duration::from_millis(300);
+    assert!(matches!(Options::new().timeout(time).open(SILENT, "tank.pool"), Err(Error::TimedOut)));
+    let came = CreateOptions::new().timeout(time).create(SILENT, "tank.pool", "tank", 77, SIZE);
+    assert!(matches!(came, Err(Error::TimedOut)));
+}
+
+/// The process is stopped, so that it doesn't answer. If it goes on, what it answers late is read by the close: it is more
+/// than the socket has room for.
 #[test]
 fn a_process_that_does_not_answer_is_left() {
     let path = new_pool("stopped.pool");
     let timeout = Duration::from_secs(2);
-    let pool = Options::new().timeout(timeout).wait(Duration::from_secs(60)).open(WITH_PID, &path).unwrap();
-    pool.transact_durably(&[Op::Create(1)]).unwrap();
+    let mut options = Options::new();
+    // It may take longer to start than to answer.
+    options.timeout(timeout).wait(Duration::from_secs(60));
+    let pool = options.open(WITH_PID, &path).unwrap();
+    pool.transact(&[Op::Create(1)]).unwrap();
+    pool.write_long(1, 0, &vec![7; 1 << 20]).unwrap();
+    signal("STOP", &path);
+    assert!(matches!(pool.read(1, 0, 1 << 20), Err(Error::TimedOut)));
+    signal("CONT", &path);
+    assert!(matches!(pool.length(1), Err(Error::Broken)));
+    pool.close().unwrap();
+    let pool = options.open(WITH_PID, &path).unwrap();
     signal("STOP", &path);
     let begun = Instant::now();
     assert!(matches!(pool.flush(), Err(Error::TimedOut)));
     assert!(begun.elapsed() >= timeout);
-    assert!(matches!(pool.length(1), Err(Error::Broken)));
     assert!(matches!(pool.transact_many(&[[Op::Create(2)]])[..], [Err(Error::Broken)]));
     assert!(matches!(pool.close(), Err(Error::TimedOut)));
-    assert_eq!(Pool::open(program(), &path).unwrap().length(1).unwrap(), 0);
+    assert_eq!(Pool::open(program(), &path).unwrap().length(1).unwrap(), 1 << 20);
 }

@@ -9,6 +9,8 @@ use topzerad::{Error, Pool, Refusal};
 const STAND_IN: &str = concat!(env!("CARGO_MANIFEST_DIR"), "/../stand_in");
 /// Runs the program, and writes the number of its process to the file of the pool and `.pid`.
 pub const WITH_PID: &str = concat!(env!("CARGO_MANIFEST_DIR"), "/tests/with_pid");
+/// Says nothing, and does not end.
+pub const SILENT: &str = concat!(env!("CARGO_MANIFEST_DIR"), "/tests/silent");
 pub const SIZE: u64 = 8 << 20;
 
 pub fn program() -> OsString {
