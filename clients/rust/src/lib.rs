@@ -54,7 +54,7 @@ pub const OBJECTS: u32 = 5_292;
 /// The most bytes of an object.
 pub const MAX_LENGTH: u64 = 28_449_792;
 
-/// A write of [`Pool::write_long`] ends at a multiple of these bytes: 16 records of 4,032, so that none is written twice.
+/// A write of [`Pool::write_long`] ends at a multiple of these bytes: 16 records of 4,032. So none is written twice.
 const WRITE: u64 = 64_512;
 
 /// An operation of a transaction.

@@ -134,8 +134,8 @@ impl CreateOptions {
     /// # Errors
     ///
     /// `Unusable` if the file is there already and not replaced, or can't be used. `Refused` by `BadGeometry` if no
-    /// pool may have the size, and by `BadRange` for the name. `NotCreated` if the program is no `ztxg`. `TimedOut`: the
-    /// program was killed, and the file may be there without a pool. `System` if it can't be started.
+    /// pool may have the size, and by `BadRange` for the name. `NotCreated` if the program is no `ztxg`. `TimedOut`:
+    /// the program was killed, and the file may be there without a pool. `System` if it can't be started.
     pub fn create(
         &self,
         program: impl AsRef<OsStr>,

@@ -73,8 +73,8 @@ impl Server {
     }
 }
 
-/// Runs a command, and returns its status and all that it printed, by one socket for both of its streams. After the time
-/// it is killed.
+/// Runs a command, and returns its status and all that it printed, by one socket for both of its streams. It is killed
+/// after the time.
 pub(crate) fn run(mut command: Command, time: Option<Duration>) -> Result<(Option<ExitStatus>, String), Error> {
     let deadline = time.and_then(deadline_in);
     let (ours, theirs) = UnixStream::pair().map_err(Error::System)?;

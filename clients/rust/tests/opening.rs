@@ -97,7 +97,7 @@ fn a_program_that_says_nothing_is_ended() {
     assert!(matches!(came, Err(Error::TimedOut)));
 }
 
-/// The process is stopped, so that it doesn't answer. If it goes on, what it answers late is read by the close: it is more
+/// The process is stopped, so that it doesn't answer. If it goes on, its late answer is read by the close: it is more
 /// than the socket has room for.
 #[test]
 fn a_process_that_does_not_answer_is_left() {
