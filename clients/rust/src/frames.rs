@@ -226,19 +226,25 @@ impl Sizes {
     }
 }
 
-/// After a piece of a read: the read with the next piece, or all of its bytes.
-pub(crate) fn read_on(object: u32, low: u64, high: u64, mut read: Vec<u8>, piece: Vec<u8>) -> Result<Request, Vec<u8>> {
+/// What follows a piece of a read: the read with its next piece, or all of its bytes.
+pub(crate) enum Next {
+    Piece(Request),
+    End(Vec<u8>),
+}
+
+/// Adds a piece to the bytes of a read. A short one is the last.
+pub(crate) fn add_piece(object: u32, low: u64, high: u64, mut read: Vec<u8>, piece: Vec<u8>) -> Next {
     let end = end_of_piece(low, high);
-    let is_whole = piece.len() as u64 == PIECE;
+    let is_last = end == high || (piece.len() as u64) < PIECE;
     if read.is_empty() {
         read = piece;
     } else {
         read.extend_from_slice(&piece);
     }
-    if is_whole && end < high {
-        Ok(Request::Read { object, low: end, high, read })
+    if is_last {
+        Next::End(read)
     } else {
-        Err(read)
+        Next::Piece(Request::Read { object, low: end, high, read })
     }
 }
 

@@ -45,6 +45,7 @@ pub use options::{CreateOptions, Options};
 use frames::{Answer, Outcome, Request, Sizes};
 use server::{Connection, Server};
 use std::ffi::OsStr;
+use std::fmt;
 use std::mem;
 use turns::Turns;
 
@@ -333,5 +334,19 @@ impl Pool {
         } else {
             Err(Error::Forked)
         }
+    }
+}
+
+impl Drop for Pool {
+    fn drop(&mut self) {
+        if self.server.is_some() {
+            let _ = self.end();
+        }
+    }
+}
+
+impl fmt::Debug for Pool {
+    fn fmt(&self, f: &mut fmt::Formatter<'_>) -> fmt::Result {
+        f.debug_struct("Pool").field("opened", &self.opened).finish_non_exhaustive()
     }
 }

@@ -10,7 +10,7 @@
 //!    that are queued. A panic does so too. So no caller waits for one that is gone.
 
 use crate::error::Broken;
-use crate::frames::{self, Answer, Outcome, Request, Sizes};
+use crate::frames::{self, Answer, Next, Outcome, Request, Sizes};
 use crate::Error;
 use std::collections::{HashMap, VecDeque};
 use std::mem;
@@ -136,12 +136,12 @@ impl<E> State<E> {
         for (call, outcome) in calls.into_iter().zip(outcomes) {
             let outcome = match (call.request, outcome) {
                 (Request::Read { object, low, high, read }, Ok(Answer::Bytes(piece))) => {
-                    match frames::read_on(object, low, high, read, piece) {
-                        Ok(request) => {
+                    match frames::add_piece(object, low, high, read, piece) {
+                        Next::Piece(request) => {
                             self.waiting.push_front(Call { ticket: call.ticket, request });
                             continue;
                         }
-                        Err(bytes) => Ok(Answer::Bytes(bytes)),
+                        Next::End(bytes) => Ok(Answer::Bytes(bytes)),
                     }
                 }
                 (_, outcome) => outcome,
