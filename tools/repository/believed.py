@@ -7,7 +7,7 @@ but whether the table is as it should be.
 
 import re
 
-from tools import TOP
+from tools import TOP, Failed
 
 # By what they say. A file of `base` is named by its path below `specs`, one of another crate by the crate's name first.
 ROOTS = {
@@ -150,10 +150,14 @@ def add_arguments(parser):
 
 
 def main(check=False):
+    files = files_of_crates()
     roots = [root for those in ROOTS.values() for root in those]
+    for path, name in [*roots, *BETWEEN]:
+        if found_at(files, path, name) is None:
+            raise Failed(f"believed: {path} has no definition {name}")
     tables = {
         "what is said | definitions": "".join(root_rows()),
-        "file | definitions that the headline rests on": "".join(rows(files_of_crates(), roots)),
+        "file | definitions that the headline rests on": "".join(rows(files, roots)),
     }
     if not check:
         print("\n".join(tables.values()), end="")
