@@ -136,8 +136,8 @@ class Pool:
     def close(self) -> None:
         """Ends the process once it has synced the pool and answered the calls of other threads.
 
-        Raises `Ended` if the process ended otherwise, with its status and what it printed. After a timeout it is killed,
-        and `TimedOut` raised. The child of a fork lets the pool of its parent be.
+        Raises `Ended` if the process ended otherwise, with its status and what it printed. After the timeout it is
+        killed, and `TimedOut` is raised. In the child of a fork the parent's pool stays open.
         """
         if self._process.is_forked:
             self._process.leave()

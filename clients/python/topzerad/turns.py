@@ -7,8 +7,8 @@ While a leader waits for its answers, the next calls gather.
 A long read is made in pieces, each in a frame of its own. It is the last call of such a frame, and goes back to the
 front of the queue. So no call comes between its pieces, and its bytes are of one moment.
 
-An exception may come at any place of a thread, such as a `KeyboardInterrupt`. If the thread leads and its frame is under
-way, an answer may stay unread: then the connection is broken, and every call that waits raises."""
+An exception may come at any place of a thread, such as a `KeyboardInterrupt`. If the thread leads and its frame is
+under way, an answer may stay unread. Then the connection is broken, and every call that waits raises."""
 
 from __future__ import annotations
 
