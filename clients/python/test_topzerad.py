@@ -228,6 +228,9 @@ class Calls(OnPools):
                 (pool.write_long, 1, MAX_LENGTH, b"1"),
             ]:
                 self.assertIsInstance(self.refused(11, call, *words), ValueError)
+            for timeout in (0, -1, float("nan"), float("inf")):
+                self.refused(11, Pool, PROGRAM, self.path, timeout=timeout)
+            self.refused(11, Pool, PROGRAM, self.path, wait=86_401)
             self.refused(18, pool.transact, [write(1, 0, bytes(65_498))])
             self.refused(18, pool.transact_many, [[write(1, 0, b"1")], [create(2)] * 13_103])
             for ops in (create(1), [b"\1\0\0\0\0"]):

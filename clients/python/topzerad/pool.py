@@ -88,8 +88,9 @@ class Pool:
     - `moment`: a time in seconds, which the pool stores.
     - `wait`: for how many seconds, up to 86,400, it tries again while another process has the file.
 
-    `timeout` is how many seconds the process may take for an answer. There is no limit if it isn't given. A call whose
-    answer doesn't come in time raises `TimedOut`, and each later one `Broken`. An open may take `wait` seconds besides.
+    `timeout` is how many seconds, up to 86,400, the process may take for an answer. There is no limit if it isn't
+    given. A call whose answer doesn't come in time raises `TimedOut`, and each later one `Broken`. An open may take
+    `wait` seconds besides.
 
     A signal's handler must not make a call while its thread makes one: that is refused. An exception that a handler
     raises within a call breaks the connection: each later call raises `Broken`.

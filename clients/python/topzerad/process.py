@@ -39,14 +39,16 @@ def option_words(most: int = GREATEST, **options: Optional[int]) -> Iterator[str
 
 
 def checked_timeout(seconds: float) -> float:
-    if not seconds > 0:
-        raise bad_argument(f"timeout {seconds}: above 0")
+    if not 0 < seconds <= LONGEST_WAIT:
+        raise bad_argument(f"timeout {seconds}: above 0, up to {LONGEST_WAIT}")
     return seconds
 
 
 def not_started(program: Path, error: OSError) -> FileUnusable:
-    number = error.errno or 0
-    return unusable(number, f"the program can't be started: {os.strerror(number)}", os.fsdecode(program))
+    number, path = error.errno or 0, os.fsdecode(program)
+    cause = f"the program can't be started: {os.strerror(number)}"
+    # Without processes left the system says EAGAIN, which isn't that another one has a file.
+    return FileUnusable(number, cause, path) if number == errno.EAGAIN else unusable(number, cause, path)
 
 
 def described(status: Optional[int], said: str) -> str:
