@@ -261,23 +261,25 @@ class RefusedCalls(Judge):
             self.judge_output(f"an output that has room for {room} bytes", ran, status, whole[:room], durable)
 
     def judge_inputs(self):
-        """Streams that are closed, and an input that fails after some frames: its other end left a byte unread."""
+        """Streams that are closed, and an input that fails after some frames, or within one: its other end left a byte
+        unread."""
         server, frames = Server(), STREAM[:3]
         answers = [server.opening(), *map(server.answer, frames)]
         for closed, out in [("<&-", answers[0]), (">&-", b"")]:
             self.make()
             line = f"exec {shlex.join([self.ztxg, 'serve', self.file])} {closed}"
             self.judge_output(f"serve {closed}", program.run(["sh", "-c", line], (), SECONDS), 3, out)
-        self.make()
-        ours, theirs = socket.socketpair()
-        ours.sendall(b"".join(frames))
-        theirs.send(b"x")
-        ours.close()
-        with theirs:
-            words = [self.ztxg, "serve", self.file]
-            ended = subprocess.run(words, stdin=theirs, capture_output=True, timeout=SECONDS)
-        ran = Ran(ended.returncode, ended.stdout, ended.stderr)
-        self.judge_output("an input that fails", ran, 3, b"".join(answers), b"hello")
+        for count in (0, 2, 20):
+            self.make()
+            ours, theirs = socket.socketpair()
+            ours.sendall(b"".join(frames) + frames[0][:count])
+            theirs.send(b"x")
+            ours.close()
+            with theirs:
+                words = [self.ztxg, "serve", self.file]
+                ended = subprocess.run(words, stdin=theirs, capture_output=True, timeout=SECONDS)
+            ran = Ran(ended.returncode, ended.stdout, ended.stderr)
+            self.judge_output(f"an input that fails {count} bytes later", ran, 3, b"".join(answers), b"hello")
 
     def judge_pipes(self):
         """A pipe that is closed before the opening is written, and one after some bytes of the answers."""
