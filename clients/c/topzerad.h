@@ -176,10 +176,11 @@ int topzerad_create(const char *program, const char *path, const char *name, uin
 const char *topzerad_create_cause(void);
 
 /* Starts `program serve path` and waits until the pool is open. Returns 0; the refusal of the pool; TOPZERAD_SYSTEM
- * with errno if the file can't be used or the program can't be started (EAGAIN: another process has the file), or
- * TOPZERAD_UNUSABLE; TOPZERAD_TIMED_OUT; or TOPZERAD_NO_OPENING. A pool that failed to open needs no close, and
- * topzerad_cause says why it did. A program older than this library says nothing: set a timeout if it may be one.
- * The process has a process group of its own: a Ctrl-C that ends the caller lets it sync the pool. */
+ * with errno if the file can't be used or the program can't be started, or TOPZERAD_UNUSABLE; TOPZERAD_TIMED_OUT; or
+ * TOPZERAD_NO_OPENING. EAGAIN: another process has the file, or the system has no room for a process. A pool that
+ * failed to open needs no close, and topzerad_cause says why it did. A program older than this library says nothing:
+ * set a timeout if it may be one. The process has a process group of its own: a Ctrl-C that ends the caller lets it
+ * sync the pool. */
 int topzerad_open(topzerad *pool, const char *program, const char *path);
 /* The same with options, which may be NULL. TOPZERAD_BAD_RANGE if one is outside its limits. */
 int topzerad_open_options(topzerad *pool, const char *program, const char *path, const topzerad_options *options);
