@@ -41,12 +41,15 @@ def interrupt_after(seconds):
 
 
 @contextlib.contextmanager
-def stopped(pool):
-    """The process with the pool answers nothing meanwhile."""
+def stopped(pool, timeout=None):
+    """The process with the pool answers nothing meanwhile. The pool has this timeout then, and none before and after,
+    since a busy machine is slow."""
     os.kill(pool.pid, signal.SIGSTOP)
+    pool._process._timeout = timeout
     try:
         yield
     finally:
+        pool._process._timeout = None
         os.kill(pool.pid, signal.SIGCONT)
 
 
@@ -385,9 +388,9 @@ class Ends(OnPools):
                 self.assertEqual(outcome_of(call), topzerad.Broken)
 
     def test_a_timeout(self):
-        with self.open(timeout=0.5) as pool:
+        with self.open() as pool:
             pool.transact([create(1)])
-            with stopped(pool):
+            with stopped(pool, 0.5):
                 came = []
                 threads = [started(lambda: came.append(outcome_of(pool.length, 1))) for _ in range(3)]
                 for thread in threads:
@@ -395,10 +398,10 @@ class Ends(OnPools):
                 self.assertEqual(came.count(topzerad.TimedOut) + came.count(topzerad.Broken), 3)
                 self.assertIn(topzerad.TimedOut, came)
             self.assertEqual(outcome_of(pool.length, 1), topzerad.Broken)
-        pool = Pool(PROGRAM, self.path, timeout=0.5)
-        os.kill(pool.pid, signal.SIGSTOP)
-        with self.assertRaises(topzerad.TimedOut):
-            pool.close()
+        pool = Pool(PROGRAM, self.path)
+        with self.assertRaises(ProcessLookupError), stopped(pool, 0.5):
+            with self.assertRaises(topzerad.TimedOut):
+                pool.close()
         pool.close()
         self.assertEqual(outcome_of(pool.status), topzerad.Broken)
 
