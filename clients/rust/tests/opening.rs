@@ -78,8 +78,7 @@ fn an_open_that_fails_says_why() {
     let begun = Instant::now();
     assert_eq!(kind(options.open(program(), &path)), Some(ErrorKind::WouldBlock));
     assert!(begun.elapsed() > Duration::from_millis(900)); // a second is the least that the program waits
-    drop(pool);
-    Pool::open(program(), &path).unwrap().close().unwrap();
+    pool.close().unwrap();
 }
 
 #[test]
@@ -122,5 +121,8 @@ fn a_process_that_does_not_answer_is_left() {
     assert!(begun.elapsed() >= timeout);
     assert!(matches!(pool.transact_many(&[[Op::Create(2)]])[..], [Err(Error::Broken)]));
     assert!(matches!(pool.close(), Err(Error::TimedOut)));
+    let pool = options.open(WITH_PID, &path).unwrap();
+    signal("STOP", &path);
+    drop(pool); // it ends the process, too: the file is free
     assert_eq!(Pool::open(program(), &path).unwrap().length(1).unwrap(), 1 << 20);
 }
