@@ -102,7 +102,7 @@ fn a_program_that_says_nothing_is_ended() {
 #[test]
 fn a_process_that_does_not_answer_is_left() {
     let path = new_pool("stopped.pool");
-    let timeout = Duration::from_secs(2);
+    let timeout = Duration::from_secs(4); // long for an answer on a busy machine
     let mut options = Options::new();
     // It may take longer to start than to answer.
     options.timeout(timeout).wait(Duration::from_secs(60));
