@@ -1,2 +1,3 @@
+mod EntryForms
 mod HeldTrees
 mod JudgedLists

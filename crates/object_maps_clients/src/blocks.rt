@@ -1,6 +1,6 @@
 //! What callers rest on of the read of a block that a pointer names.
 
-ghost use Rattle.std.specs.Prelude.{◌≡◌, ◌<◌, ◌≤◌, IsTrue, OnOk, false, get_or};
+ghost use Rattle.std.specs.Prelude.{◌≡◌, ◌<◌, ◌≤◌, IsTrue, OnOk, false, get_or, length};
 ghost use Rattle.base.specs.declared.error.PoolError.TheVariants as error;
 ghost use Rattle.base.specs.disk.Disk.{bytes_of};
 ghost use Rattle.base.specs.formats.Fields.{number_at, part};
@@ -9,7 +9,7 @@ ghost use Rattle.base.specs.formats.Geometry.{block_address};
 use base::{Pointer, PoolError};
 use checked_blocks::{Block, Expected, Frame, Kind};
 use device_model::SectorDevice;
-use object_maps::{can_read, damaged, expected, payload_of, read_block};
+use object_maps::{can_read, damaged, expected, new_buffer, payload_of, read_block};
 use tree_blocks::BlockPlace;
 
 // A block whose head has another kind is not taken, also if the sealed block that was written there is at hand.
@@ -28,6 +28,13 @@ fn a_block_is_not_taken_for_a_sealed_one_with_other_bytes<D: SectorDevice>(
 {
     let place = BlockPlace::Data(0, 9);
     read_block(device, frame, place, pointer, Some(sealed), buffer)
+}
+
+// What is read into a new buffer is a whole block, whose payload has 4,032 bytes.
+fn a_new_buffer_has_room_for_a_payload() -> usize
+    ensures { result ≡ 4032 }
+{
+    payload_of(&new_buffer()).len()
 }
 
 // A block that was born after the newest group may not be read.

@@ -5,7 +5,9 @@
 mod blocks;
 mod cached;
 mod damages;
+mod forms;
 mod judged;
 mod loads;
+mod maps;
 mod reads;
 mod strips;

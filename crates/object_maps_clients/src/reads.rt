@@ -27,6 +27,22 @@ fn no_object_is_in_new_slots(alloc: Global) -> Result<bool, AllocError>
     Ok(slots[5_291].present)
 }
 
+// A slot that is made for no object has no length.
+fn no_object_is_in_an_empty_slot() -> Option<u64>
+    ensures { result ≡ None }
+{
+    Slot::empty().length()
+}
+
+// An object of two bytes has this length in its slot.
+fn a_slot_has_the_length_of_its_object(slot: &Slot) -> Option<u64>
+    requires present { slot.now.present ≡ true }
+    requires bytes { slot.now.bytes.value ≡ 1 ∷ 2 ∷ [] }
+    ensures { result ≡ Some 2 }
+{
+    slot.length()
+}
+
 // Contents have the name and the objects that they are made of.
 fn contents_have_the_objects_of_their_slots(name: PoolName, slots: Vec<Slot>) -> Contents
     requires count { vec_len slots ≡ object_count }

@@ -14,13 +14,22 @@ ghost use Rattle.tree_blocks.specs.Pointers.{strip_in};
 
 use base::{Pointer, PoolError, Told};
 use checked_blocks::Frame;
-use object_maps::{BlockReader, BytesView, read_top, strip_pointer, with_bytes, zero_bytes};
+use object_maps::{
+    BlockReader, BytesView, no_bytes, read_top, strip_pointer, with_bytes, zero_bytes,
+};
 
 // Bytes that are told at a place stand there.
 fn a_byte_is_told_in_its_place() -> Told<BytesView>
     ensures { result.value ≡ 0 ∷ 5 ∷ 0 ∷ [] }
 {
     with_bytes(&zero_bytes(3), 1, &[5])
+}
+
+// Bytes that are told where there were none are all that there are.
+fn no_byte_is_told_before_the_first() -> Told<BytesView>
+    ensures { result.value ≡ 5 ∷ [] }
+{
+    with_bytes(&no_bytes(), 0, &[5])
 }
 
 // The payload of a top has the pointer of each strip.
