@@ -1,6 +1,5 @@
 -- Which entries a directory of a version may have, and which pointers the block of a strip.
 use Rattle.std.proofs.Common.{◌≡◌, ℕ, ◌<◌, ◌≤◌, ◌⊎◌, inl, inr, List, refl, sym, ap, subst, ◌∙◌, arith, replicate}
-use Rattle.std.specs.Prelude.{◌≢◌}
 use Rattle.std.proofs.lemmas.Bool.{cases_eq}
 use Rattle.base.specs.declared.pointer.Pointer.{Pointer}
 use Rattle.base.specs.formats.Blocks.{Frame}
@@ -28,18 +27,18 @@ not_above_one_level frame entry one size (inr (later, form)) = let two = form.0 
 
 -- a directory whose last entry has two levels, if it has no other
 pub two_levels : (frame : Frame) (payload : List ℕ) → frame.version ≡ 2 → entry_present (entry_in payload 62) ≡ 2 → entry_length (entry_in payload 62) ≡ 338689
-    → (entry_pointer (entry_in payload 62)).address ≡ 4202496 → ((k : ℕ) → k ≢ 62 → entry_in payload k ≡ replicate 64 0)
+    → (entry_pointer (entry_in payload 62)).address ≡ 4202496 → ((k : ℕ) → k < 62 → entry_in payload k ≡ replicate 64 0)
     → (k : ℕ) → k < entry_count → IsEntryForm frame (entry_in payload k)
 two_levels frame payload second two size named others k low = elim (cases_eq k 62) [
   | inl last ↦ subst (λ (i : ℕ). IsEntryForm frame (entry_in payload i)) (sym last)
       (inr (omega (arith, second), (two, omega (arith, size, one_level-length), omega (arith, size), inr (λ none. omega (arith, named, none)))))
-  | inr other ↦ inl (inl (others k other))
+  | inr other ↦ inl (inl (others k (omega (arith, low, other))))
 ]
 
 -- the second strip of an object of 342,720 bytes, which has a pointer to its first record alone
-pub first_record_alone : (payload : List ℕ) → (pointer_in payload 0).address ≡ 4202496 → ((k : ℕ) → k ≢ 0 → pointer_in payload k ≡ no_pointer) → AreRecordForms 5299 342720 payload
+pub first_record_alone : (payload : List ℕ) → (pointer_in payload 0).address ≡ 4202496 → ((k : ℕ) → 0 < k → k < 84 → pointer_in payload k ≡ no_pointer) → AreRecordForms 5299 342720 payload
 first_record_alone payload named others k low = elim (cases_eq k 0) [
   | inl first ↦ subst (λ (i : ℕ). IsRecordPointerForm 342720 (record_start 5299 i) (pointer_in payload i)) (sym first)
       (λ before. inr (λ none. omega (arith, named, none)), λ past. absurd (omega (arith, past)))
-  | inr other ↦ (λ before. inl (others k other), λ past. others k other)
+  | inr other ↦ let none : pointer_in payload k ≡ no_pointer = others k (omega (arith, other)) low in (λ before. inl none, λ past. none)
 ]

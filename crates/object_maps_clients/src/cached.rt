@@ -18,7 +18,7 @@ ghost use Rattle.tree_blocks.specs.BlockPlaces.{place_of};
 
 use base::{Pointer, PoolError, RECORD_SIZE};
 use checked_blocks::{Block, Frame};
-use device_model::SectorDevice;
+use device_model::{Fault, MemDevice, SectorDevice};
 use object_maps::{
     BlockCache, BlockReader, CachedDevice, read_indirect, read_part, record_pointer,
 };
@@ -107,6 +107,14 @@ fn a_device_comes_back<D: SectorDevice>(device: D, cache: BlockCache) -> D
 {
     let (device, _) = CachedDevice::new(device, cache).into_parts();
     device
+}
+
+// A fault that is planned is one of the device, of its kind alone.
+fn a_planned_fault_is_one_of_the_device(device: &mut CachedDevice<MemDevice>)
+    ensures planned { (device_in device.new).read_fails ≡ 2 }
+    ensures no_other { (device_in device.new).write_fails ≡ (device_in device.old).write_fails }
+{
+    device.fail(Fault::Read, 2);
 }
 
 // What is forgotten stays on the device, and no entry is of it.

@@ -1,6 +1,6 @@
 //! What callers rest on of the plan of a group.
 
-ghost use Rattle.std.specs.Prelude.{ℕ, ◌≡◌, ◌≢◌, ◌≤◌, ◌∷◌, [], IfErr, IfOk, IsTrue, length, map};
+ghost use Rattle.std.specs.Prelude.{ℕ, ◌≡◌, ◌≢◌, ◌≤◌, ◌∷◌, [], IfErr, IfOk, IsTrue, None, Some, length, map, slice_get};
 ghost use Rattle.base.specs.declared.error.PoolError.TheVariants as error;
 ghost use Rattle.base.specs.common.Rising.{rising};
 ghost use Rattle.base.specs.formats.Geometry.{block_address, block_count};
@@ -8,7 +8,8 @@ ghost use Rattle.base.specs.disk.Disk.{bytes_of};
 ghost use Rattle.base.specs.kept.PlacedTrees.{ArePlaced};
 ghost use Rattle.object_maps.specs.ContentsShown.{contents_of};
 ghost use Rattle.tree_blocks.specs.Pointers.{pointers_of};
-ghost use Rattle.tree_plans.specs.Plans.{address_of};
+ghost use Rattle.tree_plans.specs.Plans.{AreApart, address_of};
+ghost use Rattle.tree_plans.specs.Pointers.{entry_of};
 ghost use Rattle.group_plans.specs.OldMaps.{HoldsTreeOf};
 
 use base::PoolError;
@@ -99,6 +100,49 @@ fn a_plan_leaves_the_disk<B: BlockReader>(
         (pointers_of source.now.tree.now) ∥₁ }
     requires keeps { IsTrue B.keeps_model }
     ensures { B.disk reader.new ≡ B.disk reader.old }
+{
+    plan_group(reader, before, source, records, extents, contents)
+}
+
+// A tree has no object 5,292: a plan has no entry for it.
+fn a_plan_has_entries_of_objects_alone<B: BlockReader>(
+    reader: &mut B,
+    before: &Frame,
+    source: &GroupSource<'_>,
+    records: &[Record],
+    extents: &Extents,
+    contents: &Contents,
+) -> Result<TreePlan, PoolError>
+    requires room { block_address before.now.blocks ≤ B.size reader.old }
+    requires area { before.now.blocks ≡ block_count source.now.geometry }
+    requires sized { source.now.free.now.blocks ≡ block_count source.now.geometry }
+    requires placed { ∥ ArePlaced (block_count source.now.geometry)
+        (pointers_of source.now.tree.now) ∥₁ }
+    ensures { IfOk result (λ p. entry_of p.entries.entries 5292 ≡ None) }
+{
+    plan_group(reader, before, source, records, extents, contents)
+}
+
+// If no two places of a tree that the device holds have blocks at one address, none comes back first and second.
+fn a_group_gives_no_block_back_twice<B: BlockReader>(
+    reader: &mut B,
+    before: &Frame,
+    source: &GroupSource<'_>,
+    records: &[Record],
+    extents: &Extents,
+    contents: &Contents,
+) -> Result<TreePlan, PoolError>
+    requires room { block_address before.now.blocks ≤ B.size reader.old }
+    requires area { before.now.blocks ≡ block_count source.now.geometry }
+    requires sized { source.now.free.now.blocks ≡ block_count source.now.geometry }
+    requires placed { ∥ ArePlaced (block_count source.now.geometry)
+        (pointers_of source.now.tree.now) ∥₁ }
+    requires keeps { IsTrue B.keeps_model }
+    requires held { HoldsTreeOf (bytes_of (B.disk reader.old).now) before.now
+        source.now.tree.now (contents_of contents.now).objects }
+    requires apart { AreApart (pointers_of source.now.tree.now) }
+    ensures { IfOk result (λ p. slice_get p.freed.items 0 ≡ Some 4194304
+        → slice_get p.freed.items 1 ≢ Some 4194304) }
 {
     plan_group(reader, before, source, records, extents, contents)
 }

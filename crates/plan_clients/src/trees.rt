@@ -7,12 +7,14 @@ ghost use Rattle.base.specs.declared.error.PoolError.{PoolError};
 ghost use Rattle.base.specs.declared.error.PoolError.TheVariants as error;
 ghost use Rattle.base.specs.declared.operation.Op.TheVariants as op;
 ghost use Rattle.base.specs.declared.record_state.RecordState.TheVariants as state;
+ghost use Rattle.base.specs.formats.Fields.{number_at};
 ghost use Rattle.base.specs.formats.Geometry.{block_count};
 ghost use Rattle.base.specs.history.Contents.{Contents, length_of};
 ghost use Rattle.base.specs.history.History.{apply_all};
 ghost use Rattle.base.specs.tree.Places.{strip_number};
 ghost use Rattle.base.specs.tree.Places.Place.{Data};
 ghost use Rattle.base.specs.tree.Syncs.{is_dirty};
+ghost use Rattle.tree_blocks.specs.declared.object_map.ObjectMap.{ObjectMap};
 ghost use Rattle.tree_blocks.specs.Lengths.{lengths_of, length_in};
 ghost use Rattle.transactions.specs.declared.record.Record.{Record};
 ghost use Rattle.tree_plans.specs.Changes.{AreBornBefore, AreInRange, is_changed_in, state_at, state_in};
@@ -24,11 +26,12 @@ ghost use Rattle.tree_plans.specs.Pointers.{entry_of, planned_lengths, pointers_
 ghost use Rattle.tree_plans.specs.TreePlans.{free_addresses, places_written};
 ghost use Rattle.tree_plans.specs.Walks.{is_any_touched};
 
-use base::{Group, ObjectId, PoolError, RecordState};
+use base::{Group, ObjectId, Pointer, PoolError, RecordState};
+use checked_blocks::Block;
 use std::alloc::Global;
 use std::collections::BTreeMap;
 use transactions::Record;
-use tree_blocks::ObjectEntry;
+use tree_blocks::{ObjectEntry, RecordPlace};
 use tree_plans::{ObjectChanges, PlanSource, SealedSource, TreePlan, changed_objects, plan};
 
 // A write of one byte makes its own record dirty, and no other.
@@ -283,4 +286,31 @@ fn a_replaced_block_comes_back_once<O: SealedSource>(
     ensures { IfOk result (λ p. IsDistinct nat_eq p.freed.items) }
 {
     plan(source, after, objects)
+}
+
+// Of the maps of objects 7 and 8, object 8 has the second one.
+fn an_object_has_its_own_map(source: &PlanSource<'_>) -> Pointer
+    requires { is_some (entry_of source.now.old_maps.now.entries 8) ≡ true }
+    ensures { (a b : ObjectMap) → source.now.old_maps.now.entries
+        ≡ (record { 0 = 7 }, a) ∷ (record { 0 = 8 }, b) ∷ [] → result ≡ b.top }
+{
+    source.old_map(ObjectId(8)).top
+}
+
+// The sealed block of record 2 of object 7 is data block 590 of the pool and of the group that are asked for.
+fn a_sealed_record_has_the_number_of_its_block<O: SealedSource>(
+    after: &O,
+) -> Result<Block, PoolError>
+    requires { O.has_record after.now 7 2 }
+    ensures kind { IfOk result (λ block. number_at block 0 ≡ 5) }
+    ensures guid { IfOk result (λ block. number_at block 8 ≡ 3) }
+    ensures group { IfOk result (λ block. number_at block 16 ≡ 6) }
+    ensures number { IfOk result (λ block. number_at block 24 ≡ 590) }
+{
+    let place = RecordPlace {
+        id: ObjectId(7),
+        strip: 0,
+        index: 2,
+    };
+    after.sealed_record(3, Group(6), place)
 }
