@@ -1,4 +1,4 @@
-use Rattle.std.proofs.Common.{◌≡◌, ◌<◌, ℕ, Option, None, Some, arith, refl}
+use Rattle.std.proofs.Common.{◌≡◌, ◌<◌, Option, None, Some, arith, refl}
 use Rattle.std.proofs.lemmas.Result.{IfOk-weaker}
 use Rattle.tree_plans.specs.Pointers.{entry_of}
 use Rattle.plan_clients.proofs.groups.a_plan_has_entries_of_objects_alone.Goals as goal
