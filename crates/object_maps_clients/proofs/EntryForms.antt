@@ -1,10 +1,9 @@
 -- Which entries a directory of a version may have, and which pointers the block of a strip.
-use Rattle.std.proofs.Common.{◌≡◌, ℕ, ◌<◌, ◌≤◌, ◌⊎◌, inl, inr, List, refl, sym, ap, subst, ◌∙◌, arith, replicate}
+use Rattle.std.proofs.Common.{◌≡◌, ℕ, ◌<◌, inl, inr, List, refl, sym, subst, arith, replicate}
 use Rattle.std.proofs.lemmas.Bool.{cases_eq}
-use Rattle.base.specs.declared.pointer.Pointer.{Pointer}
 use Rattle.base.specs.formats.Blocks.{Frame}
 use Rattle.base.specs.formats.Fields.{entry_in, entry_length, entry_pointer, entry_present, no_pointer, pointer_in}
-use Rattle.base.specs.formats.Limits.{entry_count, pointer_count}
+use Rattle.base.specs.formats.Limits.{entry_count}
 use Rattle.base.specs.tree.Damages.{IsEntryForm, IsRecordPointerForm}
 use Rattle.base.specs.tree.Places.{record_start}
 use Rattle.base.proofs.tree.Strips.{one_level-length}
