@@ -75,10 +75,8 @@ def judge_all(ztxg, file, image, lines):
 
 
 def judge_refused(ztxg, file, image, refused):
-    """How `show` and an import differ on an image that they refuse, or None. A line behind the refusal tells its cause,
-    which `commands` judges."""
-    found = run([ztxg, "show", file], seconds=SECONDS).in_lines()
-    if found._replace(errors=found.errors[:1]) != (1, [], [f"ztxg: {refused}"]):
+    """How `show` and an import differ on an image that they refuse, or None."""
+    if (found := run([ztxg, "show", file], seconds=SECONDS).in_lines()) != (1, [], [f"ztxg: {refused}"]):
         return f"show: {found}"
     return judge_refused_import(ztxg, file, image, refused)
 
