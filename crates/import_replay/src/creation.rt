@@ -2,6 +2,8 @@
 
 ghost use Rattle.std.specs.Prelude.{◌≡◌, ◌≤◌, IfErr, IfOk, IsTrue, List, MatchResult, OnOk, [], ℕ};
 ghost use Rattle.base.specs.disk.Calls.{with_refusal};
+ghost use Rattle.base.specs.history.Past.{new_past};
+ghost use Rattle.base.specs.kept.LeftDisks.{IsLeft};
 ghost use Rattle.base.specs.kept.Own.{IsOwnWith};
 ghost use Rattle.base.specs.disk.Disk.{Disk, HasEarlierWrites, bytes_of, moments};
 ghost use Rattle.base.specs.disk.DiskCalls.{MakesInOrder};
@@ -57,6 +59,9 @@ pub fn create<D: SectorDevice>(
         (D.size device) name.now guid moment (D.disk device) (D.disk d)) }
     ensures own { IsTrue D.keeps_model → IfOk result
         (λ d. IsOwnWith (D.disk d) (moments (D.disk device)) guid (first_contents name.now)) }
+    // A run in which nothing happened has left it: the first import goes on from there.
+    ensures left { IsTrue D.keeps_model → IfOk result (λ d. IsLeft
+        (new_past (first_contents name.now) (moments (D.disk device)) 0) (D.disk d)) }
     ensures outside { IsTrue D.keeps_model → MatchResult result
         (λ d. WritesPoolBytes (D.size device) (D.disk device) (D.disk d))
         (λ e. WritesPoolBytes (D.size device) (D.disk device) (D.disk e.1)) }

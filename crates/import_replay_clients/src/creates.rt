@@ -1,7 +1,9 @@
 //! What callers rest on of a create.
 
 ghost use Rattle.std.specs.Prelude.{◌≡◌, ◌≢◌, ◌<◌, ◌∷◌, [], IfErr, IfOk, IsErr, IsTrue, MatchResult, slice_index};
-ghost use Rattle.base.specs.disk.Disk.{bytes_of};
+ghost use Rattle.base.specs.disk.Disk.{bytes_of, moments};
+ghost use Rattle.base.specs.history.Past.{Past};
+ghost use Rattle.base.specs.kept.LeftDisks.{IsLeft};
 
 use base::PoolError;
 use device_model::SectorDevice;
@@ -45,6 +47,16 @@ fn a_create_leaves_what_lies_behind_the_labels<D: SectorDevice>(
         ≡ slice_index (bytes_of (D.disk device).now) 524288)
         (λ e. slice_index (bytes_of (D.disk e.1).now) 524288
         ≡ slice_index (bytes_of (D.disk device).now) 524288) }
+{
+    create(device, b"tank", 77, 0)
+}
+
+// A run of the pool that was just made has left it, and no transaction was committed in that: so an import goes on from
+// no objects, whatever the device held before the create.
+fn a_new_pool_has_no_history<D: SectorDevice>(device: D) -> Result<D, (PoolError, D)>
+    ensures { IsTrue D.keeps_model → IfOk result (λ d. (past : Past)
+        × (past.created ≡ moments (D.disk device)) × (past.base.name ≡ 116 ∷ 97 ∷ 110 ∷ 107 ∷ [])
+        × (past.entries ≡ []) × IsLeft past (D.disk d)) }
 {
     create(device, b"tank", 77, 0)
 }

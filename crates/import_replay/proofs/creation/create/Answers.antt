@@ -7,7 +7,7 @@ use Rattle.import_replay.specs.Creations.{IsNewPool, IsCreatedOn}
 use Rattle.import_replay.specs.Labelled.{IsLabelled}
 use Rattle.import_replay.specs.Outside.{WritesPoolBytes}
 use Rattle.import_replay.specs.OwnCreations.{IsFirstDisk, first_view}
-use Rattle.import_replay.proofs.OwnCreations.{own_from}
+use Rattle.import_replay.proofs.OwnCreations.{new_left, own_from}
 use Rattle.import_replay.proofs.OutsideWrites.{none_outside}
 use Rattle.import_replay.proofs.NewLabels.{created_from, new_pool_from, settled_from}
 use Rattle.import_replay.proofs.creation.create.Goals as goal
@@ -40,6 +40,11 @@ returns-in-Ok-initialize-clause-own g c = λ keeps.
     (g.met.D.SectorDevice.sized keeps c.initialize.new.device ∙ c.initialize.ensures.calls.size ∙ sym c.sectors.ensures.size ∙ sym c.in-Ok.ensures.size) (c.in-Ok-initialize.ensures.settled keeps)
     (subst (λ (l : List ℕ). IsLabelled size l c.args.guid c.args.moment (bytes_of now.now)) c.in-Some.ensures.name.0 (c.in-Ok-initialize.ensures.labels keeps))
     (subst (λ (l : List ℕ). IsFirstDisk size t (first_view l c.args.guid c.args.moment size) now) c.in-Some.ensures.name.0 (c.in-Ok-initialize.ensures.handed keeps))
+
+pub returns-in-Ok-initialize-clause-left : goal.returns-in-Ok-initialize-clause-left
+returns-in-Ok-initialize-clause-left g c = λ keeps.
+    let disk = g.D.SectorDevice.disk in
+    new_left c.args.name.now c.args.guid (disk c.args.device) (disk c.initialize.new.device) (returns-in-Ok-initialize-clause-own g c keeps)
 
 pub returns-in-Ok-initialize-clause-outside : goal.returns-in-Ok-initialize-clause-outside
 returns-in-Ok-initialize-clause-outside g c = λ keeps.

@@ -1,8 +1,7 @@
-use Rattle.import_replay.proofs.OwnCreations.{new_left}
 use Rattle.scripts.proofs.place.Place.create.Goals as goal
 
 pub returns-in-Ok-clause-kept : goal.returns-in-Ok-clause-kept
-returns-in-Ok-clause-kept g c = λ keep done. new_left c.args.name.now c.args.guid (g.D.SectorDevice.disk c.args.device) (g.D.SectorDevice.disk c.in-Ok.device) (c.in-Ok.ensures.own keep)
+returns-in-Ok-clause-kept g c = λ keep done. c.in-Ok.ensures.left keep
 
 pub returns-in-Ok-clause-creates : goal.returns-in-Ok-clause-creates
 returns-in-Ok-clause-creates g c = record { size = c.in-Ok.ensures.size; counted = c.in-Ok.ensures.count; written = λ keep. (c.in-Ok.ensures.created keep).written }
