@@ -18,7 +18,8 @@ use Rattle.base.specs.steps.Shown.{Shown}
 use Rattle.device_model.specs.declared.device.SectorDevice.{Ghosts}
 use Rattle.pool_core.specs.declared.state.PoolState.{PoolState}
 use Rattle.pool_core.specs.NewStates.{IsExplainedAtFirst, IsHeldAtFirst, first_past}
-use Rattle.pool_core.specs.States.{device_of, shown, told}
+use Rattle.pool_core.specs.States.{cache_room_of, device_of, shown, told}
+use Rattle.pool_threads.proofs.FreePools.{free_explained}
 use Rattle.pool_threads.specs.Handles.{IsReadyToOpen, OpensBehind, ShowsMounted, StartsBehind}
 use Rattle.pool_threads.specs.Views.{CrashRule, Explains, SeenPool, view_behind_disk, view_of}
 use Rattle.pool_threads.specs.Views.CrashRule.{Behind, NotFollowed}
@@ -44,9 +45,11 @@ module _ {Dev : Type 0} {G : Ghosts Dev} (p : PoolState Dev G) where
   }
 
   -- a view of this state shows it
-  pub shows_mounted : (past : Past) (rule : CrashRule) (m : Mounted) (d : Dev) (v : SeenPool) → v ≡ view_of p past rule → shown p ≡ shown_of_import m → device_of p ≡ d → ShowsMounted m (G.disk d) v
-  shows_mounted past rule m d v is same device = record {
+  pub shows_mounted : (past : Past) (rule : CrashRule) (m : Mounted) (cache_blocks : ℕ) (d : Dev) (v : SeenPool) → v ≡ view_of p past rule → shown p ≡ shown_of_import m → cache_room_of p ≡ cache_blocks → device_of p ≡ d
+      → ShowsMounted m cache_blocks (G.disk d) v
+  shows_mounted past rule m cache_blocks d v is same room device = record {
     shown = ap (λ (u : SeenPool). u.shown) is ∙ same;
+    cache_is = ap (λ (u : SeenPool). u.cache_room) is ∙ room;
     disk_is = ap (λ (u : SeenPool). u.disk) is ∙ ap G.disk device;
   }
 
@@ -80,8 +83,8 @@ module _ {Dev : Type 0} {G : Ghosts Dev} (old : Disk) (m : Mounted) (p : PoolSta
   first_contents : (shown p).contents ≡ contents_of m.contents
   first_contents = ap (λ (s : Shown). s.contents) shows
 
-  opens : OpensBehind (IsTrue G.keeps_model) old (limit_of m) behind
-  opens = record {
+  opens : Explains p behind → OpensBehind (IsTrue G.keeps_model) old (limit_of m) behind
+  opens explains = record {
     rule = refl;
     anew = ap (λ (n : ℕ). new_past (shown p).contents 0 n) (ap (λ (s : Shown). s.dirty_max) shows);
     shows = refl;
@@ -89,14 +92,16 @@ module _ {Dev : Type 0} {G : Ghosts Dev} (old : Disk) (m : Mounted) (p : PoolSta
         let f = left_flushed past old was in
         let start = (starts keeps).starts past.created f.guid f.contents f.own in
         subst (λ (c : Contents). IsLeftBy past c) (sym (first_contents ∙ start.contents_are)) f.left;
+    explained = λ keeps created follows. free_explained p behind created explains keeps follows;
   }
 
   -- so it is ready to be opened
-  pub ready_behind : (d : Dev) → device_of p ≡ d → (IsTrue G.keeps_model → disk_size (disk_of p) ≡ m.geometry) → BeginsSafe p → ∥ IsExplainedAtFirst (shown p) ∥₁ → ∥ (IsTrue G.keeps_model → IsHeldAtFirst (told p)) ∥₁
-      → IsReadyToOpen old m d p
-  ready_behind d device sized begins explained held = record {
+  pub ready_behind : (cache_blocks : ℕ) → cache_room_of p ≡ cache_blocks → (d : Dev) → device_of p ≡ d → (IsTrue G.keeps_model → disk_size (disk_of p) ≡ m.geometry) → BeginsSafe p → ∥ IsExplainedAtFirst (shown p) ∥₁ → ∥ (IsTrue G.keeps_model → IsHeldAtFirst (told p)) ∥₁
+      → IsReadyToOpen old m cache_blocks d p
+  ready_behind cache_blocks room d device sized begins explained held = record {
     explains = explained_behind sized begins explained held;
-    opens = opens;
+    opens = opens (explained_behind sized begins explained held);
     shown_is = shows;
+    cache_is = room;
     device_is = device;
   }

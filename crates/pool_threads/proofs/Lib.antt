@@ -36,3 +36,5 @@ pub mod FsyncedAll
 mod TransactLoops
 mod TransactsDurably
 mod Looped
+pub mod FreePools
+mod Finished

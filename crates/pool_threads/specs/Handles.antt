@@ -1,11 +1,12 @@
 -- What contracts say of a pool under its lock, and of its handles.
-use Rattle.std.specs.Prelude.{ℕ, ◌≡◌, ◌≤◌, ◌⊎◌, ◌+◌, ◌/◌, ◌++◌, IsTrue, List, [], ◌∷◌, length}
+use Rattle.std.specs.Prelude.{ℕ, ◌≡◌, ◌≤◌, ◌⊎◌, ◌+◌, ◌/◌, ◌++◌, IsTrue, List, [], ◌∷◌, length, true}
 use Rattle.base.specs.kept.CrashRule.{KeepsOwn}
-use Rattle.base.specs.kept.Imports.{IsImportOf}
+use Rattle.base.specs.kept.Imports.{IsImportOf, is_cache_allowed}
 use Rattle.base.specs.declared.error.PoolError.{PoolError}
 use Rattle.base.specs.declared.error.PoolError.TheVariants.{NoMemory}
 use Rattle.base.specs.disk.Disk.{Disk, bytes_of, certain}
 use Rattle.base.specs.history.Past.{Past, new_past}
+use Rattle.base.specs.steps.Explains as every
 use Rattle.base.specs.steps.Explains.{AreSafe, IsLeftBy}
 use Rattle.device_model.specs.declared.device.SectorDevice.{Ghosts}
 use Rattle.import_replay.specs.ImportRefusals.{IsReadingRefusal, IsReason, IsSyncRefusal}
@@ -16,7 +17,7 @@ use Rattle.import_replay.specs.RunStarts.{StartsRun}
 use Rattle.mounted.specs.declared.mounted.Mounted.{Mounted}
 use Rattle.pool_core.specs.declared.state.PoolState.{PoolState}
 use Rattle.pool_core.specs.KeptSafe.{disk_of}
-use Rattle.pool_core.specs.States.{device_of, shown}
+use Rattle.pool_core.specs.States.{cache_room_of, device_of, shown}
 use Rattle.pool_threads.specs.declared.handle.Handle.{Handle}
 use Rattle.pool_threads.specs.declared.handle.LastSeen.{LastSeen}
 use Rattle.pool_threads.specs.declared.opened.Opened.{Opened}
@@ -215,10 +216,15 @@ pub record StartsBehind (old : Disk) (m : Mounted) (new : Disk) : Type 0 where
   pub starts : StartsRun old (shown_of_import m).dirty_max new m
   pub own : KeepsOwn old new
 
--- the view shows what an import mounted, on this disk
-pub record ShowsMounted (m : Mounted) (disk : Disk) (v : SeenPool) : Type 0 where
+-- the view shows what an import mounted, with a cache of so many tree blocks, on this disk
+pub record ShowsMounted (m : Mounted) (cache_blocks : ℕ) (disk : Disk) (v : SeenPool) : Type 0 where
   pub shown : (viewed_state v).shown ≡ shown_of_import m
+  pub cache_is : v.cache_room ≡ cache_blocks
   pub disk_is : v.disk ≡ disk
+
+-- at most so many tree blocks that were read may stay in memory, a number that is allowed
+abbrev pub HasCacheOf : ℕ → SeenPool → Type 0
+HasCacheOf cache_blocks v = (is_cache_allowed cache_blocks ≡ true) × (v.cache_room ≡ cache_blocks)
 
 -- what is told of an import
 abbrev pub opened_of : Mounted → Opened
@@ -246,18 +252,20 @@ IsLeftByOpen moment old e new = IsLeftByRefused moment old e new ⊎ ((e ≡ NoM
 
 -- The view of a pool as it is imported from a disk: nothing happened since, and whichever run left the disk, the
 -- contents are what it left: the replay of a cut of its entries with every acknowledged one. From there on the crash
--- rule is followed.
+-- rule is followed, and one history explains the pool.
 pub record OpensBehind (keeps : Type 0) (old : Disk) (dirty_max : ℕ) (v : SeenPool) : Type 0 where
   pub rule : v.rule ≡ Behind old
   pub anew : v.past ≡ new_past v.past.base v.past.created dirty_max
   pub shows : (viewed_state v).shown.contents ≡ v.past.base
   pub left : keeps → (past : Past) → IsLeft past old → IsLeftBy past v.past.base
+  pub explained : keeps → (created : ℕ) → IsFollowed v.rule created → ∥ every.Explains (Unit {0}) v.disk (viewed_state v).shown (since created v.past) ∥₁
 
 -- The pool that an import of this disk gave, to be opened: the view of it in which nothing has happened since explains
--- it, and follows the crash rule after whichever run left the disk. It shows what was mounted, over the device that the
--- import left.
-pub record IsReadyToOpen {Dev : Type 0} {G : Ghosts Dev} (old : Disk) (m : Mounted) (device : Dev) (s : PoolState Dev G) : Type 0 where
+-- it, and follows the crash rule after whichever run left the disk. It shows what was mounted, with a cache of so many
+-- tree blocks, over the device that the import left.
+pub record IsReadyToOpen {Dev : Type 0} {G : Ghosts Dev} (old : Disk) (m : Mounted) (cache_blocks : ℕ) (device : Dev) (s : PoolState Dev G) : Type 0 where
   pub explains : Explains s (view_behind_disk s old)
   pub opens : OpensBehind (IsTrue G.keeps_model) old (shown_of_import m).dirty_max (view_behind_disk s old)
   pub shown_is : shown s ≡ shown_of_import m
+  pub cache_is : cache_room_of s ≡ cache_blocks
   pub device_is : device_of s ≡ device

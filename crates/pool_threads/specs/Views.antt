@@ -24,7 +24,7 @@ use Rattle.pool_core.specs.declared.state.PoolState.{PoolState}
 use Rattle.pool_tables.specs.Told.{held_with, state_with}
 use Rattle.pool_core.specs.KeptSafe.{IsKeptSafe, IsSafeStep, OnDisk, disk_of, on_disk}
 use Rattle.pool_core.specs.NewStates.{first_past}
-use Rattle.pool_core.specs.States.{shown, told}
+use Rattle.pool_core.specs.States.{cache_room_of, shown, told}
 use Rattle.pool_core.specs.StepReplies.{IsStep}
 use Rattle.base.specs.kept.LeftDisks.{GoesOnFrom, IsLeft}
 
@@ -41,13 +41,14 @@ IsFollowed NotFollowed created = ⊥
 IsFollowed (Since began) created = created ≡ began
 IsFollowed (Behind disk) created = ∥ ((past : Past) × (past.created ≡ created) × IsLeft past disk) ∥₁
 
--- What is seen of a pool: what it shows, with the past of its run, whether the run follows the crash rule, and the disk
--- of its device.
+-- What is seen of a pool: what it shows, with the past of its run, whether the run follows the crash rule, the disk of
+-- its device, and how many tree blocks that were read may stay in memory.
 pub record SeenPool : Type 0 where
   pub shown : Shown
   pub past : Past
   pub rule : CrashRule
   pub disk : Disk
+  pub cache_room : ℕ
 
 -- a past, of a pool whose create began at this moment
 abbrev pub since : ℕ → Past → Past
@@ -64,7 +65,7 @@ state_since created v = record { shown = v.shown; past = since created v.past }
 module _ {Dev : Type 0} {G : Ghosts Dev} where
   -- the view of a pool with this past
   abbrev pub view_of : PoolState Dev G → Past → CrashRule → SeenPool
-  view_of p past rule = record { shown = shown p; past = past; rule = rule; disk = disk_of p }
+  view_of p past rule = record { shown = shown p; past = past; rule = rule; disk = disk_of p; cache_room = cache_room_of p }
 
   -- the view of a pool in whose run nothing happened yet, after whichever run left this disk
   abbrev pub view_behind_disk : PoolState Dev G → Disk → SeenPool
@@ -163,7 +164,7 @@ abbrev pub blank_disk : Disk
 blank_disk = record { now = record { flushed = []; unflushed = []; kept = [] }; past = [] }
 
 abbrev pub blank_view : SeenPool
-blank_view = record { shown = no_pool; past = new_past no_contents 0 0; rule = NotFollowed; disk = blank_disk }
+blank_view = record { shown = no_pool; past = new_past no_contents 0 0; rule = NotFollowed; disk = blank_disk; cache_room = 0 }
 
 pub grows_same : (keeps : Type 0) (v : SeenPool) → GrowsTo keeps v v
 grows_same keeps v = record { goes_on = ∣ ([], [], refl) ∣₁; on = λ _. starts (λ m. Unit {0}) v.disk tt; rule = refl }

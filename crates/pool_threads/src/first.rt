@@ -36,7 +36,8 @@ pub(crate) fn state_behind<D: SectorDevice>(
 ) -> PoolState<D>
     requires { IsTrue D.keeps_model → StartsBehind (D.disk before.now.value)
         imported.mounted (D.disk imported.device) }
-    ensures { IsReadyToOpen (D.disk before.now.value) imported.mounted imported.device result }
+    ensures { IsReadyToOpen (D.disk before.now.value) imported.mounted imported.cache.cap
+        imported.device result }
 {
     PoolState::new(imported)
 }

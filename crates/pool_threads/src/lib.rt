@@ -12,7 +12,7 @@
 //!
 //! As each step is made under the pool's lock, other threads wait for a write or a flush.
 //!
-//! [`LastSeen`], [`OwnedPool`], [`PoolRule`], [`PoolView`] and the two functions are for proofs.
+//! [`LastSeen`], [`OwnedPool`], [`PoolRule`], [`PoolView`] and the functions are for proofs.
 //!
 //! # Examples
 //!
@@ -74,6 +74,9 @@ pub use pool::Pool;
 
 // For proofs.
 pub use handle::LastSeen;
-pub use laws::{stepped_pools_are_explained, stepped_pools_are_safe, stopped_pools_are_left};
+pub use laws::{
+    finished_pools_are_left, free_pools_are_explained, stepped_pools_are_explained,
+    stepped_pools_are_safe, stopped_pools_are_left,
+};
 pub use owned::OwnedPool;
 pub use rule::{PoolRule, PoolView};

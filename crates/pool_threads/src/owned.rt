@@ -43,13 +43,13 @@ impl<D: SectorDevice> OwnedPool<D> {
         ensures opened { IfOk result
             (λ p. OpensBehind (IsTrue D.keeps_model) (D.disk before.now.value)
             (shown_of_import imported.mounted).dirty_max (opening_view (owned_of p.0))) }
-        ensures shown { IfOk result (λ p. ShowsMounted imported.mounted (D.disk imported.device)
-            (opening_view (owned_of p.0))) }
+        ensures shown { IfOk result (λ p. ShowsMounted imported.mounted imported.cache.cap
+            (D.disk imported.device) (opening_view (owned_of p.0))) }
         ensures first { IfOk result (λ p. IsFirstSeen (owned_of p.0) p.1) }
         ensures moment { IfOk result (λ p. moment_in (owned_of p.0) ≡ moment) }
         ensures refused { IfErr result (λ e. e.0 ≡ PoolError.NoMemory) }
         ensures given_back { IfErr result (λ e. IsReadyToOpen (D.disk before.now.value)
-            imported.mounted imported.device e.1) }
+            imported.mounted imported.cache.cap imported.device e.1) }
     {
         OwnedPool::of_state(state_behind(imported, before), moment, before)
     }

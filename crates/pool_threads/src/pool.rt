@@ -26,14 +26,14 @@ pub struct Pool<D: SectorDevice> {
 }
 
 impl<D: SectorDevice> Pool<D> {
-    ghost use Rattle.std.specs.Prelude.{◌≡◌, ◌⊎◌, IfErr, IfOk, IfSome, IsSome, IsTrue, true};
-    ghost use Rattle.base.specs.kept.Imports.{are_limits_allowed, is_cache_allowed, is_dirty_max_allowed};
+    ghost use Rattle.std.specs.Prelude.{◌≡◌, ◌⊎◌, IfErr, IfOk, IfSome, IsSome, IsTrue};
+    ghost use Rattle.base.specs.kept.Imports.{are_limits_allowed, is_dirty_max_allowed};
     ghost use Rattle.base.specs.disk.Calls.{with_refusal};
     ghost use Rattle.import_replay.specs.ImportRefusals.{IsImportRefusal};
     ghost use Rattle.mounted.specs.ShownMounted.{shown_of_import};
     ghost use Rattle.pool_core.specs.States.{device_of, shown};
     ghost use Rattle.pool_threads.specs.Finishes.{Finishes};
-    ghost use Rattle.pool_threads.specs.Handles.{IsLastState, IsLaterState, IsLeftByOpen, IsNewHandle, IsReadyToOpen, LeavesSame, OpensBehind, ShowsImport, ShowsMounted, StartsBehind, WasOf, kin_left, moment_in, opened_in, opened_of, opening_view, shared_of};
+    ghost use Rattle.pool_threads.specs.Handles.{HasCacheOf, IsLastState, IsLaterState, IsLeftByOpen, IsNewHandle, IsReadyToOpen, LeavesSame, OpensBehind, ShowsImport, ShowsMounted, StartsBehind, WasOf, kin_left, moment_in, opened_in, opened_of, opening_view, shared_of};
     ghost use Rattle.pool_threads.specs.Views.{Explains, SeenPool};
 
     /// Opens the pool on a device, as often as one likes: this is the way in for a program. It keeps at most 256 tree
@@ -50,6 +50,7 @@ impl<D: SectorDevice> Pool<D> {
             (λ p. ShowsImport moment (D.disk device) (opened_in p)
             (opening_view (shared_of p))) }
         ensures moment { IfOk result (λ p. moment_in (shared_of p) ≡ moment) }
+        ensures cache { IfOk result (λ p. HasCacheOf 256 (opening_view (shared_of p))) }
         ensures refused { IfErr result (λ e. IsImportRefusal (D.size device)
             (is_dirty_max_allowed dirty_max) e.0) }
         ensures counted { IfErr result
@@ -92,7 +93,7 @@ impl<D: SectorDevice> Pool<D> {
             (λ p. ShowsImport moment (D.disk device) (opened_in p)
             (opening_view (shared_of p))) }
         ensures moment { IfOk result (λ p. moment_in (shared_of p) ≡ moment) }
-        ensures cache { IfOk result (λ _. is_cache_allowed cache_blocks ≡ true) }
+        ensures cache { IfOk result (λ p. HasCacheOf cache_blocks (opening_view (shared_of p))) }
         ensures refused { IfErr result (λ e. IsImportRefusal (D.size device)
             (are_limits_allowed dirty_max cache_blocks) e.0) }
         ensures counted { IfErr result
@@ -160,6 +161,10 @@ impl<D: SectorDevice> Pool<D> {
     /// Syncs all that was committed, and gives the device back, with the group that is synced. No handle lives any more
     /// then. The moment, in seconds, is stored in the uberblocks of this sync.
     ///
+    /// For proofs: a sync of the last state returned this, and it left a state that is reached by steps, too. If the
+    /// crash rule was followed, each crash of the device leaves a cut of that history with every acknowledged entry,
+    /// also if the sync was refused (`finished_pools_are_left`).
+    ///
     /// # Errors
     /// Those of `PoolState::sync_open_group`, with the device. What was acknowledged is on it: open the pool again. It
     /// is `NotReady` if a transaction is open, since no handle is left to end it, or if the open group is 2^60.
@@ -212,8 +217,8 @@ impl<D: SectorDevice> Pool<D> {
     /// # Errors
     /// `NoMemory` if there is none for the lock. The state then comes back.
     pub fn share(imported: Imported<D>, moment: u64) -> Result<Pool<D>, (PoolError, PoolState<D>)>
-        ensures shown { IfOk result (λ p. ShowsMounted imported.mounted (D.disk imported.device)
-            (opening_view (shared_of p))) }
+        ensures shown { IfOk result (λ p. ShowsMounted imported.mounted imported.cache.cap
+            (D.disk imported.device) (opening_view (shared_of p))) }
         ensures told { IfOk result (λ p. opened_in p ≡ opened_of imported.mounted) }
         ensures moment { IfOk result (λ p. moment_in (shared_of p) ≡ moment) }
         ensures refused { IfErr result (λ e. (e.0 ≡ PoolError.NoMemory)
@@ -243,13 +248,13 @@ impl<D: SectorDevice> Pool<D> {
         ensures opened { IfOk result
             (λ p. OpensBehind (IsTrue D.keeps_model) (D.disk before.now.value)
             (shown_of_import imported.mounted).dirty_max (opening_view (shared_of p))) }
-        ensures shown { IfOk result (λ p. ShowsMounted imported.mounted (D.disk imported.device)
-            (opening_view (shared_of p))) }
+        ensures shown { IfOk result (λ p. ShowsMounted imported.mounted imported.cache.cap
+            (D.disk imported.device) (opening_view (shared_of p))) }
         ensures told { IfOk result (λ p. opened_in p ≡ opened_of imported.mounted) }
         ensures moment { IfOk result (λ p. moment_in (shared_of p) ≡ moment) }
         ensures refused { IfErr result (λ e. e.0 ≡ PoolError.NoMemory) }
         ensures given_back { IfErr result (λ e. IsReadyToOpen (D.disk before.now.value)
-            imported.mounted imported.device e.1) }
+            imported.mounted imported.cache.cap imported.device e.1) }
     {
         let opened = Opened::of(&imported.mounted);
         let state = state_behind(imported, before);

@@ -1,4 +1,5 @@
 pub mod AnswerClients
+pub mod CrashClients
 pub mod FetchClients
 pub mod LongWriteClients
 pub mod LoopClients

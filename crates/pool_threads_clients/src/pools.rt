@@ -1,25 +1,26 @@
 //! What callers rest on of the calls that make a pool and its handles.
 
-ghost use Rattle.std.specs.Prelude.{◌≡◌, IfSome, IsSome, IsTrue, ◌+◌, [], List, Ok, length};
+ghost use Rattle.std.specs.Prelude.{◌≡◌, IfSome, IsSome, IsTrue, ◌+◌, [], ℕ, List, Ok, length};
 ghost use Rattle.import_replay.specs.ImportSyncs.{IsImportSynced};
 ghost use Rattle.mounted.specs.ShownMounted.{shown_of_import};
 ghost use Rattle.mounted.specs.declared.mounted.Mounted.{Mounted};
 ghost use Rattle.pool_threads.specs.Handles.{OpensBehind, StartsBehind, WasOf, kin_left, opening_view, owned_of, shared_of, kin_of, moment_in, moment_of, taken_by, turns_of, view_seen};
-ghost use Rattle.pool_threads.specs.Views.{Explains, GrowsTo, SeenPool, viewed_state};
+ghost use Rattle.pool_threads.specs.Views.{Explains, GrowsTo, IsFollowed, SeenPool, since, viewed_state};
 ghost use Rattle.word_lock.specs.Seats.{seen};
 ghost use Rattle.base.specs.kept.LeftDisks.{IsLeft};
 ghost use Rattle.base.specs.tree.Mount.{IsChainOf, records_above};
-ghost use Rattle.base.specs.disk.Disk.{bytes_of};
+ghost use Rattle.base.specs.disk.Disk.{bytes_of, moments};
 ghost use Rattle.base.specs.formats.Chain.{LogPiece};
 ghost use Rattle.base.specs.formats.Uberblocks.{IsActive, Uberblock};
 ghost use Rattle.base.specs.history.Past.{Past};
-ghost use Rattle.base.specs.steps.Explains.{IsLeftBy};
+ghost use Rattle.base.specs.steps.Explains as every;
+ghost use Rattle.base.specs.steps.Explains.{AreSafe, IsLeftBy};
 ghost use Rattle.pool_threads.specs.Finishes.{SyncsAtEnd};
 ghost use Rattle.pool_threads.specs.Views.CrashRule.{Behind};
 
 use base::{Group, PoolError};
 use device_model::SectorDevice;
-use import_replay::Imported;
+use import_replay::{Imported, create};
 use pool_core::PoolState;
 use pool_threads::{Handle, LastSeen, Opened, OwnedPool, Pool};
 use std::alloc::Global;
@@ -84,6 +85,29 @@ where
     }
 }
 
+// Two tree blocks that were read may stay in memory, as its caller says.
+fn an_open_pool_has_its_cache<D: SectorDevice>(alloc: Global, device: D) -> Option<Pool<D>>
+where
+    D: Drop,
+    ensures { IfSome result (λ p. (opening_view (shared_of p)).cache_room ≡ 2) }
+{
+    match Pool::open_with(alloc, device, 1_048_576, 2, 7) {
+        Ok(pool) => Some(pool),
+        Err(_) => None,
+    }
+}
+
+fn an_open_pool_lets_256_blocks_stay<D: SectorDevice>(alloc: Global, device: D) -> Option<Pool<D>>
+where
+    D: Drop,
+    ensures { IfSome result (λ p. (opening_view (shared_of p)).cache_room ≡ 256) }
+{
+    match Pool::open(alloc, device, 1_048_576, 7) {
+        Ok(pool) => Some(pool),
+        Err(_) => None,
+    }
+}
+
 fn an_open_pool_follows_the_crash_rule<D: SectorDevice>(alloc: Global, device: D) -> Option<Pool<D>>
 where
     D: Drop,
@@ -91,6 +115,26 @@ where
         (opening_view (shared_of p))) }
 {
     match Pool::open(alloc, device, 1_048_576, 7) {
+        Ok(pool) => Some(pool),
+        Err(_) => None,
+    }
+}
+
+// From the create that made it, whatever the device held before: no run is asked for.
+fn one_history_explains_a_new_pool<D: SectorDevice>(alloc: Global, device: D) -> Option<Pool<D>>
+where
+    D: Drop,
+    ensures followed { IsTrue D.keeps_model → IfSome result
+        (λ p. IsFollowed (opening_view (shared_of p)).rule (moments (D.disk device))) }
+    ensures explained { IsTrue D.keeps_model → IfSome result
+        (λ p. ∥ every.Explains (Unit {0}) (opening_view (shared_of p)).disk
+        (viewed_state (opening_view (shared_of p))).shown
+        (since (moments (D.disk device)) (opening_view (shared_of p)).past) ∥₁) }
+{
+    let Ok(made) = create(device, b"tank", 77, 0) else {
+        return None;
+    };
+    match Pool::open(alloc, made, 1_048_576, 0) {
         Ok(pool) => Some(pool),
         Err(_) => None,
     }
@@ -246,6 +290,21 @@ where
     match pool.finish(7) {
         Ok(finished) => Some(finished),
         Err(_) => None,
+    }
+}
+
+// With every entry that was acknowledged, if the pool followed the crash rule, also if its last sync was refused.
+fn a_finished_pool_leaves_its_history<D: SectorDevice>(pool: Pool<D>) -> Option<D>
+where
+    D: Drop,
+    ensures { IsTrue D.keeps_model → (created : ℕ)
+        → IsFollowed (opening_view (shared_of pool)).rule created
+        → IfSome result (λ d. ∥ ((past : Past) × (past.created ≡ created)
+        × AreSafe (D.disk d) past × IsLeft past (D.disk d)) ∥₁) }
+{
+    match pool.finish(7) {
+        Ok((_, device)) => Some(device),
+        Err((_, device)) => device,
     }
 }
 

@@ -10,5 +10,5 @@ returns g c =
     let old = disk c.args.before.now.value in
     let m = c.args.imported.mounted in
     let given = c.new.ensures in
-    ready_behind old m c.new.result (λ keeps. subst (λ d. StartsBehind old m (disk d)) (sym given.device) (c.requires keeps)) given.shown c.args.imported.device given.device
+    ready_behind old m c.new.result (λ keeps. subst (λ d. StartsBehind old m (disk d)) (sym given.device) (c.requires keeps)) given.shown c.args.imported.cache.cap given.cache c.args.imported.device given.device
     (λ keeps. ap (λ d. disk_size (disk d)) given.device ∙ g.met.D.SectorDevice.sized keeps c.args.imported.device ∙ c.args.imported.sized) given.safe given.explained given.held

@@ -15,7 +15,7 @@ pub returns-clause-shown : goal.returns-clause-shown
 returns-clause-shown g c =
     let ready = c.state_behind.ensures in
     if_ok _ _ c.of_state.result c.of_state.ensures.opening
-    (λ p is. shows_mounted c.state_behind.result _ _ _ _ _ is ready.shown_is ready.device_is)
+    (λ p is. shows_mounted c.state_behind.result _ _ _ _ _ _ is ready.shown_is ready.cache_is ready.device_is)
 
 pub returns-clause-refused : goal.returns-clause-refused
 returns-clause-refused g c = if_err _ _ c.of_state.result c.of_state.ensures.refused (λ e given. given.0)
@@ -23,4 +23,4 @@ returns-clause-refused g c = if_err _ _ c.of_state.result c.of_state.ensures.ref
 pub returns-clause-given_back : goal.returns-clause-given_back
 returns-clause-given_back g c =
     if_err _ _ c.of_state.result c.of_state.ensures.refused
-    (λ e given. subst (IsReadyToOpen _ _ _) (sym given.1) c.state_behind.ensures)
+    (λ e given. subst (IsReadyToOpen _ _ _ _) (sym given.1) c.state_behind.ensures)

@@ -38,6 +38,9 @@ returns-in-Ok-share_after-clause-imported g c = λ keeps. let m = c.in-Ok.import
   shown = c.in-Ok-share_after.ensures.shown.shown;
 }
 
+pub returns-in-Ok-share_after-clause-cache : goal.returns-in-Ok-share_after-clause-cache
+returns-in-Ok-share_after-clause-cache g c = (c.in-Ok.ensures.cache.0, c.in-Ok-share_after.ensures.shown.cache_is ∙ c.in-Ok.ensures.cache.1)
+
 pub returns-in-Err-clause-given_back : goal.returns-in-Err-clause-given_back
 returns-in-Err-clause-given_back g c = λ keeps. inl (record { reason = c.in-Err.ensures.refused.reason keeps; unchanged = c.in-Err.ensures.refused.unchanged keeps; stopped = c.in-Err.ensures.refused.stopped keeps })
 

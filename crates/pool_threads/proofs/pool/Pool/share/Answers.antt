@@ -8,7 +8,7 @@ new-requires g c κs t = (t, explained_at_first c.new-state.result c.new-state.e
 pub returns-clause-shown : goal.returns-clause-shown
 returns-clause-shown g c =
     if_ok _ _ c.new.result c.new.ensures.opening
-    (λ p is. shows_mounted c.new-state.result _ _ _ _ _ is c.new-state.ensures.shown c.new-state.ensures.device)
+    (λ p is. shows_mounted c.new-state.result _ _ _ _ _ _ is c.new-state.ensures.shown c.new-state.ensures.cache c.new-state.ensures.device)
 
 pub returns-clause-told : goal.returns-clause-told
 returns-clause-told g c = if_ok _ _ c.new.result c.new.ensures.told (λ p is. is ∙ c.of-opened.ensures)

@@ -16,7 +16,7 @@ pub returns-clause-shown : goal.returns-clause-shown
 returns-clause-shown g c =
     let ready = c.state_behind-state.ensures in
     if_ok _ _ c.with_view.result c.with_view.ensures.opening
-    (λ p is. shows_mounted c.state_behind-state.result _ _ _ _ _ (is ∙ c.view_behind-first.ensures) ready.shown_is ready.device_is)
+    (λ p is. shows_mounted c.state_behind-state.result _ _ _ _ _ _ (is ∙ c.view_behind-first.ensures) ready.shown_is ready.cache_is ready.device_is)
 
 pub returns-clause-told : goal.returns-clause-told
 returns-clause-told g c = if_ok _ _ c.with_view.result c.with_view.ensures.told (λ p is. is ∙ c.of-opened.ensures)
@@ -27,4 +27,4 @@ returns-clause-refused g c = if_err _ _ c.with_view.result c.with_view.ensures.r
 pub returns-clause-given_back : goal.returns-clause-given_back
 returns-clause-given_back g c =
     if_err _ _ c.with_view.result c.with_view.ensures.refused
-    (λ e given. subst (IsReadyToOpen _ _ _) (sym given.1) c.state_behind-state.ensures)
+    (λ e given. subst (IsReadyToOpen _ _ _ _) (sym given.1) c.state_behind-state.ensures)
