@@ -78,7 +78,7 @@ module _ {R P : Type 0} (G : mounted.Ghosts P MemState R) (Plans : Fault → ℕ
 
   -- if a pool is there after an import, it is what the import mounted
   pub mount_found : (s new : Session R MemState P) (device : MemState) → s.place ≡ Device device → (dirty_max cache_blocks : ℕ) (told : Result Answer BadCommand) (pool : P) → new.place ≡ Pool pool
-      → Does G Plans (command.Import dirty_max cache_blocks) s told new → (a : Answer) × IsMountedBy ghosts G.mounts dirty_max s.moment device pool a
+      → Does G Plans (command.Import dirty_max cache_blocks) s told new → (a : Answer) × IsMountedBy ghosts G.mounts dirty_max cache_blocks s.moment device pool a
   mount_found s new device was dirty_max cache_blocks (Ok told) pool is taken = (
     told,
     subst (λ (p : Place MemState P). Imports ghosts G dirty_max cache_blocks s.moment device told p) is

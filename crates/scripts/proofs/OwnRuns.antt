@@ -53,9 +53,9 @@ module _ {Dev : Type 0} {V : Ghosts Dev} (keep : IsTrue V.keeps_model) where
   goes_safely = by_command IsStepOf Goes goes_nowhere goes_onward (λ s. Unit {0}) goes_by_one (λ s. tt) open_plan
 
   -- what an import gave begins a run after each that left its disk
-  pub begins_run : (past : Past) (old : Disk) (m : Mounted) (device : Dev) (pool : PoolState Dev V) → IsLeft past old → StartsBehind old m (V.disk device) → disk_size (V.disk device) ≡ m.geometry
-      → IsImportedPool device m pool → ∥ IsHeldAtFirst (told pool) ∥₁ → BeginsSafe pool → ∥ BeginsRun past (shown_of_import m).dirty_max pool ∥₁
-  begins_run past old m device pool was starts sized imported held begins =
+  pub begins_run : (past : Past) (old : Disk) (m : Mounted) (cache_blocks : ℕ) (device : Dev) (pool : PoolState Dev V) → IsLeft past old → StartsBehind old m (V.disk device) → disk_size (V.disk device) ≡ m.geometry
+      → IsImportedPool device m cache_blocks pool → ∥ IsHeldAtFirst (told pool) ∥₁ → BeginsSafe pool → ∥ BeginsRun past (shown_of_import m).dirty_max pool ∥₁
+  begins_run past old m cache_blocks device pool was starts sized imported held begins =
       let same : device ≡ device_of pool = sym imported.device_is in
       let limit : ℕ = (shown_of_import m).dirty_max in
       let keeps_it : KeepsOwn old (V.disk (device_of pool)) = subst (λ (d : Dev). KeepsOwn old (V.disk d)) same starts.own in

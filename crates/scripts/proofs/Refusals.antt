@@ -1,4 +1,4 @@
--- A create of a good size and name is refused by the device alone, and an import has the limit that it was given.
+-- A create of a good size and name is refused by the device alone, and an import has the limits that it was given.
 use Rattle.std.proofs.Common.{◌≡◌, ◌∙◌, ℕ, List, inl, inr, refl, sym, ap, subst}
 use Rattle.std.specs.Prelude.{◌⊎◌, true, Result, Ok, Err, is_ok}
 use Rattle.std.proofs.lemmas.Bool.{false≢true}
@@ -13,7 +13,7 @@ use Rattle.device_model.specs.contracts.memory.MemDeviceSectorDevice.TheImpl.{gh
 use Rattle.device_model.specs.declared.fault.Fault.{Fault}
 use Rattle.import_replay.specs.CreateRefusals.{IsCreateRefusal}
 use Rattle.mounted.specs.declared.mounted.Mounted.{Mounted}
-use Rattle.pool_core.specs.States.{shown}
+use Rattle.pool_core.specs.States.{cache_room_of, shown}
 use Rattle.script_lines.specs.declared.answer.Answer.{Answer}
 use Rattle.script_lines.specs.declared.answer.Answer.TheVariants as answer
 use Rattle.script_lines.specs.declared.command.Command.TheVariants as command
@@ -46,10 +46,17 @@ good_create name guid moment old (answer.Reply (Refused e)) (Device new) sized n
 good_create name guid moment old told new sized named none = absurd none
 
 module _ {R : Type 0} (G : mounted.Ghosts MemPool MemState R) (Plans : Fault → ℕ → MemPool → MemPool → Type 0)
-    (is_imported : (old device : MemState) (m : Mounted) (moment : ℕ) (pool : MemPool) → G.mounts old device m moment pool → IsImportedPool device m pool) where
+    (is_imported : (old device : MemState) (m : Mounted) (cache_blocks moment : ℕ) (pool : MemPool) → G.mounts old device m cache_blocks moment pool → IsImportedPool device m cache_blocks pool) where
   pub import_limit : (dirty_max cache_blocks : ℕ) (old new : Session R MemState MemPool) (told : Result Answer BadCommand) (pool : MemPool) → is_ok told ≡ has_device old.place → has_device old.place ≡ true
       → Does G Plans (command.Import dirty_max cache_blocks) old told new → new.place ≡ Pool pool → (shown pool).dirty_max ≡ dirty_max
   import_limit dirty_max cache_blocks old new (Err e) pool answered there does is = absurd (false≢true (answered ∙ there))
   import_limit dirty_max cache_blocks old new (Ok told) pool answered there does is =
       let by = subst (λ (p : Place MemState MemPool). Imports ghosts G dirty_max cache_blocks old.moment does.0 told p) is does.2.0 in
-      ap (λ s. s.dirty_max) (is_imported does.0 by.device by.mounted old.moment pool by.mounts).shown_is ∙ by.imported.limit
+      ap (λ s. s.dirty_max) (is_imported does.0 by.device by.mounted cache_blocks old.moment pool by.mounts).shown_is ∙ by.imported.limit
+
+  pub import_cache : (dirty_max cache_blocks : ℕ) (old new : Session R MemState MemPool) (told : Result Answer BadCommand) (pool : MemPool) → is_ok told ≡ has_device old.place → has_device old.place ≡ true
+      → Does G Plans (command.Import dirty_max cache_blocks) old told new → new.place ≡ Pool pool → cache_room_of pool ≡ cache_blocks
+  import_cache dirty_max cache_blocks old new (Err e) pool answered there does is = absurd (false≢true (answered ∙ there))
+  import_cache dirty_max cache_blocks old new (Ok told) pool answered there does is =
+      let by = subst (λ (p : Place MemState MemPool). Imports ghosts G dirty_max cache_blocks old.moment does.0 told p) is does.2.0 in
+      (is_imported does.0 by.device by.mounted cache_blocks old.moment pool by.mounts).cache_is

@@ -14,7 +14,7 @@ use Rattle.scripts.specs.declared.shared_pool.SharedPool.{SharedPool}
 
 abbrev pub of_own : (R : Type 0) → Ghosts MemPool MemState R
 of_own R = record {
-  mounts = λ before device m moment pool. IsImportedPool device m pool;
+  mounts = λ before device m cache_blocks moment pool. IsImportedPool device m cache_blocks pool;
   refuses = λ e. ⊥;
   gives = λ pool device. device ≡ device_of pool;
   asks = Asks IsStepOf open_plan;
@@ -26,7 +26,7 @@ of_own R = record {
 
 abbrev pub of_shared : (W : Type 0) → Ghosts SharedPool MemState W
 of_shared W = record {
-  mounts = λ before device m moment shared. IsMountShared before.disk device.disk m moment shared;
+  mounts = λ before device m cache_blocks moment shared. IsMountShared before.disk device.disk m cache_blocks moment shared;
   refuses = λ e. e ≡ NoMemory;
   gives = IsDeviceIn;
   asks = AsksShared W;

@@ -56,9 +56,9 @@ run_left past shared device run is =
     subst (λ (d : MemState). IsLeft past d.disk) (sym is.device_is) (subst (λ (p : Past). IsLeft p (device_of is.state).disk) run.seen_is cuts.left))
 
 -- an import of what a run left begins one
-pub begins_shared : (earlier : Past) (dirty_max : ℕ) (old left : Disk) (mounted : Mounted) (moment : ℕ) (shared : SharedPool) → IsLeft earlier old → (shown_of_import mounted).dirty_max ≡ dirty_max
-    → IsMountShared old left mounted moment shared → BeginsShared earlier dirty_max shared
-begins_shared earlier dirty_max old left mounted moment shared was limit m =
+pub begins_shared : (earlier : Past) (dirty_max : ℕ) (old left : Disk) (mounted : Mounted) (cache_blocks moment : ℕ) (shared : SharedPool) → IsLeft earlier old → (shown_of_import mounted).dirty_max ≡ dirty_max
+    → IsMountShared old left mounted cache_blocks moment shared → BeginsShared earlier dirty_max shared
+begins_shared earlier dirty_max old left mounted cache_blocks moment shared was limit m =
     let o : OpensBehind (IsTrue true) old dirty_max (view_in shared) =
     subst (λ (v : SeenPool). OpensBehind (IsTrue true) old dirty_max v) (sym m.first.seen) (subst (λ (n : ℕ). OpensBehind (IsTrue true) old n (opening_view (owned_of shared.pool))) limit m.opened) in
     record {

@@ -71,13 +71,13 @@ module _ {Dev : Type 0} (V : Ghosts Dev) where
   CreatesOn name guid moment old (answer.Reply (Refused e)) (Device new) = IsLeftByCreate name old e new
   CreatesOn name guid moment old told new = ⊥
 
-  -- what an import with this limit and moment mounted of a device is this pool, and the answer says so
-  pub record IsMountedBy {P : Type 0} (Mounts : Dev → Dev → Mounted → ℕ → P → Type 0) (dirty_max moment : ℕ) (old : Dev) (pool : P) (told : Answer) : Type 0 where
+  -- what an import with these limits and this moment mounted of a device is this pool, and the answer says so
+  pub record IsMountedBy {P : Type 0} (Mounts : Dev → Dev → Mounted → ℕ → ℕ → P → Type 0) (dirty_max cache_blocks moment : ℕ) (old : Dev) (pool : P) (told : Answer) : Type 0 where
     pub device : Dev
     pub mounted : Mounted
     pub imported : IsImportRun dirty_max moment old device mounted
     pub told_is : told ≡ imported_answer mounted.group mounted.records
-    pub mounts : Mounts old device mounted moment pool
+    pub mounts : Mounts old device mounted cache_blocks moment pool
 
   -- the import is refused so, or it is not, and its mount is
   abbrev pub IsLeftByMount : (PoolError → Type 0) → (dirty_max cache_blocks moment : ℕ) → Dev → PoolError → Dev → Type 0

@@ -20,7 +20,7 @@ use Rattle.device_model.specs.declared.fault.Fault.{Fault}
 use Rattle.mounted.specs.ShownMounted.{shown_of_import}
 use Rattle.mounted.specs.declared.mounted.Mounted.{Mounted}
 use Rattle.pool_core.specs.KeptSafe.{IsKeptSafe, IsSafeStep, on_disk}
-use Rattle.pool_core.specs.States.{device_of, shown, told}
+use Rattle.pool_core.specs.States.{cache_room_of, device_of, shown, told}
 use Rattle.pool_core.specs.Turns.{MakesStep}
 use Rattle.pool_core.specs.declared.state.PoolState.{PoolState}
 
@@ -33,9 +33,10 @@ module _ {Dev : Type 0} {V : Ghosts Dev} where
   abbrev pub open_plan : TxId → PoolState Dev V → Option (List Shape)
   open_plan tx p = option_map (λ (a : Admission). a.plan) (transaction_of tx.0 (shown p))
 
-  -- the pool stands on this device, and is shown as what was mounted
-  pub record IsImportedPool (device : Dev) (mounted : Mounted) (pool : PoolState Dev V) : Type 0 where
+  -- the pool stands on this device, with a cache of so many tree blocks, and is shown as what was mounted
+  pub record IsImportedPool (device : Dev) (mounted : Mounted) (cache_blocks : ℕ) (pool : PoolState Dev V) : Type 0 where
     pub device_is : device_of pool ≡ device
+    pub cache_is : cache_room_of pool ≡ cache_blocks
     pub shown_is : shown pool ≡ shown_of_import mounted
 
   -- A run begins with contents that the run before it left: the replay of a cut of its entries with every acknowledged

@@ -53,7 +53,7 @@ module _ {R Dev P : Type 0} (V : sector.Ghosts Dev) (G : mounted.Ghosts P Dev R)
   abbrev pub Imports : ℕ → ℕ → ℕ → Dev → Answer → Place Dev P → Type 0
   Imports dirty_max cache_blocks moment old told Nothing = ⊥
   Imports dirty_max cache_blocks moment old told (Device new) = IsImportRefused dirty_max cache_blocks moment old told new
-  Imports dirty_max cache_blocks moment old told (Pool pool) = IsMountedBy V G.mounts dirty_max moment old pool told
+  Imports dirty_max cache_blocks moment old told (Pool pool) = IsMountedBy V G.mounts dirty_max cache_blocks moment old pool told
 
   -- so it does with the device that is taken, and a run keeps it
   abbrev pub ImportsIn : ℕ → ℕ → ℕ → Place Dev P → Answer → Place Dev P → Type 0

@@ -47,11 +47,12 @@ pub record IsDeviceIn (shared : SharedPool) (device : MemState) : Type 0 where
   pub ends : EndsIn (owned_of shared.pool) state (view_in shared)
   pub history : IsTurnHistory (GrowsTo (IsTrue true)) (opening_view (owned_of shared.pool)) (seat_number shared.last.seat) (turns shared.last.seat) (view_in shared)
 
--- a pool that shows what was mounted of this disk, on the new one, is opened after it, with this moment of its syncs;
--- no transaction has begun, and its only handle has seen just that and had no turn
-pub record IsMountShared (old new : Disk) (mounted : Mounted) (moment : ℕ) (shared : SharedPool) : Type 0 where
+-- a pool that shows what was mounted of this disk, on the new one, is opened after it, with a cache of so many tree
+-- blocks, and with this moment of its syncs; no transaction has begun, and its only handle has seen just that and had no
+-- turn
+pub record IsMountShared (old new : Disk) (mounted : Mounted) (cache_blocks moment : ℕ) (shared : SharedPool) : Type 0 where
   pub opened : OpensBehind (IsTrue true) old (shown_of_import mounted).dirty_max (opening_view (owned_of shared.pool))
-  pub shown : ShowsMounted mounted new (opening_view (owned_of shared.pool))
+  pub shown : ShowsMounted mounted cache_blocks new (opening_view (owned_of shared.pool))
   pub moment_is : moment_in (owned_of shared.pool) ≡ moment
   pub first : IsFirstSeen (owned_of shared.pool) shared.last
   pub no_plans : shared.plans.plans.items ≡ []

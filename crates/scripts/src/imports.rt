@@ -26,6 +26,7 @@ pub(crate) fn import_for_mount<D: SectorDevice>(
         IsImportRun D.SectorDevice dirty_max moment device p.0.device p.0.mounted) }
     ensures answer { IfOk result (λ p.
         p.1 ≡ imported_answer p.0.mounted.group p.0.mounted.records) }
+    ensures cache { IfOk result (λ p. p.0.cache.cap ≡ cache_blocks) }
     ensures starts { IsTrue D.keeps_model → IfOk result (λ p.
         StartsBehind (D.disk device) p.0.mounted (D.disk p.0.device)) }
     ensures refused { IfErr result (λ e.

@@ -22,9 +22,9 @@ use std::alloc::Global;
 
 /// A pool that a session mounts on a device of this kind. Its calls wait by an `R`, if they wait.
 pub trait MountedPool<D: SectorDevice, R>: Drop {
-    /// The pool stands for what an import mounted, which was handed the first device and left the second. Its later
-    /// syncs carry the moment.
-    ghost mounts: { D → D → Mounted → ℕ → Self → Type 0 };
+    /// The pool stands for what an import mounted, which was handed the first device and left the second. So many tree
+    /// blocks that were read may stay in memory, and its later syncs carry the moment.
+    ghost mounts: { D → D → Mounted → ℕ → ℕ → Self → Type 0 };
 
     /// How a mount may be refused.
     ghost refuses: { PoolError → Type 0 };
@@ -61,7 +61,7 @@ pub trait MountedPool<D: SectorDevice, R>: Drop {
         moment: u64,
     ) -> Result<(Self, Answer), (PoolError, D)>
         ensures mounted { IfOk result (λ p.
-            IsMountedBy D.SectorDevice mounts dirty_max moment device p.0 p.1) }
+            IsMountedBy D.SectorDevice mounts dirty_max cache_blocks moment device p.0 p.1) }
         ensures begun { IsTrue D.keeps_model → IfOk result (λ p. (past : Past)
             → left past (D.disk device) → ∥ begins past dirty_max p.0 ∥₁) }
         ensures refused { IfErr result (λ e.

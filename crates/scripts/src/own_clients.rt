@@ -5,7 +5,7 @@ ghost use Rattle.std.specs.Prelude.{◌≡◌, ◌≢◌, ◌⊎◌, true, None,
 ghost use Rattle.base.specs.declared.error.PoolError.TheVariants as error;
 ghost use Rattle.base.specs.declared.step.Reply.TheVariants as reply;
 ghost use Rattle.base.specs.declared.step.Step.TheVariants.{CloseGroup, StartSync};
-ghost use Rattle.pool_core.specs.States.{device_of, shown};
+ghost use Rattle.pool_core.specs.States.{cache_room_of, device_of, shown};
 ghost use Rattle.scripts.specs.OwnPools.{IsStepOf, MemPool};
 ghost use Rattle.scripts.specs.declared.place.Place.TheVariants as place;
 ghost use Rattle.scripts.specs.Places.{AsksIn, has_device, has_pool};
@@ -24,6 +24,17 @@ fn an_import_has_its_limit(session: &mut OwnSession<'_>) -> Result<Answer, BadCo
     requires { has_device session.old.place ≡ true }
     ensures { (pool : MemPool) → session.new.place ≡ place.Pool pool
         → (shown pool).dirty_max ≡ 2097152 }
+{
+    session.run(Command::Import {
+        dirty_max: 2_097_152,
+        cache_blocks: 2,
+    })
+}
+
+// As many tree blocks may stay in memory as its line says.
+fn an_import_has_its_cache(session: &mut OwnSession<'_>) -> Result<Answer, BadCommand>
+    requires { has_device session.old.place ≡ true }
+    ensures { (pool : MemPool) → session.new.place ≡ place.Pool pool → cache_room_of pool ≡ 2 }
 {
     session.run(Command::Import {
         dirty_max: 2_097_152,

@@ -21,7 +21,8 @@ impl<R> MountedPool<MemDevice, R> for PoolState<MemDevice> {
     ghost use Rattle.scripts.specs.OwnPools.{BeginsRun, IsImportedPool, IsMadeSafely, IsStepOf, open_plan};
     ghost use Rattle.scripts.specs.PoolSteps.{Asks};
 
-    ghost mounts = { λ before device mounted moment pool. IsImportedPool device mounted pool };
+    ghost mounts = { λ before device mounted cache_blocks moment pool.
+        IsImportedPool device mounted cache_blocks pool };
 
     ghost refuses = { λ e. ⊥ };
 
@@ -75,7 +76,8 @@ impl<F: SectorFile + Drop, R> MountedPool<FileDevice<F>, R> for PoolState<FileDe
     ghost use Rattle.scripts.specs.OwnPools.{BeginsRun, IsImportedPool, IsMadeSafely, IsStepOf, open_plan};
     ghost use Rattle.scripts.specs.PoolSteps.{Asks};
 
-    ghost mounts = { λ before device mounted moment pool. IsImportedPool device mounted pool };
+    ghost mounts = { λ before device mounted cache_blocks moment pool.
+        IsImportedPool device mounted cache_blocks pool };
 
     ghost refuses = { λ e. ⊥ };
 

@@ -162,7 +162,7 @@ fn an_import_without_a_limit_is_a_bad_range<'r, W: Wait>(
 }
 
 // An imported pool follows the crash rule of what its device held. Its disk is the one that the import left, which
-// wrote the session's moment.
+// wrote the session's moment, and its cache has room for the blocks that the command says.
 fn an_import_keeps_the_crash_rule_and_the_moment<'r, W: Wait>(
     session: &mut SharedSession<'r, W>,
 ) -> Result<Answer, BadCommand>
@@ -174,6 +174,9 @@ fn an_import_keeps_the_crash_rule_and_the_moment<'r, W: Wait>(
         → session.old.place ≡ place.Device device → session.new.place ≡ place.Pool shared
         → (mounted : Mounted)
         × IsImportSynced device.disk (view_in shared).disk 77 mounted }
+    ensures cache { (device : MemState) (shared : SharedPool)
+        → session.old.place ≡ place.Device device → session.new.place ≡ place.Pool shared
+        → (opening_view (owned_of shared.pool)).cache_room ≡ 2 }
 {
     session.run(Command::Import {
         dirty_max: 2_097_152,

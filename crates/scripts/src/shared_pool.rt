@@ -47,8 +47,8 @@ impl<W: Wait> MountedPool<MemDevice, W> for SharedPool {
     ghost use Rattle.scripts.specs.SharedRuns.{BeginsShared, GoesSafely, IsRunOf};
     ghost use Rattle.std.proofs.Math.Logic.{∥∥₁_map};
 
-    ghost mounts = { λ before device mounted moment pool.
-        IsMountShared before.disk device.disk mounted moment pool };
+    ghost mounts = { λ before device mounted cache_blocks moment pool.
+        IsMountShared before.disk device.disk mounted cache_blocks moment pool };
 
     ghost refuses = { λ e. e ≡ NoMemory };
 
@@ -157,8 +157,8 @@ fn open(
     requires { StartsBehind before.now.value.disk imported.mounted imported.device.disk }
     ensures opened { IfOk result (λ p. OpensBehind (IsTrue true) before.now.value.disk
         (shown_of_import imported.mounted).dirty_max (opening_view (owned_of p.0))) }
-    ensures shown { IfOk result (λ p. ShowsMounted imported.mounted imported.device.disk
-        (opening_view (owned_of p.0))) }
+    ensures shown { IfOk result (λ p. ShowsMounted imported.mounted imported.cache.cap
+        imported.device.disk (opening_view (owned_of p.0))) }
     ensures first { IfOk result (λ p. IsFirstSeen (owned_of p.0) p.1) }
     ensures moment { IfOk result (λ p. moment_in (owned_of p.0) ≡ moment) }
     ensures refused { IfErr result

@@ -16,16 +16,16 @@ returns-in-Ok-open-clause-mounted g c =
       mounted = c.in-Ok.found.0.mounted;
       imported = c.in-Ok.ensures.run;
       told_is = c.in-Ok.ensures.answer;
-      mounts = rw (← c.of-before.ensures) (record { opened = it.opened; shown = it.shown; moment_is = it.moment; first = it.first; no_plans = c.new-plans.ensures.none });
+      mounts = rw (← c.of-before.ensures, ← c.in-Ok.ensures.cache) (record { opened = it.opened; shown = it.shown; moment_is = it.moment; first = it.first; no_plans = c.new-plans.ensures.none });
     }
 
 pub returns-in-Ok-open-clause-begun : goal.returns-in-Ok-open-clause-begun
 returns-in-Ok-open-clause-begun g c = λ keep past was.
     let it = c.in-Ok-open.ensures in
     let i = c.in-Ok.found.0 in
-    let mounts : IsMountShared c.args.device.disk i.device.disk i.mounted c.args.moment _ = rw (← c.of-before.ensures)
+    let mounts : IsMountShared c.args.device.disk i.device.disk i.mounted i.cache.cap c.args.moment _ = rw (← c.of-before.ensures)
     (record { opened = it.opened; shown = it.shown; moment_is = it.moment; first = it.first; no_plans = c.new-plans.ensures.none }) in
-    ∥∥₁_map was (λ left. begins_shared past c.args.dirty_max c.args.device.disk i.device.disk i.mounted c.args.moment _ left c.in-Ok.ensures.run.limit mounts)
+    ∥∥₁_map was (λ left. begins_shared past c.args.dirty_max c.args.device.disk i.device.disk i.mounted i.cache.cap c.args.moment _ left c.in-Ok.ensures.run.limit mounts)
 
 pub returns-clause-refused : goal.returns-clause-refused
 returns-clause-refused g c =
