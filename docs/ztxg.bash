@@ -7,10 +7,10 @@ _ztxg() {
         esac
     done
     if [[ -z $command ]]; then
-        COMPREPLY=($(compgen -W "create put get ls rm show check labels load serve script help -v --verbose --wait -h --help -V --version" -- "$word"))
+        COMPREPLY=($(compgen -W "create put get ls rm show check labels load serve script help -q --quiet -v --verbose --wait -h --help -V --version" -- "$word"))
         return
     fi
-    local options="-v --verbose --wait -h --help"
+    local options="-q --quiet -v --verbose --wait -h --help"
     case $command in
         create) options+=" --new --moment" ;;
         put) options+=" --offset --moment" ;;

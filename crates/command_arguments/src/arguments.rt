@@ -6,9 +6,9 @@ use crate::order::Order;
 #[derive(Clone, Copy, Debug, PartialEq, Eq)]
 pub enum Verbosity {
     /// That it was not done, in one line.
-    Brief,
+    Quiet,
     /// Also the cause, in a second line.
-    Verbose,
+    WithCause,
 }
 
 /// What a command is given whichever it is.

@@ -32,11 +32,20 @@ fn described_program<'a>(alloc: Global) -> Command<'a> {
 
 // The options of each command, which may stand before its name or after it.
 fn with_options<'a>(alloc: Global, program: Command<'a>) -> Result<Command<'a>, AllocError> {
-    program.arg(verbose(alloc))?.arg(wait(alloc))
+    program
+        .arg(quiet(alloc))?
+        .arg(verbose(alloc))?
+        .arg(wait(alloc))
 }
 
+fn quiet<'a>(alloc: Global) -> Arg<'a> {
+    let help = "If the command is not done, leaves out the cause";
+    flag(alloc, "quiet", help).short('q').global(true)
+}
+
+// Programs give it since the cause was not reported without it.
 fn verbose<'a>(alloc: Global) -> Arg<'a> {
-    let help = "If the command is not done, reports the cause as well";
+    let help = "Changes nothing: the cause is reported without it";
     flag(alloc, "verbose", help).short('v').global(true)
 }
 

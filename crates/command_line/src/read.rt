@@ -27,10 +27,10 @@ pub fn read_arguments<'a>(matches: &ArgMatches<'a>) -> Option<Arguments<'a>> {
 
 /// What the command is given whichever it is.
 pub fn read_options(matches: &ArgMatches<'_>) -> Options {
-    let verbosity = if matches.get_flag("verbose") {
-        Verbosity::Verbose
+    let verbosity = if matches.get_flag("quiet") {
+        Verbosity::Quiet
     } else {
-        Verbosity::Brief
+        Verbosity::WithCause
     };
     Options {
         verbosity,

@@ -28,7 +28,7 @@ use std::rt::Files;
 use std::sync::Wait;
 use std::thread::Threads;
 
-const BRIEF: Verbosity = Verbosity::Brief;
+const BRIEF: Verbosity = Verbosity::Quiet;
 
 const OPTIONS: Options = Options {
     verbosity: BRIEF,
@@ -47,7 +47,7 @@ fn a_file_that_cannot_be_used_has_status_3<E: Write>(errors: &mut E) -> u8
     ensures { result ≡ 3 }
 {
     let failure = Failure::Unusable(FileRefusal::InUse);
-    report_failure(failure, "tank.pool", Verbosity::Verbose, errors)
+    report_failure(failure, "tank.pool", Verbosity::WithCause, errors)
 }
 
 fn an_output_that_is_not_written_has_status_3<E: Write>(errors: &mut E) -> u8

@@ -88,7 +88,7 @@ impl Failure {
 }
 
 /// Reports on `errors` why a command on this file was not done, and returns the exit status. If the output can't be
-/// written, nothing is reported. If it is asked for, a second line has the cause.
+/// written, nothing is reported. Unless it is to be quiet, a second line has the cause.
 pub fn report_failure<E: Write>(
     failure: Failure,
     file: &str,
@@ -120,7 +120,7 @@ pub fn report_failure<E: Write>(
 }
 
 fn report_cause<C: fmt::Display, E: Write>(cause: &C, verbosity: Verbosity, errors: &mut E) {
-    if verbosity == Verbosity::Verbose {
+    if verbosity == Verbosity::WithCause {
         let _ = writeln!(errors, "ztxg: cause: {cause}");
     }
 }

@@ -12,7 +12,7 @@ use std::rt::Files;
 use std::sync::Wait;
 
 const OPTIONS: Options = Options {
-    verbosity: Verbosity::Brief,
+    verbosity: Verbosity::Quiet,
     wait: 0,
 };
 
