@@ -27,7 +27,7 @@ use Rattle.pool_threads.specs.LongWrites.{piece_size}
 use Rattle.pool_threads.specs.Transacts.{TransactsOrLacks}
 use Rattle.pool_threads.specs.Waits.{SyncsPool}
 use Rattle.commands.specs.Failures.{IsFailureFor}
-use Rattle.commands.specs.Puts.{is_target, put_line, put_transactions, start_of}
+use Rattle.commands.specs.Puts.{bad_number_of, is_target, put_line, put_transactions, start_of}
 use Rattle.commands.specs.declared.failure.Failure.{Failure}
 use Rattle.commands.specs.declared.failure.Failure.TheVariants as failure
 use Rattle.commands.specs.declared.changes.Put.{Put}
@@ -150,7 +150,7 @@ module _ {Dev : Type 0} (G : Ghosts Dev) where
 
   -- the bytes are none that the object may have, and nothing was done
   abbrev pub HasNoTarget : ObjectId → Option ℕ → List ℕ → Failure → Type 0
-  HasNoTarget n offset bytes why = (is_target n.0 offset bytes ≡ false) × (why ≡ failure.Refused BadRange)
+  HasNoTarget n offset bytes why = (is_target n.0 offset bytes ≡ false) × (why ≡ failure.OutOfRange (bad_number_of n.0 offset bytes))
 
   -- A put was made with this result, or for this failure none was made. Then it tells that nothing was put.
   abbrev pub PutsOrFails : Dev → ℕ → ObjectId → Option ℕ → List ℕ → Put → Result (Unit {0}) Failure → Type 0

@@ -5,12 +5,13 @@ use Rattle.base.specs.declared.error.PoolError.TheVariants.{BadGeometry, BadRang
 use Rattle.base.specs.formats.Geometry.{IsGeometry, is_geometry}
 use Rattle.base.specs.formats.Names.{is_name}
 use Rattle.commands.specs.declared.failure.Failure.{Failure}
-use Rattle.commands.specs.declared.failure.Failure.TheVariants.{Refused, RefusedCall, Unusable, Unwritten}
+use Rattle.commands.specs.declared.failure.Failure.TheVariants.{OutOfRange, Refused, RefusedCall, Unusable, Unwritten}
 
 -- the status of a failure
 abbrev pub failure_status : Failure → ℕ
 failure_status (Refused refusal) = 1
 failure_status (RefusedCall refusal call) = 1
+failure_status (OutOfRange number) = 1
 failure_status (Unusable cause) = 3
 failure_status Unwritten = 3
 
@@ -22,11 +23,12 @@ is_of_device Flush = true
 is_of_device Suspended = true
 is_of_device _ = false
 
--- The failure of a command for a refusal: it is that, and it has a call that the device refused only if the refusal may
--- follow from one.
+-- The failure of a command for a refusal: it is that. It has a call that the device refused only if the refusal may
+-- follow from one, and a number that was given only if it is `BadRange`.
 abbrev pub IsFailureFor : PoolError → Failure → Type 0
 IsFailureFor e (Refused refusal) = refusal ≡ e
 IsFailureFor e (RefusedCall refusal call) = (refusal ≡ e) × IsTrue (is_of_device e)
+IsFailureFor e (OutOfRange number) = e ≡ BadRange
 IsFailureFor e _ = ⊥
 
 -- the bytes of the whole sectors of a file of so many bytes

@@ -1,5 +1,5 @@
 -- What a put is given, the transactions by which it puts its bytes, what they leave of the object, and what is printed.
-use Rattle.std.specs.Prelude.{ℕ, ◌≡◌, ◌≢◌, ◌+◌, ◌-◌, ◌++◌, ◌&&◌, Bool, IsSome, codes, List, [], ◌∷◌, Option, None, Some, Result, Ok, Err, drop, length, nat_lt, nat_le, take}
+use Rattle.std.specs.Prelude.{ℕ, ◌≡◌, ◌≢◌, ◌+◌, ◌-◌, ◌++◌, ◌&&◌, if◌then◌else◌, Bool, IsSome, codes, List, [], ◌∷◌, Option, None, Some, Result, Ok, Err, drop, length, nat_lt, nat_le, take}
 use Rattle.std.specs.Fmt.{decimal}
 use Rattle.std.specs.FinMap as map
 use Rattle.base.specs.declared.error.PoolError.{PoolError}
@@ -12,6 +12,8 @@ use Rattle.base.specs.history.Contents.{Contents, bytes_after_write}
 use Rattle.base.specs.history.History.{apply_all}
 use Rattle.base.specs.history.Sequences.{in_turn}
 use Rattle.pool_threads.specs.LongWrites.{piece_size, writes_of}
+use Rattle.commands.specs.declared.bad_number.BadNumber.{BadNumber}
+use Rattle.commands.specs.declared.bad_number.BadNumber.TheVariants.{End, LongInput, Object, Offset}
 use Rattle.commands.specs.declared.changes.Start.{Start}
 use Rattle.commands.specs.declared.changes.Start.TheVariants.{Creates, Empties, Keeps}
 
@@ -23,6 +25,13 @@ first_byte (Some offset) = offset
 -- an object of this number may have these bytes at this offset
 abbrev pub is_target : ℕ → Option ℕ → List ℕ → Bool
 is_target object offset bytes = nat_lt object object_count && (nat_le (first_byte offset) max_length && nat_le (length bytes) (max_length - first_byte offset))
+
+-- what is outside its limits, if the object may not have these bytes there
+abbrev pub bad_number_of : ℕ → Option ℕ → List ℕ → BadNumber
+bad_number_of object offset bytes =
+    if nat_le object_count object then Object object
+    else (if nat_le max_length (first_byte offset) then Offset (first_byte offset)
+    else (if nat_lt max_length (length bytes) then LongInput else End (first_byte offset + length bytes)))
 
 -- How a put starts, by the length that the object was found to have. Without an offset the bytes replace all that it
 -- has.

@@ -14,12 +14,13 @@ ghost use Rattle.base.specs.declared.step.Step.TheVariants as step;
 ghost use Rattle.base.specs.formats.Limits.{max_length};
 ghost use Rattle.base.specs.steps.Runs.{reply_of};
 ghost use Rattle.commands.specs.Committed.{MakesFirst, PutsAll, PutsAndPrints, PutsInto, PutsOrFails, RefusesPut, RefusesRemoval, RemovesFrom, RemovesOn, RemovesOrFails, command_owner, nothing_put, result_after};
-ghost use Rattle.commands.specs.Puts.{first_byte, is_target, piece_ops, put_transactions, removed_line, rest_transactions, start_of};
+ghost use Rattle.commands.specs.Puts.{bad_number_of, first_byte, is_target, piece_ops, put_transactions, removed_line, rest_transactions, start_of};
 ghost use Rattle.pool_threads.specs.LongWrites.{piece_size};
 ghost use Rattle.pool_threads.specs.Answers.{Makes};
 ghost use Rattle.pool_threads.specs.Handles.{shared_of};
 ghost use Rattle.pool_threads.specs.Transacts.{TransactsOrLacks};
 
+use crate::bad_number::BadNumber;
 use crate::failure::{Failure, NotesRefusals, report_failure};
 use base::{
     Bytes, DEFAULT_DIRTY_MAX, Group, MAX_LENGTH, OBJECT_COUNT, ObjectId, Op, Ops, Owner, PoolError,
@@ -181,7 +182,8 @@ fn put_bytes<R: Wait + AllocGlobal, D: SectorDevice + NotesRefusals + Drop>(
     ensures unusable { IfErr opened (λ cause. (result.0 ≡ nothing_put)
         × (result.1 ≡ Err (Failure.Unusable cause))) }
     ensures target { IfOk opened (λ _. is_target arguments.entry.object arguments.entry.offset
-        bytes.now ≡ false → result.1 ≡ Err (Failure.Refused PoolError.BadRange)) }
+        bytes.now ≡ false → result.1 ≡ Err (Failure.OutOfRange
+        (bad_number_of arguments.entry.object arguments.entry.offset bytes.now))) }
     ensures put { IfOk opened (λ device. PutsOrFails D.SectorDevice device
         arguments.entry.moment (record { 0 = arguments.entry.object }) arguments.entry.offset
         bytes.now result.0 result.1) }
@@ -191,7 +193,8 @@ fn put_bytes<R: Wait + AllocGlobal, D: SectorDevice + NotesRefusals + Drop>(
         Err(cause) => return (Put::NOTHING, Err(Failure::Unusable(cause))),
     };
     if !is_target(arguments.object, arguments.offset, bytes) {
-        return (Put::NOTHING, Err(Failure::Refused(PoolError::BadRange)));
+        let number = bad_number_of(arguments.object, arguments.offset, bytes);
+        return (Put::NOTHING, Err(Failure::OutOfRange(number)));
     }
     let alloc = rt.alloc();
     let pool = match Pool::open(alloc, device, DEFAULT_DIRTY_MAX, arguments.moment) {
@@ -217,6 +220,23 @@ fn is_target(object: u32, offset: Option<u64>, bytes: &[u8]) -> bool
 {
     let at = first_byte(offset);
     object < OBJECT_COUNT && at <= MAX_LENGTH && bytes.len() as u64 <= MAX_LENGTH - at
+}
+
+// What is outside its limits, if these bytes of an object aren't within them.
+fn bad_number_of(object: u32, offset: Option<u64>, bytes: &[u8]) -> BadNumber
+    ensures { result ≡ bad_number_of object offset bytes.now }
+{
+    let (at, size) = (first_byte(offset), bytes.len() as u64);
+    if object >= OBJECT_COUNT {
+        BadNumber::Object(object)
+    } else if at >= MAX_LENGTH {
+        BadNumber::Offset(at)
+    } else if size > MAX_LENGTH {
+        // The input has been read up to here.
+        BadNumber::LongInput
+    } else {
+        BadNumber::End(at + size)
+    }
 }
 
 // The first byte that a put writes.
@@ -462,7 +482,10 @@ fn remove_object<R: Wait + AllocGlobal, D: SectorDevice + NotesRefusals + Drop>(
     };
     match remove_and_sync(rt, alloc, &pool, ObjectId(arguments.object)) {
         Ok(()) => Ok(()),
-        Err(refusal) => Err(Failure::of_running(refusal, pool)),
+        Err(refusal) => {
+            let number = BadNumber::of_object(arguments.object);
+            Err(Failure::of_running(refusal, pool).for_number(number))
+        }
     }
 }
 

@@ -1,8 +1,10 @@
 //! Why a command on a pool in a file was not done, with its exit status and its text.
 
 ghost use Rattle.std.specs.Prelude.{◌≡◌, ◌≢◌, ◌≤◌, false};
+ghost use Rattle.base.specs.declared.error.PoolError as declared_error;
 ghost use Rattle.commands.specs.Failures.{IsFailureFor, failure_status, is_of_device};
 
+use crate::bad_number::BadNumber;
 use base::PoolError;
 use command_arguments::Verbosity;
 use device_model::{FileDevice, FileRefusal, MemDevice, RefusedCall, SectorDevice, SectorFile};
@@ -18,6 +20,8 @@ pub enum Failure {
     Refused(PoolError),
     /// The engine refused it, since the device refused this call.
     RefusedCall(PoolError, RefusedCall),
+    /// The engine refuses it `BadRange`, since this number was given for it.
+    OutOfRange(BadNumber),
     /// The file can't be used, for this cause.
     Unusable(FileRefusal),
     /// The output can't be written.
@@ -72,6 +76,18 @@ impl Failure {
         }
     }
 
+    /// The same failure. If it is a `BadRange`, this number that was given is its cause.
+    pub(crate) fn for_number(self, number: Option<BadNumber>) -> Failure
+        ensures status { failure_status result ≡ failure_status self }
+        ensures cause { (e : declared_error.PoolError) → IsFailureFor e self
+            → IsFailureFor e result }
+    {
+        match (self, number) {
+            (Failure::Refused(PoolError::BadRange), Some(number)) => Failure::OutOfRange(number),
+            _ => self,
+        }
+    }
+
     /// The failure of a command that a pool refused while it ran. The pool is closed.
     pub(crate) fn of_running<D: SectorDevice + NotesRefusals + Drop>(
         refusal: PoolError,
@@ -100,15 +116,10 @@ pub fn report_failure<E: Write>(
     ensures no_usage { result ≢ 2 }
 {
     match failure {
-        Failure::Refused(refusal) => {
-            let _ = writeln!(errors, "ztxg: {}", Answer::refused(refusal));
-            report_cause(&refusal, verbosity, errors);
-            REFUSED
-        }
-        Failure::RefusedCall(refusal, call) => {
-            let _ = writeln!(errors, "ztxg: {}", Answer::refused(refusal));
-            report_cause(&call, verbosity, errors);
-            REFUSED
+        Failure::Refused(refusal) => report_refusal(refusal, &refusal, verbosity, errors),
+        Failure::RefusedCall(refusal, call) => report_refusal(refusal, &call, verbosity, errors),
+        Failure::OutOfRange(number) => {
+            report_refusal(PoolError::BadRange, &number, verbosity, errors)
         }
         Failure::Unusable(cause) => {
             let _ = writeln!(errors, "ztxg: cannot use {file}");
@@ -117,6 +128,21 @@ pub fn report_failure<E: Write>(
         }
         Failure::Unwritten => FAILED,
     }
+}
+
+/// Reports on `errors` that the engine refused a command, and the cause unless it is to be quiet. Returns the exit
+/// status.
+pub(crate) fn report_refusal<C: fmt::Display, E: Write>(
+    refusal: PoolError,
+    cause: &C,
+    verbosity: Verbosity,
+    errors: &mut E,
+) -> u8
+    ensures { result ≡ 1 }
+{
+    let _ = writeln!(errors, "ztxg: {}", Answer::refused(refusal));
+    report_cause(cause, verbosity, errors);
+    REFUSED
 }
 
 fn report_cause<C: fmt::Display, E: Write>(cause: &C, verbosity: Verbosity, errors: &mut E) {

@@ -5,6 +5,7 @@
 //! The crate knows no command line: each command is given its arguments by a type of `command_arguments`.
 #![tactic(auto)]
 
+mod bad_number;
 mod changes;
 mod check_all;
 mod checks;
@@ -13,11 +14,13 @@ mod failure;
 mod label_lines;
 mod laws;
 mod load;
+mod names;
 mod pool_files;
 mod reads;
 mod serving;
 mod waiting;
 
+pub use bad_number::BadNumber;
 pub use changes::{read_input, run_put, run_remove};
 pub use check_all::{check_to_end, run_check_all};
 pub use checks::{Finding, check_pool, run_check};

@@ -6,6 +6,7 @@
 ghost use Rattle.std.specs.Prelude.{◌≡◌, ◌≢◌, ◌≤◌, Err, IfErr, IfOk, IsErr, false};
 ghost use Rattle.command_arguments.specs.Orders.{is_order};
 
+use crate::bad_number::BadNumber;
 use crate::failure::{Failure, NotesRefusals, report_failure};
 use base::{PoolError, Reply};
 use command_arguments::{LoadArguments, Order, STREAMS, Verbosity};
@@ -78,7 +79,10 @@ fn load_pool<
     let opened = Pool::open_with(alloc, device, dirty_max, cache_blocks, arguments.moment);
     let pool = match opened {
         Ok(pool) => pool,
-        Err((refusal, device)) => return Err(Failure::of_pool(refusal, &device)),
+        Err((refusal, device)) => {
+            let number = BadNumber::of_limits(dirty_max, cache_blocks);
+            return Err(Failure::of_pool(refusal, &device).for_number(number));
+        }
     };
     let progress = Progress::new(rt, arguments.order, shows_progress);
     let loaded = load(rt, alloc, &pool, arguments.order, &progress);

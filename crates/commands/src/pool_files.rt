@@ -15,14 +15,16 @@ ghost use Rattle.commands.specs.Checks.{StaysOpened};
 ghost use Rattle.commands.specs.Failures.{IsNewPoolRefusal, failure_status, sector_bytes};
 ghost use Rattle.commands.specs.PoolLines.{WritesInspected, created_line, listed_lines, number_lines, object_lines, shown_lines};
 
-use crate::failure::{Failure, NotesRefusals, report_failure};
+use crate::failure::{Failure, NotesRefusals, report_failure, report_refusal};
+use crate::names::Quoted;
 use crate::waiting::NewFile;
-use base::{ObjectId, PoolError, PoolName};
+use base::{MAX_NAME, ObjectId, PoolError, PoolName};
 use command_arguments::{CreateArguments, Options, Verbosity};
 use device_model::{FileRefusal, HeldFile, SectorDevice};
 use import_replay::{Inspected, create, inspect};
-use labels::{Geometry, SECTOR_SIZE};
+use labels::{Geometry, LABEL_SIZE, MAX_SIZE, MIN_SIZE, SECTOR_SIZE};
 use std::alloc::Global;
+use std::fmt;
 use std::io::{self, Write};
 use std::os::unix::fs::FileExt;
 use std::rt::Files;
@@ -52,42 +54,68 @@ where
     ensures range { result ≤ 3 }
     ensures no_usage { result ≢ 2 }
 {
-    match create_pool(rt, arguments, options.wait, out) {
+    let pool = match NewPool::new(arguments) {
+        Ok(pool) => pool,
+        Err(refusal) => {
+            let cause = RefusedPool { refusal, arguments };
+            return report_refusal(refusal, &cause, options.verbosity, errors);
+        }
+    };
+    match create_pool(rt, &pool, arguments.name, options.wait, out) {
         Ok(()) => 0,
         Err(failure) => report_failure(failure, arguments.file, options.verbosity, errors),
     }
 }
 
+// Makes a pool, and writes this name of it with the number of its blocks.
 fn create_pool<R: Files + Wait, W: Write>(
     rt: &R,
-    arguments: CreateArguments<'_>,
+    pool: &NewPool<'_>,
+    name: &str,
     wait: u32,
     out: &mut W,
 ) -> Result<(), Failure>
 where
     R::File: FileExt + HeldFile,
-    ensures made { OnOk result
-        (CanCreate (sector_bytes arguments.entry.size) arguments.entry.name.now) }
-    ensures size { is_geometry (sector_bytes arguments.entry.size) ≡ false
-        → result ≡ Err (Failure.Refused PoolError.BadGeometry) }
-    ensures name { IsGeometry (sector_bytes arguments.entry.size)
-        → is_name arguments.entry.name.now ≡ false
-        → result ≡ Err (Failure.Refused PoolError.BadRange) }
     ensures created { OnOk result (Appends (W.contents out.old) (W.contents out.new)
-        (created_line arguments.entry.name.now (block_count (sector_bytes arguments.entry.size)))) }
+        (created_line name.now (block_count pool.now.geometry))) }
     ensures unprinted { IfErr result (λ failure. failure_status failure ≡ 1
         → W.contents out.new ≡ W.contents out.old) }
 {
-    let pool = NewPool::new(arguments)?;
     let device = pool
         .file
         .create_within(rt, wait)
         .map_err(Failure::Unusable)?;
     pool.make(device)?;
     let blocks = pool.geometry.blocks();
-    match writeln!(out, "created {} {blocks} blocks", arguments.name) {
+    match writeln!(out, "created {name} {blocks} blocks") {
         Ok(()) => Ok(()),
         Err(_) => Err(Failure::Unwritten),
+    }
+}
+
+/// What was given for a new pool, and was refused so. As text it is what of it is outside its limits.
+#[derive(Clone, Copy)]
+struct RefusedPool<'a> {
+    refusal: PoolError,
+    arguments: CreateArguments<'a>,
+}
+
+impl fmt::Display for RefusedPool<'_> {
+    fn fmt<W: fmt::Write>(&self, f: &mut fmt::Formatter<W>) -> fmt::Result {
+        match self.refusal {
+            PoolError::BadGeometry => write!(
+                f,
+                "size {}: {MIN_SIZE} to {MAX_SIZE} bytes in steps of {LABEL_SIZE}",
+                self.arguments.size
+            ),
+            PoolError::BadRange => write!(
+                f,
+                "name {}: 1 to {MAX_NAME} bytes, first a letter, then letters, digits, - _ .",
+                Quoted(self.arguments.name)
+            ),
+            other => write!(f, "{other}"),
+        }
     }
 }
 

@@ -7,6 +7,7 @@ ghost use Rattle.device_model.specs.Reading.{OnlyReads};
 ghost use Rattle.commands.specs.Checks.{StaysOpened};
 ghost use Rattle.commands.specs.Reads.{IsMountedRange, IsReadersRefusal, WritesMounted, asked_range};
 
+use crate::bad_number::BadNumber;
 use crate::failure::{Failure, NotesRefusals, report_failure};
 use base::{Bytes, MAX_LENGTH, ObjectId, PoolError, Range};
 use command_arguments::{GetArguments, Verbosity};
@@ -94,7 +95,24 @@ fn get_bytes<D: SectorDevice + NotesRefusals>(
     let (device, _) = reader.into_parts();
     match read {
         Ok(bytes) => (Ok(bytes), Ok(device)),
-        Err(refusal) => (Err(Failure::of_pool(refusal, &device)), Ok(device)),
+        Err(refusal) => {
+            let failure = Failure::of_pool(refusal, &device).for_number(bad_number(&arguments));
+            (Err(failure), Ok(device))
+        }
+    }
+}
+
+// The first number of a read that is outside its limits.
+fn bad_number(arguments: &GetArguments<'_>) -> Option<BadNumber> {
+    let object = BadNumber::of_object(arguments.object);
+    if object.is_some() {
+        object
+    } else if arguments.offset >= MAX_LENGTH {
+        Some(BadNumber::Offset(arguments.offset))
+    } else if arguments.length == Some(0) {
+        Some(BadNumber::NoLength)
+    } else {
+        None
     }
 }
 
