@@ -5,6 +5,7 @@ ghost use Rattle.base.specs.declared.error.PoolError as declared_error;
 ghost use Rattle.commands.specs.Failures.{IsFailureFor, failure_status, is_of_device};
 
 use crate::bad_number::BadNumber;
+use crate::names::FileName;
 use base::PoolError;
 use command_arguments::Verbosity;
 use device_model::{FileDevice, FileRefusal, MemDevice, RefusedCall, SectorDevice, SectorFile};
@@ -122,7 +123,7 @@ pub fn report_failure<E: Write>(
             report_refusal(PoolError::BadRange, &number, verbosity, errors)
         }
         Failure::Unusable(cause) => {
-            let _ = writeln!(errors, "ztxg: cannot use {file}");
+            let _ = writeln!(errors, "ztxg: cannot use {}", FileName(file));
             report_cause(&cause, verbosity, errors);
             FAILED
         }

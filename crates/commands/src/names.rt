@@ -2,6 +2,20 @@
 
 use std::fmt;
 
+/// The name of a file. As text it is itself, or between quotes if it has control characters.
+#[derive(Clone, Copy)]
+pub(crate) struct FileName<'a>(pub &'a str);
+
+impl fmt::Display for FileName<'_> {
+    fn fmt<W: fmt::Write>(&self, f: &mut fmt::Formatter<W>) -> fmt::Result {
+        if self.0.chars().any(|c| c.is_control()) {
+            write_quoted(self.0, f)
+        } else {
+            f.write_str(self.0)
+        }
+    }
+}
+
 /// A name that may have any characters. As text it is between quotes.
 #[derive(Clone, Copy)]
 pub(crate) struct Quoted<'a>(pub &'a str);
