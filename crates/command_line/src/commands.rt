@@ -5,8 +5,8 @@
 
 use crate::help;
 use crate::words::{
-    SIZE_HELP, cache_blocks, dirty_limit, flag, moment, number, number_option, object, option,
-    read_file, word, written_file,
+    LOADED_DIRTY_LIMIT, SERVED_DIRTY_LIMIT, SIZE_HELP, cache_blocks, dirty_limit, flag, moment,
+    number, number_option, object, option, read_file, word, written_file,
 };
 use clap::{Arg, Command, value_parser};
 use command_arguments::{MAX_WORKERS, MAX_WRITES};
@@ -169,7 +169,7 @@ fn load_command<'a>(alloc: Global) -> Result<Command<'a>, AllocError> {
         workers(alloc),
         writes(alloc),
         seed(alloc),
-        dirty_limit(alloc),
+        dirty_limit(alloc, LOADED_DIRTY_LIMIT),
         cache_blocks(alloc),
         moment(alloc),
     ]?;
@@ -199,7 +199,7 @@ fn seed<'a>(alloc: Global) -> Arg<'a> {
 fn serve_command<'a>(alloc: Global) -> Result<Command<'a>, AllocError> {
     let words = vec![in alloc;
         written_file(alloc),
-        dirty_limit(alloc),
+        dirty_limit(alloc, SERVED_DIRTY_LIMIT),
         cache_blocks(alloc),
         moment(alloc),
     ]?;

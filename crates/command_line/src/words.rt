@@ -73,10 +73,16 @@ pub(crate) fn moment<'a>(alloc: Global) -> Arg<'a> {
     number_option(alloc, "moment", "M", help).default_value("0")
 }
 
-/// The limit of what is dirty in a pool that runs.
-pub(crate) fn dirty_limit<'a>(alloc: Global) -> Arg<'a> {
+/// The dirty limit of `serve`, that of the library: `DEFAULT_DIRTY_MAX` of `base`.
+pub(crate) const SERVED_DIRTY_LIMIT: &str = "4194304";
+
+/// The dirty limit of `load`, at which loads were always made.
+pub(crate) const LOADED_DIRTY_LIMIT: &str = "1048576";
+
+/// The limit of what is dirty in a pool that runs, which is this one if none is given.
+pub(crate) fn dirty_limit<'a>(alloc: Global, default: &'a str) -> Arg<'a> {
     let help = "The most bytes that unsynced transactions may be charged: 4096 to 2^40";
-    number_option(alloc, "dirty", "D", help).default_value("1048576")
+    number_option(alloc, "dirty", "D", help).default_value(default)
 }
 
 /// How many tree blocks of a pool that runs stay in memory.
