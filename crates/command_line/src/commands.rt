@@ -173,7 +173,7 @@ fn load_command<'a>(alloc: Global) -> Result<Command<'a>, AllocError> {
         cache_blocks(alloc),
         moment(alloc),
     ]?;
-    let about = "Makes many small writes on the pool in a file, syncs it, and prints its digest";
+    let about = "Empties the objects 0 to 16 of the pool in a file, makes many small writes, and syncs";
     described(alloc, "load", about, help::LOAD).args(words)
 }
 

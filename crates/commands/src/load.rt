@@ -1,14 +1,15 @@
 //! The command `load`: threads make many small writes on the pool in a file, beside the loops that sync it.
 //!
-//! Nothing is written to the output before all of it has gone well. On a terminal standard error shows how much is
-//! done.
+//! 1. It empties the objects 0 to 16. Before that standard error names those of them that have bytes.
+//! 2. Nothing is written to the output before all of it has gone well. On a terminal standard error shows how much is
+//!    done.
 
 ghost use Rattle.std.specs.Prelude.{◌≡◌, ◌≢◌, ◌≤◌, Err, IfErr, IfOk, IsErr, false};
 ghost use Rattle.command_arguments.specs.Orders.{is_order};
 
 use crate::bad_number::BadNumber;
 use crate::failure::{Failure, NotesRefusals, report_failure};
-use base::{PoolError, Reply};
+use base::{ObjectId, PoolError, Reply};
 use command_arguments::{LoadArguments, Order, STREAMS, Verbosity};
 use device_model::{FileRefusal, SectorDevice};
 use loads::{Gate, Loaded, WRITES_BETWEEN_WAITS, load};
@@ -20,8 +21,12 @@ use std::sync::Wait;
 use std::sync::atomic::{AtomicU64, Ordering};
 use std::thread::Threads;
 
+/// How many objects a load empties or makes: those from 0 to the number of its streams.
+const LOADED_OBJECTS: usize = STREAMS as usize + 1;
+
 /// Opens the pool on a device, makes the writes of a load on it, writes their number and the digest to `out`, and
-/// returns the exit status.
+/// returns the exit status. The load empties the objects 0 to 16: those of them that have bytes are named on `errors`
+/// before.
 ///
 /// The status is 0 if all was written. It is 1 if the order is outside its limits, which is tested before the device is
 /// called, or if the engine refused a step. It is 3 if the file was not opened as a device or `out` can't be written. A
@@ -46,7 +51,7 @@ pub fn run_load<
     ensures range { result ≤ 3 }
     ensures no_usage { result ≢ 2 }
 {
-    match load_pool(rt, arguments, opened, shows_progress, out) {
+    match load_pool(rt, arguments, opened, shows_progress, out, errors) {
         Ok(()) => 0,
         Err(failure) => report_failure(failure, arguments.file, verbosity, errors),
     }
@@ -56,12 +61,14 @@ fn load_pool<
     R: Threads + Wait + Sync + Eprint + AllocGlobal,
     D: SectorDevice + NotesRefusals + Send + Drop,
     W: Write,
+    E: Write,
 >(
     rt: &R,
     arguments: LoadArguments<'_>,
     opened: Result<D, FileRefusal>,
     shows_progress: bool,
     out: &mut W,
+    errors: &mut E,
 ) -> Result<(), Failure>
     ensures unusable { IfErr opened (λ cause. result ≡ Err (Failure.Unusable cause)) }
     ensures order { IfOk opened (λ _. is_order arguments.entry.order ≡ false
@@ -84,6 +91,10 @@ fn load_pool<
             return Err(Failure::of_pool(refusal, &device).for_number(number));
         }
     };
+    match report_emptied(rt, &pool, errors) {
+        Ok(()) => {}
+        Err(refusal) => return Err(Failure::of_running(refusal, pool)),
+    }
     let progress = Progress::new(rt, arguments.order, shows_progress);
     let loaded = load(rt, alloc, &pool, arguments.order, &progress);
     progress.end();
@@ -95,6 +106,25 @@ fn load_pool<
         Ok(()) => Ok(()),
         Err(_) => Err(Failure::Unwritten),
     }
+}
+
+// Reports which of the objects that a load empties have bytes.
+fn report_emptied<R: Wait, D: SectorDevice, E: Write>(
+    rt: &R,
+    pool: &Pool<D>,
+    errors: &mut E,
+) -> Result<(), PoolError> {
+    let objects = pool.handle().objects(rt, ObjectId(0), LOADED_OBJECTS)?;
+    for object in &objects {
+        let (number, length) = (object.0.0, object.1);
+        if number <= STREAMS && length != 0 {
+            let _ = writeln!(
+                errors,
+                "ztxg: object {number} has {length} bytes, which the load replaces"
+            );
+        }
+    }
+    Ok(())
 }
 
 fn write_loaded<W: Write>(loaded: &Loaded, out: &mut W) -> io::Result<()> {
