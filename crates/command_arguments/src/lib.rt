@@ -7,6 +7,6 @@ mod order;
 
 pub use arguments::{
     Arguments, CheckArguments, CreateArguments, GetArguments, LoadArguments, Options, PutArguments,
-    RemoveArguments, ScriptArguments, ScriptDevice, ServeArguments, Verbosity,
+    RemoveArguments, ScriptArguments, ScriptDevice, ServeArguments, Terminals, Verbosity,
 };
 pub use order::{MAX_WORKERS, MAX_WRITES, Order, STREAMS};

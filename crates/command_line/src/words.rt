@@ -1,11 +1,11 @@
-//! The words of the commands, each with its help.
+//! The words of the commands, each with its help. `{n}` ends a line of a help, which has at most 100 columns.
 
 use clap::{Arg, ArgAction, value_parser};
 use std::alloc::Global;
 
 /// What the help says of a size.
 pub(crate) const SIZE_HELP: &str =
-    "The bytes of the device, in whole sectors of 512 bytes (a rest is ignored): \
+    "The bytes of the device, in whole sectors of 512 bytes (a rest is ignored):{n}\
     6291456 to 1073741824, a multiple of 262144";
 
 /// A word that has to be there.
@@ -69,7 +69,7 @@ pub(crate) fn object<'a>(alloc: Global) -> Arg<'a> {
 
 /// The moment of a command that writes uberblocks.
 pub(crate) fn moment<'a>(alloc: Global) -> Arg<'a> {
-    let help = "The moment, in seconds, that each written uberblock gets: below 2^64";
+    let help = "The moment in seconds that each written uberblock gets: below 2^64";
     number_option(alloc, "moment", "M", help).default_value("0")
 }
 
@@ -81,12 +81,12 @@ pub(crate) const LOADED_DIRTY_LIMIT: &str = "1048576";
 
 /// The limit of what is dirty in a pool that runs, which is this one if none is given.
 pub(crate) fn dirty_limit<'a>(alloc: Global, default: &'a str) -> Arg<'a> {
-    let help = "The most bytes that unsynced transactions may be charged: 4096 to 2^40";
+    let help = "The most bytes that unsynced transactions may be charged:{n}4096 to 2^40";
     number_option(alloc, "dirty", "D", help).default_value(default)
 }
 
 /// How many tree blocks of a pool that runs stay in memory.
 pub(crate) fn cache_blocks<'a>(alloc: Global) -> Arg<'a> {
-    let help = "The most tree blocks of 4096 bytes that stay in memory: 1 to 4096";
+    let help = "The most tree blocks of 4096 bytes kept in memory: 1 to 4096";
     number_option(alloc, "cache", "C", help).default_value("256")
 }

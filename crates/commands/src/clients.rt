@@ -15,7 +15,7 @@ ghost use Rattle.commands.specs.declared.checks.Finding.{Finding as ShownFinding
 ghost use Rattle.commands.specs.declared.checks.Finding.TheVariants.{Damaged};
 
 use crate::checks::{Finding, check_pool, run_check};
-use crate::failure::{Failure, NotesRefusals, report_failure};
+use crate::failure::{Failure, NotesRefusals, report_failure, report_terminal};
 use crate::load::run_load;
 use crate::pool_files::{run_create, run_show};
 use base::PoolError;
@@ -54,6 +54,13 @@ fn an_output_that_is_not_written_has_status_3<E: Write>(errors: &mut E) -> u8
     ensures { result ≡ 3 }
 {
     report_failure(Failure::Unwritten, "tank.pool", BRIEF, errors)
+}
+
+// Nothing was served.
+fn frames_are_not_served_to_a_terminal<E: Write>(errors: &mut E) -> u8
+    ensures { result ≡ 3 }
+{
+    report_terminal(errors)
 }
 
 // No call of the device leads to this refusal, so none is named as its cause.

@@ -146,6 +146,17 @@ pub(crate) fn report_refusal<C: fmt::Display, E: Write>(
     REFUSED
 }
 
+/// Reports on `errors` that frames are not written to a terminal, and returns the exit status.
+pub fn report_terminal<E: Write>(errors: &mut E) -> u8
+    ensures { result ≡ 3 }
+{
+    let _ = writeln!(
+        errors,
+        "ztxg: standard output is a terminal, and frames are not text"
+    );
+    FAILED
+}
+
 fn report_cause<C: fmt::Display, E: Write>(cause: &C, verbosity: Verbosity, errors: &mut E) {
     if verbosity == Verbosity::WithCause {
         let _ = writeln!(errors, "ztxg: cause: {cause}");

@@ -24,7 +24,7 @@ pub use bad_number::BadNumber;
 pub use changes::{read_input, run_put, run_remove};
 pub use check_all::{check_to_end, run_check_all};
 pub use checks::{Finding, check_pool, run_check};
-pub use failure::{Failure, NotesRefusals, report_failure};
+pub use failure::{Failure, NotesRefusals, report_failure, report_terminal};
 pub use label_lines::run_labels;
 pub use laws::puts_leave_bytes;
 pub use load::run_load;

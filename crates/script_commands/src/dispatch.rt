@@ -3,25 +3,29 @@
 ghost use Rattle.std.specs.Prelude.{◌≤◌};
 
 use crate::script::run_named_script;
-use command_arguments::{Arguments, CheckArguments, Options};
+use command_arguments::{Arguments, CheckArguments, Options, Terminals};
 use commands::{
-    open_within, read_input, run_check, run_check_all, run_create, run_get, run_labels, run_list,
-    run_load, run_put, run_remove, run_serve, run_show,
+    open_within, read_input, report_terminal, run_check, run_check_all, run_create, run_get,
+    run_labels, run_list, run_load, run_put, run_remove, run_serve, run_show,
 };
 use device_model::{Access, HeldFile};
-use std::io::{self, Eprint, IsTerminal, Write};
+use std::io::{self, Eprint, Write};
 use std::os::unix::fs::FileExt;
 use std::rt::Files;
 use std::sync::Wait;
 use std::thread::Threads;
 
 /// Does a command of the program, and returns the exit status. A file that another process has is waited for as long as
-/// the options say, and a script may wait for its pool. A load has threads, and shows its progress if `errors`, which
-/// is standard error, is a terminal. Failures are reported there.
-pub fn run<
-    R: Files + Input + Print + Eprint + AllocGlobal + Threads + Wait + Sync,
-    E: Write + IsTerminal,
->(rt: &R, arguments: Arguments<'_>, options: Options, errors: &mut E) -> u8
+/// the options say, and a script may wait for its pool. A load has threads, and shows its progress if standard error is
+/// a terminal. A put says if it reads from a terminal, and a serve isn't done if it would answer to one. Failures are
+/// reported on `errors`, which is standard error.
+pub fn run<R: Files + Input + Print + Eprint + AllocGlobal + Threads + Wait + Sync, E: Write>(
+    rt: &R,
+    arguments: Arguments<'_>,
+    options: Options,
+    terminals: Terminals,
+    errors: &mut E,
+) -> u8
 where
     R::File: FileExt + HeldFile + Send,
     ensures { result ≤ 3 }
@@ -37,7 +41,7 @@ where
             arguments,
             verbosity,
             open_within(rt, arguments.file, Access::Write, wait),
-            errors.is_terminal(),
+            terminals.errors,
             &mut io::writer(rt),
             errors,
         ),
@@ -80,16 +84,16 @@ where
             let (status, _) = run_get(rt.alloc(), arguments, verbosity, opened, &mut out, errors);
             status
         }
-        // The input is read first: nobody waits for it with the file's lock.
-        Arguments::Put(arguments) => run_put(
-            rt,
-            arguments,
-            verbosity,
-            read_input(rt.alloc(), rt.reader()),
-            open_within(rt, arguments.file, Access::Write, wait),
-            &mut io::writer(rt),
-            errors,
-        ),
+        Arguments::Put(arguments) => {
+            if terminals.input {
+                report_reading(errors);
+            }
+            // The input is read first: nobody waits for it with the file's lock.
+            let input = read_input(rt.alloc(), rt.reader());
+            let opened = open_within(rt, arguments.file, Access::Write, wait);
+            let mut out = io::writer(rt);
+            run_put(rt, arguments, verbosity, input, opened, &mut out, errors)
+        }
         Arguments::Remove(arguments) => run_remove(
             rt,
             arguments,
@@ -98,6 +102,7 @@ where
             &mut io::writer(rt),
             errors,
         ),
+        Arguments::Serve(_) if terminals.output => report_terminal(errors),
         Arguments::Serve(arguments) => {
             let opened = open_within(rt, arguments.file, Access::Write, wait);
             let (input, out) = (rt.reader(), io::writer(rt));
@@ -105,4 +110,12 @@ where
             status
         }
     }
+}
+
+// Reports that a put reads its object from a terminal.
+fn report_reading<E: Write>(errors: &mut E) {
+    let _ = writeln!(
+        errors,
+        "ztxg: reading the object from the terminal, end it with Ctrl-D"
+    );
 }

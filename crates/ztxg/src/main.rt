@@ -4,10 +4,11 @@
 //! memory.
 #![tactic(auto)]
 
+use command_arguments::Terminals;
 use command_line::{parse_arguments, read_arguments, read_options};
 use script_commands::run;
 use std::fs::File;
-use std::io;
+use std::io::{self, IsTerminal};
 use std::process::ExitCode;
 
 /// The status of a fault of the command line.
@@ -36,7 +37,9 @@ fn main(rt: HostRuntime) -> ExitCode {
         Ok(matches) => match read_arguments(&matches) {
             Some(arguments) => {
                 let options = read_options(&matches);
-                ExitCode::from(run(&rt, arguments, options, &mut rt.stderr()))
+                let terminals = find_terminals(&rt);
+                let status = run(&rt, arguments, options, terminals, &mut rt.stderr());
+                ExitCode::from(status)
             }
             None => ExitCode::from(BAD_ARGUMENTS),
         },
@@ -47,6 +50,14 @@ fn main(rt: HostRuntime) -> ExitCode {
                 status => ExitCode::from(status),
             }
         }
+    }
+}
+
+fn find_terminals(rt: &HostRuntime) -> Terminals {
+    Terminals {
+        input: rt.stdin().is_terminal(),
+        output: rt.stdout().is_terminal(),
+        errors: rt.stderr().is_terminal(),
     }
 }
 
