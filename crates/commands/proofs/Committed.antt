@@ -1,11 +1,11 @@
 -- What a command's handle has committed is in its history, in order, and once the pool is synced no crash loses it.
-use Rattle.std.proofs.Common.{◌≡◌, ◌≢◌, ◌*◌, ◌<◌, ◌≤◌, ◌∷◌, [], ℕ, zero, suc, List, Ok, Err, ap, arith, inl, inr, length, min, refl, subst, sym, take, true, ◌∙◌}
+use Rattle.std.proofs.Common.{◌≡◌, ◌≢◌, ◌*◌, ◌<◌, ◌≤◌, ◌∷◌, [], ℕ, zero, suc, List, Ok, Err, ap, arith, false, inl, inr, length, min, refl, subst, sym, take, true, ◌∙◌}
 use Rattle.std.specs.Prelude.{Bool, IsTrue, None, Option, Result, Some, is_ok, slice_get}
 use Rattle.std.proofs.Math.Logic.{∥∥₁_elim, ∥∥₁_map, ∥∥₁_prop}
 use Rattle.std.proofs.Math.Seq.{take-length}
 use Rattle.std.proofs.lemmas.Bool.{false≢true}
 use Rattle.base.specs.declared.error.PoolError.{PoolError}
-use Rattle.base.specs.declared.error.PoolError.TheVariants.{NoMemory, NoObject}
+use Rattle.base.specs.declared.error.PoolError.TheVariants.{NoMemory, NoObject, NoSpace}
 use Rattle.base.specs.declared.names.Group.{Group}
 use Rattle.base.specs.declared.names.LockId.{LockId}
 use Rattle.base.specs.declared.names.ObjectId.{ObjectId}
@@ -32,7 +32,8 @@ use Rattle.pool_threads.proofs.Along.{GoesAlong, along_made, along_on, along_sam
 use Rattle.pool_threads.proofs.TransactsSeen.{entered_by, transaction_grows}
 use Rattle.transactions.specs.LockRanges.{lock_ranges}
 use Rattle.frame_answers.proofs.Along.{along_syncs, along_transacts}
-use Rattle.commands.specs.Committed.{AreEntered, AreNewEntries, HappensOn, MakesFirst, PutsAsFound, PutsFrom, PutsOn, RemovesOn, SyncsAfter, SyncsIfMade, command_owner, result_after}
+use Rattle.commands.specs.Committed.{AreEntered, AreNewEntries, HappensOn, MakesFirst, PutsAsFound, PutsFrom, PutsIfRoom, PutsOn, RemovesOn, SyncsAfter, SyncsIfMade, command_owner, result_after}
+use Rattle.commands.specs.PutRoom.{lacks_room}
 use Rattle.commands.specs.Puts.{IsStartFor, put_transactions, start_of}
 use Rattle.commands.specs.declared.changes.Put.{Put}
 use Rattle.commands.specs.declared.changes.Start.{Start}
@@ -249,10 +250,16 @@ module _ {Dev : Type 0} (G : Ghosts Dev) (device : Dev) (n : ObjectId) (offset :
   pub put_happens : PutsOn G device n offset bytes put (Ok tt) → (start : Start) × PutHappens start
   put_happens o = by (start_of offset o.does.found) refl o.does.puts
     where
-      by : (s : Result Start PoolError) → start_of offset o.does.found ≡ s → PutsAsFound s n offset bytes put (Ok tt) o.does.looked o.does.last → (start : Start) × PutHappens start
+      -- there was room for a put that ended well
+      with_room : (lacks : Bool) (start : Start) (old : Handle Dev G) → PutsIfRoom lacks start n offset bytes put (Ok tt) old o.does.last → PutsFrom start n offset bytes put (Ok tt) old o.does.last
+      with_room false start old p = p
+      with_room true start old (none, nothing, is, same) = absurd (let no_way : Ok tt ≡ Err NoSpace = is in cc)
+
+      by : (s : Result Start PoolError) → start_of offset o.does.found ≡ s → PutsAsFound s o.does.found n offset bytes put (Ok tt) o.does.looked o.does.last → (start : Start) × PutHappens start
       by (Err e) is p = absurd (let no_way : Ok tt ≡ Err e = p.2 in cc)
-      by (Ok start) is p =
-          let w = whole_put_stands start n offset bytes put o.does.looked o.does.last p in
+      by (Ok start) is r =
+          let p = with_room (lacks_room start offset bytes o.does.found r.status.available) start r.asked r.puts in
+          let w = whole_put_stands start n offset bytes put r.asked o.does.last p in
           let all : List (List Op) = put_transactions start n offset bytes in (
             start,
             (
@@ -265,7 +272,7 @@ module _ {Dev : Type 0} (G : Ghosts Dev) (device : Dev) (n : ObjectId) (offset :
                 first = o.does.first;
                 is_new = o.does.is_new;
                 last = o.does.last;
-                sees = entered_since (Unit {0}) all o.does.first o.does.looked (state_seen o.does.last) (along_made o.does.looks) w.1;
+                sees = entered_since (Unit {0}) all o.does.first r.asked (state_seen o.does.last) (along_on o.does.first o.does.looked r.asked (along_made o.does.looks) (along_made r.asks)) w.1;
               },
             ),
           )

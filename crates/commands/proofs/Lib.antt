@@ -7,5 +7,6 @@ mod Pieces
 mod PoolLines
 mod PutBytes
 mod PutClients
+mod PutRoom
 mod RefusedClients
 mod ServedPools

@@ -1,17 +1,19 @@
 -- What callers take from a put of two bytes, and from a removal, that the engine refused.
-use Rattle.std.proofs.Common.{◌≡◌, ◌⊎◌, ◌∷◌, [], ℕ, zero, suc, List, Ok, Err, ap, inl, inr, refl, subst, sym, true, ◌∙◌}
-use Rattle.std.specs.Prelude.{IsTrue, None, Result}
-use Rattle.std.proofs.lemmas.Bool.{true≢false}
+use Rattle.std.proofs.Common.{◌≡◌, ◌≢◌, ◌⊎◌, ◌-◌, ◌<◌, ◌∷◌, [], ℕ, zero, suc, List, Ok, Err, ap, arith, false, inl, inr, refl, subst, sym, true, ◌∙◌}
+use Rattle.std.specs.Prelude.{Bool, IsTrue, None, Result, min, nat_lt}
+use Rattle.std.proofs.lemmas.Bool.{ltb-true, true≢false}
 use Rattle.base.specs.declared.error.PoolError.{PoolError}
-use Rattle.base.specs.declared.error.PoolError.TheVariants.{NoObject}
+use Rattle.base.specs.declared.error.PoolError.TheVariants.{NoObject, NoSpace}
 use Rattle.base.specs.declared.names.Group.{Group}
 use Rattle.base.specs.declared.names.ObjectId.{ObjectId}
 use Rattle.base.specs.declared.names.Receipt.{Receipt}
+use Rattle.base.specs.declared.status.Status.{Status}
 use Rattle.base.specs.declared.operation.Op.{Op}
 use Rattle.base.specs.declared.operation.Op.TheVariants.{Create, Remove, SetLength, Write}
 use Rattle.base.specs.declared.step.Reply.TheVariants as reply
 use Rattle.base.specs.declared.step.Step.TheVariants as step
 use Rattle.base.specs.disk.Calls.{with_refusal}
+use Rattle.base.specs.formats.Limits.{max_length, one_level_length}
 use Rattle.base.specs.steps.Runs.{reply_of}
 use Rattle.device_model.specs.declared.device.SectorDevice.{Ghosts}
 use Rattle.import_replay.specs.ImportRefusals.{IsImportRefusal}
@@ -21,8 +23,9 @@ use Rattle.pool_threads.specs.Transacts.{TransactsOrLacks}
 use Rattle.pool_threads.specs.Waits.{SyncsPool}
 use Rattle.pool_threads.specs.declared.handle.Handle.{Handle}
 use Rattle.pool_threads.specs.declared.shared.Shared.{Shared}
-use Rattle.commands.specs.Committed.{IsNotOpened, IsOpenedOn, MakesFirst, PutsAsFound, PutsInto, PutsOrFails, RefusesPut, RefusesRemoval, RemovesFrom, SyncsAfter, SyncsIfMade, command_owner, result_after}
-use Rattle.commands.specs.Puts.{start_of}
+use Rattle.commands.specs.Committed.{IsNotOpened, IsOpenedOn, MakesFirst, PutsAsFound, PutsIfRoom, PutsInto, PutsOrFails, RefusesPut, RefusesRemoval, RemovesFrom, SyncsAfter, SyncsIfMade, command_owner, result_after}
+use Rattle.commands.specs.PutRoom.{freed_blocks, lacks_room, length_found}
+use Rattle.commands.specs.Puts.{put_transactions, start_of}
 use Rattle.commands.specs.declared.changes.Put.{Put}
 use Rattle.commands.specs.declared.changes.Start.{Start}
 use Rattle.commands.specs.declared.changes.Start.TheVariants.{Creates, Empties, Keeps}
@@ -41,6 +44,16 @@ PutsTwo ops = (ops ≡ Create seven ∷ Write seven 0 two ∷ []) ⊎ (ops ≡ S
 same_error : (A : Type 0) (r : Result A PoolError) (x y : PoolError) → r ≡ Err x → r ≡ Err y → x ≡ y
 same_error A r x y one other = cc
 
+fewer : (freed needed available : ℕ) → nat_lt freed (needed - available) ≡ true → available < needed
+fewer freed needed available is = let more : freed < needed - available = ltb-true freed (needed - available) is in omega (arith, more)
+
+-- two bytes need a data block, an indirect block, a directory and the root
+few_available : (start : Start) (found : Result ℕ PoolError) (available : ℕ) → start ≢ Keeps → lacks_room start None two found available ≡ true → available < 4
+unfolding one_level_length
+few_available Creates found available other is = fewer 0 4 available is
+few_available Empties found available other is = fewer (freed_blocks Empties 0 2 (length_found found)) 4 available is
+few_available Keeps found available other is = absurd (other refl)
+
 module _ {Dev : Type 0} {G : Ghosts Dev} (e : PoolError) where
   sync_refused : (done last : Handle Dev G) (synced : Result Group PoolError) → Err e ≡ result_after (Ok tt) synced → SyncsPool synced done last → SyncsPool (Err e) done last
   sync_refused done last (Ok group) is syncs = absurd (let no_way : Err e ≡ Ok tt = is in cc)
@@ -56,10 +69,14 @@ module _ {Dev : Type 0} {G : Ghosts Dev} (e : PoolError) where
   one_refused ops put (suc count) made old done last are (r, next, one, (none, is, same)) (inr (synced, some, syncs, is_synced, told)) =
       inr (sync_refused done last synced (told ∙ ap (λ (m : Result (Unit {0}) PoolError). result_after m synced) is) syncs)
 
-  -- a handle was refused the length, the one transaction, or the sync
+  -- a handle was told that fewer than four blocks are available
+  abbrev IsToldFew : Handle Dev G → Handle Dev G → Type 0
+  IsToldFew old new = (s : Status) × Makes step.Status (reply.Status s) old new × (s.available < 4) × (e ≡ NoSpace)
+
+  -- a handle was refused the length, the one transaction, or the sync, or it was told so
   abbrev IsPutRefused : Shared Dev G → Type 0
   IsPutRefused p = (first looked done last : Handle Dev G) × IsNewHandle p first × (Makes (step.Length seven) (reply.Refused e) first looked
-      ⊎ (((ops : List Op) × TransactsOrLacks command_owner ops (Err e) looked done × PutsTwo ops) ⊎ SyncsPool (Err e) done last))
+      ⊎ (((ops : List Op) × TransactsOrLacks command_owner ops (Err e) looked done × PutsTwo ops) ⊎ (SyncsPool (Err e) done last ⊎ IsToldFew looked done)))
 
   put_refused : (p : Shared Dev G) (put : Put) → PutsInto p seven None two put (Err e) → IsPutRefused p
   put_refused p put i = by (start_of None i.found) refl i.puts
@@ -69,16 +86,23 @@ module _ {Dev : Type 0} {G : Ghosts Dev} (e : PoolError) where
       length_refused (Err NoObject) other is makes = absurd (let no_way : Ok Creates ≡ Err other = is in cc)
       length_refused (Err x) other is makes = subst (λ (y : PoolError). Makes (step.Length seven) (reply.Refused y) i.first i.looked) (same_error Start (Err x) x other refl is) makes
 
-      made_or_synced : (ops : List Op) (done : Handle Dev G) → PutsTwo ops → TransactsOrLacks command_owner ops (Err e) i.looked done ⊎ SyncsPool (Err e) done i.last → IsPutRefused p
-      made_or_synced ops done so (inl refused) = (i.first, i.looked, done, i.last, i.is_new, inr (inl (ops, refused, so)))
-      made_or_synced ops done so (inr syncs) = (i.first, i.looked, done, i.last, i.is_new, inr (inr syncs))
+      made_or_synced : (ops : List Op) (asked done : Handle Dev G) → PutsTwo ops → TransactsOrLacks command_owner ops (Err e) asked done ⊎ SyncsPool (Err e) done i.last → IsPutRefused p
+      made_or_synced ops asked done so (inl refused) = (i.first, asked, done, i.last, i.is_new, inr (inl (ops, refused, so)))
+      made_or_synced ops asked done so (inr syncs) = (i.first, asked, done, i.last, i.is_new, inr (inr (inl syncs)))
 
-      by : (s : Result Start PoolError) → start_of None i.found ≡ s → PutsAsFound s seven None two put (Err e) i.looked i.last → IsPutRefused p
+      by_room : (start : Start) (ops : List Op) (status : Status) (asked : Handle Dev G) (lacks : Bool) → start ≢ Keeps → PutsTwo ops → put_transactions start seven None two ≡ ops ∷ []
+          → Makes step.Status (reply.Status status) i.looked asked → lacks_room start None two i.found status.available ≡ lacks → PutsIfRoom lacks start seven None two put (Err e) asked i.last → IsPutRefused p
+      by_room start ops status asked false other so are asks is q =
+          made_or_synced ops asked q.done so (one_refused ops put put.transactions q.made asked q.done i.last refl (subst (λ (all : List (List Op)). MakesFirst all put.transactions q.made asked q.done) are q.makes) q.syncs)
+      by_room start ops status asked true other so are asks is (none, nothing, told, same) =
+          (i.first, i.looked, asked, i.last, i.is_new, inr (inr (inr (status, asks, few_available start i.found status.available other is, same_error (Unit {0}) (Err e) e NoSpace refl told))))
+
+      by : (s : Result Start PoolError) → start_of None i.found ≡ s → PutsAsFound s i.found seven None two put (Err e) i.looked i.last → IsPutRefused p
       by (Err other) is (none, nothing, told, same) =
           (i.first, i.looked, i.looked, i.last, i.is_new, inl (subst (λ (x : PoolError). Makes (step.Length seven) (reply.Refused x) i.first i.looked) (same_error (Unit {0}) (Err e) other e told refl) (length_refused i.found other is i.looks)))
-      by (Ok Creates) is q = let ops : List Op = Create seven ∷ Write seven 0 two ∷ [] in made_or_synced ops q.done (inl refl) (one_refused ops put put.transactions q.made i.looked q.done i.last refl q.makes q.syncs)
-      by (Ok Empties) is q = let ops : List Op = SetLength seven 0 ∷ Write seven 0 two ∷ [] in made_or_synced ops q.done (inr refl) (one_refused ops put put.transactions q.made i.looked q.done i.last refl q.makes q.syncs)
-      by (Ok Keeps) is q = absurd (may_start None i.found Keeps is refl)
+      by (Ok Creates) is r = by_room Creates (Create seven ∷ Write seven 0 two ∷ []) r.status r.asked (lacks_room Creates None two i.found r.status.available) (may_start None i.found Creates is) (inl refl) refl r.asks refl r.puts
+      by (Ok Empties) is r = by_room Empties (SetLength seven 0 ∷ Write seven 0 two ∷ []) r.status r.asked (lacks_room Empties None two i.found r.status.available) (may_start None i.found Empties is) (inr refl) refl r.asks refl r.puts
+      by (Ok Keeps) is r = absurd (may_start None i.found Keeps is refl)
 
   -- a handle was refused the one transaction, or the sync after it
   abbrev IsRemovalRefused : Shared Dev G → Type 0

@@ -1,13 +1,14 @@
 -- What a command's handle commits, one transaction after another, and what its history then has of it.
-use Rattle.std.specs.Prelude.{ℕ, zero, suc, false, true, ◌≡◌, ◌≢◌, ◌≤◌, ◌⊎◌, ◌*◌, IsTrue, List, [], ◌∷◌, Ok, Option, Err, Result, Some, is_ok, length, min, slice_get}
+use Rattle.std.specs.Prelude.{ℕ, zero, suc, false, true, ◌≡◌, ◌≢◌, ◌≤◌, ◌⊎◌, ◌*◌, Bool, IsTrue, List, [], ◌∷◌, Ok, Option, Err, Result, Some, is_ok, length, min, slice_get}
 use Rattle.std.specs.Io.KnownBytes.{Appends}
 use Rattle.base.specs.kept.Imports.{is_dirty_max_allowed}
 use Rattle.base.specs.declared.error.PoolError.{PoolError}
-use Rattle.base.specs.declared.error.PoolError.TheVariants.{BadGeometry, BadRange}
+use Rattle.base.specs.declared.error.PoolError.TheVariants.{BadGeometry, BadRange, NoSpace}
 use Rattle.base.specs.declared.names.Group.{Group}
 use Rattle.base.specs.declared.names.ObjectId.{ObjectId}
 use Rattle.base.specs.declared.names.Owner.{Owner}
 use Rattle.base.specs.declared.names.Receipt.{Receipt}
+use Rattle.base.specs.declared.status.Status.{Status}
 use Rattle.base.specs.declared.operation.Op.{Op}
 use Rattle.base.specs.declared.operation.Op.TheVariants.{Remove}
 use Rattle.base.specs.declared.step.Reply.TheVariants as reply
@@ -27,6 +28,7 @@ use Rattle.pool_threads.specs.LongWrites.{piece_size}
 use Rattle.pool_threads.specs.Transacts.{TransactsOrLacks}
 use Rattle.pool_threads.specs.Waits.{SyncsPool}
 use Rattle.commands.specs.Failures.{IsFailureFor}
+use Rattle.commands.specs.PutRoom.{lacks_room}
 use Rattle.commands.specs.Puts.{bad_number_of, is_target, put_line, put_transactions, start_of}
 use Rattle.commands.specs.declared.failure.Failure.{Failure}
 use Rattle.commands.specs.declared.failure.Failure.TheVariants as failure
@@ -82,12 +84,25 @@ module _ {Dev : Type 0} {G : Ghosts Dev} where
     pub size : put.bytes ≡ min (piece_size * put.transactions) (length bytes)
     pub syncs : SyncsAfter put made result done new
 
-  -- so it was, or the object's length was refused, and nothing was put
-  abbrev pub PutsAsFound : Result Start PoolError → ObjectId → Option ℕ → List ℕ → Put → Result (Unit {0}) PoolError → Handle Dev G → Handle Dev G → Type 0
-  PutsAsFound (Ok start) n offset bytes put result old new = PutsFrom start n offset bytes put result old new
-  PutsAsFound (Err e) n offset bytes put result old new = (put.transactions ≡ 0) × (put.bytes ≡ 0) × (result ≡ Err e) × (new ≡ old)
+  -- so it was; or it lacked room and was refused `NoSpace`, and nothing was put
+  abbrev pub PutsIfRoom : Bool → Start → ObjectId → Option ℕ → List ℕ → Put → Result (Unit {0}) PoolError → Handle Dev G → Handle Dev G → Type 0
+  PutsIfRoom false start n offset bytes put result old new = PutsFrom start n offset bytes put result old new
+  PutsIfRoom true start n offset bytes put result old new = (put.transactions ≡ 0) × (put.bytes ≡ 0) × (result ≡ Err NoSpace) × (new ≡ old)
 
-  -- A new handle of this pool looked whether the object is there. Then it put the bytes, and synced the pool.
+  -- The handle asked how many blocks are available. It put the bytes, unless they are too few.
+  pub record PutsByRoom (start : Start) (found : Result ℕ PoolError) (n : ObjectId) (offset : Option ℕ) (bytes : List ℕ) (put : Put) (result : Result (Unit {0}) PoolError) (old new : Handle Dev G) : Type 0 where
+    pub status : Status
+    pub asked : Handle Dev G
+    pub asks : Makes step.Status (reply.Status status) old asked
+    pub puts : PutsIfRoom (lacks_room start offset bytes found status.available) start n offset bytes put result asked new
+
+  -- so it was, or the object's length was refused, and nothing was put
+  abbrev pub PutsAsFound : Result Start PoolError → Result ℕ PoolError → ObjectId → Option ℕ → List ℕ → Put → Result (Unit {0}) PoolError → Handle Dev G → Handle Dev G → Type 0
+  PutsAsFound (Ok start) found n offset bytes put result old new = PutsByRoom start found n offset bytes put result old new
+  PutsAsFound (Err e) found n offset bytes put result old new = (put.transactions ≡ 0) × (put.bytes ≡ 0) × (result ≡ Err e) × (new ≡ old)
+
+  -- A new handle of this pool looked whether the object is there, and how many blocks are available. Then it put the
+  -- bytes, and synced the pool.
   pub record PutsInto (p : Shared Dev G) (n : ObjectId) (offset : Option ℕ) (bytes : List ℕ) (put : Put) (result : Result (Unit {0}) PoolError) : Type 0 where
     pub first : Handle Dev G
     pub is_new : IsNewHandle p first
@@ -95,7 +110,7 @@ module _ {Dev : Type 0} {G : Ghosts Dev} where
     pub looked : Handle Dev G
     pub looks : Makes (step.Length n) (reply_of (λ count. reply.Length count) found) first looked
     pub last : Handle Dev G
-    pub puts : PutsAsFound (start_of offset found) n offset bytes put result looked last
+    pub puts : PutsAsFound (start_of offset found) found n offset bytes put result looked last
 
   -- If the transaction was committed the handle synced the pool. Else it did no more.
   abbrev pub SyncsIfMade : Result (Unit {0}) PoolError → Result (Unit {0}) PoolError → Handle Dev G → Handle Dev G → Type 0

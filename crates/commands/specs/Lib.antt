@@ -3,6 +3,7 @@ pub mod Committed
 pub mod Failures
 pub mod FoundDamages
 pub mod PoolLines
+pub mod PutRoom
 pub mod Puts
 pub mod Reads
 pub mod Serving

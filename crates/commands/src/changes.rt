@@ -4,24 +4,21 @@
 //! 1. A put commits its bytes in pieces, as `Handle::write_long` has them. The first transaction also makes the object
 //!    or empties it. So bytes of one piece are put as a whole, or not at all.
 //! 2. If a piece is refused, the pieces before it stay, and are synced as those of a whole put are.
+//! 3. A put that can't find the blocks that it needs is refused before the first piece (`put_room.rt`).
 
 ghost use Rattle.std.specs.Io.KnownBytes.{Appends};
 ghost use Rattle.std.specs.Prelude.{ℕ, ◌≡◌, ◌≢◌, ◌≤◌, ◌<◌, ◌+◌, ◌*◌, ◌/◌, ◌^◌, ◌∷◌, [], false, true, length, min, take, Err, IfErr, IfOk, IfSome, IsErr, Result};
-ghost use Rattle.base.specs.declared.error.PoolError as declared_error;
 ghost use Rattle.base.specs.declared.operation.Op.TheVariants.{Remove};
-ghost use Rattle.base.specs.declared.step.Reply.TheVariants as reply;
-ghost use Rattle.base.specs.declared.step.Step.TheVariants as step;
-ghost use Rattle.base.specs.formats.Limits.{max_length};
-ghost use Rattle.base.specs.steps.Runs.{reply_of};
+ghost ghost use Rattle.base.specs.formats.Limits.{max_length};
 ghost use Rattle.commands.specs.Committed.{MakesFirst, PutsAll, PutsAndPrints, PutsInto, PutsOrFails, RefusesPut, RefusesRemoval, RemovesFrom, RemovesOn, RemovesOrFails, command_owner, nothing_put, result_after};
 ghost use Rattle.commands.specs.Puts.{bad_number_of, first_byte, is_target, piece_ops, put_transactions, removed_line, rest_transactions, start_of};
 ghost use Rattle.pool_threads.specs.LongWrites.{piece_size};
-ghost use Rattle.pool_threads.specs.Answers.{Makes};
 ghost use Rattle.pool_threads.specs.Handles.{shared_of};
 ghost use Rattle.pool_threads.specs.Transacts.{TransactsOrLacks};
 
 use crate::bad_number::BadNumber;
 use crate::failure::{Failure, NotesRefusals, report_failure};
+use crate::put_room::lacks_room;
 use base::{
     Bytes, DEFAULT_DIRTY_MAX, Group, MAX_LENGTH, OBJECT_COUNT, ObjectId, Op, Ops, Owner, PoolError,
     Receipt,
@@ -239,8 +236,8 @@ fn bad_number_of(object: u32, offset: Option<u64>, bytes: &[u8]) -> BadNumber
     }
 }
 
-// The first byte that a put writes.
-fn first_byte(offset: Option<u64>) -> u64
+/// The first byte that a put writes.
+pub(crate) fn first_byte(offset: Option<u64>) -> u64
     ensures { result ≡ first_byte offset }
 {
     match offset {
@@ -256,9 +253,9 @@ struct Target {
     offset: Option<u64>,
 }
 
-// What the first transaction does to the object before it writes.
+/// What the first transaction does to the object before it writes.
 #[derive(Clone, Copy)]
-enum Start {
+pub(crate) enum Start {
     Creates,
     Empties,
     Keeps,
@@ -274,7 +271,8 @@ impl Start {
     }
 }
 
-// Puts bytes into an object, and syncs the pool, also after a refusal. It returns the first refusal.
+// Puts bytes into an object, and syncs the pool, also after a refusal. It returns the first refusal. Without room for
+// all bytes it puts none.
 fn put_and_sync<R: Wait, D: SectorDevice>(
     rt: &R,
     alloc: Global,
@@ -287,10 +285,15 @@ fn put_and_sync<R: Wait, D: SectorDevice>(
         result.0 result.1 }
 {
     let mut handle = pool.handle();
-    let start = match find_start(rt, &mut handle, target) {
+    let found = handle.length(rt, target.object);
+    let start = match start_of(target.offset, found) {
         Ok(start) => start,
         Err(refusal) => return (Put::NOTHING, Err(refusal)),
     };
+    let status = handle.status(rt);
+    if lacks_room(start, target.offset, bytes, found, status.available) {
+        return (Put::NOTHING, Err(PoolError::NoSpace));
+    }
     let (mut put, made) = put_pieces(rt, alloc, &mut handle, target, start, bytes);
     if put.transactions == 0 {
         return (put, made);
@@ -313,18 +316,11 @@ fn first_refusal(
     }
 }
 
-// What has to be done to the object before its first bytes are written.
-fn find_start<R: Wait, D: SectorDevice>(
-    rt: &R,
-    handle: &mut Handle<'_, D>,
-    target: Target,
-) -> Result<Start, PoolError>
-    ensures { (found : Result ℕ declared_error.PoolError)
-        × Makes (step.Length target.object) (reply_of (λ count. reply.Length count) found)
-        handle.old handle.new
-        × (result ≡ start_of target.offset found) }
+// What has to be done to the object before its first bytes are written, by the length that it was found to have.
+fn start_of(offset: Option<u64>, found: Result<u64, PoolError>) -> Result<Start, PoolError>
+    ensures { result ≡ start_of offset found }
 {
-    match (handle.length(rt, target.object), target.offset) {
+    match (found, offset) {
         (Ok(_), Some(_)) => Ok(Start::Keeps),
         (Ok(_), None) => Ok(Start::Empties),
         (Err(PoolError::NoObject), _) => Ok(Start::Creates),

@@ -16,6 +16,7 @@ mod laws;
 mod load;
 mod names;
 mod pool_files;
+mod put_room;
 mod reads;
 mod serving;
 mod waiting;

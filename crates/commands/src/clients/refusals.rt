@@ -1,9 +1,11 @@
 //! What callers rely on of a put and a removal that did not end well.
 
-ghost use Rattle.std.specs.Prelude.{ℕ, ◌≡◌, ◌≤◌, ◌⊎◌, [], ◌∷◌, Err, IsTrue, List, Ok, Some, length, slice_get, true};
+ghost use Rattle.std.specs.Prelude.{ℕ, ◌≡◌, ◌≤◌, ◌<◌, ◌⊎◌, [], ◌∷◌, Err, IsTrue, List, Ok, Some, length, slice_get, true};
 ghost use Rattle.base.specs.declared.error.PoolError as refusal;
+ghost use Rattle.base.specs.declared.error.PoolError.TheVariants.{NoSpace};
 ghost use Rattle.base.specs.declared.names.Receipt as receipt;
 ghost use Rattle.base.specs.declared.operation.Op as operation;
+ghost use Rattle.base.specs.declared.status.Status as status;
 ghost use Rattle.base.specs.declared.operation.Op.TheVariants.{Create, Remove, SetLength, Write};
 ghost use Rattle.base.specs.declared.step.Reply.TheVariants as reply;
 ghost use Rattle.base.specs.declared.step.Step.TheVariants as step;
@@ -64,6 +66,8 @@ fn a_removal_of_status_3_is_one_durable_entry<
 
 // The import was refused, for what the device is or for a call of it, and the device still holds what was left on it.
 // Or a handle of the opened pool was refused the length of object 7, the one transaction with both bytes, or the sync.
+// Or it was told that fewer than four blocks are available: both bytes need a data block, an indirect block, a directory
+// and the root.
 fn a_put_of_status_1_was_refused_by_the_engine<
     R: Wait + AllocGlobal,
     D: SectorDevice + NotesRefusals + Drop,
@@ -81,7 +85,9 @@ fn a_put_of_status_1_was_refused_by_the_engine<
         ⊎ (((ops : List operation.Op) × TransactsOrLacks (record { 0 = 0 }) ops (Err e) looked done
         × ((ops ≡ Create (record { 0 = 7 }) ∷ Write (record { 0 = 7 }) 0 (1 ∷ 2 ∷ []) ∷ [])
         ⊎ (ops ≡ SetLength (record { 0 = 7 }) 0 ∷ Write (record { 0 = 7 }) 0 (1 ∷ 2 ∷ []) ∷ [])))
-        ⊎ SyncsPool (Err e) done last)))) }
+        ⊎ (SyncsPool (Err e) done last
+        ⊎ ((s : status.Status) × Makes step.Status (reply.Status s) looked done
+        × (s.available < 4) × (e ≡ NoSpace))))))) }
 {
     run_put(rt, ALL_OF_7, BRIEF, Ok(input), Ok(device), out, errors)
 }
