@@ -110,7 +110,7 @@ fn show_command<'a>(alloc: Global) -> Result<Command<'a>, AllocError> {
 }
 
 fn check_command<'a>(alloc: Global) -> Result<Command<'a>, AllocError> {
-    let all = flag(alloc, "all", "Goes on after a damage, and prints each");
+    let all = flag(alloc, "all", "Goes on after a damage, and prints each, and each damaged label");
     let words = vec![in alloc; read_file(alloc), all]?;
     let about = "Checks whether the pool in a file is whole; it only reads the file";
     described(alloc, "check", about, help::CHECK).args(words)

@@ -23,12 +23,15 @@ use Rattle.import_replay.specs.declared.damages.Soundness.{Soundness}
 use Rattle.import_replay.specs.declared.damages.Soundness.TheVariants as soundness
 use Rattle.import_replay.proofs.PoolDamages.{mounted_whole}
 use Rattle.trees.specs.declared.damages.BlockDamage.{BlockDamage}
-use Rattle.commands.specs.FoundDamages.{AreFoundIn, ListsFindings, WritesFindings, all_status, damage_finding, finding_line, finding_lines}
+use Rattle.commands.specs.FoundDamages.{AreFoundIn, ListsFindings, WritesFindings, all_status, damage_finding, finding_line, finding_lines, found_lines}
+use Rattle.commands.specs.FoundLabels.{AreLabelStates, HasConfig, label_lines}
 use Rattle.commands.specs.Checks.{IsCheckRefusal, IsFoundIn, MountsWhole}
 use Rattle.commands.specs.declared.checks.Finding.{Finding}
 use Rattle.commands.specs.declared.checks.Finding.TheVariants as finding
 use Rattle.commands.specs.declared.checks.Finding.TheVariants.{Clean}
+use Rattle.commands.specs.declared.label_states.LabelState.{LabelState}
 use Rattle.commands.proofs.Findings.{found_clean}
+use Rattle.commands.proofs.FoundLabels.{nothing_of_whole}
 use Rattle.commands.proofs.MountedBytes.{appended}
 
 module _ {Dev : Type 0} (D : Ghosts Dev) (old new : Dev) where
@@ -74,16 +77,18 @@ module _ {Dev : Type 0} (D : Ghosts Dev) (old new : Dev) where
   all_refused (Err _) r lists made refused none = absurd refused.kind.1
 
 -- what was found on a device that was opened is written
-module _ {Dev : Type 0} (D : Ghosts Dev) (list : List Finding) (status : ℕ) (before after : Option (List ℕ)) (writes : Appends before after (finding_lines list)) (is : status ≡ all_status list) where
-  pub all_written : (opened : Result Dev FileRefusal) → IfOk opened (λ device. IsTrue D.keeps_model → AreFoundIn (bytes_of (D.disk device).now) list) → (wanted : ℕ) → status ≡ wanted
+module _ {Dev : Type 0} (D : Ghosts Dev) (list : List Finding) (states : List LabelState) (status : ℕ) (before after : Option (List ℕ)) (writes : Appends before after (found_lines list states)) (is : status ≡ all_status list) where
+  pub all_written : (opened : Result Dev FileRefusal) → IfOk opened (λ device. IsTrue D.keeps_model → AreFoundIn (bytes_of (D.disk device).now) list)
+      → IfOk opened (λ device. IsTrue D.keeps_model → AreLabelStates (bytes_of (D.disk device).now) states) → (wanted : ℕ) → status ≡ wanted
       → IfOk opened (λ device. (found : List Finding) × (all_status found ≡ wanted) × WritesFindings (IsTrue D.keeps_model) (bytes_of (D.disk device).now) found before after)
-  all_written (Ok device) found wanted same = (list, sym is ∙ same, record { found = found; writes = writes })
-  all_written (Err e) found wanted same = tt
+  all_written (Ok device) found labels wanted same = (list, sym is ∙ same, record { found = found; states = states; labels = labels; writes = writes })
+  all_written (Err e) found labels wanted same = tt
 
-  pub written_or_same : (opened : Result Dev FileRefusal) → IfOk opened (λ device. IsTrue D.keeps_model → AreFoundIn (bytes_of (D.disk device).now) list) → (wanted : ℕ) → status ≡ wanted
+  pub written_or_same : (opened : Result Dev FileRefusal) → IfOk opened (λ device. IsTrue D.keeps_model → AreFoundIn (bytes_of (D.disk device).now) list)
+      → IfOk opened (λ device. IsTrue D.keeps_model → AreLabelStates (bytes_of (D.disk device).now) states) → (wanted : ℕ) → status ≡ wanted
       → IfOk opened (λ device. (after ≡ before) ⊎ ((found : List Finding) × (all_status found ≡ wanted) × WritesFindings (IsTrue D.keeps_model) (bytes_of (D.disk device).now) found before after))
-  written_or_same (Ok device) found wanted same = inr (list, sym is ∙ same, record { found = found; writes = writes })
-  written_or_same (Err e) found wanted same = tt
+  written_or_same (Ok device) found labels wanted same = inr (list, sym is ∙ same, record { found = found; states = states; labels = labels; writes = writes })
+  written_or_same (Err e) found labels wanted same = tt
 
 -- damages are not clean
 not_clean : (damages : List BlockDamage) → (damages ≡ [] → ⊥) → all_status (map damage_finding damages) ≡ 0 → ⊥
@@ -133,9 +138,22 @@ module _ (image : List ℕ) (list : List Finding) (found : AreFoundIn image list
       go (inr (inr (damages, has, are))) = absurd (mounted_whole image contents damages (u, chain, mounts) has)
 
   -- what is written then, where there were no bytes before
-  pub one_line : all_status list ≡ 0 → (before after : Option (List ℕ)) → before ≡ Some [] → Appends before after (finding_lines list)
-      → (group : ℕ) × (records : ℕ) × (after ≡ Some (codes "clean group " ++ (decimal group ++ (codes " records " ++ (decimal records ++ codes "\n")))))
-  one_line zero before after empty writes =
+  pub clean_line : all_status list ≡ 0 → (states : List LabelState) (before after : Option (List ℕ)) → before ≡ Some [] → Appends before after (found_lines list states)
+      → (group : ℕ) × (records : ℕ) × (after ≡ Some ((codes "clean group " ++ (decimal group ++ (codes " records " ++ (decimal records ++ codes "\n")))) ++ label_lines states))
+  clean_line zero states before after empty writes =
       let (group, records, is, found) = all_clean zero in
-      let line : Appends (Some []) after (finding_lines (Clean group records ∷ [])) = subst (λ (l : List Finding). Appends (Some []) after (finding_lines l)) is (subst (λ (b : Option (List ℕ)). Appends b after (finding_lines list)) empty writes) in
-      (group.0, records, appended after _ line ∙ ap Some (flat group.0 records))
+      (
+        group.0,
+        records,
+        appended after _ (subst (λ (b : Option (List ℕ)). Appends b after (found_lines list states)) empty writes)
+        ∙ ap (λ (l : List Finding). Some (finding_lines l ++ label_lines states)) is
+        ∙ ap (λ (l : List ℕ). Some (l ++ label_lines states)) (flat group.0 records),
+      )
+
+  -- if each label has a valid config it is all
+  pub one_line : all_status list ≡ 0 → (states : List LabelState) → AreLabelStates image states → ((label : ℕ) → label < 4 → HasConfig image label) → (before after : Option (List ℕ)) → before ≡ Some [] → Appends before after (found_lines list states)
+      → (group : ℕ) × (records : ℕ) × (after ≡ Some (codes "clean group " ++ (decimal group ++ (codes " records " ++ (decimal records ++ codes "\n")))))
+  one_line zero states are all before after empty writes =
+      let (group, records, is) = clean_line zero states before after empty writes in
+      let line : List ℕ = codes "clean group " ++ (decimal group ++ (codes " records " ++ (decimal records ++ codes "\n"))) in
+      (group, records, is ∙ ap (λ (l : List ℕ). Some (line ++ l)) (nothing_of_whole image states are all) ∙ ap Some (append-nil line))

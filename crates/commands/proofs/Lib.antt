@@ -1,6 +1,7 @@
 mod CheckedAll
 mod Committed
 mod Findings
+mod FoundLabels
 mod MountedBytes
 mod OnlyRead
 mod Pieces

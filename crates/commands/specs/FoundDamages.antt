@@ -12,7 +12,9 @@ use Rattle.import_replay.specs.declared.damages.Soundness.{Soundness}
 use Rattle.import_replay.specs.declared.damages.Soundness.TheVariants as soundness
 use Rattle.trees.specs.declared.damages.BlockDamage.{BlockDamage}
 use Rattle.commands.specs.Checks.{IsFoundIn, finding_status}
+use Rattle.commands.specs.FoundLabels.{AreLabelStates, label_lines}
 use Rattle.commands.specs.declared.checks.Finding.{Finding}
+use Rattle.commands.specs.declared.label_states.LabelState.{LabelState}
 use Rattle.commands.specs.declared.checks.Finding.TheVariants.{Clean, Damaged, NoPool}
 
 -- what is printed of a finding
@@ -61,7 +63,14 @@ pub record WritesFinding (keeps : Type 0) (image : List ℕ) (f : Finding) (old 
   pub found : keeps → IsFoundIn image f
   pub writes : Appends old new (finding_line f)
 
--- All findings were written, a line each. They are so of the image of a device that keeps the model.
+-- the lines of findings, and then those of labels
+abbrev pub found_lines : List Finding → List LabelState → List ℕ
+found_lines list states = finding_lines list ++ label_lines states
+
+-- All findings were written, a line each, and then a line for each label without a valid config, if another one has one.
+-- They are so of the image of a device that keeps the model.
 pub record WritesFindings (keeps : Type 0) (image : List ℕ) (list : List Finding) (old new : Option (List ℕ)) : Type 0 where
   pub found : keeps → AreFoundIn image list
-  pub writes : Appends old new (finding_lines list)
+  pub states : List LabelState
+  pub labels : keeps → AreLabelStates image states
+  pub writes : Appends old new (found_lines list states)

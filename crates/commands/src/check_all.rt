@@ -1,16 +1,19 @@
-//! The command `check` with `--all`: it goes on after a damage, and writes a line for each. It only reads.
+//! The command `check` with `--all`: it goes on after a damage, and writes a line for each. Then it writes a line for each
+//! label that has no valid config, if another one has. It only reads.
 
 ghost use Rattle.std.specs.Prelude.{◌≡◌, ◌≢◌, ◌≤◌, ◌⊎◌, Err, IfErr, IfOk, IsErr, IsTrue, List, OnOk, map};
 ghost use Rattle.std.specs.Io.KnownBytes.{Appends};
 ghost use Rattle.base.specs.disk.Disk.{bytes_of};
 ghost use Rattle.base.specs.formats.Geometry.{IsGeometry};
 ghost use Rattle.device_model.specs.Reading.{OnlyReads};
-ghost use Rattle.commands.specs.FoundDamages.{AreFoundIn, ListsFindings, WritesFindings, all_status, damage_finding, finding_lines};
+ghost use Rattle.commands.specs.FoundDamages.{AreFoundIn, ListsFindings, WritesFindings, all_status, damage_finding, finding_lines, found_lines};
+ghost use Rattle.commands.specs.FoundLabels.{AreLabelStates};
 ghost use Rattle.commands.specs.Checks.{IsCheckRefusal, StaysOpened};
 ghost use Rattle.commands.specs.declared.checks.Finding.{Finding as ShownFinding};
 
 use crate::checks::Finding;
 use crate::failure::{Failure, NotesRefusals, report_failure};
+use crate::label_states::{LabelState, read_states, write_states};
 use base::PoolError;
 use command_arguments::Verbosity;
 use device_model::{FileRefusal, SectorDevice};
@@ -73,10 +76,11 @@ fn damage_findings(alloc: Global, damages: &[BlockDamage]) -> Result<Vec<Finding
         .collect(alloc)
 }
 
-/// Writes to `out` all that a check of the pool in a file found, a line each, and returns the exit status. It only
-/// reads the file: it makes no write and no flush, whatever it returns.
+/// Writes to `out` all that a check of the pool in a file found, a line each, and then a line for each label that has no
+/// valid config, if another one has. Returns the exit status. It only reads the file: it makes no write and no flush,
+/// whatever it returns.
 ///
-/// The status is 0 if the pool is whole. It is 1 if a block is damaged, if there is no pool, or if the engine refused
+/// The status is 0 if the pool is whole, whatever its labels hold. It is 1 if a block is damaged, if there is no pool, or if the engine refused
 /// the check; then nothing is written. It is 3 if the file was not opened as a device or `out` can't be written. A
 /// failure is reported on `errors`.
 pub fn run_check_all<D: SectorDevice + NotesRefusals, W: Write, E: Write>(
@@ -100,35 +104,71 @@ pub fn run_check_all<D: SectorDevice + NotesRefusals, W: Write, E: Write>(
     ensures range { result ≤ 3 }
     ensures no_usage { result ≢ 2 }
 {
-    let findings = match find_opened(alloc, opened) {
-        Ok(findings) => findings,
+    let found = match find_opened(alloc, opened) {
+        Ok(found) => found,
         Err(failure) => return report_failure(failure, file, verbosity, errors),
     };
-    match write_findings(&findings, out) {
-        Ok(()) => status_of(&findings),
+    match write_found(&found, out) {
+        Ok(()) => status_of(&found.findings),
         Err(failure) => report_failure(failure, file, verbosity, errors),
     }
+}
+
+// All that a check finds on a device: of its pool, and in its labels.
+#[derive(Drop)]
+struct Found {
+    findings: Vec<Finding>,
+    labels: [LabelState; 4],
 }
 
 fn find_opened<D: SectorDevice + NotesRefusals>(
     alloc: Global,
     opened: &mut Result<D, FileRefusal>,
-) -> Result<Vec<Finding>, Failure>
+) -> Result<Found, Failure>
     ensures only_read { StaysOpened D.SectorDevice opened.old opened.new }
     ensures unusable { IfErr opened.old (λ cause. result ≡ Err (Failure.Unusable cause)) }
     ensures size { IfOk opened.old (λ device. (IsGeometry (D.size device) → ⊥)
         → result ≡ Err (Failure.Refused PoolError.BadGeometry)) }
     ensures found { IfOk opened.old (λ device. IsTrue D.keeps_model
-        → IfOk result (λ list. AreFoundIn (bytes_of (D.disk device).now) list.items)) }
+        → IfOk result (λ f. AreFoundIn (bytes_of (D.disk device).now) f.findings.items)) }
+    ensures labels { IfOk opened.old (λ device. IsTrue D.keeps_model
+        → IfOk result (λ f. AreLabelStates (bytes_of (D.disk device).now) f.labels)) }
 {
     let device = match opened {
         Ok(device) => device,
         Err(cause) => return Err(Failure::Unusable(*cause)),
     };
-    match check_to_end(alloc, device) {
-        Ok(findings) => Ok(findings),
+    match find_all(alloc, device) {
+        Ok(found) => Ok(found),
         Err(refusal) => Err(Failure::of_pool(refusal, device)),
     }
+}
+
+fn find_all<D: SectorDevice>(alloc: Global, device: &mut D) -> Result<Found, PoolError>
+    ensures reads { OnlyReads D.SectorDevice result device.old device.new }
+    ensures found { IsTrue D.keeps_model → IfOk result
+        (λ f. AreFoundIn (bytes_of (D.disk device.old).now) f.findings.items) }
+    ensures labels { IsTrue D.keeps_model → IfOk result
+        (λ f. AreLabelStates (bytes_of (D.disk device.old).now) f.labels) }
+    ensures sized { OnOk result (IsGeometry (D.size device.old)) }
+    ensures refused { IfErr result (IsCheckRefusal (D.size device.old)) }
+{
+    let findings = check_to_end(alloc, device)?;
+    let labels = read_states(device)?;
+    Ok(Found { findings, labels })
+}
+
+// Writes a line for each finding, and then what is to be said of labels.
+fn write_found<W: Write>(found: &Found, out: &mut W) -> Result<(), Failure>
+    ensures written { OnOk result (Appends (W.contents out.old) (W.contents out.new)
+        (found_lines found.now.findings.items found.now.labels)) }
+    ensures failed { IfErr result (λ failure. failure ≡ Failure.Unwritten) }
+{
+    match write_findings(&found.findings, out) {
+        Ok(()) => {}
+        Err(failure) => return Err(failure),
+    }
+    write_states(&found.labels, out)
 }
 
 // Writes a line for each finding.

@@ -2,10 +2,12 @@
 //!
 //! So it says something of a file that holds no pool too: a config is there but for a file of another size, or none is.
 
-ghost use Rattle.std.specs.Prelude.{◌≡◌, ◌≢◌, ◌≤◌, ◌<◌, ◌*◌, ◌⊎◌, Err, IfErr, IfOk, IsErr, OnOk, length, vec_len};
+ghost use Rattle.std.specs.Prelude.{◌≡◌, ◌≢◌, ◌≤◌, ◌<◌, ◌*◌, ◌⊎◌, Err, IfErr, IfOk, IsErr, IsTrue, OnOk, length, vec_len};
+ghost use Rattle.base.specs.disk.Disk.{bytes_of};
 ghost use Rattle.base.specs.formats.Geometry.{IsGeometry};
 ghost use Rattle.device_model.specs.Reading.{OnlyReads};
 ghost use Rattle.commands.specs.Checks.{IsCheckRefusal, StaysOpened};
+ghost use Rattle.commands.specs.FoundLabels.{IsReasonOf, IsStateOf, config_bytes_at, state_of};
 ghost use Rattle.uberblocks.specs.Rings.{ring_size};
 
 use crate::failure::{Failure, NotesRefusals, report_failure};
@@ -78,13 +80,16 @@ struct Labels {
     ghost size: { vec_len ring ≡ ring_size },
 }
 
-// What stands in the place of a config.
+/// What stands in the place of a config.
 #[derive(Debug, Drop)]
-enum ConfigFound {
+pub(crate) enum ConfigFound {
+    /// A valid config.
     Config(LabelConfig),
-    // a config of a device of another size
+    /// A config of a device of another size.
     OfSize(u64),
+    /// Zeros.
     Zeros,
+    /// Anything else.
     Unchecked,
 }
 
@@ -158,7 +163,11 @@ fn read_configs<D: SectorDevice>(
     ])
 }
 
-fn read_config<D: SectorDevice>(
+/// What stands in the place of a label's config. It makes no write and no flush.
+///
+/// # Errors
+/// `Read` if the device refuses one.
+pub(crate) fn read_config<D: SectorDevice>(
     device: &mut D,
     geometry: Geometry,
     label: usize,
@@ -167,6 +176,9 @@ fn read_config<D: SectorDevice>(
     requires label { label < 4 }
     ensures reads { OnlyReads D.SectorDevice result device.old device.new }
     ensures refused { IfErr result (λ e. e ≡ PoolError.Read) }
+    ensures found { IsTrue D.keeps_model → IfOk result (λ f. IsStateOf
+        (config_bytes_at (bytes_of (D.disk device.old).now) label)
+        (length (bytes_of (D.disk device.old).now)) (state_of f)) }
 {
     let mut block = [0; BLOCK_SIZE];
     device.read(geometry.config_place(label), &mut block[..])?;
@@ -174,14 +186,30 @@ fn read_config<D: SectorDevice>(
 }
 
 // What a block is as the config of a device of this size.
-fn find_config(block: &[u8; BLOCK_SIZE], size: u64) -> ConfigFound {
-    if let Some(config) = LabelConfig::decode(block, size) {
-        return ConfigFound::Config(config);
+fn find_config(block: &[u8; BLOCK_SIZE], size: u64) -> ConfigFound
+    ensures { IsStateOf block.now size (state_of result) }
+{
+    match LabelConfig::decode(block, size) {
+        Some(config) => ConfigFound::Config(config),
+        None => find_reason(block),
     }
+}
+
+// Why a block is no valid config.
+fn find_reason(block: &[u8; BLOCK_SIZE]) -> ConfigFound
+    ensures { IsReasonOf block.now (state_of result) }
+{
     let other = read_u64(block, SIZE_AT);
-    if LabelConfig::decode(block, other).is_some() {
-        return ConfigFound::OfSize(other);
+    match LabelConfig::decode(block, other) {
+        Some(_) => ConfigFound::OfSize(other),
+        None => find_contents(block),
     }
+}
+
+// Whether a block is zeros.
+fn find_contents(block: &[u8; BLOCK_SIZE]) -> ConfigFound
+    ensures { IsReasonOf block.now (state_of result) }
+{
     if are_zeros(block) {
         ConfigFound::Zeros
     } else {

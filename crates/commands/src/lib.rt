@@ -12,6 +12,7 @@ mod checks;
 mod clients;
 mod failure;
 mod label_lines;
+mod label_states;
 mod laws;
 mod load;
 mod names;

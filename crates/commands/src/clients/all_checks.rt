@@ -1,11 +1,12 @@
 //! What callers rely on of a check that goes on after a damage.
 
-ghost use Rattle.std.specs.Prelude.{ℕ, ◌≡◌, ◌≢◌, ◌++◌, [], ◌∷◌, IfOk, IsOk, IsTrue, Some, codes};
+ghost use Rattle.std.specs.Prelude.{ℕ, ◌≡◌, ◌≢◌, ◌<◌, ◌++◌, [], ◌∷◌, IfOk, IsOk, IsTrue, Some, codes};
 ghost use Rattle.std.specs.Fmt.{decimal};
 ghost use Rattle.base.specs.tree.Mount.{IsTreeDamaged, MountsTo};
 ghost use Rattle.base.specs.declared.names.Group.{Group};
 ghost use Rattle.base.specs.disk.Disk.{bytes_of};
 ghost use Rattle.base.specs.history.Contents.{Contents};
+ghost use Rattle.commands.specs.FoundLabels.{HasConfig};
 ghost use Rattle.commands.specs.declared.checks.Finding.TheVariants.{Clean};
 
 use super::BRIEF;
@@ -17,14 +18,16 @@ use device_model::{FileRefusal, SectorDevice};
 use std::alloc::Global;
 use std::io::Write;
 
-// The output had no bytes before.
+// Each label has a valid config, and the output had no bytes before.
 fn a_whole_pool_has_one_line<D: SectorDevice + NotesRefusals + Drop, W: Write, E: Write>(
     alloc: Global,
     device: D,
     out: &mut W,
     errors: &mut E,
 ) -> u8
-    ensures { result ≡ 0 → IsTrue D.keeps_model → W.contents out.old ≡ Some []
+    ensures { result ≡ 0 → IsTrue D.keeps_model
+        → ((label : ℕ) → label < 4 → HasConfig (bytes_of (D.disk device).now) label)
+        → W.contents out.old ≡ Some []
         → (group : ℕ) × (records : ℕ) × (W.contents out.new ≡ Some (codes "clean group "
         ++ (decimal group ++ (codes " records " ++ (decimal records ++ codes "\n"))))) }
 {
