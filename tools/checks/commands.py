@@ -7,9 +7,10 @@ files hold.
 - New files, byte for byte; a file that is there keeps what a create doesn't write.
 - What `show`, `check` and `ls` print of a pool that is new, synced, logged, damaged or missing. The moments that are
   stored. Bytes that are put and got. What labels hold. What a script may do at its end.
-- Faults of the command line, files that can't be used and why, locks of other processes, output that can't be
-  written, standard streams that are closed.
-- A script answers each line before the next one comes. A load shows its progress on a terminal alone.
+- Faults of the command line, files that can't be used and why, values outside their limits, locks of other processes,
+  output that can't be written, standard streams that are closed or terminals.
+- A script answers each line before the next one comes. A load shows its progress on a terminal alone, and names the
+  objects that it empties.
 - The help and the version.
 
 Each difference is printed, and then the status is 1. The end prints how many runs were compared.
@@ -70,6 +71,8 @@ log-flush
 """
 
 LOAD = ["--workers", "3", "--ops", "0", "--seed", "5"]
+# The pool's name `a`, ESC, `"`, `\`, `é`, CSI, as a cause has it.
+ESCAPED = r'a\x1b\"\\é\x9b'
 NOT_REGULAR, IN_USE = "not a regular file", "in use by another process or device"
 
 
@@ -114,9 +117,10 @@ class Commands(Judge):
         super().__init__("commands")
         self.ztxg, self.runs = ztxg, 0
 
-    def run(self, words, script="", seconds=SECONDS, ztxg=None, **process):
-        """The status of a run, what it printed, and what it printed on standard error."""
+    def run(self, words, script="", seconds=SECONDS, ztxg=None, quiet=True, **process):
+        """The status of a run, what it printed, and what it printed on standard error, without causes if it is quiet."""
         self.runs += 1
+        words = ["-q", *words] if quiet else words
         ran = program.run([ztxg or self.ztxg, *words], script.splitlines(), seconds, **process)
         return ran.status, ran.text(), ran.error_text()
 
@@ -208,7 +212,8 @@ class Commands(Judge):
         for name in ("show", "ls"):
             self.ends([name, "synced.pool"], 1, errors=f"ztxg: {refusal}")
         cause = f"the block of kind 5 at byte {DATA} is damaged"
-        self.ends(["-v", "show", "synced.pool"], 1, errors=f"ztxg: {refusal}ztxg: cause: {cause}\n")
+        for words in (["show", "synced.pool"], ["-v", "show", "synced.pool"]):
+            self.ends(words, 1, errors=f"ztxg: {refusal}ztxg: cause: {cause}\n", quiet=False)
         # Of two damages a check tells the first one, or both. The third record's block is the one after the first's.
         self.make("twice.pool", SYNC.replace("w:1:0:4", "w:1:0:4 w:1:8064:4").replace("abcd", "abcd wxyz"))
         self.ends(["check", "twice.pool"], 0, "clean group 9 records 0\n")
@@ -292,7 +297,7 @@ class Commands(Judge):
             self.differ("a put into a full pool ends with", (status, out, errors))
         elif told[1]:
             self.ends(["get", name, str(number)], 0, big[: int(told[1])])
-        self.ends(["check", name, "-v"], 0, self.run(["check", name])[1])
+        self.ends(["check", name], 0, self.run(["check", name])[1], quiet=False)
 
     def parts(self):
         """What is synced of an object, and in the log alone."""
@@ -315,11 +320,21 @@ class Commands(Judge):
             if (found := self.put(["put", name, "1"], letter * size)) != (0, done, ""):
                 self.differ(f"a put of {size} bytes ends with", found)
             self.ends(["get", name, "1"], 0, letter * size)
+        # Of 384 blocks 230 are the tree's, and one is the log's. These puts need 506 and 180, and free 228 and 3.
+        put = ["put", "small.pool", "1"]
+        for words, size in [(put, 2_000_000), ([*put, "--offset", "900000"], 700_000)]:
+            if (found := self.put(words, "d" * size)) != (1, "", "ztxg: refused 16 NoSpace\n"):
+                self.differ(words, f"of {size} bytes ends with", found)
+        self.ends(["get", "small.pool", "1"], 0, "c" * 900_000)
+        found = self.put([*put, "--offset", "1000000"], "")
+        if found != (0, "put 0 bytes in 0 transactions\n", ""):
+            self.differ("a put of no byte ends with", found)
 
     def put(self, words, text):
         """How a run ends whose input has no newline at its end."""
         self.runs += 1
-        ran = subprocess.run([self.ztxg, *words], input=text, capture_output=True, text=True, timeout=SECONDS)
+        words = [self.ztxg, "-q", *words]
+        ran = subprocess.run(words, input=text, capture_output=True, text=True, timeout=SECONDS)
         return ran.returncode, ran.stdout, ran.stderr
 
     def labels(self):
@@ -338,8 +353,23 @@ class Commands(Judge):
         pathlib.Path(name).write_bytes(bytes(6 * MIB))
         zeros = "".join(f"label {n} config none zeros\nlabel {n} uberblocks 0\n" for n in range(4))
         self.ends(["labels", name], 0, zeros + "active none\n")
+        self.ends(["check", name, "--all"], 1, "no pool\n")
         os.truncate(name, 6 * MIB - 1)
         self.ends(["labels", name], 1, errors="ztxg: refused 8 BadGeometry\n")
+        # A check of all names the labels whose config is gone, and stays as it was otherwise.
+        clean = "clean group 4 records 0\n"
+        self.make("lost.pool")
+        self.ends(["check", "lost.pool", "--all"], 0, clean)
+        flawed("lost.pool", LABEL + CONFIG_AT)
+        with open("lost.pool", "r+b") as file:
+            file.seek(SIZE - LABEL + CONFIG_AT)
+            file.write(bytes(BLOCK))
+        lost = "label 1 config none check\nlabel 3 config none zeros\n"
+        self.ends(["check", "lost.pool", "--all"], 0, clean + lost)
+        self.ends(["check", "lost.pool"], 0, clean)
+        self.put(["put", "lost.pool", "1"], "abcd")
+        flawed(flawed("lost.pool", DATA + 64), CONFIG_AT)
+        self.ends(["check", "lost.pool", "--all"], 1, f"damaged 5 {DATA}\nlabel 0 config none check\n")
 
     def endings(self):
         """A script that stops at a refusal, one that syncs, and commits that aren't durable."""
@@ -414,7 +444,7 @@ class Commands(Judge):
             [*load, *LOAD, "--cache", past],
             ["show", b"\xff"],
         ]:
-            status, out, errors = self.run(words)
+            status, out, errors = self.run(words, quiet=False)
             if (status, out) != (2, "") or not errors:
                 self.differ(words, "ends with", (status, out, errors))
         for dirty, refusal in [("4095", "11 BadRange"), ("1099511627777", "11 BadRange"), ("4096", "17 Throttled")]:
@@ -432,15 +462,46 @@ class Commands(Judge):
                 self.differ("a refused cache changes the file")
 
     def unusable(self, words, file, cause, **how):
-        """The file can't be used. Why is told in a second line, if -v stands before the command's name or after it."""
+        """The file can't be used. A second line tells why, unless -q stands before the command's name or after it."""
         fact = f"ztxg: cannot use {file}\n"
-        for told in (words, ["-v", *words], [words[0], "-v", *words[1:]], [*words, "--verbose"]):
-            self.ends(told, 3, errors=fact if told is words else f"{fact}ztxg: cause: {cause}\n", **how)
+        self.ends(words, 3, errors=f"{fact}ztxg: cause: {cause}\n", quiet=False, **how)
+        for quiet in (["-q", *words], [words[0], "-q", *words[1:]], [*words, "--quiet"], [*words, "-q", "-v"]):
+            self.ends(quiet, 3, errors=fact, quiet=False, **how)
 
     def read(self, words):
-        """How a reader ends with -v if it ends so without: a refusal has a second line."""
+        """How a reader ends that isn't quiet, by how it ends that is: a refusal has a second line."""
         status, out, errors = self.run(words)
         return status, out, f"{errors}ztxg: cause: there is no such object\n" if status else errors
+
+    def limits(self):
+        """A value outside its limits is told with them, and a name with its control characters escaped."""
+        causes = dict(table("| value outside its limits | CAUSE |"))
+        name, most = self.make("limits.pool"), layout.MAX_LENGTH
+        make, put, end = ["create", "limited.pool"], ["put", name, "1"], causes["the end E of what is put"]
+        for words, refusal, cause in [
+            ([*make, "tank", "77", "7000000"], "8 BadGeometry", causes["SIZE"].replace(" S:", " 7000000:")),
+            ([*make, "1x", "77", str(SIZE)], "11 BadRange", causes["NAME"].replace("NAME", "1x")),
+            ([*make, 'a\x1b"\\é\x9b', "77", str(SIZE)], "11 BadRange", causes["NAME"].replace("NAME", ESCAPED)),
+            (["get", name, "9999"], "11 BadRange", causes["OBJECT"].replace(" N:", " 9999:")),
+            (["get", name, "1", "--offset", str(most)], "11 BadRange", causes["O"].replace(" O:", f" {most}:")),
+            (["get", name, "1", "--length", "0"], "11 BadRange", causes["L"]),
+            (["rm", name, "5292"], "11 BadRange", causes["OBJECT"].replace(" N:", " 5292:")),
+            (["put", name, "5292"], "11 BadRange", causes["OBJECT"].replace(" N:", " 5292:")),
+            ([*put, "--offset", str(most + 1)], "11 BadRange", causes["O"].replace(" O:", f" {most + 1}:")),
+            # The line that is put has a newline, too.
+            ([*put, "--offset", str(most - 2)], "11 BadRange", end.replace(" E:", f" {most + 1}:")),
+            (["load", name, *LOAD, "--dirty", "1"], "11 BadRange", causes["D"].replace(" D:", " 1:")),
+            (["load", name, *LOAD, "--cache", "4097"], "11 BadRange", causes["C"].replace(" C:", " 4097:")),
+        ]:
+            self.ends(words, 1, errors=f"ztxg: refused {refusal}\nztxg: cause: {cause}\n", script="xy", quiet=False)
+        cause = causes["an input of more bytes"]
+        self.runs += 1
+        words = [self.ztxg, "put", name, "1"]
+        ran = subprocess.run(words, input=bytes(most + 1), capture_output=True, timeout=SECONDS)
+        if (ran.returncode, ran.stderr.decode()) != (1, f"ztxg: refused 11 BadRange\nztxg: cause: {cause}\n"):
+            self.differ("an input of", most + 1, "bytes ends with", ran)
+        for file, shown in [("\x1b[31m", '"\\x1b[31m"'), ('two\nlines"', '"two\\x0alines\\""'), ('"plain"', '"plain"')]:
+            self.ends(["show", file], 3, errors=f"ztxg: cannot use {shown}\n")
 
     def unusable_files(self):
         os.mkdir("folder")
@@ -467,14 +528,15 @@ class Commands(Judge):
                 fcntl.flock(file, lock)
                 for name, words in commands("held.pool").items():
                     if readers and name in READERS:
-                        self.ends([*words, "-v"], *self.read(words))
+                        self.ends(words, *self.read(words), quiet=False)
                     else:
                         self.unusable(words, "held.pool", IN_USE)
         if pathlib.Path("held.pool").read_bytes() != made:
             self.differ("a file that is held changes")
         os.truncate("held.pool", 0)
         cause = "a pool can't have the size of this device"
-        self.ends(["-v", "check", "held.pool"], 1, errors=f"ztxg: refused 8 BadGeometry\nztxg: cause: {cause}\n")
+        refused = f"ztxg: refused 8 BadGeometry\nztxg: cause: {cause}\n"
+        self.ends(["check", "held.pool"], 1, errors=refused, quiet=False)
 
     def denied_files(self):
         """Files and folders that this user may not use. For root the program runs as nobody does."""
@@ -588,6 +650,15 @@ class Commands(Judge):
             self.make("load.pool")
             done = f"committed {17 + 16 * int(count)}\ndigest {digests[count]}\n"
             self.ends([*loaded, str(dirty)], 0, done, seconds=LOAD_SECONDS)
+        # Objects that are there are emptied, and those of them that have bytes are named before.
+        name = self.make("load.pool")
+        for number, text in [("17", "kept"), ("16", "b" * 70_000), ("5", "8 bytes."), ("4", "")]:
+            self.put(["put", name, number], text)
+        emptied = "ztxg: object {} has {} bytes, which the load replaces\n".format
+        status, _, errors = self.run(["load", name, *LOAD])
+        if (status, errors) != (0, emptied(5, 8) + emptied(16, 70_000)):
+            self.differ("a load that empties objects ends with", (status, errors))
+        self.ends(["ls", name], 0, "".join(f"{number} 0\n" for number in range(17)) + "17 4\n")
         main, other = pty.openpty()
         words = [self.ztxg, "load", self.make("load.pool"), "--workers", "2", "--ops", "8", "--seed", "5"]
         with subprocess.Popen(words, stdout=subprocess.PIPE, stderr=other) as running:
@@ -599,18 +670,47 @@ class Commands(Judge):
         if running.returncode or not out.startswith(b"committed 145\n") or not percents or max(percents) != 100:
             self.differ("a load on a terminal shows", shown)
 
+    def terminals(self):
+        """A put says that it reads from a terminal, and a serve doesn't write to one."""
+        name = self.make("terminal.pool")
+        main, other = pty.openpty()
+        words = [self.ztxg, "put", name, "1"]
+        self.runs += 1
+        pipe = subprocess.PIPE
+        with subprocess.Popen(words, stdin=other, stdout=pipe, stderr=pipe, text=True) as running:
+            os.write(main, b"hello\n\x04")
+            found = running.communicate(timeout=SECONDS)
+        told = "ztxg: reading the object from the terminal, end it with Ctrl-D\n"
+        if found != ("put 6 bytes in 1 transactions\n", told):
+            self.differ("a put from a terminal ends with", found)
+        made = pathlib.Path(name).read_bytes()
+        self.runs += 1
+        streams = {"stdin": subprocess.DEVNULL, "stdout": other, "stderr": subprocess.PIPE}
+        ran = subprocess.run([self.ztxg, "serve", name], timeout=SECONDS, **streams)
+        if (ran.returncode, ran.stderr) != (3, b"ztxg: standard output is a terminal, and frames are not text\n"):
+            self.differ("a serve to a terminal ends with", ran)
+        if pathlib.Path(name).read_bytes() != made:
+            self.differ("a serve to a terminal opens its pool")
+        os.close(other)
+        os.close(main)
+
     def texts(self):
         """The version and the help, against README.md and the tables of docs/FORMATS.md."""
         readme = (TOP / "README.md").read_text()
         version, kit = re.search(r"This is version ([0-9.]+), .*? names `(.*?)`", readme).groups()
-        self.ends(["--version"], 0, f"ztxg {version} ({kit})\n")
+        self.ends(["--version"], 0, f"ztxg {version} ({kit})\n", quiet=False)
         names = {(number, name) for number, name, _ in table("| n | name | when |")}
         names |= {("7", "Damaged KIND ADDRESS")}
-        for words in [["--help"], *([name, "--help"] for name in commands(""))]:
-            status, out, errors = self.run(words)
+        for words in [["--help"], *([name, "--help"] for name in [*commands(""), "serve"])]:
+            status, out, errors = self.run(words, quiet=False)
             if (status, errors) != (0, "") or not out:
                 self.differ(words, "ends with", (status, errors))
-            defaults = {"create": ["0"], "script": ["0"], "load": ["1048576", "256", "0"], "get": ["0"], "put": ["0"], "rm": ["0"]}.get(words[0], [])
+            wide = [line for line in out.splitlines() if len(line) > 100]
+            if wide:
+                self.differ(words, "has lines of more than 100 columns", wide)
+            defaults = {"load": ["1048576", "256", "0"], "serve": ["4194304", "256", "0"]}.get(words[0], [])
+            if words[0] in ("create", "script", "get", "put", "rm"):
+                defaults = ["0"]
             if re.findall(r"\[default: (\w+)\]", out) != defaults:
                 self.differ(words, "names other defaults than", defaults)
             if words != ["--help"]:
@@ -644,6 +744,7 @@ def main(ztxg):
         judge.waits()
         judge.moments()
         judge.faults()
+        judge.limits()
         judge.unusable_files()
         judge.denied_files()
         judge.full_output()
@@ -651,6 +752,7 @@ def main(ztxg):
         judge.closed_streams()
         judge.scripts()
         judge.loads()
+        judge.terminals()
         judge.texts()
         os.chdir(TOP)
     print(f"{judge.runs} runs of the program, {judge.differences} differences")
