@@ -242,7 +242,7 @@ class Bench:
 
     def differs(self, wanted, *words, script=()):
         """How a command differs from what is wanted, or None."""
-        found = run([self.ztxg, *words], script, SECONDS).in_lines()
+        found = run([self.ztxg, "-q", *words], script, SECONDS).in_lines()
         return None if found == wanted else f"{words[0]}: wanted {wanted}, found {found}"
 
     def look(self, expected):

@@ -76,7 +76,7 @@ def judge_all(ztxg, file, image, lines):
 
 def judge_refused(ztxg, file, image, refused):
     """How `show` and an import differ on an image that they refuse, or None."""
-    if (found := run([ztxg, "show", file], seconds=SECONDS).in_lines()) != (1, [], [f"ztxg: {refused}"]):
+    if (found := run([ztxg, "-q", "show", file], seconds=SECONDS).in_lines()) != (1, [], [f"ztxg: {refused}"]):
         return f"show: {found}"
     return judge_refused_import(ztxg, file, image, refused)
 

@@ -44,7 +44,7 @@ class Device:
         """A load on a new pool."""
         pathlib.Path(self.file).unlink(missing_ok=True)
         create(self.ztxg, self.file)
-        words = ["load", self.file, "--workers", str(WORKERS), "--ops", str(WRITES), "--seed", str(SEED)]
+        words = ["-q", "load", self.file, "--workers", str(WORKERS), "--ops", str(WRITES), "--seed", str(SEED)]
         return self.run([self.ztxg, *words], kind, at)
 
     def receipts_of(self, writes, kind="", at=0):

@@ -18,7 +18,7 @@ NAMES = ("tank", "pond")
 
 
 def start(ztxg, file, name, size):
-    words = [ztxg, "create", file, name, "77", str(size)]
+    words = [ztxg, "-q", "create", file, name, "77", str(size)]
     return subprocess.Popen(words, stdout=subprocess.PIPE, stderr=subprocess.PIPE, text=True)
 
 
