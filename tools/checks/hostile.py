@@ -25,8 +25,8 @@ from tools.harness.pool_files import IN_MEMORY, pool_file
 from tools.harness.program import Lines, add_program, run
 from tools.model.contents import digest
 from tools.model import layout
-from tools.model.layout import DIRTY_MAX, NAMED, RECORD, STRIP, VERSION
-from tools.model.pool_bytes import Config
+from tools.model.layout import CONFIG_AT, DIRTY_MAX, NAMED, RECORD, STRIP, VERSION, label_places
+from tools.model.pool_bytes import Config, number_at, read_config
 from tools.model.pool_image import (
     BadGeometry,
     Damaged,
@@ -181,11 +181,28 @@ def outcome(image):
         return Refusal(8, "BadGeometry")
 
 
+def lost_labels(image):
+    """What a check of all prints of the labels that have no valid config, if another one has one."""
+    lost = []
+    for n, (label, config) in enumerate(zip(label_places(image.size), image.configs())):
+        if not config:
+            lost.append(f"label {n} config none {reason(image.block(label + CONFIG_AT))}")
+    return lost if any(image.configs()) else []
+
+
+def reason(block):
+    """Why a block is no config of a device."""
+    size = number_at(block, 64 + 8)
+    if read_config(block, size):
+        return f"size {size}"
+    return "check" if any(block) else "zeros"
+
+
 class Expected:
     """What an inspection and an import make of an image."""
 
     def __init__(self, image):
-        self.mount = outcome(image)
+        self.image, self.mount = image, outcome(image)
         self.is_whole = not isinstance(self.mount, Refusal)
 
     def check(self):
@@ -195,7 +212,8 @@ class Expected:
         return Lines(0, [f"clean group {one.uberblock.group} records {one.records}"], [])
 
     def check_all(self):
-        return self.check() if self.is_whole else self.mount.checked(self.mount.later)
+        found = self.check() if self.is_whole else self.mount.checked(self.mount.later)
+        return found if found.errors else found._replace(out=[*found.out, *lost_labels(self.image)])
 
     def show(self):
         return Lines(0, show_lines(self.mount), []) if self.is_whole else self.mount.shown()
