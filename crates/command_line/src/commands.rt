@@ -110,7 +110,11 @@ fn show_command<'a>(alloc: Global) -> Result<Command<'a>, AllocError> {
 }
 
 fn check_command<'a>(alloc: Global) -> Result<Command<'a>, AllocError> {
-    let all = flag(alloc, "all", "Goes on after a damage, and prints each, and each damaged label");
+    let all = flag(
+        alloc,
+        "all",
+        "Goes on after a damage, and prints each, and each damaged label",
+    );
     let words = vec![in alloc; read_file(alloc), all]?;
     let about = "Checks whether the pool in a file is whole; it only reads the file";
     described(alloc, "check", about, help::CHECK).args(words)
@@ -173,7 +177,8 @@ fn load_command<'a>(alloc: Global) -> Result<Command<'a>, AllocError> {
         cache_blocks(alloc),
         moment(alloc),
     ]?;
-    let about = "Empties the objects 0 to 16 of the pool in a file, makes many small writes, and syncs";
+    let about =
+        "Empties the objects 0 to 16 of the pool in a file, makes many small writes, and syncs";
     described(alloc, "load", about, help::LOAD).args(words)
 }
 

@@ -31,7 +31,7 @@ use Rattle.commands.specs.declared.checks.Finding.TheVariants as finding
 use Rattle.commands.specs.declared.checks.Finding.TheVariants.{Clean}
 use Rattle.commands.specs.declared.label_states.LabelState.{LabelState}
 use Rattle.commands.proofs.Findings.{found_clean}
-use Rattle.commands.proofs.FoundLabels.{nothing_of_whole}
+use Rattle.commands.proofs.FoundLabels.{named_of, nothing_of_whole}
 use Rattle.commands.proofs.MountedBytes.{appended}
 
 module _ {Dev : Type 0} (D : Ghosts Dev) (old new : Dev) where
@@ -141,13 +141,12 @@ module _ (image : List ℕ) (list : List Finding) (found : AreFoundIn image list
   pub clean_line : all_status list ≡ 0 → (states : List LabelState) (before after : Option (List ℕ)) → before ≡ Some [] → Appends before after (found_lines list states)
       → (group : ℕ) × (records : ℕ) × (after ≡ Some ((codes "clean group " ++ (decimal group ++ (codes " records " ++ (decimal records ++ codes "\n")))) ++ label_lines states))
   clean_line zero states before after empty writes =
-      let (group, records, is, found) = all_clean zero in
-      (
+      let (group, records, is, found) = all_clean zero in (
         group.0,
         records,
         appended after _ (subst (λ (b : Option (List ℕ)). Appends b after (found_lines list states)) empty writes)
-        ∙ ap (λ (l : List Finding). Some (finding_lines l ++ label_lines states)) is
-        ∙ ap (λ (l : List ℕ). Some (l ++ label_lines states)) (flat group.0 records),
+            ∙ ap (λ (l : List Finding). Some (finding_lines l ++ label_lines states)) is
+            ∙ ap (λ (l : List ℕ). Some (l ++ label_lines states)) (flat group.0 records),
       )
 
   -- if each label has a valid config it is all
@@ -157,3 +156,12 @@ module _ (image : List ℕ) (list : List Finding) (found : AreFoundIn image list
       let (group, records, is) = clean_line zero states before after empty writes in
       let line : List ℕ = codes "clean group " ++ (decimal group ++ (codes " records " ++ (decimal records ++ codes "\n"))) in
       (group, records, is ∙ ap (λ (l : List ℕ). Some (line ++ l)) (nothing_of_whole image states are all) ∙ ap Some (append-nil line))
+
+  -- a label without a config is named after it, if the others have one
+  pub label_named : all_status list ≡ 0 → (states : List LabelState) → AreLabelStates image states → HasConfig image 0 → (HasConfig image 1 → ⊥) → HasConfig image 2 → HasConfig image 3 → (before after : Option (List ℕ)) → before ≡ Some [] → Appends before after (found_lines list states)
+      → (front reason : List ℕ) × (after ≡ Some (front ++ (codes "label 1 config none " ++ reason)))
+  label_named zero states are first second third fourth before after empty writes =
+      let (group, records, is) = clean_line zero states before after empty writes in
+      let line : List ℕ = codes "clean group " ++ (decimal group ++ (codes " records " ++ (decimal records ++ codes "\n"))) in
+      let (reason, named) = named_of image first second third fourth states are.labels are.each in
+      (line, reason, is ∙ ap (λ (l : List ℕ). Some (line ++ l)) named)

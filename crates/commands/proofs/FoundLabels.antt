@@ -1,12 +1,13 @@
 -- The labels without a valid config are those of the image, and they are printed, a line each.
-use Rattle.std.proofs.Common.{◌≡◌, ◌++◌, ◌+◌, ◌<◌, ap, append_assoc, arith, drop, get_or, length, map, ℕ, zero, suc, List, [], ◌∷◌, refl, subst, sym, true, false, ◌∙◌}
+use Rattle.std.proofs.Common.{◌≡◌, ◌≢◌, ◌++◌, ◌+◌, ◌<◌, ap, append-nil, append_assoc, arith, drop, get_or, length, map, ℕ, zero, suc, List, [], ◌∷◌, refl, subst, sym, true, false, ◌∙◌}
 use Rattle.std.proofs.KnownBytes.{Appends-trans}
 use Rattle.std.specs.Io.KnownBytes.{Appends}
-use Rattle.std.specs.Prelude.{Bool, None, Option, Some, slice_get}
+use Rattle.std.specs.Fmt.{decimal, digits}
+use Rattle.std.specs.Prelude.{Bool, None, Option, Some, codes, slice_get}
 use Rattle.std.proofs.lemmas.List.{drop_more}
 use Rattle.labels.specs.Configs.{IsConfigBlock}
 use Rattle.base.specs.formats.Labels.{Config}
-use Rattle.commands.specs.FoundLabels.{AreLabelStates, HasConfig, IsReasonOf, IsStateAt, IsStateOf, config_bytes_at, label_lines, some_whole, state_line, state_lines}
+use Rattle.commands.specs.FoundLabels.{AreLabelStates, HasConfig, IsReasonOf, IsStateAt, IsStateOf, config_bytes_at, config_line, label_lines, some_whole, state_line, state_lines}
 use Rattle.commands.specs.declared.label_states.ConfigState.{ConfigState}
 use Rattle.commands.specs.declared.label_states.ConfigState.TheVariants.{OtherSize, Unchecked, Whole, Zeroed}
 use Rattle.commands.specs.declared.label_states.LabelState.{LabelState}
@@ -64,10 +65,10 @@ module _ (image : List ℕ) (all : (label : ℕ) → label < 4 → HasConfig ima
   nothing_of_four : (a b c d : LabelState) → map (λ (s : LabelState). s.label) (a ∷ b ∷ c ∷ d ∷ []) ≡ 0 ∷ 1 ∷ 2 ∷ 3 ∷ [] → ((k : ℕ) (s : LabelState) → slice_get (a ∷ b ∷ c ∷ d ∷ []) k ≡ Some s → IsStateAt image s)
       → state_lines (a ∷ b ∷ c ∷ d ∷ []) ≡ []
   nothing_of_four a b c d labels each =
-      let one : state_line a ≡ [] = of_label a 0 (omega arith) cc (each 0 a refl) in
-      let two : state_line b ≡ [] = of_label b 1 (omega arith) cc (each 1 b refl) in
-      let three : state_line c ≡ [] = of_label c 2 (omega arith) cc (each 2 c refl) in
-      let four : state_line d ≡ [] = of_label d 3 (omega arith) cc (each 3 d refl) in
+      let one : state_line a ≡ [] = of_label a 0 (omega arith) (cc) (each 0 a refl) in
+      let two : state_line b ≡ [] = of_label b 1 (omega arith) (cc) (each 1 b refl) in
+      let three : state_line c ≡ [] = of_label c 2 (omega arith) (cc) (each 2 c refl) in
+      let four : state_line d ≡ [] = of_label d 3 (omega arith) (cc) (each 3 d refl) in
       rw (one, two, three, four) refl
 
   nothing_of : (states : List LabelState) → map (λ (s : LabelState). s.label) states ≡ 0 ∷ 1 ∷ 2 ∷ 3 ∷ [] → ((k : ℕ) (s : LabelState) → slice_get states k ≡ Some s → IsStateAt image s)
@@ -78,6 +79,51 @@ module _ (image : List ℕ) (all : (label : ℕ) → label < 4 → HasConfig ima
   nothing_of (a ∷ b ∷ []) labels each = absurd (let no : 2 ≡ 4 = ap length labels in omega (arith, no))
   nothing_of (a ∷ b ∷ c ∷ []) labels each = absurd (let no : 3 ≡ 4 = ap length labels in omega (arith, no))
   nothing_of (a ∷ b ∷ c ∷ d ∷ e ∷ more) labels each = absurd (let no : suc (suc (suc (suc (suc (length (map (λ (s : LabelState). s.label) more)))))) ≡ 4 = ap length labels in omega (arith, no))
+
+-- the line of label 1, if it has no config
+named_line : (config : ConfigState) → config ≢ Whole → (reason : List ℕ) × (config_line 1 config ≡ codes "label 1 config none " ++ reason)
+unfolding digits
+named_line Whole other = absurd (other refl)
+named_line (OtherSize size) other = (codes "size " ++ (decimal size ++ codes "\n"), refl)
+named_line Zeroed other = (codes "zeros\n", refl)
+named_line Unchecked other = (codes "check\n", refl)
+
+named_line_at : (label : ℕ) (config : ConfigState) → label ≡ 1 → config ≢ Whole → (reason : List ℕ) × (config_line label config ≡ codes "label 1 config none " ++ reason)
+named_line_at label config is other = let (reason, line) = named_line config other in (reason, ap (λ (n : ℕ). config_line n config) is ∙ line)
+
+-- it is all that is printed, if the others have one
+second_alone : (a b c d : LabelState) (line : List ℕ) → a.config ≡ Whole → c.config ≡ Whole → d.config ≡ Whole → state_line b ≡ line → label_lines (a ∷ b ∷ c ∷ d ∷ []) ≡ line
+second_alone a b c d line one three four is = rw (one, three, four, is) (append-nil line)
+
+module _ (image : List ℕ) (first : HasConfig image 0) (second : HasConfig image 1 → ⊥) (third : HasConfig image 2) (fourth : HasConfig image 3) where
+  -- the state of a label that has a config, and of one that has none
+  is_whole_at : (s : LabelState) (label : ℕ) → s.label ≡ label → HasConfig image label → IsStateAt image s → s.config ≡ Whole
+  is_whole_at s label is has state =
+      let (c, block) = subst (HasConfig image) (sym is) has in
+      whole_state (config_bytes_at image s.label) (length image) s.label s.config state c block
+
+  not_whole_at : (s : LabelState) → s.label ≡ 1 → IsStateAt image s → s.config ≢ Whole
+  not_whole_at s is state whole =
+      second (subst (HasConfig image) is (subst (λ (config : ConfigState). IsStateOf (config_bytes_at image s.label) (length image) config) whole state))
+
+  named_of_four : (a b c d : LabelState) → map (λ (s : LabelState). s.label) (a ∷ b ∷ c ∷ d ∷ []) ≡ 0 ∷ 1 ∷ 2 ∷ 3 ∷ [] → ((k : ℕ) (s : LabelState) → slice_get (a ∷ b ∷ c ∷ d ∷ []) k ≡ Some s → IsStateAt image s)
+      → (reason : List ℕ) × (label_lines (a ∷ b ∷ c ∷ d ∷ []) ≡ codes "label 1 config none " ++ reason)
+  named_of_four a b c d labels each =
+      let one : a.config ≡ Whole = is_whole_at a 0 (cc) first (each 0 a refl) in
+      let is : b.label ≡ 1 = cc in
+      let three : c.config ≡ Whole = is_whole_at c 2 (cc) third (each 2 c refl) in
+      let four : d.config ≡ Whole = is_whole_at d 3 (cc) fourth (each 3 d refl) in
+      let (reason, line) = named_line_at b.label b.config is (not_whole_at b is (each 1 b refl)) in
+      (reason, second_alone a b c d (codes "label 1 config none " ++ reason) one three four line)
+
+  pub named_of : (states : List LabelState) → map (λ (s : LabelState). s.label) states ≡ 0 ∷ 1 ∷ 2 ∷ 3 ∷ [] → ((k : ℕ) (s : LabelState) → slice_get states k ≡ Some s → IsStateAt image s)
+      → (reason : List ℕ) × (label_lines states ≡ codes "label 1 config none " ++ reason)
+  named_of (a ∷ b ∷ c ∷ d ∷ []) labels each = named_of_four a b c d labels each
+  named_of [] labels each = absurd (let no : 0 ≡ 4 = ap length labels in omega (arith, no))
+  named_of (a ∷ []) labels each = absurd (let no : 1 ≡ 4 = ap length labels in omega (arith, no))
+  named_of (a ∷ b ∷ []) labels each = absurd (let no : 2 ≡ 4 = ap length labels in omega (arith, no))
+  named_of (a ∷ b ∷ c ∷ []) labels each = absurd (let no : 3 ≡ 4 = ap length labels in omega (arith, no))
+  named_of (a ∷ b ∷ c ∷ d ∷ e ∷ more) labels each = absurd (let no : suc (suc (suc (suc (suc (length (map (λ (s : LabelState). s.label) more)))))) ≡ 4 = ap length labels in omega (arith, no))
 
 pub nothing_of_whole : (image : List ℕ) (states : List LabelState) → AreLabelStates image states → ((label : ℕ) → label < 4 → HasConfig image label) → label_lines states ≡ []
 nothing_of_whole image states are all = by (some_whole states) refl

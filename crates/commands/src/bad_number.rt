@@ -1,10 +1,6 @@
 //! A number that a command was given outside its limits.
 
-ghost use Rattle.std.specs.Prelude.{◌≡◌};
-
-use base::{
-    GREATEST_CACHE_BLOCKS, GREATEST_DIRTY_MAX, LEAST_DIRTY_MAX, MAX_LENGTH, OBJECT_COUNT,
-};
+use base::{GREATEST_CACHE_BLOCKS, GREATEST_DIRTY_MAX, LEAST_DIRTY_MAX, MAX_LENGTH, OBJECT_COUNT};
 use std::fmt;
 
 /// A number that a command was given outside its limits. As text it is the number and its limits.

@@ -7,9 +7,9 @@
 //! 3. A put that can't find the blocks that it needs is refused before the first piece (`put_room.rt`).
 
 ghost use Rattle.std.specs.Io.KnownBytes.{Appends};
-ghost use Rattle.std.specs.Prelude.{ℕ, ◌≡◌, ◌≢◌, ◌≤◌, ◌<◌, ◌+◌, ◌*◌, ◌/◌, ◌^◌, ◌∷◌, [], false, true, length, min, take, Err, IfErr, IfOk, IfSome, IsErr, Result};
+ghost use Rattle.std.specs.Prelude.{◌≡◌, ◌≢◌, ◌≤◌, ◌<◌, ◌+◌, ◌*◌, ◌/◌, ◌^◌, ◌∷◌, [], false, true, length, min, take, Err, IfErr, IfOk, IfSome, IsErr};
 ghost use Rattle.base.specs.declared.operation.Op.TheVariants.{Remove};
-ghost ghost use Rattle.base.specs.formats.Limits.{max_length};
+ghost use Rattle.base.specs.formats.Limits.{max_length};
 ghost use Rattle.commands.specs.Committed.{MakesFirst, PutsAll, PutsAndPrints, PutsInto, PutsOrFails, RefusesPut, RefusesRemoval, RemovesFrom, RemovesOn, RemovesOrFails, command_owner, nothing_put, result_after};
 ghost use Rattle.commands.specs.Puts.{bad_number_of, first_byte, is_target, piece_ops, put_transactions, removed_line, rest_transactions, start_of};
 ghost use Rattle.pool_threads.specs.LongWrites.{piece_size};
@@ -112,7 +112,8 @@ impl Put {
 /// The status is 0 if all is durable, and how many bytes it were is written to `out`. It is 1 if the engine refused it,
 /// and 3 if the input can't be read, the file was not opened as a device, or `out` can't be written. If only the line
 /// was not written, all is durable even so. A failure is reported on `errors`, and so is how many bytes were committed
-/// before it. The object's number, the offset and the number of the bytes are tested before the device is called.
+/// before it. The object's number, the offset and the number of the bytes are tested before the device is called. If
+/// the pool can't have the blocks that the bytes need, it is refused `NoSpace`, and nothing is committed.
 pub fn run_put<R: Wait + AllocGlobal, D: SectorDevice + NotesRefusals + Drop, W: Write, E: Write>(
     rt: &R,
     arguments: PutArguments<'_>,

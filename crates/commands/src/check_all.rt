@@ -1,5 +1,5 @@
-//! The command `check` with `--all`: it goes on after a damage, and writes a line for each. Then it writes a line for each
-//! label that has no valid config, if another one has. It only reads.
+//! The command `check` with `--all`: it goes on after a damage, and writes a line for each. Then it writes a line for
+//! each label that has no valid config, if another one has. It only reads.
 
 ghost use Rattle.std.specs.Prelude.{◌≡◌, ◌≢◌, ◌≤◌, ◌⊎◌, Err, IfErr, IfOk, IsErr, IsTrue, List, OnOk, map};
 ghost use Rattle.std.specs.Io.KnownBytes.{Appends};
@@ -76,13 +76,13 @@ fn damage_findings(alloc: Global, damages: &[BlockDamage]) -> Result<Vec<Finding
         .collect(alloc)
 }
 
-/// Writes to `out` all that a check of the pool in a file found, a line each, and then a line for each label that has no
-/// valid config, if another one has. Returns the exit status. It only reads the file: it makes no write and no flush,
-/// whatever it returns.
+/// Writes to `out` all that a check of the pool in a file found, a line each. Then it writes a line for each label that
+/// has no valid config, if another one has, and returns the exit status. It only reads the file: it makes no write and
+/// no flush, whatever it returns.
 ///
-/// The status is 0 if the pool is whole, whatever its labels hold. It is 1 if a block is damaged, if there is no pool, or if the engine refused
-/// the check; then nothing is written. It is 3 if the file was not opened as a device or `out` can't be written. A
-/// failure is reported on `errors`.
+/// The status is 0 if the pool is whole, whatever its labels hold. It is 1 if a block is damaged, if there is no pool,
+/// or if the engine refused the check; then nothing is written. It is 3 if the file was not opened as a device or `out`
+/// can't be written. A failure is reported on `errors`.
 pub fn run_check_all<D: SectorDevice + NotesRefusals, W: Write, E: Write>(
     alloc: Global,
     file: &str,

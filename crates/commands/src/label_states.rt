@@ -7,7 +7,7 @@ ghost use Rattle.base.specs.disk.Disk.{bytes_of};
 ghost use Rattle.base.specs.formats.Geometry.{IsGeometry};
 ghost use Rattle.device_model.specs.Reading.{OnlyReads};
 ghost use Rattle.commands.specs.Checks.{IsCheckRefusal};
-ghost use Rattle.commands.specs.FoundLabels.{AreLabelStates, IsStateAt, label_lines, some_whole, state_line, state_of};
+ghost use Rattle.commands.specs.FoundLabels.{AreLabelStates, IsStateAt, is_whole, label_lines, some_whole, state_line, state_lines, state_of};
 
 use crate::failure::Failure;
 use crate::label_lines::{ConfigFound, read_config};
@@ -102,14 +102,24 @@ fn state_of(found: &ConfigFound) -> ConfigState
 }
 
 /// Writes a line for each label that has no valid config, if another one has.
-pub(crate) fn write_states<W: Write>(states: &[LabelState], out: &mut W) -> Result<(), Failure>
+pub(crate) fn write_states<W: Write>(states: &[LabelState; 4], out: &mut W) -> Result<(), Failure>
     ensures written { OnOk result (Appends (W.contents out.old) (W.contents out.new)
         (label_lines states.now)) }
     ensures failed { IfErr result (λ failure. failure ≡ Failure.Unwritten) }
 {
-    if !is_some_whole(states) {
-        return Ok(());
+    if is_some_whole(states) {
+        write_all(states, out)
+    } else {
+        Ok(())
     }
+}
+
+// Writes a line for each label that has no valid config.
+fn write_all<W: Write>(states: &[LabelState; 4], out: &mut W) -> Result<(), Failure>
+    ensures written { OnOk result (Appends (W.contents out.old) (W.contents out.new)
+        (state_lines states.now)) }
+    ensures failed { IfErr result (λ failure. failure ≡ Failure.Unwritten) }
+{
     for state in states {
         let Ok(()) = write_state(state, out) else {
             return Err(Failure::Unwritten);
@@ -118,12 +128,17 @@ pub(crate) fn write_states<W: Write>(states: &[LabelState], out: &mut W) -> Resu
     Ok(())
 }
 
-fn is_some_whole(states: &[LabelState]) -> bool
+fn is_some_whole(states: &[LabelState; 4]) -> bool
     ensures { result ≡ some_whole states.now }
 {
-    states
-        .iter()
-        .any(|state| matches!(state.config, ConfigState::Whole))
+    states.iter().any(|state| is_whole(state))
+}
+
+// Whether a label has a valid config.
+fn is_whole(state: &LabelState) -> bool
+    ensures { result ≡ is_whole state.now.config }
+{
+    matches!(state.config, ConfigState::Whole)
 }
 
 fn write_state<W: Write>(state: &LabelState, out: &mut W) -> io::Result<()>

@@ -7,7 +7,7 @@
 ghost use Rattle.std.specs.Io.KnownBytes.{Appends};
 ghost use Rattle.std.specs.Prelude.{◌≡◌, ◌≢◌, ◌≤◌, false, Err, IfErr, IfOk, IsErr, IsTrue, OnOk};
 ghost use Rattle.base.specs.disk.Disk.{bytes_of};
-ghost use Rattle.base.specs.formats.Geometry.{IsGeometry, block_count, is_geometry};
+ghost use Rattle.base.specs.formats.Geometry.{block_count, is_geometry};
 ghost use Rattle.base.specs.formats.Names.{is_name};
 ghost use Rattle.import_replay.specs.CreateRefusals.{CanCreate};
 ghost use Rattle.import_replay.specs.Inspections.{AgreesWithImports, IsInspectionOf};

@@ -1,6 +1,6 @@
 //! What callers rely on of a check that goes on after a damage.
 
-ghost use Rattle.std.specs.Prelude.{ℕ, ◌≡◌, ◌≢◌, ◌<◌, ◌++◌, [], ◌∷◌, IfOk, IsOk, IsTrue, Some, codes};
+ghost use Rattle.std.specs.Prelude.{ℕ, ◌≡◌, ◌≢◌, ◌<◌, ◌++◌, [], ◌∷◌, IfOk, IsOk, IsTrue, List, Some, codes};
 ghost use Rattle.std.specs.Fmt.{decimal};
 ghost use Rattle.base.specs.tree.Mount.{IsTreeDamaged, MountsTo};
 ghost use Rattle.base.specs.declared.names.Group.{Group};
@@ -30,6 +30,24 @@ fn a_whole_pool_has_one_line<D: SectorDevice + NotesRefusals + Drop, W: Write, E
         → W.contents out.old ≡ Some []
         → (group : ℕ) × (records : ℕ) × (W.contents out.new ≡ Some (codes "clean group "
         ++ (decimal group ++ (codes " records " ++ (decimal records ++ codes "\n"))))) }
+{
+    run_check_all(alloc, "tank.pool", BRIEF, &mut Ok(device), out, errors)
+}
+
+// Label 1 alone has no valid config, and the output had no bytes before.
+fn a_label_without_a_config_is_named<D: SectorDevice + NotesRefusals + Drop, W: Write, E: Write>(
+    alloc: Global,
+    device: D,
+    out: &mut W,
+    errors: &mut E,
+) -> u8
+    ensures { result ≡ 0 → IsTrue D.keeps_model
+        → HasConfig (bytes_of (D.disk device).now) 0
+        → (HasConfig (bytes_of (D.disk device).now) 1 → ⊥)
+        → HasConfig (bytes_of (D.disk device).now) 2
+        → HasConfig (bytes_of (D.disk device).now) 3
+        → W.contents out.old ≡ Some [] → (front reason : List ℕ)
+        × (W.contents out.new ≡ Some (front ++ (codes "label 1 config none " ++ reason))) }
 {
     run_check_all(alloc, "tank.pool", BRIEF, &mut Ok(device), out, errors)
 }

@@ -66,8 +66,8 @@ fn a_removal_of_status_3_is_one_durable_entry<
 
 // The import was refused, for what the device is or for a call of it, and the device still holds what was left on it.
 // Or a handle of the opened pool was refused the length of object 7, the one transaction with both bytes, or the sync.
-// Or it was told that fewer than four blocks are available: both bytes need a data block, an indirect block, a directory
-// and the root.
+// Or it was told that fewer than four blocks are available: both bytes need a data block, an indirect block, a
+// directory and the root.
 fn a_put_of_status_1_was_refused_by_the_engine<
     R: Wait + AllocGlobal,
     D: SectorDevice + NotesRefusals + Drop,

@@ -1,12 +1,16 @@
-use Rattle.std.proofs.Common.{sym, subst}
+use Rattle.std.proofs.Common.{ℕ, List, subst, sym, ◌∙◌}
 use Rattle.std.proofs.KnownBytes.{Appends-nil}
+use Rattle.std.proofs.lemmas.Result.{on_ok_weaker}
 use Rattle.std.specs.Io.KnownBytes.{Appends}
-use Rattle.commands.specs.declared.label_states.ConfigState.TheVariants.{Whole}
-use Rattle.commands.proofs.FoundLabels.{lines_of_none, lines_of_some, next_state}
+use Rattle.commands.proofs.FoundLabels.{lines_of_none, lines_of_some}
 use Rattle.commands.proofs.label_states.write_states.Goals as goal
 
-pub loop-state-preserved : goal.loop-state-preserved
-loop-state-preserved g c =
-    let (front, written, left) = c.loop-state.invariant in
-    next_state c.args.states.now c.loop-state.state-index (record { label = 0; config = Whole }) (g.W.Write.contents c.args.out.now) (g.W.Write.contents c.loop-state.out)
-    (g.W.Write.contents c.write_state.new.out) front c.loop-state-test.true written left c.in-Ok.ensures
+pub returns-then-is_some_whole-clause-written : goal.returns-then-is_some_whole-clause-written
+returns-then-is_some_whole-clause-written g c =
+    on_ok_weaker c.write_all.result
+    (λ lines. subst (λ (l : List ℕ). Appends (g.W.Write.contents c.args.out.now) (g.W.Write.contents c.write_all.new.out) l) (sym (lines_of_some c.args.states.now (sym c.is_some_whole.ensures ∙ c.if-is_some_whole.true))) lines)
+    c.write_all.ensures.written
+
+pub returns-else-is_some_whole-clause-written : goal.returns-else-is_some_whole-clause-written
+returns-else-is_some_whole-clause-written g c =
+    subst (λ (l : List ℕ). Appends (g.W.Write.contents c.args.out.now) (g.W.Write.contents c.args.out.now) l) (sym (lines_of_none c.args.states.now (sym c.is_some_whole.ensures ∙ c.if-is_some_whole.false))) (Appends-nil (g.W.Write.contents c.args.out.now))

@@ -1,7 +1,7 @@
 use Rattle.std.proofs.Common.{◌≡◌, ◌++◌, ℕ, List, drop}
 use Rattle.std.specs.Io.KnownBytes.{Appends}
 use Rattle.commands.specs.FoundLabels.{state_lines}
-use Rattle.commands.proofs.label_states.write_states.Given as goal
+use Rattle.commands.proofs.label_states.write_all.Given as goal
 
 -- the lines so far are written, and those of the labels that are left follow
 abbrev pub invariant-loop-state : goal.invariant-loop-state
