@@ -1,5 +1,5 @@
 -- Parts that are appended one after the other have room, each after those before it.
-use Rattle.std.proofs.Common.{◌≡◌, ℕ, ◌+◌, ◌*◌, ◌<◌, ◌≤◌, List, [], ◌∷◌, ◌++◌, length, length-append, get_or, take, Option, Some, None, refl, sym, ap, ◌∙◌, arith}
+use Rattle.std.proofs.Common.{◌≡◌, append_assoc, ℕ, ◌+◌, ◌*◌, ◌<◌, ◌≤◌, List, [], ◌∷◌, ◌++◌, length, length-append, get_or, take, Option, Some, None, refl, sym, ap, ◌∙◌, arith}
 use Rattle.std.specs.Prelude.{IfNone}
 use Rattle.std.specs.List.{flat_map}
 use Rattle.std.specs.Global.{Vec}
@@ -64,3 +64,12 @@ pub one_more : {X : Type 0} (f : X → List ℕ) (xs : List X) (i : ℕ) (x : X)
 one_more f xs i x below is old middle new so_far added =
     let end : take (i + 1) xs ≡ take i xs ++ x ∷ [] = take_more xs i x below ∙ ap (λ (y : _). take i xs ++ y ∷ []) (sym is) in
     added ∙ ap (λ (l : List ℕ). l ++ f x) so_far ∙ flat_map_more f old (take i xs) x ∙ ap (λ (l : List _). old ++ flat_map f l) (sym end)
+
+-- two parts, one after the other
+pub appends_both : (a b c : Vec ℕ) (bs cs : List ℕ) → AppendsBytes a b bs → AppendsBytes b c cs → AppendsBytes a c (bs ++ cs)
+appends_both a b c bs cs p q =
+    let one = p.len in
+    let two = q.len in
+    let least = p.room in
+    let more = q.room in
+    record { items = q.items ∙ ap (λ (l : List ℕ). l ++ cs) p.items ∙ append_assoc a.items bs cs; len = omega (arith, one, two, length-append bs cs); room = omega (arith, least, more) }

@@ -13,7 +13,7 @@ max_frame = 4194304
 abbrev pub frame_head : ℕ
 frame_head = 12
 
--- the kinds of frames: of requests, of answers, and the refusal of a frame
+-- the kinds of frames: of requests, of answers, the refusal of a frame, a pool that is open, and one that isn't
 abbrev pub requests_kind : ℕ
 requests_kind = 1
 
@@ -22,6 +22,16 @@ answers_kind = 2
 
 abbrev pub refusal_kind : ℕ
 refusal_kind = 3
+
+abbrev pub opened_kind : ℕ
+opened_kind = 4
+
+abbrev pub unopened_kind : ℕ
+unopened_kind = 5
+
+-- the most bytes of the cause for which a pool isn't open
+abbrev pub max_cause : ℕ
+max_cause = 4194268
 
 -- the bytes that are kept for an answer, besides bytes that are read and objects that are listed
 abbrev pub least_room : ℕ

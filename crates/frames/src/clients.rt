@@ -12,7 +12,9 @@ use crate::answer::Answer;
 use crate::decode::decode_frame;
 use crate::encode::{encode_answers, encode_refusal, encode_requests};
 use crate::error::FrameError;
+use crate::opening::{Opening, encode_opening, encode_unopened};
 use crate::request::Request;
+use base::{Group, PoolError};
 use std::alloc::{AllocError, Global};
 
 // These 21 bytes are the frame of one request, number 5, for a status.
@@ -144,4 +146,36 @@ fn a_refused_frame_is_answered_by_12_bytes(out: &mut Vec<u8>) -> Result<(), Allo
         ≡ 12 ∷ 0 ∷ 0 ∷ 0 ∷ 1 ∷ 0 ∷ 3 ∷ 0 ∷ 6 ∷ 0 ∷ 0 ∷ 0 ∷ []) }
 {
     encode_refusal(out, FrameError::BadCall)
+}
+
+// A new pool with guid 77 is open: 36 bytes, with group 8 and no replayed record.
+fn an_open_pool_says_so_by_36_bytes(out: &mut Vec<u8>) -> Result<(), AllocError>
+    requires { out.old.items ≡ [] }
+    ensures { OnOk result (out.new.items
+        ≡ 36 ∷ 0 ∷ 0 ∷ 0 ∷ 1 ∷ 0 ∷ 4 ∷ 0 ∷ 0 ∷ 0 ∷ 0 ∷ 0
+        ∷ 77 ∷ 0 ∷ 0 ∷ 0 ∷ 0 ∷ 0 ∷ 0 ∷ 0 ∷ 8 ∷ 0 ∷ 0 ∷ 0 ∷ 0 ∷ 0 ∷ 0 ∷ 0
+        ∷ 0 ∷ 0 ∷ 0 ∷ 0 ∷ 0 ∷ 0 ∷ 0 ∷ 0 ∷ []) }
+{
+    let opening = Opening {
+        guid: 77,
+        group: Group(8),
+        records: 0,
+    };
+    encode_opening(out, &opening)
+}
+
+// A pool whose root at byte 256 is damaged isn't open: number 7, kind 2 and that address, and a cause of one byte.
+fn a_pool_that_is_damaged_says_so(out: &mut Vec<u8>, cause: &str) -> Result<(), FrameError>
+    requires empty { out.old.items ≡ [] }
+    requires cause { cause.now ≡ 33 ∷ [] }
+    ensures { OnOk result (out.new.items
+        ≡ 37 ∷ 0 ∷ 0 ∷ 0 ∷ 1 ∷ 0 ∷ 5 ∷ 0 ∷ 7 ∷ 0 ∷ 0 ∷ 0
+        ∷ 2 ∷ 0 ∷ 0 ∷ 0 ∷ 0 ∷ 0 ∷ 0 ∷ 0 ∷ 0 ∷ 1 ∷ 0 ∷ 0 ∷ 0 ∷ 0 ∷ 0 ∷ 0
+        ∷ 0 ∷ 0 ∷ 0 ∷ 0 ∷ 1 ∷ 0 ∷ 0 ∷ 0 ∷ 33 ∷ []) }
+{
+    let damaged = PoolError::Damaged {
+        kind: 2,
+        address: 256,
+    };
+    encode_unopened(out, Some(damaged), 0, cause)
 }

@@ -83,7 +83,7 @@ pub fn encode_requests(alloc: Global, requests: &[Request]) -> Result<Vec<u8>, F
 }
 
 /// Appends the head of a frame.
-fn write_head(out: &mut Vec<u8>, size: u32, kind: u16, count: u32)
+pub(crate) fn write_head(out: &mut Vec<u8>, size: u32, kind: u16, count: u32)
     requires { HasRoomFor out.old frame_head }
     ensures { AppendsBytes out.old out.new (to_le_bytes w32 size ++ to_le_bytes w16 frame_version
         ++ to_le_bytes w16 kind ++ to_le_bytes w32 count) }

@@ -99,7 +99,7 @@ fn write_refusal(out: &mut Vec<u8>, error: &PoolError)
 }
 
 /// The kind and the address of the block that a refusal tells of, or zeros.
-fn damage(error: &PoolError) -> (u64, u64)
+pub(crate) fn damage(error: &PoolError) -> (u64, u64)
     ensures { result ≡ (words.damaged_kind error.now, words.damaged_address error.now) }
 {
     match error {
@@ -179,7 +179,7 @@ fn write_listed(out: &mut Vec<u8>, listed: &Listed)
 }
 
 /// Appends bytes after their number.
-fn write_string(out: &mut Vec<u8>, content: &[u8])
+pub(crate) fn write_string(out: &mut Vec<u8>, content: &[u8])
     requires small { length content.now ≤ max_frame }
     requires room { HasRoomFor out.old (4 + length content.now) }
     ensures { AppendsBytes out.old out.new (bytes_of_string content.now) }
