@@ -30,14 +30,8 @@ pub fn run_beside_loops<
     requires { F.pre work }
     ensures worked { IfOk result (λ t. F.post work (Ok t)) }
 {
-    let (quiesced, (synced, worked)) = join(
-        rt,
-        move || quiesce(rt, pool, halt),
-        move ||
-            requires { F.pre work }
-        { sync_beside(rt, pool, halt, work) },
-    );
-    match cause(synced, quiesced) {
+    let (worked, looped) = work_beside_loops(rt, pool, halt, work);
+    match looped {
         Ok(()) => worked,
         Err(PoolError::Suspended) => match worked {
             Err(error) => Err(error),
@@ -45,6 +39,32 @@ pub fn run_beside_loops<
         },
         Err(error) => Err(error),
     }
+}
+
+/// The same, but what the work returned comes back whatever came of the loops: first that, then what came of them.
+///
+/// If no threads can be made for the loops, the work isn't called, and its result is `NoMemory`.
+///
+/// # Errors
+/// The first refusal of a loop that is not `Suspended`, or else `Suspended`: that of the loop that syncs, that of the
+/// loop that closes groups.
+pub fn work_beside_loops<
+    D: SectorDevice + Send,
+    R: Threads + Wait + Sync,
+    T: Drop,
+    F: FnOnce() -> Result<T, PoolError> + Drop,
+>(rt: &R, pool: &Pool<D>, halt: &Halt, work: F) -> (Result<T, PoolError>, Result<(), PoolError>)
+    requires { F.pre work }
+    ensures worked { IfOk result.0 (λ t. F.post work (Ok t)) }
+{
+    let (quiesced, (synced, worked)) = join(
+        rt,
+        move || quiesce(rt, pool, halt),
+        move ||
+            requires { F.pre work }
+        { sync_beside(rt, pool, halt, work) },
+    );
+    (worked, cause(synced, quiesced))
 }
 
 // The first refusal that is not `Suspended`, which only follows from another one; or else `Suspended`.
