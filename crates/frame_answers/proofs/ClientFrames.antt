@@ -133,9 +133,10 @@ module _ {Dev : Type 0} {G : Ghosts Dev} (owner : Owner) (a b : Record) (agree :
 -- frames, and maybe a length, that have fewer than four bytes are none
 short_none : (good last : List Exchange) → All (λ (x : Exchange). IsWhole x.frame) good → IsLengthAlone last → length (frames_of (good ++ last)) < 4 → good ++ last ≡ []
 short_none [] [] whole alone short = refl
-short_none [] (x ∷ []) whole four short =
+short_none [] (x ∷ []) whole alone short =
     let few : length (x.frame ++ []) < 4 = short in
     let size : length (x.frame ++ []) ≡ length x.frame + 0 = length-append x.frame [] in
+    let four : length x.frame ≡ 4 = alone.four in
     absurd (omega (arith, few, size, four))
 short_none [] (x ∷ y ∷ more) whole alone short = absurd alone
 short_none (x ∷ good) last whole alone short =
@@ -145,7 +146,7 @@ short_none (x ∷ good) last whole alone short =
     let size : length (x.frame ++ frames_of (good ++ last)) ≡ length x.frame + length (frames_of (good ++ last)) = length-append x.frame (frames_of (good ++ last)) in
     absurd (omega (arith, few, size, least))
 
-none_among : (bytes : List ℕ) (xs : List Exchange) → length bytes < 4 → BeginsWithFrames xs (Some bytes) → xs ≡ []
+pub none_among : (bytes : List ℕ) (xs : List Exchange) → length bytes < 4 → BeginsWithFrames xs (Some bytes) → xs ≡ []
 none_among bytes xs short b =
     let fits : length (frames_of xs) ≤ length bytes = starts_with_length bytes (frames_of xs) b.begins in
     let few : length (frames_of xs) < 4 = omega (arith, fits, short) in

@@ -3,5 +3,8 @@ pub mod Along
 pub mod Durable
 pub mod ListedBelow
 pub mod Room
+pub mod ReadParts
+pub mod Fronts
 pub mod Served
 pub mod ClientFrames
+pub mod ServedClients

@@ -1,5 +1,5 @@
 -- What a handle does for the frames of an input, and what becomes of the input's and the output's bytes.
-use Rattle.std.specs.Prelude.{ℕ, ◌≡◌, ◌≤◌, ◌++◌, All, IfSome, List, [], ◌∷◌, length, take, Option, Result, Ok, Err}
+use Rattle.std.specs.Prelude.{ℕ, ◌≡◌, ◌≤◌, ◌<◌, ◌⊎◌, ◌++◌, All, IfSome, List, [], ◌∷◌, drop, length, take, Option, Result, Ok, Err}
 use Rattle.std.specs.Int.{from_le_bytes, w32}
 use Rattle.std.specs.List.{flat_map}
 use Rattle.std.specs.Io.{StartsWith}
@@ -12,6 +12,7 @@ use Rattle.frames.specs.Limits.{frame_head, max_frame}
 use Rattle.pool_threads.specs.declared.handle.Handle.{Handle}
 use Rattle.pool_threads.specs.Waits.{SyncsPool}
 use Rattle.frame_answers.specs.Frames.{AnswersFrame}
+use Rattle.frame_answers.specs.Written.{AppendsFront}
 use Rattle.frame_answers.specs.declared.serving.Ending.{Ending}
 use Rattle.frame_answers.specs.declared.serving.Ending.TheVariants as ending
 
@@ -54,10 +55,15 @@ pub record IsWhole (frame : List ℕ) : Type 0 where
   pub most : length frame ≤ max_frame
   pub said : from_le_bytes w32 (take 4 frame) ≡ length frame
 
--- none, or one that is as long as a length: four bytes
+-- four bytes that say a length that no frame may have
+pub record IsBadLength (frame : List ℕ) : Type 0 where
+  pub four : length frame ≡ 4
+  pub bad : (from_le_bytes w32 frame < frame_head) ⊎ (max_frame < from_le_bytes w32 frame)
+
+-- none, or a bad length
 abbrev pub IsLengthAlone : List Exchange → Type 0
 IsLengthAlone [] = Unit {0}
-IsLengthAlone (x ∷ []) = length x.frame ≡ 4
+IsLengthAlone (x ∷ []) = IsBadLength x.frame
 IsLengthAlone (x ∷ y ∷ xs) = ⊥
 
 -- The frames that were answered stand in the input from its beginning, each whole, in order. Only the last may be a
@@ -76,20 +82,39 @@ pub record Exchanges (xs : List Exchange) (old new : Streams) : Type 0 where
   pub reads : Consumes old.input new.input (frames_of xs)
   pub writes : Appends old.output new.output (answers_of xs)
 
--- The input ended after a whole frame, or after none: nothing of it is left then. Or it was cut off: then the answers to
--- all frames that were answered were written.
+-- bytes in which a frame begins, and that end within it
+pub record IsCutOff (bytes : List ℕ) : Type 0 where
+  pub some : 0 < length bytes
+  pub ends : (length bytes < 4) ⊎ (length bytes < from_le_bytes w32 (take 4 bytes))
+
+-- the last of the frames is a bad length
+pub record EndsInBadLength (xs : List Exchange) : Type 0 where
+  pub good : List Exchange
+  pub last : Exchange
+  pub parts : xs ≡ good ++ last ∷ []
+  pub bad : IsBadLength last.frame
+
+-- nothing can be read after these frames: the last is a bad length, or the input ends within the next one
+abbrev pub IsCutOffAfter : List Exchange → Option (List ℕ) → Type 0
+IsCutOffAfter xs input = EndsInBadLength xs ⊎ IfSome input (λ bytes. IsCutOff (drop (length (frames_of xs)) bytes))
+
+-- What was written is a front of the answers, however the frames ended. It is all of them, unless the output was refused
+-- or there was no memory. `Done`: the frames were all of the input. `CutOff`: nothing can be read after them.
 abbrev pub EndsWell : Ending → List Exchange → Streams → Streams → Type 0
 EndsWell ending.Done xs old new = Exchanges xs old new × IsAtEnd new.input
-EndsWell ending.CutOff xs old new = Appends old.output new.output (answers_of xs)
-EndsWell e xs old new = Unit {0}
+EndsWell ending.CutOff xs old new = Appends old.output new.output (answers_of xs) × IsCutOffAfter xs old.input
+EndsWell ending.ReadFailed xs old new = Appends old.output new.output (answers_of xs)
+EndsWell ending.WriteFailed xs old new = AppendsFront old.output new.output (answers_of xs)
+EndsWell ending.NoMemory xs old new = AppendsFront old.output new.output (answers_of xs)
 
 -- so it was after one more frame
 abbrev pub GoesOnWell : Result (Unit {0}) Ending → List Exchange → Streams → Streams → Type 0
 GoesOnWell (Ok done) xs old new = Exchanges xs old new
 GoesOnWell (Err e) xs old new = EndsWell e xs old new
 
--- a frame was read whole, or the input had ended before it
+-- a frame was read whole, or the input had ended before it, or it ended within it
 abbrev pub ReadsFrame : Result (Unit {0}) Ending → List ℕ → Option (List ℕ) → Option (List ℕ) → Type 0
 ReadsFrame (Ok done) frame old new = Consumes old new frame
 ReadsFrame (Err ending.Done) frame old new = Consumes old new [] × IsAtEnd new
+ReadsFrame (Err ending.CutOff) frame old new = IfSome old IsCutOff
 ReadsFrame (Err e) frame old new = Unit {0}

@@ -1,13 +1,15 @@
 //! What callers rest on: one function for each promise of this crate's calls, proved from the contract of the call
 //! alone. So it is refused as soon as that contract says less.
 
-ghost use Rattle.std.specs.Prelude.{◌≡◌, ◌⊎◌, ◌++◌, ◌∷◌, [], All, IfSome, List, Ok, OnErr, OnOk, Result, length};
+ghost use Rattle.std.specs.Prelude.{ℕ, ◌≡◌, ◌≢◌, ◌⊎◌, ◌++◌, ◌∷◌, [], All, IfSome, List, Ok, OnErr, OnOk, Result, length};
+ghost use Rattle.std.specs.Io.{StartsWith};
 ghost use Rattle.base.specs.declared.error.PoolError as error;
 ghost use Rattle.base.specs.declared.names.Group as group;
 ghost use Rattle.base.specs.declared.names.Receipt as receipt;
 ghost use Rattle.device_model.specs.declared.device.SectorDevice as device;
 ghost use Rattle.frame_answers.specs.Calls.{durable_receipt, outcome_of};
 ghost use Rattle.frame_answers.specs.Serving.{AnswersFrames, Exchange, IsWhole, answers_of, frames_of, program};
+ghost use Rattle.frame_answers.specs.Written.{MayBeAnswered};
 ghost use Rattle.frames.specs.Answers.{bytes_of_answers, bytes_of_refused};
 ghost use Rattle.frames.specs.Requests.{IsFrameOf};
 ghost use Rattle.frames.specs.declared.answer.Answer as answer;
@@ -23,12 +25,13 @@ ghost use Rattle.transactions.specs.declared.record.Record as records;
 
 use crate::answering::answer_frame;
 use crate::serving::{Ending, serve};
+use crate::sink::{AnswerSink, AnswerWriter};
 use base::{Owner, PoolError};
 use device_model::{MemDevice, SectorDevice};
 use frames::{FrameError, frames_agree};
 use pool_threads::Handle;
 use std::alloc::Global;
-use std::io::{Read, Write};
+use std::io::{self, Read};
 use std::sync::Wait;
 
 // Bytes that no requests are spelled by are answered by a refusal, and the handle has done nothing.
@@ -103,12 +106,12 @@ fn two_transactions_of_a_frame_are_made_in_order<D: SectorDevice, W: Wait>(
 }
 
 // The handle answered frames, and then it synced the pool. It made no other steps.
-fn a_serve_only_answers_frames_and_syncs<D: SectorDevice, W: Wait, R: Read, O: Write>(
+fn a_serve_only_answers_frames_and_syncs<D: SectorDevice, W: Wait, R: Read, S: AnswerSink>(
     rt: &W,
     alloc: Global,
     handle: &mut Handle<'_, D>,
     input: &mut R,
-    output: &mut O,
+    output: &mut S,
 ) -> Result<Ending, PoolError>
     ensures { (exchanges : List Exchange) × (served : handles.Handle _ _)
         × (synced : Result group.Group error.PoolError)
@@ -119,12 +122,12 @@ fn a_serve_only_answers_frames_and_syncs<D: SectorDevice, W: Wait, R: Read, O: W
 }
 
 // An input of three bytes has no whole frame, so the handle only syncs the pool.
-fn a_frame_that_is_cut_off_is_not_made<D: SectorDevice, W: Wait, O: Write>(
+fn a_frame_that_is_cut_off_is_not_made<D: SectorDevice, W: Wait, S: AnswerSink>(
     rt: &W,
     alloc: Global,
     handle: &mut Handle<'_, D>,
     input: &mut &[u8],
-    output: &mut O,
+    output: &mut S,
 ) -> Result<Ending, PoolError>
     ensures { length input.old.now ≡ 3 → (synced : Result group.Group error.PoolError)
         × SyncsPool synced handle.old handle.new }
@@ -139,11 +142,53 @@ fn a_serve_that_ends_well_answered_all_of_its_input<D: SectorDevice, W: Wait>(
     alloc: Global,
     handle: &mut Handle<'_, D>,
     input: &mut &[u8],
-    output: &mut Vec<u8>,
+    output: &mut AnswerWriter<Vec<u8>>,
 ) -> Result<Ending, PoolError>
     ensures { result ≡ Ok Ending.Done → (exchanges : List Exchange)
         × All (λ x. IsWhole x.frame) exchanges × (frames_of exchanges ≡ input.old.now)
-        × (output.new.items ≡ output.old.items ++ answers_of exchanges) }
+        × (output.new.output.items ≡ output.old.output.items ++ answers_of exchanges) }
 {
     serve(handle, rt, alloc, input, output)
+}
+
+// Whatever ends a serve, also a refused sync: what the output got is a front of the answers to frames of the input.
+fn a_serve_writes_nothing_but_answers<D: SectorDevice, W: Wait>(
+    rt: &W,
+    alloc: Global,
+    handle: &mut Handle<'_, D>,
+    input: &mut &[u8],
+    output: &mut AnswerWriter<Vec<u8>>,
+) -> Result<Ending, PoolError>
+    ensures { (exchanges : List Exchange) × (front : List ℕ)
+        × StartsWith input.old.now (frames_of exchanges)
+        × (output.new.output.items ≡ output.old.output.items ++ front)
+        × StartsWith (answers_of exchanges) front }
+{
+    serve(handle, rt, alloc, input, output)
+}
+
+// An input without a byte is never said to end within a frame.
+fn an_input_without_bytes_is_not_cut_off<D: SectorDevice, W: Wait, S: AnswerSink>(
+    rt: &W,
+    alloc: Global,
+    handle: &mut Handle<'_, D>,
+    input: &mut &[u8],
+    output: &mut S,
+) -> Result<Ending, PoolError>
+    requires { input.old.now ≡ [] }
+    ensures { result ≢ Ok Ending.CutOff }
+{
+    serve(handle, rt, alloc, input, output)
+}
+
+// What is handed to a writer of answers is appended to what it holds.
+fn an_answer_is_appended<D: SectorDevice>(
+    handle: &Handle<'_, D>,
+    output: &mut AnswerWriter<Vec<u8>>,
+    answer: &[u8],
+) -> io::Result<()>
+    requires { MayBeAnswered handle.now answer.now }
+    ensures { OnOk result (output.new.output.items ≡ output.old.output.items ++ answer.now) }
+{
+    output.put(handle, answer)
 }

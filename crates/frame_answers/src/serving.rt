@@ -1,19 +1,21 @@
 //! The frames of an input, one after another, each answered before the next is read.
 
-ghost use Rattle.std.specs.Prelude.{ℕ, ◌≡◌, ◌≤◌, ◌⊎◌, ◌++◌, List, Result, Err, IfErr, IfOk, IsOk, OnOk, length, take, true};
-ghost use Rattle.std.specs.Io.KnownBytes.{Appends, Consumes};
+ghost use Rattle.std.specs.Prelude.{ℕ, ◌≡◌, ◌≢◌, ◌≤◌, ◌<◌, ◌+◌, ◌⊎◌, ◌++◌, List, Result, Err, IfErr, IfOk, IfSome, IsOk, OnErr, OnOk, drop, length, take, true, false};
+ghost use Rattle.std.specs.Int.{from_le_bytes, w32};
+ghost use Rattle.std.specs.Io.KnownBytes.{Consumes, IsAtEnd, Keeps};
 ghost use Rattle.base.specs.declared.error.PoolError as declared_error;
 ghost use Rattle.base.specs.declared.names.Group as group;
-ghost use Rattle.frame_answers.specs.Serving.{AnswersFrames, BeginsWithFrames, EndsWell, Exchange, GoesOnWell, IsWhole, ReadsFrame, ServesFrames, program};
+ghost use Rattle.frame_answers.specs.Serving.{AnswersFrames, BeginsWithFrames, EndsWell, Exchange, GoesOnWell, IsBadLength, IsWhole, ReadsFrame, ServesFrames, program};
 ghost use Rattle.frames.specs.Limits.{frame_head, max_frame};
 
 use crate::answering::answer_frame;
+use crate::sink::AnswerSink;
 use base::{Owner, PoolError};
 use device_model::SectorDevice;
 use frames::{FRAME_HEAD, MAX_FRAME};
 use pool_threads::Handle;
 use std::alloc::Global;
-use std::io::{self, Read, Write};
+use std::io::{self, ErrorKind, Read};
 use std::sync::Wait;
 
 /// The bytes of a frame's length.
@@ -29,8 +31,10 @@ pub enum Ending {
     Done,
     /// The input ended within a frame, or a frame had no length that a frame may have. Nothing after it was read.
     CutOff,
-    /// The input could not be read, or the output not be written.
-    Failed,
+    /// The input could not be read.
+    ReadFailed,
+    /// The output could not be written.
+    WriteFailed,
     /// There was no memory for a frame or its answer.
     NoMemory,
 }
@@ -38,7 +42,8 @@ pub enum Ending {
 /// Answers all frames of the input, until it ends. Then it syncs the pool.
 ///
 /// The handle makes no other steps. Only frames that stand whole in the input are made, from its beginning and in
-/// order, however the input ends.
+/// order, however the input ends. What the output gets is a front of their answers, and all of them unless the output
+/// fails or there is no memory.
 ///
 /// A frame that is none is answered by its refusal, and the next one is read. After one whose length can't be a frame's
 /// nothing more is read, since nobody knows where the next begins.
@@ -46,21 +51,21 @@ pub enum Ending {
 /// # Errors
 ///
 /// Those of `Handle::sync_pool` at the end.
-pub fn serve<'a, 'b, 'p, D: SectorDevice, W: Wait, R: Read, O: Write>(
+pub fn serve<'a, 'b, 'p, D: SectorDevice, W: Wait, R: Read, S: AnswerSink>(
     handle: &'a mut Handle<'p, D>,
     rt: &'b W,
     alloc: Global,
     input: &mut R,
-    output: &mut O,
+    output: &mut S,
 ) -> Result<Ending, PoolError>
-    ensures served { (exchanges : List Exchange)
+    ensures served { (ending : Ending) × (exchanges : List Exchange)
         × (synced : Result group.Group declared_error.PoolError)
         × ServesFrames program exchanges synced handle.old handle.new
         × BeginsWithFrames exchanges (R.remaining input.old)
-        × IfErr result (λ e. synced ≡ Err e)
-        × IfOk result (λ ending. IsOk synced × EndsWell ending exchanges
-        (record { input = R.remaining input.old; output = O.contents output.old })
-        (record { input = R.remaining input.new; output = O.contents output.new })) }
+        × EndsWell ending exchanges
+        (record { input = R.remaining input.old; output = S.contents output.old })
+        (record { input = R.remaining input.new; output = S.contents output.new })
+        × IfOk result (λ e. (e ≡ ending) × IsOk synced) × IfErr result (λ e. synced ≡ Err e) }
 {
     let ending = answer_all(handle, rt, alloc, input, output);
     match handle.sync_pool(rt) {
@@ -70,18 +75,18 @@ pub fn serve<'a, 'b, 'p, D: SectorDevice, W: Wait, R: Read, O: Write>(
 }
 
 /// Answers all frames of the input, until it ends.
-fn answer_all<'a, 'b, 'p, D: SectorDevice, W: Wait, R: Read, O: Write>(
+fn answer_all<'a, 'b, 'p, D: SectorDevice, W: Wait, R: Read, S: AnswerSink>(
     handle: &'a mut Handle<'p, D>,
     rt: &'b W,
     alloc: Global,
     input: &mut R,
-    output: &mut O,
+    output: &mut S,
 ) -> Ending
     ensures { (exchanges : List Exchange) × AnswersFrames program exchanges handle.old handle.new
         × BeginsWithFrames exchanges (R.remaining input.old)
         × EndsWell result exchanges
-        (record { input = R.remaining input.old; output = O.contents output.old })
-        (record { input = R.remaining input.new; output = O.contents output.new }) }
+        (record { input = R.remaining input.old; output = S.contents output.old })
+        (record { input = R.remaining input.new; output = S.contents output.new }) }
 {
     let mut frame = Vec::new(alloc);
     let mut answer = Vec::new(alloc);
@@ -95,22 +100,22 @@ fn answer_all<'a, 'b, 'p, D: SectorDevice, W: Wait, R: Read, O: Write>(
 }
 
 /// Reads the next frame and answers it. The lists of bytes are its room.
-fn answer_next<'a, 'b, 'p, D: SectorDevice, W: Wait, R: Read, O: Write>(
+fn answer_next<'a, 'b, 'p, D: SectorDevice, W: Wait, R: Read, S: AnswerSink>(
     handle: &'a mut Handle<'p, D>,
     rt: &'b W,
     alloc: Global,
     input: &mut R,
-    output: &mut O,
+    output: &mut S,
     frame: &mut Vec<u8>,
     answer: &mut Vec<u8>,
 ) -> Result<(), Ending>
     ensures { (exchanges : List Exchange) × AnswersFrames program exchanges handle.old handle.new
         × BeginsWithFrames exchanges (R.remaining input.old)
         × GoesOnWell result exchanges
-        (record { input = R.remaining input.old; output = O.contents output.old })
-        (record { input = R.remaining input.new; output = O.contents output.new }) }
+        (record { input = R.remaining input.old; output = S.contents output.old })
+        (record { input = R.remaining input.new; output = S.contents output.new }) }
 {
-    match read_frame(input, frame) {
+    match read_frame(rt, input, frame) {
         Ok(()) => {}
         Err(ending) => return Err(ending),
     }
@@ -119,9 +124,9 @@ fn answer_next<'a, 'b, 'p, D: SectorDevice, W: Wait, R: Read, O: Write>(
         Ok(()) => {}
         Err(_) => return Err(Ending::NoMemory),
     }
-    match write_answer(output, answer.as_slice()) {
+    match output.put(handle, answer.as_slice()) {
         Ok(()) => {}
-        Err(_) => return Err(Ending::Failed),
+        Err(_) => return Err(Ending::WriteFailed),
     }
     if frame.len() == LENGTH_SIZE {
         return Err(Ending::CutOff);
@@ -129,26 +134,16 @@ fn answer_next<'a, 'b, 'p, D: SectorDevice, W: Wait, R: Read, O: Write>(
     Ok(())
 }
 
-/// Writes an answer, and flushes the output.
-fn write_answer<O: Write>(output: &mut O, answer: &[u8]) -> io::Result<()>
-    ensures { OnOk result (Appends (O.contents output.old) (O.contents output.new) answer.now) }
-{
-    match output.write_all(answer) {
-        Ok(()) => output.flush(),
-        Err(error) => Err(error),
-    }
-}
-
 /// Reads a frame in place of the bytes that there were. If its length can't be a frame's, these four bytes are all:
-/// they are refused `BadLength`.
-fn read_frame<R: Read>(input: &mut R, frame: &mut Vec<u8>) -> Result<(), Ending>
+/// they are refused `CutOff`, as bytes that end within the head of a frame.
+fn read_frame<W: Wait, R: Read>(rt: &W, input: &mut R, frame: &mut Vec<u8>) -> Result<(), Ending>
     ensures reads { ReadsFrame result frame.new.items
         (R.remaining input.old) (R.remaining input.new) }
-    ensures whole { OnOk result ((length frame.new.items ≡ 4) ⊎ IsWhole frame.new.items) }
+    ensures whole { OnOk result (IsBadLength frame.new.items ⊎ IsWhole frame.new.items) }
 {
     frame.clear();
     let mut length = [0; LENGTH_SIZE];
-    match read_length(input, &mut length) {
+    match read_length(rt, input, &mut length) {
         Ok(()) => {}
         Err(ending) => return Err(ending),
     }
@@ -164,41 +159,91 @@ fn read_frame<R: Read>(input: &mut R, frame: &mut Vec<u8>) -> Result<(), Ending>
         Ok(()) => {}
         Err(_) => return Err(Ending::NoMemory),
     }
-    match read_rest(input, frame) {
-        Ok(()) => Ok(()),
-        Err(_) => Err(Ending::CutOff),
-    }
+    read_rest(rt, input, frame)
 }
 
 /// Whether a frame may have this length.
 fn is_size(size: u32) -> bool
-    ensures { result ≡ true → (frame_head ≤ size) × (size ≤ max_frame) }
+    ensures allowed { result ≡ true → (frame_head ≤ size) × (size ≤ max_frame) }
+    ensures bad { result ≡ false → (size < frame_head) ⊎ (max_frame < size) }
 {
     size >= FRAME_HEAD as u32 && u64::from(size) <= MAX_FRAME
 }
 
 /// Reads the length of a frame.
-fn read_length<R: Read>(input: &mut R, length: &mut [u8; LENGTH_SIZE]) -> Result<(), Ending>
+fn read_length<W: Wait, R: Read>(
+    rt: &W,
+    input: &mut R,
+    length: &mut [u8; LENGTH_SIZE],
+) -> Result<(), Ending>
     ensures { ReadsFrame result length.new (R.remaining input.old) (R.remaining input.new) }
 {
-    match input.read(&mut length[..1]) {
-        Ok(0) => return Err(Ending::Done),
-        Ok(_) => {}
-        Err(_) => return Err(Ending::Failed),
-    }
-    match input.read_exact(&mut length[1..]) {
-        Ok(()) => Ok(()),
-        Err(_) => Err(Ending::CutOff),
+    match read_up_to(rt, input, length) {
+        Ok(0) => Err(Ending::Done),
+        Ok(LENGTH_SIZE) => Ok(()),
+        Ok(_) => Err(Ending::CutOff),
+        Err(_) => Err(Ending::ReadFailed),
     }
 }
 
 /// Reads what follows the length of a frame.
-fn read_rest<R: Read>(input: &mut R, frame: &mut Vec<u8>) -> io::Result<()>
+fn read_rest<W: Wait, R: Read>(rt: &W, input: &mut R, frame: &mut Vec<u8>) -> Result<(), Ending>
     requires { 4 ≤ length frame.old.items }
     ensures reads { OnOk result ((rest : List ℕ)
         × (frame.new.items ≡ take 4 frame.old.items ++ rest)
         × Consumes (R.remaining input.old) (R.remaining input.new) rest) }
+    ensures cut_off { result ≡ Err Ending.CutOff → IfSome (R.remaining input.old)
+        (λ bytes. length bytes + 4 < length frame.old.items) }
+    ensures begun { result ≢ Err Ending.Done }
     ensures size { length frame.new.items ≡ length frame.old.items }
 {
-    input.read_exact(&mut frame.as_mut_slice()[LENGTH_SIZE..])
+    let rest = &mut frame.as_mut_slice()[LENGTH_SIZE..];
+    let size = rest.len();
+    match read_up_to(rt, input, rest) {
+        Ok(count) if count == size => Ok(()),
+        Ok(_) => Err(Ending::CutOff),
+        Err(_) => Err(Ending::ReadFailed),
+    }
+}
+
+/// Reads until the bytes are full or the input has ended: how many were read.
+fn read_up_to<W: Wait, R: Read>(rt: &W, input: &mut R, into: &mut [u8]) -> io::Result<usize>
+    ensures most { IfOk result (λ count. count ≤ length into.new) }
+    ensures reads { IfOk result (λ count. Consumes (R.remaining input.old)
+        (R.remaining input.new) (take count into.new)) }
+    ensures ended { IfOk result
+        (λ count. count < length into.new → IsAtEnd (R.remaining input.new)) }
+    ensures size { length into.new ≡ length into.old }
+{
+    let mut at = 0;
+    while at < into.len() {
+        match read_some(rt, input, &mut into[at..]) {
+            Ok(0) => return Ok(at),
+            Ok(count) => at += count,
+            Err(error) => return Err(error),
+        }
+    }
+    Ok(at)
+}
+
+/// One read, which is made again if a signal interrupts it.
+fn read_some<W: Wait, R: Read>(rt: &W, input: &mut R, into: &mut [u8]) -> io::Result<usize>
+    ensures most { IfOk result (λ count. count ≤ length into.new) }
+    ensures reads { IfOk result (λ count. Consumes (R.remaining input.old)
+        (R.remaining input.new) (take count into.new)) }
+    ensures ended { IfOk result
+        (λ count. count ≡ 0 → 0 < length into.old → IsAtEnd (R.remaining input.new)) }
+    ensures size { length into.new ≡ length into.old }
+{
+    for _ in rt.forever() {
+        match input.read(into) {
+            Ok(count) => return Ok(count),
+            Err(error) => {
+                if error.kind() != ErrorKind::Interrupted {
+                    return Err(error);
+                }
+            }
+        }
+    }
+    unreachable!()
 }

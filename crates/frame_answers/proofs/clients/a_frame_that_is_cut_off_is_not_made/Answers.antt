@@ -7,4 +7,4 @@ pub returns : goal.returns
 returns g c = λ three.
     let s = c.serve.ensures.served in
     let short : length c.args.input.now.now < 4 = omega (arith, three) in
-    (s.1, only_synced program c.args.input.now.now s.0 s.1 c.args.handle.now c.serve.new.handle short s.3 s.2)
+    (s.2, only_synced program c.args.input.now.now s.1 s.2 c.args.handle.now c.serve.new.handle short s.4 s.3)
