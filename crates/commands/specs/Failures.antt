@@ -1,5 +1,5 @@
 -- How a command on a pool in a file ends.
-use Rattle.std.specs.Prelude.{ℕ, ◌≡◌, ◌*◌, ◌/◌, Bool, IsTrue, true, false, List}
+use Rattle.std.specs.Prelude.{ℕ, ◌≡◌, ◌*◌, ◌/◌, Bool, IsTrue, true, false, List, Option, None, Some}
 use Rattle.base.specs.declared.error.PoolError.{PoolError}
 use Rattle.base.specs.declared.error.PoolError.TheVariants.{BadGeometry, BadRange, Flush, Read, Suspended, Write}
 use Rattle.base.specs.formats.Geometry.{IsGeometry, is_geometry}
@@ -14,6 +14,14 @@ failure_status (RefusedCall refusal call) = 1
 failure_status (OutOfRange number) = 1
 failure_status (Unusable cause) = 3
 failure_status Unwritten = 3
+
+-- the refusal of a failure, if the engine refused the command
+abbrev pub refusal_of : Failure → Option PoolError
+refusal_of (Refused refusal) = Some refusal
+refusal_of (RefusedCall refusal call) = Some refusal
+refusal_of (OutOfRange number) = Some BadRange
+refusal_of (Unusable cause) = None
+refusal_of Unwritten = None
 
 -- a refusal that follows from a call that the device refused
 abbrev pub is_of_device : PoolError → Bool

@@ -20,6 +20,7 @@ mod pool_files;
 mod put_room;
 mod reads;
 mod serving;
+mod unopened;
 mod waiting;
 
 pub use bad_number::BadNumber;

@@ -1,18 +1,21 @@
 //! What callers rely on of the command that serves a pool.
 
-ghost use Rattle.std.specs.Prelude.{◌≡◌, ◌++◌, IsSomeAnd, IsTrue, List, Ok};
+ghost use Rattle.std.specs.Prelude.{ℕ, ◌≡◌, ◌++◌, IfSome, IsSomeAnd, IsTrue, List, None, Ok};
+ghost use Rattle.std.specs.Io.{StartsWith};
 ghost use Rattle.base.specs.declared.names.Group as group;
 ghost use Rattle.frame_answers.specs.Serving.{AnswersFrames, Exchange, answers_of, frames_of, program};
-ghost use Rattle.pool_threads.specs.Handles.{IsNewHandle, OpensBehind, moment_in, opening_view};
+ghost use Rattle.commands.specs.Serving.{opening_of};
+ghost use Rattle.frames.specs.Openings.{bytes_of_opening, bytes_of_unopened};
+ghost use Rattle.pool_threads.specs.Handles.{IsNewHandle, OpensBehind, moment_in, opened_in, opening_view, shared_of};
 ghost use Rattle.pool_threads.specs.Waits.{SyncsPool};
 ghost use Rattle.pool_threads.specs.declared.handle.Handle as handles;
-ghost use Rattle.pool_threads.specs.declared.shared.Shared as shared;
+ghost use Rattle.pool_threads.specs.declared.pool.Pool as pools;
 
 use super::BRIEF;
 use crate::failure::NotesRefusals;
 use crate::serving::run_serve;
 use command_arguments::ServeArguments;
-use device_model::SectorDevice;
+use device_model::{FileRefusal, MemDevice, SectorDevice};
 use std::io::Write;
 use std::sync::Wait;
 use std::thread::Threads;
@@ -26,7 +29,8 @@ const LIMITED: ServeArguments<'static> = ServeArguments {
 };
 
 // The pool of the device was opened with the limit and the moment. One new handle of it answered frames, then synced
-// the pool, and made no other steps. The frames are the bytes of the input, and the output got the answers to them.
+// the pool, and made no other steps. The frames are the bytes of the input. The output got the frame that says that the
+// pool is open, and then the answers to them.
 fn a_serve_of_status_0_answered_all_of_its_input<
     'a,
     R: Threads + Wait + Sync + AllocGlobal,
@@ -39,14 +43,36 @@ fn a_serve_of_status_0_answered_all_of_its_input<
     output: Vec<u8>,
     errors: &mut E,
 ) -> (u8, Option<(&'a [u8], Vec<u8>)>)
-    ensures { result.0 ≡ 0 → (p : shared.Shared _ D.SectorDevice)
-        × OpensBehind (IsTrue D.keeps_model) (D.disk device) 1048576 (opening_view p)
-        × (moment_in p ≡ 9) × (exchanges : List Exchange)
+    ensures { result.0 ≡ 0 → (p : pools.Pool _ D.SectorDevice)
+        × OpensBehind (IsTrue D.keeps_model) (D.disk device) 1048576 (opening_view (shared_of p))
+        × (moment_in (shared_of p) ≡ 9) × (exchanges : List Exchange)
         × (first served last : handles.Handle _ _) × (synced : group.Group)
-        × IsNewHandle p first × AnswersFrames program exchanges first served
+        × IsNewHandle (shared_of p) first × AnswersFrames program exchanges first served
         × SyncsPool (Ok synced) served last
         × (frames_of exchanges ≡ input.now)
-        × IsSomeAnd result.1 (λ kept. kept.1.items ≡ output.items ++ answers_of exchanges) }
+        × IsSomeAnd result.1 (λ kept. kept.1.items ≡ output.items
+        ++ bytes_of_opening (opening_of (opened_in p)) ++ answers_of exchanges) }
 {
     run_serve(rt, LIMITED, BRIEF, Ok(device), input, output, errors)
+}
+
+// A file that can't be used is told by a frame of kind 5 with number 0, or by a front of that; and nothing was read.
+fn a_file_that_cannot_be_used_is_told_by_a_frame<
+    'a,
+    R: Threads + Wait + Sync + AllocGlobal,
+    E: Write,
+>(
+    rt: &R,
+    cause: FileRefusal,
+    input: &'a [u8],
+    output: Vec<u8>,
+    errors: &mut E,
+) -> (u8, Option<(&'a [u8], Vec<u8>)>)
+    ensures { IfSome result.1 (λ kept. (kept.0.now ≡ input.now)
+        × (system_error : ℕ) × (words : List ℕ) × (front : List ℕ)
+        × (kept.1.items ≡ output.items ++ front)
+        × StartsWith (bytes_of_unopened None system_error words) front) }
+{
+    let opened: Result<MemDevice, FileRefusal> = Err(cause);
+    run_serve(rt, LIMITED, BRIEF, opened, input, output, errors)
 }

@@ -1,8 +1,27 @@
-use Rattle.pool_threads.specs.Handles.{shared_of}
-use Rattle.commands.proofs.ServedPools.{synced_well}
+use Rattle.std.proofs.Common.{inl, inr, refl}
+use Rattle.frame_answers.specs.Serving.{Streams}
+use Rattle.commands.proofs.ServedPools.{not_done}
 use Rattle.commands.proofs.serving.serve_kept.Goals as goal
 
-pub returns-in-Ok : goal.returns-in-Ok
-returns-in-Ok g c =
-    let s = c.in-Ok.ensures.served in
-    record { served = synced_well (shared_of c.args.pool.now) c.in-Ok.ending _ _ s.0 s.1 c.handle-handle.result c.serve.new.handle s.5.0 c.handle-handle.ensures s.2 s.3 s.5.1 }
+pub returns-in-Err : goal.returns-in-Err
+returns-in-Err g c = record { served = inl (record { failed = not_done c.in-Err.ending c.in-Err.ensures.failed; unread = refl; front = c.in-Err.ensures.front }) }
+
+pub returns : goal.returns
+returns g c =
+    let s = c.serve-served.ensures.served in
+    record {
+      served = inr (record {
+        ending = s.0;
+        exchanges = s.1;
+        synced = s.2;
+        first = c.handle-handle.result;
+        is_new = c.handle-handle.ensures;
+        last = c.serve-served.new.handle;
+        serves = s.3;
+        begins = s.4;
+        middle = g.O.Write.contents c.write_opening.new.output;
+        opening = c.in-Ok.ensures.written;
+        ends = s.5;
+        well = s.6;
+      });
+    }

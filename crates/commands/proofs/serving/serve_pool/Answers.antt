@@ -1,14 +1,16 @@
-use Rattle.std.proofs.Common.{subst, sym}
-use Rattle.std.specs.Prelude.{IfOk}
 use Rattle.frame_answers.specs.Serving.{Streams}
-use Rattle.pool_threads.specs.Handles.{shared_of}
-use Rattle.commands.specs.Serving.{ServesOn}
+use Rattle.frames.specs.Openings.{bytes_of_opening}
+use Rattle.pool_threads.specs.Handles.{opened_in, shared_of}
+use Rattle.commands.specs.Serving.{opening_of}
+use Rattle.commands.proofs.ServedPools.{kept_less}
 use Rattle.commands.proofs.serving.serve_pool.Goals as goal
 
-pub returns-in-Ok-serve_beside_loops-clause-served : goal.returns-in-Ok-serve_beside_loops-clause-served
-returns-in-Ok-serve_beside_loops-clause-served g c =
-    let kept = c.in-Ok-serve_beside_loops.kept in
-    let old : Streams = record { input = g.I.Read.remaining c.args.input; output = g.O.Write.contents c.args.output } in
-    let new : Streams = record { input = g.I.Read.remaining kept.1; output = g.O.Write.contents kept.2 } in
-    subst (λ o. IfOk o (λ device. ServesOn g.D.SectorDevice device c.args.arguments kept.0 old new)) (sym c.in-Ok.is)
-    (record { pool = shared_of c.in-Ok-opened.pool; opens = c.in-Ok-opened.ensures.opened; moment = c.in-Ok-opened.ensures.moment; serves = c.in-Ok-serve_beside_loops.ensures.served })
+pub returns-in-Ok-clause-served : goal.returns-in-Ok-clause-served
+returns-in-Ok-clause-served g c =
+    let s = c.serve_beside_loops-served in
+    kept_less (shared_of c.args.pool) (bytes_of_opening (opening_of (opened_in c.args.pool))) _ (λ k. record { input = g.I.Read.remaining k.0; output = g.O.Write.contents k.1 }) s.result.1 _ s.result.0 c.in-Ok.is s.ensures.served
+
+pub returns-in-Err-clause-served : goal.returns-in-Err-clause-served
+returns-in-Err-clause-served g c =
+    let s = c.serve_beside_loops-served in
+    kept_less (shared_of c.args.pool) (bytes_of_opening (opening_of (opened_in c.args.pool))) _ (λ k. record { input = g.I.Read.remaining k.0; output = g.O.Write.contents k.1 }) s.result.1 _ s.result.0 tt s.ensures.served
