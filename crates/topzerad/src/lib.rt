@@ -46,7 +46,8 @@
 //! bytes (a write), or 5 and its bytes (a name). So one write has at most 65,497 bytes. Whatever its size, a
 //! transaction takes place whole or not at all. [`record_size`] returns how many bytes the record of a plan has.
 //! [`charge`] returns what the plan is charged: if that alone is above the dirty limit, the transaction is refused
-//! `Throttled`. So at [`DEFAULT_DIRTY_MAX`] it has at most 512 creates.
+//! `Throttled`. So at [`DEFAULT_DIRTY_MAX`] it has at most 204 small writes. At most 256 ranges are locked for it: those
+//! that overlap count as one.
 //!
 //! # Examples
 //!
