@@ -71,7 +71,10 @@ def new_room():
     """A new folder for files, in memory if that has room: a flush of a disk takes most of the time of some parts."""
     memory = os.statvfs(IN_MEMORY) if IN_MEMORY else None
     has_room = memory and memory.f_bavail * memory.f_frsize >= ROOM
-    return tempfile.mkdtemp(prefix="side-by-side-", dir=IN_MEMORY if has_room else None)
+    folder = tempfile.mkdtemp(prefix="side-by-side-", dir=IN_MEMORY if has_room else None)
+    # A check may run a program as another user, who has to get to the program and its file.
+    os.chmod(folder, 0o711)
+    return folder
 
 
 class SideBySide:
