@@ -201,8 +201,8 @@ fn first_refusal(
     }
 }
 
-// Says that the pool is open. Then it makes a handle, answers the frames of the input by it, and syncs the pool. It hands
-// the input and the output back, whatever came of the serve.
+// Says that the pool is open. Then it makes a handle, answers the frames of the input by it, and syncs the pool. It
+// hands the input and the output back, whatever came of the serve.
 fn serve_kept<W: Wait, D: SectorDevice, I: Read + Drop, O: Write + Drop>(
     rt: &W,
     alloc: Global,

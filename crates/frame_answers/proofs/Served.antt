@@ -1,5 +1,5 @@
--- Frames that are answered one after another, as a loop does, are all answered; the bytes of all were moved, and stood at
--- the beginning of the input. What was written is a front of the answers.
+-- Frames that are answered one after another, as a loop does, are all answered; the bytes of all were moved, and stood
+-- at the beginning of the input. What was written is a front of the answers.
 use Rattle.std.proofs.Common.{◌≡◌, ◌≢◌, ◌<◌, ◌+◌, ◌⊎◌, ◌∷◌, ◌++◌, [], ℕ, List, append_assoc, append-nil, ap, arith, inl, inr, length, length-append, refl, subst, sym, ◌∙◌}
 use Rattle.std.specs.Prelude.{Err, IfSome, None, Option, Some, drop, take}
 use Rattle.std.specs.Int.{from_le_bytes, w32}

@@ -2,8 +2,8 @@
 //!
 //! A frame is a list of requests or a list of answers. `docs/FORMATS.md`, "Frames", has the bytes. [`decode_frame`]
 //! reads the requests of a frame, whatever bytes it is given; [`encode_answers`] writes the answers, and
-//! [`encode_refusal`] the refusal of a frame. [`encode_opening`] and [`encode_unopened`] write the first frame of a program
-//! that serves a pool. [`encode_requests`] is what a program does that asks.
+//! [`encode_refusal`] the refusal of a frame. [`encode_opening`] and [`encode_unopened`] write the first frame of a
+//! program that serves a pool. [`encode_requests`] is what a program does that asks.
 #![tactic(auto)]
 
 mod answer;
