@@ -1,18 +1,18 @@
-"""Runs the scripts of `crates/script_rows` with 1, 2 and 256 tree blocks in memory, and compares the answers.
+"""Runs the scripts of all rows with 1, 2 and 256 tree blocks in memory, and compares the answers.
 
 An `import DIRTYMAX` becomes `import DIRTYMAX 1`, and so on. What a script prints and its status have to be those of the
-undisturbed script, which `stdin` and `stdout` of that crate have. Left out are scripts without such a line, and those
-that count reads: they have a `fail read`, or an import with a number of blocks of its own.
+undisturbed script, which `tools/rows/made` has. Left out are scripts without such a line, and those that count reads:
+they have a `fail read`, or an import with a number of blocks of its own.
 
 Each difference is printed, and then the status is 1.
 """
 
 import re
 
-from tools import TOP, Failed
+from tools import Failed
 from tools.harness.program import add_program, run
+from tools.repository.make_rows import MADE
 
-CRATE = TOP / "crates/script_rows"
 COUNTS = [1, 2, 256]
 IMPORT = re.compile(rb"import [0-9]+")
 COUNTS_READS = re.compile(rb"fail +read\b|import +\S+ +\S")
@@ -28,7 +28,7 @@ def lines_of(content):
 def parts(name):
     """The lines of a file by scripts, each after its line `== SIZE MOMENT TITLE`."""
     found = []
-    for line in lines_of((CRATE / name).read_bytes()):
+    for line in lines_of((MADE / name).read_bytes()):
         if line.startswith(b"== ") and not line.startswith(b"== status "):
             found.append([])
         found[-1].append(line)
@@ -40,10 +40,11 @@ def with_blocks(script, count):
     return [b"%s %d" % (line, count) if IMPORT.fullmatch(line) else line for line in script]
 
 
-def difference(ztxg, script, wanted):
-    """What a script prints otherwise, or None. Its first line is the one before it."""
+def difference(ztxg, script, wanted, file=None):
+    """What a script prints otherwise, or None, on a device in memory or on a file. Its first line is the one before it."""
     size, moment = script[0].split(b" ", 3)[1:3]
-    ran = run([ztxg, "script", size, "-", "--moment", moment], script[1:], SECONDS)
+    device = ["--file", file] if file else [size]
+    ran = run([ztxg, "script", *device, "-", "--moment", moment], script[1:], SECONDS)
     found = [script[0], *lines_of(ran.out), f"== status {ran.status}".encode()]
     for at, both in enumerate(zip(wanted, found)):
         if both[0] != both[1]:
@@ -56,7 +57,7 @@ def add_arguments(parser):
 
 
 def main(ztxg):
-    scripts, answers = parts("stdin"), parts("stdout")
+    scripts, answers = parts("scripts"), parts("answers")
     if len(scripts) != len(answers):
         raise Failed(f"{len(scripts)} scripts have {len(answers)} answers", status=2)
     rows = list(zip(scripts, answers))

@@ -1,6 +1,6 @@
 """Runs all checks of a built program side by side.
 
-They are those of `checks` that need the program alone, the scripts of `crates/script_rows`, the tests of the clients,
+They are those of `checks` that need the program alone, the scripts of all rows, the tests of the clients,
 and the programs of README.md and of `examples`. On four idle processors they take less than eight minutes. One that has
 no end after fifteen fails. A check is skipped by name if a command that it needs isn't installed; so is each client. A
 WORD picks the checks whose names have it.

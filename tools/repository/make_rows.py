@@ -1,16 +1,16 @@
-"""Makes the scripts that `crates/script_rows` runs, and the answers that they have to print.
+"""Makes the scripts that `script_rows` runs, and the answers that they have to print.
 
-It writes `stdin` and `stdout` of that crate, or says whether they are what it would write. The rows are those of
-`tools/rows/all_rows.py`.
+It writes `scripts` and `answers` of `tools/rows/made`, or says whether they are what it would write. The rows are those
+of `tools/rows/all_rows.py`.
 
-In `stdin` a row begins with `== SIZE MOMENT TITLE`, and its script follows. In `stdout` that line stands again, then
+In `scripts` a row begins with `== SIZE MOMENT TITLE`, and its script follows. In `answers` that line stands again, then
 the answers, then `== status S`: 2 if the last answer tells of a bad command, else 0.
 """
 
 from tools import TOP
 from tools.rows.all_rows import all_rows
 
-CRATE = TOP / "crates/script_rows"
+MADE = TOP / "tools/rows/made"
 
 
 def add_arguments(parser):
@@ -21,10 +21,10 @@ def main(check):
     rows = list(all_rows())
     scripts = b"".join(row.script() for row in rows)
     # The last line of the last script has no newline, as the last line of a script may.
-    made = {"stdin": scripts[:-1], "stdout": b"".join(row.answers() for row in rows)}
+    made = {"scripts": scripts[:-1], "answers": b"".join(row.answers() for row in rows)}
     differs = False
     for name, text in made.items():
-        path = CRATE / name
+        path = MADE / name
         if not check:
             path.write_bytes(text)
         elif not path.exists() or path.read_bytes() != text:

@@ -1,4 +1,4 @@
-"""All rows that `crates/script_rows` runs, in their order.
+"""All rows, in the order in which `script_rows` runs them.
 
 - Those of the files `*.rows`, written by hand, each line beside its answer (`script_row.py` has the form).
 - Lines that are no commands (`bad_rows.py`).
