@@ -22,6 +22,9 @@ static inline uint64_t get(const uint8_t *from, size_t count) {
     return value;
 }
 
+/* No program that is linked to the shared library can name these. */
+#pragma GCC visibility push(hidden)
+
 /* channel.c: the socket to the process, through the pool's buffer, until the pool's deadline. Functions that return an
  * int return 0, or -1 if the process is gone or the deadline has passed. `is_late` says then that it has passed. */
 
@@ -45,5 +48,7 @@ int topzerad_take_in(topzerad *pool, void *to, size_t count, size_t *left);
 int topzerad_is_forked(const topzerad *pool);
 /* Keeps for this thread what is damaged. */
 void topzerad_set_damage(uint64_t kind, uint64_t address);
+
+#pragma GCC visibility pop
 
 #endif

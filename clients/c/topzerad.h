@@ -69,6 +69,7 @@ enum {
     TOPZERAD_NO_OPENING = 205
 };
 
+#define TOPZERAD_VERSION "0.2.0"       /* of this header; the library and the program have to be of the same one */
 #define TOPZERAD_OBJECTS 5292u         /* objects have the numbers below this */
 #define TOPZERAD_MAX_LENGTH 28449792u  /* the most bytes of an object */
 #define TOPZERAD_MAX_RECORD 65536u     /* the most bytes of a transaction */

@@ -8,10 +8,12 @@ import sys
 import traceback
 
 from tools import Failed
-from tools.repository import believed, clauses, client_texts, make_rows, mentions, program_crates, test, version
+from tools.repository import believed, c_manual, clauses, client_texts, make_rows, mentions, program_crates, test
+from tools.repository import version
 
 PARTS = {
     "believed": lambda: believed.main(check=True),
+    "c_manual": c_manual.main,
     "clauses": lambda: clauses.main([], check=True),
     "client_texts": client_texts.main,
     "make_rows": lambda: make_rows.main(check=True),
