@@ -45,6 +45,8 @@ TARGET = "x86_64-unknown-linux-gnu"
 
 def kit():
     """The folder of the kit: `rt doc` names a page in it."""
+    if not shutil.which("rt"):
+        raise Failed("rt, the command of the Rattle toolchain, isn't in PATH", status=2)
     ran = subprocess.run(["rt", "doc"], capture_output=True, text=True, check=True)
     return pathlib.Path(ran.stdout.strip()).parent
 
