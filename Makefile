@@ -50,7 +50,7 @@ INSTALLED = $(BINDIR)/ztxg $(MANDIR)/man1/ztxg.1 $(MANDIR)/man3/topzerad.3 $(COM
 
 all: $(ZTXG) library plugin
 
-ifeq ($(PROVED),1)
+ifneq ($(filter-out 0,$(PROVED)),)
 $(BUILD)/ztxg: $(PROVED_ZTXG)
 	mkdir -p $(BUILD)
 	cp $< $@

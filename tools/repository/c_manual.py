@@ -43,7 +43,7 @@ def sections(page):
 
 
 def entries(lines):
-    """What the heads of the entries show: the lines behind `.TP` and `.TQ`."""
+    """What the heads of the entries show: the lines after `.TP` and `.TQ`."""
     return "\n".join(after for before, after in zip(lines, lines[1:]) if before in (".TP", ".TQ"))
 
 
