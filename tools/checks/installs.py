@@ -5,8 +5,9 @@
 - The example of `topzerad.3` is compiled as `pkg-config` says, and also with the static library. Both run twice by the
   installed program. The shared library has its soname, and the calls of `topzerad.h` and no others.
 - The plugin of nbdkit is installed if the compiler finds its header, and else skipped by name.
-- `make dist` refuses a program that says `unproved`, and packs no file of it. The archive of another one has its
-  program, and its sums are right; its library is found wherever it is unpacked.
+- `make dist` refuses a program that says `unproved`, and makes no archive. Another program is in the archive of
+  `make dist` and in the package of `make deb`. The archive's sums are right, and its library is found wherever it is
+  unpacked.
 - `pip install` takes the Python package without a network, into a new virtual environment. The first program of its
   page runs there, and finds `ztxg` in PATH.
 
@@ -180,6 +181,13 @@ class Installs(Judge):
         words = (self.run("pkg-config", "--cflags", "--libs", "topzerad", **own) or "").split()
         program, room = self.compiled("unpacked_example", *words)
         self.prints("hello\n", program, folder=room, LD_LIBRARY_PATH=str(top / "lib"))
+        if not shutil.which("dpkg-deb"):
+            return self.skip("make deb: dpkg-deb not installed")
+        if self.make("deb") is not None:
+            package, own = build / f"topzerad_{self.version}_amd64.deb", self.folder / "package"
+            self.prints(f"{self.version}\n", "dpkg-deb", "-f", package, "Version")
+            self.run("dpkg-deb", "-x", package, own)
+            self.prints(self.run(self.ztxg, "--version"), own / "usr/bin/ztxg", "--version")
 
     def python(self):
         made = [sys.executable, "-m", "venv", self.folder / "venv"]
