@@ -1,5 +1,5 @@
 /* Makes pools, opens them and ends their processes, with the program and with shells that say what it never would.
- * Frames are those of docs/FORMATS.md, in hexadecimal. */
+ * Frames are those of docs/FRAMES.md, in hexadecimal. */
 #define _GNU_SOURCE
 #include "check.h"
 #include "topzerad.h"

@@ -4,7 +4,7 @@
  * topzerad_transact_durably returns once no power failure loses it.
  *
  * topzerad_open starts `PROGRAM serve FILE`, a process that has the pool. Calls are sent to it as frames
- * (docs/FORMATS.md, "Frames"). Any thread may make any call at any time. What several threads ask at once is sent in
+ * (docs/FRAMES.md). Any thread may make any call at any time. What several threads ask at once is sent in
  * one frame, so their durable transactions share one flush. A thread isn't cancelled within a call, but after it.
  *
  * Each call returns 0 or a refusal; topzerad_text has its words. A refused transaction changes nothing. After

@@ -334,7 +334,7 @@ class Frames(unittest.TestCase):
         self.assertEqual(self.frames, [2, 5])
 
     def test_limits(self):
-        """docs/FORMATS.md, 14: 4,194,304 bytes, and 12 and 80 for each answer with the bytes that it may have."""
+        """docs/FRAMES.md: 4,194,304 bytes, and 12 and 80 for each answer with the bytes that it may have."""
         for words, count, frames in [
             ((STATUS,), 60_000, [52_428, 7_572]),
             ((TRANSACT, bytes(65_536)), 64, [63, 1]),

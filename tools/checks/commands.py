@@ -1,7 +1,7 @@
-"""Runs each command of the program on files of its own, against `docs/FORMATS.md`.
+"""Runs each command of the program on files of its own, against `docs/COMMANDS.md`.
 
-What is expected stands there ("The program", "Refusals", "The script", "The load"): the checksums of new files, the
-digests of loads and the refusals are read from its tables. Compared are what a command prints, its status, and what the
+What is expected stands there, in `docs/FORMATS.md` ("Refusals") and in `docs/SCRIPTS.md`: the checksums of new files, the
+digests of loads and the refusals are read from their tables. Compared are what a command prints, its status, and what the
 files hold.
 
 - New files, byte for byte; a file that is there keeps what a create doesn't write.
@@ -695,7 +695,7 @@ class Commands(Judge):
         os.close(main)
 
     def texts(self):
-        """The version and the help, against README.md and the tables of docs/FORMATS.md."""
+        """The version and the help, against README.md and the tables of the pages."""
         readme = (TOP / "README.md").read_text()
         version, kit = re.search(r"This is version ([0-9.]+), .*? names `(.*?)`", readme).groups()
         self.ends(["--version"], 0, f"ztxg {version} ({kit})\n", quiet=False)

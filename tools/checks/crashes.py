@@ -1,6 +1,6 @@
 """Crashes pools by chance, and compares all answers with a plain serial pool.
 
-For SECONDS it makes scripts by chance (docs/FORMATS.md, "The script"), runs each, and compares all answers with those
+For SECONDS it makes scripts by chance (docs/SCRIPTS.md), runs each, and compares all answers with those
 that it worked out before. The answers come from a list of entries, a map of objects, a name
 (`tools/model/serial_pool.py`) and the rules of what is written when; nothing is taken from the program.
 

@@ -1,4 +1,4 @@
-"""Asks served pools worked frames, and compares each answer with what `docs/FORMATS.md` says of it.
+"""Asks served pools worked frames, and compares each answer with what `docs/FRAMES.md` says of it.
 
 The frames are those of `tools/rows/frame_rows.py`.
 

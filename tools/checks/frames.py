@@ -1,6 +1,6 @@
 """Asks a served pool by frames made by chance, kills the process at chance moments, and compares all answers.
 
-For SECONDS it makes pools of 8 MiB, and asks each by frames of up to six requests (docs/FORMATS.md, "Frames"):
+For SECONDS it makes pools of 8 MiB, and asks each by frames of up to six requests (docs/FRAMES.md):
 transactions, reads, lengths, lists, and whether a commit is durable. Some frames are malformed. The answers are those
 of a serial pool that reads and writes frames from the document alone (`tools/model/frames.py`).
 

@@ -1,1 +1,1 @@
-"""The formats, a pool and a load, worked out from docs/FORMATS.md with nothing of a program."""
+"""The formats, a pool and a load, worked out from docs/FORMATS.md, SCRIPTS.md and FRAMES.md with nothing of a program."""

@@ -1,8 +1,9 @@
-"""The tables of docs/FORMATS.md."""
+"""The tables of the pages of formats: docs/FORMATS.md, COMMANDS.md, SCRIPTS.md and FRAMES.md, as one text."""
 
 from tools import TOP
 
-TEXT = (TOP / "docs/FORMATS.md").read_text()
+PAGES = ["FORMATS", "COMMANDS", "SCRIPTS", "FRAMES"]
+TEXT = "\n".join((TOP / f"docs/{page}.md").read_text() for page in PAGES)
 
 
 def table(head, number=0):

@@ -1,5 +1,5 @@
-"""Frames of requests and of answers, written and read, and a server that stands in for the program's (docs/FORMATS.md,
-14)."""
+"""Frames of requests and of answers, written and read, and a server that stands in for the program's
+(docs/FRAMES.md)."""
 
 import collections
 import struct

@@ -1,4 +1,4 @@
-"""The writes of a load, and what they leave in the objects of a pool (docs/FORMATS.md, 13)."""
+"""The writes of a load, and what they leave in the objects of a pool (docs/SCRIPTS.md, "The load")."""
 
 from tools.model.pcg import Pcg32
 

@@ -1,8 +1,8 @@
 """Lists the definitions that the headline of docs/PROVED.md rests on, by their files.
 
 A reader has to read the roots below, the definitions that these name, and those that they name in turn. Those of Rust
-types are not listed: the code shows them. docs/DEFINITIONS.md has the list as a table; with --check nothing is printed
-but whether the table is as it should be.
+types are not listed: the code shows them. docs/DEFINITIONS.md has the table of the roots, and the number of all; with
+--check nothing is printed but whether both are as they should be.
 """
 
 import re
@@ -56,6 +56,7 @@ USE = re.compile(r"^use Rattle\.(\w+)\.specs\.(\S+?)(?:\.\{(.*)\}| as (\w+))$")
 FIELD = re.compile(r"(?:^|[{;]) *(?:pub )?[^\s(){};:=]+(?= [:=] )", re.MULTILINE)
 WORD = re.compile(r"(?<![^\s(){},;λ→])[^\s(){},;.λ→]+(?:\.[^\s(){},;.λ→]+)?")
 TABLE = r"(?<=\n\| {} \|\n\|---\|---\|\n)(?:\|.*\n)*"
+COUNT = re.compile(r"`python3 tools believed` prints all (\d+)")
 
 
 class File:
@@ -146,7 +147,16 @@ def root_rows():
 
 
 def add_arguments(parser):
-    parser.add_argument("--check", action="store_true", help="compare the tables of docs/DEFINITIONS.md")
+    parser.add_argument("--check", action="store_true", help="compare the table and the number of docs/DEFINITIONS.md")
+
+
+def faults(document, head, table, count):
+    """How the page differs from the table of the roots and from the number of all definitions."""
+    held, number = re.search(TABLE.format(re.escape(head)), document), COUNT.search(document)
+    if held is None or held[0] != table:
+        yield f"the table '{head}' of docs/DEFINITIONS.md is not what `python3 tools believed` prints"
+    if number is None or int(number[1]) != count:
+        yield f"docs/DEFINITIONS.md says no number of definitions, or not {count}"
 
 
 def main(check=False):
@@ -155,18 +165,11 @@ def main(check=False):
     for path, name in [*roots, *BETWEEN]:
         if found_at(files, path, name) is None:
             raise Failed(f"believed: {path} has no definition {name}")
-    tables = {
-        "what is said | definitions": "".join(root_rows()),
-        "file | definitions that the headline rests on": "".join(rows(files, roots)),
-    }
+    head, table, every = "what is said | definitions", "".join(root_rows()), "".join(rows(files, roots))
     if not check:
-        print("\n".join(tables.values()), end="")
+        print(f"{table}\n{every}", end="")
         return 0
-    document = (TOP / "docs/DEFINITIONS.md").read_text()
-    for head, table in tables.items():
-        held = re.search(TABLE.format(re.escape(head)), document)
-        if held is None or held[0] != table:
-            print(f"believed: the table '{head}' of docs/DEFINITIONS.md is not what `python3 tools believed` prints")
-            return 1
-    print(f"the headline rests on {table.count('`') // 2} definitions, which docs/DEFINITIONS.md lists")
-    return 0
+    count = every.count("`") // 2
+    found = [f"believed: {fault}" for fault in faults((TOP / "docs/DEFINITIONS.md").read_text(), head, table, count)]
+    print("\n".join(found) or f"the headline rests on {count} definitions, as docs/DEFINITIONS.md says")
+    return int(bool(found))

@@ -8,17 +8,21 @@ import sys
 import traceback
 
 from tools import Failed
-from tools.repository import believed, c_manual, clauses, client_texts, make_rows, mentions, program_crates, test
-from tools.repository import version
+from tools.repository import believed, c_manual, clauses, client_texts, command_words, definitions, make_rows
+from tools.repository import mentions, program_crates, proofs, prose, test, version
 
 PARTS = {
     "believed": lambda: believed.main(check=True),
     "c_manual": c_manual.main,
     "clauses": lambda: clauses.main([], check=True),
     "client_texts": client_texts.main,
+    "command_words": command_words.main,
+    "definitions": lambda: definitions.main(check=True),
     "make_rows": lambda: make_rows.main(check=True),
     "mentions": mentions.main,
     "program_crates": program_crates.main,
+    "proofs": lambda: proofs.main(check=True),
+    "prose": prose.main,
     "test": test.main,
     "version": version.main,
 }

@@ -1,4 +1,4 @@
-"""Worked frames, with what `docs/FORMATS.md` says of their answers, and of pools that aren't opened.
+"""Worked frames, with what `docs/FRAMES.md` says of their answers, and of pools that aren't opened.
 
 A request stands here as its call, what it needs, and the wanted answer: what came of it, and its content. A receipt and
 a status have their numbers one by one, and None for one that isn't judged.

@@ -1,4 +1,4 @@
-"""Worked frames, asked of the server that stands in for the program's, which reads docs/FORMATS.md alone, and how
+"""Worked frames, asked of the server that stands in for the program's, which reads the pages of formats alone, and how
 processes end that open no pool."""
 
 import shutil

@@ -1,4 +1,4 @@
-"""Frames as docs/FORMATS.md, 14, spells them, and frames that are none."""
+"""Frames as docs/FRAMES.md, spells them, and frames that are none."""
 
 import io
 import struct
@@ -110,7 +110,7 @@ class Frames(unittest.TestCase):
         self.refuses(BAD_RECORD, requests_frame([Request(1, "transact", [])]))
 
     def test_the_most_requests(self):
-        """docs/FORMATS.md, 14: 52,428 requests, and 12 reads of whole objects."""
+        """docs/FRAMES.md: 52,428 requests, and 12 reads of whole objects."""
         self.assertEqual(len(read_requests(requests_frame([Request(1, "name", ())] * 52_428))), 52_428)
         self.refuses(ANSWERS_TOO_LONG, requests_frame([Request(1, "name", ())] * 52_429))
         strip = Request(1, "read", (1, 0, 338_688))

@@ -9,7 +9,7 @@ SEED = 5
 
 class Loads(unittest.TestCase):
     def test_digests(self):
-        """Those of docs/FORMATS.md, 13, from a reading of its rules that shares no code with this one."""
+        """Those of docs/SCRIPTS.md, "The load", from a reading of its rules that shares no code with this one."""
         for count, wanted in table("| N | digest |"):
             self.assertEqual(digest(b"tank", load.contents(SEED, int(count))), wanted)
 

@@ -1,7 +1,7 @@
 import unittest
 
 from tools import runner
-from tools.repository import api, believed, clauses, mentions, program_crates
+from tools.repository import api, believed, clauses, definitions, mentions, program_crates, prose
 
 
 class Faults(unittest.TestCase):
@@ -34,6 +34,19 @@ class Faults(unittest.TestCase):
         text = "python3 tools " + "nothing, tools/" + "nothing.py."
         self.assertEqual(len(list(mentions.faults_of(text, runner.tools()))), 2)
 
+    def test_pages_and_parts_that_are_not_there(self):
+        text = '`docs/FORMATS.md`, "Log block", and `docs/FORMATS.md` ("Refusals"), docs/PROVED.md, "Hidden steps".'
+        self.assertEqual(list(mentions.page_faults(text)), [])
+        text = '`docs/FORMATS' + '.md`, "No such part", and `docs/NOTHING' + '.md`.'
+        self.assertEqual(len(list(mentions.page_faults(text))), 2)
+
+    def test_long_sentences(self):
+        words = " ".join(["word"] * 31)
+        table = f"| a cell | `{words}` |\n|---|---|\n| {words} | b |\n"
+        self.assertEqual([found[:2] for found in prose.long_sentences(table)], [(3, 31)])
+        text = f"{words[:-5]}: then it goes on.\n\n- {words}\n\n```\n{words}\n```\n    {words}\n"
+        self.assertEqual([found[:2] for found in prose.long_sentences(text)], [(3, 31)])
+
     def test_crates_that_are_not_there(self):
         known = program_crates.known_crates()
         self.assertEqual(list(program_crates.faults(known)), [])
@@ -43,6 +56,22 @@ class Faults(unittest.TestCase):
     def test_crates_that_programs_use(self):
         self.assertEqual(program_crates.crates_of("one may_wait=9: two three # four"), ["two", "three"])
         self.assertEqual(program_crates.used_crates("hash_blocks"), {"anyhow", "sha2"})
+
+
+class FirstLines(unittest.TestCase):
+    def test_first_lines_end_at_the_code(self):
+        self.assertEqual(definitions.first_lines("-- What holds\n-- of pools.\nuse a\n-- more\n"), "What holds of pools.")
+        self.assertEqual(definitions.first_lines("use a\n-- more\n"), "")
+
+    def test_files_without_first_lines_and_rows_of_no_file(self):
+        files = definitions.files_of("specs")
+        self.assertEqual(list(definitions.faults(files, definitions.held_rows("definitions.txt"), "")), [])
+        self.assertEqual(len(list(definitions.faults({}, {"base/none": ["", ""]}, "definitions.txt"))), 1)
+
+    def test_a_row_has_the_source_and_what_is_held_in_place_of_the_first_lines(self):
+        files = {name: path for name, path in definitions.files_of("specs").items() if name == "base/steps/Readers"}
+        rows = list(definitions.rows(files, {"base/steps/Readers": ["`a.c`", "Says more."]}, (), False))
+        self.assertEqual(rows, ["| base/steps/Readers | Says more. | `a.c` |"])
 
 
 class Believed(unittest.TestCase):

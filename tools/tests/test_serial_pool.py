@@ -179,7 +179,7 @@ class LongRecords(unittest.TestCase):
 
 class Charges(unittest.TestCase):
     def test_charges_that_the_load_names(self):
-        """docs/FORMATS.md, 13: 8,192 bytes of a create, and those of a write within a record or over two."""
+        """docs/SCRIPTS.md, "The load": 8,192 bytes of a create, and those of a write within a record or over two."""
         ops = [("c", 1, 0, b""), ("w", 1, 0, b"x" * 64), ("w", 1, 4_000, b"x" * 64)]
         self.assertEqual([CHARGE * estimate(Entry(9, [op])) for op in ops], [8_192, 20_480, 24_576])
 

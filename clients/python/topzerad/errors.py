@@ -128,7 +128,7 @@ def bad_argument(cause: str) -> BadArgument:
 
 
 class RefusedFrame(Error):
-    """The frame with the call was refused whole, by this number (`docs/FORMATS.md`, "Frames"). The call wasn't made."""
+    """The frame with the call was refused whole, by this number (`docs/FRAMES.md`). The call wasn't made."""
 
     def __init__(self, number: int) -> None:
         super().__init__(number)

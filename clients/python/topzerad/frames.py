@@ -1,4 +1,4 @@
-"""Frames of requests, and what the frames of the process say (`docs/FORMATS.md`, "Frames")."""
+"""Frames of requests, and what the frames of the process say (`docs/FRAMES.md`)."""
 
 from __future__ import annotations
 

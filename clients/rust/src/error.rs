@@ -16,7 +16,7 @@ pub enum Error {
     NotDurable(Receipt, Refusal),
     /// A [`write_long`](crate::Pool::write_long) was cut short: the first `committed` of its bytes are in the pool.
     CutShort { committed: u64, error: Box<Error> },
-    /// The frame was refused whole, with this number of `docs/FORMATS.md`, "Frames". The call was not made.
+    /// The frame was refused whole, with this number of `docs/FRAMES.md`. The call was not made.
     FrameRefused(u32),
     /// The file can't be used, for this cause. There is an error of the system unless the program itself refused the
     /// file: `NotFound`, `PermissionDenied`, `WouldBlock` if another process has it, or `AlreadyExists`.

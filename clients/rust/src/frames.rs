@@ -1,4 +1,4 @@
-//! Frames of requests and of answers, and the opening: `docs/FORMATS.md`, "Frames".
+//! Frames of requests and of answers, and the opening: `docs/FRAMES.md`.
 
 use crate::error::Broken;
 use crate::{Error, Listed, Opened, Receipt, Refusal, Status};
@@ -417,7 +417,7 @@ mod tests {
         digits.chunks(2).map(byte).collect()
     }
 
-    /// The openings that `docs/FORMATS.md` has worked out, "Frames".
+    /// The openings that `docs/FRAMES.md` has worked out.
     #[test]
     fn the_worked_openings_are_read() {
         let open = bytes_of("24000000 0100 0400 00000000 4d00000000000000 0800000000000000 0000000000000000");
@@ -458,7 +458,7 @@ mod tests {
         assert_eq!(with_byte(0, 0x26), Broken::Ended);
     }
 
-    /// The request and the answers that `docs/FORMATS.md` has worked out, "Frames".
+    /// The request and the answers that `docs/FRAMES.md` has worked out.
     #[test]
     fn answers_are_those_of_their_requests() {
         let record = bytes_of("1b000000 0000000000000000 0000000000000000 0100 01 01000000");

@@ -3,8 +3,8 @@
 //! [`Pool::transact`] commits: a power failure may lose it until a [`flush`](Pool::flush) or a [`sync`](Pool::sync).
 //! [`Pool::transact_durably`] returns once no power failure loses it.
 //!
-//! [`Pool::open`] starts `PROGRAM serve FILE`, a process that has the pool, and asks it by frames (`docs/FORMATS.md`,
-//! "Frames"). It ends when the pool is closed or dropped. What several threads ask at once goes in one frame, so their
+//! [`Pool::open`] starts `PROGRAM serve FILE`, a process that has the pool, and asks it by frames
+//! (`docs/FRAMES.md`). It ends when the pool is closed or dropped. What several threads ask at once goes in one frame, so their
 //! durable transactions share a flush.
 //!
 //! ```no_run

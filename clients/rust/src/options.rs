@@ -174,7 +174,7 @@ fn seconds_of(time: Duration) -> Result<Option<u64>, Error> {
     Ok((seconds > 0).then_some(seconds))
 }
 
-/// What a `create` says by its status and its text: `docs/FORMATS.md`, "The program".
+/// What a `create` says by its status and its text: `docs/COMMANDS.md`.
 fn judge(status: Option<ExitStatus>, text: String) -> Result<(), Error> {
     let is_done = status.map_or_else(|| text.starts_with("created "), |status| status.success());
     if is_done {

@@ -1,0 +1,125 @@
+"""Compares the commands of the program and their options in the source, COMMANDS.md, the man page and the completion.
+
+A command or an option that one of them lacks is a fault. Read are:
+
+- `crates/command_line/src`: the commands by `described` and `reading_command`, their options by `flag`, `option` and
+  `number_option` with a name, also in functions that are called there;
+- docs/COMMANDS.md: `ztxg NAME ..` in code, and the table of the options that each command takes;
+- docs/ztxg.1: the entries of "COMMANDS" and "OPTIONS";
+- docs/ztxg.bash: the words of each command.
+
+An option of all commands has its letter, if it has one. The help is made from the source.
+"""
+
+import re
+
+from tools import TOP
+
+SOURCES = "crates/command_line/src"
+PAGE, MAN, COMPLETION = "docs/COMMANDS.md", "docs/ztxg.1", "docs/ztxg.bash"
+# The parser's own.
+OWN = {"-h", "--help", "-V", "--version"}
+
+FUNCTION = re.compile(r"^(?:pub(?:\(crate\))? )?fn (\w+)[^\n]*?(?:\n[^\n]*?)*?\{\n(.*?)^\}", re.M | re.S)
+OPTION = re.compile(r'\b(?:flag|option|number_option)\(\s*alloc,\s*"(\w+)"')
+COMMAND = re.compile(r'\b(?:described|reading_command)\(\s*alloc,\s*"(\w+)"')
+SHORT = re.compile(r"\.short\('(\w)'\)")
+WORDS = re.compile(r"(?<![\w-])--?[a-zA-Z]\w*")
+
+
+def functions(text):
+    """The bodies of functions by their names."""
+    return dict(FUNCTION.findall(text))
+
+
+def options_of(name, bodies):
+    """The options that a function names, and those that the functions name which it calls."""
+    body = bodies[name]
+    found = {f"--{option}" for option in OPTION.findall(body)} | {f"-{letter}" for letter in SHORT.findall(body)}
+    for called in set(re.findall(r"\b(\w+)\(", body)) & bodies.keys() - {name}:
+        found |= options_of(called, bodies)
+    return found
+
+
+def of_source(text):
+    """The options of each command, and those of all commands."""
+    bodies = functions(text)
+    named = ((name, COMMAND.search(body)) for name, body in bodies.items())
+    commands = {command[1]: options_of(name, bodies) for name, command in named if command}
+    return commands, options_of("with_options", bodies) if "with_options" in bodies else set()
+
+
+def of_page(text):
+    """The same of COMMANDS.md."""
+    commands = {}
+    for name, rest in re.findall(r"`ztxg ([a-z]+)\b([^`]*)`", text):
+        commands.setdefault(name, set()).update(WORDS.findall(rest))
+    table = text.partition("| option | what it does |\n")[2].partition("\n\n")[0]
+    shared = {word for cell in re.findall(r"^\| (.*?) \|", table, re.M) for word in WORDS.findall(cell)}
+    return {name: words - shared for name, words in commands.items()}, shared - OWN
+
+
+def of_man(text):
+    """The same of the man page. Of "OPTIONS" these are the options of commands, too."""
+    text = re.sub(r"\\f.", " ", text).replace("\\-", "-")
+    commands = {}
+    entries = text.partition(".SH COMMANDS\n")[2].partition("\n.SH ")[0]
+    for line in re.findall(r"^\.TP\n\.B.*", entries, re.M):
+        name = re.search(r'"([a-z]+) ', line)[1]
+        commands.setdefault(name, set()).update(WORDS.findall(line.partition(name)[2]))
+    options = text.partition(".SH OPTIONS\n")[2].partition("\n.SH ")[0]
+    words = {word for line in re.findall(r"^\.TP\n\.B.*", options, re.M) for word in WORDS.findall(line)}
+    return commands, words - OWN
+
+
+def of_completion(text):
+    """The same of the completion of `bash`."""
+    case = re.search(r"^\s*([a-z|]+)\) command=", text, re.M)
+    commands = {name: set() for name in case[1].split("|")} if case else {}
+    for names, words in re.findall(r'^\s*([a-z|]+)\) options\+="(.*?)"', text, re.M):
+        for name in names.split("|"):
+            commands.setdefault(name, set()).update(words.split())
+    shared = re.search(r'local options="(.*?)"', text)
+    first = re.search(r'compgen -W "([^$"]*)"', text)
+    listed = {word for word in (first[1].split() if first else []) if not word.startswith("-")} - {"help"}
+    for name in listed ^ commands.keys():
+        commands.pop(name, None)
+    return commands, set(shared[1].split() if shared else []) - OWN
+
+
+def differences(place, found, wanted):
+    """How the commands of a place and their options differ from those of the source."""
+    commands, shared = found
+    wanted_commands, wanted_shared = wanted
+    for name in sorted(commands.keys() | wanted_commands.keys()):
+        if name not in commands or name not in wanted_commands:
+            yield f"{place} {'lacks' if name not in commands else 'has'} the command {name}"
+        elif commands[name] != wanted_commands[name]:
+            yield f"{place}: {name} differs in {' '.join(sorted(commands[name] ^ wanted_commands[name]))}"
+    if shared != wanted_shared:
+        yield f"{place}: the options of all commands differ in {' '.join(sorted(shared ^ wanted_shared))}"
+
+
+def faults(sources):
+    """What differs in sources, by their paths."""
+    wanted = of_source(sources[SOURCES])
+    if not wanted[0]:
+        yield f"{SOURCES} has no command that this tool finds"
+        return
+    yield from differences(PAGE, of_page(sources[PAGE]), wanted)
+    yield from differences(COMPLETION, of_completion(sources[COMPLETION]), wanted)
+    commands, options = of_man(sources[MAN])
+    # Options with a value that several commands take stand under "OPTIONS" alone.
+    every = set().union(*wanted[0].values()) | wanted[1]
+    described = options | set().union(*commands.values())
+    yield from differences(MAN, (commands, options & wanted[1]), wanted)
+    if described != every:
+        yield f"{MAN}: its options differ in {' '.join(sorted(described ^ every))}"
+
+
+def main():
+    sources = {path: (TOP / path).read_text() for path in (PAGE, MAN, COMPLETION)}
+    sources[SOURCES] = "\n".join(path.read_text() for path in sorted((TOP / SOURCES).glob("*.rt")))
+    found = [f"command_words: {fault}" for fault in faults(sources)]
+    print("\n".join(found) or "the commands and options of the source, the page, the man page and the completion agree")
+    return int(bool(found))
