@@ -13,7 +13,7 @@ import sys
 
 from tools import Failed
 
-FOLDERS = ["checks", "costs", "repository"]
+FOLDERS = ["checks", "costs", "pictures", "repository"]
 HERE = pathlib.Path(__file__).parent
 
 

@@ -63,6 +63,14 @@ class Shims(unittest.TestCase):
         found = [name for name, _, _ in shims.noted_calls(noted)]
         self.assertEqual(found[:8], ["write", "write", "fsync", "synced", "fdatasync", "synced", "size", "output"])
 
+    def test_names_of_files_are_noted(self):
+        noted = os.path.join(self.folder, "noted")
+        words = [sys.executable, "-c", CALLS + "os.unlink(sys.argv[1])", self.file]
+        ran = run(words, env=shims.Shim("calls", self.folder).environment(CALLS_FILE=noted, NOTE_FILES="1"))
+        self.assertEqual(ran.lines(), ["0"])
+        lines = pathlib.Path(noted).read_text().splitlines()
+        self.assertEqual((lines[0], lines[-1]), ("write 5 3 file", "removed 0 0 file"))
+
     def test_output_has_room_for_some_bytes(self):
         environment = shims.Shim("output", self.folder).environment(OUTPUT_ROOM="4")
         ran = run([sys.executable, "-c", OUTPUT], env=environment)

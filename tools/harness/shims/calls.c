@@ -1,14 +1,17 @@
 /* Notes the writes, syncs and sizes of regular files and the syncs of folders, a line each, in the file that CALLS_FILE
-   names. The bytes of the writes go into the file that BYTES_FILE names, one after the other. With NOTE_OUTPUT each sync
-   of a regular file has a line at its end too, and each write to standard output one before it. */
+   names. The bytes of the writes go into the file that BYTES_FILE names, one after the other. With NOTE_OUTPUT each
+   sync of a regular file has a line at its end too, and each write to standard output one before it. With NOTE_FILES
+   each line of a regular file has the file's name behind it, and each removal of a file has a line. */
 
 #include "shim.h"
+#include <limits.h>
 #include <stdio.h>
+#include <string.h>
 #include <sys/stat.h>
 #include <sys/types.h>
 #include <unistd.h>
 
-static int noted = -1, copied = -1, notes_output;
+static int noted = -1, copied = -1, notes_output, notes_files;
 
 static int opened(const char *variable) {
     const char *path = getenv(variable);
@@ -19,12 +22,27 @@ __attribute__((constructor)) static void begin(void) {
     noted = opened("CALLS_FILE");
     copied = opened("BYTES_FILE");
     notes_output = getenv("NOTE_OUTPUT") != NULL;
+    notes_files = getenv("NOTE_FILES") != NULL;
+}
+
+static const char *last_part(const char *path) {
+    const char *slash = strrchr(path, '/');
+    return slash ? slash + 1 : path;
+}
+
+/* A line with the name of an open file behind it. */
+static void note_named(int file, const char *name, long long place, long long size) {
+    char link[32], path[PATH_MAX] = "";
+    snprintf(link, sizeof link, "/proc/self/fd/%d", file);
+    if (readlink(link, path, sizeof path - 1) < 0) abort();
+    dprintf(noted, "%s %lld %lld %s\n", name, place, size, last_part(path));
 }
 
 static int note(int file, const char *name, long long place, long long size) {
     struct stat is;
     if (noted < 0 || fstat(file, &is) || !S_ISREG(is.st_mode)) return 0;
-    dprintf(noted, "%s %lld %lld\n", name, place, size);
+    if (notes_files) note_named(file, name, place, size);
+    else dprintf(noted, "%s %lld %lld\n", name, place, size);
     return 1;
 }
 
@@ -69,3 +87,9 @@ int ftruncate64(int file, off64_t size) {
 }
 
 int ftruncate(int file, off_t size) { return ftruncate64(file, size); }
+
+int unlink(const char *path) {
+    NEXT(int (*next)(const char *), "unlink");
+    if (notes_files && noted >= 0) dprintf(noted, "removed 0 0 %s\n", last_part(path));
+    return next(path);
+}
