@@ -1,5 +1,6 @@
 //! The arguments of the program: which command, and what it works on.
 
+use crate::bench::BenchOrder;
 use crate::order::Order;
 
 /// How much is reported of a command that was not done.
@@ -56,6 +57,8 @@ pub enum Arguments<'a> {
     Remove(RemoveArguments<'a>),
     /// `ztxg serve`.
     Serve(ServeArguments<'a>),
+    /// `ztxg bench`.
+    Bench(BenchArguments<'a>),
 }
 
 /// The device that a script works on.
@@ -171,4 +174,17 @@ pub struct ServeArguments<'a> {
     pub cache_blocks: u64,
     /// The moment, in seconds, of each uberblock that it writes.
     pub moment: u64,
+}
+
+/// The arguments of `ztxg bench`.
+#[derive(Clone, Copy, Debug, PartialEq, Eq)]
+pub struct BenchArguments<'a> {
+    /// The path of the file, which is made new, and removed at the end.
+    pub file: &'a str,
+    /// The bytes of the file.
+    pub size: u64,
+    /// What is timed.
+    pub order: BenchOrder,
+    /// The most bytes that unsynced transactions may be charged.
+    pub dirty_max: u64,
 }

@@ -3,6 +3,7 @@
 
 ghost use Rattle.std.specs.Prelude.{◌≡◌, ◌≤◌, false};
 
+use crate::bench::BenchOrder;
 use crate::order::Order;
 
 // What a load by so many workers is asked for.
@@ -32,6 +33,45 @@ fn no_load_is_without_a_worker() {
 
 fn a_stream_has_at_most_a_million_writes(order: Order) -> bool
     requires { 1000001 ≤ order.writes }
+    ensures { result ≡ false }
+{
+    order.is_allowed()
+}
+
+// What a bench of five seconds is asked for.
+fn bench_of(workers: u64, bytes: u64) -> BenchOrder
+    ensures workers { result.workers ≡ workers }
+    ensures bytes { result.bytes ≡ bytes }
+    ensures seconds { result.seconds ≡ 5 }
+{
+    BenchOrder {
+        workers,
+        bytes,
+        seconds: 5,
+        is_durable: false,
+    }
+}
+
+fn the_bounds_of_a_bench_are_allowed() {
+    let least = bench_of(1, 1).is_allowed();
+    let most = bench_of(64, 64_512).is_allowed();
+    prove!(least);
+    prove!(most);
+}
+
+fn a_bench_outside_its_bounds_is_not_allowed() {
+    let idle = bench_of(0, 1).is_allowed();
+    let crowded = bench_of(65, 1).is_allowed();
+    let empty = bench_of(1, 0).is_allowed();
+    let long = bench_of(1, 64_513).is_allowed();
+    prove!(!idle);
+    prove!(!crowded);
+    prove!(!empty);
+    prove!(!long);
+}
+
+fn no_bench_takes_more_than_a_day(order: BenchOrder) -> bool
+    requires { 86401 ≤ order.seconds }
     ensures { result ≡ false }
 {
     order.is_allowed()

@@ -2,11 +2,14 @@
 #![tactic(auto)]
 
 mod arguments;
+mod bench;
 mod clients;
 mod order;
 
 pub use arguments::{
-    Arguments, CheckArguments, CreateArguments, GetArguments, LoadArguments, Options, PutArguments,
-    RemoveArguments, ScriptArguments, ScriptDevice, ServeArguments, Terminals, Verbosity,
+    Arguments, BenchArguments, CheckArguments, CreateArguments, GetArguments, LoadArguments,
+    Options, PutArguments, RemoveArguments, ScriptArguments, ScriptDevice, ServeArguments,
+    Terminals, Verbosity,
 };
+pub use bench::{BenchOrder, MAX_BENCH_BYTES, MAX_BENCH_SECONDS, MAX_BENCH_WORKERS};
 pub use order::{MAX_WORKERS, MAX_WRITES, Order, STREAMS};
