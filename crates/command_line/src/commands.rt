@@ -5,8 +5,9 @@
 
 use crate::help;
 use crate::words::{
-    LOADED_DIRTY_LIMIT, SERVED_DIRTY_LIMIT, SIZE_HELP, cache_blocks, dirty_limit, flag, moment,
-    number, number_option, object, option, read_file, word, written_file,
+    BENCH_DIRTY_LIMIT, LOADED_DIRTY_LIMIT, SERVED_DIRTY_LIMIT, SIZE_HELP, cache_blocks,
+    dirty_limit, flag, moment, number, number_option, object, option, read_file, word,
+    written_file,
 };
 use clap::{Arg, Command, value_parser};
 use command_arguments::{MAX_WORKERS, MAX_WRITES};
@@ -25,11 +26,12 @@ pub(crate) enum CommandName {
     Labels,
     Load,
     Serve,
+    Bench,
     Script,
 }
 
 /// The commands, in the order of the program's help.
-pub(crate) const COMMANDS: [CommandName; 11] = [
+pub(crate) const COMMANDS: [CommandName; 12] = [
     CommandName::Create,
     CommandName::Show,
     CommandName::Check,
@@ -40,6 +42,7 @@ pub(crate) const COMMANDS: [CommandName; 11] = [
     CommandName::Labels,
     CommandName::Load,
     CommandName::Serve,
+    CommandName::Bench,
     CommandName::Script,
 ];
 
@@ -57,6 +60,7 @@ impl CommandName {
             CommandName::Labels => labels_command(alloc),
             CommandName::Load => load_command(alloc),
             CommandName::Serve => serve_command(alloc),
+            CommandName::Bench => bench_command(alloc),
             CommandName::Script => script_command(alloc),
         }
     }
@@ -210,6 +214,38 @@ fn serve_command<'a>(alloc: Global) -> Result<Command<'a>, AllocError> {
     ]?;
     let about = "Answers frames of requests to the pool in a file, for programs in other languages";
     described(alloc, "serve", about, help::SERVE).args(words)
+}
+
+fn bench_command<'a>(alloc: Global) -> Result<Command<'a>, AllocError> {
+    let words = vec![in alloc;
+        bench_file(alloc),
+        number_option(
+            alloc,
+            "size",
+            "S",
+            "The bytes of FILE: 6291456 to 1073741824, a multiple of 262144",
+        )
+        .default_value("67108864"),
+        number_option(alloc, "workers", "W", "The threads that commit: 1 to 64").default_value("4"),
+        number_option(alloc, "bytes", "B", "The bytes of each write: 1 to 64512").default_value(
+            "4096"
+        ),
+        number_option(alloc, "seconds", "T", "How long it takes: 1 to 86400").default_value("5"),
+        dirty_limit(alloc, BENCH_DIRTY_LIMIT),
+        flag(
+            alloc,
+            "durable",
+            "Has each call wait until its commit is durable",
+        ),
+    ]?;
+    let about = "Times commits on a pool of its own in a new file, which it removes at its end";
+    described(alloc, "bench", about, help::BENCH).args(words)
+}
+
+fn bench_file<'a>(alloc: Global) -> Arg<'a> {
+    Arg::new(alloc, "FILE")
+        .help("The path of the file, which must not exist")
+        .default_value("ztxg-bench.pool")
 }
 
 fn script_command<'a>(alloc: Global) -> Result<Command<'a>, AllocError> {

@@ -2,8 +2,9 @@
 
 use clap::ArgMatches;
 use command_arguments::{
-    Arguments, CheckArguments, CreateArguments, GetArguments, LoadArguments, Options, Order,
-    PutArguments, RemoveArguments, ScriptArguments, ScriptDevice, ServeArguments, Verbosity,
+    Arguments, BenchArguments, BenchOrder, CheckArguments, CreateArguments, GetArguments,
+    LoadArguments, Options, Order, PutArguments, RemoveArguments, ScriptArguments, ScriptDevice,
+    ServeArguments, Verbosity,
 };
 
 /// The arguments of the command that was named.
@@ -21,6 +22,7 @@ pub fn read_arguments<'a>(matches: &ArgMatches<'a>) -> Option<Arguments<'a>> {
         "rm" => Some(Arguments::Remove(read_remove(given)?)),
         "load" => Some(Arguments::Load(read_load(given)?)),
         "serve" => Some(Arguments::Serve(read_serve(given)?)),
+        "bench" => Some(Arguments::Bench(read_bench(given)?)),
         _ => None,
     }
 }
@@ -119,6 +121,20 @@ fn read_serve<'a>(given: &ArgMatches<'a>) -> Option<ServeArguments<'a>> {
         dirty_max: number(given, "dirty")?,
         cache_blocks: number(given, "cache")?,
         moment: number(given, "moment")?,
+    })
+}
+
+fn read_bench<'a>(given: &ArgMatches<'a>) -> Option<BenchArguments<'a>> {
+    Some(BenchArguments {
+        file: text(given, "FILE")?,
+        size: number(given, "size")?,
+        order: BenchOrder {
+            workers: number(given, "workers")?,
+            bytes: number(given, "bytes")?,
+            seconds: number(given, "seconds")?,
+            is_durable: given.get_flag("durable"),
+        },
+        dirty_max: number(given, "dirty")?,
     })
 }
 

@@ -76,6 +76,9 @@ pub(crate) fn moment<'a>(alloc: Global) -> Arg<'a> {
 /// The dirty limit of `serve`, that of the library: `DEFAULT_DIRTY_MAX` of `base`.
 pub(crate) const SERVED_DIRTY_LIMIT: &str = "4194304";
 
+/// The dirty limit of `bench`, that of the library.
+pub(crate) const BENCH_DIRTY_LIMIT: &str = SERVED_DIRTY_LIMIT;
+
 /// The dirty limit of `load`, at which loads were always made.
 pub(crate) const LOADED_DIRTY_LIMIT: &str = "1048576";
 
