@@ -1,3 +1,4 @@
+pub mod Benches
 pub mod Checks
 pub mod Committed
 pub mod Failures

@@ -1,11 +1,12 @@
-//! The commands of the program `ztxg` on a pool in a file, which is made, shown, checked, loaded or served, and whose
-//! objects are listed, read, written and removed. The command `script`, and what does whichever command is asked for,
+//! The commands of the program `ztxg` on a pool in a file, which is made, shown, checked, loaded, served or timed, and
+//! whose objects are listed, read, written and removed. The command `script`, and what does whichever command is asked for,
 //! are in `script_commands`.
 //!
 //! The crate knows no command line: each command is given its arguments by a type of `command_arguments`.
 #![tactic(auto)]
 
 mod bad_number;
+mod benches;
 mod changes;
 mod check_all;
 mod checks;
@@ -24,6 +25,7 @@ mod unopened;
 mod waiting;
 
 pub use bad_number::BadNumber;
+pub use benches::run_bench;
 pub use changes::{read_input, run_put, run_remove};
 pub use check_all::{check_to_end, run_check_all};
 pub use checks::{Finding, check_pool, run_check};
