@@ -5,27 +5,24 @@ ghost use Rattle.std.specs.Prelude.{◌≤◌};
 use crate::script::run_named_script;
 use command_arguments::{Arguments, CheckArguments, Options, Terminals};
 use commands::{
-    open_within, read_input, report_terminal, run_check, run_check_all, run_create, run_get,
-    run_labels, run_list, run_load, run_put, run_remove, run_serve, run_show,
+    open_within, read_input, report_terminal, run_bench, run_check, run_check_all, run_create,
+    run_get, run_labels, run_list, run_load, run_put, run_remove, run_serve, run_show,
 };
 use device_model::{Access, HeldFile};
 use std::io::{self, Eprint, Write};
 use std::os::unix::fs::FileExt;
-use std::rt::Files;
+use std::rt::{Clock, Files};
 use std::sync::Wait;
 use std::thread::Threads;
 
 /// Does a command of the program, and returns the exit status. A file that another process has is waited for as long as
-/// the options say, and a script may wait for its pool. A load has threads, and shows its progress if standard error is
-/// a terminal. A put says if it reads from a terminal, and a serve isn't done if it would answer to one. Failures are
-/// reported on `errors`, which is standard error.
-pub fn run<R: Files + Input + Print + Eprint + AllocGlobal + Threads + Wait + Sync, E: Write>(
-    rt: &R,
-    arguments: Arguments<'_>,
-    options: Options,
-    terminals: Terminals,
-    errors: &mut E,
-) -> u8
+/// the options say, and a script may wait for its pool. A load, a serve and a bench have threads. A load shows its
+/// progress if standard error is a terminal. A put says if it reads from a terminal, and a serve isn't done if it would
+/// answer to one. Failures are reported on `errors`, which is standard error.
+pub fn run<
+    R: Files + Input + Print + Eprint + AllocGlobal + Threads + Wait + Clock + Sync,
+    E: Write,
+>(rt: &R, arguments: Arguments<'_>, options: Options, terminals: Terminals, errors: &mut E) -> u8
 where
     R::File: FileExt + HeldFile + Send,
     ensures { result ≤ 3 }
@@ -108,6 +105,9 @@ where
             let (input, out) = (rt.reader(), io::writer(rt));
             let (status, _) = run_serve(rt, arguments, verbosity, opened, input, out, errors);
             status
+        }
+        Arguments::Bench(arguments) => {
+            run_bench(rt, arguments, verbosity, &mut io::writer(rt), errors)
         }
     }
 }
