@@ -5,6 +5,7 @@ mod arguments;
 mod bench;
 mod clients;
 mod order;
+mod sizes;
 
 pub use arguments::{
     Arguments, BenchArguments, CheckArguments, CreateArguments, GetArguments, LoadArguments,
@@ -13,3 +14,4 @@ pub use arguments::{
 };
 pub use bench::{BenchOrder, MAX_BENCH_BYTES, MAX_BENCH_SECONDS, MAX_BENCH_WORKERS};
 pub use order::{MAX_WORKERS, MAX_WRITES, Order, STREAMS};
+pub use sizes::size_of;
