@@ -6,8 +6,8 @@
 use crate::help;
 use crate::words::{
     BENCH_DIRTY_LIMIT, LOADED_DIRTY_LIMIT, SERVED_DIRTY_LIMIT, SIZE_HELP, cache_blocks,
-    dirty_limit, flag, moment, number, number_option, object, option, read_file, word,
-    written_file,
+    dirty_limit, flag, moment, number, number_option, object, option, read_file, size_option,
+    word, written_file,
 };
 use clap::{Arg, Command, value_parser};
 use command_arguments::{MAX_WORKERS, MAX_WRITES};
@@ -96,7 +96,7 @@ fn create_command<'a>(alloc: Global) -> Result<Command<'a>, AllocError> {
             "The pool's name: 1 to 64 bytes, first a letter, then letters, digits, '-', '_', '.'",
         ),
         number(alloc, "GUID", "The pool's guid: a number below 2^64"),
-        number(alloc, "SIZE", SIZE_HELP),
+        word(alloc, "SIZE", SIZE_HELP),
         flag(
             alloc,
             "new",
@@ -133,8 +133,8 @@ fn get_command<'a>(alloc: Global) -> Result<Command<'a>, AllocError> {
     let words = vec![in alloc;
         read_file(alloc),
         object(alloc),
-        number_option(alloc, "offset", "O", "The first byte").default_value("0"),
-        number_option(
+        size_option(alloc, "offset", "O", "The first byte, as 4096 or 4K").default_value("0"),
+        size_option(
             alloc,
             "length",
             "L",
@@ -149,7 +149,7 @@ fn put_command<'a>(alloc: Global) -> Result<Command<'a>, AllocError> {
     let words = vec![in alloc;
         written_file(alloc),
         object(alloc),
-        number_option(
+        size_option(
             alloc,
             "offset",
             "O",
@@ -219,17 +219,15 @@ fn serve_command<'a>(alloc: Global) -> Result<Command<'a>, AllocError> {
 fn bench_command<'a>(alloc: Global) -> Result<Command<'a>, AllocError> {
     let words = vec![in alloc;
         bench_file(alloc),
-        number_option(
+        size_option(
             alloc,
             "size",
-            "S",
-            "The bytes of FILE: 6291456 to 1073741824, a multiple of 262144",
+            "SIZE",
+            "The bytes of FILE, as 64M: 6M to 1G, a multiple of 256K",
         )
-        .default_value("67108864"),
+        .default_value("64M"),
         number_option(alloc, "workers", "W", "The threads that commit: 1 to 64").default_value("4"),
-        number_option(alloc, "bytes", "B", "The bytes of each write: 1 to 64512").default_value(
-            "4096"
-        ),
+        size_option(alloc, "bytes", "B", "The bytes of each write: 1 to 64512").default_value("4096"),
         number_option(alloc, "seconds", "T", "How long it takes: 1 to 86400").default_value("5"),
         dirty_limit(alloc, BENCH_DIRTY_LIMIT),
         flag(
@@ -287,7 +285,6 @@ fn script_words<'a>(alloc: Global) -> Result<Vec<Arg<'a>>, AllocError> {
 fn size_without_file<'a>(alloc: Global) -> Result<Arg<'a>, AllocError> {
     Arg::new(alloc, "SIZE")
         .help(SIZE_HELP)
-        .value_parser(value_parser!(u64))
         .required_unless_present("file")?
         .conflicts_with("file")
 }

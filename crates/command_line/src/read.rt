@@ -1,5 +1,6 @@
 //! What the words matched, read as the arguments of a command.
 
+use crate::sizes::size;
 use clap::ArgMatches;
 use command_arguments::{
     Arguments, BenchArguments, BenchOrder, CheckArguments, CreateArguments, GetArguments,
@@ -53,7 +54,7 @@ fn read_script<'a>(given: &ArgMatches<'a>) -> Option<ScriptArguments<'a>> {
 fn read_device<'a>(given: &ArgMatches<'a>) -> Option<ScriptDevice<'a>> {
     match text(given, "file") {
         Some(file) => Some(ScriptDevice::File(file)),
-        None => Some(ScriptDevice::Memory(number(given, "SIZE")?)),
+        None => Some(ScriptDevice::Memory(size(given, "SIZE")?)),
     }
 }
 
@@ -62,7 +63,7 @@ fn read_create<'a>(given: &ArgMatches<'a>) -> Option<CreateArguments<'a>> {
         file: text(given, "FILE")?,
         name: text(given, "NAME")?,
         guid: number(given, "GUID")?,
-        size: number(given, "SIZE")?,
+        size: size(given, "SIZE")?,
         only_new: given.get_flag("new"),
         moment: number(given, "moment")?,
     })
@@ -76,7 +77,7 @@ fn read_load<'a>(given: &ArgMatches<'a>) -> Option<LoadArguments<'a>> {
             writes: small_number(given, "ops")?,
             seed: number(given, "seed")?,
         },
-        dirty_max: number(given, "dirty")?,
+        dirty_max: size(given, "dirty")?,
         cache_blocks: number(given, "cache")?,
         moment: number(given, "moment")?,
     })
@@ -86,8 +87,8 @@ fn read_get<'a>(given: &ArgMatches<'a>) -> Option<GetArguments<'a>> {
     Some(GetArguments {
         file: text(given, "FILE")?,
         object: small_number(given, "OBJECT")?,
-        offset: number(given, "offset")?,
-        length: number(given, "length"),
+        offset: size(given, "offset")?,
+        length: size(given, "length"),
     })
 }
 
@@ -95,7 +96,7 @@ fn read_put<'a>(given: &ArgMatches<'a>) -> Option<PutArguments<'a>> {
     Some(PutArguments {
         file: text(given, "FILE")?,
         object: small_number(given, "OBJECT")?,
-        offset: number(given, "offset"),
+        offset: size(given, "offset"),
         moment: number(given, "moment")?,
     })
 }
@@ -118,7 +119,7 @@ fn read_check<'a>(given: &ArgMatches<'a>) -> Option<CheckArguments<'a>> {
 fn read_serve<'a>(given: &ArgMatches<'a>) -> Option<ServeArguments<'a>> {
     Some(ServeArguments {
         file: text(given, "FILE")?,
-        dirty_max: number(given, "dirty")?,
+        dirty_max: size(given, "dirty")?,
         cache_blocks: number(given, "cache")?,
         moment: number(given, "moment")?,
     })
@@ -127,14 +128,14 @@ fn read_serve<'a>(given: &ArgMatches<'a>) -> Option<ServeArguments<'a>> {
 fn read_bench<'a>(given: &ArgMatches<'a>) -> Option<BenchArguments<'a>> {
     Some(BenchArguments {
         file: text(given, "FILE")?,
-        size: number(given, "size")?,
+        size: size(given, "size")?,
         order: BenchOrder {
             workers: number(given, "workers")?,
-            bytes: number(given, "bytes")?,
+            bytes: size(given, "bytes")?,
             seconds: number(given, "seconds")?,
             is_durable: given.get_flag("durable"),
         },
-        dirty_max: number(given, "dirty")?,
+        dirty_max: size(given, "dirty")?,
     })
 }
 
