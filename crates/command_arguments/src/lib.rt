@@ -5,6 +5,7 @@ mod arguments;
 mod bench;
 mod clients;
 mod order;
+mod reports;
 mod sizes;
 
 pub use arguments::{
@@ -14,4 +15,7 @@ pub use arguments::{
 };
 pub use bench::{BenchOrder, MAX_BENCH_BYTES, MAX_BENCH_SECONDS, MAX_BENCH_WORKERS};
 pub use order::{MAX_WORKERS, MAX_WRITES, Order, STREAMS};
+pub use reports::{
+    ListArguments, ListForm, ReportArguments, ReportForm, SpaceArguments, SpaceUnit,
+};
 pub use sizes::size_of;
