@@ -6,10 +6,10 @@
 use crate::help;
 use crate::words::{
     BENCH_DIRTY_LIMIT, LOADED_DIRTY_LIMIT, SERVED_DIRTY_LIMIT, SIZE_HELP, cache_blocks,
-    dirty_limit, flag, moment, number, number_option, object, option, read_file, size_option,
+    dirty_limit, flag, json, moment, number, number_option, object, option, read_file, size_option,
     word, written_file,
 };
-use clap::{Arg, Command, value_parser};
+use clap::{Arg, ArgAction, Command, value_parser};
 use command_arguments::{MAX_WORKERS, MAX_WRITES};
 use std::alloc::{AllocError, Global};
 
@@ -20,6 +20,7 @@ pub(crate) enum CommandName {
     Show,
     Check,
     List,
+    Space,
     Get,
     Put,
     Remove,
@@ -36,6 +37,7 @@ pub(crate) const COMMANDS: [CommandName; 12] = [
     CommandName::Show,
     CommandName::Check,
     CommandName::List,
+    CommandName::Space,
     CommandName::Get,
     CommandName::Put,
     CommandName::Remove,
@@ -54,6 +56,7 @@ impl CommandName {
             CommandName::Show => show_command(alloc),
             CommandName::Check => check_command(alloc),
             CommandName::List => list_command(alloc),
+            CommandName::Space => space_command(alloc),
             CommandName::Get => get_command(alloc),
             CommandName::Put => put_command(alloc),
             CommandName::Remove => remove_command(alloc),
@@ -73,14 +76,15 @@ fn described<'a>(alloc: Global, name: &'a str, about: &'a str, after_help: &'a s
         .after_help(after_help)
 }
 
-// A command whose one word is a file that it only reads.
-fn reading_command<'a>(
+// A command that reports on a file, which it only reads, in lines or as JSON.
+fn reporting_command<'a>(
     alloc: Global,
     name: &'a str,
     about: &'a str,
     after_help: &'a str,
 ) -> Result<Command<'a>, AllocError> {
-    described(alloc, name, about, after_help).arg(read_file(alloc))
+    let words = vec![in alloc; read_file(alloc), json(alloc)]?;
+    described(alloc, name, about, after_help).args(words)
 }
 
 fn create_command<'a>(alloc: Global) -> Result<Command<'a>, AllocError> {
@@ -110,7 +114,7 @@ fn create_command<'a>(alloc: Global) -> Result<Command<'a>, AllocError> {
 
 fn show_command<'a>(alloc: Global) -> Result<Command<'a>, AllocError> {
     let about = "Reports what an import of the pool in a file would mount; it only reads the file";
-    reading_command(alloc, "show", about, help::SHOW)
+    reporting_command(alloc, "show", about, help::SHOW)
 }
 
 fn check_command<'a>(alloc: Global) -> Result<Command<'a>, AllocError> {
@@ -119,14 +123,35 @@ fn check_command<'a>(alloc: Global) -> Result<Command<'a>, AllocError> {
         "all",
         "Goes on after a damage, and prints each, and each damaged label",
     );
-    let words = vec![in alloc; read_file(alloc), all]?;
+    let words = vec![in alloc; read_file(alloc), all, json(alloc)]?;
     let about = "Checks whether the pool in a file is whole; it only reads the file";
     described(alloc, "check", about, help::CHECK).args(words)
 }
 
 fn list_command<'a>(alloc: Global) -> Result<Command<'a>, AllocError> {
+    let long = flag(alloc, "long", "Prints the most blocks of each object, too").short('l');
+    let words = vec![in alloc; read_file(alloc), long, json(alloc)]?;
     let about = "Lists the objects of the pool in a file; it only reads the file";
-    reading_command(alloc, "ls", about, help::LIST)
+    described(alloc, "ls", about, help::LIST).args(words)
+}
+
+fn space_command<'a>(alloc: Global) -> Result<Command<'a>, AllocError> {
+    let powers = flag(
+        alloc,
+        "human-readable",
+        "Prints powers of 1024 with one decimal: 3.5M",
+    )
+    .short('h');
+    // `-h` isn't the help here.
+    let help = Arg::new(alloc, "help")
+        .long("help")
+        .action(ArgAction::Help)
+        .help("Print help");
+    let words = vec![in alloc; read_file(alloc), powers, help]?;
+    let about = "Reports the space of the pool in a file in bytes; it only reads the file";
+    described(alloc, "df", about, help::SPACE)
+        .disable_help_flag(true)
+        .args(words)
 }
 
 fn get_command<'a>(alloc: Global) -> Result<Command<'a>, AllocError> {
@@ -168,7 +193,7 @@ fn remove_command<'a>(alloc: Global) -> Result<Command<'a>, AllocError> {
 
 fn labels_command<'a>(alloc: Global) -> Result<Command<'a>, AllocError> {
     let about = "Reports what the four labels of a file hold; it only reads the file";
-    reading_command(alloc, "labels", about, help::LABELS)
+    reporting_command(alloc, "labels", about, help::LABELS)
 }
 
 fn load_command<'a>(alloc: Global) -> Result<Command<'a>, AllocError> {
@@ -227,7 +252,9 @@ fn bench_command<'a>(alloc: Global) -> Result<Command<'a>, AllocError> {
         )
         .default_value("64M"),
         number_option(alloc, "workers", "W", "The threads that commit: 1 to 64").default_value("4"),
-        size_option(alloc, "bytes", "B", "The bytes of each write: 1 to 64512").default_value("4096"),
+        size_option(alloc, "bytes", "B", "The bytes of each write: 1 to 64512").default_value(
+            "4096"
+        ),
         number_option(alloc, "seconds", "T", "How long it takes: 1 to 86400").default_value("5"),
         dirty_limit(alloc, BENCH_DIRTY_LIMIT),
         flag(
