@@ -1,0 +1,5 @@
+pub mod NameLengths
+pub mod NamesFound
+pub mod Renamed
+pub mod SlotBytes
+pub mod WrittenSlots

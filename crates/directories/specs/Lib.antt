@@ -1,0 +1,4 @@
+pub mod Names
+pub mod Slots
+pub mod Directories
+pub mod Laws
