@@ -1,3 +1,4 @@
+pub mod DirectoryClients
 pub mod NameLengths
 pub mod NamesFound
 pub mod Renamed

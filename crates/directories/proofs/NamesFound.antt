@@ -1,9 +1,9 @@
 -- Which object a name stands for.
-use Rattle.std.proofs.Common.{◌≡◌, ◌≢◌, ℕ, ◌*◌, ◌<◌, ◌≤◌, List, [], ◌∷◌, drop, length, take, refl, ap, sym, ◌∙◌, arith}
+use Rattle.std.proofs.Common.{◌≡◌, ◌≢◌, ℕ, ◌*◌, ◌<◌, ◌≤◌, List, [], ◌∷◌, length, take, refl, ap, sym, ◌∙◌, arith}
 use Rattle.std.proofs.lemmas.List.{drop_all}
 use Rattle.std.proofs.lemmas.Bool.{cases_lt}
-use Rattle.std.proofs.Common.{inl, inr, ◌⊎◌}
-use Rattle.directories.specs.Directories.{AreDistinct, IsDirectory, IsNamed, name_at, slot_at}
+use Rattle.std.proofs.Common.{inl, inr}
+use Rattle.directories.specs.Directories.{AreDistinct, IsNamed, name_at, slot_at}
 use Rattle.directories.specs.Slots.{name_in}
 
 pub slot_at-past : (bytes : List ℕ) (n : ℕ) → length bytes ≤ 256 * n → slot_at bytes n ≡ []

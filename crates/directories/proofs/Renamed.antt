@@ -1,10 +1,10 @@
 -- A directory after a write of one slot.
-use Rattle.std.proofs.Common.{◌≡◌, ◌≢◌, ◌⊎◌, inl, inr, ℕ, zero, suc, ◌+◌, ◌-◌, ◌*◌, ◌%◌, ◌<◌, ◌≤◌, List, [], ◌∷◌, ◌++◌, drop, length, replicate, take, refl, ap, sym, ◌∙◌, subst, arith}
+use Rattle.std.proofs.Common.{◌≡◌, ◌≢◌, ◌⊎◌, inl, inr, ℕ, ◌+◌, ◌*◌, ◌%◌, ◌<◌, ◌≤◌, List, [], ◌∷◌, length, replicate, refl, ap, sym, ◌∙◌, subst, arith}
 use Rattle.std.proofs.lemmas.Bool.{cases_eq, cases_lt}
 use Rattle.std.proofs.lemmas.List.{append-nil, take_all}
 use Rattle.base.specs.history.Contents.{bytes_after_write}
-use Rattle.directories.specs.Directories.{AreDistinct, AreSlots, HasHeader, IsDirectory, IsNamed, IsWhole, name_at, slot_at}
-use Rattle.directories.specs.Laws.{IsRenamed, IsUnused, SlotsChangeOneName, headed, with_slot}
+use Rattle.directories.specs.Directories.{AreDistinct, AreSlots, HasHeader, IsDirectory, IsWhole, name_at, slot_at}
+use Rattle.directories.specs.Laws.{IsRenamed, IsUnused, SlotsChangeOneName, headed}
 use Rattle.directories.specs.Names.{IsName}
 use Rattle.directories.specs.Slots.{IsSlot, header_bytes, name_in, slot_bytes}
 use Rattle.directories.proofs.NameLengths.{IsName-length}

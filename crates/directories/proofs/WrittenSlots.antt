@@ -1,6 +1,6 @@
 -- Parts of an object after a write to it, and the slots of object 0 after a write of one.
 use Rattle.std.proofs.Common.{◌≡◌, ℕ, ◌+◌, ◌-◌, ◌*◌, ◌<◌, ◌≤◌, List, ◌++◌, drop, length, replicate, take, refl, ap, sym, ◌∙◌, append_assoc, arith, length-append, length-drop}
-use Rattle.std.proofs.lemmas.List.{drop-append-le, drop-drop, drop-replicate, drop-take, drop_at, length-replicate, length-take-le, places, take-append-le, take-replicate, take-take, take_all, take_at}
+use Rattle.std.proofs.lemmas.List.{drop-append-le, drop-drop, drop-replicate, drop-take, drop_at, places, take-append-le, take-replicate, take-take, take_all, take_at}
 use Rattle.std.proofs.Math.Seq.{drop-append-add}
 use Rattle.base.specs.formats.Fields.{part}
 use Rattle.base.specs.history.Contents.{bytes_after_write, resize}

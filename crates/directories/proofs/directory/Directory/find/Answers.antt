@@ -1,5 +1,5 @@
-use Rattle.std.proofs.Common.{◌≡◌, ◌≢◌, ◌*◌, ◌<◌, ◌≤◌, ℕ, List, [], Option, Some, None, Bool, true, false, IfNone, ap, length, subst, sym, ◌∙◌, arith, rules}
-use Rattle.directories.specs.Directories.{AreDistinct, IsNamed, name_at}
+use Rattle.std.proofs.Common.{◌≡◌, ◌*◌, ℕ, List, Option, Some, None, IfNone, length, subst, ◌∙◌, rules}
+use Rattle.directories.specs.Directories.{AreDistinct, IsNamed}
 use Rattle.directories.proofs.NamesFound.{not_named, one_number}
 use Rattle.directories.proofs.directory.Directory.find.Goals as goal
 

@@ -1,4 +1,4 @@
-use Rattle.std.proofs.Common.{◌≡◌, ℕ, Option, Some, None, false, is_some, IfNone, sym, ◌∙◌, ap}
+use Rattle.std.proofs.Common.{◌≡◌, Option, Some, None, false, is_some, IfNone, sym, ◌∙◌}
 use Rattle.std.proofs.lemmas.Bool.{not-true}
 use Rattle.directories.proofs.NamesFound.{unnamed}
 use Rattle.directories.proofs.directory.Directory.is_free.Goals as goal

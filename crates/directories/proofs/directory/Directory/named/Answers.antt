@@ -1,4 +1,4 @@
-use Rattle.std.proofs.Common.{◌≡◌, ℕ, List, ap, arith, length, ◌∙◌}
+use Rattle.std.proofs.Common.{◌≡◌, ap, arith, length, ◌∙◌}
 use Rattle.directories.proofs.NamesFound.{named_there}
 use Rattle.directories.proofs.directory.Directory.named.Goals as goal
 use Rattle.directories.proofs.directory.Directory.named.Goals.{then-number-eq0-via-then-number-eq0, then-number-eq0-via-else-number-eq0+then-number-slot_count}
