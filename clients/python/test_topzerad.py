@@ -304,6 +304,104 @@ class Calls(OnPools):
             self.assertEqual(pool.read(300)[0], 99)
 
 
+class Names(OnPools):
+    def test_objects_by_name(self):
+        with self.open() as pool:
+            self.assertEqual(pool.names(), {})
+            self.refused(9, pool.get, "report.pdf")
+            self.assertEqual((pool.objects(), pool.put("report.pdf", b"one")), ({}, 1))
+            self.assertEqual((pool.objects(), pool.read(0, 0, 16)), ({0: 512, 1: 3}, b"topzerad names 1"))
+            pool.transact([create(2), write(2, 0, b"of another use")])
+            self.assertEqual([pool.put(name, b"") for name in ("b c", "\u00e4\u20ac\U0001f600.txt")], [3, 4])
+            self.assertEqual(pool.put("report.pdf", b"2"), 1)
+            self.assertEqual((pool.get("report.pdf"), pool.get(b"b c")), (b"2", b""))
+            self.assertEqual(pool.names(), {"report.pdf": 1, "b c": 3, "\u00e4\u20ac\U0001f600.txt": 4})
+            pool.remove("b c")
+            self.assertIn("b c", str(self.refused(9, pool.remove, "b c")))
+            self.assertEqual(pool.put("after", bytes(range(200)) * 1_000), 3)
+            self.assertTrue(pool.get("after") == bytes(range(200)) * 1_000)
+            pool.transact([remove(1)])
+            self.refused(9, pool.get, "report.pdf")
+            self.assertEqual((pool.put("report.pdf", b"again"), pool.get("report.pdf")), (1, b"again"))
+            pool.transact([remove(1)])
+            pool.remove("report.pdf")
+            self.assertEqual(pool.names(), {"after": 3, "\u00e4\u20ac\U0001f600.txt": 4})
+            os.kill(pool.pid, signal.SIGKILL)
+            with self.assertRaises(topzerad.Ended):
+                pool.close()
+        with Pool(PROGRAM, self.path) as pool:
+            self.assertEqual(pool.names(), {"after": 3, "\u00e4\u20ac\U0001f600.txt": 4})
+
+    def test_what_is_no_name(self):
+        with self.open() as pool:
+            for name in ("", "a/b", "a\0", "\n", "\x7f", "\x85", "x" * 255, "\u00e4" * 128, "\udcff"):
+                self.refused(11, pool.put, name, b"1")
+            for name in (b"\xff", b"\xed\xa0\x80", b"\xc0\x80"):
+                self.refused(11, pool.put, name, b"1")
+            self.assertEqual(pool.objects(), {})
+            pool.put("x" * 254, b"1")
+            self.assertEqual(pool.put("\u00e4" * 127, b"2"), 2)
+            self.assertEqual((pool.get("x" * 254), pool.get("\u00e4" * 127)), (b"1", b"2"))
+
+    def test_an_object_0_of_another_use(self):
+        with self.open() as pool:
+            pool.put("one", b"1")
+            pool.put("two", b"2")
+            good = pool.read(0)
+            slot = good[256:512]
+            for bad in (
+                b"a",
+                good[:-1],
+                good + b"\0",
+                b"\0" * 256,
+                b"T" + good[1:],
+                good[:255] + b"1" + good[256:],
+                good[:512] + slot,
+                good + b"\xff\0" + bytes(254),
+                good + slot[:255] + b"1",
+                good + b"\1\0/" + bytes(253),
+                good + b"\0\1" + bytes(254),
+                good + bytes(256 * (topzerad.OBJECT_COUNT - 2)),
+            ):
+                pool.transact([set_length(0, 0)])
+                pool.write_long(0, 0, bad)
+                before = pool.objects()
+                for call, *words in [(pool.get, "one"), (pool.put, "new", b"3"), (pool.remove, "one"), (pool.names,)]:
+                    self.assertIn("object 0 is no directory of names", str(self.refused(11, call, *words)))
+                self.assertEqual((pool.objects(), pool.read(0) == bad), (before, True))
+            pool.transact([set_length(0, 0)])
+            pool.write_long(0, 0, good + bytes(256 * (topzerad.OBJECT_COUNT - 3)))
+            self.assertEqual((pool.names(), pool.put("three", b"3")), ({"one": 1, "two": 2}, 3))
+
+    def test_no_number_is_left(self):
+        with self.open() as pool:
+            slots = [topzerad.directory.slot_of(b"%d" % number) for number in range(1, topzerad.OBJECT_COUNT - 1)]
+            pool.transact([create(0)])
+            pool.write_long(0, 0, topzerad.directory.HEADER + b"".join(slots))
+            self.assertEqual(len(pool.names()), 5_290)
+            self.assertEqual(pool.put("last", b"1"), 5_291)
+            self.assertIn("no number is left", str(self.refused(22, pool.put, "one more", b"1")))
+            pool.remove("17")
+            self.assertEqual(pool.put("one more", b"1"), 17)
+
+    def test_threads_that_put_one_name(self):
+        with self.open() as pool:
+            numbers = []
+
+            def put(at):
+                for name in ("a", "b", "c", "d"):
+                    numbers.append((name, pool.put(name, bytes([at]) * 100_000)))
+
+            for thread in [started(put, at) for at in range(4)]:
+                thread.join()
+            self.assertEqual(len(numbers), 16)
+            self.assertEqual(set(numbers), set(pool.names().items()))
+            self.assertEqual(sorted(pool.objects()), [0, 1, 2, 3, 4])
+            for name in ("a", "b", "c", "d"):
+                content = pool.get(name)
+                self.assertEqual((len(content), len(set(content))), (100_000, 1))
+
+
 class Frames(unittest.TestCase):
     """The frames that the calls of threads share, without a process."""
 

@@ -9,8 +9,11 @@
 
 `transact` commits: a power failure may lose the transaction until a `flush` or `sync`. `transact_durably` returns once
 no power failure loses it. Every error is an `Error`.
+
+`put`, `get`, `remove` and `names` know objects by names in place of numbers.
 """
 
+from .directory import MAX_OBJECT_NAME
 from .errors import (
     NAMES,
     TEXTS,
@@ -49,6 +52,7 @@ from .process import create_pool
 __all__ = [
     "MAX_LENGTH",
     "MAX_NAME",
+    "MAX_OBJECT_NAME",
     "MAX_RECORD",
     "MAX_WRITE",
     "NAMES",

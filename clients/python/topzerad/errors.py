@@ -63,7 +63,7 @@ TEXTS = (
 )
 """The texts of the refusals 1 to 23."""
 
-BAD_RANGE, TOO_LARGE = 11, 18
+NO_OBJECT, EXISTS, BAD_RANGE, TOO_LARGE, TOO_MANY = 9, 10, 11, 18, 22
 
 
 class Error(Exception):

@@ -7,7 +7,8 @@ import threading
 from types import TracebackType
 from typing import Any, Dict, Iterable, List, Optional, Sequence, Type, TypeVar, Union, cast
 
-from .errors import Broken, Error, Forked, Refused
+from .directory import Directory, object_name
+from .errors import EXISTS, NO_OBJECT, Broken, Error, Forked, Refused
 from .frames import (
     DURABLE,
     FLUSH,
@@ -117,6 +118,7 @@ class Pool:
         self._next = 0  # the number of the next request
         self._turns = Turns(self._ask)
         self._closing = threading.RLock()
+        self._naming = threading.RLock()  # one thread at a time reads the directory and changes it
         self._process = Process(program, path, options, timeout)
         self.opened = self._process.open(wait or 0)
 
@@ -235,6 +237,67 @@ class Pool:
     def name(self) -> bytes:
         """The pool's name."""
         return self._one(Call(NAME))
+
+    # Objects by name
+
+    def put(self, name: Union[str, bytes], content: Bytes) -> int:
+        """Gives the object of a name these bytes alone, and returns its number once no power failure loses them. The
+        object is made if no object has the name: it takes the lowest number from 1 on that is free.
+
+        Names stand in object 0 (`docs/FORMATS.md`, "The directory"). A name has 1 to 254 bytes of UTF-8, without
+        control characters and `/`. The name and the first 64,512 bytes are committed by one transaction, and what is
+        left by further ones. A `Refused` says in `committed` how many bytes were committed before, if some were.
+        """
+        name, view = object_name(name), memoryview(bytes(memoryview(content)))
+        fitted("the end of the bytes", len(view), MAX_LENGTH)
+        with self._naming:
+            first = view[:_LONG_PIECE]
+            number = self._start(name, first)
+            try:
+                self.write_long(number, len(first), view[len(first) :])
+            except Refused as refused:
+                refused.committed = len(first) + (refused.committed or 0)
+                raise
+        return number
+
+    def get(self, name: Union[str, bytes]) -> bytes:
+        """The bytes of the object of a name."""
+        name = object_name(name)
+        with self._naming:
+            return self.read(self._directory().find(name))
+
+    def remove(self, name: Union[str, bytes]) -> None:
+        """Removes the object of a name, and the name, by one transaction. It returns once no power failure undoes
+        it."""
+        name = object_name(name)
+        with self._naming:
+            self.transact_durably(self._directory().end(name, self.objects()))
+
+    def names(self) -> Dict[str, int]:
+        """The numbers of the objects that have a name, by their names."""
+        with self._naming:
+            return {name.decode(): number for name, number in self._directory().names.items()}
+
+    def _directory(self) -> Directory:
+        try:
+            return Directory(self.read(0))
+        except Refused as refused:
+            if refused.number != NO_OBJECT:
+                raise
+            return Directory(b"")
+
+    def _start(self, name: bytes, first: Bytes) -> int:
+        """Commits the first piece of a put, and returns the object's number. If another thread took the number by a
+        transaction of its own meanwhile, it takes the next one."""
+        while True:
+            objects = self.objects()
+            number, ops = self._directory().start(name, objects)
+            try:
+                self.transact([*ops, write(number, 0, first)] if first else ops)
+                return number
+            except Refused as refused:
+                if refused.number != EXISTS or self.objects() == objects:
+                    raise
 
     # What makes it durable
 
