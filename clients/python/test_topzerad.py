@@ -519,7 +519,7 @@ class Ends(OnPools):
             child = os.fork()
             if not child:
                 with contextlib.suppress(BaseException):
-                    refused = outcome_of(pool.status) == topzerad.Forked
+                    refused = outcome_of(pool.status) == outcome_of(pool.names) == topzerad.Forked
                     pool.close()
                     os._exit(0 if refused else 1)
                 os._exit(2)

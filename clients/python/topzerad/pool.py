@@ -5,7 +5,7 @@ from __future__ import annotations
 import struct
 import threading
 from types import TracebackType
-from typing import Any, Dict, Iterable, List, Optional, Sequence, Type, TypeVar, Union, cast
+from typing import Any, ContextManager, Dict, Iterable, List, Optional, Sequence, Type, TypeVar, Union, cast
 
 from .directory import Directory, object_name
 from .errors import EXISTS, NO_OBJECT, Broken, Error, Forked, Refused
@@ -250,7 +250,7 @@ class Pool:
         """
         name, view = object_name(name), memoryview(bytes(memoryview(content)))
         fitted("the end of the bytes", len(view), MAX_LENGTH)
-        with self._naming:
+        with self._names_lock():
             first = view[:_LONG_PIECE]
             number = self._start(name, first)
             try:
@@ -263,20 +263,25 @@ class Pool:
     def get(self, name: Union[str, bytes]) -> bytes:
         """The bytes of the object of a name."""
         name = object_name(name)
-        with self._naming:
+        with self._names_lock():
             return self.read(self._directory().find(name))
 
     def remove(self, name: Union[str, bytes]) -> None:
         """Removes the object of a name, and the name, by one transaction. It returns once no power failure undoes
         it."""
         name = object_name(name)
-        with self._naming:
+        with self._names_lock():
             self.transact_durably(self._directory().end(name, self.objects()))
 
     def names(self) -> Dict[str, int]:
         """The numbers of the objects that have a name, by their names."""
-        with self._naming:
+        with self._names_lock():
             return {name.decode(): number for name, number in self._directory().names.items()}
+
+    def _names_lock(self) -> ContextManager[Any]:
+        # In a child another thread of the parent may have had it at the fork.
+        self._test_fork()
+        return self._naming
 
     def _directory(self) -> Directory:
         try:
@@ -328,9 +333,12 @@ class Pool:
         return cast("List[Union[Receipt, Refused]]", outcomes)
 
     def _make(self, calls: Sequence[Call[Any]]) -> None:
+        self._test_fork()
+        self._turns.make(calls)
+
+    def _test_fork(self) -> None:
         if self._process.is_forked:
             raise Forked("the pool was opened before a fork, by the parent")
-        self._turns.make(calls)
 
     def _ask(self, calls: List[Call[Any]]) -> List[Any]:
         """Makes the calls of one frame. The thread that leads calls it."""
