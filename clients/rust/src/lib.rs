@@ -19,6 +19,9 @@
 //! # }
 //! ```
 //!
+//! [`Pool::put`], [`get`](Pool::get), [`remove`](Pool::remove) and [`names`](Pool::names) know objects by names in
+//! place of numbers.
+//!
 //! # Limits
 //!
 //! - The record of a transaction has at most 65,536 bytes: 22, and for each operation 5, 13 (a new length), 17 and its
@@ -32,6 +35,7 @@
 
 #![forbid(unsafe_code)]
 
+mod directory;
 mod error;
 mod frames;
 mod options;
@@ -39,14 +43,18 @@ mod record;
 mod server;
 mod turns;
 
+pub use directory::MAX_OBJECT_NAME;
 pub use error::{Error, Refusal};
 pub use options::{CreateOptions, Options};
 
+use directory::{check_name, Directory};
 use frames::{Answer, Outcome, Request, Sizes};
 use server::{Connection, Server};
+use std::collections::BTreeMap;
 use std::ffi::OsStr;
 use std::fmt;
 use std::mem;
+use std::sync::{Mutex, MutexGuard, PoisonError};
 use turns::Turns;
 
 /// Objects have the numbers below this one.
@@ -119,6 +127,8 @@ pub struct Pool {
     server: Option<Server>,
     opened: Opened,
     opener: u32,
+    /// Held by the thread that reads and changes the directory of names.
+    naming: Mutex<()>,
 }
 
 impl Pool {
@@ -149,7 +159,7 @@ impl Pool {
 
     pub(crate) fn of_server(server: Server, opened: Opened) -> Pool {
         let turns = Turns::new(server.connection());
-        Pool { turns, server: Some(server), opened, opener: std::process::id() }
+        Pool { turns, server: Some(server), opened, opener: std::process::id(), naming: Mutex::new(()) }
     }
 
     /// What the open found.
@@ -259,6 +269,91 @@ impl Pool {
     /// The pool's name.
     pub fn name(&self) -> Result<Vec<u8>, Error> {
         self.ask(Request::Name)?.bytes()
+    }
+
+    /// Gives the object of a name these bytes alone, and returns its number once no power failure loses them. If no
+    /// object has the name one is made: it takes the lowest number from 1 on that is free.
+    ///
+    /// Names stand in object 0 (`docs/FORMATS.md`, "The directory"). A name has 1 to 254 bytes, and neither a control
+    /// character nor `/`. The name and the first 64,512 bytes are committed by one transaction, and what is left by
+    /// further ones.
+    ///
+    /// # Errors
+    ///
+    /// `BadRange` if the name is none, if the bytes are too many, or if object 0 is of another use, which is left as it
+    /// is; `TooMany` if no number is left; those of [`transact`](Pool::transact). `CutShort` as of
+    /// [`write_long`](Pool::write_long).
+    pub fn put(&self, name: &str, bytes: &[u8]) -> Result<u32, Error> {
+        check_name(name)?;
+        record::check_end(0, bytes).map_err(|cause| Error::out_of_bounds(Refusal::BadRange, cause))?;
+        let _naming = self.naming()?;
+        let (first, rest) = bytes.split_at(bytes.len().min(WRITE as usize));
+        let object = self.put_first(name, first)?;
+        match self.write_long(object, WRITE, rest) {
+            Ok(()) => Ok(object),
+            Err(Error::CutShort { committed, error }) => Err(error.after(first.len() + committed as usize)),
+            Err(error) => Err(error.after(first.len())),
+        }
+    }
+
+    /// The bytes of the object of a name.
+    ///
+    /// # Errors
+    ///
+    /// `NoObject`; `BadRange` if the name is none, or object 0 of another use.
+    pub fn get(&self, name: &str) -> Result<Vec<u8>, Error> {
+        check_name(name)?;
+        let _naming = self.naming()?;
+        self.read(self.directory()?.find(name)?, 0, MAX_LENGTH)
+    }
+
+    /// Removes the object of a name, and the name, by one transaction. It returns once no power failure undoes it.
+    ///
+    /// # Errors
+    ///
+    /// Those of [`get`](Pool::get) and [`transact_durably`](Pool::transact_durably).
+    pub fn remove(&self, name: &str) -> Result<(), Error> {
+        check_name(name)?;
+        let _naming = self.naming()?;
+        let change = self.directory()?.change_for_removal(name, &self.objects(0, OBJECTS)?)?;
+        self.transact_durably(&change.remove()).map(drop)
+    }
+
+    /// The numbers of the objects that have a name, by their names.
+    ///
+    /// # Errors
+    ///
+    /// `BadRange` if object 0 is of another use.
+    pub fn names(&self) -> Result<BTreeMap<String, u32>, Error> {
+        let _naming = self.naming()?;
+        self.directory().map(Directory::into_names)
+    }
+
+    fn naming(&self) -> Result<MutexGuard<'_, ()>, Error> {
+        self.test_opener()?;
+        Ok(self.naming.lock().unwrap_or_else(PoisonError::into_inner))
+    }
+
+    fn directory(&self) -> Result<Directory, Error> {
+        match self.read(0, 0, MAX_LENGTH) {
+            Err(Error::Refused { refusal: Refusal::NoObject, .. }) => Directory::read(&[]),
+            read => Directory::read(&read?),
+        }
+    }
+
+    /// Commits the first piece of a put. If a transaction of another thread takes the number meanwhile, the next one is
+    /// taken.
+    fn put_first(&self, name: &str, first: &[u8]) -> Result<u32, Error> {
+        loop {
+            let objects = self.objects(0, OBJECTS)?;
+            let change = self.directory()?.change_for_put(name, &objects)?;
+            match self.transact(&change.put(first)) {
+                Ok(_) => return Ok(change.object()),
+                Err(error) if error.refusal() != Some(Refusal::Exists) => return Err(error),
+                Err(error) if self.objects(0, OBJECTS)? == objects => return Err(error),
+                Err(_) => {}
+            }
+        }
     }
 
     /// Ends the process once it has synced the pool, and waits for its end. A drop does the same and tells no error.
