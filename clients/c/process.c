@@ -278,6 +278,7 @@ static int open_by(topzerad *pool, const char *const words[]) {
         return refusal;
     }
     pthread_mutex_init(&pool->lock, NULL);
+    pthread_mutex_init(&pool->naming, NULL);
     pthread_cond_init(&pool->turn, NULL);
     return 0;
 }
@@ -329,6 +330,7 @@ static int close_uncancelled(topzerad *pool) {
     close(pool->socket);
     pool->socket = -1;
     pthread_mutex_destroy(&pool->lock);
+    pthread_mutex_destroy(&pool->naming);
     pthread_cond_destroy(&pool->turn);
     if (!ended) return TOPZERAD_TIMED_OUT;
     return is_good_end(status) || (status == UNKNOWN_END && !pool->ended) ? 0 : TOPZERAD_ENDED;

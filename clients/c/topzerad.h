@@ -73,7 +73,8 @@ enum {
 #define TOPZERAD_OBJECTS 5292u         /* objects have the numbers below this */
 #define TOPZERAD_MAX_LENGTH 28449792u  /* the most bytes of an object */
 #define TOPZERAD_MAX_RECORD 65536u     /* the most bytes of a transaction */
-#define TOPZERAD_MAX_NAME 64u          /* the most bytes of a name */
+#define TOPZERAD_MAX_NAME 64u          /* the most bytes of a pool's name */
+#define TOPZERAD_MAX_OBJECT_NAME 254u  /* the most bytes of an object's name */
 #define TOPZERAD_MAX_RANGES 64u        /* the most ranges that are read at one moment */
 #define TOPZERAD_MAX_CAUSE 511u        /* the most bytes of a cause; a longer one is cut off */
 
@@ -96,6 +97,11 @@ typedef struct topzerad {
     char cause[TOPZERAD_MAX_CAUSE + 1];
     uint8_t bytes[65536];
     size_t used, taken;
+    pthread_mutex_t naming;
+    union {
+        uint64_t hashes[TOPZERAD_OBJECTS];
+        uint8_t record[TOPZERAD_MAX_RECORD];
+    } names;
 } topzerad;
 
 /* How a pool is opened or made. A field of 0 is the default. */
@@ -227,6 +233,31 @@ int topzerad_flush(topzerad *pool);
 int topzerad_sync(topzerad *pool, uint64_t *group);
 /* The pool's name, with a 0 after it. */
 int topzerad_name(topzerad *pool, char name[TOPZERAD_MAX_NAME + 1]);
+
+/* Objects by name. Names stand in object 0 (docs/FORMATS.md, "The directory"). A name has 1 to
+ * TOPZERAD_MAX_OBJECT_NAME bytes of UTF-8, no control characters and no `/`. Each call reads object 0 whole, and one
+ * thread at a time makes it. Each returns TOPZERAD_BAD_RANGE if the name is none, or if object 0 is of another use,
+ * which is left as it is; and TOPZERAD_NO_OBJECT if no object has the name. */
+
+/* An object that has a name, which ends with a 0. */
+typedef struct {
+    uint32_t object;
+    char name[TOPZERAD_MAX_OBJECT_NAME + 1];
+} topzerad_named;
+
+/* Gives the object of a name these bytes alone, and returns once no power failure loses them. If no object has the name
+ * one is made: it takes the lowest number from 1 on that is free, or TOPZERAD_TOO_MANY if none is. The name and the
+ * first 64,512 bytes are committed by one transaction, and what is left by further ones. After a refusal the first
+ * bytes may be there: the object's length says how many. `object`, which may be NULL, is its number. */
+int topzerad_put_named(topzerad *pool, const char *name, const void *bytes, size_t count, uint32_t *object);
+/* The number of the object of a name. */
+int topzerad_find_named(topzerad *pool, const char *name, uint32_t *object);
+/* Reads the first `room` bytes of the object of a name, or all if it has fewer. `length` says how many it has. */
+int topzerad_get_named(topzerad *pool, const char *name, void *into, size_t room, uint64_t *length);
+/* Removes the object of a name, and the name, by one transaction. It returns once no power failure undoes it. */
+int topzerad_remove_named(topzerad *pool, const char *name);
+/* The first `room` objects from `first` on that have a name, by rising number. If there are fewer, these are all. */
+int topzerad_names(topzerad *pool, uint32_t first, topzerad_named *into, size_t room, size_t *count);
 
 /* The words for a refusal. Those for TOPZERAD_DAMAGED name the block that topzerad_damage has, and last until this
  * thread asks for them again. */
