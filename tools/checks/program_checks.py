@@ -1,9 +1,10 @@
 """Runs all checks of a built program side by side.
 
-They are those of `checks` that need the program alone, the scripts of all rows, the tests of the clients,
-and the programs of README.md and of `examples`. On four idle processors they take less than eight minutes. One that has
-no end after fifteen fails. A check is skipped by name if a command that it needs isn't installed; so is each client. A
-WORD picks the checks whose names have it.
+They are those of `checks` that need the program alone, the scripts of all rows, the tests of the clients, and the
+programs of README.md and of `examples`. The tests of the engine's crates (`engine_checks`) need no program: they are
+built first, beside the other checks. On four idle processors all take less than eight minutes. One that has no end
+after fifteen fails. A check is skipped by name if a command that it needs isn't installed; so is each client. A WORD
+picks the checks whose names have it.
 
 - `crashes` and `frames` have a minute each. The seed of `crashes` is the day, which its name tells: the same words make
   the same scripts again.
@@ -25,6 +26,7 @@ from typing import List, NamedTuple
 from tools import TOP
 from tools.harness.program import add_program, run
 from tools.harness.side_by_side import Part, SideBySide
+from tools.repository.build_program import TESTS
 
 LIMIT = 900
 # The programs of README.md and of `examples`, which `rt try` compiles: minutes on one processor.
@@ -87,6 +89,11 @@ def all_checks():
     ]
 
 
+def tests(top=TOP):
+    """The command that builds and runs the tests of the engine's crates."""
+    return Part(TESTS, [sys.executable, top / "tools", TESTS], LIMIT, top)
+
+
 def parts(ztxg, top, word=""):
     """The commands of all checks whose names have a word, which are made by the tools in this folder."""
     if word in EXAMPLES:
@@ -105,7 +112,7 @@ def parts(ztxg, top, word=""):
 
 
 def start_all(ztxg, side_by_side, top=TOP, word=""):
-    """Starts all checks of a program whose names have a word."""
+    """Starts all checks of a program whose names have a word. The tests of crates are none of them."""
     print(f"the checks of {run([ztxg, '--version']).text().strip()}", flush=True)
     for part in parts(ztxg, top, word):
         side_by_side.start(part)
@@ -118,5 +125,7 @@ def add_arguments(parser):
 
 def main(ztxg, word):
     with SideBySide() as side_by_side:
+        if word in TESTS:
+            side_by_side.start(tests())
         start_all(ztxg, side_by_side, word=word)
         return side_by_side.end()

@@ -7,6 +7,8 @@ keeps the module. The kit's `clang` optimises that with its checks, and the kit'
 
 Such a program does what the gate's does as long as no check of it fails. It is half as fast. Its version says
 `unproved` in the place of the kit's name.
+
+Of a library its tests are built: a program that lists them (`--list`), or runs the one that is named.
 """
 
 import pathlib
@@ -95,7 +97,8 @@ def module_of(crate, room):
     kept, own_kit = room / "kept", room / "kit"
     kept.mkdir()
     kit_that_keeps(own_kit, kept)
-    printed, _ = run([sys.executable, own_kit / "bin/rt", "try", "--steps", "1", "--seconds", "1"], crate)
+    tests = [] if (crate / "src/main.rt").is_file() else ["--test"]
+    printed, _ = run([sys.executable, own_kit / "bin/rt", "try", *tests, "--steps", "1", "--seconds", "1"], crate)
     if not (kept / "words").is_file():
         raise Failed(f"{crate.name} isn't built:\n{printed}")
     return kept, (kept / "words").read_text().splitlines()
@@ -107,7 +110,8 @@ def optimised(words):
 
 
 def build(crate, path, room):
-    """Builds the program in a crate's folder without proofs. `room` is an empty folder for what is made on the way."""
+    """Builds the program in a crate's folder without proofs, or the tests of a library. `room` is a folder for what is
+    made on the way."""
     kept, words = module_of(crate, room)
     real = kit()
     made = kept / words[words.index("-o") + 1]

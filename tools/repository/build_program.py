@@ -1,10 +1,11 @@
 """Builds a program of tools/programs, or `ztxg` without proofs, in a copy of the repository.
 
 The crates that a program of tools/programs uses have to be checked (`rt all check`), or they are proved first. The gate
-doesn't build these programs. It reads each file that ends in `.rt`, so theirs end in `.rt.txt`.
+doesn't prove these programs. It reads each file that ends in `.rt`, so theirs end in `.rt.txt`.
 
-`ztxg` is built without any proof (`tools/harness/unproved.py`), and its `--version` says `unproved`. It does what the
-gate's program does, half as fast, and ends if a check fails that a proof would have ruled out.
+`ztxg` and `engine_checks`, the tests of the engine's crates, are built without any proof (`tools/harness/unproved.py`).
+They end if a check fails that a proof would have ruled out. So built, `ztxg` does what the gate's program does, half as
+fast, and its `--version` says `unproved`.
 """
 
 import pathlib
@@ -16,9 +17,12 @@ from tools import TOP, Failed
 from tools.harness import unproved
 
 SOURCES = TOP / "tools/programs"
+TESTS = "engine_checks"
 # The line of each program in crates.txt.
 PROGRAMS = {
     "durable_load": "durable_load: anyhow topzerad loads rand_pcg",
+    TESTS: f"{TESTS} tests_may=Threads+Wait: base device_model hash_lanes checked_blocks uberblocks transactions"
+    " intent_log object_maps log_replay import_replay word_lock pool_threads loads",
     "flush_counts": "flush_counts may_wait=9: anyhow topzerad",
     "hash_blocks": "hash_blocks: anyhow sha2",
     "idle_loops": "idle_loops: anyhow topzerad",
@@ -36,11 +40,27 @@ def copied(room, line, *left_out):
     return copy / "crates"
 
 
+def with_sources(crates, name):
+    """The folder of a program's crate in a copy of the repository, with its sources."""
+    folder, crate = SOURCES / name / "src", crates / name
+    for source in folder.rglob("*.rt.txt"):
+        to = crate / "src" / source.relative_to(folder).with_suffix("")
+        to.parent.mkdir(parents=True, exist_ok=True)
+        shutil.copy2(source, to)
+    return crate
+
+
 def build_unproved(room, path):
     """Builds `ztxg` without proofs. The copy of the repository that it is built in is `copy` of the folder."""
     crates = copied(room, "", "out")
     unproved.say_unproved(crates.parent)
     unproved.build(crates / unproved.PROGRAM, pathlib.Path(path).absolute(), pathlib.Path(room))
+
+
+def build_tests(room, path):
+    """Builds the tests of the engine's crates without proofs, as `build_unproved` builds `ztxg`."""
+    crates = copied(room, PROGRAMS[TESTS], "out")
+    unproved.build(with_sources(crates, TESTS), pathlib.Path(path).absolute(), pathlib.Path(room))
 
 
 def add_arguments(parser):
@@ -53,10 +73,9 @@ def main(name, path):
     with tempfile.TemporaryDirectory() as room:
         if name == unproved.PROGRAM:
             return build_unproved(room, path)
-        crate = copied(room, PROGRAMS[name]) / name
-        (crate / "src").mkdir(parents=True)
-        for source in (SOURCES / name / "src").glob("*.rt.txt"):
-            shutil.copy2(source, crate / "src" / source.stem)
+        if name == TESTS:
+            return build_tests(room, path)
+        crate = with_sources(copied(room, PROGRAMS[name]), name)
         # It is run without a word, too: one that wants words says so and ends.
         ran = subprocess.run(["rt", "run"], cwd=crate, capture_output=True, text=True)
         built = crate / "out" / name

@@ -13,7 +13,7 @@ from tools.repository.readme_program import LINES
 # What a source names besides crates.
 BUILT_IN = {"std", "core", "crate", "self", "super"}
 USE = re.compile(r"^\s*(?:pub )?use (\w+)", re.M)
-MODULE = re.compile(r"^\s*(?:pub )?mod (\w+)", re.M)
+MODULE = re.compile(r"^\s*(?:pub(?:\(crate\))? )?mod (\w+)", re.M)
 
 
 def crates_of(line):
@@ -30,7 +30,7 @@ def known_crates():
 
 def used_crates(name):
     """The crates that the sources of a program use."""
-    texts = [path.read_text() for path in (SOURCES / name / "src").glob("*.rt.txt")]
+    texts = [path.read_text() for path in (SOURCES / name / "src").rglob("*.rt.txt")]
     modules = {module for text in texts for module in MODULE.findall(text)}
     return {crate for text in texts for crate in USE.findall(text)} - modules - BUILT_IN
 

@@ -7,12 +7,23 @@ import tempfile
 import time
 import unittest
 
-from tools import TOP, runner
-from tools.checks import program_checks
+from tools import TOP, Failed, runner
+from tools.checks import engine_checks, program_checks
 from tools.harness.side_by_side import Part, SideBySide
-from tools.repository import quick
 from tools.rows.script_row import rows_with
 from tools.rows.stopped_rows import Creates
+
+
+# A program of tests: two make the same file, and one fails.
+PROGRAM = """\
+import sys
+if sys.argv[1] == "--list":
+    print("well: test\\nwell::too: test\\nwrong: test\\ntests: 3")
+elif sys.argv[1] == "wrong":
+    sys.exit("a fault")
+else:
+    open("file", "x")
+"""
 
 
 def part(name, code, limit=60):
@@ -91,14 +102,33 @@ class Checks(unittest.TestCase):
         self.assertIn("commands", names)
 
 
-class Quick(unittest.TestCase):
-    def test_crates_without_a_test_are_skipped_by_name(self):
-        out = io.StringIO()
-        with contextlib.redirect_stdout(out):
-            names = [one.name for one in quick.tests(["log_tests", "groups"])]
-        self.assertEqual(names, ["tests of log_tests"])
-        self.assertEqual(out.getvalue(), "skipped groups: it has no test\n")
+class EngineChecks(unittest.TestCase):
+    def test_the_list_of_a_program_is_whole(self):
+        self.assertEqual(engine_checks.names_of(["one::two: test", "one::three: test", "tests: 2"]), ["one::two", "one::three"])
+        wrong = [
+            [],
+            ["tests: 0"],
+            ["one::two: test"],
+            ["one::two: test", "tests: 2"],
+            ["one::two: test", "one::three: ignored", "tests: 2"],
+            ["one::two: test", "one::three: panics: a word", "tests: 2"],
+        ]
+        for lines in wrong:
+            with self.assertRaises(Failed):
+                engine_checks.names_of(lines)
 
-    def test_what_is_no_crate(self):
-        with self.assertRaises(quick.argparse.ArgumentTypeError):
-            quick.crate("nothing")
+    def test_each_test_is_run_in_a_folder_of_its_own(self):
+        with tempfile.TemporaryDirectory() as room:
+            program = pathlib.Path(room, "program")
+            program.write_text(f"#!{sys.executable}\n{PROGRAM}")
+            program.chmod(0o755)
+            out = io.StringIO()
+            with contextlib.redirect_stdout(out):
+                status = engine_checks.main(program, "")
+            lines = out.getvalue().splitlines()
+            self.assertEqual((status, lines[-2:]), (1, ["failed: wrong", "2 passed, 1 failed"]))
+            self.assertIn("a fault", lines)
+            with contextlib.redirect_stdout(io.StringIO()):
+                self.assertEqual(engine_checks.main(program, "well"), 0)
+                with self.assertRaises(Failed):
+                    engine_checks.main(program, "another")

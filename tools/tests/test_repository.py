@@ -1,7 +1,9 @@
+import pathlib
+import tempfile
 import unittest
 
 from tools import runner
-from tools.repository import api, believed, clauses, definitions, mentions, program_crates, prose
+from tools.repository import api, believed, build_program, clauses, definitions, mentions, program_crates, prose
 
 
 class Faults(unittest.TestCase):
@@ -50,12 +52,31 @@ class Faults(unittest.TestCase):
     def test_crates_that_are_not_there(self):
         known = program_crates.known_crates()
         self.assertEqual(list(program_crates.faults(known)), [])
-        wanted = [f"{name} names loads, which is not there" for name in ("durable_load", "load_receipts")]
+        programs = ("durable_load", "engine_checks", "load_receipts")
+        wanted = [f"{name} names loads, which is not there" for name in programs]
         self.assertEqual(list(program_crates.faults(known - {"loads"})), wanted)
 
     def test_crates_that_programs_use(self):
         self.assertEqual(program_crates.crates_of("one may_wait=9: two three # four"), ["two", "three"])
         self.assertEqual(program_crates.used_crates("hash_blocks"), {"anyhow", "sha2"})
+        # Those of its modules' modules, too.
+        self.assertIn("pool_threads", program_crates.used_crates("engine_checks"))
+
+    def test_sources_of_programs(self):
+        with tempfile.TemporaryDirectory() as room:
+            crates = pathlib.Path(room)
+            crate = build_program.with_sources(crates, "engine_checks")
+            self.assertEqual(crate, crates / "engine_checks")
+            self.assertTrue((crate / "src/thread_tests/load.rt").is_file())
+            files = {path.relative_to(crate / "src") for path in crate.glob("src/**/*.*")}
+            self.assertEqual({path.suffix for path in files}, {".rt"})
+            # The compiler reads only files that a module names.
+            named = {pathlib.Path("lib.rt")}
+            for path in files:
+                folder = path.parent / path.stem if path.stem != "lib" else path.parent
+                modules = program_crates.MODULE.findall((crate / "src" / path).read_text())
+                named |= {folder / f"{module}.rt" for module in modules}
+            self.assertEqual(files, named)
 
 
 class FirstLines(unittest.TestCase):
