@@ -4,7 +4,8 @@ They are the program `tools/programs/engine_checks`. If no PROGRAM is given, it 
 `python3 tools build_program engine_checks PATH`: two minutes on one processor. All tests take seconds, and one that has
 no end after 120 fails. A WORD picks those whose names have it.
 
-A line tells how each test ended. What a failed one said follows. The last line is `N passed, M failed`.
+A line tells how each test ended. What a failed one said follows: the assertion with its line, or SIGILL if a check that
+the build has in place of a proof failed. The last line is `N passed, M failed`.
 """
 
 import pathlib

@@ -67,6 +67,11 @@ def kill(process):
     process.wait()
 
 
+def end_by_signal(status):
+    """What is told of the end of a process with this status: by which signal it ended, if by one."""
+    return [f"ended by {signal.Signals(-status).name}"] if status < 0 else []
+
+
 def new_room():
     """A new folder for files, in memory if that has room: a flush of a disk takes most of the time of some parts."""
     memory = os.statvfs(IN_MEMORY) if IN_MEMORY else None
@@ -124,13 +129,13 @@ class SideBySide:
                 return None
             try:
                 process.wait(part.limit)
-                is_passed, late = process.returncode == 0, []
+                is_passed, end = process.returncode == 0, end_by_signal(process.returncode)
             except subprocess.TimeoutExpired:
-                is_passed, late = False, [f"{part.name} had no end after {part.limit} seconds"]
+                is_passed, end = False, [f"{part.name} had no end after {part.limit} seconds"]
             # A process that it left behind ends, too.
             kill(process)
             printed.seek(0)
-            ended = Ended(part, is_passed, time.monotonic() - started, printed.read().splitlines() + late)
+            ended = Ended(part, is_passed, time.monotonic() - started, printed.read().splitlines() + end)
         with self.lock:
             self.running.remove(process)
             if not self.is_over:

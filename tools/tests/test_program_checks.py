@@ -52,6 +52,10 @@ class Parts(unittest.TestCase):
         told = ["FAILED one", "a line", "a fault", "failed: one", "0 passed, 1 failed"]
         self.assertEqual((status, lines), (1, told))
 
+    def test_one_that_is_ended_by_a_signal_tells_which(self):
+        status, lines = ends(part("one", "import os; os.abort()"))
+        self.assertEqual((status, lines), (1, ["FAILED one", "ended by SIGABRT", "failed: one", "0 passed, 1 failed"]))
+
     def test_a_long_text_has_its_front_and_its_end(self):
         _, lines = ends(part("one", "print('front'); print('x' * 100_000); print('end'); raise SystemExit(1)"))
         self.assertEqual((lines[1], lines[-3]), ("front", "end"))
