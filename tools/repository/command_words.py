@@ -2,13 +2,14 @@
 
 A command or an option that one of them lacks is a fault. Read are:
 
-- `crates/command_line/src`: the commands by `described` and `reading_command`, their options by `flag`, `option` and
-  `number_option` with a name, also in functions that are called there;
+- `crates/command_line/src`: the commands by `described`, `reading_command` and `reporting_command`, their options by
+  `flag`, `option`, `number_option` and `size_option` with a name, also in functions that are called there;
 - docs/COMMANDS.md: `ztxg NAME ..` in code, and the table of the options that each command takes;
 - docs/ztxg.1: the entries of "COMMANDS" and "OPTIONS";
 - docs/ztxg.bash: the words of each command.
 
-An option of all commands has its letter, if it has one. The help is made from the source.
+An option has its letter, if it has one; `-h` stands for the help, also where it means more. The help is made from the
+source.
 """
 
 import re
@@ -21,10 +22,10 @@ PAGE, MAN, COMPLETION = "docs/COMMANDS.md", "docs/ztxg.1", "docs/ztxg.bash"
 OWN = {"-h", "--help", "-V", "--version"}
 
 FUNCTION = re.compile(r"^(?:pub(?:\(crate\))? )?fn (\w+)[^\n]*?(?:\n[^\n]*?)*?\{\n(.*?)^\}", re.M | re.S)
-OPTION = re.compile(r'\b(?:flag|option|number_option)\(\s*alloc,\s*"(\w+)"')
-COMMAND = re.compile(r'\b(?:described|reading_command)\(\s*alloc,\s*"(\w+)"')
+OPTION = re.compile(r'\b(?:flag|option|number_option|size_option)\(\s*alloc,\s*"([\w-]+)"')
+COMMAND = re.compile(r'\b(?:described|reading_command|reporting_command)\(\s*alloc,\s*"(\w+)"')
 SHORT = re.compile(r"\.short\('(\w)'\)")
-WORDS = re.compile(r"(?<![\w-])--?[a-zA-Z]\w*")
+WORDS = re.compile(r"(?<![\w-])--?[a-zA-Z][\w-]*")
 
 
 def functions(text):
@@ -45,7 +46,7 @@ def of_source(text):
     """The options of each command, and those of all commands."""
     bodies = functions(text)
     named = ((name, COMMAND.search(body)) for name, body in bodies.items())
-    commands = {command[1]: options_of(name, bodies) for name, command in named if command}
+    commands = {command[1]: options_of(name, bodies) - OWN for name, command in named if command}
     return commands, options_of("with_options", bodies) if "with_options" in bodies else set()
 
 
@@ -66,7 +67,7 @@ def of_man(text):
     entries = text.partition(".SH COMMANDS\n")[2].partition("\n.SH ")[0]
     for line in re.findall(r"^\.TP\n\.B.*", entries, re.M):
         name = re.search(r'"([a-z]+) ', line)[1]
-        commands.setdefault(name, set()).update(WORDS.findall(line.partition(name)[2]))
+        commands.setdefault(name, set()).update(set(WORDS.findall(line.partition(name)[2])) - OWN)
     options = text.partition(".SH OPTIONS\n")[2].partition("\n.SH ")[0]
     words = {word for line in re.findall(r"^\.TP\n\.B.*", options, re.M) for word in WORDS.findall(line)}
     return commands, words - OWN
@@ -76,15 +77,16 @@ def of_completion(text):
     """The same of the completion of `bash`."""
     case = re.search(r"^\s*([a-z|]+)\) command=", text, re.M)
     commands = {name: set() for name in case[1].split("|")} if case else {}
-    for names, words in re.findall(r'^\s*([a-z|]+)\) options\+="(.*?)"', text, re.M):
+    for names, words in re.findall(r'^\s*([a-z|]+)\) options\+?="(.*?)"', text, re.M):
         for name in names.split("|"):
             commands.setdefault(name, set()).update(words.split())
     shared = re.search(r'local options="(.*?)"', text)
+    own = set(shared[1].split() if shared else []) | OWN
     first = re.search(r'compgen -W "([^$"]*)"', text)
     listed = {word for word in (first[1].split() if first else []) if not word.startswith("-")} - {"help"}
     for name in listed ^ commands.keys():
         commands.pop(name, None)
-    return commands, set(shared[1].split() if shared else []) - OWN
+    return {name: words - own for name, words in commands.items()}, own - OWN
 
 
 def differences(place, found, wanted):
