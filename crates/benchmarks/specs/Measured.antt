@@ -14,3 +14,8 @@ pub record IsMeasured (bytes : ℕ) (times : List ℕ) (m : Measured) : Type 0 w
   pub half : 0 < m.commits → IsTimeAt (m.commits - m.commits / 2) times m.middle
   pub most : 0 < m.commits → IsTimeAt (m.commits - m.commits / 100) times m.percentile_99
   pub longest : m.longest ≡ longest_in times
+
+-- it was measured of calls of some times
+pub record HasTimes (bytes : ℕ) (m : Measured) : Type 0 where
+  pub times : List ℕ
+  pub measured : IsMeasured bytes times m

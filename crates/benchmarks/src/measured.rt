@@ -1,7 +1,7 @@
 //! What a bench measured.
 
 ghost use Rattle.std.specs.Prelude.{◌≡◌};
-ghost use Rattle.benchmarks.specs.Measured.{IsMeasured, rate_of};
+ghost use Rattle.benchmarks.specs.Measured.{HasTimes, IsMeasured, rate_of};
 
 use crate::call_times::CallTimes;
 use crate::rates::per_second;
@@ -31,7 +31,8 @@ pub struct Measured {
 impl Measured {
     /// What was measured: these calls, each of so many bytes, with so many flushes in so long.
     pub(crate) fn of(times: &CallTimes, bytes: u64, flushes: u64, time: u64) -> Measured
-        ensures { IsMeasured bytes times.now result }
+        ensures measured { IsMeasured bytes times.now result }
+        ensures some { HasTimes bytes result }
     {
         let commits = times.calls();
         Measured {

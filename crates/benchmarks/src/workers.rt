@@ -1,15 +1,15 @@
 //! The threads of a bench: one for each worker, beside the loops of the pool.
 
-ghost use Rattle.std.specs.Prelude.{◌≡◌, ℕ, Err, IfOk, List, Ok, false};
-ghost use Rattle.benchmarks.specs.Measured.{IsMeasured};
+ghost use Rattle.std.specs.Prelude.{◌≡◌, Err, IfOk, false};
+ghost use Rattle.benchmarks.specs.Measured.{HasTimes};
 ghost use Rattle.command_arguments.specs.Benches.{is_bench_order};
 
 use crate::call_times::CallTimes;
 use crate::counted_device::FlushCounter;
 use crate::measured::{BenchError, Measured};
-use crate::writer::{Writer, in_microseconds};
+use crate::writer::{Writer, in_microseconds, new_times};
 use base::{Owner, PoolError};
-use command_arguments::BenchOrder;
+use command_arguments::{BenchOrder, MAX_BENCH_WORKERS};
 use device_model::SectorDevice;
 use pool_loops::{Halt, run_beside_loops};
 use pool_threads::Pool;
@@ -46,7 +46,7 @@ pub fn measure<D: SectorDevice + Send, R: Threads + Wait + Clock + Sync>(
     order: BenchOrder,
     counter: &FlushCounter,
 ) -> Result<Measured, BenchError>
-    ensures measured { IfOk result (λ m. (times : List ℕ) × IsMeasured order.bytes times m) }
+    ensures measured { IfOk result (HasTimes order.bytes) }
     ensures limits { is_bench_order order ≡ false
         → result ≡ Err (BenchError.Refused PoolError.BadRange) }
 {
@@ -56,7 +56,7 @@ pub fn measure<D: SectorDevice + Send, R: Threads + Wait + Clock + Sync>(
     let halt = Halt::new();
     let halt = &halt;
     let worked = run_beside_loops(rt, pool, halt, || {
-        in_parts(work(rt, alloc, pool, size, order, counter, halt))
+        work_in_parts(rt, alloc, pool, size, order, counter, halt)
     });
     match worked {
         Ok(Ok(measured)) => Ok(measured),
@@ -65,13 +65,19 @@ pub fn measure<D: SectorDevice + Send, R: Threads + Wait + Clock + Sync>(
     }
 }
 
-// The same, with a refusal apart from a clock that can't be read.
-fn in_parts(
-    measured: Result<Measured, BenchError>,
+// What was measured, or why the clock can't be read; or a refusal of the pool, apart from both.
+fn work_in_parts<D: SectorDevice + Send, R: Threads + Wait + Clock + Sync>(
+    rt: &R,
+    alloc: Global,
+    pool: &Pool<D>,
+    size: u64,
+    order: BenchOrder,
+    counter: &FlushCounter,
+    halt: &Halt,
 ) -> Result<Result<Measured, io::Error>, PoolError>
-    ensures { IfOk result (λ parts. IfOk parts (λ m. measured ≡ Ok m)) }
+    ensures { IfOk result (λ parts. IfOk parts (HasTimes order.bytes)) }
 {
-    match measured {
+    match work(rt, alloc, pool, size, order, counter, halt) {
         Ok(measured) => Ok(Ok(measured)),
         Err(BenchError::NoClock(error)) => Ok(Err(error)),
         Err(BenchError::Refused(error)) => Err(error),
@@ -88,30 +94,55 @@ fn work<D: SectorDevice + Send, R: Threads + Wait + Clock + Sync>(
     counter: &FlushCounter,
     halt: &Halt,
 ) -> Result<Measured, BenchError>
-    ensures { IfOk result (λ m. (times : List ℕ) × IsMeasured order.bytes times m) }
+    ensures { IfOk result (HasTimes order.bytes) }
 {
     let places = places_of(size, order);
-    let workers = order.workers as u32;
+    let workers = order.workers.min(MAX_BENCH_WORKERS) as u32;
     for worker in 0..workers {
         Writer::new(rt, alloc, pool, Owner(worker), order, places).make_object()?;
     }
     pool.handle().sync_pool(rt)?;
-    let jobs = (0..workers).collect(alloc).map_err(PoolError::from)?;
     let flushes = counter.flushes();
     let start = Instant::now(rt)?;
-    let timed = map_vec(
-        rt,
-        jobs,
-        &|worker| {
-            let mut writer = Writer::new(rt, alloc, pool, Owner(worker), order, places);
-            noted(halt, writer.run(start, halt))
-        },
-    )
-    .map_err(PoolError::from)?;
+    let timed = run_workers(rt, alloc, pool, workers, order, places, start, halt)?;
     let time = in_microseconds(start.elapsed(rt)?);
     let flushes = counter.flushes().saturating_sub(flushes);
     let times = all_times(alloc, timed)?;
     Ok(Measured::of(&times, order.bytes, flushes, time))
+}
+
+// Each worker in a thread of its own.
+fn run_workers<D: SectorDevice + Send, R: Threads + Wait + Clock + Sync>(
+    rt: &R,
+    alloc: Global,
+    pool: &Pool<D>,
+    workers: u32,
+    order: BenchOrder,
+    places: u64,
+    start: Instant,
+    halt: &Halt,
+) -> Result<Vec<Result<CallTimes, BenchError>>, PoolError> {
+    let jobs = (0..workers).collect(alloc)?;
+    let timed = map_vec(
+        rt,
+        jobs,
+        &|worker| { run_worker(rt, alloc, pool, worker, order, places, start, halt) },
+    )?;
+    Ok(timed)
+}
+
+fn run_worker<D: SectorDevice, R: Wait + Clock>(
+    rt: &R,
+    alloc: Global,
+    pool: &Pool<D>,
+    worker: u32,
+    order: BenchOrder,
+    places: u64,
+    start: Instant,
+    halt: &Halt,
+) -> Result<CallTimes, BenchError> {
+    let mut writer = Writer::new(rt, alloc, pool, Owner(worker), order, places);
+    noted(halt, writer.run(start, halt))
 }
 
 // Halts the others if a worker was refused. It hands on what the worker returned.
@@ -131,7 +162,7 @@ fn all_times(
     alloc: Global,
     timed: Vec<Result<CallTimes, BenchError>>,
 ) -> Result<CallTimes, BenchError> {
-    let mut all = CallTimes::new(alloc).map_err(PoolError::from)?;
+    let mut all = new_times(alloc)?;
     let mut is_suspended = false;
     for timed in timed {
         match timed {

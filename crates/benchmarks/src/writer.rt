@@ -59,7 +59,7 @@ impl<'a, 'p, D: SectorDevice, R: Wait + Clock> Writer<'a, 'p, D, R> {
     /// Commits writes until the seconds of the order are over since the start, or the bench is halted. It returns how
     /// long each took.
     pub(crate) fn run(&mut self, start: Instant, halt: &Halt) -> Result<CallTimes, BenchError> {
-        let mut times = CallTimes::new(self.alloc).map_err(PoolError::from)?;
+        let mut times = new_times(self.alloc)?;
         let end = Duration::from_secs(self.order.seconds);
         for number in 0..u64::MAX {
             let ops = self.ops(number)?;
@@ -75,15 +75,17 @@ impl<'a, 'p, D: SectorDevice, R: Wait + Clock> Writer<'a, 'p, D, R> {
 
     // Commits a write. If it finds no space it syncs the pool and begins again, at most so often.
     fn write(&mut self, number: u64, ops: Ops) -> Result<(), PoolError> {
-        let mut written = self.commit(ops);
+        let mut ops = ops;
         for _ in 0..SYNCS_FOR_SPACE {
-            if written != Err(PoolError::NoSpace) {
-                break;
+            match self.commit(ops) {
+                Err(PoolError::NoSpace) => {
+                    self.handle.sync_pool(self.rt)?;
+                    ops = self.ops(number)?;
+                }
+                written => return written,
             }
-            self.handle.sync_pool(self.rt)?;
-            written = self.commit(self.ops(number)?);
         }
-        written
+        self.commit(ops)
     }
 
     // Commits operations, durably if the order says so.
@@ -100,13 +102,18 @@ impl<'a, 'p, D: SectorDevice, R: Wait + Clock> Writer<'a, 'p, D, R> {
 
     // The write of this number.
     fn ops(&self, number: u64) -> Result<Ops, PoolError> {
-        let place = number.checked_rem(self.places).unwrap_or(0);
+        let place = number % self.places.max(1);
         let at = place.saturating_mul(self.order.bytes);
         let byte = (number % 251) as u8;
         let bytes = Bytes::new(vec![in self.alloc; byte; self.order.bytes as usize]?);
         let write = Op::Write(ObjectId(self.owner.0), at, bytes);
         Ok(Ops::new(vec![in self.alloc; write]?))
     }
+}
+
+/// The times of no call.
+pub(crate) fn new_times(alloc: Global) -> Result<CallTimes, PoolError> {
+    Ok(CallTimes::new(alloc)?)
 }
 
 /// A time in microseconds, rounded down.
