@@ -2,13 +2,8 @@
 use Rattle.std.specs.Prelude.{ℕ, ◌++◌, codes, List, Option}
 use Rattle.std.specs.Fmt.{decimal}
 use Rattle.std.specs.Io.KnownBytes.{Appends}
-use Rattle.benchmarks.specs.Measured.{IsMeasured, rate_of}
+use Rattle.benchmarks.specs.Measured.{HasTimes, rate_of}
 use Rattle.benchmarks.specs.declared.measured.Measured.{Measured}
-
--- it was measured of calls that each had so many bytes
-pub record HasTimes (bytes : ℕ) (m : Measured) : Type 0 where
-  pub times : List ℕ
-  pub measured : IsMeasured bytes times m
 
 -- a line for each number: the counts, the time, the rates, and how long calls took
 abbrev pub measured_lines : Measured → List ℕ

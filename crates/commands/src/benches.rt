@@ -10,7 +10,8 @@ ghost use Rattle.std.specs.Io.KnownBytes.{Appends};
 ghost use Rattle.std.specs.Prelude.{◌≡◌, ◌≢◌, ◌≤◌, IfOk, OnOk, false};
 ghost use Rattle.base.specs.formats.Geometry.{is_geometry};
 ghost use Rattle.command_arguments.specs.Benches.{is_bench_order};
-ghost use Rattle.commands.specs.Benches.{HasTimes, PrintsMeasured, measured_lines};
+ghost use Rattle.benchmarks.specs.Measured.{HasTimes};
+ghost use Rattle.commands.specs.Benches.{PrintsMeasured, measured_lines};
 ghost use Rattle.commands.specs.Failures.{sector_bytes};
 
 use crate::bad_number::BadNumber;
