@@ -135,7 +135,7 @@ def json_rows(judge, sync, log, flawed):
     for words in (["labels", "--json"], ["check", "--json"], ["check", "--all", "--json"], ["df"], ["ls", "-l"]):
         judge.ends([*words, "none.pool"], 3, errors="ztxg: cannot use none.pool\n")
         with open("/dev/full", "wb") as full:
-            if judge.run([*words, judge.make("json.pool")], out=full)[0] != 3:
+            if judge.run([*words, judge.make("json.pool", sync)], out=full)[0] != 3:
                 judge.differ(words, "into a full output ends well")
         os.truncate("json.pool", 6 * MIB - 1)
         judge.ends([*words, "json.pool"], 1, errors="ztxg: refused 8 BadGeometry\n")

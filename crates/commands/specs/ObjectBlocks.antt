@@ -13,8 +13,11 @@ abbrev pub most_blocks : ℕ → ℕ
 most_blocks size = div_ceil size record_size + div_ceil size one_level_length + tops size
 
 -- a line for each object: its number, its length and its blocks
+abbrev pub long_text : ObjectId × ℕ → List ℕ
+long_text object = decimal object.0.0 ++ (codes " " ++ (decimal object.1 ++ (codes " " ++ decimal (most_blocks object.1))))
+
 abbrev pub long_line : ObjectId × ℕ → List ℕ
-long_line object = decimal object.0.0 ++ (codes " " ++ (decimal object.1 ++ (codes " " ++ (decimal (most_blocks object.1) ++ codes "\n"))))
+long_line object = long_text object ++ codes "\n"
 
 abbrev pub long_lines : Inspected → List ℕ
 long_lines i = flat_map long_line i.objects.items

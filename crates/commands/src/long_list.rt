@@ -15,6 +15,7 @@ use base::ObjectId;
 use command_arguments::Verbosity;
 use device_model::{FileRefusal, SectorDevice};
 use std::alloc::Global;
+use std::fmt;
 use std::io::Write;
 
 /// Writes to `out` the objects of the pool in a file, a line each with its number, its length and the most blocks that
@@ -56,10 +57,25 @@ fn write_long_lines<W: Write>(objects: &[(ObjectId, u64)], out: &mut W) -> Resul
     ensures failed { IfErr result (λ failure. failure ≡ Failure.Unwritten) }
 {
     for object in objects {
-        let (number, length) = (object.0.0, object.1);
-        let Ok(()) = writeln!(out, "{number} {length} {}", most_blocks(length)) else {
+        let Ok(()) = writeln!(out, "{}", Object(*object)) else {
             return Err(Failure::Unwritten);
         };
     }
     Ok(())
+}
+
+/// An object's number, its length, and the most blocks that it may have.
+#[derive(Clone, Copy)]
+struct Object((ObjectId, u64));
+
+impl fmt::Display for Object {
+    ghost use Rattle.std.specs.Prelude.{Some};
+    ghost use Rattle.commands.specs.ObjectBlocks.{long_text};
+
+    ghost output = { λ o. Some (long_text o.0) };
+
+    fn fmt<W: fmt::Write>(&self, f: &mut fmt::Formatter<W>) -> fmt::Result {
+        let (number, length) = (self.0.0.0, self.0.1);
+        write!(f, "{number} {length} {}", most_blocks(length))
+    }
 }
