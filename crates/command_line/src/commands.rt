@@ -32,7 +32,7 @@ pub(crate) enum CommandName {
 }
 
 /// The commands, in the order of the program's help.
-pub(crate) const COMMANDS: [CommandName; 12] = [
+pub(crate) const COMMANDS: [CommandName; 13] = [
     CommandName::Create,
     CommandName::Show,
     CommandName::Check,

@@ -3,6 +3,7 @@
 //!
 //! The lock is one over a number that may only rise, and whose view is the number itself.
 #![tactic(auto)]
+
 ghost use Rattle.std.specs.Prelude.{◌≡◌, [], ◌∷◌, ◌++◌, ◌≤◌, IfNone};
 ghost use Rattle.std.proofs.Math.Nat.{le_refl, le_trans};
 ghost use Rattle.word_lock.specs.Seats.{lock_table, seat_table, seen, turns, IsAsBefore, IsHolding, IsIdle, IsSameSeat};
@@ -49,10 +50,7 @@ fn raise(held: &mut Held<u8, u8>) -> u8
 }
 
 // A seat that doesn't get the lock is as it was.
-fn a_try_in_vain_leaves_the_seat_as_it_was(
-    seat: &mut Seat<u8, Rising>,
-    lock: &Lock,
-) -> Option<u8>
+fn a_try_in_vain_leaves_the_seat_as_it_was(seat: &mut Seat<u8, Rising>, lock: &Lock) -> Option<u8>
     requires own { seat_table seat.old ≡ lock_table lock.now }
     requires idle { IsIdle seat.old }
     ensures unchanged { IfNone result (IsAsBefore seat.old seat.new) }
