@@ -1,3 +1,1 @@
-pub mod Benches
 pub mod Orders
-pub mod Sizes

@@ -1,8 +1,6 @@
 //! The arguments of the program: which command, and what it works on.
 
-use crate::bench::BenchOrder;
 use crate::order::Order;
-use crate::reports::{ListArguments, ReportArguments, ReportForm, SpaceArguments};
 
 /// How much is reported of a command that was not done.
 #[derive(Clone, Copy, Debug, PartialEq, Eq)]
@@ -42,16 +40,14 @@ pub enum Arguments<'a> {
     Script(ScriptArguments<'a>),
     /// `ztxg create`.
     Create(CreateArguments<'a>),
-    /// `ztxg show`.
-    Show(ReportArguments<'a>),
+    /// `ztxg show`, with the path of the pool's file.
+    Show(&'a str),
     /// `ztxg check`.
     Check(CheckArguments<'a>),
-    /// `ztxg ls`.
-    List(ListArguments<'a>),
-    /// `ztxg df`.
-    Space(SpaceArguments<'a>),
-    /// `ztxg labels`.
-    Labels(ReportArguments<'a>),
+    /// `ztxg ls`, with the path of the pool's file.
+    List(&'a str),
+    /// `ztxg labels`, with the path of the pool's file.
+    Labels(&'a str),
     /// `ztxg get`.
     Get(GetArguments<'a>),
     /// `ztxg put`.
@@ -60,8 +56,6 @@ pub enum Arguments<'a> {
     Remove(RemoveArguments<'a>),
     /// `ztxg serve`.
     Serve(ServeArguments<'a>),
-    /// `ztxg bench`.
-    Bench(BenchArguments<'a>),
 }
 
 /// The device that a script works on.
@@ -112,8 +106,6 @@ pub struct CheckArguments<'a> {
     pub file: &'a str,
     /// Whether it goes on after a damage.
     pub all: bool,
-    /// How the report is printed.
-    pub form: ReportForm,
 }
 
 /// The arguments of `ztxg load`.
@@ -179,17 +171,4 @@ pub struct ServeArguments<'a> {
     pub cache_blocks: u64,
     /// The moment, in seconds, of each uberblock that it writes.
     pub moment: u64,
-}
-
-/// The arguments of `ztxg bench`.
-#[derive(Clone, Copy, Debug, PartialEq, Eq)]
-pub struct BenchArguments<'a> {
-    /// The path of the file, which is made new, and removed at the end.
-    pub file: &'a str,
-    /// The bytes of the file.
-    pub size: u64,
-    /// What is timed.
-    pub order: BenchOrder,
-    /// The most bytes that unsynced transactions may be charged.
-    pub dirty_max: u64,
 }

@@ -2,20 +2,11 @@
 #![tactic(auto)]
 
 mod arguments;
-mod bench;
 mod clients;
 mod order;
-mod reports;
-mod sizes;
 
 pub use arguments::{
-    Arguments, BenchArguments, CheckArguments, CreateArguments, GetArguments, LoadArguments,
-    Options, PutArguments, RemoveArguments, ScriptArguments, ScriptDevice, ServeArguments,
-    Terminals, Verbosity,
+    Arguments, CheckArguments, CreateArguments, GetArguments, LoadArguments, Options, PutArguments,
+    RemoveArguments, ScriptArguments, ScriptDevice, ServeArguments, Terminals, Verbosity,
 };
-pub use bench::{BenchOrder, MAX_BENCH_BYTES, MAX_BENCH_SECONDS, MAX_BENCH_WORKERS};
 pub use order::{MAX_WORKERS, MAX_WRITES, Order, STREAMS};
-pub use reports::{
-    ListArguments, ListForm, ReportArguments, ReportForm, SpaceArguments, SpaceUnit,
-};
-pub use sizes::size_of;

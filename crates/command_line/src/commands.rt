@@ -5,11 +5,10 @@
 
 use crate::help;
 use crate::words::{
-    BENCH_DIRTY_LIMIT, LOADED_DIRTY_LIMIT, SERVED_DIRTY_LIMIT, SIZE_HELP, cache_blocks,
-    dirty_limit, flag, json, moment, number, number_option, object, option, read_file, size_option,
-    word, written_file,
+    LOADED_DIRTY_LIMIT, SERVED_DIRTY_LIMIT, SIZE_HELP, cache_blocks, dirty_limit, flag, moment,
+    number, number_option, object, option, read_file, word, written_file,
 };
-use clap::{Arg, ArgAction, Command, value_parser};
+use clap::{Arg, Command, value_parser};
 use command_arguments::{MAX_WORKERS, MAX_WRITES};
 use std::alloc::{AllocError, Global};
 
@@ -20,31 +19,27 @@ pub(crate) enum CommandName {
     Show,
     Check,
     List,
-    Space,
     Get,
     Put,
     Remove,
     Labels,
     Load,
     Serve,
-    Bench,
     Script,
 }
 
 /// The commands, in the order of the program's help.
-pub(crate) const COMMANDS: [CommandName; 13] = [
+pub(crate) const COMMANDS: [CommandName; 11] = [
     CommandName::Create,
     CommandName::Show,
     CommandName::Check,
     CommandName::List,
-    CommandName::Space,
     CommandName::Get,
     CommandName::Put,
     CommandName::Remove,
     CommandName::Labels,
     CommandName::Load,
     CommandName::Serve,
-    CommandName::Bench,
     CommandName::Script,
 ];
 
@@ -56,14 +51,12 @@ impl CommandName {
             CommandName::Show => show_command(alloc),
             CommandName::Check => check_command(alloc),
             CommandName::List => list_command(alloc),
-            CommandName::Space => space_command(alloc),
             CommandName::Get => get_command(alloc),
             CommandName::Put => put_command(alloc),
             CommandName::Remove => remove_command(alloc),
             CommandName::Labels => labels_command(alloc),
             CommandName::Load => load_command(alloc),
             CommandName::Serve => serve_command(alloc),
-            CommandName::Bench => bench_command(alloc),
             CommandName::Script => script_command(alloc),
         }
     }
@@ -76,15 +69,14 @@ fn described<'a>(alloc: Global, name: &'a str, about: &'a str, after_help: &'a s
         .after_help(after_help)
 }
 
-// A command that reports on a file, which it only reads, in lines or as JSON.
-fn reporting_command<'a>(
+// A command whose one word is a file that it only reads.
+fn reading_command<'a>(
     alloc: Global,
     name: &'a str,
     about: &'a str,
     after_help: &'a str,
 ) -> Result<Command<'a>, AllocError> {
-    let words = vec![in alloc; read_file(alloc), json(alloc)]?;
-    described(alloc, name, about, after_help).args(words)
+    described(alloc, name, about, after_help).arg(read_file(alloc))
 }
 
 fn create_command<'a>(alloc: Global) -> Result<Command<'a>, AllocError> {
@@ -100,7 +92,7 @@ fn create_command<'a>(alloc: Global) -> Result<Command<'a>, AllocError> {
             "The pool's name: 1 to 64 bytes, first a letter, then letters, digits, '-', '_', '.'",
         ),
         number(alloc, "GUID", "The pool's guid: a number below 2^64"),
-        word(alloc, "SIZE", SIZE_HELP),
+        number(alloc, "SIZE", SIZE_HELP),
         flag(
             alloc,
             "new",
@@ -114,7 +106,7 @@ fn create_command<'a>(alloc: Global) -> Result<Command<'a>, AllocError> {
 
 fn show_command<'a>(alloc: Global) -> Result<Command<'a>, AllocError> {
     let about = "Reports what an import of the pool in a file would mount; it only reads the file";
-    reporting_command(alloc, "show", about, help::SHOW)
+    reading_command(alloc, "show", about, help::SHOW)
 }
 
 fn check_command<'a>(alloc: Global) -> Result<Command<'a>, AllocError> {
@@ -123,43 +115,22 @@ fn check_command<'a>(alloc: Global) -> Result<Command<'a>, AllocError> {
         "all",
         "Goes on after a damage, and prints each, and each damaged label",
     );
-    let words = vec![in alloc; read_file(alloc), all, json(alloc)]?;
+    let words = vec![in alloc; read_file(alloc), all]?;
     let about = "Checks whether the pool in a file is whole; it only reads the file";
     described(alloc, "check", about, help::CHECK).args(words)
 }
 
 fn list_command<'a>(alloc: Global) -> Result<Command<'a>, AllocError> {
-    let long = flag(alloc, "long", "Prints the most blocks of each object, too").short('l');
-    let words = vec![in alloc; read_file(alloc), long, json(alloc)]?;
     let about = "Lists the objects of the pool in a file; it only reads the file";
-    described(alloc, "ls", about, help::LIST).args(words)
-}
-
-fn space_command<'a>(alloc: Global) -> Result<Command<'a>, AllocError> {
-    let powers = flag(
-        alloc,
-        "human-readable",
-        "Prints powers of 1024 with one decimal: 3.5M",
-    )
-    .short('h');
-    // `-h` isn't the help here.
-    let help = Arg::new(alloc, "help")
-        .long("help")
-        .action(ArgAction::Help)
-        .help("Print help");
-    let words = vec![in alloc; read_file(alloc), powers, help]?;
-    let about = "Reports the space of the pool in a file in bytes; it only reads the file";
-    described(alloc, "df", about, help::SPACE)
-        .disable_help_flag(true)
-        .args(words)
+    reading_command(alloc, "ls", about, help::LIST)
 }
 
 fn get_command<'a>(alloc: Global) -> Result<Command<'a>, AllocError> {
     let words = vec![in alloc;
         read_file(alloc),
         object(alloc),
-        size_option(alloc, "offset", "O", "The first byte, as 4096 or 4K").default_value("0"),
-        size_option(
+        number_option(alloc, "offset", "O", "The first byte").default_value("0"),
+        number_option(
             alloc,
             "length",
             "L",
@@ -174,7 +145,7 @@ fn put_command<'a>(alloc: Global) -> Result<Command<'a>, AllocError> {
     let words = vec![in alloc;
         written_file(alloc),
         object(alloc),
-        size_option(
+        number_option(
             alloc,
             "offset",
             "O",
@@ -193,7 +164,7 @@ fn remove_command<'a>(alloc: Global) -> Result<Command<'a>, AllocError> {
 
 fn labels_command<'a>(alloc: Global) -> Result<Command<'a>, AllocError> {
     let about = "Reports what the four labels of a file hold; it only reads the file";
-    reporting_command(alloc, "labels", about, help::LABELS)
+    reading_command(alloc, "labels", about, help::LABELS)
 }
 
 fn load_command<'a>(alloc: Global) -> Result<Command<'a>, AllocError> {
@@ -241,38 +212,6 @@ fn serve_command<'a>(alloc: Global) -> Result<Command<'a>, AllocError> {
     described(alloc, "serve", about, help::SERVE).args(words)
 }
 
-fn bench_command<'a>(alloc: Global) -> Result<Command<'a>, AllocError> {
-    let words = vec![in alloc;
-        bench_file(alloc),
-        size_option(
-            alloc,
-            "size",
-            "SIZE",
-            "The bytes of FILE, as 64M: 6M to 1G, a multiple of 256K",
-        )
-        .default_value("64M"),
-        number_option(alloc, "workers", "W", "The threads that commit: 1 to 64").default_value("4"),
-        size_option(alloc, "bytes", "B", "The bytes of each write: 1 to 64512").default_value(
-            "4096"
-        ),
-        number_option(alloc, "seconds", "T", "How long it takes: 1 to 86400").default_value("5"),
-        dirty_limit(alloc, BENCH_DIRTY_LIMIT),
-        flag(
-            alloc,
-            "durable",
-            "Has each call wait until its commit is durable",
-        ),
-    ]?;
-    let about = "Times commits on a pool of its own in a new file, which it removes at its end";
-    described(alloc, "bench", about, help::BENCH).args(words)
-}
-
-fn bench_file<'a>(alloc: Global) -> Arg<'a> {
-    Arg::new(alloc, "FILE")
-        .help("The path of the file, which must not exist")
-        .default_value("ztxg-bench.pool")
-}
-
 fn script_command<'a>(alloc: Global) -> Result<Command<'a>, AllocError> {
     let words = script_words(alloc)?;
     let about = "Runs a script on a pool, and prints a line for each of its commands";
@@ -312,6 +251,7 @@ fn script_words<'a>(alloc: Global) -> Result<Vec<Arg<'a>>, AllocError> {
 fn size_without_file<'a>(alloc: Global) -> Result<Arg<'a>, AllocError> {
     Arg::new(alloc, "SIZE")
         .help(SIZE_HELP)
+        .value_parser(value_parser!(u64))
         .required_unless_present("file")?
         .conflicts_with("file")
 }

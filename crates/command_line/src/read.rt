@@ -1,12 +1,9 @@
 //! What the words matched, read as the arguments of a command.
 
-use crate::sizes::size;
 use clap::ArgMatches;
 use command_arguments::{
-    Arguments, BenchArguments, BenchOrder, CheckArguments, CreateArguments, GetArguments,
-    ListArguments, ListForm, LoadArguments, Options, Order, PutArguments, RemoveArguments,
-    ReportArguments, ReportForm, ScriptArguments, ScriptDevice, ServeArguments, SpaceArguments,
-    SpaceUnit, Verbosity,
+    Arguments, CheckArguments, CreateArguments, GetArguments, LoadArguments, Options, Order,
+    PutArguments, RemoveArguments, ScriptArguments, ScriptDevice, ServeArguments, Verbosity,
 };
 
 /// The arguments of the command that was named.
@@ -15,17 +12,15 @@ pub fn read_arguments<'a>(matches: &ArgMatches<'a>) -> Option<Arguments<'a>> {
     match name {
         "script" => Some(Arguments::Script(read_script(given)?)),
         "create" => Some(Arguments::Create(read_create(given)?)),
-        "show" => Some(Arguments::Show(read_report(given)?)),
+        "show" => Some(Arguments::Show(text(given, "FILE")?)),
         "check" => Some(Arguments::Check(read_check(given)?)),
-        "ls" => Some(Arguments::List(read_list(given)?)),
-        "df" => Some(Arguments::Space(read_space(given)?)),
-        "labels" => Some(Arguments::Labels(read_report(given)?)),
+        "ls" => Some(Arguments::List(text(given, "FILE")?)),
+        "labels" => Some(Arguments::Labels(text(given, "FILE")?)),
         "get" => Some(Arguments::Get(read_get(given)?)),
         "put" => Some(Arguments::Put(read_put(given)?)),
         "rm" => Some(Arguments::Remove(read_remove(given)?)),
         "load" => Some(Arguments::Load(read_load(given)?)),
         "serve" => Some(Arguments::Serve(read_serve(given)?)),
-        "bench" => Some(Arguments::Bench(read_bench(given)?)),
         _ => None,
     }
 }
@@ -56,7 +51,7 @@ fn read_script<'a>(given: &ArgMatches<'a>) -> Option<ScriptArguments<'a>> {
 fn read_device<'a>(given: &ArgMatches<'a>) -> Option<ScriptDevice<'a>> {
     match text(given, "file") {
         Some(file) => Some(ScriptDevice::File(file)),
-        None => Some(ScriptDevice::Memory(size(given, "SIZE")?)),
+        None => Some(ScriptDevice::Memory(number(given, "SIZE")?)),
     }
 }
 
@@ -65,7 +60,7 @@ fn read_create<'a>(given: &ArgMatches<'a>) -> Option<CreateArguments<'a>> {
         file: text(given, "FILE")?,
         name: text(given, "NAME")?,
         guid: number(given, "GUID")?,
-        size: size(given, "SIZE")?,
+        size: number(given, "SIZE")?,
         only_new: given.get_flag("new"),
         moment: number(given, "moment")?,
     })
@@ -79,7 +74,7 @@ fn read_load<'a>(given: &ArgMatches<'a>) -> Option<LoadArguments<'a>> {
             writes: small_number(given, "ops")?,
             seed: number(given, "seed")?,
         },
-        dirty_max: size(given, "dirty")?,
+        dirty_max: number(given, "dirty")?,
         cache_blocks: number(given, "cache")?,
         moment: number(given, "moment")?,
     })
@@ -89,8 +84,8 @@ fn read_get<'a>(given: &ArgMatches<'a>) -> Option<GetArguments<'a>> {
     Some(GetArguments {
         file: text(given, "FILE")?,
         object: small_number(given, "OBJECT")?,
-        offset: size(given, "offset")?,
-        length: size(given, "length"),
+        offset: number(given, "offset")?,
+        length: number(given, "length"),
     })
 }
 
@@ -98,7 +93,7 @@ fn read_put<'a>(given: &ArgMatches<'a>) -> Option<PutArguments<'a>> {
     Some(PutArguments {
         file: text(given, "FILE")?,
         object: small_number(given, "OBJECT")?,
-        offset: size(given, "offset"),
+        offset: number(given, "offset"),
         moment: number(given, "moment")?,
     })
 }
@@ -115,75 +110,15 @@ fn read_check<'a>(given: &ArgMatches<'a>) -> Option<CheckArguments<'a>> {
     Some(CheckArguments {
         file: text(given, "FILE")?,
         all: given.get_flag("all"),
-        form: report_form(given),
-    })
-}
-
-fn read_report<'a>(given: &ArgMatches<'a>) -> Option<ReportArguments<'a>> {
-    Some(ReportArguments {
-        file: text(given, "FILE")?,
-        form: report_form(given),
-    })
-}
-
-fn report_form(given: &ArgMatches<'_>) -> ReportForm {
-    if given.get_flag("json") {
-        ReportForm::Json
-    } else {
-        ReportForm::Lines
-    }
-}
-
-fn read_list<'a>(given: &ArgMatches<'a>) -> Option<ListArguments<'a>> {
-    Some(ListArguments {
-        file: text(given, "FILE")?,
-        form: list_form(given),
-    })
-}
-
-// JSON has the blocks in any case.
-fn list_form(given: &ArgMatches<'_>) -> ListForm {
-    if given.get_flag("json") {
-        ListForm::Json
-    } else if given.get_flag("long") {
-        ListForm::Long
-    } else {
-        ListForm::Short
-    }
-}
-
-fn read_space<'a>(given: &ArgMatches<'a>) -> Option<SpaceArguments<'a>> {
-    let unit = if given.get_flag("human-readable") {
-        SpaceUnit::Powers
-    } else {
-        SpaceUnit::Bytes
-    };
-    Some(SpaceArguments {
-        file: text(given, "FILE")?,
-        unit,
     })
 }
 
 fn read_serve<'a>(given: &ArgMatches<'a>) -> Option<ServeArguments<'a>> {
     Some(ServeArguments {
         file: text(given, "FILE")?,
-        dirty_max: size(given, "dirty")?,
+        dirty_max: number(given, "dirty")?,
         cache_blocks: number(given, "cache")?,
         moment: number(given, "moment")?,
-    })
-}
-
-fn read_bench<'a>(given: &ArgMatches<'a>) -> Option<BenchArguments<'a>> {
-    Some(BenchArguments {
-        file: text(given, "FILE")?,
-        size: size(given, "size")?,
-        order: BenchOrder {
-            workers: number(given, "workers")?,
-            bytes: size(given, "bytes")?,
-            seconds: number(given, "seconds")?,
-            is_durable: given.get_flag("durable"),
-        },
-        dirty_max: size(given, "dirty")?,
     })
 }
 

@@ -6,7 +6,7 @@ use std::alloc::Global;
 /// What the help says of a size.
 pub(crate) const SIZE_HELP: &str =
     "The bytes of the device, in whole sectors of 512 bytes (a rest is ignored):{n}\
-    6291456 to 1073741824, a multiple of 262144; 64M is 67108864";
+    6291456 to 1073741824, a multiple of 262144";
 
 /// A word that has to be there.
 pub(crate) fn word<'a>(alloc: Global, name: &'a str, help: &'a str) -> Arg<'a> {
@@ -36,27 +36,12 @@ pub(crate) fn number_option<'a>(
     option(alloc, name, value, help).value_parser(value_parser!(u64))
 }
 
-/// An option whose value is a number of bytes, which `find_bad_size` looks at.
-pub(crate) fn size_option<'a>(
-    alloc: Global,
-    name: &'a str,
-    value: &'a str,
-    help: &'a str,
-) -> Arg<'a> {
-    option(alloc, name, value, help)
-}
-
 /// An option without a value.
 pub(crate) fn flag<'a>(alloc: Global, name: &'a str, help: &'a str) -> Arg<'a> {
     Arg::new(alloc, name)
         .long(name)
         .help(help)
         .action(ArgAction::SetTrue)
-}
-
-/// Whether a report is printed as JSON.
-pub(crate) fn json<'a>(alloc: Global) -> Arg<'a> {
-    flag(alloc, "json", "Prints one object of JSON in one line")
 }
 
 /// The file of a pool that the command only reads.
@@ -91,16 +76,13 @@ pub(crate) fn moment<'a>(alloc: Global) -> Arg<'a> {
 /// The dirty limit of `serve`, that of the library: `DEFAULT_DIRTY_MAX` of `base`.
 pub(crate) const SERVED_DIRTY_LIMIT: &str = "4194304";
 
-/// The dirty limit of `bench`, that of the library.
-pub(crate) const BENCH_DIRTY_LIMIT: &str = SERVED_DIRTY_LIMIT;
-
 /// The dirty limit of `load`, at which loads were always made.
 pub(crate) const LOADED_DIRTY_LIMIT: &str = "1048576";
 
 /// The limit of what is dirty in a pool that runs, which is this one if none is given.
 pub(crate) fn dirty_limit<'a>(alloc: Global, default: &'a str) -> Arg<'a> {
-    let help = "The most bytes that unsynced transactions may be charged:{n}4096 to 2^40, as 4M";
-    size_option(alloc, "dirty", "D", help).default_value(default)
+    let help = "The most bytes that unsynced transactions may be charged:{n}4096 to 2^40";
+    number_option(alloc, "dirty", "D", help).default_value(default)
 }
 
 /// How many tree blocks of a pool that runs stay in memory.

@@ -6,11 +6,8 @@ mod MountedBytes
 mod OnlyRead
 mod Pieces
 mod PoolLines
-mod PrintedFindings
 mod PutBytes
 mod PutClients
 mod PutRoom
 mod RefusedClients
-mod ReportClients
 mod ServedPools
-mod WrittenLists

@@ -1,11 +1,6 @@
 //! A number that a command was given outside its limits.
 
-ghost use Rattle.std.specs.Prelude.{◌≡◌, IsSome, false};
-ghost use Rattle.command_arguments.specs.Benches.{is_bench_order};
-
 use base::{GREATEST_CACHE_BLOCKS, GREATEST_DIRTY_MAX, LEAST_DIRTY_MAX, MAX_LENGTH, OBJECT_COUNT};
-use command_arguments::{BenchArguments, MAX_BENCH_BYTES, MAX_BENCH_SECONDS, MAX_BENCH_WORKERS};
-use labels::{LABEL_SIZE, MAX_SIZE, MIN_SIZE};
 use std::fmt;
 
 /// A number that a command was given outside its limits. As text it is the number and its limits.
@@ -25,14 +20,6 @@ pub enum BadNumber {
     DirtyLimit(u64),
     /// The most tree blocks that stay in memory.
     CacheBlocks(u64),
-    /// The bytes of a pool's file.
-    Size(u64),
-    /// The threads of a bench.
-    Workers(u64),
-    /// The bytes of each write of a bench.
-    WriteBytes(u64),
-    /// The seconds of a bench.
-    Seconds(u64),
 }
 
 impl BadNumber {
@@ -53,22 +40,6 @@ impl BadNumber {
             Some(BadNumber::CacheBlocks(cache_blocks))
         } else {
             None
-        }
-    }
-
-    /// The first number of a bench that is outside its limits. The size of its file is none of them.
-    pub(crate) fn of_bench(arguments: &BenchArguments<'_>) -> Option<BadNumber>
-        ensures { is_bench_order arguments.now.order ≡ false → IsSome result }
-    {
-        let order = arguments.order;
-        if order.workers == 0 || MAX_BENCH_WORKERS < order.workers {
-            Some(BadNumber::Workers(order.workers))
-        } else if order.bytes == 0 || MAX_BENCH_BYTES < order.bytes {
-            Some(BadNumber::WriteBytes(order.bytes))
-        } else if order.seconds == 0 || MAX_BENCH_SECONDS < order.seconds {
-            Some(BadNumber::Seconds(order.seconds))
-        } else {
-            BadNumber::of_limits(arguments.dirty_max, 1)
         }
     }
 }
@@ -102,13 +73,6 @@ impl fmt::Display for BadNumber {
             BadNumber::CacheBlocks(blocks) => {
                 write!(f, "cache {blocks}: 1 to {GREATEST_CACHE_BLOCKS} blocks")
             }
-            BadNumber::Size(size) => write!(
-                f,
-                "size {size}: {MIN_SIZE} to {MAX_SIZE} bytes in steps of {LABEL_SIZE}"
-            ),
-            BadNumber::Workers(workers) => write!(f, "workers {workers}: 1 to {MAX_BENCH_WORKERS}"),
-            BadNumber::WriteBytes(bytes) => write!(f, "bytes {bytes}: 1 to {MAX_BENCH_BYTES}"),
-            BadNumber::Seconds(seconds) => write!(f, "seconds {seconds}: 1 to {MAX_BENCH_SECONDS}"),
         }
     }
 }

@@ -136,11 +136,7 @@ pub fn run_check<D: SectorDevice + NotesRefusals, W: Write, E: Write>(
     }
 }
 
-/// What a check finds on what was opened.
-///
-/// # Errors
-/// Why the file was not opened, or what the check is refused for.
-pub(crate) fn check_opened<D: SectorDevice + NotesRefusals>(
+fn check_opened<D: SectorDevice + NotesRefusals>(
     alloc: Global,
     opened: &mut Result<D, FileRefusal>,
 ) -> Result<Finding, Failure>

@@ -12,7 +12,7 @@ use device_model::{FileDevice, FileRefusal, MemDevice, RefusedCall, SectorDevice
 use pool_threads::Pool;
 use script_lines::{Answer, FAILED, REFUSED};
 use std::fmt;
-use std::io::{self, Write};
+use std::io::Write;
 
 /// Why a command was not done.
 #[derive(Clone, Copy, Debug)]
@@ -154,16 +154,6 @@ pub fn report_terminal<E: Write>(errors: &mut E) -> u8
         errors,
         "ztxg: standard output is a terminal, and frames are not text"
     );
-    FAILED
-}
-
-/// Reports on `errors` that the system's clock can't be read, and the cause unless it is to be quiet. Returns the exit
-/// status.
-pub(crate) fn report_clock<E: Write>(cause: &io::Error, verbosity: Verbosity, errors: &mut E) -> u8
-    ensures { result ≡ 3 }
-{
-    let _ = writeln!(errors, "ztxg: the clock can't be read");
-    report_cause(cause, verbosity, errors);
     FAILED
 }
 

@@ -15,7 +15,6 @@ ghost use Rattle.commands.specs.Checks.{StaysOpened};
 ghost use Rattle.commands.specs.Failures.{IsNewPoolRefusal, failure_status, sector_bytes};
 ghost use Rattle.commands.specs.PoolLines.{WritesInspected, created_line, listed_lines, number_lines, object_lines, shown_lines};
 
-use crate::bad_number::BadNumber;
 use crate::failure::{Failure, NotesRefusals, report_failure, report_refusal};
 use crate::names::Quoted;
 use crate::waiting::NewFile;
@@ -23,7 +22,7 @@ use base::{MAX_NAME, ObjectId, PoolError, PoolName};
 use command_arguments::{CreateArguments, Options, Verbosity};
 use device_model::{FileRefusal, HeldFile, SectorDevice};
 use import_replay::{Inspected, create, inspect};
-use labels::{Geometry, SECTOR_SIZE};
+use labels::{Geometry, LABEL_SIZE, MAX_SIZE, MIN_SIZE, SECTOR_SIZE};
 use std::alloc::Global;
 use std::fmt;
 use std::io::{self, Write};
@@ -105,7 +104,11 @@ struct RefusedPool<'a> {
 impl fmt::Display for RefusedPool<'_> {
     fn fmt<W: fmt::Write>(&self, f: &mut fmt::Formatter<W>) -> fmt::Result {
         match self.refusal {
-            PoolError::BadGeometry => write!(f, "{}", BadNumber::Size(self.arguments.size)),
+            PoolError::BadGeometry => write!(
+                f,
+                "size {}: {MIN_SIZE} to {MAX_SIZE} bytes in steps of {LABEL_SIZE}",
+                self.arguments.size
+            ),
             PoolError::BadRange => write!(
                 f,
                 "name {}: 1 to {MAX_NAME} bytes, first a letter, then letters, digits, - _ .",
@@ -226,11 +229,8 @@ pub fn run_list<D: SectorDevice + NotesRefusals, W: Write, E: Write>(
     }
 }
 
-/// What an import of the pool would mount.
-///
-/// # Errors
-/// Why the file was not opened, or what the inspection is refused for.
-pub(crate) fn inspect_opened<D: SectorDevice + NotesRefusals>(
+// What an import of the pool would mount.
+fn inspect_opened<D: SectorDevice + NotesRefusals>(
     alloc: Global,
     opened: &mut Result<D, FileRefusal>,
 ) -> Result<Inspected, Failure>

@@ -1,5 +1,0 @@
-pub mod CallTimes
-pub mod Devices
-pub mod Measured
-pub mod Slots
-pub mod Sums
