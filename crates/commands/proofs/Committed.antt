@@ -63,10 +63,10 @@ entered_from durable [] low from s lower there = tt
 entered_from durable (ops ∷ rest) low from s lower (ordinal, e, high, at, are, is, more) = (ordinal, e, (let least : low ≤ ordinal = omega (arith, lower, high) in least), at, are, is, more)
 
 -- a state that its past explains, and one that it leads to
-abbrev IsSound : SeenPool → Type 0
+abbrev pub IsSound : SeenPool → Type 0
 IsSound v = ∥ AreTablesExplained (viewed_state v).shown (viewed_state v).past ∥₁
 
-sound_on : (keeps : Type 0) (v w : SeenPool) → GrowsTo keeps v w → IsSound v → IsSound w
+pub sound_on : (keeps : Type 0) (v w : SeenPool) → GrowsTo keeps v w → IsSound v → IsSound w
 sound_on keeps v w onward sound =
     ∥∥₁_elim onward.goes_on ∥∥₁_prop (λ run.
     ∥∥₁_map {B = AreTablesExplained (viewed_state w).shown (viewed_state w).past} sound (λ x. runs_keep_tables ⊥ run.0 run.1 (viewed_state v) (viewed_state w) run.2 x))
@@ -105,7 +105,7 @@ module _ {Dev : Type 0} {G : Ghosts Dev} where
   along_first (ops ∷ rest) (suc count) result old new (r, next, made, more) = along_on old next new (along_transacts command_owner ops (Ok r) old next made) (along_first rest count result next new more)
 
   -- after one that was committed the handle has seen a state that its past explains
-  sound_first : (all : List (List Op)) (count : ℕ) (result : Result (Unit {0}) PoolError) (old new : Handle Dev G) → count ≢ 0 → MakesFirst all count result old new → IsSound (view_seen new)
+  pub sound_first : (all : List (List Op)) (count : ℕ) (result : Result (Unit {0}) PoolError) (old new : Handle Dev G) → count ≢ 0 → MakesFirst all count result old new → IsSound (view_seen new)
   sound_first [] count result old new some (none, is, same) = absurd (some none)
   sound_first (ops ∷ rest) zero result old new some makes = absurd (some refl)
   sound_first (ops ∷ rest) (suc count) result old new some (r, next, made, more) =
@@ -129,7 +129,7 @@ module _ {Dev : Type 0} {G : Ghosts Dev} where
       ))))
 
   -- what was committed before a sync of the pool is durable after it
-  durable_after : (group : Group) (old new : Handle Dev G) → IsSound (view_seen old) → SyncsPool (Ok group) old new → ∥ AreDurable (state_seen old) (state_seen new) ∥₁
+  pub durable_after : (group : Group) (old new : Handle Dev G) → IsSound (view_seen old) → SyncsPool (Ok group) old new → ∥ AreDurable (state_seen old) (state_seen new) ∥₁
   durable_after group old new sound s = go s.result s.answered s.syncs
     where
       go : (q : Result (Unit {0}) PoolError) → Ok group ≡ result_of s.group q → SyncsUpTo s.group q s.looked new → ∥ AreDurable (state_seen old) (state_seen new) ∥₁
@@ -248,22 +248,22 @@ module _ {Dev : Type 0} (G : Ghosts Dev) (device : Dev) (n : ObjectId) (offset :
       × HappensOn G device (AreNewEntries (Unit {0}) (put_transactions start n offset bytes))
 
   pub put_happens : PutsOn G device n offset bytes put (Ok tt) → (start : Start) × PutHappens start
-  put_happens o = by (start_of offset o.does.found) refl o.does.puts
+  put_happens o = go (start_of offset o.does.by.found) refl o.does.by.puts
     where
       -- there was room for a put that ended well
       with_room : (lacks : Bool) (start : Start) (old : Handle Dev G) → PutsIfRoom lacks start n offset bytes put (Ok tt) old o.does.last → PutsFrom start n offset bytes put (Ok tt) old o.does.last
       with_room false start old p = p
       with_room true start old (none, nothing, is, same) = absurd (let no_way : Ok tt ≡ Err NoSpace = is in cc)
 
-      by : (s : Result Start PoolError) → start_of offset o.does.found ≡ s → PutsAsFound s o.does.found n offset bytes put (Ok tt) o.does.looked o.does.last → (start : Start) × PutHappens start
-      by (Err e) is p = absurd (let no_way : Ok tt ≡ Err e = p.2 in cc)
-      by (Ok start) is r =
-          let p = with_room (lacks_room start offset bytes o.does.found r.status.available) start r.asked r.puts in
+      go : (s : Result Start PoolError) → start_of offset o.does.by.found ≡ s → PutsAsFound s o.does.by.found n offset bytes put (Ok tt) o.does.by.looked o.does.last → (start : Start) × PutHappens start
+      go (Err e) is p = absurd (let no_way : Ok tt ≡ Err e = p.2 in cc)
+      go (Ok start) is r =
+          let p = with_room (lacks_room start offset bytes o.does.by.found r.status.available) start r.asked r.puts in
           let w = whole_put_stands start n offset bytes put r.asked o.does.last p in
           let all : List (List Op) = put_transactions start n offset bytes in (
             start,
             (
-              may_start offset o.does.found start is,
+              may_start offset o.does.by.found start is,
               w.0,
               p.size,
               record {
@@ -272,17 +272,17 @@ module _ {Dev : Type 0} (G : Ghosts Dev) (device : Dev) (n : ObjectId) (offset :
                 first = o.does.first;
                 is_new = o.does.is_new;
                 last = o.does.last;
-                sees = entered_since (Unit {0}) all o.does.first r.asked (state_seen o.does.last) (along_on o.does.first o.does.looked r.asked (along_made o.does.looks) (along_made r.asks)) w.1;
+                sees = entered_since (Unit {0}) all o.does.first r.asked (state_seen o.does.last) (along_on o.does.first o.does.by.looked r.asked (along_made o.does.by.looks) (along_made r.asks)) w.1;
               },
             ),
           )
 
 -- and so it is of an object that was removed
 module _ {Dev : Type 0} (G : Ghosts Dev) (device : Dev) (n : ObjectId) where
-  abbrev removal : List (List Op)
+  abbrev pub removal : List (List Op)
   removal = (Remove n ∷ []) ∷ []
 
-  removed_and_synced : (count : ℕ) (made : Result (Unit {0}) PoolError) (first done last : Handle Dev G) → MakesFirst removal count made first done → SyncsIfMade made (Ok tt) done last
+  pub removed_and_synced : (count : ℕ) (made : Result (Unit {0}) PoolError) (first done last : Handle Dev G) → MakesFirst removal count made first done → SyncsIfMade made (Ok tt) done last
       → ∥ AreNewEntries (Unit {0}) removal (state_seen first) (state_seen last) ∥₁
   removed_and_synced count (Err e) first done last makes (is, same) = absurd (let no_way : Ok tt ≡ Err e = is in cc)
   removed_and_synced zero (Ok ok) first done last (e, is, refused) syncs = absurd (let no_way : Ok tt ≡ Err e = is in cc)

@@ -2,6 +2,8 @@ mod CheckedAll
 mod Committed
 mod Findings
 mod FoundLabels
+mod LeftClients
+mod LeftDevices
 mod MountedBytes
 mod OnlyRead
 mod Pieces
@@ -12,5 +14,6 @@ mod PutClients
 mod PutRoom
 mod RefusedClients
 mod ReportClients
+mod ServedDevices
 mod ServedPools
 mod WrittenLists

@@ -79,30 +79,30 @@ module _ {Dev : Type 0} {G : Ghosts Dev} (e : PoolError) where
       ⊎ (((ops : List Op) × TransactsOrLacks command_owner ops (Err e) looked done × PutsTwo ops) ⊎ (SyncsPool (Err e) done last ⊎ IsToldFew looked done)))
 
   put_refused : (p : Shared Dev G) (put : Put) → PutsInto p seven None two put (Err e) → IsPutRefused p
-  put_refused p put i = by (start_of None i.found) refl i.puts
+  put_refused p put i = go (start_of None i.by.found) refl i.by.puts
     where
-      length_refused : (f : Result ℕ PoolError) (other : PoolError) → start_of None f ≡ Err other → Makes (step.Length seven) (reply_of (λ count. reply.Length count) f) i.first i.looked → Makes (step.Length seven) (reply.Refused other) i.first i.looked
+      length_refused : (f : Result ℕ PoolError) (other : PoolError) → start_of None f ≡ Err other → Makes (step.Length seven) (reply_of (λ count. reply.Length count) f) i.first i.by.looked → Makes (step.Length seven) (reply.Refused other) i.first i.by.looked
       length_refused (Ok count) other is makes = absurd (let no_way : Ok Empties ≡ Err other = is in cc)
       length_refused (Err NoObject) other is makes = absurd (let no_way : Ok Creates ≡ Err other = is in cc)
-      length_refused (Err x) other is makes = subst (λ (y : PoolError). Makes (step.Length seven) (reply.Refused y) i.first i.looked) (same_error Start (Err x) x other refl is) makes
+      length_refused (Err x) other is makes = subst (λ (y : PoolError). Makes (step.Length seven) (reply.Refused y) i.first i.by.looked) (same_error Start (Err x) x other refl is) makes
 
       made_or_synced : (ops : List Op) (asked done : Handle Dev G) → PutsTwo ops → TransactsOrLacks command_owner ops (Err e) asked done ⊎ SyncsPool (Err e) done i.last → IsPutRefused p
       made_or_synced ops asked done so (inl refused) = (i.first, asked, done, i.last, i.is_new, inr (inl (ops, refused, so)))
       made_or_synced ops asked done so (inr syncs) = (i.first, asked, done, i.last, i.is_new, inr (inr (inl syncs)))
 
       by_room : (start : Start) (ops : List Op) (status : Status) (asked : Handle Dev G) (lacks : Bool) → start ≢ Keeps → PutsTwo ops → put_transactions start seven None two ≡ ops ∷ []
-          → Makes step.Status (reply.Status status) i.looked asked → lacks_room start None two i.found status.available ≡ lacks → PutsIfRoom lacks start seven None two put (Err e) asked i.last → IsPutRefused p
+          → Makes step.Status (reply.Status status) i.by.looked asked → lacks_room start None two i.by.found status.available ≡ lacks → PutsIfRoom lacks start seven None two put (Err e) asked i.last → IsPutRefused p
       by_room start ops status asked false other so are asks is q =
           made_or_synced ops asked q.done so (one_refused ops put put.transactions q.made asked q.done i.last refl (subst (λ (all : List (List Op)). MakesFirst all put.transactions q.made asked q.done) are q.makes) q.syncs)
       by_room start ops status asked true other so are asks is (none, nothing, told, same) =
-          (i.first, i.looked, asked, i.last, i.is_new, inr (inr (inr (status, asks, few_available start i.found status.available other is, same_error (Unit {0}) (Err e) e NoSpace refl told))))
+          (i.first, i.by.looked, asked, i.last, i.is_new, inr (inr (inr (status, asks, few_available start i.by.found status.available other is, same_error (Unit {0}) (Err e) e NoSpace refl told))))
 
-      by : (s : Result Start PoolError) → start_of None i.found ≡ s → PutsAsFound s i.found seven None two put (Err e) i.looked i.last → IsPutRefused p
-      by (Err other) is (none, nothing, told, same) =
-          (i.first, i.looked, i.looked, i.last, i.is_new, inl (subst (λ (x : PoolError). Makes (step.Length seven) (reply.Refused x) i.first i.looked) (same_error (Unit {0}) (Err e) other e told refl) (length_refused i.found other is i.looks)))
-      by (Ok Creates) is r = by_room Creates (Create seven ∷ Write seven 0 two ∷ []) r.status r.asked (lacks_room Creates None two i.found r.status.available) (may_start None i.found Creates is) (inl refl) refl r.asks refl r.puts
-      by (Ok Empties) is r = by_room Empties (SetLength seven 0 ∷ Write seven 0 two ∷ []) r.status r.asked (lacks_room Empties None two i.found r.status.available) (may_start None i.found Empties is) (inr refl) refl r.asks refl r.puts
-      by (Ok Keeps) is r = absurd (may_start None i.found Keeps is refl)
+      go : (s : Result Start PoolError) → start_of None i.by.found ≡ s → PutsAsFound s i.by.found seven None two put (Err e) i.by.looked i.last → IsPutRefused p
+      go (Err other) is (none, nothing, told, same) =
+          (i.first, i.by.looked, i.by.looked, i.last, i.is_new, inl (subst (λ (x : PoolError). Makes (step.Length seven) (reply.Refused x) i.first i.by.looked) (same_error (Unit {0}) (Err e) other e told refl) (length_refused i.by.found other is i.by.looks)))
+      go (Ok Creates) is r = by_room Creates (Create seven ∷ Write seven 0 two ∷ []) r.status r.asked (lacks_room Creates None two i.by.found r.status.available) (may_start None i.by.found Creates is) (inl refl) refl r.asks refl r.puts
+      go (Ok Empties) is r = by_room Empties (SetLength seven 0 ∷ Write seven 0 two ∷ []) r.status r.asked (lacks_room Empties None two i.by.found r.status.available) (may_start None i.by.found Empties is) (inr refl) refl r.asks refl r.puts
+      go (Ok Keeps) is r = absurd (may_start None i.by.found Keeps is refl)
 
   -- a handle was refused the one transaction, or the sync after it
   abbrev IsRemovalRefused : Shared Dev G → Type 0

@@ -17,12 +17,16 @@ use Rattle.frames.specs.Openings.{bytes_of_opening, bytes_of_unopened}
 use Rattle.pool_threads.specs.Handles.{IsNewHandle, OpensBehind, moment_in, opened_in, opening_view, shared_of}
 use Rattle.pool_threads.specs.Waits.{SyncsPool}
 use Rattle.pool_threads.specs.declared.handle.Handle.{Handle}
+use Rattle.pool_threads.specs.declared.handle.LastSeen.{LastSeen}
 use Rattle.pool_threads.specs.declared.pool.Pool.{Pool}
 use Rattle.pool_threads.specs.declared.shared.Shared.{Shared}
 use Rattle.commands.specs.Failures.{IsFailureFor, failure_status, refusal_of}
 use Rattle.commands.specs.declared.failure.Failure.{Failure}
 use Rattle.commands.specs.declared.failure.Failure.TheVariants as failure
-use Rattle.commands.specs.Serving.{AnswersInput, IsUnopened, OpensOn, SaysUnopened, ServesOrRefuses, ServesPool, StaysUnopened, opening_of}
+use Rattle.commands.specs.LeftDevices.{Closes, ClosesAfter, StillHolds}
+use Rattle.commands.specs.Serving.{AnswersInput, IsUnopened, OpensOn, SaysUnopened, ServesAndCloses, ServesAndHolds, ServesAndLeaves, ServesOrRefuses, StaysUnopened, StopsAtOpening, opening_of}
+use Rattle.commands.proofs.LeftDevices.{closed_still}
+use Rattle.commands.proofs.ServedDevices.{closed_holds}
 use Rattle.command_arguments.specs.declared.arguments.ServeArguments.{ServeArguments}
 
 -- a failure of the opening is no good end
@@ -51,16 +55,23 @@ frame_front r a b empty frame shown bytes none is same w = written_front r a b b
 pub frame_whole : (a b : Option (List ℕ)) (empty frame shown bytes : List ℕ) → empty ≡ [] → frame ≡ empty ++ bytes → shown ≡ frame → Appends a b shown → Appends a b bytes
 frame_whole a b empty frame shown bytes none is same w = subst (Appends a b) (same ∙ is ∙ ap (λ (l : List ℕ). l ++ bytes) none) w
 
+-- what follows of a value follows if there is one
+some_weaker : {A : Type 0} (o : Option A) (P Q : A → Type 0) → ((x : A) → P x → Q x) → IfSome o P → IfSome o Q
+some_weaker None P Q each p = tt
+some_weaker (Some x) P Q each p = each x p
+
 -- what is so of a result is so of one that says no more
 less_said : {E F A : Type 0} (P : A → Type 0) (said : Result A E) (more : Result A F) → IfOk said (λ (x : A). more ≡ Ok x) → IfOk more P → IfOk said P
 less_said {F = F} {A = A} P (Ok x) more is p = subst (λ (r : Result A F). IfOk r P) is p
 less_said P (Err e) more is p = tt
 
-module _ {Dev : Type 0} {G : Ghosts Dev} {E F : Type 0} (p : Shared Dev G) (opened : List ℕ) (old new : Streams) where
+module _ {Dev : Type 0} {G : Ghosts Dev} {E F : Type 0} (p : Shared Dev G) (opened : List ℕ) (old new : Streams) (said : Result Ending E) (more : Result Ending F) (is : IfOk said (λ (e : Ending). more ≡ Ok e)) where
   -- a serve that ended so ended also with a result that says no more
-  pub serves_less : (said : Result Ending E) (more : Result Ending F) → IfOk said (λ (e : Ending). more ≡ Ok e) → ServesPool p opened more old new → ServesPool p opened said old new
-  serves_less said more is (inl s) = inl (record { failed = less_said (λ (e : Ending). e ≢ Done) said more is s.failed; unread = s.unread; front = s.front })
-  serves_less said more is (inr s) = inr (record {
+  stops_less : StopsAtOpening opened more old new → StopsAtOpening opened said old new
+  stops_less s = record { failed = less_said (λ (e : Ending). e ≢ Done) said more is s.failed; unread = s.unread; front = s.front }
+
+  abbrev answers_less : AnswersInput p opened more old new → AnswersInput p opened said old new
+  answers_less s = record {
     ending = s.ending;
     exchanges = s.exchanges;
     synced = s.synced;
@@ -73,13 +84,25 @@ module _ {Dev : Type 0} {G : Ghosts Dev} {E F : Type 0} (p : Shared Dev G) (open
     opening = s.opening;
     ends = s.ends;
     well = less_said (λ (e : Ending). (e ≡ s.ending) × IsOk s.synced) said more is s.well;
-  })
+  }
 
--- so it is of what was kept, if it was
-pub kept_less : {Dev E F K : Type 0} {G : Ghosts Dev} (p : Shared Dev G) (opened : List ℕ) (old : Streams) (new : K → Streams) (kept : Option K) (said : Result Ending E) (more : Result Ending F) → IfOk said (λ (e : Ending). more ≡ Ok e)
-    → IfSome kept (λ (k : K). ServesPool p opened more old (new k)) → IfSome kept (λ (k : K). ServesPool p opened said old (new k))
-kept_less p opened old new None said more is served = tt
-kept_less p opened old new (Some k) said more is served = serves_less p opened old (new k) said more is served
+  pub leaves_less : (left : LastSeen Dev G) → ServesAndLeaves p opened more old new left → ServesAndLeaves p opened said old new left
+  leaves_less left (inl (s, by)) = inl (stops_less s, by)
+  leaves_less left (inr (a, behind)) = inr (answers_less a, behind)
+
+  -- so it is of one whose pool was closed then
+  pub closes_less : (left : LastSeen Dev G) (back : Option Dev) → ServesAndLeaves p opened more old new left → IfSome back (ClosesAfter p left) → ServesAndCloses p opened said old new back
+  closes_less left back (inl (s, by)) closes = inl (stops_less s)
+  closes_less left back (inr (a, behind)) closes = inr (answers_less a, some_weaker back _ _ (λ d c. (left, behind, c)) closes)
+
+-- what was kept of a serve that ended so
+pub kept_if : {E F K : Type 0} (said : Result Ending E) (more : Result Ending F) (kept : Option K) → IfOk said (λ (e : Ending). more ≡ Ok e) → (IsOk more → IsSome kept) → IsOk said → IsSome kept
+kept_if {F = F} (Ok e) more kept is keeps ok = keeps (subst (λ (r : Result Ending F). IsOk r) (sym is) refl)
+kept_if (Err e) more kept is keeps ok = absurd (false≢true ok)
+
+-- a pool that was closed after what a handle had seen was closed
+pub just_closes : {Dev : Type 0} {G : Ghosts Dev} (p : Shared Dev G) (left : LastSeen Dev G) (back : Option Dev) → IfSome back (ClosesAfter p left) → IfSome back (Closes p)
+just_closes p left back closes = some_weaker back _ _ (λ d c. (c.state, (c.ends.last, c.ends.ends), c.device_is)) closes
 
 -- no failure has the status of what was done
 pub fails : (f : Failure) → failure_status f ≢ 0
@@ -99,24 +122,36 @@ is_ok_in (Err e) = false
 
 module _ {Dev : Type 0} (G : Ghosts Dev) (given : ServeArguments) (status : ℕ) where
   -- what an open that was refused returned
-  abbrev refused_open : Failure → Result (Pool Dev G) Failure
-  refused_open why = Err why
+  abbrev refused_open : Failure → Option Dev → Result (Pool Dev G) (Failure × Option Dev)
+  refused_open why back = Err (why, back)
 
   -- a pool that wasn't opened
-  pub unserved : (opened : Result Dev FileRefusal) (why : Failure) (old new : Streams) → IfErr opened (λ cause. refused_open why ≡ refused_open (failure.Unusable cause)) → IfOk opened (λ device. IsUnopened G device given why)
-      → SaysUnopened (refusal_of why) old.output new.output → new.input ≡ old.input → status ≢ 0 → ServesOrRefuses G opened given status old new
-  unserved (Ok device) why old new unusable (e, refused, is) said unread failed =
+  pub unserved : (opened : Result Dev FileRefusal) (why : Failure) (back : Option Dev) (old new : Streams) → IfErr opened (λ cause. refused_open why back ≡ refused_open (failure.Unusable cause) None) → IfOk opened (λ device. IsUnopened G device given why)
+      → SaysUnopened (refusal_of why) old.output new.output → new.input ≡ old.input → status ≢ 0 → ServesOrRefuses G opened given status old new back
+  unserved (Ok device) why back old new unusable (e, refused, is) said unread failed =
       inr (record { error = e; refused = refused; stays = record { failed = failed; unread = unread; said = subst (λ (r : Option PoolError). SaysUnopened r old.output new.output) is said } })
-  unserved (Err cause) why old new unusable refused said unread failed =
-      record { failed = failed; unread = unread; said = subst (λ (f : Failure). SaysUnopened (refusal_of f) old.output new.output) (ap (error_in why) unusable) said }
+  unserved (Err cause) why back old new unusable refused said unread failed =
+      record { failed = failed; unread = unread; said = subst (λ (f : Failure). SaysUnopened (refusal_of f) old.output new.output) (ap (λ (r : Result (Pool Dev G) (Failure × Option Dev)). (error_in (why, back) r).0) unusable) said }
 
   -- one that was
-  pub served : {K : Type 0} (opened : Result Dev FileRefusal) (pool : Pool Dev G) (result : Result Ending Failure) (old : Streams) (new : K → Streams) (kept : Option K)
-      → IfErr opened (λ cause. Ok pool ≡ refused_open (failure.Unusable cause)) → IfOk opened (λ device. OpensOn G device given pool) → (status ≡ 0 → result ≡ Ok Done)
-      → IfSome kept (λ (k : K). ServesPool (shared_of pool) (bytes_of_opening (opening_of (opened_in pool))) result old (new k)) → IfSome kept (λ (k : K). ServesOrRefuses G opened given status old (new k))
-  served opened pool result old new None unusable opens done serves = tt
-  served (Ok device) pool result old new (Some k) unusable opens done serves = inl (record { pool = pool; opens = opens; result = result; serves = serves; done = done })
-  served (Err cause) pool result old new (Some k) unusable opens done serves = absurd (false≢true (sym (ap is_ok_in unusable)))
+  pub served : {K : Type 0} (opened : Result Dev FileRefusal) (pool : Pool Dev G) (result : Result Ending Failure) (back : Option Dev) (old : Streams) (new : K → Streams) (kept : Option K)
+      → IfErr opened (λ cause. Ok pool ≡ refused_open (failure.Unusable cause) None) → IfOk opened (λ device. OpensOn G device given pool) → (status ≡ 0 → result ≡ Ok Done) → (IsOk result → IsSome back)
+      → IfSome kept (λ (k : K). ServesAndCloses (shared_of pool) (bytes_of_opening (opening_of (opened_in pool))) result old (new k) back) → IfSome kept (λ (k : K). ServesOrRefuses G opened given status old (new k) back)
+  served opened pool result back old new None unusable opens done given_back closes = tt
+  served (Ok device) pool result back old new (Some k) unusable opens done given_back closes = inl (record {
+    pool = pool;
+    opens = opens;
+    result = result;
+    serves = closed_holds device given pool opens (bytes_of_opening (opening_of (opened_in pool))) result old (new k) back closes;
+    done = done;
+    given_back = λ zero. given_back (subst (λ (r : Result Ending Failure). IsOk r) (sym (done zero)) refl);
+  })
+  served (Err cause) pool result back old new (Some k) unusable opens done given_back closes = absurd (false≢true (sym (ap is_ok_in unusable)))
+
+  -- the device of a pool that was opened and closed
+  pub served_still : (opened : Result Dev FileRefusal) (pool : Pool Dev G) (back : Option Dev) → IfOk opened (λ device. OpensOn G device given pool) → IfSome back (Closes (shared_of pool)) → IfOk opened (λ device. IfSome back (StillHolds G device))
+  served_still (Ok device) pool back opens closes = closed_still (shared_of pool) device given.dirty_max opens.opens back closes
+  served_still (Err cause) pool back opens closes = tt
 
 abbrev bytes_in : Option (List ℕ) → List ℕ
 bytes_in (Some bytes) = bytes
@@ -161,15 +196,16 @@ module _ {Dev K : Type 0} (G : Ghosts Dev) (device : Dev) (given : ServeArgument
       let out = outputs (bytes_of_opening (opening_of (opened_in pool))) (answers_of a.exchanges) a.middle (output k) a.opening q.0.writes in
       (pool, opens.opens, opens.moment, a.exchanges, a.first, f.served, a.last, group, a.is_new, f.answers, subst (λ r. SyncsPool r f.served a.last) is f.syncs, all, out)
 
-  from_serve : {E : Type 0} (k : K) (pool : Pool Dev G) → OpensOn G device given pool → (result : Result Ending E) → result ≡ Ok Done → ServesPool (shared_of pool) (bytes_of_opening (opening_of (opened_in pool))) result streams_first (streams_then k) → AnswersAsked (Some k)
-  from_serve {E} k pool opens result done serves =
-      by (subst (λ (r : Result Ending E). ServesPool (shared_of pool) (bytes_of_opening (opening_of (opened_in pool))) r streams_first (streams_then k)) done serves)
+  from_serve : {E : Type 0} (k : K) (back : Option Dev) (pool : Pool Dev G) → OpensOn G device given pool → (result : Result Ending E) → result ≡ Ok Done
+      → ServesAndHolds (shared_of pool) (bytes_of_opening (opening_of (opened_in pool))) result streams_first (streams_then k) device back → AnswersAsked (Some k)
+  from_serve {E} k back pool opens result done serves =
+      by (subst (λ (r : Result Ending E). ServesAndHolds (shared_of pool) (bytes_of_opening (opening_of (opened_in pool))) r streams_first (streams_then k) device back) done serves)
     where
-      by : ServesPool {E = E} (shared_of pool) (bytes_of_opening (opening_of (opened_in pool))) (Ok Done) streams_first (streams_then k) → AnswersAsked (Some k)
+      by : ServesAndHolds {E = E} (shared_of pool) (bytes_of_opening (opening_of (opened_in pool))) (Ok Done) streams_first (streams_then k) device back → AnswersAsked (Some k)
       by (inl stops) = absurd (stops.failed refl)
-      by (inr answers) = from_input k pool opens answers
+      by (inr (answers, holds)) = from_input k pool opens answers
 
-  pub all_answered : (kept : Option K) (status : ℕ) → status ≡ 0 → IsSome kept → IfSome kept (λ k. ServesOrRefuses G (Ok device) given status streams_first (streams_then k)) → AnswersAsked kept
-  all_answered None status zero some served = absurd (false≢true some)
-  all_answered (Some k) status zero some (inl s) = from_serve k s.pool s.opens s.result (s.done zero) s.serves
-  all_answered (Some k) status zero some (inr r) = absurd (r.stays.failed zero)
+  pub all_answered : (kept : Option K) (back : Option Dev) (status : ℕ) → status ≡ 0 → IsSome kept → IfSome kept (λ k. ServesOrRefuses G (Ok device) given status streams_first (streams_then k) back) → AnswersAsked kept
+  all_answered None back status zero some served = absurd (false≢true some)
+  all_answered (Some k) back status zero some (inl s) = from_serve k back s.pool s.opens s.result (s.done zero) s.serves
+  all_answered (Some k) back status zero some (inr r) = absurd (r.stays.failed zero)

@@ -5,6 +5,8 @@ pub mod Failures
 pub mod FoundDamages
 pub mod FoundLabels
 pub mod Json
+pub mod LeftDevices
+pub mod NewPools
 pub mod ObjectBlocks
 pub mod PoolLines
 pub mod PutRoom

@@ -7,16 +7,18 @@
 //! 3. A put that can't find the blocks that it needs is refused before the first piece (`put_room.rt`).
 
 ghost use Rattle.std.specs.Io.KnownBytes.{Appends};
-ghost use Rattle.std.specs.Prelude.{◌≡◌, ◌≢◌, ◌≤◌, ◌<◌, ◌+◌, ◌*◌, ◌/◌, ◌^◌, ◌∷◌, [], false, true, length, min, take, Err, IfErr, IfOk, IfSome, IsErr};
+ghost use Rattle.std.specs.Prelude.{◌≡◌, ◌≢◌, ◌≤◌, ◌<◌, ◌+◌, ◌*◌, ◌/◌, ◌^◌, ◌⊎◌, ◌∷◌, [], false, true, length, min, take, Err, IfErr, IfOk, IfSome, IsErr, IsSome, None};
 ghost use Rattle.base.specs.declared.operation.Op.TheVariants.{Remove};
 ghost use Rattle.base.specs.formats.Limits.{max_length};
-ghost use Rattle.commands.specs.Committed.{MakesFirst, PutsAll, PutsAndPrints, PutsInto, PutsOrFails, RefusesPut, RefusesRemoval, RemovesFrom, RemovesOn, RemovesOrFails, command_owner, nothing_put, result_after};
+ghost use Rattle.commands.specs.Committed.{MakesFirst, PutsAll, PutsAndLeaves, PutsAndPrints, PutsBy, PutsOrFails, RefusesPut, RefusesRemoval, RemovesAndLeaves, RemovesOn, RemovesOrFails, command_owner, nothing_put, result_after};
+ghost use Rattle.commands.specs.LeftDevices.{HasPut, HasRemoved, HoldsRunUpon, LeavesDevice, StillHolds};
 ghost use Rattle.commands.specs.Puts.{bad_number_of, first_byte, is_target, piece_ops, put_transactions, removed_line, rest_transactions, start_of};
 ghost use Rattle.pool_threads.specs.LongWrites.{piece_size};
 ghost use Rattle.pool_threads.specs.Handles.{shared_of};
 ghost use Rattle.pool_threads.specs.Transacts.{TransactsOrLacks};
 
 use crate::bad_number::BadNumber;
+use crate::closing::close_after;
 use crate::failure::{Failure, NotesRefusals, report_failure};
 use crate::put_room::lacks_room;
 use base::{
@@ -25,7 +27,8 @@ use base::{
 };
 use command_arguments::{PutArguments, RemoveArguments, Verbosity};
 use device_model::{FileRefusal, SectorDevice};
-use pool_threads::{Handle, PIECE_SIZE, Pool};
+use pool_threads::{Handle, LastSeen, PIECE_SIZE, Pool};
+use script_lines::FAILED;
 use std::alloc::{AllocError, Global};
 use std::fmt;
 use std::io::{self, Read, Write};
@@ -106,14 +109,17 @@ impl Put {
     }
 }
 
-/// Writes an input into an object of the pool on a device, syncs it, and returns the exit status. The object is made if
-/// it isn't there. Without an offset it then has these bytes alone.
+/// Writes an input into an object of the pool on a device, syncs it, and returns the exit status and the device. The
+/// object is made if it isn't there. Without an offset it then has these bytes alone.
 ///
 /// The status is 0 if all is durable, and how many bytes it were is written to `out`. It is 1 if the engine refused it,
 /// and 3 if the input can't be read, the file was not opened as a device, or `out` can't be written. If only the line
 /// was not written, all is durable even so. A failure is reported on `errors`, and so is how many bytes were committed
 /// before it. The object's number, the offset and the number of the bytes are tested before the device is called. If
 /// the pool can't have the blocks that the bytes need, it is refused `NoSpace`, and nothing is committed.
+///
+/// The device comes back closed, also after a refusal. If all is durable, an import of whatever a crash leaves of it
+/// has the bytes acknowledged. It is lost, with status 3, only if a thread was stopped while it had the pool.
 pub fn run_put<R: Wait + AllocGlobal, D: SectorDevice + NotesRefusals + Drop, W: Write, E: Write>(
     rt: &R,
     arguments: PutArguments<'_>,
@@ -122,42 +128,64 @@ pub fn run_put<R: Wait + AllocGlobal, D: SectorDevice + NotesRefusals + Drop, W:
     opened: Result<D, FileRefusal>,
     out: &mut W,
     errors: &mut E,
-) -> u8
-    ensures unread { IsErr input → result ≡ 3 }
-    ensures unusable { IsErr opened → result ≡ 3 }
+) -> (u8, Option<D>)
+    ensures unread { IsErr input → result.0 ≡ 3 }
+    ensures unusable { IsErr opened → result.0 ≡ 3 }
     ensures target { IfOk input (λ bytes. IfOk opened (λ _. is_target arguments.entry.object
-        arguments.entry.offset bytes.items ≡ false → result ≡ 1)) }
-    ensures put { result ≡ 0 → IfOk input (λ bytes. IfOk opened (λ device. PutsAndPrints
+        arguments.entry.offset bytes.items ≡ false → result.0 ≡ 1)) }
+    ensures put { result.0 ≡ 0 → IfOk input (λ bytes. IfOk opened (λ device. PutsAndPrints
         D.SectorDevice device (record { 0 = arguments.entry.object }) arguments.entry.offset
         bytes.items (W.contents out.old) (W.contents out.new))) }
-    ensures refused { result ≡ 1 → IfOk input (λ bytes. IfOk opened (λ device. RefusesPut
+    ensures refused { result.0 ≡ 1 → IfOk input (λ bytes. IfOk opened (λ device. RefusesPut
         D.SectorDevice device arguments.entry.moment (record { 0 = arguments.entry.object })
         arguments.entry.offset bytes.items)) }
-    ensures unwritten { result ≡ 3 → IfOk input (λ bytes. IfOk opened (λ device. PutsAll
+    ensures unwritten { result.0 ≡ 3 → IfOk input (λ bytes. IfOk opened (λ device. PutsAll
         D.SectorDevice device (record { 0 = arguments.entry.object }) arguments.entry.offset
         bytes.items)) }
-    ensures unprinted { result ≡ 1 → W.contents out.new ≡ W.contents out.old }
-    ensures range { result ≤ 3 }
-    ensures no_usage { result ≢ 2 }
+    ensures durable { result.0 ≢ 1 → IfOk input (λ bytes. IfOk opened (λ device.
+        IfSome result.1 (HoldsRunUpon D.SectorDevice (HasPut (record
+        { 0 = arguments.entry.object }) arguments.entry.offset bytes.items) device))) }
+    ensures still_held { result.0 ≡ 1 → IfOk opened (λ device.
+        IfSome result.1 (StillHolds D.SectorDevice device)) }
+    ensures kept { result.0 ≡ 0 → IsSome result.1 }
+    ensures unprinted { result.0 ≡ 1 → W.contents out.new ≡ W.contents out.old }
+    ensures range { result.0 ≤ 3 }
+    ensures no_usage { result.0 ≢ 2 }
 {
     let input = match input {
         Ok(input) => input,
         Err(error) => {
             let failure = Failure::Unusable(FileRefusal::System(error));
-            return report_failure(failure, STANDARD_INPUT, verbosity, errors);
+            let status = report_failure(failure, STANDARD_INPUT, verbosity, errors);
+            return (status, None);
         }
     };
-    let (put, end) = put_bytes(rt, arguments, &input, opened);
+    let (put, end, device) = put_bytes(rt, arguments, &input, opened);
     match end {
         Ok(()) => match writeln!(out, "put {put}") {
-            Ok(()) => 0,
-            Err(_) => report_failure(Failure::Unwritten, arguments.file, verbosity, errors),
+            Ok(()) => (status_of(&device), device),
+            Err(_) => {
+                let failure = Failure::Unwritten;
+                let status = report_failure(failure, arguments.file, verbosity, errors);
+                (status, device)
+            }
         },
         Err(failure) => {
             let status = report_failure(failure, arguments.file, verbosity, errors);
             report_committed(&put, errors);
-            status
+            (status, device)
         }
+    }
+}
+
+// The status once all is done: 0 if the device came back.
+fn status_of<D>(device: &Option<D>) -> u8
+    ensures kept { result ≡ 0 → IsSome device.now }
+    ensures range { (result ≡ 0) ⊎ (result ≡ 3) }
+{
+    match device {
+        Some(_) => 0,
+        None => FAILED,
     }
 }
 
@@ -176,7 +204,7 @@ fn put_bytes<R: Wait + AllocGlobal, D: SectorDevice + NotesRefusals + Drop>(
     arguments: PutArguments<'_>,
     bytes: &[u8],
     opened: Result<D, FileRefusal>,
-) -> (Put, Result<(), Failure>)
+) -> (Put, Result<(), Failure>, Option<D>)
     ensures unusable { IfErr opened (λ cause. (result.0 ≡ nothing_put)
         × (result.1 ≡ Err (Failure.Unusable cause))) }
     ensures target { IfOk opened (λ _. is_target arguments.entry.object arguments.entry.offset
@@ -185,30 +213,35 @@ fn put_bytes<R: Wait + AllocGlobal, D: SectorDevice + NotesRefusals + Drop>(
     ensures put { IfOk opened (λ device. PutsOrFails D.SectorDevice device
         arguments.entry.moment (record { 0 = arguments.entry.object }) arguments.entry.offset
         bytes.now result.0 result.1) }
+    ensures left { IfOk opened (λ device. LeavesDevice D.SectorDevice (HasPut (record
+        { 0 = arguments.entry.object }) arguments.entry.offset bytes.now) device result.1
+        result.2) }
 {
     let device = match opened {
         Ok(device) => device,
-        Err(cause) => return (Put::NOTHING, Err(Failure::Unusable(cause))),
+        Err(cause) => return (Put::NOTHING, Err(Failure::Unusable(cause)), None),
     };
     if !is_target(arguments.object, arguments.offset, bytes) {
         let number = bad_number_of(arguments.object, arguments.offset, bytes);
-        return (Put::NOTHING, Err(Failure::OutOfRange(number)));
+        return (Put::NOTHING, Err(Failure::OutOfRange(number)), Some(device));
     }
     let alloc = rt.alloc();
     let pool = match Pool::open(alloc, device, DEFAULT_DIRTY_MAX, arguments.moment) {
         Ok(pool) => pool,
         Err((refusal, device)) => {
-            return (Put::NOTHING, Err(Failure::of_pool(refusal, &device)));
+            let failure = Failure::of_pool(refusal, &device);
+            return (Put::NOTHING, Err(failure), Some(device));
         }
     };
     let target = Target {
         object: ObjectId(arguments.object),
         offset: arguments.offset,
     };
-    let (put, end) = put_and_sync(rt, alloc, &pool, target, bytes);
+    let (put, end, left) = put_and_leave(rt, alloc, &pool, target, bytes);
+    let device = close_after(pool, left);
     match end {
-        Ok(()) => (put, Ok(())),
-        Err(refusal) => (put, Err(Failure::of_running(refusal, pool))),
+        Ok(()) => (put, Ok(()), device),
+        Err(refusal) => (put, Err(Failure::of_closed(refusal, &device)), device),
     }
 }
 
@@ -272,20 +305,36 @@ impl Start {
     }
 }
 
-// Puts bytes into an object, and syncs the pool, also after a refusal. It returns the first refusal. Without room for
-// all bytes it puts none.
-fn put_and_sync<R: Wait, D: SectorDevice>(
+// Puts bytes into an object by a new handle, which then leaves the pool.
+fn put_and_leave<R: Wait, D: SectorDevice>(
     rt: &R,
     alloc: Global,
     pool: &Pool<D>,
     target: Target,
     bytes: &[u8],
-) -> (Put, Result<(), PoolError>)
+) -> (Put, Result<(), PoolError>, LastSeen<D>)
     requires { is_target target.object.0 target.offset bytes.now ≡ true }
-    ensures { PutsInto (shared_of pool.entry.now) target.object target.offset bytes.now
-        result.0 result.1 }
+    ensures { PutsAndLeaves (shared_of pool.entry.now) target.object target.offset bytes.now
+        result.0 result.1 result.2 }
 {
     let mut handle = pool.handle();
+    let (put, end) = put_and_sync(rt, alloc, &mut handle, target, bytes);
+    (put, end, handle.leave())
+}
+
+// Puts bytes into an object, and syncs the pool, also after a refusal. It returns the first refusal. Without room for
+// all bytes it puts none.
+fn put_and_sync<R: Wait, D: SectorDevice>(
+    rt: &R,
+    alloc: Global,
+    handle: &mut Handle<'_, D>,
+    target: Target,
+    bytes: &[u8],
+) -> (Put, Result<(), PoolError>)
+    requires { is_target target.object.0 target.offset bytes.now ≡ true }
+    ensures { PutsBy target.object target.offset bytes.now result.0 result.1 handle.old
+        handle.new }
+{
     let found = handle.length(rt, target.object);
     let start = match start_of(target.offset, found) {
         Ok(start) => start,
@@ -295,7 +344,7 @@ fn put_and_sync<R: Wait, D: SectorDevice>(
     if lacks_room(start, target.offset, bytes, found, status.available) {
         return (Put::NOTHING, Err(PoolError::NoSpace));
     }
-    let (mut put, made) = put_pieces(rt, alloc, &mut handle, target, start, bytes);
+    let (mut put, made) = put_pieces(rt, alloc, handle, target, start, bytes);
     if put.transactions == 0 {
         return (put, made);
     }
@@ -420,10 +469,12 @@ fn ops_of(
     Ok(Ops::new(ops))
 }
 
-/// Removes an object of the pool on a device, syncs it, writes its number to `out`, and returns the exit status.
+/// Removes an object of the pool on a device, syncs it, writes its number to `out`, and returns the exit status and the
+/// device.
 ///
 /// The status is 0 if that is durable, 1 if the engine refused it, and 3 if the file was not opened as a device or
 /// `out` can't be written. If only the line was not written, it is durable even so. A failure is reported on `errors`.
+/// The device comes back as that of `run_put`.
 pub fn run_remove<
     R: Wait + AllocGlobal,
     D: SectorDevice + NotesRefusals + Drop,
@@ -436,26 +487,40 @@ pub fn run_remove<
     opened: Result<D, FileRefusal>,
     out: &mut W,
     errors: &mut E,
-) -> u8
-    ensures unusable { IsErr opened → result ≡ 3 }
-    ensures removed { result ≡ 0 → IfOk opened (λ device.
+) -> (u8, Option<D>)
+    ensures unusable { IsErr opened → result.0 ≡ 3 }
+    ensures removed { result.0 ≡ 0 → IfOk opened (λ device.
         RemovesOn D.SectorDevice device (record { 0 = arguments.entry.object })
         × Appends (W.contents out.old) (W.contents out.new)
         (removed_line arguments.entry.object)) }
-    ensures refused { result ≡ 1 → IfOk opened (λ device. RefusesRemoval D.SectorDevice device
+    ensures refused { result.0 ≡ 1 → IfOk opened (λ device. RefusesRemoval D.SectorDevice device
         arguments.entry.moment (record { 0 = arguments.entry.object })) }
-    ensures unwritten { result ≡ 3 → IfOk opened (λ device. RemovesOn D.SectorDevice device
+    ensures unwritten { result.0 ≡ 3 → IfOk opened (λ device. RemovesOn D.SectorDevice device
         (record { 0 = arguments.entry.object })) }
-    ensures unprinted { result ≡ 1 → W.contents out.new ≡ W.contents out.old }
-    ensures range { result ≤ 3 }
-    ensures no_usage { result ≢ 2 }
+    ensures durable { result.0 ≢ 1 → IfOk opened (λ device.
+        IfSome result.1 (HoldsRunUpon D.SectorDevice (HasRemoved (record
+        { 0 = arguments.entry.object })) device)) }
+    ensures still_held { result.0 ≡ 1 → IfOk opened (λ device.
+        IfSome result.1 (StillHolds D.SectorDevice device)) }
+    ensures kept { result.0 ≡ 0 → IsSome result.1 }
+    ensures unprinted { result.0 ≡ 1 → W.contents out.new ≡ W.contents out.old }
+    ensures range { result.0 ≤ 3 }
+    ensures no_usage { result.0 ≢ 2 }
 {
-    match remove_object(rt, arguments, opened) {
+    let (end, device) = remove_object(rt, arguments, opened);
+    match end {
         Ok(()) => match writeln!(out, "removed {}", arguments.object) {
-            Ok(()) => 0,
-            Err(_) => report_failure(Failure::Unwritten, arguments.file, verbosity, errors),
+            Ok(()) => (status_of(&device), device),
+            Err(_) => {
+                let failure = Failure::Unwritten;
+                let status = report_failure(failure, arguments.file, verbosity, errors);
+                (status, device)
+            }
         },
-        Err(failure) => report_failure(failure, arguments.file, verbosity, errors),
+        Err(failure) => {
+            let status = report_failure(failure, arguments.file, verbosity, errors);
+            (status, device)
+        }
     }
 }
 
@@ -463,44 +528,53 @@ fn remove_object<R: Wait + AllocGlobal, D: SectorDevice + NotesRefusals + Drop>(
     rt: &R,
     arguments: RemoveArguments<'_>,
     opened: Result<D, FileRefusal>,
-) -> Result<(), Failure>
-    ensures unusable { IfErr opened (λ cause. result ≡ Err (Failure.Unusable cause)) }
+) -> (Result<(), Failure>, Option<D>)
+    ensures unusable { IfErr opened (λ cause. result.0 ≡ Err (Failure.Unusable cause)) }
     ensures removed { IfOk opened (λ device. RemovesOrFails D.SectorDevice device
-        arguments.entry.moment (record { 0 = arguments.entry.object }) result) }
+        arguments.entry.moment (record { 0 = arguments.entry.object }) result.0) }
+    ensures left { IfOk opened (λ device. LeavesDevice D.SectorDevice (HasRemoved (record
+        { 0 = arguments.entry.object })) device result.0 result.1) }
 {
     let device = match opened {
         Ok(device) => device,
-        Err(cause) => return Err(Failure::Unusable(cause)),
+        Err(cause) => return (Err(Failure::Unusable(cause)), None),
     };
     let alloc = rt.alloc();
     let pool = match Pool::open(alloc, device, DEFAULT_DIRTY_MAX, arguments.moment) {
         Ok(pool) => pool,
-        Err((refusal, device)) => return Err(Failure::of_pool(refusal, &device)),
+        Err((refusal, device)) => {
+            return (Err(Failure::of_pool(refusal, &device)), Some(device));
+        }
     };
-    match remove_and_sync(rt, alloc, &pool, ObjectId(arguments.object)) {
-        Ok(()) => Ok(()),
+    let (end, left) = remove_and_leave(rt, alloc, &pool, ObjectId(arguments.object));
+    let device = close_after(pool, left);
+    match end {
+        Ok(()) => (Ok(()), device),
         Err(refusal) => {
             let number = BadNumber::of_object(arguments.object);
-            Err(Failure::of_running(refusal, pool).for_number(number))
+            let failure = Failure::of_closed(refusal, &device).for_number(number);
+            (Err(failure), device)
         }
     }
 }
 
-// Removes an object, and syncs the pool if that was committed. It returns the first refusal.
-fn remove_and_sync<R: Wait, D: SectorDevice>(
+// Removes an object by a new handle, and syncs the pool if that was committed. It returns the first refusal. The handle
+// then leaves the pool.
+fn remove_and_leave<R: Wait, D: SectorDevice>(
     rt: &R,
     alloc: Global,
     pool: &Pool<D>,
     object: ObjectId,
-) -> Result<(), PoolError>
-    ensures { RemovesFrom (shared_of pool.entry.now) object result }
+) -> (Result<(), PoolError>, LastSeen<D>)
+    ensures { RemovesAndLeaves (shared_of pool.entry.now) object result.0 result.1 }
 {
     let mut handle = pool.handle();
     match remove(rt, alloc, &mut handle, object) {
         Ok(_) => {}
-        Err(refusal) => return Err(refusal),
+        Err(refusal) => return (Err(refusal), handle.leave()),
     }
-    first_refusal(Ok(()), handle.sync_pool(rt))
+    let end = first_refusal(Ok(()), handle.sync_pool(rt));
+    (end, handle.leave())
 }
 
 // Commits the removal of an object as one transaction.

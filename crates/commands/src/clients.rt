@@ -2,6 +2,7 @@
 //! alone. So it is refused as soon as that contract promises less.
 
 mod all_checks;
+mod left_devices;
 mod objects;
 mod refusals;
 mod reports;
@@ -20,21 +21,14 @@ use crate::failure::{Failure, NotesRefusals, report_failure, report_terminal};
 use crate::load::run_load;
 use crate::pool_files::{run_create, run_show};
 use base::PoolError;
-use command_arguments::{CreateArguments, LoadArguments, Options, Order, Verbosity};
-use device_model::{FileRefusal, HeldFile, SectorDevice};
+use command_arguments::{CreateArguments, LoadArguments, Order, Verbosity};
+use device_model::{FileRefusal, SectorDevice};
 use std::alloc::Global;
 use std::io::{Eprint, Write};
-use std::os::unix::fs::FileExt;
-use std::rt::Files;
 use std::sync::Wait;
 use std::thread::Threads;
 
 const BRIEF: Verbosity = Verbosity::Quiet;
-
-const OPTIONS: Options = Options {
-    verbosity: BRIEF,
-    wait: 0,
-};
 
 // A refusal of the engine has status 1.
 fn a_refusal_has_status_1<E: Write>(errors: &mut E) -> u8
@@ -72,13 +66,13 @@ fn a_bad_range_names_no_call_of_the_device<D: NotesRefusals>(device: &D) -> Fail
 }
 
 // A file of less than 6 MiB can hold no pool.
-fn a_pool_in_a_small_file_has_status_1<R: Files + Wait, W: Write, E: Write>(
-    rt: &R,
-    out: &mut W,
-    errors: &mut E,
-) -> u8
-where
-    R::File: FileExt + HeldFile,
+fn a_pool_in_a_small_file_has_status_1<
+    D: SectorDevice + NotesRefusals + Drop,
+    F: FnOnce() -> Result<D, FileRefusal> + Drop,
+    W: Write,
+    E: Write,
+>(opener: F, out: &mut W, errors: &mut E) -> u8
+    requires { F.pre opener }
     ensures { result ≡ 1 }
 {
     let arguments = CreateArguments {
@@ -89,17 +83,18 @@ where
         only_new: false,
         moment: 0,
     };
-    run_create(rt, arguments, OPTIONS, out, errors)
+    let (status, _) = run_create(arguments, BRIEF, opener, out, errors);
+    status
 }
 
 // A name begins with a letter.
-fn a_pool_named_by_a_digit_has_status_1<R: Files + Wait, W: Write, E: Write>(
-    rt: &R,
-    out: &mut W,
-    errors: &mut E,
-) -> u8
-where
-    R::File: FileExt + HeldFile,
+fn a_pool_named_by_a_digit_has_status_1<
+    D: SectorDevice + NotesRefusals + Drop,
+    F: FnOnce() -> Result<D, FileRefusal> + Drop,
+    W: Write,
+    E: Write,
+>(opener: F, out: &mut W, errors: &mut E) -> u8
+    requires { F.pre opener }
     ensures { result ≡ 1 }
 {
     let arguments = CreateArguments {
@@ -110,17 +105,18 @@ where
         only_new: false,
         moment: 0,
     };
-    run_create(rt, arguments, OPTIONS, out, errors)
+    let (status, _) = run_create(arguments, BRIEF, opener, out, errors);
+    status
 }
 
 // The output had no bytes before.
-fn a_create_prints_the_name_and_the_blocks<R: Files + Wait, W: Write, E: Write>(
-    rt: &R,
-    out: &mut W,
-    errors: &mut E,
-) -> u8
-where
-    R::File: FileExt + HeldFile,
+fn a_create_prints_the_name_and_the_blocks<
+    D: SectorDevice + NotesRefusals + Drop,
+    F: FnOnce() -> Result<D, FileRefusal> + Drop,
+    W: Write,
+    E: Write,
+>(opener: F, out: &mut W, errors: &mut E) -> u8
+    requires { F.pre opener }
     ensures { result ≡ 0 → W.contents out.old ≡ Some []
         → W.contents out.new ≡ Some (codes "created tank 896 blocks\n") }
 {
@@ -132,7 +128,8 @@ where
         only_new: false,
         moment: 0,
     };
-    run_create(rt, arguments, OPTIONS, out, errors)
+    let (status, _) = run_create(arguments, BRIEF, opener, out, errors);
+    status
 }
 
 fn a_pool_that_is_not_opened_shows_status_3<

@@ -5,6 +5,7 @@ ghost use Rattle.base.specs.declared.error.PoolError as declared_error;
 ghost use Rattle.commands.specs.Failures.{IsFailureFor, failure_status, is_of_device};
 
 use crate::bad_number::BadNumber;
+use crate::closing::close;
 use crate::names::FileName;
 use base::PoolError;
 use command_arguments::Verbosity;
@@ -89,6 +90,17 @@ impl Failure {
         }
     }
 
+    /// The same, of a pool that was closed, if its device came back.
+    pub(crate) fn of_closed<D: NotesRefusals>(refusal: PoolError, device: &Option<D>) -> Failure
+        ensures status { failure_status result ≡ 1 }
+        ensures cause { IsFailureFor refusal result }
+    {
+        match device {
+            Some(device) => Failure::of_pool(refusal, device),
+            None => Failure::Refused(refusal),
+        }
+    }
+
     /// The failure of a command that a pool refused while it ran. The pool is closed.
     pub(crate) fn of_running<D: SectorDevice + NotesRefusals + Drop>(
         refusal: PoolError,
@@ -97,10 +109,7 @@ impl Failure {
         ensures status { failure_status result ≡ 1 }
         ensures cause { IsFailureFor refusal result }
     {
-        match pool.close() {
-            Some(state) => Failure::of_pool(refusal, &state.into_device()),
-            None => Failure::Refused(refusal),
-        }
+        Failure::of_closed(refusal, &close(pool))
     }
 }
 

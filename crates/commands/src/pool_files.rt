@@ -1,11 +1,11 @@
 //! The commands on a pool in a file: `create` makes one, `show` reports what an import would mount, and `ls` its
 //! objects.
 //!
-//! The size is tested first, then the name, and only then the file is opened. So the file is unchanged if either is
-//! refused: a file is opened for a `NewPool`, which only these tests make. `show` and `ls` only read.
+//! The size is tested first, then the name, and only then the device is opened. So the file is unchanged if either is
+//! refused: a device is opened for a `NewPool`, which only these tests make. `show` and `ls` only read.
 
 ghost use Rattle.std.specs.Io.KnownBytes.{Appends};
-ghost use Rattle.std.specs.Prelude.{◌≡◌, ◌≢◌, ◌≤◌, false, Err, IfErr, IfOk, IsErr, IsTrue, OnOk};
+ghost use Rattle.std.specs.Prelude.{◌≡◌, ◌≢◌, ◌≤◌, false, Err, IfErr, IfOk, IfSome, IsErr, IsSome, IsTrue, OnOk};
 ghost use Rattle.base.specs.disk.Disk.{bytes_of};
 ghost use Rattle.base.specs.formats.Geometry.{block_count, is_geometry};
 ghost use Rattle.base.specs.formats.Names.{is_name};
@@ -13,85 +13,97 @@ ghost use Rattle.import_replay.specs.CreateRefusals.{CanCreate};
 ghost use Rattle.import_replay.specs.Inspections.{AgreesWithImports, IsInspectionOf};
 ghost use Rattle.commands.specs.Checks.{StaysOpened};
 ghost use Rattle.commands.specs.Failures.{IsNewPoolRefusal, failure_status, sector_bytes};
+ghost use Rattle.commands.specs.NewPools.{CreatesOn, CreatesOpened};
 ghost use Rattle.commands.specs.PoolLines.{WritesInspected, created_line, listed_lines, number_lines, object_lines, shown_lines};
 
 use crate::bad_number::BadNumber;
 use crate::failure::{Failure, NotesRefusals, report_failure, report_refusal};
 use crate::names::Quoted;
-use crate::waiting::NewFile;
 use base::{MAX_NAME, ObjectId, PoolError, PoolName};
-use command_arguments::{CreateArguments, Options, Verbosity};
-use device_model::{FileRefusal, HeldFile, SectorDevice};
+use command_arguments::{CreateArguments, Verbosity};
+use device_model::{FileRefusal, SectorDevice};
 use import_replay::{Inspected, create, inspect};
 use labels::{Geometry, SECTOR_SIZE};
 use std::alloc::Global;
 use std::fmt;
 use std::io::{self, Write};
-use std::os::unix::fs::FileExt;
-use std::rt::Files;
-use std::sync::Wait;
 
-/// Makes a pool in a file, writes a line with its name and the number of its blocks to `out`, and returns the exit
-/// status.
+/// Makes a pool on the device that `opener` opens, writes a line with its name and the number of its blocks to `out`, and
+/// returns the exit status and the device.
 ///
-/// The status is 0 if the pool was made. It is 1 if the engine refused it; then nothing is written. It is 3 if the file
-/// can't be used or `out` can't be written. A failure is reported on `errors`. A file can't be used if it isn't a
-/// regular file, can't be opened, made or resized, is open as a pool in this or another process after the seconds of
-/// the options, or exists though only a new one will do.
-pub fn run_create<R: Files + Wait, W: Write, E: Write>(
-    rt: &R,
+/// The status is 0 if the pool was made. It is 1 if the engine refused it; then nothing is written. It is 3 if the
+/// device was not opened or `out` can't be written. If only the line was not written, the pool was made even so. A
+/// failure is reported on `errors`. `opener` is called after the size and the name were tested; `NewFile::create_within`
+/// opens a file.
+pub fn run_create<
+    D: SectorDevice + NotesRefusals + Drop,
+    F: FnOnce() -> Result<D, FileRefusal> + Drop,
+    W: Write,
+    E: Write,
+>(
     arguments: CreateArguments<'_>,
-    options: Options,
+    verbosity: Verbosity,
+    opener: F,
     out: &mut W,
     errors: &mut E,
-) -> u8
-where
-    R::File: FileExt + HeldFile,
-    ensures size { is_geometry (sector_bytes arguments.entry.size) ≡ false → result ≡ 1 }
-    ensures name { is_name arguments.entry.name.now ≡ false → result ≡ 1 }
-    ensures created { result ≡ 0 → Appends (W.contents out.old) (W.contents out.new)
+) -> (u8, Option<D>)
+    requires { F.pre opener }
+    ensures size { is_geometry (sector_bytes arguments.entry.size) ≡ false → result.0 ≡ 1 }
+    ensures name { is_name arguments.entry.name.now ≡ false → result.0 ≡ 1 }
+    ensures created { result.0 ≡ 0 → Appends (W.contents out.old) (W.contents out.new)
         (created_line arguments.entry.name.now (block_count (sector_bytes arguments.entry.size))) }
-    ensures unprinted { result ≡ 1 → W.contents out.new ≡ W.contents out.old }
-    ensures range { result ≤ 3 }
-    ensures no_usage { result ≢ 2 }
+    ensures made { result.0 ≢ 1 → IfSome result.1 (CreatesOpened D.SectorDevice (F.post opener)
+        arguments.entry.name.now arguments.entry.guid arguments.entry.moment) }
+    ensures kept { result.0 ≡ 0 → IsSome result.1 }
+    ensures unprinted { result.0 ≡ 1 → W.contents out.new ≡ W.contents out.old }
+    ensures range { result.0 ≤ 3 }
+    ensures no_usage { result.0 ≢ 2 }
 {
     let pool = match NewPool::new(arguments) {
         Ok(pool) => pool,
         Err(refusal) => {
             let cause = RefusedPool { refusal, arguments };
-            return report_refusal(refusal, &cause, options.verbosity, errors);
+            return (report_refusal(refusal, &cause, verbosity, errors), None);
         }
     };
-    match create_pool(rt, &pool, arguments.name, options.wait, out) {
-        Ok(()) => 0,
-        Err(failure) => report_failure(failure, arguments.file, options.verbosity, errors),
+    match create_pool(&pool, arguments.name, opener, out) {
+        Ok(device) => (0, Some(device)),
+        Err((failure, device)) => {
+            let status = report_failure(failure, arguments.file, verbosity, errors);
+            (status, device)
+        }
     }
 }
 
-// Makes a pool, and writes this name of it with the number of its blocks.
-fn create_pool<R: Files + Wait, W: Write>(
-    rt: &R,
-    pool: &NewPool<'_>,
-    name: &str,
-    wait: u32,
-    out: &mut W,
-) -> Result<(), Failure>
-where
-    R::File: FileExt + HeldFile,
+// Opens a device, makes a pool on it, and writes this name of it with the number of its blocks.
+fn create_pool<
+    D: SectorDevice + NotesRefusals + Drop,
+    F: FnOnce() -> Result<D, FileRefusal> + Drop,
+    W: Write,
+>(pool: &NewPool, name: &str, opener: F, out: &mut W) -> Result<D, (Failure, Option<D>)>
+    requires { F.pre opener }
     ensures created { OnOk result (Appends (W.contents out.old) (W.contents out.new)
         (created_line name.now (block_count pool.now.geometry))) }
-    ensures unprinted { IfErr result (λ failure. failure_status failure ≡ 1
+    ensures made { IfOk result (CreatesOpened D.SectorDevice (F.post opener) pool.now.name
+        pool.now.guid pool.now.moment) }
+    ensures made_unwritten { IfErr result (λ e. failure_status e.0 ≢ 1 → IfSome e.1
+        (CreatesOpened D.SectorDevice (F.post opener) pool.now.name pool.now.guid
+        pool.now.moment)) }
+    ensures unprinted { IfErr result (λ e. failure_status e.0 ≡ 1
         → W.contents out.new ≡ W.contents out.old) }
 {
-    let device = pool
-        .file
-        .create_within(rt, wait)
-        .map_err(Failure::Unusable)?;
-    pool.make(device)?;
+    let device = match opener() {
+        Ok(device) => device,
+        Err(cause) => return Err((Failure::Unusable(cause), None)),
+    };
+    let device = match pool.make(device) {
+        Ok(device) => device,
+        Err((failure, device)) => return Err((failure, Some(device))),
+    };
     let blocks = pool.geometry.blocks();
     match writeln!(out, "created {name} {blocks} blocks") {
-        Ok(()) => Ok(()),
-        Err(_) => Err(Failure::Unwritten),
+        Ok(()) => Ok(device),
+        Err(_) => Err((Failure::Unwritten, Some(device))),
     }
 }
 
@@ -118,22 +130,22 @@ impl fmt::Display for RefusedPool<'_> {
 
 // A pool that is to be made, whose size and name were tested.
 #[derive(Drop)]
-struct NewPool<'a> {
-    // its size may end with a part of a sector
-    file: NewFile<'a>,
+struct NewPool {
     geometry: Geometry,
     name: PoolName,
     guid: u64,
     moment: u64,
 }
 
-impl<'a> NewPool<'a> {
+impl NewPool {
     // The size is tested first, then the name.
-    fn new(arguments: CreateArguments<'a>) -> Result<Self, PoolError>
+    fn new(arguments: CreateArguments<'_>) -> Result<Self, PoolError>
         ensures tested { OnOk result
             (CanCreate (sector_bytes arguments.entry.size) arguments.entry.name.now) }
         ensures geometry { IfOk result
             (λ pool. pool.geometry ≡ sector_bytes arguments.entry.size) }
+        ensures given { IfOk result (λ pool. (pool.name ≡ arguments.entry.name.now)
+            × (pool.guid ≡ arguments.entry.guid) × (pool.moment ≡ arguments.entry.moment)) }
         ensures refused { IfErr result
             (IsNewPoolRefusal arguments.entry.size arguments.entry.name.now) }
     {
@@ -142,11 +154,6 @@ impl<'a> NewPool<'a> {
             return Err(PoolError::BadRange);
         };
         Ok(NewPool {
-            file: NewFile {
-                path: arguments.file,
-                size: arguments.size,
-                only_new: arguments.only_new,
-            },
             geometry,
             name,
             guid: arguments.guid,
@@ -154,11 +161,15 @@ impl<'a> NewPool<'a> {
         })
     }
 
-    // Makes the pool on the file's device.
-    fn make<D: SectorDevice + NotesRefusals + Drop>(&self, device: D) -> Result<(), Failure> {
+    // Makes the pool on a device.
+    fn make<D: SectorDevice + NotesRefusals + Drop>(&self, device: D) -> Result<D, (Failure, D)>
+        ensures made { IfOk result (CreatesOn D.SectorDevice self.now.name self.now.guid
+            self.now.moment device) }
+        ensures refused { IfErr result (λ e. failure_status e.0 ≡ 1) }
+    {
         match create(device, self.name.as_slice(), self.guid, self.moment) {
-            Ok(_device) => Ok(()),
-            Err((refusal, device)) => Err(Failure::of_pool(refusal, &device)),
+            Ok(device) => Ok(device),
+            Err((refusal, device)) => Err((Failure::of_pool(refusal, &device), device)),
         }
     }
 }

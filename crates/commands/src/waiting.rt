@@ -46,9 +46,12 @@ where
 
 /// What a file for a new pool is made from.
 #[derive(Clone, Copy)]
-pub(crate) struct NewFile<'a> {
+pub struct NewFile<'a> {
+    /// The file's path.
     pub path: &'a str,
+    /// The bytes of the file. They may end with a part of a sector.
     pub size: u64,
+    /// Whether a file that exists already is refused.
     pub only_new: bool,
 }
 

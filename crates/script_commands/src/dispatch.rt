@@ -8,10 +8,10 @@ use command_arguments::{
     Terminals,
 };
 use commands::{
-    open_within, read_input, report_terminal, run_bench, run_check, run_check_all, run_create,
-    run_get, run_json_check, run_json_check_all, run_json_labels, run_json_list, run_json_show,
-    run_labels, run_list, run_load, run_long_list, run_put, run_remove, run_serve, run_show,
-    run_space,
+    NewFile, open_within, read_input, report_terminal, run_bench, run_check, run_check_all,
+    run_create, run_get, run_json_check, run_json_check_all, run_json_labels, run_json_list,
+    run_json_show, run_labels, run_list, run_load, run_long_list, run_put, run_remove, run_serve,
+    run_show, run_space,
 };
 use device_model::{Access, HeldFile};
 use std::io::{self, Eprint, Write};
@@ -35,7 +35,15 @@ where
     let Options { verbosity, wait } = options;
     match arguments {
         Arguments::Create(arguments) => {
-            run_create(rt, arguments, options, &mut io::writer(rt), errors)
+            let file = NewFile {
+                path: arguments.file,
+                size: arguments.size,
+                only_new: arguments.only_new,
+            };
+            let open = move || file.create_within(rt, wait);
+            let mut out = io::writer(rt);
+            let (status, _) = run_create(arguments, verbosity, open, &mut out, errors);
+            status
         }
         Arguments::Script(arguments) => run_named_script(rt, arguments, options, errors),
         Arguments::Load(arguments) => run_load(
@@ -73,21 +81,20 @@ where
             let input = read_input(rt.alloc(), rt.reader());
             let opened = open_within(rt, arguments.file, Access::Write, wait);
             let mut out = io::writer(rt);
-            run_put(rt, arguments, verbosity, input, opened, &mut out, errors)
+            let (status, _) = run_put(rt, arguments, verbosity, input, opened, &mut out, errors);
+            status
         }
-        Arguments::Remove(arguments) => run_remove(
-            rt,
-            arguments,
-            verbosity,
-            open_within(rt, arguments.file, Access::Write, wait),
-            &mut io::writer(rt),
-            errors,
-        ),
+        Arguments::Remove(arguments) => {
+            let opened = open_within(rt, arguments.file, Access::Write, wait);
+            let mut out = io::writer(rt);
+            let (status, _) = run_remove(rt, arguments, verbosity, opened, &mut out, errors);
+            status
+        }
         Arguments::Serve(_) if terminals.output => report_terminal(errors),
         Arguments::Serve(arguments) => {
             let opened = open_within(rt, arguments.file, Access::Write, wait);
             let (input, out) = (rt.reader(), io::writer(rt));
-            let (status, _) = run_serve(rt, arguments, verbosity, opened, input, out, errors);
+            let (status, _, _) = run_serve(rt, arguments, verbosity, opened, input, out, errors);
             status
         }
         Arguments::Bench(arguments) => {

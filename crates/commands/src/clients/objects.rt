@@ -169,7 +169,8 @@ fn a_put_of_two_bytes_is_one_durable_entry<
         ⊎ (e.ops ≡ SetLength (record { 0 = 7 }) 0 ∷ Write (record { 0 = 7 }) 0 (1 ∷ 2 ∷ []) ∷ []))
         × IsKnownDurable ordinal e.group after) }
 {
-    run_put(rt, ALL_OF_7, BRIEF, Ok(input), Ok(device), out, errors)
+    let (status, _) = run_put(rt, ALL_OF_7, BRIEF, Ok(input), Ok(device), out, errors);
+    status
 }
 
 // Where object 7 has three bytes, the one entry writes over the second alone.
@@ -194,7 +195,8 @@ fn a_byte_that_is_put_at_an_offset_leaves_the_others<
         offset: Some(1),
         moment: 0,
     };
-    run_put(rt, arguments, BRIEF, Ok(input), Ok(device), out, errors)
+    let (status, _) = run_put(rt, arguments, BRIEF, Ok(input), Ok(device), out, errors);
+    status
 }
 
 // The output had no bytes before.
@@ -208,7 +210,8 @@ fn a_put_prints_how_many_bytes_it_committed<
     ensures { result ≡ 0 → W.contents out.old ≡ Some []
         → W.contents out.new ≡ Some (codes "put 2 bytes in 1 transactions\n") }
 {
-    run_put(rt, ALL_OF_7, BRIEF, Ok(input), Ok(device), out, errors)
+    let (status, _) = run_put(rt, ALL_OF_7, BRIEF, Ok(input), Ok(device), out, errors);
+    status
 }
 
 // Object 7 is removed in one entry that was not there before and that no crash loses.
@@ -225,7 +228,8 @@ fn a_removed_object_is_one_durable_entry<
         × (e.ops ≡ Remove (record { 0 = 7 }) ∷ [])
         × IsKnownDurable ordinal e.group after) }
 {
-    run_remove(rt, OBJECT_7, BRIEF, Ok(device), out, errors)
+    let (status, _) = run_remove(rt, OBJECT_7, BRIEF, Ok(device), out, errors);
+    status
 }
 
 // There is no object 5,292.
@@ -243,7 +247,8 @@ fn no_bytes_are_put_into_the_object_after_the_last<
         offset: None,
         moment: 0,
     };
-    run_put(rt, arguments, BRIEF, Ok(input), Ok(device), out, errors)
+    let (status, _) = run_put(rt, arguments, BRIEF, Ok(input), Ok(device), out, errors);
+    status
 }
 
 fn an_input_that_is_not_read_is_put_with_status_3<
@@ -255,7 +260,8 @@ fn an_input_that_is_not_read_is_put_with_status_3<
     ensures { result ≡ 3 }
 {
     let input = Err(io::Error::from(ErrorKind::NotFound));
-    run_put(rt, ALL_OF_7, BRIEF, input, opened, out, errors)
+    let (status, _) = run_put(rt, ALL_OF_7, BRIEF, input, opened, out, errors);
+    status
 }
 
 fn an_object_of_a_pool_that_is_not_opened_is_removed_with_status_3<
@@ -267,5 +273,6 @@ fn an_object_of_a_pool_that_is_not_opened_is_removed_with_status_3<
     ensures { result ≡ 3 }
 {
     let opened: Result<D, FileRefusal> = Err(FileRefusal::InUse);
-    run_remove(rt, OBJECT_7, BRIEF, opened, out, errors)
+    let (status, _) = run_remove(rt, OBJECT_7, BRIEF, opened, out, errors);
+    status
 }

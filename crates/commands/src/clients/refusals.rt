@@ -44,7 +44,8 @@ fn a_put_of_status_3_is_one_durable_entry<
         ⊎ (e.ops ≡ SetLength (record { 0 = 7 }) 0 ∷ Write (record { 0 = 7 }) 0 (1 ∷ 2 ∷ []) ∷ []))
         × IsKnownDurable ordinal e.group after) }
 {
-    run_put(rt, ALL_OF_7, BRIEF, Ok(input), Ok(device), out, errors)
+    let (status, _) = run_put(rt, ALL_OF_7, BRIEF, Ok(input), Ok(device), out, errors);
+    status
 }
 
 // Only the line was not written: object 7 is removed in one such entry.
@@ -61,7 +62,8 @@ fn a_removal_of_status_3_is_one_durable_entry<
         × (e.ops ≡ Remove (record { 0 = 7 }) ∷ [])
         × IsKnownDurable ordinal e.group after) }
 {
-    run_remove(rt, OBJECT_7, BRIEF, Ok(device), out, errors)
+    let (status, _) = run_remove(rt, OBJECT_7, BRIEF, Ok(device), out, errors);
+    status
 }
 
 // The import was refused, for what the device is or for a call of it, and the device still holds what was left on it.
@@ -89,7 +91,8 @@ fn a_put_of_status_1_was_refused_by_the_engine<
         ⊎ ((s : status.Status) × Makes step.Status (reply.Status s) looked done
         × (s.available < 4) × (e ≡ NoSpace))))))) }
 {
-    run_put(rt, ALL_OF_7, BRIEF, Ok(input), Ok(device), out, errors)
+    let (status, _) = run_put(rt, ALL_OF_7, BRIEF, Ok(input), Ok(device), out, errors);
+    status
 }
 
 // The import was refused so. Or a handle of the opened pool was refused the one transaction, or the sync after it.
@@ -110,5 +113,6 @@ fn a_removal_of_status_1_was_refused_by_the_engine<
         × TransactsOrLacks (record { 0 = 0 }) (Remove (record { 0 = 7 }) ∷ []) (Ok r) first done
         × SyncsPool (Err e) done last)))) }
 {
-    run_remove(rt, OBJECT_7, BRIEF, Ok(device), out, errors)
+    let (status, _) = run_remove(rt, OBJECT_7, BRIEF, Ok(device), out, errors);
+    status
 }

@@ -21,7 +21,7 @@ use std::sync::Wait;
 use std::thread::Threads;
 
 // A mebibyte of unsynced transactions, and a mebibyte of tree blocks.
-const LIMITED: ServeArguments<'static> = ServeArguments {
+pub(super) const LIMITED: ServeArguments<'static> = ServeArguments {
     file: "tank.pool",
     dirty_max: 1_048_576,
     cache_blocks: 256,
@@ -42,7 +42,7 @@ fn a_serve_of_status_0_answered_all_of_its_input<
     input: &'a [u8],
     output: Vec<u8>,
     errors: &mut E,
-) -> (u8, Option<(&'a [u8], Vec<u8>)>)
+) -> (u8, Option<(&'a [u8], Vec<u8>)>, Option<D>)
     ensures { result.0 ≡ 0 → (p : pools.Pool _ D.SectorDevice)
         × OpensBehind (IsTrue D.keeps_model) (D.disk device) 1048576 (opening_view (shared_of p))
         × (moment_in (shared_of p) ≡ 9) × (exchanges : List Exchange)
@@ -67,7 +67,7 @@ fn a_file_that_cannot_be_used_is_told_by_a_frame<
     input: &'a [u8],
     output: Vec<u8>,
     errors: &mut E,
-) -> (u8, Option<(&'a [u8], Vec<u8>)>)
+) -> (u8, Option<(&'a [u8], Vec<u8>)>, Option<MemDevice>)
     ensures { IfSome result.1 (λ kept. (kept.0.now ≡ input.now)
         × (system_error : ℕ) × (words : List ℕ) × (front : List ℕ)
         × (kept.1.items ≡ output.items ++ front)

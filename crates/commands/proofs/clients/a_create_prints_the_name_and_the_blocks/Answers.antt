@@ -2,4 +2,4 @@ use Rattle.commands.proofs.PoolLines.{tank_created}
 use Rattle.commands.proofs.clients.a_create_prints_the_name_and_the_blocks.Goals as goal
 
 pub returns : goal.returns
-returns g c = λ zero empty. tank_created _ _ empty (c.run_create.ensures.created zero)
+returns g c = λ zero empty. tank_created _ _ empty (c.run_create-status.ensures.created zero)
