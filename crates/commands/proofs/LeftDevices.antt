@@ -1,6 +1,6 @@
 -- What a run leaves on the device of a pool that was closed: its past goes on from what its handle had seen, and what
 -- was durable there is acknowledged.
-use Rattle.std.proofs.Common.{◌≡◌, ◌≢◌, ◌≤◌, ◌∷◌, [], ℕ, zero, suc, List, Ok, Err, ap, arith, false, inl, inr, length, refl, subst, sym, true, ◌∙◌}
+use Rattle.std.proofs.Common.{◌≡◌, ◌≢◌, ◌≤◌, ◌||◌, ◌∷◌, [], ℕ, zero, suc, List, Ok, Err, ap, arith, false, inl, inr, length, refl, subst, sym, true, ◌∙◌}
 use Rattle.std.specs.Prelude.{Bool, IfOk, IfSome, IsTrue, None, Option, Result, Some, slice_get}
 use Rattle.std.proofs.Math.Logic.{∥∥₁_elim, ∥∥₁_map, ∥∥₁_prop}
 use Rattle.std.proofs.lemmas.Bool.{le-leb}
@@ -9,6 +9,7 @@ use Rattle.base.specs.declared.error.PoolError.TheVariants.{NoSpace}
 use Rattle.base.specs.declared.names.Group.{Group}
 use Rattle.base.specs.declared.names.ObjectId.{ObjectId}
 use Rattle.base.specs.declared.operation.Op.{Op}
+use Rattle.base.specs.declared.operation.Op.TheVariants.{Remove}
 use Rattle.base.specs.disk.Disk.{Disk}
 use Rattle.base.specs.history.Contents.{Contents}
 use Rattle.base.specs.history.History.{Entry}
@@ -181,7 +182,7 @@ module _ {Dev : Type 0} {G : Ghosts Dev} where
     along_if_made (Err e) result old new (is, same) = along_same old new same
 
     along_removes : (p : Shared Dev G) (result : Result (Unit {0}) PoolError) (r : RemovesFrom p n result) → GoesAlong r.first r.last
-    along_removes p result r = along_on r.first r.done r.last (along_first _ r.count r.made r.first r.done r.makes) (along_if_made r.made result r.done r.last r.syncs)
+    along_removes p result r = along_on r.first r.done r.last (along_first ((Remove n ∷ []) ∷ []) r.count r.made r.first r.done r.makes) (along_if_made r.made result r.done r.last r.syncs)
 
     pub removal_was_of : (p : Shared Dev G) (result : Result (Unit {0}) PoolError) (l : LastSeen Dev G) → RemovesAndLeaves p n result l → WasOf p l
     removal_was_of p result l (r, behind) = was_of p r.first r.last l r.is_new (along_removes p result r) behind
