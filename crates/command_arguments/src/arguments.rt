@@ -58,6 +58,12 @@ pub enum Arguments<'a> {
     Put(PutArguments<'a>),
     /// `ztxg rm`.
     Remove(RemoveArguments<'a>),
+    /// `ztxg get` of an object by its name.
+    GetNamed(GetNamedArguments<'a>),
+    /// `ztxg put` of an object by its name.
+    PutNamed(PutNamedArguments<'a>),
+    /// `ztxg rm` of an object by its name.
+    RemoveNamed(RemoveNamedArguments<'a>),
     /// `ztxg serve`.
     Serve(ServeArguments<'a>),
     /// `ztxg bench`.
@@ -164,6 +170,43 @@ pub struct RemoveArguments<'a> {
     pub file: &'a str,
     /// The object's number.
     pub object: u32,
+    /// The moment, in seconds, of each uberblock that the run writes.
+    pub moment: u64,
+}
+
+/// The arguments of `ztxg get FILE @NAME`.
+#[derive(Clone, Copy, Debug, PartialEq, Eq)]
+pub struct GetNamedArguments<'a> {
+    /// The path of the pool's file.
+    pub file: &'a str,
+    /// The object's name.
+    pub name: &'a str,
+    /// The first byte that is read.
+    pub offset: u64,
+    /// The most bytes that are read, if it isn't all of them.
+    pub length: Option<u64>,
+}
+
+/// The arguments of `ztxg put FILE @NAME`.
+#[derive(Clone, Copy, Debug, PartialEq, Eq)]
+pub struct PutNamedArguments<'a> {
+    /// The path of the pool's file.
+    pub file: &'a str,
+    /// The object's name.
+    pub name: &'a str,
+    /// Where the bytes go in the object, if they don't replace all of it.
+    pub offset: Option<u64>,
+    /// The moment, in seconds, of each uberblock that the run writes.
+    pub moment: u64,
+}
+
+/// The arguments of `ztxg rm FILE @NAME`.
+#[derive(Clone, Copy, Debug, PartialEq, Eq)]
+pub struct RemoveNamedArguments<'a> {
+    /// The path of the pool's file.
+    pub file: &'a str,
+    /// The object's name.
+    pub name: &'a str,
     /// The moment, in seconds, of each uberblock that the run writes.
     pub moment: u64,
 }

@@ -9,9 +9,9 @@ mod reports;
 mod sizes;
 
 pub use arguments::{
-    Arguments, BenchArguments, CheckArguments, CreateArguments, GetArguments, LoadArguments,
-    Options, PutArguments, RemoveArguments, ScriptArguments, ScriptDevice, ServeArguments,
-    Terminals, Verbosity,
+    Arguments, BenchArguments, CheckArguments, CreateArguments, GetArguments, GetNamedArguments,
+    LoadArguments, Options, PutArguments, PutNamedArguments, RemoveArguments, RemoveNamedArguments,
+    ScriptArguments, ScriptDevice, ServeArguments, Terminals, Verbosity,
 };
 pub use bench::{BenchOrder, MAX_BENCH_BYTES, MAX_BENCH_SECONDS, MAX_BENCH_WORKERS};
 pub use order::{MAX_WORKERS, MAX_WRITES, Order, STREAMS};

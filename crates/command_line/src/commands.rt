@@ -5,7 +5,7 @@
 
 use crate::help;
 use crate::words::{
-    BENCH_DIRTY_LIMIT, LOADED_DIRTY_LIMIT, SERVED_DIRTY_LIMIT, SIZE_HELP, cache_blocks,
+    BENCH_DIRTY_LIMIT, LOADED_DIRTY_LIMIT, ObjectWord, SERVED_DIRTY_LIMIT, SIZE_HELP, cache_blocks,
     dirty_limit, flag, json, moment, number, number_option, object, option, read_file, size_option,
     word, written_file,
 };
@@ -50,16 +50,20 @@ pub(crate) const COMMANDS: [CommandName; 12] = [
 
 impl CommandName {
     /// The command with its words and its help.
-    pub fn command<'a>(self, alloc: Global) -> Result<Command<'a>, AllocError> {
+    pub fn command<'a>(
+        self,
+        alloc: Global,
+        object_is: ObjectWord,
+    ) -> Result<Command<'a>, AllocError> {
         match self {
             CommandName::Create => create_command(alloc),
             CommandName::Show => show_command(alloc),
             CommandName::Check => check_command(alloc),
             CommandName::List => list_command(alloc),
             CommandName::Space => space_command(alloc),
-            CommandName::Get => get_command(alloc),
-            CommandName::Put => put_command(alloc),
-            CommandName::Remove => remove_command(alloc),
+            CommandName::Get => get_command(alloc, object_is),
+            CommandName::Put => put_command(alloc, object_is),
+            CommandName::Remove => remove_command(alloc, object_is),
             CommandName::Labels => labels_command(alloc),
             CommandName::Load => load_command(alloc),
             CommandName::Serve => serve_command(alloc),
@@ -154,10 +158,10 @@ fn space_command<'a>(alloc: Global) -> Result<Command<'a>, AllocError> {
         .args(words)
 }
 
-fn get_command<'a>(alloc: Global) -> Result<Command<'a>, AllocError> {
+fn get_command<'a>(alloc: Global, object_is: ObjectWord) -> Result<Command<'a>, AllocError> {
     let words = vec![in alloc;
         read_file(alloc),
-        object(alloc),
+        object(alloc, object_is),
         size_option(alloc, "offset", "O", "The first byte, as 4096 or 4K").default_value("0"),
         size_option(
             alloc,
@@ -170,10 +174,10 @@ fn get_command<'a>(alloc: Global) -> Result<Command<'a>, AllocError> {
     described(alloc, "get", about, help::GET).args(words)
 }
 
-fn put_command<'a>(alloc: Global) -> Result<Command<'a>, AllocError> {
+fn put_command<'a>(alloc: Global, object_is: ObjectWord) -> Result<Command<'a>, AllocError> {
     let words = vec![in alloc;
         written_file(alloc),
-        object(alloc),
+        object(alloc, object_is),
         size_option(
             alloc,
             "offset",
@@ -186,8 +190,12 @@ fn put_command<'a>(alloc: Global) -> Result<Command<'a>, AllocError> {
     described(alloc, "put", about, help::PUT).args(words)
 }
 
-fn remove_command<'a>(alloc: Global) -> Result<Command<'a>, AllocError> {
-    let words = vec![in alloc; written_file(alloc), object(alloc), moment(alloc)]?;
+fn remove_command<'a>(alloc: Global, object_is: ObjectWord) -> Result<Command<'a>, AllocError> {
+    let words = vec![in alloc;
+        written_file(alloc),
+        object(alloc, object_is),
+        moment(alloc),
+    ]?;
     described(alloc, "rm", "Removes an object", help::REMOVE).args(words)
 }
 

@@ -2,7 +2,8 @@
 
 use crate::commands::COMMANDS;
 use crate::help;
-use crate::words::{flag, option};
+use crate::read::is_by_name;
+use crate::words::{ObjectWord, flag, option};
 use clap::{Arg, ArgMatches, Command, Error, value_parser};
 use std::alloc::{AllocError, Global};
 
@@ -11,13 +12,37 @@ use std::alloc::{AllocError, Global};
 /// # Errors
 /// A fault of the command line, or the help or the version, with the text to print and the exit status.
 pub fn parse_arguments<'a>(alloc: Global, words: &'a [String]) -> Result<ArgMatches<'a>, Error> {
-    program(alloc)?.try_get_matches_from(words)
+    matched(alloc, object_word(alloc, words), words)
 }
 
-fn program<'a>(alloc: Global) -> Result<Command<'a>, AllocError> {
+// An object's name is any text. A word that isn't one is matched as a number, for the texts of its faults.
+fn object_word(alloc: Global, words: &[String]) -> ObjectWord {
+    match matched(alloc, ObjectWord::Text, words) {
+        Ok(matches) => word_in(&matches),
+        Err(_) => ObjectWord::Number,
+    }
+}
+
+fn word_in(matches: &ArgMatches<'_>) -> ObjectWord {
+    if is_by_name(matches) {
+        ObjectWord::Text
+    } else {
+        ObjectWord::Number
+    }
+}
+
+fn matched<'a>(
+    alloc: Global,
+    object_is: ObjectWord,
+    words: &'a [String],
+) -> Result<ArgMatches<'a>, Error> {
+    program(alloc, object_is)?.try_get_matches_from(words)
+}
+
+fn program<'a>(alloc: Global, object_is: ObjectWord) -> Result<Command<'a>, AllocError> {
     let mut program = with_options(alloc, described_program(alloc))?;
     for name in COMMANDS {
-        program = program.subcommand(name.command(alloc)?)?;
+        program = program.subcommand(name.command(alloc, object_is)?)?;
     }
     Ok(program)
 }

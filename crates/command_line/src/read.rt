@@ -4,9 +4,9 @@ use crate::sizes::size;
 use clap::ArgMatches;
 use command_arguments::{
     Arguments, BenchArguments, BenchOrder, CheckArguments, CreateArguments, GetArguments,
-    ListArguments, ListForm, LoadArguments, Options, Order, PutArguments, RemoveArguments,
-    ReportArguments, ReportForm, ScriptArguments, ScriptDevice, ServeArguments, SpaceArguments,
-    SpaceUnit, Verbosity,
+    GetNamedArguments, ListArguments, ListForm, LoadArguments, Options, Order, PutArguments,
+    PutNamedArguments, RemoveArguments, RemoveNamedArguments, ReportArguments, ReportForm,
+    ScriptArguments, ScriptDevice, ServeArguments, SpaceArguments, SpaceUnit, Verbosity,
 };
 
 /// The arguments of the command that was named.
@@ -20,8 +20,11 @@ pub fn read_arguments<'a>(matches: &ArgMatches<'a>) -> Option<Arguments<'a>> {
         "ls" => Some(Arguments::List(read_list(given)?)),
         "df" => Some(Arguments::Space(read_space(given)?)),
         "labels" => Some(Arguments::Labels(read_report(given)?)),
+        "get" if has_name(given) => Some(Arguments::GetNamed(read_get_named(given)?)),
         "get" => Some(Arguments::Get(read_get(given)?)),
+        "put" if has_name(given) => Some(Arguments::PutNamed(read_put_named(given)?)),
         "put" => Some(Arguments::Put(read_put(given)?)),
+        "rm" if has_name(given) => Some(Arguments::RemoveNamed(read_remove_named(given)?)),
         "rm" => Some(Arguments::Remove(read_remove(given)?)),
         "load" => Some(Arguments::Load(read_load(given)?)),
         "serve" => Some(Arguments::Serve(read_serve(given)?)),
@@ -111,6 +114,32 @@ fn read_remove<'a>(given: &ArgMatches<'a>) -> Option<RemoveArguments<'a>> {
     })
 }
 
+fn read_get_named<'a>(given: &ArgMatches<'a>) -> Option<GetNamedArguments<'a>> {
+    Some(GetNamedArguments {
+        file: text(given, "FILE")?,
+        name: object_name(given)?,
+        offset: size(given, "offset")?,
+        length: size(given, "length"),
+    })
+}
+
+fn read_put_named<'a>(given: &ArgMatches<'a>) -> Option<PutNamedArguments<'a>> {
+    Some(PutNamedArguments {
+        file: text(given, "FILE")?,
+        name: object_name(given)?,
+        offset: size(given, "offset"),
+        moment: number(given, "moment")?,
+    })
+}
+
+fn read_remove_named<'a>(given: &ArgMatches<'a>) -> Option<RemoveNamedArguments<'a>> {
+    Some(RemoveNamedArguments {
+        file: text(given, "FILE")?,
+        name: object_name(given)?,
+        moment: number(given, "moment")?,
+    })
+}
+
 fn read_check<'a>(given: &ArgMatches<'a>) -> Option<CheckArguments<'a>> {
     Some(CheckArguments {
         file: text(given, "FILE")?,
@@ -185,6 +214,23 @@ fn read_bench<'a>(given: &ArgMatches<'a>) -> Option<BenchArguments<'a>> {
         },
         dirty_max: size(given, "dirty")?,
     })
+}
+
+/// Whether the command that was named is on an object by its name.
+pub(crate) fn is_by_name(matches: &ArgMatches<'_>) -> bool {
+    match matches.subcommand() {
+        Some(("get" | "put" | "rm", given)) => has_name(given),
+        _ => false,
+    }
+}
+
+fn has_name(given: &ArgMatches<'_>) -> bool {
+    object_name(given).is_some()
+}
+
+// The name of an object, which stands after an `@`.
+fn object_name<'a>(given: &ArgMatches<'a>) -> Option<&'a str> {
+    text(given, "OBJECT")?.strip_prefix('@')
 }
 
 fn text<'a>(given: &ArgMatches<'a>, name: &str) -> Option<&'a str> {

@@ -77,9 +77,26 @@ pub(crate) fn written_file<'a>(alloc: Global) -> Arg<'a> {
     )
 }
 
+/// What the word of an object may be.
+#[derive(Clone, Copy)]
+pub(crate) enum ObjectWord {
+    /// A number.
+    Number,
+    /// Any text.
+    Text,
+}
+
 /// The object that the command is about.
-pub(crate) fn object<'a>(alloc: Global) -> Arg<'a> {
-    word(alloc, "OBJECT", "The object's number: 0 to 5291").value_parser(value_parser!(u32))
+pub(crate) fn object<'a>(alloc: Global, word_is: ObjectWord) -> Arg<'a> {
+    let object = word(
+        alloc,
+        "OBJECT",
+        "The object's number, 0 to 5291; or its name, after an @",
+    );
+    match word_is {
+        ObjectWord::Number => object.value_parser(value_parser!(u32)),
+        ObjectWord::Text => object,
+    }
 }
 
 /// The moment of a command that writes uberblocks.

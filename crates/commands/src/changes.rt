@@ -32,10 +32,10 @@ use std::io::{self, Read, Write};
 use std::sync::Wait;
 
 /// The command has one owner.
-const OWNER: Owner = Owner(0);
+pub(crate) const OWNER: Owner = Owner(0);
 
 /// What is printed of standard input as a file.
-const STANDARD_INPUT: &str = "-";
+pub(crate) const STANDARD_INPUT: &str = "-";
 
 /// The bytes of an input up to its end, or one more than an object may have.
 ///
@@ -52,11 +52,11 @@ pub fn read_input<R: Read + Drop>(alloc: Global, input: R) -> io::Result<Vec<u8>
 
 /// What a put has committed.
 #[derive(Clone, Copy, Debug, PartialEq, Eq)]
-struct Put {
-    bytes: u64,
-    transactions: u64,
+pub(crate) struct Put {
+    pub bytes: u64,
+    pub transactions: u64,
     // whether the pool was synced after the last of them
-    is_synced: bool,
+    pub is_synced: bool,
 }
 
 impl fmt::Display for Put {
@@ -75,7 +75,7 @@ impl fmt::Display for Put {
 }
 
 impl Put {
-    const NOTHING: Put = Put {
+    pub const NOTHING: Put = Put {
         bytes: 0,
         transactions: 0,
         is_synced: true,
@@ -162,7 +162,7 @@ pub fn run_put<R: Wait + AllocGlobal, D: SectorDevice + NotesRefusals + Drop, W:
 }
 
 // Reports what was committed before a refusal.
-fn report_committed<E: Write>(put: &Put, errors: &mut E) {
+pub(crate) fn report_committed<E: Write>(put: &Put, errors: &mut E) {
     if put.transactions == 0 {
         return;
     }
@@ -213,7 +213,7 @@ fn put_bytes<R: Wait + AllocGlobal, D: SectorDevice + NotesRefusals + Drop>(
 }
 
 // Whether these bytes of an object are within the limits.
-fn is_target(object: u32, offset: Option<u64>, bytes: &[u8]) -> bool
+pub(crate) fn is_target(object: u32, offset: Option<u64>, bytes: &[u8]) -> bool
     ensures { result ≡ is_target object offset bytes.now }
 {
     let at = first_byte(offset);
@@ -221,7 +221,7 @@ fn is_target(object: u32, offset: Option<u64>, bytes: &[u8]) -> bool
 }
 
 // What is outside its limits, if these bytes of an object aren't within them.
-fn bad_number_of(object: u32, offset: Option<u64>, bytes: &[u8]) -> BadNumber
+pub(crate) fn bad_number_of(object: u32, offset: Option<u64>, bytes: &[u8]) -> BadNumber
     ensures { result ≡ bad_number_of object offset bytes.now }
 {
     let (at, size) = (first_byte(offset), bytes.len() as u64);
@@ -249,9 +249,9 @@ pub(crate) fn first_byte(offset: Option<u64>) -> u64
 
 // Where bytes go: to a place of an object, or in place of all that it has.
 #[derive(Clone, Copy)]
-struct Target {
-    object: ObjectId,
-    offset: Option<u64>,
+pub(crate) struct Target {
+    pub object: ObjectId,
+    pub offset: Option<u64>,
 }
 
 /// What the first transaction does to the object before it writes.
@@ -274,7 +274,7 @@ impl Start {
 
 // Puts bytes into an object, and syncs the pool, also after a refusal. It returns the first refusal. Without room for
 // all bytes it puts none.
-fn put_and_sync<R: Wait, D: SectorDevice>(
+pub(crate) fn put_and_sync<R: Wait, D: SectorDevice>(
     rt: &R,
     alloc: Global,
     pool: &Pool<D>,
@@ -305,7 +305,7 @@ fn put_and_sync<R: Wait, D: SectorDevice>(
 }
 
 // The first refusal of a put's pieces and of the sync after them.
-fn first_refusal(
+pub(crate) fn first_refusal(
     made: Result<(), PoolError>,
     synced: Result<Group, PoolError>,
 ) -> Result<(), PoolError>
@@ -359,7 +359,7 @@ fn put_pieces<R: Wait, D: SectorDevice>(
 }
 
 // Writes bytes in pieces, if there are any.
-fn write_rest<R: Wait, D: SectorDevice>(
+pub(crate) fn write_rest<R: Wait, D: SectorDevice>(
     rt: &R,
     handle: &mut Handle<'_, D>,
     object: ObjectId,

@@ -282,7 +282,10 @@ fn write_numbers<W: Write>(inspected: &Inspected, out: &mut W) -> io::Result<()>
 }
 
 // Writes a line for each object.
-fn write_objects<W: Write>(objects: &[(ObjectId, u64)], out: &mut W) -> Result<(), Failure>
+pub(crate) fn write_objects<W: Write>(
+    objects: &[(ObjectId, u64)],
+    out: &mut W,
+) -> Result<(), Failure>
     ensures written { OnOk result (Appends (W.contents out.old) (W.contents out.new)
         (object_lines objects.now)) }
     ensures failed { IfErr result (λ failure. failure ≡ Failure.Unwritten) }

@@ -9,9 +9,9 @@ use command_arguments::{
 };
 use commands::{
     open_within, read_input, report_terminal, run_bench, run_check, run_check_all, run_create,
-    run_get, run_json_check, run_json_check_all, run_json_labels, run_json_list, run_json_show,
-    run_labels, run_list, run_load, run_long_list, run_put, run_remove, run_serve, run_show,
-    run_space,
+    run_get, run_get_named, run_json_check, run_json_check_all, run_json_labels, run_json_list,
+    run_json_show, run_labels, run_list_named, run_load, run_long_list, run_put, run_put_named,
+    run_remove, run_remove_named, run_serve, run_show, run_space,
 };
 use device_model::{Access, HeldFile};
 use std::io::{self, Eprint, Write};
@@ -76,6 +76,36 @@ where
             run_put(rt, arguments, verbosity, input, opened, &mut out, errors)
         }
         Arguments::Remove(arguments) => run_remove(
+            rt,
+            arguments,
+            verbosity,
+            open_within(rt, arguments.file, Access::Write, wait),
+            &mut io::writer(rt),
+            errors,
+        ),
+        Arguments::GetNamed(arguments) => {
+            let opened = open_within(rt, arguments.file, Access::Read, wait);
+            let mut out = io::writer(rt);
+            let (status, _) = run_get_named(
+                rt.alloc(),
+                arguments,
+                verbosity,
+                opened,
+                &mut out,
+                errors,
+            );
+            status
+        }
+        Arguments::PutNamed(arguments) => {
+            if terminals.input {
+                report_reading(errors);
+            }
+            let input = read_input(rt.alloc(), rt.reader());
+            let opened = open_within(rt, arguments.file, Access::Write, wait);
+            let mut out = io::writer(rt);
+            run_put_named(rt, arguments, verbosity, input, opened, &mut out, errors)
+        }
+        Arguments::RemoveNamed(arguments) => run_remove_named(
             rt,
             arguments,
             verbosity,
@@ -189,7 +219,7 @@ where
     let mut opened = open_within(rt, file, Access::Read, options.wait);
     let mut out = io::writer(rt);
     match arguments.form {
-        ListForm::Short => run_list(alloc, file, verbosity, &mut opened, &mut out, errors),
+        ListForm::Short => run_list_named(alloc, file, verbosity, opened, &mut out, errors),
         ListForm::Long => run_long_list(alloc, file, verbosity, &mut opened, &mut out, errors),
         ListForm::Json => run_json_list(alloc, file, verbosity, &mut opened, &mut out, errors),
     }
