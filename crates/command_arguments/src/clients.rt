@@ -1,9 +1,10 @@
 //! What callers rest on: one function for each promise of this crate's calls, proved from the contract of the call
 //! alone. So it is refused as soon as that contract says less.
 
-ghost use Rattle.std.specs.Prelude.{◌≡◌, ◌≤◌, false};
+ghost use Rattle.std.specs.Prelude.{◌≡◌, ◌≤◌, false, None, Some};
 
 use crate::order::Order;
+use crate::sizes::size_of;
 
 // What a load by so many workers is asked for.
 fn order_by(workers: u32) -> Order
@@ -35,4 +36,35 @@ fn a_stream_has_at_most_a_million_writes(order: Order) -> bool
     ensures { result ≡ false }
 {
     order.is_allowed()
+}
+
+fn a_size_of_64_m_is_67108864_bytes() -> Option<u64>
+    ensures { result ≡ Some 67108864 }
+{
+    size_of("64M")
+}
+
+fn digits_alone_count_single_bytes() -> Option<u64>
+    ensures { result ≡ Some 8388608 }
+{
+    size_of("8388608")
+}
+
+fn a_small_letter_counts_nothing() -> Option<u64>
+    ensures { result ≡ None }
+{
+    size_of("64m")
+}
+
+fn a_letter_without_digits_is_no_size() -> Option<u64>
+    ensures { result ≡ None }
+{
+    size_of("G")
+}
+
+// It would be 2^64 bytes.
+fn sixteen_million_terabytes_are_no_size() -> Option<u64>
+    ensures { result ≡ None }
+{
+    size_of("16777216T")
 }

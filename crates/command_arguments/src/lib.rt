@@ -4,9 +4,11 @@
 mod arguments;
 mod clients;
 mod order;
+mod sizes;
 
 pub use arguments::{
     Arguments, CheckArguments, CreateArguments, GetArguments, LoadArguments, Options, PutArguments,
     RemoveArguments, ScriptArguments, ScriptDevice, ServeArguments, Terminals, Verbosity,
 };
 pub use order::{MAX_WORKERS, MAX_WRITES, Order, STREAMS};
+pub use sizes::size_of;
