@@ -6,7 +6,7 @@
 use crate::help;
 use crate::words::{
     LOADED_DIRTY_LIMIT, SERVED_DIRTY_LIMIT, SIZE_HELP, cache_blocks, dirty_limit, flag, moment,
-    number, number_option, object, option, read_file, word, written_file,
+    number, number_option, object, option, read_file, size_option, word, written_file,
 };
 use clap::{Arg, Command, value_parser};
 use command_arguments::{MAX_WORKERS, MAX_WRITES};
@@ -92,7 +92,7 @@ fn create_command<'a>(alloc: Global) -> Result<Command<'a>, AllocError> {
             "The pool's name: 1 to 64 bytes, first a letter, then letters, digits, '-', '_', '.'",
         ),
         number(alloc, "GUID", "The pool's guid: a number below 2^64"),
-        number(alloc, "SIZE", SIZE_HELP),
+        word(alloc, "SIZE", SIZE_HELP),
         flag(
             alloc,
             "new",
@@ -129,8 +129,8 @@ fn get_command<'a>(alloc: Global) -> Result<Command<'a>, AllocError> {
     let words = vec![in alloc;
         read_file(alloc),
         object(alloc),
-        number_option(alloc, "offset", "O", "The first byte").default_value("0"),
-        number_option(
+        size_option(alloc, "offset", "O", "The first byte, as 4096 or 4K").default_value("0"),
+        size_option(
             alloc,
             "length",
             "L",
@@ -145,7 +145,7 @@ fn put_command<'a>(alloc: Global) -> Result<Command<'a>, AllocError> {
     let words = vec![in alloc;
         written_file(alloc),
         object(alloc),
-        number_option(
+        size_option(
             alloc,
             "offset",
             "O",
@@ -251,7 +251,6 @@ fn script_words<'a>(alloc: Global) -> Result<Vec<Arg<'a>>, AllocError> {
 fn size_without_file<'a>(alloc: Global) -> Result<Arg<'a>, AllocError> {
     Arg::new(alloc, "SIZE")
         .help(SIZE_HELP)
-        .value_parser(value_parser!(u64))
         .required_unless_present("file")?
         .conflicts_with("file")
 }

@@ -1,5 +1,6 @@
 //! What the words matched, read as the arguments of a command.
 
+use crate::sizes::size;
 use clap::ArgMatches;
 use command_arguments::{
     Arguments, CheckArguments, CreateArguments, GetArguments, LoadArguments, Options, Order,
@@ -51,7 +52,7 @@ fn read_script<'a>(given: &ArgMatches<'a>) -> Option<ScriptArguments<'a>> {
 fn read_device<'a>(given: &ArgMatches<'a>) -> Option<ScriptDevice<'a>> {
     match text(given, "file") {
         Some(file) => Some(ScriptDevice::File(file)),
-        None => Some(ScriptDevice::Memory(number(given, "SIZE")?)),
+        None => Some(ScriptDevice::Memory(size(given, "SIZE")?)),
     }
 }
 
@@ -60,7 +61,7 @@ fn read_create<'a>(given: &ArgMatches<'a>) -> Option<CreateArguments<'a>> {
         file: text(given, "FILE")?,
         name: text(given, "NAME")?,
         guid: number(given, "GUID")?,
-        size: number(given, "SIZE")?,
+        size: size(given, "SIZE")?,
         only_new: given.get_flag("new"),
         moment: number(given, "moment")?,
     })
@@ -74,7 +75,7 @@ fn read_load<'a>(given: &ArgMatches<'a>) -> Option<LoadArguments<'a>> {
             writes: small_number(given, "ops")?,
             seed: number(given, "seed")?,
         },
-        dirty_max: number(given, "dirty")?,
+        dirty_max: size(given, "dirty")?,
         cache_blocks: number(given, "cache")?,
         moment: number(given, "moment")?,
     })
@@ -84,8 +85,8 @@ fn read_get<'a>(given: &ArgMatches<'a>) -> Option<GetArguments<'a>> {
     Some(GetArguments {
         file: text(given, "FILE")?,
         object: small_number(given, "OBJECT")?,
-        offset: number(given, "offset")?,
-        length: number(given, "length"),
+        offset: size(given, "offset")?,
+        length: size(given, "length"),
     })
 }
 
@@ -93,7 +94,7 @@ fn read_put<'a>(given: &ArgMatches<'a>) -> Option<PutArguments<'a>> {
     Some(PutArguments {
         file: text(given, "FILE")?,
         object: small_number(given, "OBJECT")?,
-        offset: number(given, "offset"),
+        offset: size(given, "offset"),
         moment: number(given, "moment")?,
     })
 }
@@ -116,7 +117,7 @@ fn read_check<'a>(given: &ArgMatches<'a>) -> Option<CheckArguments<'a>> {
 fn read_serve<'a>(given: &ArgMatches<'a>) -> Option<ServeArguments<'a>> {
     Some(ServeArguments {
         file: text(given, "FILE")?,
-        dirty_max: number(given, "dirty")?,
+        dirty_max: size(given, "dirty")?,
         cache_blocks: number(given, "cache")?,
         moment: number(given, "moment")?,
     })

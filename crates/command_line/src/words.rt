@@ -6,7 +6,7 @@ use std::alloc::Global;
 /// What the help says of a size.
 pub(crate) const SIZE_HELP: &str =
     "The bytes of the device, in whole sectors of 512 bytes (a rest is ignored):{n}\
-    6291456 to 1073741824, a multiple of 262144";
+    6291456 to 1073741824, a multiple of 262144; 64M is 67108864";
 
 /// A word that has to be there.
 pub(crate) fn word<'a>(alloc: Global, name: &'a str, help: &'a str) -> Arg<'a> {
@@ -34,6 +34,16 @@ pub(crate) fn number_option<'a>(
     help: &'a str,
 ) -> Arg<'a> {
     option(alloc, name, value, help).value_parser(value_parser!(u64))
+}
+
+/// An option whose value is a number of bytes, which `find_bad_size` looks at.
+pub(crate) fn size_option<'a>(
+    alloc: Global,
+    name: &'a str,
+    value: &'a str,
+    help: &'a str,
+) -> Arg<'a> {
+    option(alloc, name, value, help)
 }
 
 /// An option without a value.
@@ -81,8 +91,8 @@ pub(crate) const LOADED_DIRTY_LIMIT: &str = "1048576";
 
 /// The limit of what is dirty in a pool that runs, which is this one if none is given.
 pub(crate) fn dirty_limit<'a>(alloc: Global, default: &'a str) -> Arg<'a> {
-    let help = "The most bytes that unsynced transactions may be charged:{n}4096 to 2^40";
-    number_option(alloc, "dirty", "D", help).default_value(default)
+    let help = "The most bytes that unsynced transactions may be charged:{n}4096 to 2^40, as 4M";
+    size_option(alloc, "dirty", "D", help).default_value(default)
 }
 
 /// How many tree blocks of a pool that runs stay in memory.

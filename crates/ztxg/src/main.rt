@@ -5,7 +5,7 @@
 #![tactic(auto)]
 
 use command_arguments::Terminals;
-use command_line::{parse_arguments, read_arguments, read_options};
+use command_line::{find_bad_size, parse_arguments, read_arguments, read_options};
 use script_commands::run;
 use std::fs::File;
 use std::io::{self, IsTerminal};
@@ -34,15 +34,21 @@ fn main(rt: HostRuntime) -> ExitCode {
         return ExitCode::from(BAD_ARGUMENTS);
     };
     match parse_arguments(rt.alloc(), words.as_slice()) {
-        Ok(matches) => match read_arguments(&matches) {
-            Some(arguments) => {
-                let options = read_options(&matches);
-                let terminals = find_terminals(&rt);
-                let status = run(&rt, arguments, options, terminals, &mut rt.stderr());
-                ExitCode::from(status)
+        Ok(matches) => {
+            if let Some(bad_size) = find_bad_size(&matches) {
+                let _ = eprint!(rt; "{bad_size}");
+                return ExitCode::from(BAD_ARGUMENTS);
             }
-            None => ExitCode::from(BAD_ARGUMENTS),
-        },
+            match read_arguments(&matches) {
+                Some(arguments) => {
+                    let options = read_options(&matches);
+                    let terminals = find_terminals(&rt);
+                    let status = run(&rt, arguments, options, terminals, &mut rt.stderr());
+                    ExitCode::from(status)
+                }
+                None => ExitCode::from(BAD_ARGUMENTS),
+            }
+        }
         Err(error) => {
             let printed = error.print(&rt);
             match error.exit_code() as u8 {
