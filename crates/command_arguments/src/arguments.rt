@@ -1,6 +1,7 @@
 //! The arguments of the program: which command, and what it works on.
 
 use crate::order::Order;
+use crate::reports::{ListArguments, ReportArguments, ReportForm, SpaceArguments};
 
 /// How much is reported of a command that was not done.
 #[derive(Clone, Copy, Debug, PartialEq, Eq)]
@@ -40,14 +41,16 @@ pub enum Arguments<'a> {
     Script(ScriptArguments<'a>),
     /// `ztxg create`.
     Create(CreateArguments<'a>),
-    /// `ztxg show`, with the path of the pool's file.
-    Show(&'a str),
+    /// `ztxg show`.
+    Show(ReportArguments<'a>),
     /// `ztxg check`.
     Check(CheckArguments<'a>),
-    /// `ztxg ls`, with the path of the pool's file.
-    List(&'a str),
-    /// `ztxg labels`, with the path of the pool's file.
-    Labels(&'a str),
+    /// `ztxg ls`.
+    List(ListArguments<'a>),
+    /// `ztxg df`.
+    Space(SpaceArguments<'a>),
+    /// `ztxg labels`.
+    Labels(ReportArguments<'a>),
     /// `ztxg get`.
     Get(GetArguments<'a>),
     /// `ztxg put`.
@@ -106,6 +109,8 @@ pub struct CheckArguments<'a> {
     pub file: &'a str,
     /// Whether it goes on after a damage.
     pub all: bool,
+    /// How the report is printed.
+    pub form: ReportForm,
 }
 
 /// The arguments of `ztxg load`.

@@ -4,6 +4,7 @@
 mod arguments;
 mod clients;
 mod order;
+mod reports;
 mod sizes;
 
 pub use arguments::{
@@ -11,4 +12,7 @@ pub use arguments::{
     RemoveArguments, ScriptArguments, ScriptDevice, ServeArguments, Terminals, Verbosity,
 };
 pub use order::{MAX_WORKERS, MAX_WRITES, Order, STREAMS};
+pub use reports::{
+    ListArguments, ListForm, ReportArguments, ReportForm, SpaceArguments, SpaceUnit,
+};
 pub use sizes::size_of;
