@@ -11,3 +11,4 @@ mod PutClients
 mod PutRoom
 mod RefusedClients
 mod ServedPools
+mod WrittenLists

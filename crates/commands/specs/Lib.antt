@@ -3,8 +3,10 @@ pub mod Committed
 pub mod Failures
 pub mod FoundDamages
 pub mod FoundLabels
+pub mod ObjectBlocks
 pub mod PoolLines
 pub mod PutRoom
 pub mod Puts
 pub mod Reads
 pub mod Serving
+pub mod Space

@@ -229,8 +229,11 @@ pub fn run_list<D: SectorDevice + NotesRefusals, W: Write, E: Write>(
     }
 }
 
-// What an import of the pool would mount.
-fn inspect_opened<D: SectorDevice + NotesRefusals>(
+/// What an import of the pool would mount.
+///
+/// # Errors
+/// Why the file was not opened, or what the inspection is refused for.
+pub(crate) fn inspect_opened<D: SectorDevice + NotesRefusals>(
     alloc: Global,
     opened: &mut Result<D, FileRefusal>,
 ) -> Result<Inspected, Failure>
