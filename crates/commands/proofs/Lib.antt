@@ -6,6 +6,7 @@ mod MountedBytes
 mod OnlyRead
 mod Pieces
 mod PoolLines
+mod PrintedFindings
 mod PutBytes
 mod PutClients
 mod PutRoom

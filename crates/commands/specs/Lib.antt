@@ -3,6 +3,7 @@ pub mod Committed
 pub mod Failures
 pub mod FoundDamages
 pub mod FoundLabels
+pub mod Json
 pub mod ObjectBlocks
 pub mod PoolLines
 pub mod PutRoom

@@ -114,14 +114,18 @@ pub fn run_check_all<D: SectorDevice + NotesRefusals, W: Write, E: Write>(
     }
 }
 
-// All that a check finds on a device: of its pool, and in its labels.
+/// All that a check finds on a device: of its pool, and in its labels.
 #[derive(Drop)]
-struct Found {
-    findings: Vec<Finding>,
-    labels: [LabelState; 4],
+pub(crate) struct Found {
+    pub findings: Vec<Finding>,
+    pub labels: [LabelState; 4],
 }
 
-fn find_opened<D: SectorDevice + NotesRefusals>(
+/// All that a check finds on what was opened.
+///
+/// # Errors
+/// Why the file was not opened, or what the check is refused for.
+pub(crate) fn find_opened<D: SectorDevice + NotesRefusals>(
     alloc: Global,
     opened: &mut Result<D, FileRefusal>,
 ) -> Result<Found, Failure>
@@ -185,8 +189,8 @@ fn write_findings<W: Write>(findings: &[Finding], out: &mut W) -> Result<(), Fai
     Ok(())
 }
 
-// The exit status of a check that found this.
-fn status_of(findings: &[Finding]) -> u8
+/// The exit status of a check that found this.
+pub(crate) fn status_of(findings: &[Finding]) -> u8
     ensures { result ≡ all_status findings.now }
 {
     match findings.first() {

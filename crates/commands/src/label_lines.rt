@@ -72,11 +72,11 @@ fn show_labels<D: SectorDevice + NotesRefusals, W: Write>(
     }
 }
 
-// The four configs, and the uberblock arrays of the four labels, which follow one another.
+/// The four configs, and the uberblock arrays of the four labels, which follow one another.
 #[derive(Drop)]
-struct Labels {
-    configs: [ConfigFound; 4],
-    ring: Vec<u8>,
+pub(crate) struct Labels {
+    pub configs: [ConfigFound; 4],
+    pub ring: Vec<u8>,
     ghost size: { vec_len ring ≡ ring_size },
 }
 
@@ -93,7 +93,14 @@ pub(crate) enum ConfigFound {
     Unchecked,
 }
 
-fn read_labels<D: SectorDevice>(alloc: Global, device: &mut D) -> Result<Labels, PoolError>
+/// What the labels of a device hold. It makes no write and no flush.
+///
+/// # Errors
+/// `BadGeometry`, before any device call. `NoMemory` and `Read` when they happen.
+pub(crate) fn read_labels<D: SectorDevice>(
+    alloc: Global,
+    device: &mut D,
+) -> Result<Labels, PoolError>
     ensures reads { OnlyReads D.SectorDevice result device.old device.new }
     ensures sized { OnOk result (IsGeometry (D.size device.old)) }
     ensures refused { IfErr result (IsCheckRefusal (D.size device.old)) }
@@ -243,14 +250,7 @@ fn write_ring<W: Write>(label: usize, ring: &[u8], out: &mut W) -> io::Result<()
     requires label { label < 4 }
     requires ring { length ring.now ≡ ring_size }
 {
-    let mut count: usize = 0;
-    let mut highest = Group(0);
-    for position in 0..SLOT_COUNT {
-        if let Some(found) = uberblock_at(ring, label, position) {
-            count = count.saturating_add(1);
-            highest = highest.max(found.group);
-        }
-    }
+    let (count, highest) = count_uberblocks(label, ring);
     if count == 0 {
         return writeln!(out, "label {label} uberblocks 0");
     }
@@ -261,6 +261,22 @@ fn write_ring<W: Write>(label: usize, ring: &[u8], out: &mut W) -> io::Result<()
     )
 }
 
+/// How many uberblocks a label has, and the highest group of these, or 0.
+pub(crate) fn count_uberblocks(label: usize, ring: &[u8]) -> (usize, Group)
+    requires label { label < 4 }
+    requires ring { length ring.now ≡ ring_size }
+{
+    let mut count: usize = 0;
+    let mut highest = Group(0);
+    for position in 0..SLOT_COUNT {
+        if let Some(found) = uberblock_at(ring, label, position) {
+            count = count.saturating_add(1);
+            highest = highest.max(found.group);
+        }
+    }
+    (count, highest)
+}
+
 // The active uberblock, and the lowest label that has it.
 fn write_active<W: Write>(ring: &[u8], out: &mut W) -> io::Result<()>
     requires { length ring.now ≡ ring_size }
@@ -269,14 +285,24 @@ fn write_active<W: Write>(ring: &[u8], out: &mut W) -> io::Result<()>
         return writeln!(out, "active none");
     };
     let group = uberblock.group;
+    match label_of(group, ring) {
+        Some(label) => writeln!(out, "active {} of label {label}", group.0),
+        None => writeln!(out, "active {}", group.0),
+    }
+}
+
+/// The lowest label that has the uberblock of a group.
+pub(crate) fn label_of(group: Group, ring: &[u8]) -> Option<usize>
+    requires { length ring.now ≡ ring_size }
+{
     for label in 0..LABEL_COUNT {
         if let Some(found) = uberblock_at(ring, label, slot(group)) {
             if found.group == group {
-                return writeln!(out, "active {} of label {label}", group.0);
+                return Some(label);
             }
         }
     }
-    writeln!(out, "active {}", group.0)
+    None
 }
 
 // The uberblock in a slot of a label.

@@ -32,8 +32,10 @@ pub(crate) enum ConfigState {
 /// A label, and what stands in the place of its config.
 #[derive(Clone, Copy, Debug, PartialEq, Eq)]
 pub(crate) struct LabelState {
-    label: usize,
-    config: ConfigState,
+    /// The label's number.
+    pub label: usize,
+    /// What stands there.
+    pub config: ConfigState,
 }
 
 /// What stands in the places of the four configs of a device. It makes no write and no flush.
@@ -128,7 +130,8 @@ fn write_all<W: Write>(states: &[LabelState; 4], out: &mut W) -> Result<(), Fail
     Ok(())
 }
 
-fn is_some_whole(states: &[LabelState; 4]) -> bool
+/// Whether some label has a valid config.
+pub(crate) fn is_some_whole(states: &[LabelState; 4]) -> bool
     ensures { result ≡ some_whole states.now }
 {
     states.iter().any(|state| is_whole(state))
