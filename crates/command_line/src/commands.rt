@@ -5,10 +5,10 @@
 
 use crate::help;
 use crate::words::{
-    LOADED_DIRTY_LIMIT, SERVED_DIRTY_LIMIT, SIZE_HELP, cache_blocks, dirty_limit, flag, moment,
-    number, number_option, object, option, read_file, size_option, word, written_file,
+    LOADED_DIRTY_LIMIT, SERVED_DIRTY_LIMIT, SIZE_HELP, cache_blocks, dirty_limit, flag, json,
+    moment, number, number_option, object, option, read_file, size_option, word, written_file,
 };
-use clap::{Arg, Command, value_parser};
+use clap::{Arg, ArgAction, Command, value_parser};
 use command_arguments::{MAX_WORKERS, MAX_WRITES};
 use std::alloc::{AllocError, Global};
 
@@ -19,6 +19,7 @@ pub(crate) enum CommandName {
     Show,
     Check,
     List,
+    Space,
     Get,
     Put,
     Remove,
@@ -29,11 +30,12 @@ pub(crate) enum CommandName {
 }
 
 /// The commands, in the order of the program's help.
-pub(crate) const COMMANDS: [CommandName; 11] = [
+pub(crate) const COMMANDS: [CommandName; 12] = [
     CommandName::Create,
     CommandName::Show,
     CommandName::Check,
     CommandName::List,
+    CommandName::Space,
     CommandName::Get,
     CommandName::Put,
     CommandName::Remove,
@@ -51,6 +53,7 @@ impl CommandName {
             CommandName::Show => show_command(alloc),
             CommandName::Check => check_command(alloc),
             CommandName::List => list_command(alloc),
+            CommandName::Space => space_command(alloc),
             CommandName::Get => get_command(alloc),
             CommandName::Put => put_command(alloc),
             CommandName::Remove => remove_command(alloc),
@@ -69,14 +72,15 @@ fn described<'a>(alloc: Global, name: &'a str, about: &'a str, after_help: &'a s
         .after_help(after_help)
 }
 
-// A command whose one word is a file that it only reads.
-fn reading_command<'a>(
+// A command that reports on a file, which it only reads, in lines or as JSON.
+fn reporting_command<'a>(
     alloc: Global,
     name: &'a str,
     about: &'a str,
     after_help: &'a str,
 ) -> Result<Command<'a>, AllocError> {
-    described(alloc, name, about, after_help).arg(read_file(alloc))
+    let words = vec![in alloc; read_file(alloc), json(alloc)]?;
+    described(alloc, name, about, after_help).args(words)
 }
 
 fn create_command<'a>(alloc: Global) -> Result<Command<'a>, AllocError> {
@@ -106,7 +110,7 @@ fn create_command<'a>(alloc: Global) -> Result<Command<'a>, AllocError> {
 
 fn show_command<'a>(alloc: Global) -> Result<Command<'a>, AllocError> {
     let about = "Reports what an import of the pool in a file would mount; it only reads the file";
-    reading_command(alloc, "show", about, help::SHOW)
+    reporting_command(alloc, "show", about, help::SHOW)
 }
 
 fn check_command<'a>(alloc: Global) -> Result<Command<'a>, AllocError> {
@@ -115,14 +119,35 @@ fn check_command<'a>(alloc: Global) -> Result<Command<'a>, AllocError> {
         "all",
         "Goes on after a damage, and prints each, and each damaged label",
     );
-    let words = vec![in alloc; read_file(alloc), all]?;
+    let words = vec![in alloc; read_file(alloc), all, json(alloc)]?;
     let about = "Checks whether the pool in a file is whole; it only reads the file";
     described(alloc, "check", about, help::CHECK).args(words)
 }
 
 fn list_command<'a>(alloc: Global) -> Result<Command<'a>, AllocError> {
+    let long = flag(alloc, "long", "Prints the most blocks of each object, too").short('l');
+    let words = vec![in alloc; read_file(alloc), long, json(alloc)]?;
     let about = "Lists the objects of the pool in a file; it only reads the file";
-    reading_command(alloc, "ls", about, help::LIST)
+    described(alloc, "ls", about, help::LIST).args(words)
+}
+
+fn space_command<'a>(alloc: Global) -> Result<Command<'a>, AllocError> {
+    let powers = flag(
+        alloc,
+        "human-readable",
+        "Prints powers of 1024 with one decimal: 3.5M",
+    )
+    .short('h');
+    // `-h` isn't the help here.
+    let help = Arg::new(alloc, "help")
+        .long("help")
+        .action(ArgAction::Help)
+        .help("Print help");
+    let words = vec![in alloc; read_file(alloc), powers, help]?;
+    let about = "Reports the space of the pool in a file in bytes; it only reads the file";
+    described(alloc, "df", about, help::SPACE)
+        .disable_help_flag(true)
+        .args(words)
 }
 
 fn get_command<'a>(alloc: Global) -> Result<Command<'a>, AllocError> {
@@ -164,7 +189,7 @@ fn remove_command<'a>(alloc: Global) -> Result<Command<'a>, AllocError> {
 
 fn labels_command<'a>(alloc: Global) -> Result<Command<'a>, AllocError> {
     let about = "Reports what the four labels of a file hold; it only reads the file";
-    reading_command(alloc, "labels", about, help::LABELS)
+    reporting_command(alloc, "labels", about, help::LABELS)
 }
 
 fn load_command<'a>(alloc: Global) -> Result<Command<'a>, AllocError> {

@@ -3,8 +3,9 @@
 use crate::sizes::size;
 use clap::ArgMatches;
 use command_arguments::{
-    Arguments, CheckArguments, CreateArguments, GetArguments, LoadArguments, Options, Order,
-    PutArguments, RemoveArguments, ScriptArguments, ScriptDevice, ServeArguments, Verbosity,
+    Arguments, CheckArguments, CreateArguments, GetArguments, ListArguments, ListForm,
+    LoadArguments, Options, Order, PutArguments, RemoveArguments, ReportArguments, ReportForm,
+    ScriptArguments, ScriptDevice, ServeArguments, SpaceArguments, SpaceUnit, Verbosity,
 };
 
 /// The arguments of the command that was named.
@@ -13,10 +14,11 @@ pub fn read_arguments<'a>(matches: &ArgMatches<'a>) -> Option<Arguments<'a>> {
     match name {
         "script" => Some(Arguments::Script(read_script(given)?)),
         "create" => Some(Arguments::Create(read_create(given)?)),
-        "show" => Some(Arguments::Show(text(given, "FILE")?)),
+        "show" => Some(Arguments::Show(read_report(given)?)),
         "check" => Some(Arguments::Check(read_check(given)?)),
-        "ls" => Some(Arguments::List(text(given, "FILE")?)),
-        "labels" => Some(Arguments::Labels(text(given, "FILE")?)),
+        "ls" => Some(Arguments::List(read_list(given)?)),
+        "df" => Some(Arguments::Space(read_space(given)?)),
+        "labels" => Some(Arguments::Labels(read_report(given)?)),
         "get" => Some(Arguments::Get(read_get(given)?)),
         "put" => Some(Arguments::Put(read_put(given)?)),
         "rm" => Some(Arguments::Remove(read_remove(given)?)),
@@ -111,6 +113,52 @@ fn read_check<'a>(given: &ArgMatches<'a>) -> Option<CheckArguments<'a>> {
     Some(CheckArguments {
         file: text(given, "FILE")?,
         all: given.get_flag("all"),
+        form: report_form(given),
+    })
+}
+
+fn read_report<'a>(given: &ArgMatches<'a>) -> Option<ReportArguments<'a>> {
+    Some(ReportArguments {
+        file: text(given, "FILE")?,
+        form: report_form(given),
+    })
+}
+
+fn report_form(given: &ArgMatches<'_>) -> ReportForm {
+    if given.get_flag("json") {
+        ReportForm::Json
+    } else {
+        ReportForm::Lines
+    }
+}
+
+fn read_list<'a>(given: &ArgMatches<'a>) -> Option<ListArguments<'a>> {
+    Some(ListArguments {
+        file: text(given, "FILE")?,
+        form: list_form(given),
+    })
+}
+
+// JSON has the blocks in any case.
+fn list_form(given: &ArgMatches<'_>) -> ListForm {
+    if given.get_flag("json") {
+        ListForm::Json
+    } else if given.get_flag("long") {
+        ListForm::Long
+    } else {
+        ListForm::Short
+    }
+}
+
+fn read_space<'a>(given: &ArgMatches<'a>) -> Option<SpaceArguments<'a>> {
+    let unit = if given.get_flag("human-readable") {
+        SpaceUnit::Powers
+    } else {
+        SpaceUnit::Bytes
+    };
+    Some(SpaceArguments {
+        file: text(given, "FILE")?,
+        unit,
     })
 }
 

@@ -54,6 +54,11 @@ pub(crate) fn flag<'a>(alloc: Global, name: &'a str, help: &'a str) -> Arg<'a> {
         .action(ArgAction::SetTrue)
 }
 
+/// Whether a report is printed as JSON.
+pub(crate) fn json<'a>(alloc: Global) -> Arg<'a> {
+    flag(alloc, "json", "Prints one object of JSON in one line")
+}
+
 /// The file of a pool that the command only reads.
 pub(crate) fn read_file<'a>(alloc: Global) -> Arg<'a> {
     word(

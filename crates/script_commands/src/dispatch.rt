@@ -3,10 +3,14 @@
 ghost use Rattle.std.specs.Prelude.{◌≤◌};
 
 use crate::script::run_named_script;
-use command_arguments::{Arguments, CheckArguments, Options, Terminals};
+use command_arguments::{
+    Arguments, CheckArguments, ListArguments, ListForm, Options, ReportArguments, ReportForm,
+    Terminals,
+};
 use commands::{
     open_within, read_input, report_terminal, run_check, run_check_all, run_create, run_get,
-    run_labels, run_list, run_load, run_put, run_remove, run_serve, run_show,
+    run_json_check, run_json_check_all, run_json_labels, run_json_list, run_json_show, run_labels,
+    run_list, run_load, run_long_list, run_put, run_remove, run_serve, run_show, run_space,
 };
 use device_model::{Access, HeldFile};
 use std::io::{self, Eprint, Write};
@@ -45,39 +49,18 @@ where
             &mut io::writer(rt),
             errors,
         ),
-        Arguments::Show(file) => run_show(
+        Arguments::Show(arguments) => show(rt, arguments, options, errors),
+        Arguments::Check(arguments) => check(rt, arguments, options, errors),
+        Arguments::List(arguments) => list(rt, arguments, options, errors),
+        Arguments::Space(arguments) => run_space(
             rt.alloc(),
-            file,
+            arguments,
             verbosity,
-            &mut open_within(rt, file, Access::Read, wait),
+            &mut open_within(rt, arguments.file, Access::Read, wait),
             &mut io::writer(rt),
             errors,
         ),
-        Arguments::Check(CheckArguments { file, all }) => {
-            let mut opened = open_within(rt, file, Access::Read, wait);
-            let mut out = io::writer(rt);
-            if all {
-                run_check_all(rt.alloc(), file, verbosity, &mut opened, &mut out, errors)
-            } else {
-                run_check(rt.alloc(), file, verbosity, &mut opened, &mut out, errors)
-            }
-        }
-        Arguments::List(file) => run_list(
-            rt.alloc(),
-            file,
-            verbosity,
-            &mut open_within(rt, file, Access::Read, wait),
-            &mut io::writer(rt),
-            errors,
-        ),
-        Arguments::Labels(file) => run_labels(
-            rt.alloc(),
-            file,
-            verbosity,
-            &mut open_within(rt, file, Access::Read, wait),
-            &mut io::writer(rt),
-            errors,
-        ),
+        Arguments::Labels(arguments) => show_labels(rt, arguments, options, errors),
         Arguments::Get(arguments) => {
             let opened = open_within(rt, arguments.file, Access::Read, wait);
             let mut out = io::writer(rt);
@@ -118,4 +101,115 @@ fn report_reading<E: Write>(errors: &mut E) {
         errors,
         "ztxg: reading the object from the terminal, end it with Ctrl-D"
     );
+}
+
+// Shows a pool in lines or as JSON.
+fn show<R: Files + Print + AllocGlobal + Wait, E: Write>(
+    rt: &R,
+    arguments: ReportArguments<'_>,
+    options: Options,
+    errors: &mut E,
+) -> u8
+where
+    R::File: FileExt + HeldFile,
+    ensures { result ≤ 3 }
+{
+    let (alloc, file, verbosity) = (rt.alloc(), arguments.file, options.verbosity);
+    let mut opened = open_within(rt, file, Access::Read, options.wait);
+    let mut out = io::writer(rt);
+    match arguments.form {
+        ReportForm::Lines => run_show(alloc, file, verbosity, &mut opened, &mut out, errors),
+        ReportForm::Json => run_json_show(alloc, file, verbosity, &mut opened, &mut out, errors),
+    }
+}
+
+// Checks a pool, to its first damage or to the end, and reports it in lines or as JSON.
+fn check<R: Files + Print + AllocGlobal + Wait, E: Write>(
+    rt: &R,
+    arguments: CheckArguments<'_>,
+    options: Options,
+    errors: &mut E,
+) -> u8
+where
+    R::File: FileExt + HeldFile,
+    ensures { result ≤ 3 }
+{
+    let (alloc, file, verbosity) = (rt.alloc(), arguments.file, options.verbosity);
+    let mut opened = open_within(rt, file, Access::Read, options.wait);
+    let mut out = io::writer(rt);
+    match (arguments.all, arguments.form) {
+        (false, ReportForm::Lines) => run_check(
+            alloc,
+            file,
+            verbosity,
+            &mut opened,
+            &mut out,
+            errors,
+        ),
+        (true, ReportForm::Lines) => run_check_all(
+            alloc,
+            file,
+            verbosity,
+            &mut opened,
+            &mut out,
+            errors,
+        ),
+        (false, ReportForm::Json) => run_json_check(
+            alloc,
+            file,
+            verbosity,
+            &mut opened,
+            &mut out,
+            errors,
+        ),
+        (true, ReportForm::Json) => run_json_check_all(
+            alloc,
+            file,
+            verbosity,
+            &mut opened,
+            &mut out,
+            errors,
+        ),
+    }
+}
+
+// Lists the objects of a pool in short or long lines, or as JSON.
+fn list<R: Files + Print + AllocGlobal + Wait, E: Write>(
+    rt: &R,
+    arguments: ListArguments<'_>,
+    options: Options,
+    errors: &mut E,
+) -> u8
+where
+    R::File: FileExt + HeldFile,
+    ensures { result ≤ 3 }
+{
+    let (alloc, file, verbosity) = (rt.alloc(), arguments.file, options.verbosity);
+    let mut opened = open_within(rt, file, Access::Read, options.wait);
+    let mut out = io::writer(rt);
+    match arguments.form {
+        ListForm::Short => run_list(alloc, file, verbosity, &mut opened, &mut out, errors),
+        ListForm::Long => run_long_list(alloc, file, verbosity, &mut opened, &mut out, errors),
+        ListForm::Json => run_json_list(alloc, file, verbosity, &mut opened, &mut out, errors),
+    }
+}
+
+// Shows what the labels of a file hold in lines or as JSON.
+fn show_labels<R: Files + Print + AllocGlobal + Wait, E: Write>(
+    rt: &R,
+    arguments: ReportArguments<'_>,
+    options: Options,
+    errors: &mut E,
+) -> u8
+where
+    R::File: FileExt + HeldFile,
+    ensures { result ≤ 3 }
+{
+    let (alloc, file, verbosity) = (rt.alloc(), arguments.file, options.verbosity);
+    let mut opened = open_within(rt, file, Access::Read, options.wait);
+    let mut out = io::writer(rt);
+    match arguments.form {
+        ReportForm::Lines => run_labels(alloc, file, verbosity, &mut opened, &mut out, errors),
+        ReportForm::Json => run_json_labels(alloc, file, verbosity, &mut opened, &mut out, errors),
+    }
 }
