@@ -7,6 +7,7 @@ files hold.
 - New files, byte for byte; a file that is there keeps what a create doesn't write.
 - What `show`, `check` and `ls` print of a pool that is new, synced, logged, damaged or missing. The moments that are
   stored. Bytes that are put and got. What labels hold. What a script may do at its end.
+- Sizes with a letter, long lists, the space of a pool, and reports as JSON (`tools/rows/report_rows.py`).
 - Faults of the command line, files that can't be used and why, values outside their limits, locks of other processes,
   output that can't be written, standard streams that are closed or terminals.
 - A script answers each line before the next one comes. A load shows its progress on a terminal alone, and names the
@@ -40,6 +41,7 @@ from tools.model.layout import AREA, BLOCK, CONFIG_AT, LABEL, MIB, block_count, 
 from tools.model.pool_bytes import number_at
 from tools.model.serial_pool import LEAST
 from tools.rows.many_groups import many_groups
+from tools.rows.report_rows import json_rows, size_rows, space_rows
 
 SIZE = 8 * MIB
 SECONDS = 20
@@ -100,6 +102,7 @@ def commands(file):
         "script": ["script", "--file", file, "-"],
         "put": ["put", file, "1"],
         "ls": ["ls", file],
+        "df": ["df", file],
         "get": ["get", file, "1"],
         "rm": ["rm", file, "1"],
         "labels": ["labels", file],
@@ -107,7 +110,7 @@ def commands(file):
 
 
 # These only read their file.
-READERS = ("show", "check", "ls", "get", "labels")
+READERS = ("show", "check", "ls", "df", "get", "labels")
 
 
 class Commands(Judge):
@@ -754,6 +757,9 @@ def main(ztxg):
         judge.loads()
         judge.terminals()
         judge.texts()
+        size_rows(judge)
+        space_rows(judge)
+        json_rows(judge, SYNC, LOG, flawed)
         os.chdir(TOP)
     print(f"{judge.runs} runs of the program, {judge.differences} differences")
     return int(judge.differences > 0)
