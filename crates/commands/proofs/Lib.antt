@@ -11,5 +11,6 @@ mod PutBytes
 mod PutClients
 mod PutRoom
 mod RefusedClients
+mod ReportClients
 mod ServedPools
 mod WrittenLists

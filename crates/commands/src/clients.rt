@@ -4,6 +4,7 @@
 mod all_checks;
 mod objects;
 mod refusals;
+mod reports;
 mod served;
 
 ghost use Rattle.std.specs.Prelude.{◌≡◌, ◌≢◌, ◌⊎◌, ◌++◌, ℕ, List, [], IfOk, IsOk, IsTrue, Some, codes};

@@ -22,13 +22,15 @@ use std::io::Write;
 
 /// The space of a pool in bytes.
 #[derive(Clone, Copy, Debug, PartialEq, Eq)]
-struct Space {
-    // of all blocks, of those of the tree and the log chain, and of the others
-    total: u64,
-    used: u64,
-    free: u64,
-    // what bytes may take of the free ones
-    available: u64,
+pub(crate) struct Space {
+    /// Those of all blocks.
+    pub total: u64,
+    /// Those of the tree and of the log chain.
+    pub used: u64,
+    /// Those of the others.
+    pub free: u64,
+    /// What bytes may take of these.
+    pub available: u64,
 }
 
 /// Writes to `out` how many bytes the blocks of the pool in a file have: all of them, those in use, those that are free,
@@ -82,7 +84,15 @@ fn block_bytes(blocks: u64) -> u64
     blocks.saturating_mul(BLOCK_SIZE as u64)
 }
 
-fn write_space<W: Write>(space: Space, unit: SpaceUnit, out: &mut W) -> Result<(), Failure>
+/// Writes a line for each number of bytes.
+///
+/// # Errors
+/// `Unwritten`.
+pub(crate) fn write_space<W: Write>(
+    space: Space,
+    unit: SpaceUnit,
+    out: &mut W,
+) -> Result<(), Failure>
     ensures written { OnOk result (Appends (W.contents out.old) (W.contents out.new)
         (space_lines unit space)) }
     ensures failed { IfErr result (λ failure. failure ≡ Failure.Unwritten) }
