@@ -12,7 +12,8 @@ from tools.model.layout import AREA, BLOCK, CONFIG_AT, LABEL, MIB
 
 SIZE = 8 * MIB
 FAULT = (
-    "error: invalid value '{}' for '{}': bytes below 2^64 in digits, with K, M, G or T after them for powers of 1024\n\n"
+    "error: invalid value '{}' for '{}': bytes below 2^64 in digits, with K, M, G or T after them "
+    "for powers of 1024\n\n"
     "For more information, try '--help'.\n"
 )
 

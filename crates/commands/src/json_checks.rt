@@ -1,4 +1,5 @@
-//! The command `check` with `--json`: one object of JSON in one line, with the keys of `docs/FORMATS.md`. It only reads.
+//! The command `check` with `--json`: one object of JSON in one line, with the keys of `docs/FORMATS.md`. It only
+//! reads.
 
 ghost use Rattle.std.specs.Io.KnownBytes.{Appends};
 ghost use Rattle.std.specs.Prelude.{◌≡◌, ◌≢◌, ◌≤◌, ◌++◌, ◌⊎◌, IfErr, IfOk, IsErr, IsTrue, OnOk, codes};
@@ -79,8 +80,8 @@ impl fmt::Display for JsonFinding {
     }
 }
 
-/// Writes to `out` as JSON what `run_check_all` writes in lines, and returns the exit status. It only reads the file: it
-/// makes no write and no flush, whatever it returns.
+/// Writes to `out` as JSON what `run_check_all` writes in lines, and returns the exit status. It only reads the file:
+/// it makes no write and no flush, whatever it returns.
 ///
 /// The status and what is reported on `errors` are those of `run_check_all`.
 pub fn run_json_check_all<D: SectorDevice + NotesRefusals, W: Write, E: Write>(

@@ -33,8 +33,8 @@ pub(crate) struct Space {
     pub available: u64,
 }
 
-/// Writes to `out` how many bytes the blocks of the pool in a file have: all of them, those in use, those that are free,
-/// and those that bytes may take. Returns the exit status. It only reads the file: it makes no write and no flush,
+/// Writes to `out` how many bytes the blocks of the pool in a file have: all of them, those in use, those that are
+/// free, and those that bytes may take. Returns the exit status. It only reads the file: it makes no write and no flush,
 /// whatever it returns.
 ///
 /// The status and what is reported on `errors` are those of `run_show`.
