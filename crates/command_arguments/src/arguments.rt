@@ -41,6 +41,8 @@ pub enum Arguments<'a> {
     Script(ScriptArguments<'a>),
     /// `ztxg create`.
     Create(CreateArguments<'a>),
+    /// `ztxg create` with `--size`.
+    CreateSized(SizedArguments<'a>),
     /// `ztxg show`.
     Show(ReportArguments<'a>),
     /// `ztxg check`.
@@ -98,6 +100,25 @@ pub struct CreateArguments<'a> {
     pub size: u64,
     /// Whether a file that exists already is refused.
     pub only_new: bool,
+    /// The moment, in seconds, of the new pool's uberblocks.
+    pub moment: u64,
+}
+
+/// The arguments of `ztxg create` with `--size`.
+#[derive(Clone, Copy, Debug, PartialEq, Eq)]
+pub struct SizedArguments<'a> {
+    /// The path of the pool's file.
+    pub file: &'a str,
+    /// The pool's name, if it isn't the file's.
+    pub name: Option<&'a str>,
+    /// The pool's guid.
+    pub guid: u64,
+    /// The bytes of the file.
+    pub size: u64,
+    /// Whether a file that exists already is refused.
+    pub only_new: bool,
+    /// Whether a pool that the file has is replaced.
+    pub force: bool,
     /// The moment, in seconds, of the new pool's uberblocks.
     pub moment: u64,
 }

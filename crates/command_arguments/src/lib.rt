@@ -9,7 +9,8 @@ mod sizes;
 
 pub use arguments::{
     Arguments, CheckArguments, CreateArguments, GetArguments, LoadArguments, Options, PutArguments,
-    RemoveArguments, ScriptArguments, ScriptDevice, ServeArguments, Terminals, Verbosity,
+    RemoveArguments, ScriptArguments, ScriptDevice, ServeArguments, SizedArguments, Terminals,
+    Verbosity,
 };
 pub use order::{MAX_WORKERS, MAX_WRITES, Order, STREAMS};
 pub use reports::{
