@@ -5,8 +5,9 @@
 
 use crate::help;
 use crate::words::{
-    LOADED_DIRTY_LIMIT, SERVED_DIRTY_LIMIT, SIZE_HELP, cache_blocks, dirty_limit, flag, json,
-    moment, number, number_option, object, option, read_file, size_option, word, written_file,
+    LOADED_DIRTY_LIMIT, SERVED_DIRTY_LIMIT, SIZE_HELP, cache_blocks, clock_moment, create_moment,
+    dirty_limit, flag, json, moment, number_option, object, option, read_file, size_option, word,
+    written_file,
 };
 use clap::{Arg, ArgAction, Command, value_parser};
 use command_arguments::{MAX_WORKERS, MAX_WRITES};
@@ -84,28 +85,62 @@ fn reporting_command<'a>(
 }
 
 fn create_command<'a>(alloc: Global) -> Result<Command<'a>, AllocError> {
+    let given = given_words(alloc)?;
+    let sized = sized_words(alloc)?;
     let words = vec![in alloc;
         word(
             alloc,
             "FILE",
             "The path of the file, which is made, or resized to SIZE bytes",
         ),
-        word(
-            alloc,
-            "NAME",
-            "The pool's name: 1 to 64 bytes, first a letter, then letters, digits, '-', '_', '.'",
-        ),
-        number(alloc, "GUID", "The pool's guid: a number below 2^64"),
-        word(alloc, "SIZE", SIZE_HELP),
         flag(
             alloc,
             "new",
             "Refuses a FILE that exists already, which is left as it is",
         ),
-        moment(alloc),
+        create_moment(alloc),
     ]?;
     let about = "Makes a new pool in a file, over what the file held, and prints its blocks";
-    described(alloc, "create", about, help::CREATE).args(words)
+    described(alloc, "create", about, help::CREATE)
+        .args(words)?
+        .args(given)?
+        .args(sized)
+}
+
+// The words that a pool is made from, if there is no --size.
+fn given_words<'a>(alloc: Global) -> Result<Vec<Arg<'a>>, AllocError> {
+    let name = Arg::new(alloc, "NAME")
+        .help("The pool's name: 1 to 64 bytes, first a letter, then letters, digits, '-', '_', '.'")
+        .required_unless_present("size")?;
+    let guid = Arg::new(alloc, "GUID")
+        .help("The pool's guid: a number below 2^64")
+        .value_parser(value_parser!(u64))
+        .required_unless_present("size")?;
+    let size = Arg::new(alloc, "SIZE")
+        .help(SIZE_HELP)
+        .required_unless_present("size")?;
+    let words = vec![in alloc; name, guid, size]?;
+    Ok(words)
+}
+
+// The options that stand for these words. Without NAME there has to be a size.
+fn sized_words<'a>(alloc: Global) -> Result<Vec<Arg<'a>>, AllocError> {
+    let size = size_option(alloc, "size", "SIZE", "The bytes of the file, as 64M").conflicts_with(
+        "NAME",
+    )?;
+    let name = option(alloc, "name", "NAME", "The pool's name, if it isn't FILE's").requires_arg(
+        "size",
+    )?;
+    let guid = number_option(
+        alloc,
+        "guid",
+        "GUID",
+        "The pool's guid, if none is to be drawn",
+    )
+    .conflicts_with("NAME")?;
+    let force = flag(alloc, "force", "Replaces a pool that FILE has").conflicts_with("NAME")?;
+    let words = vec![in alloc; size, name, guid, force]?;
+    Ok(words)
 }
 
 fn show_command<'a>(alloc: Global) -> Result<Command<'a>, AllocError> {
@@ -176,14 +211,14 @@ fn put_command<'a>(alloc: Global) -> Result<Command<'a>, AllocError> {
             "O",
             "Where the bytes go; without it they replace all that the object has",
         ),
-        moment(alloc),
+        clock_moment(alloc),
     ]?;
     let about = "Writes standard input into an object, which is made if it isn't there";
     described(alloc, "put", about, help::PUT).args(words)
 }
 
 fn remove_command<'a>(alloc: Global) -> Result<Command<'a>, AllocError> {
-    let words = vec![in alloc; written_file(alloc), object(alloc), moment(alloc)]?;
+    let words = vec![in alloc; written_file(alloc), object(alloc), clock_moment(alloc)]?;
     described(alloc, "rm", "Removes an object", help::REMOVE).args(words)
 }
 
@@ -231,7 +266,7 @@ fn serve_command<'a>(alloc: Global) -> Result<Command<'a>, AllocError> {
         written_file(alloc),
         dirty_limit(alloc, SERVED_DIRTY_LIMIT),
         cache_blocks(alloc),
-        moment(alloc),
+        clock_moment(alloc),
     ]?;
     let about = "Answers frames of requests to the pool in a file, for programs in other languages";
     described(alloc, "serve", about, help::SERVE).args(words)

@@ -14,5 +14,5 @@ mod words;
 
 pub use help::VERSION;
 pub use parse::parse_arguments;
-pub use read::{read_arguments, read_options};
+pub use read::{Defaults, read_arguments, read_options};
 pub use sizes::{BadSize, find_bad_size};

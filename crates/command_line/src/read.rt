@@ -5,14 +5,27 @@ use clap::ArgMatches;
 use command_arguments::{
     Arguments, CheckArguments, CreateArguments, GetArguments, ListArguments, ListForm,
     LoadArguments, Options, Order, PutArguments, RemoveArguments, ReportArguments, ReportForm,
-    ScriptArguments, ScriptDevice, ServeArguments, SpaceArguments, SpaceUnit, Verbosity,
+    ScriptArguments, ScriptDevice, ServeArguments, SizedArguments, SpaceArguments, SpaceUnit,
+    Verbosity,
 };
 
-/// The arguments of the command that was named.
-pub fn read_arguments<'a>(matches: &ArgMatches<'a>) -> Option<Arguments<'a>> {
+/// What stands for words that were not given.
+#[derive(Clone, Copy, Debug, PartialEq, Eq)]
+pub struct Defaults {
+    /// The moment of a command that people type, in seconds.
+    pub moment: u64,
+    /// The guid of a pool, if one could be drawn.
+    pub guid: Option<u64>,
+}
+
+/// The arguments of the command that was named. `None` if it needs a guid, and none was given or drawn.
+pub fn read_arguments<'a>(matches: &ArgMatches<'a>, defaults: &Defaults) -> Option<Arguments<'a>> {
     let (name, given) = matches.subcommand()?;
     match name {
         "script" => Some(Arguments::Script(read_script(given)?)),
+        "create" if given.contains_id("size") => {
+            Some(Arguments::CreateSized(read_sized(given, defaults)?))
+        }
         "create" => Some(Arguments::Create(read_create(given)?)),
         "show" => Some(Arguments::Show(read_report(given)?)),
         "check" => Some(Arguments::Check(read_check(given)?)),
@@ -20,10 +33,10 @@ pub fn read_arguments<'a>(matches: &ArgMatches<'a>) -> Option<Arguments<'a>> {
         "df" => Some(Arguments::Space(read_space(given)?)),
         "labels" => Some(Arguments::Labels(read_report(given)?)),
         "get" => Some(Arguments::Get(read_get(given)?)),
-        "put" => Some(Arguments::Put(read_put(given)?)),
-        "rm" => Some(Arguments::Remove(read_remove(given)?)),
+        "put" => Some(Arguments::Put(read_put(given, defaults)?)),
+        "rm" => Some(Arguments::Remove(read_remove(given, defaults)?)),
         "load" => Some(Arguments::Load(read_load(given)?)),
-        "serve" => Some(Arguments::Serve(read_serve(given)?)),
+        "serve" => Some(Arguments::Serve(read_serve(given, defaults)?)),
         _ => None,
     }
 }
@@ -65,7 +78,23 @@ fn read_create<'a>(given: &ArgMatches<'a>) -> Option<CreateArguments<'a>> {
         guid: number(given, "GUID")?,
         size: size(given, "SIZE")?,
         only_new: given.get_flag("new"),
-        moment: number(given, "moment")?,
+        moment: number(given, "moment").unwrap_or(0),
+    })
+}
+
+fn read_sized<'a>(given: &ArgMatches<'a>, defaults: &Defaults) -> Option<SizedArguments<'a>> {
+    let guid = match number(given, "guid") {
+        Some(guid) => guid,
+        None => defaults.guid?,
+    };
+    Some(SizedArguments {
+        file: text(given, "FILE")?,
+        name: text(given, "name"),
+        guid,
+        size: size(given, "size")?,
+        only_new: given.get_flag("new"),
+        force: given.get_flag("force"),
+        moment: number(given, "moment").unwrap_or(defaults.moment),
     })
 }
 
@@ -92,20 +121,20 @@ fn read_get<'a>(given: &ArgMatches<'a>) -> Option<GetArguments<'a>> {
     })
 }
 
-fn read_put<'a>(given: &ArgMatches<'a>) -> Option<PutArguments<'a>> {
+fn read_put<'a>(given: &ArgMatches<'a>, defaults: &Defaults) -> Option<PutArguments<'a>> {
     Some(PutArguments {
         file: text(given, "FILE")?,
         object: small_number(given, "OBJECT")?,
         offset: size(given, "offset"),
-        moment: number(given, "moment")?,
+        moment: number(given, "moment").unwrap_or(defaults.moment),
     })
 }
 
-fn read_remove<'a>(given: &ArgMatches<'a>) -> Option<RemoveArguments<'a>> {
+fn read_remove<'a>(given: &ArgMatches<'a>, defaults: &Defaults) -> Option<RemoveArguments<'a>> {
     Some(RemoveArguments {
         file: text(given, "FILE")?,
         object: small_number(given, "OBJECT")?,
-        moment: number(given, "moment")?,
+        moment: number(given, "moment").unwrap_or(defaults.moment),
     })
 }
 
@@ -162,12 +191,12 @@ fn read_space<'a>(given: &ArgMatches<'a>) -> Option<SpaceArguments<'a>> {
     })
 }
 
-fn read_serve<'a>(given: &ArgMatches<'a>) -> Option<ServeArguments<'a>> {
+fn read_serve<'a>(given: &ArgMatches<'a>, defaults: &Defaults) -> Option<ServeArguments<'a>> {
     Some(ServeArguments {
         file: text(given, "FILE")?,
         dirty_max: size(given, "dirty")?,
         cache_blocks: number(given, "cache")?,
-        moment: number(given, "moment")?,
+        moment: number(given, "moment").unwrap_or(defaults.moment),
     })
 }
 

@@ -13,11 +13,6 @@ pub(crate) fn word<'a>(alloc: Global, name: &'a str, help: &'a str) -> Arg<'a> {
     Arg::new(alloc, name).required(true).help(help)
 }
 
-/// A number below 2^64 that has to be there.
-pub(crate) fn number<'a>(alloc: Global, name: &'a str, help: &'a str) -> Arg<'a> {
-    word(alloc, name, help).value_parser(value_parser!(u64))
-}
-
 /// An option with a value, which the help gives this name.
 pub(crate) fn option<'a>(alloc: Global, name: &'a str, value: &'a str, help: &'a str) -> Arg<'a> {
     Arg::new(alloc, name)
@@ -86,6 +81,20 @@ pub(crate) fn object<'a>(alloc: Global) -> Arg<'a> {
 pub(crate) fn moment<'a>(alloc: Global) -> Arg<'a> {
     let help = "The moment in seconds that each written uberblock gets: below 2^64";
     number_option(alloc, "moment", "M", help).default_value("0")
+}
+
+/// The moment of a command that people type, which is the clock's if none is given.
+pub(crate) fn clock_moment<'a>(alloc: Global) -> Arg<'a> {
+    let help =
+        "The moment in seconds that each written uberblock gets: below 2^64;{n}now if not given";
+    number_option(alloc, "moment", "M", help)
+}
+
+/// The moment of `create`.
+pub(crate) fn create_moment<'a>(alloc: Global) -> Arg<'a> {
+    let help = "The moment in seconds that each written uberblock gets: below 2^64; if not{n}\
+        given, now with --size, and else 0";
+    number_option(alloc, "moment", "M", help)
 }
 
 /// The dirty limit of `serve`, that of the library: `DEFAULT_DIRTY_MAX` of `base`.

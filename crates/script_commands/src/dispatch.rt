@@ -8,9 +8,10 @@ use command_arguments::{
     Terminals,
 };
 use commands::{
-    open_within, read_input, report_terminal, run_check, run_check_all, run_create, run_get,
-    run_json_check, run_json_check_all, run_json_labels, run_json_list, run_json_show, run_labels,
-    run_list, run_load, run_long_list, run_put, run_remove, run_serve, run_show, run_space,
+    open_within, read_input, report_terminal, run_check, run_check_all, run_create_over,
+    run_create_sized, run_get, run_json_check, run_json_check_all, run_json_labels, run_json_list,
+    run_json_show, run_labels, run_list, run_load, run_long_list, run_put, run_remove, run_serve,
+    run_show, run_space,
 };
 use device_model::{Access, HeldFile};
 use std::io::{self, Eprint, Write};
@@ -37,7 +38,10 @@ where
     let Options { verbosity, wait } = options;
     match arguments {
         Arguments::Create(arguments) => {
-            run_create(rt, arguments, options, &mut io::writer(rt), errors)
+            run_create_over(rt, arguments, options, &mut io::writer(rt), errors)
+        }
+        Arguments::CreateSized(arguments) => {
+            run_create_sized(rt, arguments, options, &mut io::writer(rt), errors)
         }
         Arguments::Script(arguments) => run_named_script(rt, arguments, options, errors),
         Arguments::Load(arguments) => run_load(

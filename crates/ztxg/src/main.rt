@@ -5,11 +5,13 @@
 #![tactic(auto)]
 
 use command_arguments::Terminals;
-use command_line::{find_bad_size, parse_arguments, read_arguments, read_options};
+use command_line::{Defaults, find_bad_size, parse_arguments, read_arguments, read_options};
 use script_commands::run;
 use std::fs::File;
 use std::io::{self, IsTerminal};
 use std::process::ExitCode;
+use std::random::RandomSource;
+use std::time::Clock;
 
 /// The status of a fault of the command line.
 const BAD_ARGUMENTS: u8 = 2;
@@ -39,14 +41,17 @@ fn main(rt: HostRuntime) -> ExitCode {
                 let _ = eprint!(rt; "{bad_size}");
                 return ExitCode::from(BAD_ARGUMENTS);
             }
-            match read_arguments(&matches) {
+            match read_arguments(&matches, &find_defaults(&rt)) {
                 Some(arguments) => {
                     let options = read_options(&matches);
                     let terminals = find_terminals(&rt);
                     let status = run(&rt, arguments, options, terminals, &mut rt.stderr());
                     ExitCode::from(status)
                 }
-                None => ExitCode::from(BAD_ARGUMENTS),
+                None => {
+                    let _ = eprintln!(rt; "error: no guid can be drawn: give one by --guid");
+                    ExitCode::from(BAD_ARGUMENTS)
+                }
             }
         }
         Err(error) => {
@@ -57,6 +62,20 @@ fn main(rt: HostRuntime) -> ExitCode {
             }
         }
     }
+}
+
+// The clock's seconds since 1970, or 0 if it can't be read, and a guid drawn from the system's randomness.
+fn find_defaults(rt: &HostRuntime) -> Defaults {
+    let moment = match rt.since_1970() {
+        Ok(time) => time.as_secs(),
+        Err(_) => 0,
+    };
+    let mut bytes = [0; 8];
+    let guid = match rt.fill_bytes(&mut bytes) {
+        Ok(()) => Some(u64::from_le_bytes(bytes)),
+        Err(_) => None,
+    };
+    Defaults { moment, guid }
 }
 
 fn find_terminals(rt: &HostRuntime) -> Terminals {
