@@ -12,7 +12,7 @@ _ztxg() {
     fi
     local options="-q --quiet -v --verbose --wait -h --help"
     case $command in
-        create) options+=" --new --moment" ;;
+        create) options+=" --size --name --guid --new --force --moment" ;;
         put) options+=" --offset --moment" ;;
         get) options+=" --offset --length" ;;
         ls) options+=" -l --long --json" ;;

@@ -41,7 +41,7 @@ from tools.model.layout import AREA, BLOCK, CONFIG_AT, LABEL, MIB, block_count, 
 from tools.model.pool_bytes import number_at
 from tools.model.serial_pool import LEAST
 from tools.rows.many_groups import many_groups
-from tools.rows.report_rows import json_rows, size_rows, space_rows
+from tools.rows.report_rows import json_rows, size_rows, sized_rows, space_rows
 
 SIZE = 8 * MIB
 SECONDS = 20
@@ -711,8 +711,8 @@ class Commands(Judge):
             wide = [line for line in out.splitlines() if len(line) > 100]
             if wide:
                 self.differ(words, "has lines of more than 100 columns", wide)
-            defaults = {"load": ["1048576", "256", "0"], "serve": ["4194304", "256", "0"]}.get(words[0], [])
-            if words[0] in ("create", "script", "get", "put", "rm"):
+            defaults = {"load": ["1048576", "256", "0"], "serve": ["4194304", "256"]}.get(words[0], [])
+            if words[0] in ("script", "get"):
                 defaults = ["0"]
             if re.findall(r"\[default: (\w+)\]", out) != defaults:
                 self.differ(words, "names other defaults than", defaults)
@@ -758,6 +758,7 @@ def main(ztxg):
         judge.terminals()
         judge.texts()
         size_rows(judge)
+        sized_rows(judge, SYNC, flawed)
         space_rows(judge)
         json_rows(judge, SYNC, LOG, flawed)
         os.chdir(TOP)

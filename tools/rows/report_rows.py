@@ -1,4 +1,4 @@
-"""The rows of `tools commands` on sizes with a letter, and on reports: `ls -l`, `df` and `--json`.
+"""The rows of `tools commands` on sizes with a letter, on `create --size`, and on reports: `ls -l`, `df` and `--json`.
 
 What is expected follows from `docs/FORMATS.md` ("The program"). Each row runs on a judge of `tools/checks/commands.py`.
 """
@@ -6,9 +6,11 @@ What is expected follows from `docs/FORMATS.md` ("The program"). Each row runs o
 import json
 import os
 import pathlib
+import time
 
 from tools.model import layout
-from tools.model.layout import AREA, BLOCK, CONFIG_AT, LABEL, MIB
+from tools.model.layout import AREA, BLOCK, CONFIG_AT, LABEL, MIB, slot_places
+from tools.model.pool_bytes import number_at
 
 SIZE = 8 * MIB
 FAULT = (
@@ -83,6 +85,71 @@ def space_rows(judge):
         judge.ends(["df", name, option], 0, lines)
     judge.ends(["df", judge.make("new.pool"), "-h"], 0, "total 3.5M\nused 0\nfree 3.5M\navailable 3.4M\n")
     os.remove("new.pool")
+
+
+def sized_rows(judge, sync, flawed):
+    """`create --size` names the pool after its file, draws a guid, and replaces no pool without `--force`."""
+    os.mkdir("sized")
+    for file, name in [("tank.pool", "tank"), ("a.b.pool", "a.b"), ("tank", "tank"), ("4.pool", "pool"), (".x", "pool")]:
+        path = f"sized/{file}"
+        judge.ends(["create", path, "--size", "8M"], 0, f"created {name} 896 blocks\n")
+        pool = json.loads(judge.run(["show", path, "--json"])[1])
+        if pool["name"] != name or not 0 <= int(pool["guid"]) < 2**64:
+            judge.differ(path, "shows", pool)
+    path = "sized/tank.pool"
+    guids = {judge.run(["show", f"sized/{file}"])[1].split()[3] for file in os.listdir("sized")}
+    if len(guids) != len(os.listdir("sized")):
+        judge.differ("guids are drawn twice", guids)
+    moment = number_at(pathlib.Path(path).read_bytes(), slot_places(SIZE, 4)[0] + 32)
+    if abs(moment - time.time()) > 600:
+        judge.differ("a create has the moment", moment)
+    words = ["create", path, "--name", "pond", "--guid", "5", "--moment", "7", "--size"]
+    made = pathlib.Path(path).read_bytes()
+    refused = f"ztxg: cannot use {path}\n"
+    cause = "ztxg: cause: it has a pool, which is replaced with --force alone\n"
+    judge.ends([*words, "8M"], 3, errors=refused)
+    judge.ends([*words, "8M"], 3, errors=refused + cause, quiet=False)
+    judge.ends([*words, "16M"], 3, errors=refused)
+    judge.ends([*words, "7000000"], 1, errors="ztxg: refused 8 BadGeometry\n")
+    judge.ends(["create", path, "--size", "8M", "--name", "4"], 1, errors="ztxg: refused 11 BadRange\n")
+    judge.ends([*words, "8M", "--new"], 3, errors=refused)
+    if pathlib.Path(path).read_bytes() != made:
+        judge.differ("a refused create --size changes its file")
+    # A damaged pool is one, and so is a label's config alone.
+    damaged = judge.make("sized/damaged.pool", sync)
+    flawed(damaged, AREA + BLOCK + 64)
+    lone = judge.make("sized/lone.pool")
+    with open(lone, "r+b") as file:
+        for at in (0, LABEL, SIZE - 2 * LABEL):
+            file.seek(at)
+            file.write(bytes(LABEL))
+        file.seek(SIZE - LABEL + CONFIG_AT + BLOCK)
+        file.write(bytes(LABEL - CONFIG_AT - BLOCK))
+    judge.ends(["show", lone], 1, errors="ztxg: refused 6 NoPool\n")
+    for name in (damaged, lone):
+        judge.ends(["create", name, "--size", "8M"], 3, errors=f"ztxg: cannot use {name}\n")
+    judge.ends([*words, "8M", "--force"], 0, "created pond 896 blocks\n", quiet=False)
+    other = "sized/pond.pool"
+    judge.ends(["create", other, "pond", "5", "8388608", "--moment", "7"], 0, "created pond 896 blocks\n", quiet=False)
+    if pathlib.Path(other).read_bytes()[LABEL:] != pathlib.Path(path).read_bytes()[LABEL:]:
+        judge.differ("create --size and create by four words make different pools")
+    # The form of four words replaces a pool, and says so.
+    warned = f"ztxg: {other} has a pool, which is replaced\n"
+    judge.ends(["create", other, "tank", "77", "8M"], 0, "created tank 896 blocks\n", warned, quiet=False)
+    judge.ends(["create", other, "tank", "77", "8M"], 0, "created tank 896 blocks\n")
+    pathlib.Path("sized/zeros.pool").write_bytes(bytes(SIZE))
+    judge.ends(["create", "sized/zeros.pool", "--size", "8M"], 0, "created zeros 896 blocks\n", quiet=False)
+    judge.ends(["create", "sized/none/x", "--size", "8M"], 3, errors="ztxg: cannot use sized/none/x\n")
+    for more in (["tank", "77", "8M", "--size", "8M"], ["tank", "77", "8M", "--force"], ["--name", "tank"], [], ["--guid", "5"]):
+        if judge.run(["create", "sized/fault.pool", *more])[0] != 2:
+            judge.differ("create", more, "is no fault of the command line")
+    for words in (["put", path, "1"], ["rm", path, "1"]):
+        judge.put(words, "abcd")
+        made = pathlib.Path(path).read_bytes()
+        moments = [number_at(made, slot_places(SIZE, group)[0] + 32) for group in range(128)]
+        if abs(max(moments) - time.time()) > 600:
+            judge.differ(words, "has the moment", max(moments))
+    judge.put(["put", path, "1", "--moment", str(2**40)], "abcd")
 
 
 def shown(judge, words, status, expected):
