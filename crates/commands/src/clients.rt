@@ -4,6 +4,7 @@
 mod all_checks;
 mod objects;
 mod refusals;
+mod replaced;
 mod reports;
 mod served;
 

@@ -140,8 +140,8 @@ where
     }
 }
 
-// Reports that a file has a pool, and how that is replaced. Returns the exit status.
-fn report_pool<E: Write>(file: &str, verbosity: Verbosity, errors: &mut E) -> u8
+/// Reports that a file has a pool, and how that is replaced. Returns the exit status.
+pub(crate) fn report_pool<E: Write>(file: &str, verbosity: Verbosity, errors: &mut E) -> u8
     ensures { result ≡ 3 }
 {
     let _ = writeln!(errors, "ztxg: cannot use {}", FileName(file));
