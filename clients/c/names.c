@@ -1,7 +1,7 @@
-/* Objects by name: the bytes of object 0 as a directory (docs/FORMATS.md, "The directory").
+/* Objects by name: the bytes of object 0 as a table of names (docs/FORMATS.md, "Names of objects").
  *
- * One thread at a time reads the directory and changes it, under the pool's lock of names. So two threads that put one
- * new name make one object. Its memory is the pool's: first the hashes of the names, and then the record of the
+ * One thread at a time reads the table and changes it, under the pool's lock of names. So two threads that put one new
+ * name make one object. Its memory is the pool's: first the hashes of the names, and then the record of the
  * transaction. */
 #define _POSIX_C_SOURCE 200809L
 #include "internal.h"
@@ -23,12 +23,12 @@ static void set_in(numbers *set, uint32_t number) { set->bits[number / 8] |= (ui
 
 static int is_in(const numbers *set, uint32_t number) { return set->bits[number / 8] >> number % 8 & 1; }
 
-/* What the directory says of one name: its object, or 0; the numbers that have names; and the length of object 0. */
+/* What the table says of one name: its object, or 0; the numbers that have names; and the length of object 0. */
 typedef struct {
     uint32_t object;
     uint64_t length;
     numbers named;
-} directory;
+} name_table;
 
 /* The bytes of the character of UTF-8 that stands here, or 0 if there is none. `*character` is its number. */
 static size_t character_at(const uint8_t *bytes, size_t count, uint32_t *character) {
@@ -91,7 +91,8 @@ static int is_double(topzerad *pool, const uint8_t slot[SLOT], uint32_t number, 
 }
 
 /* Takes in the slot of an object. `wanted` is that of the name that is looked up, or NULL. */
-static int take_slot(topzerad *pool, directory *d, uint32_t number, const uint8_t slot[SLOT], const uint8_t *wanted) {
+static int take_slot(topzerad *pool, name_table *table, uint32_t number, const uint8_t slot[SLOT],
+                     const uint8_t *wanted) {
     int is = 0, refusal;
     if (!number) return memcmp(slot, header, SLOT) ? TOPZERAD_BAD_RANGE : 0;
     int is_empty = !memcmp(slot, empty_slot, SLOT);
@@ -100,27 +101,27 @@ static int take_slot(topzerad *pool, directory *d, uint32_t number, const uint8_
     if (!is_slot(slot)) return TOPZERAD_BAD_RANGE;
     refusal = is_double(pool, slot, number, &is);
     if (refusal || is) return refusal ? refusal : TOPZERAD_BAD_RANGE;
-    set_in(&d->named, number);
-    if (wanted && !memcmp(slot, wanted, SLOT)) d->object = number;
+    set_in(&table->named, number);
+    if (wanted && !memcmp(slot, wanted, SLOT)) table->object = number;
     return 0;
 }
 
-/* Reads the directory, all of which is tested. TOPZERAD_BAD_RANGE if object 0 is none. */
-static int read_directory(topzerad *pool, const char *name, directory *d) {
+/* Reads the table, all of which is tested. TOPZERAD_BAD_RANGE if object 0 is none. */
+static int read_table(topzerad *pool, const char *name, name_table *table) {
     uint8_t wanted[SLOT], slots[SLOTS * SLOT];
     size_t count;
-    memset(d, 0, sizeof *d);
+    memset(table, 0, sizeof *table);
     if (name) slot_of(wanted, name);
-    int refusal = topzerad_length(pool, 0, &d->length);
+    int refusal = topzerad_length(pool, 0, &table->length);
     if (refusal == TOPZERAD_NO_OBJECT) return 0;
     if (refusal) return refusal;
-    if (d->length % SLOT || d->length > (uint64_t)SLOT * TOPZERAD_OBJECTS) return TOPZERAD_BAD_RANGE;
-    for (uint64_t at = 0; at < d->length; at += count) {
-        uint64_t end = d->length - at < sizeof slots ? d->length : at + sizeof slots;
+    if (table->length % SLOT || table->length > (uint64_t)SLOT * TOPZERAD_OBJECTS) return TOPZERAD_BAD_RANGE;
+    for (uint64_t at = 0; at < table->length; at += count) {
+        uint64_t end = table->length - at < sizeof slots ? table->length : at + sizeof slots;
         refusal = topzerad_read(pool, 0, at, end, slots, &count);
         if (!refusal && count != end - at) refusal = TOPZERAD_BAD_RANGE;
         for (size_t i = 0; !refusal && i < count; i += SLOT)
-            refusal = take_slot(pool, d, (uint32_t)((at + i) / SLOT), slots + i, name ? wanted : NULL);
+            refusal = take_slot(pool, table, (uint32_t)((at + i) / SLOT), slots + i, name ? wanted : NULL);
         if (refusal) return refusal;
     }
     return 0;
@@ -140,28 +141,28 @@ static int list_objects(topzerad *pool, numbers *there) {
 }
 
 /* The lowest number from 1 on without a name and an object, or 0. */
-static uint32_t free_number(const directory *d, const numbers *there) {
+static uint32_t free_number(const name_table *table, const numbers *there) {
     for (uint32_t number = 1; number < TOPZERAD_OBJECTS; number++)
-        if (!is_in(&d->named, number) && !is_in(there, number)) return number;
+        if (!is_in(&table->named, number) && !is_in(there, number)) return number;
     return 0;
 }
 
 /* Commits the first piece of a put. `*object` is the number that it takes. */
 static int put_first(topzerad *pool, const char *name, const void *bytes, size_t count, uint32_t *object) {
-    directory d;
+    name_table table;
     numbers there;
     uint8_t slot[SLOT];
     topzerad_tx tx;
-    int refusal = read_directory(pool, name, &d);
+    int refusal = read_table(pool, name, &table);
     if (!refusal) refusal = list_objects(pool, &there);
     if (refusal) return refusal;
-    int is_new = !d.object;
-    *object = is_new ? free_number(&d, &there) : d.object;
+    int is_new = !table.object;
+    *object = is_new ? free_number(&table, &there) : table.object;
     if (!*object) return TOPZERAD_TOO_MANY;
     slot_of(slot, name);
     topzerad_tx_start(&tx, pool->names.record, sizeof pool->names.record);
     if (is_new && !is_in(&there, 0)) refusal = topzerad_tx_create(&tx, 0);
-    if (!refusal && is_new && !d.length) refusal = topzerad_tx_write(&tx, 0, 0, header, SLOT);
+    if (!refusal && is_new && !table.length) refusal = topzerad_tx_write(&tx, 0, 0, header, SLOT);
     if (!refusal && is_new) refusal = topzerad_tx_write(&tx, 0, (uint64_t)SLOT * *object, slot, SLOT);
     if (!refusal) {
         int is_there = is_in(&there, *object);
@@ -196,10 +197,10 @@ static int put_named(topzerad *pool, const char *name, const uint8_t *bytes, siz
 }
 
 static int find_named(topzerad *pool, const char *name, uint32_t *object) {
-    directory d;
-    int refusal = read_directory(pool, name, &d);
-    *object = d.object;
-    return refusal ? refusal : d.object ? 0 : TOPZERAD_NO_OBJECT;
+    name_table table;
+    int refusal = read_table(pool, name, &table);
+    *object = table.object;
+    return refusal ? refusal : table.object ? 0 : TOPZERAD_NO_OBJECT;
 }
 
 static int get_named(topzerad *pool, const char *name, void *into, size_t room, uint64_t *length) {
@@ -227,12 +228,12 @@ static int remove_named(topzerad *pool, const char *name) {
 }
 
 static int list_names(topzerad *pool, uint32_t first, topzerad_named *into, size_t room, size_t *count) {
-    directory d;
+    name_table table;
     uint8_t slot[SLOT];
     size_t read;
-    int refusal = read_directory(pool, NULL, &d);
+    int refusal = read_table(pool, NULL, &table);
     for (uint32_t number = first; !refusal && number < TOPZERAD_OBJECTS && *count < room; number++) {
-        if (!is_in(&d.named, number)) continue;
+        if (!is_in(&table.named, number)) continue;
         refusal = topzerad_read(pool, 0, (uint64_t)SLOT * number, (uint64_t)SLOT * (number + 1), slot, &read);
         if (!refusal && (read != SLOT || !is_slot(slot))) refusal = TOPZERAD_BAD_RANGE;
         if (refusal) break;

@@ -69,7 +69,7 @@ enum {
     TOPZERAD_NO_OPENING = 205
 };
 
-#define TOPZERAD_VERSION "0.2.0"       /* of this header; the library and the program have to be of the same one */
+#define TOPZERAD_VERSION "0.3.0"       /* of this header; the library and the program have to be of the same one */
 #define TOPZERAD_OBJECTS 5292u         /* objects have the numbers below this */
 #define TOPZERAD_MAX_LENGTH 28449792u  /* the most bytes of an object */
 #define TOPZERAD_MAX_RECORD 65536u     /* the most bytes of a transaction */
@@ -234,10 +234,10 @@ int topzerad_sync(topzerad *pool, uint64_t *group);
 /* The pool's name, with a 0 after it. */
 int topzerad_name(topzerad *pool, char name[TOPZERAD_MAX_NAME + 1]);
 
-/* Objects by name. Names stand in object 0 (docs/FORMATS.md, "The directory"). A name has 1 to
+/* Objects by name. Names stand in object 0 (docs/FORMATS.md, "Names of objects"). A name has 1 to
  * TOPZERAD_MAX_OBJECT_NAME bytes of UTF-8, no control characters and no `/`. Each call reads object 0 whole, and one
  * thread at a time makes it. Each returns TOPZERAD_BAD_RANGE if the name is none, or if object 0 is of another use,
- * which is left as it is; and TOPZERAD_NO_OBJECT if no object has the name. */
+ * which is left as it is. All but a put return TOPZERAD_NO_OBJECT if no object has the name. */
 
 /* An object that has a name, which ends with a 0. */
 typedef struct {

@@ -268,6 +268,7 @@ static struct nbdkit_plugin plugin = {
     .name = "topzerad",
     .longname = "Topzerad",
     .description = "the disk in a Topzerad pool",
+    .version = TOPZERAD_VERSION,
     .magic_config_key = "file",
     .config = topzerad_config,
     .config_complete = topzerad_config_complete,

@@ -367,7 +367,7 @@ class Names(OnPools):
                 pool.write_long(0, 0, bad)
                 before = pool.objects()
                 for call, *words in [(pool.get, "one"), (pool.put, "new", b"3"), (pool.remove, "one"), (pool.names,)]:
-                    self.assertIn("object 0 is no directory of names", str(self.refused(11, call, *words)))
+                    self.assertIn("object 0 is no table of names", str(self.refused(11, call, *words)))
                 self.assertEqual((pool.objects(), pool.read(0) == bad), (before, True))
             pool.transact([set_length(0, 0)])
             pool.write_long(0, 0, good + bytes(256 * (topzerad.OBJECT_COUNT - 3)))
@@ -375,9 +375,9 @@ class Names(OnPools):
 
     def test_no_number_is_left(self):
         with self.open() as pool:
-            slots = [topzerad.directory.slot_of(b"%d" % number) for number in range(1, topzerad.OBJECT_COUNT - 1)]
+            slots = [topzerad.name_table.slot_of(b"%d" % number) for number in range(1, topzerad.OBJECT_COUNT - 1)]
             pool.transact([create(0)])
-            pool.write_long(0, 0, topzerad.directory.HEADER + b"".join(slots))
+            pool.write_long(0, 0, topzerad.name_table.HEADER + b"".join(slots))
             self.assertEqual(len(pool.names()), 5_290)
             self.assertEqual(pool.put("last", b"1"), 5_291)
             self.assertIn("no number is left", str(self.refused(22, pool.put, "one more", b"1")))

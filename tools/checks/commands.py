@@ -662,9 +662,9 @@ class Commands(Judge):
         main, other = pty.openpty()
         words = [self.ztxg, "load", self.make("load.pool"), "--workers", "2", "--ops", "8", "--seed", "5"]
         with subprocess.Popen(words, stdout=subprocess.PIPE, stderr=other) as running:
+            os.close(other)
             out = running.stdout.read()
-        os.close(other)
-        shown = os.read(main, 65_536)
+        shown = b"".join(program.terminal_text(main))
         os.close(main)
         percents = [int(found) for found in re.findall(rb"(\d+) percent of the writes are durable", shown)]
         if running.returncode or not out.startswith(b"committed 145\n") or not percents or max(percents) != 100:

@@ -32,7 +32,7 @@ import subprocess
 from tools.harness import shims
 from tools.harness.judge import Judge
 from tools.harness.pool_files import IN_MEMORY, create, pool_file
-from tools.harness.program import add_program
+from tools.harness.program import add_program, terminal_text
 from tools.harness.served import Served
 from tools.model.frames import CALLS, Request, Server, read_answers, requests_frame
 from tools.model.layout import OBJECTS
@@ -54,14 +54,6 @@ ROUNDS = [("", 0), ("flush", 1), ("flush", 2), ("write", 1), ("write", 2), ("wri
 
 # A load.
 WORKERS, WRITES, SEED = 4, 16, 5
-
-
-def read_terminal(file):
-    """What a terminal shows, nothing once its other end is closed."""
-    try:
-        return os.read(file, 65_536)
-    except OSError:
-        return b""
 
 
 def held_of(objects, stream):
@@ -230,7 +222,7 @@ class PowerFailures(Judge):
         shown = []
         with subprocess.Popen(words, stdout=subprocess.PIPE, stderr=other, env=self.environment()) as running:
             os.close(other)
-            for text in iter(lambda: read_terminal(main), b""):
+            for text in terminal_text(main):
                 shown += [(self.made(), int(percent)) for percent in re.findall(rb"(\d+) percent", text)]
             running.stdout.read()
         os.close(main)

@@ -59,6 +59,16 @@ def text_of(lines):
     return b"".join((line if isinstance(line, bytes) else line.encode()) + b"\n" for line in lines)
 
 
+def terminal_text(file):
+    """What a terminal shows, part by part as it comes, until its other end is closed."""
+    try:
+        while text := os.read(file, 65_536):
+            yield text
+    except OSError:
+        # A terminal answers so after its last byte if nobody has its other end.
+        pass
+
+
 def run(words, lines=(), seconds=None, out=subprocess.PIPE, **process):
     """A run with these words and these lines on standard input, which ends after so many seconds. `process` has what
     `subprocess.run` takes besides, as an environment or a user."""

@@ -9,11 +9,16 @@ memory of its largest process. The load is the number of threads that ran or wai
 processes, and each of edits, has a row for each process below it.
 
 A chain is a run of tasks of which each waits for the one before, as `rt ci` orders them: proofs for those of the crates
-below, tests for the same, and edits for both. The longest one bounds the wall time on any number of processors. The
-runs of what was built come after all tasks, one by one, and are in no chain.
+below, tests for the same, and edits for both. Several edits of a crate also wait for a proof that they begin with,
+their seed, which waits for the crates below. They lie beside each other, and one more check of the crate ends them. The
+longest chain bounds the wall time on any number of processors. The runs of what was built come after all tasks, one by
+one, and are in no chain.
 
 The last line sums up, and takes what the proof of `base` costs in the same run for its unit: this holds on any machine.
 Times are too high on a busy one, and then the line says so.
+
+`rt ci` keeps what passed. So a run after a change measures what it proves again, and `--with` takes the rest from what
+`--json` wrote of an earlier run. The chain is that of both. The wall time is this run's alone.
 """
 
 import contextlib
@@ -40,6 +45,8 @@ QUIET = 0.1
 TICKS = os.sysconf("SC_CLK_TCK")
 PAGE = os.sysconf("SC_PAGE_SIZE")
 KINDS = ["proof", "tests", "edits", "runs"]
+# What several edits of a crate begin with, and what ends them.
+SEED, END = "the crate without an edit", "the crate once more"
 COMPILERS = {"llvm": "build by LLVM", "rattle": "build by Rattle's own compiler"}
 # The folder that `rt ci` checks an edit in, and the copy of what it built that it runs.
 EDITED = re.compile(r".*/rt-edit-[^/]*")
@@ -252,6 +259,10 @@ def measured(command, folder):
     return Run(started.returncode, record.processes(), record.lanes, took.wall, took.children, *shares)
 
 
+def name_of(crate, kind):
+    return crate if kind == "proof" else f"{crate}'s {kind}"
+
+
 @dataclass
 class Task:
     """A task of a crate, with its processes and a name for each."""
@@ -263,7 +274,7 @@ class Task:
 
     @property
     def name(self):
-        return self.crate if self.kind == "proof" else f"{self.crate}'s {self.kind}"
+        return name_of(self.crate, self.kind)
 
     @property
     def seconds(self):
@@ -296,8 +307,8 @@ def edit_names(folder, crate):
 
 def checked_edits(names, count):
     """What each of so many checks of edits judged."""
-    # Several edits end with the crate itself. What was not refused is checked again from nothing.
-    known = [*names, "the crate without an edit"] if len(names) > 1 else names
+    # What was not refused is checked again from nothing.
+    known = [SEED, *names, END] if len(names) > 1 else names
     return (known + ["again, from nothing"] * count)[:count]
 
 
@@ -327,8 +338,9 @@ def waits_of(crates):
     """Each task with those that it waits for, as `rt ci` orders them."""
     waits = {}
     for crate, used in crates.items():
-        waits[crate, "proof"] = waits[crate, "tests"] = [(it, "proof") for it in used]
-        waits[crate, "edits"] = [(crate, "proof"), (crate, "tests")]
+        for kind in ("proof", "tests", "seed"):
+            waits[crate, kind] = [(it, "proof") for it in used]
+        waits[crate, "edits"] = [(crate, kind) for kind in ("proof", "tests", "seed")]
     return waits
 
 
@@ -357,15 +369,51 @@ class Chain(NamedTuple):
 
     def text(self):
         times = f" = {self.seconds / self.unit:.1f} times {UNIT}" if self.unit else ""
-        return f"{self.seconds / 60:.1f} minutes{times}: {', '.join(task.name for task in self.tasks)}"
+        return f"{self.seconds / 60:.1f} minutes{times}: {', '.join(self.tasks)}"
+
+
+def costs_by(measure, task):
+    """What a task takes of a chain, by `seconds` or `wall`: edits have two parts, of which the first waits for less."""
+    if task.kind != "edits":
+        return {(task.crate, task.kind): getattr(task, measure)}
+    costs = {part: getattr(process, measure) for part, process in zip(task.parts, task.processes)}
+    seed, end = costs.pop(SEED, 0.0), costs.pop(END, 0.0)
+    return {(task.crate, "seed"): seed, (task.crate, "edits"): max(costs.values(), default=0.0) + end}
 
 
 def chain_by(measure, tasks, crates):
     """The longest chain by `seconds` or `wall` of the tasks."""
-    costs = {key: getattr(task, measure) for key, task in tasks.items() if task.kind != "runs"}
+    costs = {}
+    for task in tasks.values():
+        if task.kind != "runs":
+            costs |= costs_by(measure, task)
     chain = longest_chain(waits_of(crates), costs)
     unit = costs.get((UNIT, "proof"), 0.0)
-    return Chain([tasks[key] for key in chain], sum(costs[key] for key in chain), unit)
+    return Chain([name_of(*key) for key in chain], sum(costs[key] for key in chain), unit)
+
+
+def earlier_task(data):
+    """A task of an earlier run, as `as_data` wrote it."""
+    processes = [
+        Process(
+            Work(data["crate"], data["kind"], of["part"], of["jobs"]),
+            of["start"],
+            of["start"] + of["wall"],
+            of["seconds"],
+            of["memory"],
+            of["load"],
+            1,
+        )
+        for of in data["processes"]
+    ]
+    return Task(data["crate"], data["kind"], processes, [of["part"] for of in data["processes"]])
+
+
+def with_earlier(tasks, data, crates):
+    """These tasks, with those of an earlier run that this one kept, in the order of the crates."""
+    kept = {(it["crate"], it["kind"]): earlier_task(it) for it in data["tasks"] if it["kind"] != "runs"}
+    both = kept | tasks
+    return {(crate, kind): both[crate, kind] for crate in crates for kind in KINDS if (crate, kind) in both}
 
 
 def processors():
@@ -402,11 +450,12 @@ def busy_text(run):
     return f"; UNDER LOAD, so times are too high: {', '.join(said)}" if said else ""
 
 
-def summary(run, tasks, chain):
-    """The line that a note can quote."""
+def summary(run, tasks, chain, earlier=0.0):
+    """The line that a note can quote. So many seconds are of an earlier run."""
     failed = f"FAILED with status {run.status}, so a part alone was measured: " if run.status else ""
     times = f", {sum_of(tasks) / chain.unit:.1f} times {UNIT} ({chain.unit:.0f} s)" if chain.unit else ""
-    sums = f"{sum_of(tasks) / 60:.1f} processor minutes, {run.wall / 60:.1f} wall"
+    before = f" ({earlier / 60:.1f} of them in an earlier run)" if earlier else ""
+    sums = f"{sum_of(tasks) / 60:.1f} processor minutes{before}, {run.wall / 60:.1f} wall"
     lanes = f"{processors()} processors with {run.lanes} lanes"
     return f"gate: {failed}{sums} on {lanes}{times}, chain {chain.text()}{busy_text(run)}"
 
@@ -439,7 +488,7 @@ def as_data(run, tasks, chains, line):
         return {"crate": of.crate, "kind": of.kind, **numbers(of), "processes": below}
 
     whole = {name: getattr(run, name) for name in ("status", "lanes", "wall", "seconds", "others", "stolen")}
-    named = {name: {**chain._asdict(), "tasks": [it.name for it in chain.tasks]} for name, chain in chains.items()}
+    named = {name: chain._asdict() for name, chain in chains.items()}
     return {"line": line, "processors": processors(), **whole, "chains": named, "tasks": [*map(task, tasks.values())]}
 
 
@@ -448,21 +497,33 @@ def add_arguments(parser):
     text = "the top of the repository, if it is another: in a clone `rt ci` leaves the work alone that is kept here"
     parser.add_argument("--in", dest="folder", type=pathlib.Path, default=TOP, help=text)
     parser.add_argument("--json", dest="file", type=pathlib.Path, help="the file that gets the whole table")
+    text = "what --json wrote of an earlier run on this machine, for the tasks that this run keeps"
+    parser.add_argument("--with", dest="earlier", type=pathlib.Path, help=text)
 
 
-def main(command, folder, file):
+def read_earlier(path):
+    """What `--json` wrote of an earlier run."""
+    try:
+        return json.loads(path.read_text())
+    except (OSError, ValueError) as error:
+        raise Failed(f"{path} is no table of an earlier run: {error}", 2) from error
+
+
+def main(command, folder, file, earlier):
     try:
         crates = libraries((folder / "crates.txt").read_text())
     except OSError as error:
         raise Failed(f"{folder} is not the top of a repository: {error}", 2) from error
+    before = read_earlier(earlier) if earlier else {"tasks": []}
     run = measured(command, folder)
     if not run.processes:
         raise Failed(f"no proof was seen, and the status was {run.status}", 2)
-    tasks = tasks_of(run.processes, crates, folder)
+    own = tasks_of(run.processes, crates, folder)
+    tasks = with_earlier(own, before, crates) if earlier else own
     measures = {"processor seconds": "seconds", "wall time": "wall"}
     chains = {name: chain_by(measure, tasks, crates) for name, measure in measures.items()}
-    line = summary(run, tasks, chains["processor seconds"])
-    print("", *lines_of(tasks), "", *notes_of(run, tasks, chains), line, sep="\n", flush=True)
+    line = summary(run, tasks, chains["processor seconds"], sum_of(tasks) - sum_of(own))
+    print("", *lines_of(tasks), "", *notes_of(run, own, chains), line, sep="\n", flush=True)
     if file:
         file.write_text(json.dumps(as_data(run, tasks, chains, line), indent=1) + "\n")
     return int(run.status != 0)

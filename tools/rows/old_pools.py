@@ -5,7 +5,7 @@ last one, whose log it would have refused to write. Object 1 has a strip of byte
 version: its last record alone has a block.
 
 Those of `FULL` have as few free blocks as such a program could leave. It reserved a block less for a write than is
-reserved now. By what is reserved now for their logs they have no room for an import, which needs far fewer blocks.
+reserved now. What is reserved now for such logs is more than they have, but an import needs far fewer blocks.
 """
 
 from tools.model.layout import AREA, BLOCK, NAMED, STRIP

@@ -184,6 +184,10 @@ class Chains(unittest.TestCase):
         found = self.longest(base_proof=5, left_proof=8, left_tests=9, left_edits=6, right_proof=10, top_proof=4)
         self.assertEqual(found, [("base", "proof"), ("left", "tests"), ("left", "edits")])
 
+    def test_edits_wait_for_their_seed_which_waits_for_the_libraries(self):
+        found = self.longest(base_proof=5, left_proof=8, left_seed=9, left_edits=6, right_proof=10, top_proof=4)
+        self.assertEqual(found, [("base", "proof"), ("left", "seed"), ("left", "edits")])
+
     def test_a_chain_may_begin_above_what_was_not_measured(self):
         self.assertEqual(self.longest(top_proof=1), [("top", "proof")])
 
@@ -198,6 +202,7 @@ class Tables(unittest.TestCase):
         process("low", "proof", 400.0, 520.0, 120.0),
         process("low", "edits", 520.0, 700.0, 180.0),
         process("low", "edits", 701.0, 760.0, 60.0),
+        process("low", "edits", 701.0, 751.0, 50.0),
         process("low", "edits", 761.0, 820.0, 60.0),
         process("low", "runs", 821.0, 822.0, 1.5, "program"),
     ]
@@ -214,20 +219,22 @@ class Tables(unittest.TestCase):
             return gate_costs.tasks_of(self.processes, self.crates, room)
 
     def test_each_check_of_an_edit_has_its_name(self):
-        self.assertEqual(self.tasks()["low", "edits"].parts, ["a-b", "a", "the crate without an edit"])
+        several = ["the crate without an edit", "a-b", "a", "the crate once more"]
+        self.assertEqual(self.tasks()["low", "edits"].parts, several)
         self.assertEqual(gate_costs.checked_edits(["a"], 1), ["a"])
-        again = ["a", "b", "the crate without an edit", "again, from nothing"]
-        self.assertEqual(gate_costs.checked_edits(["a", "b"], 4), again)
+        again = ["the crate without an edit", "a", "b", "the crate once more", "again, from nothing"]
+        self.assertEqual(gate_costs.checked_edits(["a", "b"], 5), again)
 
     def test_the_table(self):
         lines = list(gate_costs.lines_of(self.tasks()))
         self.assertEqual([line.split(None, 5) for line in lines[1:]], [
             ["300.0", "300.0", "1", "1.5", "2000", "base"],
             ["120.0", "120.0", "1", "1.5", "2000", "low"],
-            ["300.0", "300.0", "1", "1.5", "2000", "low's edits"],
-            ["180.0", "180.0", "1", "1.5", "2000", "a-b"],
-            ["60.0", "59.0", "1", "1.5", "2000", "a"],
-            ["60.0", "59.0", "1", "1.5", "2000", "the crate without an edit"],
+            ["350.0", "300.0", "1", "1.5", "2000", "low's edits"],
+            ["180.0", "180.0", "1", "1.5", "2000", "the crate without an edit"],
+            ["60.0", "59.0", "1", "1.5", "2000", "a-b"],
+            ["50.0", "50.0", "1", "1.5", "2000", "a"],
+            ["60.0", "59.0", "1", "1.5", "2000", "the crate once more"],
             ["1.5", "1.0", "1", "1.5", "2000", "low's runs"],
         ])
 
@@ -238,12 +245,25 @@ class Tables(unittest.TestCase):
 
     def test_the_last_line(self):
         quiet = Run(0, self.processes, 3, 750.0, 730.0, 0.05, 0.0)
-        said = "gate: 12.0 processor minutes, 12.5 wall on 4 processors with 3 lanes, 2.4 times base (300 s), "
-        said += "chain 12.0 minutes = 2.4 times base: base, low, low's edits"
+        said = "gate: 12.9 processor minutes, 12.5 wall on 4 processors with 3 lanes, 2.6 times base (300 s), "
+        said += "chain 10.0 minutes = 2.0 times base: base, low's seed, low's edits"
         self.assertEqual(self.line(quiet), said)
 
     def test_a_measure_under_load_or_of_a_gate_that_failed_says_so(self):
         busy = self.line(Run(1, self.processes, 3, 750.0, 730.0, 2.04, 0.3))
-        self.assertIn("gate: FAILED with status 1, so a part alone was measured: 12.0 processor minutes", busy)
+        self.assertIn("gate: FAILED with status 1, so a part alone was measured: 12.9 processor minutes", busy)
         said = "UNDER LOAD, so times are too high: other work took 2.0 processors, the machine's host took 0.3"
         self.assertTrue(busy.endswith(said), busy)
+
+    def test_a_run_that_keeps_a_crate_takes_it_from_an_earlier_one(self):
+        run = Run(0, self.processes, 3, 750.0, 730.0, 0.05, 0.0)
+        chains = {"processor seconds": gate_costs.chain_by("seconds", self.tasks(), self.crates)}
+        data = gate_costs.as_data(run, self.tasks(), chains, "")
+        own = gate_costs.tasks_of([process("low", "proof", 0.0, 90.0, 60.0)], self.crates, ".")
+        both = gate_costs.with_earlier(own, data, self.crates)
+        self.assertEqual({key: task.seconds for key, task in both.items()}, {
+            ("base", "proof"): 300.0, ("low", "proof"): 60.0, ("low", "edits"): 350.0
+        })
+        self.assertEqual(gate_costs.chain_by("seconds", both, self.crates).seconds, 600.0)
+        line = gate_costs.summary(run, both, chains["processor seconds"], 650.0)
+        self.assertIn("11.8 processor minutes (10.8 of them in an earlier run), 12.5 wall", line)

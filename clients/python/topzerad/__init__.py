@@ -13,7 +13,6 @@ no power failure loses it. Every error is an `Error`.
 `put`, `get`, `remove` and `names` know objects by names in place of numbers.
 """
 
-from .directory import MAX_OBJECT_NAME
 from .errors import (
     NAMES,
     TEXTS,
@@ -33,6 +32,7 @@ from .errors import (
     TimedOut,
 )
 from .frames import Opened, Receipt, Status
+from .name_table import MAX_OBJECT_NAME
 from .operations import (
     MAX_LENGTH,
     MAX_NAME,

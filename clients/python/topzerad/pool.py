@@ -7,7 +7,6 @@ import threading
 from types import TracebackType
 from typing import Any, ContextManager, Dict, Iterable, List, Optional, Sequence, Type, TypeVar, Union, cast
 
-from .directory import Directory, object_name
 from .errors import EXISTS, NO_OBJECT, Broken, Error, Forked, Refused
 from .frames import (
     DURABLE,
@@ -30,6 +29,7 @@ from .frames import (
     read_answers,
     requests_frame,
 )
+from .name_table import NameTable, object_name
 from .operations import MAX_LENGTH, MAX_WRITE, OBJECT_COUNT, Bytes, Operation, fitted, record, write
 from .process import GREATEST, LONGEST_WAIT, Path, Process, option_words
 from .turns import Call, Turns
@@ -118,7 +118,7 @@ class Pool:
         self._next = 0  # the number of the next request
         self._turns = Turns(self._ask)
         self._closing = threading.RLock()
-        self._naming = threading.RLock()  # one thread at a time reads the directory and changes it
+        self._naming = threading.RLock()  # one thread at a time reads the table of names and changes it
         self._process = Process(program, path, options, timeout)
         self.opened = self._process.open(wait or 0)
 
@@ -244,7 +244,7 @@ class Pool:
         """Gives the object of a name these bytes alone, and returns its number once no power failure loses them. The
         object is made if no object has the name: it takes the lowest number from 1 on that is free.
 
-        Names stand in object 0 (`docs/FORMATS.md`, "The directory"). A name has 1 to 254 bytes of UTF-8, without
+        Names stand in object 0 (`docs/FORMATS.md`, "Names of objects"). A name has 1 to 254 bytes of UTF-8, without
         control characters and `/`. The name and the first 64,512 bytes are committed by one transaction, and what is
         left by further ones. A `Refused` says in `committed` how many bytes were committed before, if some were.
         """
@@ -264,39 +264,39 @@ class Pool:
         """The bytes of the object of a name."""
         name = object_name(name)
         with self._names_lock():
-            return self.read(self._directory().find(name))
+            return self.read(self._name_table().find(name))
 
     def remove(self, name: Union[str, bytes]) -> None:
         """Removes the object of a name, and the name, by one transaction. It returns once no power failure undoes
         it."""
         name = object_name(name)
         with self._names_lock():
-            self.transact_durably(self._directory().end(name, self.objects()))
+            self.transact_durably(self._name_table().end(name, self.objects()))
 
     def names(self) -> Dict[str, int]:
         """The numbers of the objects that have a name, by their names."""
         with self._names_lock():
-            return {name.decode(): number for name, number in self._directory().names.items()}
+            return {name.decode(): number for name, number in self._name_table().names.items()}
 
     def _names_lock(self) -> ContextManager[Any]:
         # In a child another thread of the parent may have had it at the fork.
         self._test_fork()
         return self._naming
 
-    def _directory(self) -> Directory:
+    def _name_table(self) -> NameTable:
         try:
-            return Directory(self.read(0))
+            return NameTable(self.read(0))
         except Refused as refused:
             if refused.number != NO_OBJECT:
                 raise
-            return Directory(b"")
+            return NameTable(b"")
 
     def _start(self, name: bytes, first: Bytes) -> int:
         """Commits the first piece of a put, and returns the object's number. If another thread took the number by a
         transaction of its own meanwhile, it takes the next one."""
         while True:
             objects = self.objects()
-            number, ops = self._directory().start(name, objects)
+            number, ops = self._name_table().start(name, objects)
             try:
                 self.transact([*ops, write(number, 0, first)] if first else ops)
                 return number

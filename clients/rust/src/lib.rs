@@ -35,20 +35,20 @@
 
 #![forbid(unsafe_code)]
 
-mod directory;
 mod error;
 mod frames;
+mod name_table;
 mod options;
 mod record;
 mod server;
 mod turns;
 
-pub use directory::MAX_OBJECT_NAME;
 pub use error::{Error, Refusal};
+pub use name_table::MAX_OBJECT_NAME;
 pub use options::{CreateOptions, Options};
 
-use directory::{check_name, Directory};
 use frames::{Answer, Outcome, Request, Sizes};
+use name_table::{check_name, NameTable};
 use server::{Connection, Server};
 use std::collections::BTreeMap;
 use std::ffi::OsStr;
@@ -127,7 +127,7 @@ pub struct Pool {
     server: Option<Server>,
     opened: Opened,
     opener: u32,
-    /// Held by the thread that reads and changes the directory of names.
+    /// Held by the thread that reads and changes the table of names.
     naming: Mutex<()>,
 }
 
@@ -274,7 +274,7 @@ impl Pool {
     /// Gives the object of a name these bytes alone, and returns its number once no power failure loses them. If no
     /// object has the name one is made: it takes the lowest number from 1 on that is free.
     ///
-    /// Names stand in object 0 (`docs/FORMATS.md`, "The directory"). A name has 1 to 254 bytes, and neither a control
+    /// Names stand in object 0 (`docs/FORMATS.md`, "Names of objects"). A name has 1 to 254 bytes, and neither a control
     /// character nor `/`. The name and the first 64,512 bytes are committed by one transaction, and what is left by
     /// further ones.
     ///
@@ -304,7 +304,7 @@ impl Pool {
     pub fn get(&self, name: &str) -> Result<Vec<u8>, Error> {
         check_name(name)?;
         let _naming = self.naming()?;
-        self.read(self.directory()?.find(name)?, 0, MAX_LENGTH)
+        self.read(self.name_table()?.find(name)?, 0, MAX_LENGTH)
     }
 
     /// Removes the object of a name, and the name, by one transaction. It returns once no power failure undoes it.
@@ -315,7 +315,7 @@ impl Pool {
     pub fn remove(&self, name: &str) -> Result<(), Error> {
         check_name(name)?;
         let _naming = self.naming()?;
-        let change = self.directory()?.change_for_removal(name, &self.objects(0, OBJECTS)?)?;
+        let change = self.name_table()?.change_for_removal(name, &self.objects(0, OBJECTS)?)?;
         self.transact_durably(&change.remove()).map(drop)
     }
 
@@ -326,7 +326,7 @@ impl Pool {
     /// `BadRange` if object 0 is of another use.
     pub fn names(&self) -> Result<BTreeMap<String, u32>, Error> {
         let _naming = self.naming()?;
-        self.directory().map(Directory::into_names)
+        self.name_table().map(NameTable::into_names)
     }
 
     fn naming(&self) -> Result<MutexGuard<'_, ()>, Error> {
@@ -334,10 +334,10 @@ impl Pool {
         Ok(self.naming.lock().unwrap_or_else(PoisonError::into_inner))
     }
 
-    fn directory(&self) -> Result<Directory, Error> {
+    fn name_table(&self) -> Result<NameTable, Error> {
         match self.read(0, 0, MAX_LENGTH) {
-            Err(Error::Refused { refusal: Refusal::NoObject, .. }) => Directory::read(&[]),
-            read => Directory::read(&read?),
+            Err(Error::Refused { refusal: Refusal::NoObject, .. }) => NameTable::read(&[]),
+            read => NameTable::read(&read?),
         }
     }
 
@@ -346,7 +346,7 @@ impl Pool {
     fn put_first(&self, name: &str, first: &[u8]) -> Result<u32, Error> {
         loop {
             let objects = self.objects(0, OBJECTS)?;
-            let change = self.directory()?.change_for_put(name, &objects)?;
+            let change = self.name_table()?.change_for_put(name, &objects)?;
             match self.transact(&change.put(first)) {
                 Ok(_) => return Ok(change.object()),
                 Err(error) if error.refusal() != Some(Refusal::Exists) => return Err(error),

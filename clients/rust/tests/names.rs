@@ -74,7 +74,7 @@ fn an_object_0_of_another_use_stays() {
         let before = pool.objects(0, OBJECTS).unwrap();
         let came = [pool.get("one").map(drop), pool.put("new", b"3").map(drop), pool.remove("one")];
         for came in came.into_iter().chain([pool.names().map(drop)]) {
-            assert!(text(came).ends_with("out of bounds: object 0 is no directory of names"));
+            assert!(text(came).ends_with("out of bounds: object 0 is no table of names"));
         }
         assert_eq!(pool.objects(0, OBJECTS).unwrap(), before);
         assert!(pool.read(0, 0, 2_000_000).unwrap() == *bytes);

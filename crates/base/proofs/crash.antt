@@ -23,6 +23,8 @@ pub mod LogHeaders
 pub mod LogSpares
 pub mod PoolLogs
 pub mod LogRoom
+pub mod OldPools
+pub mod ImportPlaces
 pub mod PoolRoom
 pub mod LogUnwritten
 pub mod LogChains

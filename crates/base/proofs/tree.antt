@@ -12,3 +12,4 @@ pub mod Sums
 pub mod StripCounts
 pub mod Estimates
 pub mod SamePlaces
+pub mod ShortObjects

@@ -6,7 +6,7 @@ ghost use Rattle.std.specs.Prelude.{◌≡◌, ◌↔◌, IsTrue, replicate};
 use crate::fields::read_u64;
 
 /// The place, birth group and check of a block (On-Disk Specification, chapter 2). All zeros: none.
-#[derive(Clone, Copy, Debug, PartialEq, Eq)]
+#[derive(Clone, Copy, PartialEq, Eq)]
 pub struct Pointer {
     /// The byte address of the block on the device, 0 for none.
     pub address: u64,

@@ -2,7 +2,7 @@
 //! difference).
 
 /// What a sync does with a record of an object.
-#[derive(Clone, Copy, Debug, PartialEq, Eq)]
+#[derive(Clone, Copy)]
 pub enum RecordState {
     /// It keeps the block that it has, or has none.
     Unchanged,

@@ -5,6 +5,7 @@
 //! `new_pools_are_explained`, `steps_keep_tables`. Each function's contract is a law, and its body does nothing.
 
 ghost use Rattle.base.specs.steps.Space.{SyncsFit, GroupsFit, SyncsHaveRoom};
+ghost use Rattle.base.specs.kept.LogRoom.{OldPoolsHaveRoom};
 
 /// A sync writes no more blocks than its operations are estimated at, whatever is synced and stored before it.
 pub fn syncs_fit()
@@ -20,4 +21,10 @@ pub fn groups_fit()
 /// group.
 pub fn syncs_have_room()
     ensures { SyncsHaveRoom }
+{}
+
+/// A pool of version 1 has room for an import if its free blocks are more than a program of that version reserved for
+/// the records of its log.
+pub fn old_pools_have_room()
+    ensures { OldPoolsHaveRoom }
 {}

@@ -26,7 +26,7 @@ pub const PAYLOAD_SIZE: usize = BLOCK_SIZE - HEAD_SIZE;
 
 /// A sealed block: its check field is the SHA-256 digest (FIPS 180-4) of the block with zeros there.
 /// Contracts see it as a list of 4,096 bytes.
-#[derive(Debug, Drop, PartialEq, Eq)]
+#[derive(Drop, PartialEq, Eq)]
 pub struct Block {
     bytes: [u8; BLOCK_SIZE],
 }
@@ -99,7 +99,7 @@ pub fn seal(
 }
 
 /// What one of several blocks has of its own.
-#[derive(Clone, Copy, Debug)]
+#[derive(Clone, Copy)]
 pub struct Content<'a> {
     /// Its number.
     pub number: u64,

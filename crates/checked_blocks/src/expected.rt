@@ -3,7 +3,7 @@
 use base::Group;
 
 /// What a reader knows of a block before it reads it.
-#[derive(Clone, Copy, Debug, PartialEq, Eq)]
+#[derive(Clone, Copy)]
 pub struct Expected {
     /// The byte address that a refusal names. No test looks at it.
     pub address: u64,

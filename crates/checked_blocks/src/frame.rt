@@ -11,7 +11,7 @@ pub const BLOCK_AREA: u64 = 4_194_304;
 
 /// What a reader of blocks knows of the pool: the version by whose rules its tree is read, its guid, the number of
 /// blocks of its area, and the group that no birth may pass. Contracts see it as the record of these four numbers.
-#[derive(Clone, Copy, Debug, PartialEq, Eq)]
+#[derive(Clone, Copy)]
 pub struct Frame {
     version: Version,
     guid: u64,

@@ -1,7 +1,7 @@
 //! The kinds of blocks, by the number of the kind field.
 
 /// What a block holds. The number is the block's kind field: `Kind::Data as u64` is 5.
-#[derive(Clone, Copy, Debug, PartialEq, Eq)]
+#[derive(Clone, Copy)]
 pub enum Kind {
     /// The config of a label (On-Disk Specification, chapter 1).
     Config = 1,

@@ -21,7 +21,7 @@ use std::marker::Model;
 
 /// What an opened block holds: its group and the 4,032 bytes of its payload, which stay where they were read.
 /// Contracts see it as the record of the two.
-#[derive(Debug, Drop)]
+#[derive(Drop)]
 pub struct Payload<'a> {
     block: &'a [u8; BLOCK_SIZE],
 }
@@ -80,7 +80,7 @@ pub fn open<'a>(block: &'a [u8; BLOCK_SIZE], expected: &Expected) -> Result<Payl
 }
 
 /// A block that was read, and what it has to be.
-#[derive(Clone, Copy, Debug)]
+#[derive(Clone, Copy)]
 pub struct ReadBlock<'a> {
     /// Its bytes.
     pub block: &'a [u8; BLOCK_SIZE],

@@ -3,7 +3,7 @@
 use crate::order::Order;
 
 /// How much is reported of a command that was not done.
-#[derive(Clone, Copy, Debug, PartialEq, Eq)]
+#[derive(Clone, Copy)]
 pub enum Verbosity {
     /// That it was not done, in one line.
     Quiet,
@@ -12,7 +12,7 @@ pub enum Verbosity {
 }
 
 /// What a command is given whichever it is.
-#[derive(Clone, Copy, Debug, PartialEq, Eq)]
+#[derive(Clone, Copy)]
 pub struct Options {
     /// How much is reported if it was not done.
     pub verbosity: Verbosity,
@@ -21,7 +21,7 @@ pub struct Options {
 }
 
 /// Which of the process's standard streams are terminals.
-#[derive(Clone, Copy, Debug, PartialEq, Eq)]
+#[derive(Clone, Copy)]
 pub struct Terminals {
     /// Standard input.
     pub input: bool,
@@ -32,7 +32,7 @@ pub struct Terminals {
 }
 
 /// A command of the program, with its arguments.
-#[derive(Clone, Copy, Debug, PartialEq, Eq)]
+#[derive(Clone, Copy)]
 pub enum Arguments<'a> {
     /// `ztxg load`.
     Load(LoadArguments<'a>),
@@ -59,7 +59,7 @@ pub enum Arguments<'a> {
 }
 
 /// The device that a script works on.
-#[derive(Clone, Copy, Debug, PartialEq, Eq)]
+#[derive(Clone, Copy)]
 pub enum ScriptDevice<'a> {
     /// A device in memory, of this many bytes.
     Memory(u64),
@@ -68,7 +68,7 @@ pub enum ScriptDevice<'a> {
 }
 
 /// The arguments of `ztxg script`.
-#[derive(Clone, Copy, Debug, PartialEq, Eq)]
+#[derive(Clone, Copy)]
 pub struct ScriptArguments<'a> {
     /// The device that the script works on.
     pub device: ScriptDevice<'a>,
@@ -83,7 +83,7 @@ pub struct ScriptArguments<'a> {
 }
 
 /// The arguments of `ztxg create`.
-#[derive(Clone, Copy, Debug, PartialEq, Eq)]
+#[derive(Clone, Copy)]
 pub struct CreateArguments<'a> {
     /// The path of the pool's file.
     pub file: &'a str,
@@ -100,7 +100,7 @@ pub struct CreateArguments<'a> {
 }
 
 /// The arguments of `ztxg check`.
-#[derive(Clone, Copy, Debug, PartialEq, Eq)]
+#[derive(Clone, Copy)]
 pub struct CheckArguments<'a> {
     /// The path of the pool's file.
     pub file: &'a str,
@@ -109,7 +109,7 @@ pub struct CheckArguments<'a> {
 }
 
 /// The arguments of `ztxg load`.
-#[derive(Clone, Copy, Debug, PartialEq, Eq)]
+#[derive(Clone, Copy)]
 pub struct LoadArguments<'a> {
     /// The path of the pool's file.
     pub file: &'a str,
@@ -124,7 +124,7 @@ pub struct LoadArguments<'a> {
 }
 
 /// The arguments of `ztxg get`.
-#[derive(Clone, Copy, Debug, PartialEq, Eq)]
+#[derive(Clone, Copy)]
 pub struct GetArguments<'a> {
     /// The path of the pool's file.
     pub file: &'a str,
@@ -137,7 +137,7 @@ pub struct GetArguments<'a> {
 }
 
 /// The arguments of `ztxg put`.
-#[derive(Clone, Copy, Debug, PartialEq, Eq)]
+#[derive(Clone, Copy)]
 pub struct PutArguments<'a> {
     /// The path of the pool's file.
     pub file: &'a str,
@@ -150,7 +150,7 @@ pub struct PutArguments<'a> {
 }
 
 /// The arguments of `ztxg rm`.
-#[derive(Clone, Copy, Debug, PartialEq, Eq)]
+#[derive(Clone, Copy)]
 pub struct RemoveArguments<'a> {
     /// The path of the pool's file.
     pub file: &'a str,
@@ -161,7 +161,7 @@ pub struct RemoveArguments<'a> {
 }
 
 /// The arguments of `ztxg serve`.
-#[derive(Clone, Copy, Debug, PartialEq, Eq)]
+#[derive(Clone, Copy)]
 pub struct ServeArguments<'a> {
     /// The path of the pool's file.
     pub file: &'a str,

@@ -13,7 +13,7 @@ pub const MAX_WORKERS: u32 = STREAMS;
 pub const MAX_WRITES: u32 = 1_000_000;
 
 /// What a load does.
-#[derive(Clone, Copy, Debug, PartialEq, Eq)]
+#[derive(Clone, Copy)]
 pub struct Order {
     /// The threads that share the 16 streams: 1 to [`MAX_WORKERS`].
     pub workers: u32,

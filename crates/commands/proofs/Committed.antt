@@ -31,7 +31,7 @@ use Rattle.pool_threads.specs.Waits.{AreDurable, SyncsPool, SyncsUpTo, result_of
 use Rattle.pool_threads.proofs.Along.{GoesAlong, along_made, along_on, along_same}
 use Rattle.pool_threads.proofs.TransactsSeen.{entered_by, transaction_grows}
 use Rattle.transactions.specs.LockRanges.{lock_ranges}
-use Rattle.frame_answers.proofs.Along.{along_syncs, along_transacts}
+use Rattle.durable_answers.proofs.Along.{along_syncs, along_transacts}
 use Rattle.commands.specs.Committed.{AreEntered, AreNewEntries, HappensOn, MakesFirst, PutsAsFound, PutsFrom, PutsIfRoom, PutsOn, RemovesOn, SyncsAfter, SyncsIfMade, command_owner, result_after}
 use Rattle.commands.specs.PutRoom.{lacks_room}
 use Rattle.commands.specs.Puts.{IsStartFor, put_transactions, start_of}

@@ -1,13 +1,6 @@
-mod CheckedAll
 mod Committed
-mod Findings
-mod FoundLabels
-mod MountedBytes
-mod OnlyRead
 mod Pieces
-mod PoolLines
 mod PutBytes
 mod PutClients
 mod PutRoom
 mod RefusedClients
-mod ServedPools

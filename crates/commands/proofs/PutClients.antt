@@ -22,7 +22,7 @@ use Rattle.commands.specs.declared.changes.Put.{Put}
 use Rattle.commands.specs.declared.changes.Start.{Start}
 use Rattle.commands.specs.declared.changes.Start.TheVariants.{Creates, Empties, Keeps}
 use Rattle.commands.proofs.Committed.{put_happens, removal_happens}
-use Rattle.commands.proofs.MountedBytes.{appended}
+use Rattle.read_commands.proofs.MountedBytes.{appended}
 use Rattle.commands.proofs.PutBytes.{puts_leave_bytes}
 
 abbrev seven : ObjectId

@@ -29,7 +29,7 @@ use Rattle.commands.specs.Puts.{put_transactions, start_of}
 use Rattle.commands.specs.declared.changes.Put.{Put}
 use Rattle.commands.specs.declared.changes.Start.{Start}
 use Rattle.commands.specs.declared.changes.Start.TheVariants.{Creates, Empties, Keeps}
-use Rattle.commands.specs.declared.failure.Failure.{Failure}
+use Rattle.read_commands.specs.declared.failure.Failure.{Failure}
 use Rattle.commands.proofs.Committed.{may_start}
 
 abbrev seven : ObjectId

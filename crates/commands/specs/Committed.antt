@@ -27,11 +27,11 @@ use Rattle.pool_threads.specs.Handles.{IsLeftByOpen, IsNewHandle, LeavesSame, Op
 use Rattle.pool_threads.specs.LongWrites.{piece_size}
 use Rattle.pool_threads.specs.Transacts.{TransactsOrLacks}
 use Rattle.pool_threads.specs.Waits.{SyncsPool}
-use Rattle.commands.specs.Failures.{IsFailureFor}
+use Rattle.read_commands.specs.Failures.{IsFailureFor}
 use Rattle.commands.specs.PutRoom.{lacks_room}
 use Rattle.commands.specs.Puts.{bad_number_of, is_target, put_line, put_transactions, start_of}
-use Rattle.commands.specs.declared.failure.Failure.{Failure}
-use Rattle.commands.specs.declared.failure.Failure.TheVariants as failure
+use Rattle.read_commands.specs.declared.failure.Failure.{Failure}
+use Rattle.read_commands.specs.declared.failure.Failure.TheVariants as failure
 use Rattle.commands.specs.declared.changes.Put.{Put}
 use Rattle.commands.specs.declared.changes.Start.{Start}
 

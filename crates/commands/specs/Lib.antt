@@ -1,10 +1,3 @@
-pub mod Checks
 pub mod Committed
-pub mod Failures
-pub mod FoundDamages
-pub mod FoundLabels
-pub mod PoolLines
 pub mod PutRoom
 pub mod Puts
-pub mod Reads
-pub mod Serving

@@ -12,8 +12,8 @@ use Rattle.base.specs.history.Contents.{Contents, bytes_after_write}
 use Rattle.base.specs.history.History.{apply_all}
 use Rattle.base.specs.history.Sequences.{in_turn}
 use Rattle.pool_threads.specs.LongWrites.{piece_size, writes_of}
-use Rattle.commands.specs.declared.bad_number.BadNumber.{BadNumber}
-use Rattle.commands.specs.declared.bad_number.BadNumber.TheVariants.{End, LongInput, Object, Offset}
+use Rattle.read_commands.specs.declared.bad_number.BadNumber.{BadNumber}
+use Rattle.read_commands.specs.declared.bad_number.BadNumber.TheVariants.{End, LongInput, Object, Offset}
 use Rattle.commands.specs.declared.changes.Start.{Start}
 use Rattle.commands.specs.declared.changes.Start.TheVariants.{Creates, Empties, Keeps}
 

@@ -16,8 +16,6 @@ ghost use Rattle.pool_threads.specs.LongWrites.{piece_size};
 ghost use Rattle.pool_threads.specs.Handles.{shared_of};
 ghost use Rattle.pool_threads.specs.Transacts.{TransactsOrLacks};
 
-use crate::bad_number::BadNumber;
-use crate::failure::{Failure, NotesRefusals, report_failure};
 use crate::put_room::lacks_room;
 use base::{
     Bytes, DEFAULT_DIRTY_MAX, Group, MAX_LENGTH, OBJECT_COUNT, ObjectId, Op, Ops, Owner, PoolError,
@@ -26,6 +24,7 @@ use base::{
 use command_arguments::{PutArguments, RemoveArguments, Verbosity};
 use device_model::{FileRefusal, SectorDevice};
 use pool_threads::{Handle, PIECE_SIZE, Pool};
+use read_commands::{BadNumber, Failure, NotesRefusals, report_failure};
 use std::alloc::{AllocError, Global};
 use std::fmt;
 use std::io::{self, Read, Write};
@@ -51,7 +50,7 @@ pub fn read_input<R: Read + Drop>(alloc: Global, input: R) -> io::Result<Vec<u8>
 }
 
 /// What a put has committed.
-#[derive(Clone, Copy, Debug, PartialEq, Eq)]
+#[derive(Clone, Copy)]
 struct Put {
     bytes: u64,
     transactions: u64,
@@ -208,7 +207,10 @@ fn put_bytes<R: Wait + AllocGlobal, D: SectorDevice + NotesRefusals + Drop>(
     let (put, end) = put_and_sync(rt, alloc, &pool, target, bytes);
     match end {
         Ok(()) => (put, Ok(())),
-        Err(refusal) => (put, Err(Failure::of_running(refusal, pool))),
+        Err(refusal) => (
+            put,
+            Err(Failure::of_closed(refusal, &pool.close().map(|state| state.into_device()))),
+        ),
     }
 }
 
@@ -481,7 +483,10 @@ fn remove_object<R: Wait + AllocGlobal, D: SectorDevice + NotesRefusals + Drop>(
         Ok(()) => Ok(()),
         Err(refusal) => {
             let number = BadNumber::of_object(arguments.object);
-            Err(Failure::of_running(refusal, pool).for_number(number))
+            Err(Failure::of_closed(
+                refusal,
+                &pool.close().map(|state| state.into_device()),
+            ).for_number(number))
         }
     }
 }

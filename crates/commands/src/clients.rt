@@ -1,32 +1,18 @@
 //! What callers rely on: one function for each promise of this crate's calls, proved from the contract of the call
 //! alone. So it is refused as soon as that contract promises less.
 
-mod all_checks;
 mod objects;
 mod refusals;
-mod served;
 
-ghost use Rattle.std.specs.Prelude.{◌≡◌, ◌≢◌, ◌⊎◌, ◌++◌, ℕ, List, [], IfOk, IsOk, IsTrue, Some, codes};
-ghost use Rattle.base.specs.tree.Mount.{IsTreeDamaged, MountsTo};
-ghost use Rattle.base.specs.disk.Disk.{bytes_of};
-ghost use Rattle.base.specs.history.Contents.{Contents};
-ghost use Rattle.commands.specs.Checks.{IsFoundIn, finding_status};
-ghost use Rattle.commands.specs.declared.checks.Finding.{Finding as ShownFinding};
-ghost use Rattle.commands.specs.declared.checks.Finding.TheVariants.{Damaged};
+ghost use Rattle.std.specs.Prelude.{◌≡◌, [], Some, codes};
 
-use crate::checks::{Finding, check_pool, run_check};
-use crate::failure::{Failure, NotesRefusals, report_failure, report_terminal};
-use crate::load::run_load;
-use crate::pool_files::{run_create, run_show};
-use base::PoolError;
-use command_arguments::{CreateArguments, LoadArguments, Options, Order, Verbosity};
-use device_model::{FileRefusal, HeldFile, SectorDevice};
-use std::alloc::Global;
-use std::io::{Eprint, Write};
+use crate::pool_files::run_create;
+use command_arguments::{CreateArguments, Options, Verbosity};
+use device_model::HeldFile;
+use std::io::Write;
 use std::os::unix::fs::FileExt;
 use std::rt::Files;
 use std::sync::Wait;
-use std::thread::Threads;
 
 const BRIEF: Verbosity = Verbosity::Quiet;
 
@@ -34,41 +20,6 @@ const OPTIONS: Options = Options {
     verbosity: BRIEF,
     wait: 0,
 };
-
-// A refusal of the engine has status 1.
-fn a_refusal_has_status_1<E: Write>(errors: &mut E) -> u8
-    ensures { result ≡ 1 }
-{
-    let failure = Failure::Refused(PoolError::NoMemory);
-    report_failure(failure, "tank.pool", BRIEF, errors)
-}
-
-fn a_file_that_cannot_be_used_has_status_3<E: Write>(errors: &mut E) -> u8
-    ensures { result ≡ 3 }
-{
-    let failure = Failure::Unusable(FileRefusal::InUse);
-    report_failure(failure, "tank.pool", Verbosity::WithCause, errors)
-}
-
-fn an_output_that_is_not_written_has_status_3<E: Write>(errors: &mut E) -> u8
-    ensures { result ≡ 3 }
-{
-    report_failure(Failure::Unwritten, "tank.pool", BRIEF, errors)
-}
-
-// Nothing was served.
-fn frames_are_not_served_to_a_terminal<E: Write>(errors: &mut E) -> u8
-    ensures { result ≡ 3 }
-{
-    report_terminal(errors)
-}
-
-// No call of the device leads to this refusal, so none is named as its cause.
-fn a_bad_range_names_no_call_of_the_device<D: NotesRefusals>(device: &D) -> Failure
-    ensures { result ≡ Failure.Refused PoolError.BadRange }
-{
-    Failure::of_pool(PoolError::BadRange, device)
-}
 
 // A file of less than 6 MiB can hold no pool.
 fn a_pool_in_a_small_file_has_status_1<R: Files + Wait, W: Write, E: Write>(
@@ -132,171 +83,4 @@ where
         moment: 0,
     };
     run_create(rt, arguments, OPTIONS, out, errors)
-}
-
-fn a_pool_that_is_not_opened_shows_status_3<
-    D: SectorDevice + NotesRefusals + Drop,
-    W: Write,
-    E: Write,
->(alloc: Global, out: &mut W, errors: &mut E) -> u8
-    ensures { result ≡ 3 }
-{
-    let mut opened: Result<D, FileRefusal> = Err(FileRefusal::InUse);
-    run_show(alloc, "tank.pool", BRIEF, &mut opened, out, errors)
-}
-
-// The output had no bytes before.
-fn a_show_begins_with_the_name<D: SectorDevice + NotesRefusals + Drop, W: Write, E: Write>(
-    alloc: Global,
-    device: D,
-    out: &mut W,
-    errors: &mut E,
-) -> u8
-    ensures { result ≡ 0 → IsTrue D.keeps_model → (contents : Contents)
-        → MountsTo (bytes_of (D.disk device).now) contents → contents.name ≡ codes "tank"
-        → W.contents out.old ≡ Some []
-        → (rest : List ℕ) × (W.contents out.new ≡ Some (codes "name tank\nguid " ++ rest)) }
-{
-    run_show(alloc, "tank.pool", BRIEF, &mut Ok(device), out, errors)
-}
-
-// Whatever a show finds, it leaves the disk as it was, and the device refused no write and no flush.
-fn a_show_writes_nothing<D: SectorDevice + NotesRefusals, W: Write, E: Write>(
-    alloc: Global,
-    device: D,
-    out: &mut W,
-    errors: &mut E,
-) -> Result<D, FileRefusal>
-    ensures there { IsOk result }
-    ensures disk { IsTrue D.keeps_model → IfOk result (λ after. D.disk after ≡ D.disk device) }
-    ensures writes { IfOk result (λ after. (D.refused after).writes ≡ (D.refused device).writes) }
-    ensures flushes { IfOk result
-        (λ after. (D.refused after).flushes ≡ (D.refused device).flushes) }
-{
-    let mut opened = Ok(device);
-    run_show(alloc, "tank.pool", BRIEF, &mut opened, out, errors);
-    opened
-}
-
-// What is loaded by so many workers.
-fn tank_by(workers: u32) -> LoadArguments<'static>
-    ensures { result.order.workers ≡ workers }
-{
-    LoadArguments {
-        file: "tank.pool",
-        order: Order {
-            workers,
-            writes: 200,
-            seed: 5,
-        },
-        dirty_max: 1_048_576,
-        cache_blocks: 256,
-        moment: 0,
-    }
-}
-
-fn a_pool_that_is_not_opened_is_loaded_with_status_3<
-    R: Threads + Wait + Sync + Eprint + AllocGlobal,
-    D: SectorDevice + NotesRefusals + Send + Drop,
-    W: Write,
-    E: Write,
->(rt: &R, out: &mut W, errors: &mut E) -> u8
-    ensures { result ≡ 3 }
-{
-    let opened: Result<D, FileRefusal> = Err(FileRefusal::InUse);
-    run_load(rt, tank_by(4), BRIEF, opened, false, out, errors)
-}
-
-// There are 16 streams, so no more workers.
-fn a_load_by_17_workers_has_status_1<
-    R: Threads + Wait + Sync + Eprint + AllocGlobal,
-    D: SectorDevice + NotesRefusals + Send + Drop,
-    W: Write,
-    E: Write,
->(rt: &R, device: D, out: &mut W, errors: &mut E) -> u8
-    ensures { result ≡ 1 }
-{
-    run_load(rt, tank_by(17), BRIEF, Ok(device), false, out, errors)
-}
-
-fn a_pool_that_is_not_opened_is_checked_with_status_3<
-    D: SectorDevice + NotesRefusals + Drop,
-    W: Write,
-    E: Write,
->(alloc: Global, out: &mut W, errors: &mut E) -> u8
-    ensures { result ≡ 3 }
-{
-    let mut opened: Result<D, FileRefusal> = Err(FileRefusal::InUse);
-    run_check(alloc, "tank.pool", BRIEF, &mut opened, out, errors)
-}
-
-// If a block of the tree is damaged, the status is not 0.
-fn a_damaged_pool_is_not_clean<D: SectorDevice + NotesRefusals + Drop, W: Write, E: Write>(
-    alloc: Global,
-    device: D,
-    out: &mut W,
-    errors: &mut E,
-) -> u8
-    ensures { IsTrue D.keeps_model → (kind address : ℕ)
-        → IsTreeDamaged (bytes_of (D.disk device).now) kind address → result ≢ 0 }
-{
-    run_check(alloc, "tank.pool", BRIEF, &mut Ok(device), out, errors)
-}
-
-// A damaged data block is printed if a check can find nothing else, or nothing is if the check is refused.
-fn a_check_prints_the_damage<D: SectorDevice + NotesRefusals + Drop, W: Write, E: Write>(
-    alloc: Global,
-    device: D,
-    out: &mut W,
-    errors: &mut E,
-) -> u8
-    ensures { result ≡ 1 → IsTrue D.keeps_model → ((found : ShownFinding)
-        → IsFoundIn (bytes_of (D.disk device).now) found → found ≡ Damaged 5 4194304)
-        → W.contents out.old ≡ Some [] → (W.contents out.new ≡ Some [])
-        ⊎ (W.contents out.new ≡ Some (codes "damaged 5 4194304\n")) }
-{
-    run_check(alloc, "tank.pool", BRIEF, &mut Ok(device), out, errors)
-}
-
-// A file of 512 bytes can hold no pool.
-fn a_check_of_a_small_file_has_status_1<D: SectorDevice + NotesRefusals + Drop, W: Write, E: Write>(
-    alloc: Global,
-    device: D,
-    out: &mut W,
-    errors: &mut E,
-) -> u8
-    requires { D.size device ≡ 512 }
-    ensures { result ≡ 1 }
-{
-    run_check(alloc, "tank.pool", BRIEF, &mut Ok(device), out, errors)
-}
-
-// Whatever a check finds, it leaves the disk as it was, and the device refused no write and no flush.
-fn a_check_writes_nothing<D: SectorDevice + NotesRefusals, W: Write, E: Write>(
-    alloc: Global,
-    device: D,
-    out: &mut W,
-    errors: &mut E,
-) -> Result<D, FileRefusal>
-    ensures there { IsOk result }
-    ensures disk { IsTrue D.keeps_model → IfOk result (λ after. D.disk after ≡ D.disk device) }
-    ensures writes { IfOk result (λ after. (D.refused after).writes ≡ (D.refused device).writes) }
-    ensures flushes { IfOk result
-        (λ after. (D.refused after).flushes ≡ (D.refused device).flushes) }
-{
-    let mut opened = Ok(device);
-    run_check(alloc, "tank.pool", BRIEF, &mut opened, out, errors);
-    opened
-}
-
-// If an image mounts contents, a check that isn't refused finds it clean, and changes nothing.
-fn a_whole_pool_is_found_clean<D: SectorDevice>(
-    alloc: Global,
-    device: &mut D,
-) -> Result<Finding, PoolError>
-    ensures clean { IsTrue D.keeps_model → IfOk result (λ finding. (contents : Contents)
-        → MountsTo (bytes_of (D.disk device.old).now) contents → finding_status finding ≡ 0) }
-    ensures unchanged { IsTrue D.keeps_model → D.disk device.new ≡ D.disk device.old }
-{
-    check_pool(alloc, device)
 }

@@ -1,29 +1,22 @@
-//! The commands on a pool in a file: `create` makes one, `show` reports what an import would mount, and `ls` its
-//! objects.
+//! The command `create`: a new pool in a file.
 //!
 //! The size is tested first, then the name, and only then the file is opened. So the file is unchanged if either is
-//! refused: a file is opened for a `NewPool`, which only these tests make. `show` and `ls` only read.
+//! refused: a file is opened for a `NewPool`, which only these tests make.
 
 ghost use Rattle.std.specs.Io.KnownBytes.{Appends};
-ghost use Rattle.std.specs.Prelude.{◌≡◌, ◌≢◌, ◌≤◌, false, Err, IfErr, IfOk, IsErr, IsTrue, OnOk};
-ghost use Rattle.base.specs.disk.Disk.{bytes_of};
+ghost use Rattle.std.specs.Prelude.{◌≡◌, ◌≢◌, ◌≤◌, false, Err, IfErr, IfOk, OnOk};
 ghost use Rattle.base.specs.formats.Geometry.{block_count, is_geometry};
 ghost use Rattle.base.specs.formats.Names.{is_name};
 ghost use Rattle.import_replay.specs.CreateRefusals.{CanCreate};
-ghost use Rattle.import_replay.specs.Inspections.{AgreesWithImports, IsInspectionOf};
-ghost use Rattle.commands.specs.Checks.{StaysOpened};
-ghost use Rattle.commands.specs.Failures.{IsNewPoolRefusal, failure_status, sector_bytes};
-ghost use Rattle.commands.specs.PoolLines.{WritesInspected, created_line, listed_lines, number_lines, object_lines, shown_lines};
+ghost use Rattle.read_commands.specs.Failures.{IsNewPoolRefusal, failure_status, sector_bytes};
+ghost use Rattle.read_commands.specs.PoolLines.{created_line};
 
-use crate::failure::{Failure, NotesRefusals, report_failure, report_refusal};
-use crate::names::Quoted;
-use crate::waiting::NewFile;
-use base::{MAX_NAME, ObjectId, PoolError, PoolName};
-use command_arguments::{CreateArguments, Options, Verbosity};
-use device_model::{FileRefusal, HeldFile, SectorDevice};
-use import_replay::{Inspected, create, inspect};
+use base::{MAX_NAME, PoolError, PoolName};
+use command_arguments::{CreateArguments, Options};
+use device_model::{HeldFile, SectorDevice};
+use import_replay::create;
 use labels::{Geometry, LABEL_SIZE, MAX_SIZE, MIN_SIZE, SECTOR_SIZE};
-use std::alloc::Global;
+use read_commands::{Failure, NewFile, NotesRefusals, Quoted, report_failure, report_refusal};
 use std::fmt;
 use std::io::{self, Write};
 use std::os::unix::fs::FileExt;
@@ -164,133 +157,4 @@ impl<'a> NewPool<'a> {
             Err((refusal, device)) => Err(Failure::of_pool(refusal, &device)),
         }
     }
-}
-
-/// Writes to `out` the name and the numbers of what an import of the pool in a file would mount, a line for each of its
-/// objects, and returns the exit status. It only reads the file: it makes no write and no flush, whatever it returns.
-///
-/// The status is 0 if it was written. It is 1 if the engine refused it; then nothing is written. It is 3 if the file
-/// was not opened as a device or `out` can't be written. A failure is reported on `errors`.
-pub fn run_show<D: SectorDevice + NotesRefusals, W: Write, E: Write>(
-    alloc: Global,
-    file: &str,
-    verbosity: Verbosity,
-    opened: &mut Result<D, FileRefusal>,
-    out: &mut W,
-    errors: &mut E,
-) -> u8
-    ensures only_read { StaysOpened D.SectorDevice opened.old opened.new }
-    ensures unusable { IsErr opened.old → result ≡ 3 }
-    ensures shown { result ≡ 0 → IfOk opened.old (λ device.
-        WritesInspected (IsTrue D.keeps_model) (bytes_of (D.disk device).now) shown_lines
-        (W.contents out.old) (W.contents out.new)) }
-    ensures unprinted { result ≡ 1 → W.contents out.new ≡ W.contents out.old }
-    ensures range { result ≤ 3 }
-    ensures no_usage { result ≢ 2 }
-{
-    let inspected = match inspect_opened(alloc, opened) {
-        Ok(inspected) => inspected,
-        Err(failure) => return report_failure(failure, file, verbosity, errors),
-    };
-    match write_inspected(&inspected, out) {
-        Ok(()) => 0,
-        Err(failure) => report_failure(failure, file, verbosity, errors),
-    }
-}
-
-/// Writes to `out` the objects of the pool in a file, a line each with number and length, and returns the exit status.
-/// It only reads the file: it makes no write and no flush, whatever it returns.
-///
-/// The status and what is reported on `errors` are those of `run_show`.
-pub fn run_list<D: SectorDevice + NotesRefusals, W: Write, E: Write>(
-    alloc: Global,
-    file: &str,
-    verbosity: Verbosity,
-    opened: &mut Result<D, FileRefusal>,
-    out: &mut W,
-    errors: &mut E,
-) -> u8
-    ensures only_read { StaysOpened D.SectorDevice opened.old opened.new }
-    ensures unusable { IsErr opened.old → result ≡ 3 }
-    ensures listed { result ≡ 0 → IfOk opened.old (λ device.
-        WritesInspected (IsTrue D.keeps_model) (bytes_of (D.disk device).now) listed_lines
-        (W.contents out.old) (W.contents out.new)) }
-    ensures unprinted { result ≡ 1 → W.contents out.new ≡ W.contents out.old }
-    ensures range { result ≤ 3 }
-    ensures no_usage { result ≢ 2 }
-{
-    let inspected = match inspect_opened(alloc, opened) {
-        Ok(inspected) => inspected,
-        Err(failure) => return report_failure(failure, file, verbosity, errors),
-    };
-    match write_objects(&inspected.objects, out) {
-        Ok(()) => 0,
-        Err(failure) => report_failure(failure, file, verbosity, errors),
-    }
-}
-
-// What an import of the pool would mount.
-fn inspect_opened<D: SectorDevice + NotesRefusals>(
-    alloc: Global,
-    opened: &mut Result<D, FileRefusal>,
-) -> Result<Inspected, Failure>
-    ensures only_read { StaysOpened D.SectorDevice opened.old opened.new }
-    ensures unusable { IfErr opened.old (λ cause. result ≡ Err (Failure.Unusable cause)) }
-    ensures mounted { IfOk opened.old (λ device. IsTrue D.keeps_model
-        → IfOk result (IsInspectionOf (bytes_of (D.disk device).now))) }
-    ensures agrees { IfOk opened.old (λ device. IsTrue D.keeps_model
-        → IfOk result (AgreesWithImports (bytes_of (D.disk device).now))) }
-{
-    let device = match opened {
-        Ok(device) => device,
-        Err(cause) => return Err(Failure::Unusable(*cause)),
-    };
-    match inspect(alloc, device) {
-        Ok(inspected) => Ok(inspected),
-        Err(refusal) => Err(Failure::of_pool(refusal, device)),
-    }
-}
-
-// Writes the name and the numbers of a pool, a line each, and then a line for each object that is there.
-fn write_inspected<W: Write>(inspected: &Inspected, out: &mut W) -> Result<(), Failure>
-    ensures written { OnOk result (Appends (W.contents out.old) (W.contents out.new)
-        (shown_lines inspected.now)) }
-    ensures failed { IfErr result (λ failure. failure ≡ Failure.Unwritten) }
-{
-    let Ok(()) = write_numbers(inspected, out) else {
-        return Err(Failure::Unwritten);
-    };
-    write_objects(&inspected.objects, out)
-}
-
-fn write_numbers<W: Write>(inspected: &Inspected, out: &mut W) -> io::Result<()>
-    ensures { OnOk result (Appends (W.contents out.old) (W.contents out.new)
-        (number_lines inspected.now)) }
-{
-    writeln!(
-        out,
-        "name {}\nguid {}\ngroup {}\nimport {}\nblocks {} used {}\nrecords {}\nobjects {}",
-        inspected.name.as_str(),
-        inspected.guid,
-        inspected.group.0,
-        inspected.import_number,
-        inspected.blocks,
-        inspected.used,
-        inspected.records,
-        inspected.objects.len()
-    )
-}
-
-// Writes a line for each object.
-fn write_objects<W: Write>(objects: &[(ObjectId, u64)], out: &mut W) -> Result<(), Failure>
-    ensures written { OnOk result (Appends (W.contents out.old) (W.contents out.new)
-        (object_lines objects.now)) }
-    ensures failed { IfErr result (λ failure. failure ≡ Failure.Unwritten) }
-{
-    for object in objects {
-        let Ok(()) = writeln!(out, "{} {}", object.0.0, object.1) else {
-            return Err(Failure::Unwritten);
-        };
-    }
-    Ok(())
 }

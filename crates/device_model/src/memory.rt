@@ -30,13 +30,14 @@ use crate::fault::Fault;
 use crate::notes::{Note, copy_part, fires, leave_pieces, make_note, overwrite, settle};
 use base::{Piece, PoolError, RefusedCalls, SECTOR_SIZE};
 use std::alloc::Global;
+use std::fmt;
 use std::marker::Model;
 
 /// A device in memory, which fails by a plan and crashes on demand.
 ///
 /// It notes every write, and its disk over time is read from these notes. Contracts see it as that disk, the counts of
 /// its refused calls, and its fault plan.
-#[derive(Debug, Drop)]
+#[derive(Drop)]
 pub struct MemDevice {
     alloc: Global,
     sectors: u64,
@@ -223,5 +224,12 @@ impl SectorDevice for MemDevice {
         settle(&mut self.notes, self.settled);
         self.settled = self.notes.len();
         Ok(())
+    }
+}
+
+/// The type's name alone.
+impl fmt::Debug for MemDevice {
+    fn fmt<W: fmt::Write>(&self, f: &mut fmt::Formatter<W>) -> fmt::Result {
+        f.debug_struct("MemDevice").finish_non_exhaustive()
     }
 }

@@ -8,7 +8,7 @@ use std::alloc::{AllocError, Global};
 use std::marker::Model;
 
 // How the bytes are kept.
-#[derive(Debug, Drop)]
+#[derive(Drop)]
 enum Kept {
     Run(u8, usize),
     Each(Vec<u8>),
@@ -16,7 +16,7 @@ enum Kept {
 
 /// Bytes that were written, or that stood before a write. A device that is cleared is written as runs of zeros, which
 /// take no memory of their own.
-#[derive(Debug, Drop)]
+#[derive(Drop)]
 pub struct NotedBytes {
     kept: Kept,
 }

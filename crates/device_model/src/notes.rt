@@ -13,7 +13,7 @@ use base::Piece;
 use std::alloc::{AllocError, Global};
 
 /// The note of a write.
-#[derive(Debug, Drop)]
+#[derive(Drop)]
 pub struct Note {
     /// The byte place of the write.
     pub place: u64,

@@ -6,7 +6,7 @@ ghost use Rattle.base.specs.formats.Limits.{record_count, record_size};
 use base::RECORD_SIZE;
 
 /// What a group leaves of an object that lies below its changes. All lengths are in bytes.
-#[derive(Clone, Copy, Debug, PartialEq, Eq)]
+#[derive(Clone, Copy, PartialEq, Eq)]
 pub enum Basis {
     /// The object below, made at least this long.
     Grown(u64),

@@ -13,7 +13,7 @@ use std::alloc::{AllocError, Global};
 use std::cmp::Ordering;
 
 /// What a group leaves of an object, and the bytes that it wrote, by records.
-#[derive(Debug, Drop)]
+#[derive(Drop)]
 pub struct ObjectPatch {
     /// What it leaves of the object below.
     pub basis: Basis,

@@ -16,7 +16,7 @@ use std::alloc::{AllocError, Global};
 const WRITTEN: u8 = 255;
 
 /// The bytes that a group wrote into a record, by their offsets in it. It has room for all of a record's bytes.
-#[derive(Debug, Drop)]
+#[derive(Drop)]
 pub(crate) struct RecordPatch {
     bytes: Vec<u8>,
     // 255 at each byte that was written

@@ -22,8 +22,9 @@ use Rattle.pool_threads.specs.declared.handle.Handle.{Handle}
 use Rattle.pool_threads.specs.Answers.{Sees}
 use Rattle.pool_threads.specs.Transacts.{TransactsOrLacks}
 use Rattle.pool_threads.specs.Waits.{LeavesDurable, SyncsPool}
-use Rattle.transactions.specs.declared.record.Record.{Record}
-use Rattle.frame_answers.specs.Calls.{AwaitsFlush, AwaitsNoFlush, MakesCalls, MakesDurable, durable_receipt, outcome_of}
+use Rattle.records.specs.declared.record.Record.{Record}
+use Rattle.durable_answers.specs.Durability.{AwaitsFlush, AwaitsNoFlush, MakesDurable, durable_receipt}
+use Rattle.frame_answers.specs.Calls.{MakesCalls, outcome_of}
 use Rattle.frame_answers.specs.Frames.{AnswersFrame, RefusesFrame}
 use Rattle.frame_answers.specs.Serving.{AnswersFrames, BeginsWithFrames, Exchange, IsLengthAlone, IsWhole, ServesFrames, frames_of}
 use Rattle.frame_answers.proofs.Durable.{never}

@@ -29,8 +29,9 @@ use Rattle.pool_threads.proofs.Along.{GoesAlong, along_made, along_on, along_sam
 use Rattle.pool_threads.proofs.AnswersSeen.{durables_are_seen}
 use Rattle.pool_threads.proofs.FetchesSeen.{fetches_along}
 use Rattle.pool_threads.proofs.TransactsSeen.{entered_by}
-use Rattle.frame_answers.specs.Calls.{Asks, AsksAll, IsDurableAs, ListsObjects, MakesCall, MakesCalls, MakesDurable, durable_receipt, outcome_of}
-use Rattle.frame_answers.proofs.Along.{along_fsyncs, along_lists, along_looked, along_syncs, along_transacts}
+use Rattle.durable_answers.specs.Durability.{Asks, AsksAll, MakesDurable, durable_receipt}
+use Rattle.frame_answers.specs.Calls.{IsDurableAs, ListsObjects, MakesCall, MakesCalls, outcome_of}
+use Rattle.durable_answers.proofs.Along.{along_fsyncs, along_lists, along_looked, along_syncs, along_transacts}
 
 -- the entry of a receipt is there
 abbrev pub IsEntered : Receipt → State → Type 0

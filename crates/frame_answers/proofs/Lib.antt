@@ -1,5 +1,4 @@
 pub mod Made
-pub mod Along
 pub mod Durable
 pub mod ListedBelow
 pub mod Room

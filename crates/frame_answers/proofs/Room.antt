@@ -40,7 +40,8 @@ use Rattle.pool_threads.specs.declared.handle.Handle.{Handle}
 use Rattle.pool_threads.specs.Answers.{Makes, state_seen}
 use Rattle.pool_threads.specs.Fetches.{Fetches, ReadsUnderLock}
 use Rattle.pool_threads.specs.Views.{viewed_state}
-use Rattle.frame_answers.specs.Calls.{Asks, AsksAll, ListsObjects, MakesCall, MakesCalls, MakesDurable, outcome_of}
+use Rattle.durable_answers.specs.Durability.{Asks, AsksAll, MakesDurable}
+use Rattle.frame_answers.specs.Calls.{ListsObjects, MakesCall, MakesCalls, outcome_of}
 use Rattle.frame_answers.proofs.ListedBelow.{room_below}
 
 -- what can't fail is never refused

@@ -1,6 +1,5 @@
 -- What a handle does for the requests of a frame, and what they are answered.
-use Rattle.std.specs.Prelude.{ℕ, ◌≡◌, ◌⊎◌, All, Bool, true, false, List, [], ◌∷◌, IfOk, IfSome, IsSome, Option, Some, None, Result, Ok, Err, nat_lt, if◌then◌else◌}
-use Rattle.std.specs.List.{Contains}
+use Rattle.std.specs.Prelude.{ℕ, ◌≡◌, All, Bool, List, [], ◌∷◌, IfSome, Result, Ok, Err, nat_lt, if◌then◌else◌}
 use Rattle.base.specs.declared.error.PoolError.{PoolError}
 use Rattle.base.specs.declared.names.Group.{Group}
 use Rattle.base.specs.declared.names.ObjectId.{ObjectId}
@@ -24,7 +23,8 @@ use Rattle.pool_threads.specs.Fetches.{Fetches}
 use Rattle.pool_threads.specs.Handles.{HasLooked}
 use Rattle.pool_threads.specs.Objects.{IsListRefusal, objects_from}
 use Rattle.pool_threads.specs.Transacts.{TransactsOrLacks}
-use Rattle.pool_threads.specs.Waits.{FsyncsAll, LeavesAllDurable, LeavesDurable, SyncsPool}
+use Rattle.pool_threads.specs.Waits.{LeavesDurable, SyncsPool}
+use Rattle.durable_answers.specs.Durability.{Flushes, MakesDurable, durable_receipt}
 
 -- the objects of a list that lie below a number
 abbrev pub listed_below : ℕ → List (ObjectId × ℕ) → List Listed
@@ -35,18 +35,6 @@ listed_below past (x ∷ others) = if nat_lt x.0.0 past then (record { object = 
 abbrev pub outcome_of : {A : Type 0} → (A → Outcome) → Result A PoolError → Outcome
 outcome_of make (Ok x) = make x
 outcome_of make (Err e) = outcome.Refused e
-
--- the receipt in the answer of a durable transaction
-abbrev pub durable_receipt : Outcome → Option Receipt
-durable_receipt (outcome.MadeDurable receipt) = Some receipt
-durable_receipt o = None
-
--- there is the answer of a durable transaction among these, or none
-abbrev pub AwaitsFlush : List Answer → Type 0
-AwaitsFlush answers = (a : Answer) × Contains answers a × IsSome (durable_receipt a.outcome)
-
-abbrev pub AwaitsNoFlush : List Answer → Type 0
-AwaitsNoFlush answers = All (λ (a : Answer). durable_receipt a.outcome ≡ None) answers
 
 module _ {Dev : Type 0} {G : Ghosts Dev} where
   -- In one turn and no other the handle looked, and these are the objects from a number on, below another, that it saw
@@ -59,10 +47,6 @@ module _ {Dev : Type 0} {G : Ghosts Dev} where
   abbrev pub ListsObjects : ℕ → ℕ → Result (List Listed) PoolError → Handle Dev G → Handle Dev G → Type 0
   ListsObjects first past (Ok listed) old new = ListsBelow first past listed old new
   ListsObjects first past (Err e) old new = IsListRefusal e old new
-
-  -- all that was committed before is durable then, unless it was refused
-  abbrev pub Flushes : Result (Unit {0}) PoolError → Handle Dev G → Handle Dev G → Type 0
-  Flushes result old new = FsyncsAll result old new × IfOk result (λ _. LeavesAllDurable old new)
 
   -- What a handle does for a call, and what it is answered. Of a durable transaction this is the commit alone.
   abbrev pub MakesCall : Owner → Call → Outcome → Handle Dev G → Handle Dev G → Type 0
@@ -83,31 +67,6 @@ module _ {Dev : Type 0} {G : Ghosts Dev} where
   MakesCalls owner (r ∷ rs) (a ∷ others) old new = (next : Handle Dev G) × (a.number ≡ r.number) × MakesCall owner r.call a.outcome old next × MakesCalls owner rs others next new
   MakesCalls owner [] (a ∷ others) old new = ⊥
   MakesCalls owner (r ∷ rs) [] old new = ⊥
-
-  -- After the flush was refused so the handle asks whether the commit of a durable transaction is durable even so. If
-  -- it isn't, this is the answer.
-  abbrev pub Asks : PoolError → Answer → Answer → Handle Dev G → Handle Dev G → Type 0
-  Asks e made answer old new = ((durable_receipt made.outcome ≡ None) × (answer ≡ made) × (new ≡ old))
-      ⊎ ((receipt : Receipt) × (durable_receipt made.outcome ≡ Some receipt)
-      × (((answer ≡ made) × Makes (step.Durable receipt) (reply.Durable true) old new)
-      ⊎ ((answer ≡ record { number = made.number; outcome = outcome.NotDurable receipt e }) × Makes (step.Durable receipt) (reply.Durable false) old new)))
-
-  -- so it does for all, in their order
-  abbrev pub AsksAll : PoolError → List Answer → List Answer → Handle Dev G → Handle Dev G → Type 0
-  AsksAll e [] [] old new = new ≡ old
-  AsksAll e (m ∷ ms) (a ∷ others) old new = (next : Handle Dev G) × Asks e m a old next × AsksAll e ms others next new
-  AsksAll e [] (a ∷ others) old new = ⊥
-  AsksAll e (m ∷ ms) [] old new = ⊥
-
-  -- The commits of all durable transactions are made durable by one flush of the log. If it is refused, the handle asks
-  -- for each of them.
-  abbrev pub FlushesForAll : List Answer → List Answer → Handle Dev G → Handle Dev G → Type 0
-  FlushesForAll made answers old new = ((answers ≡ made) × Flushes (Ok tt) old new)
-      ⊎ ((e : PoolError) × (flushed : Handle Dev G) × Flushes (Err e) old flushed × AsksAll e made answers flushed new)
-
-  -- so it is if there is one; else nothing is done
-  abbrev pub MakesDurable : List Answer → List Answer → Handle Dev G → Handle Dev G → Type 0
-  MakesDurable made answers old new = (AwaitsNoFlush made × (answers ≡ made) × (new ≡ old)) ⊎ (AwaitsFlush made × FlushesForAll made answers old new)
 
   -- an answer that says that a commit is durable is right: it is so in what the handle has seen then
   abbrev pub IsDurableAs : Handle Dev G → Handle Dev G → Answer → Type 0

@@ -10,7 +10,7 @@ use Rattle.frames.specs.declared.answer.Answer.{Answer}
 use Rattle.frames.specs.declared.error.FrameError.{FrameError}
 use Rattle.pool_threads.specs.declared.handle.Handle.{Handle}
 use Rattle.pool_threads.specs.Answers.{state_seen}
-use Rattle.frame_answers.specs.Calls.{durable_receipt}
+use Rattle.durable_answers.specs.Durability.{durable_receipt}
 
 -- a front of these bytes was appended
 abbrev pub AppendsFront : Option (List ℕ) → Option (List ℕ) → List ℕ → Type 0

@@ -9,12 +9,12 @@ ghost use Rattle.frames.specs.Limits.{max_frame};
 ghost use Rattle.frames.specs.Requests.{room_of_answers};
 ghost use Rattle.frame_answers.specs.Calls.{MakesCalls};
 ghost use Rattle.frame_answers.specs.Frames.{AnswersFrame};
-ghost use Rattle.transactions.specs.Writing.{HasRoomFor};
+ghost use Rattle.records.specs.Writing.{HasRoomFor};
 
 use crate::calls::make_call;
-use crate::durability::make_durable;
 use base::Owner;
 use device_model::SectorDevice;
+use durable_answers::make_durable;
 use frames::{
     Answer, FrameError, Request, answers_room, decode_frame, encode_answers, encode_refusal,
 };

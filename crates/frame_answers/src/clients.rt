@@ -7,7 +7,8 @@ ghost use Rattle.base.specs.declared.error.PoolError as error;
 ghost use Rattle.base.specs.declared.names.Group as group;
 ghost use Rattle.base.specs.declared.names.Receipt as receipt;
 ghost use Rattle.device_model.specs.declared.device.SectorDevice as device;
-ghost use Rattle.frame_answers.specs.Calls.{durable_receipt, outcome_of};
+ghost use Rattle.durable_answers.specs.Durability.{durable_receipt};
+ghost use Rattle.frame_answers.specs.Calls.{outcome_of};
 ghost use Rattle.frame_answers.specs.Serving.{AnswersFrames, Exchange, IsWhole, answers_of, frames_of, program};
 ghost use Rattle.frame_answers.specs.Written.{MayBeAnswered};
 ghost use Rattle.frames.specs.Answers.{bytes_of_answers, bytes_of_refused};
@@ -21,7 +22,7 @@ ghost use Rattle.pool_threads.specs.declared.handle.Handle as handles;
 ghost use Rattle.pool_threads.specs.Answers.{Sees};
 ghost use Rattle.pool_threads.specs.Transacts.{TransactsOrLacks};
 ghost use Rattle.pool_threads.specs.Waits.{LeavesDurable, SyncsPool};
-ghost use Rattle.transactions.specs.declared.record.Record as records;
+ghost use Rattle.records.specs.declared.record.Record as logged;
 
 use crate::answering::answer_frame;
 use crate::serving::{Ending, serve};
@@ -90,7 +91,7 @@ fn two_transactions_of_a_frame_are_made_in_order<D: SectorDevice, W: Wait>(
     bytes: &[u8],
     out: &mut Vec<u8>,
 ) -> Result<(), FrameError>
-    ensures { (a b : records.Record) → IsFrameOf bytes.now
+    ensures { (a b : logged.Record) → IsFrameOf bytes.now
         (record { number = 1; call = call.Transact a }
         ∷ record { number = 2; call = call.Transact b } ∷ [])
         → (handle.new ≡ handle.old)

@@ -6,7 +6,6 @@
 mod answering;
 mod calls;
 mod clients;
-mod durability;
 mod listing;
 mod serving;
 mod sink;

@@ -25,7 +25,7 @@ const LENGTH_SIZE: usize = 4;
 const PROGRAM: Owner = Owner(1);
 
 /// How the frames of an input ended.
-#[derive(Clone, Copy, Debug, PartialEq, Eq)]
+#[derive(Clone, Copy)]
 pub enum Ending {
     /// The input ended after a whole frame, or after none.
     Done,

@@ -5,7 +5,7 @@ use Rattle.std.specs.List.{flat_map}
 use Rattle.std.specs.Global.{Vec}
 use Rattle.std.proofs.lemmas.List.{flat_map_more, length-take-le, take_more}
 use Rattle.std.proofs.lemmas.List.Folds.{length-flat_map-take}
-use Rattle.transactions.specs.Writing.{AppendsBytes, HasRoomFor}
+use Rattle.records.specs.Writing.{AppendsBytes, HasRoomFor}
 use Rattle.frames.specs.Limits.{max_frame}
 use Rattle.frames.specs.Answers.{bytes_of_answer, bytes_of_listed}
 use Rattle.frames.specs.declared.answer.Answer.{Answer}

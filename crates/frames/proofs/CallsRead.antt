@@ -2,7 +2,7 @@
 use Rattle.std.proofs.Common.{◌≡◌, ℕ, ◌^◌, true, eqb, List, [], ◌∷◌, ◌++◌, Ok, refl, sym, subst, ◌∙◌, inl, inr}
 use Rattle.std.specs.Int.{w32, w64, to_le_bytes}
 use Rattle.std.proofs.lemmas.Bool.{eqb-true}
-use Rattle.transactions.proofs.Fields.{IsBytes, Takes, Takes-then, wide32, wide64}
+use Rattle.records.proofs.Fields.{IsBytes, Takes, Takes-then, wide32, wide64}
 use Rattle.frames.specs.Reading.{◌>>=◌, call_in, durable_in, field_in, length_in, log_record_in, objects_in, one_byte_in, read_in, request_in, transact_durably_in, transact_in}
 use Rattle.frames.specs.Requests.{IsCallAllowed, IsRequestAllowed, bytes_of_call, bytes_of_request, number_of_call}
 use Rattle.frames.specs.declared.request.Call.{Call}

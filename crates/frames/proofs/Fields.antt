@@ -4,11 +4,11 @@ use Rattle.std.specs.Int.{Width, to_le_bytes}
 use Rattle.std.proofs.lemmas.List.{drop_at, get_or-drop}
 use Rattle.base.specs.formats.Records as formats
 use Rattle.base.specs.formats.Records.{HasNoRecord, IsAllowed, IsDecoded, bytes_of_record}
-use Rattle.transactions.specs.Reading.{number_in, record_in}
-use Rattle.transactions.specs.Records.{record_fields}
-use Rattle.transactions.specs.declared.record.Record.{Record}
-use Rattle.transactions.proofs.Fields.{IsBytes, IsWide, Takes, number_again, number_takes}
-use Rattle.transactions.proofs.RecordsRead.{record_again, record_takes}
+use Rattle.records.specs.Reading.{number_in, record_in}
+use Rattle.records.specs.Records.{record_fields}
+use Rattle.records.specs.declared.record.Record.{Record}
+use Rattle.records.proofs.Fields.{IsBytes, IsWide, Takes, number_again, number_takes}
+use Rattle.records.proofs.RecordsRead.{record_again, record_takes}
 use Rattle.frames.specs.Reading.{declared_record, field_in, log_record_in, one_byte_in, or_error}
 use Rattle.frames.specs.declared.error.FrameError.TheVariants as error
 use Rattle.frames.proofs.Steps.{bind_ok, bind-ok, ok_is, there}

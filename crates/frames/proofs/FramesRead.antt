@@ -5,7 +5,7 @@ use Rattle.std.specs.Int.{w16, w32, to_le_bytes}
 use Rattle.std.proofs.lemmas.Bool.{or_parts, eqb-true, eq-eqb, ltb-false, le-ltb, not-false, not_from_true}
 use Rattle.std.proofs.lemmas.List.{append-nil, nil_from_length}
 use Rattle.std.proofs.lemmas.List.Concat.{flat_map-cons}
-use Rattle.transactions.proofs.Fields.{IsBytes, Takes, Takes-then, wide16, wide32}
+use Rattle.records.proofs.Fields.{IsBytes, Takes, Takes-then, wide16, wide32}
 use Rattle.frames.specs.Limits.{frame_head, frame_version, max_frame, requests_kind}
 use Rattle.frames.specs.Reading.{◌>>=◌, Fails, error_if, field_in, frame_in, head_in, is_length_refused, requests_in}
 use Rattle.frames.specs.Requests.{AreAllowed, IsFrameOf, bytes_of_all, bytes_of_frame, bytes_of_request, bytes_of_requests, room_of_answers}

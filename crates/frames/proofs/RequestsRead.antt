@@ -3,7 +3,7 @@ use Rattle.std.proofs.Common.{◌≡◌, ℕ, zero, suc, List, [], ◌∷◌, �
 use Rattle.std.specs.Prelude.{All}
 use Rattle.std.proofs.lemmas.List.Concat.{flat_map-cons}
 use Rattle.std.proofs.lemmas.List.Elements.{All-nil, All-cons, All-head, All-tail}
-use Rattle.transactions.proofs.Fields.{IsBytes, Takes, Takes-then}
+use Rattle.records.proofs.Fields.{IsBytes, Takes, Takes-then}
 use Rattle.frames.specs.Reading.{◌>>=◌, request_in, requests_in}
 use Rattle.frames.specs.Requests.{IsRequestAllowed, bytes_of_all, bytes_of_request}
 use Rattle.frames.specs.declared.request.Request.{Request}

@@ -3,8 +3,8 @@ use Rattle.std.specs.Prelude.{◌≡◌, ◌⊎◌, Bool, not, ℕ, zero, suc, �
 use Rattle.std.specs.Global.{Vec}
 use Rattle.std.specs.Int.{Width, w16, w32, w64}
 use Rattle.base.specs.formats.Records as formats
-use Rattle.transactions.specs.Reading.{number_in, record_in}
-use Rattle.transactions.specs.declared.record.Record.{Record}
+use Rattle.records.specs.Reading.{number_in, record_in}
+use Rattle.records.specs.declared.record.Record.{Record}
 use Rattle.frames.specs.Limits.{frame_version, max_frame, requests_kind}
 use Rattle.frames.specs.Requests.{room_of_answers}
 use Rattle.frames.specs.declared.error.FrameError.{FrameError}

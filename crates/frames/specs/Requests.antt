@@ -8,7 +8,7 @@ use Rattle.frames.specs.Limits.{frame_head, frame_version, least_room, listed_si
 use Rattle.frames.specs.declared.request.Call.{Call}
 use Rattle.frames.specs.declared.request.Call.TheVariants.{Transact, TransactDurably, Read, Length, Objects, Status, Durable, Flush, Sync, Name}
 use Rattle.frames.specs.declared.request.Request.{Request}
-use Rattle.transactions.specs.Records.{record_fields}
+use Rattle.records.specs.Records.{record_fields}
 
 -- the number of a call
 abbrev pub number_of_call : Call → ℕ

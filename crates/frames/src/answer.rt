@@ -4,7 +4,7 @@ use crate::listing::Listing;
 use base::{Bytes, Group, PoolError, PoolName, Receipt, Status};
 
 /// What came of a request.
-#[derive(Debug, PartialEq, Eq, Drop)]
+#[derive(Drop)]
 pub enum Outcome {
     /// It was refused, for this reason.
     Refused(PoolError),
@@ -33,7 +33,7 @@ pub enum Outcome {
 }
 
 /// What came of the request of this number.
-#[derive(Debug, PartialEq, Eq, Drop)]
+#[derive(Drop)]
 pub struct Answer {
     /// The number of the request.
     pub number: u64,

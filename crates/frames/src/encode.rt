@@ -7,8 +7,8 @@ ghost use Rattle.base.specs.declared.error.PoolError.TheVariants as lacking;
 ghost use Rattle.base.specs.formats.Records.{IsAllowed, bytes_of_record};
 ghost use Rattle.frames.specs.Limits.{frame_head, frame_version, max_frame};
 ghost use Rattle.frames.specs.Requests.{AreAllowed, IsCallAllowed, IsFrameOf, IsRequestAllowed, bytes_of_all, bytes_of_call, bytes_of_request, number_of_call};
-ghost use Rattle.transactions.specs.Records.{record_fields};
-ghost use Rattle.transactions.specs.Writing.{AppendsBytes, HasRoomFor};
+ghost use Rattle.records.specs.Records.{record_fields};
+ghost use Rattle.records.specs.Writing.{AppendsBytes, HasRoomFor};
 
 use crate::answer::{Answer, Outcome};
 use crate::decode::answers_room;
@@ -20,8 +20,8 @@ use crate::listing::Listed;
 use crate::request::{Call, Request};
 use crate::writing::{write_all, write_bytes, write_u16, write_u32, write_u64};
 use base::PoolError;
+use records::{Record, encode_into};
 use std::alloc::{AllocError, Global};
-use transactions::{Record, encode_into};
 
 /// Appends the frame of these answers. All room is taken first: if it is refused, the bytes stay as they are.
 ///

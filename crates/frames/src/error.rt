@@ -4,7 +4,7 @@ use std::alloc::{AllocError, AllocFailed};
 use thiserror::Error;
 
 /// Why bytes are refused as a frame. The frame is refused whole: none of its requests is made.
-#[derive(Clone, Copy, Debug, PartialEq, Eq, Error)]
+#[derive(Clone, Copy, Debug, Error)]
 pub enum FrameError {
     /// There is no memory for the frame.
     #[error("there is no memory for the frame")]

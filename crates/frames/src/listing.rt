@@ -4,7 +4,7 @@ use base::ObjectId;
 use std::marker::Model;
 
 /// An object that is there, and its length.
-#[derive(Clone, Copy, Debug, PartialEq, Eq)]
+#[derive(Clone, Copy, PartialEq, Eq)]
 pub struct Listed {
     /// The object's number.
     pub object: ObjectId,
@@ -15,7 +15,7 @@ pub struct Listed {
 /// Objects that are there, and their lengths. Contracts see it as a list.
 ///
 /// It is made from a `Vec` and gives it back without taking memory.
-#[derive(Debug, Drop)]
+#[derive(Drop)]
 pub struct Listing {
     items: Vec<Listed>,
 }

@@ -4,7 +4,7 @@ ghost use Rattle.std.specs.Prelude.{◌≡◌, ◌+◌, ◌≤◌, ◌<◌, ◌�
 ghost use Rattle.frames.specs.Limits.{max_cause};
 ghost use Rattle.frames.specs.Openings as words;
 ghost use Rattle.frames.specs.Openings.{bytes_of_opening, bytes_of_unopened, items_of_unopened, size_of_unopened};
-ghost use Rattle.transactions.specs.Writing.{AppendsBytes, HasRoomFor};
+ghost use Rattle.records.specs.Writing.{AppendsBytes, HasRoomFor};
 
 use crate::encode::write_head;
 use crate::error::FrameError;
@@ -20,7 +20,7 @@ const OPENING_SIZE: usize = FRAME_HEAD + 24;
 const UNOPENED_SIZE: usize = FRAME_HEAD + 24;
 
 /// What a program that serves a pool says of it first.
-#[derive(Clone, Copy, Debug, PartialEq, Eq)]
+#[derive(Clone, Copy)]
 pub struct Opening {
     /// The guid of the pool.
     pub guid: u64,

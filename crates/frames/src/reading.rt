@@ -2,7 +2,7 @@
 
 ghost use Rattle.std.specs.Int.{w16, w32, w64};
 ghost use Rattle.frames.specs.declared.error.FrameError.TheVariants.{CutOff};
-ghost use Rattle.transactions.specs.Reading.{split_at};
+ghost use Rattle.records.specs.Reading.{split_at};
 ghost use Rattle.frames.specs.Reading.{Gives, or_error, one_byte_in, call_in, durable_in, field_in, head_in, length_in, log_record_in, objects_in, read_in, request_in, requests_in, transact_durably_in, transact_in};
 
 use crate::error::FrameError;
@@ -10,8 +10,8 @@ use crate::limits::{FRAME_VERSION, MAX_FRAME, REQUESTS};
 use crate::request::{Call, Request};
 use base::{Group, ObjectId, Ordinal, Range, Receipt};
 use byteorder::{ByteOrder, LittleEndian};
+use records::{Record, decode_record};
 use std::alloc::Global;
-use transactions::{Record, decode_record};
 
 /// The first so many bytes, and the rest.
 fn split(bytes: &[u8], count: usize) -> Result<(&[u8], &[u8]), FrameError>

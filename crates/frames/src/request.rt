@@ -1,10 +1,10 @@
 //! What a program asks of a pool: a call with what it needs, and a number that its answer has too.
 
 use base::{ObjectId, Range, Receipt};
-use transactions::Record;
+use records::Record;
 
 /// What a request asks of the pool.
-#[derive(Debug, PartialEq, Eq, Drop)]
+#[derive(Drop)]
 pub enum Call {
     /// Commits the operations of a record as one entry. The record's group and ordinal say nothing.
     Transact(Record),
@@ -29,7 +29,7 @@ pub enum Call {
 }
 
 /// A call, and the number by which its answer is known. The program chooses it.
-#[derive(Debug, PartialEq, Eq, Drop)]
+#[derive(Drop)]
 pub struct Request {
     /// The number that the answer has too.
     pub number: u64,

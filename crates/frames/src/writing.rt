@@ -6,7 +6,7 @@ ghost use Rattle.std.specs.Int.{to_le_bytes, w16, w32, w64};
 ghost use Rattle.frames.specs.Limits.{max_frame};
 ghost use Rattle.frames.specs.Answers as words;
 ghost use Rattle.frames.specs.Answers.{bytes_of_answer, bytes_of_groups, bytes_of_listed, bytes_of_listing, bytes_of_outcome, bytes_of_receipt, bytes_of_refusal, bytes_of_status, bytes_of_string};
-ghost use Rattle.transactions.specs.Writing.{AppendsBytes, HasRoomFor};
+ghost use Rattle.records.specs.Writing.{AppendsBytes, HasRoomFor};
 
 use crate::answer::{Answer, Outcome};
 use crate::listing::Listed;

@@ -24,7 +24,7 @@ use Rattle.base.proofs.tree.Estimates.{syncs_fit}
 use Rattle.base.proofs.tree.Strips.{long-length}
 use Rattle.base.proofs.tree.WrittenPlaces.{written-places}
 use Rattle.tree_blocks.specs.declared.tree.ObjectEntry.{ObjectEntry}
-use Rattle.transactions.specs.declared.record.Record.{Record}
+use Rattle.records.specs.declared.record.Record.{Record}
 use Rattle.tree_plans.specs.declared.changes.ObjectChanges.{ObjectChanges}
 use Rattle.tree_plans.specs.Changes.{changes_of_group, has_address, has_two_levels}
 use Rattle.tree_plans.specs.Marks.{AreChangesOf, pending_ops}

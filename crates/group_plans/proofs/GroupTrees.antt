@@ -28,7 +28,7 @@ use Rattle.tree_blocks.specs.declared.tree.ObjectEntry.{ObjectEntry}
 use Rattle.tree_blocks.specs.declared.tree.Tree.{Tree}
 use Rattle.tree_blocks.specs.Lengths.{HasLengthsOf}
 use Rattle.tree_blocks.specs.Pointers.{ObjectPointers, is_long_entry, no_pointers, object_pointers, pointers_of, pointers_of_entry}
-use Rattle.transactions.specs.declared.record.Record.{Record}
+use Rattle.records.specs.declared.record.Record.{Record}
 use Rattle.tree_plans.specs.declared.changes.ObjectChanges.{ObjectChanges}
 use Rattle.tree_plans.specs.Changes.{AreChanges, AreTreePointers, HasNoByteFrom, IsCoveredBy, IsEntryPointer, has_two_levels, is_changed_in, state_in}
 use Rattle.tree_plans.specs.Marks.{AreChangesOf, pending_ops}

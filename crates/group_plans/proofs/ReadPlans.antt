@@ -28,7 +28,7 @@ use Rattle.tree_plans.specs.Plans.{new_block}
 use Rattle.tree_plans.specs.Pointers.{entry_of, entry_pointer_of, planned_pointers, pointers_before}
 use Rattle.tree_plans.specs.TreePlans.{GivesBack, GivesTree, HasEntries, HasLengths, TakesBlocks, TellsFull}
 use Rattle.tree_plans.specs.Marks.{AreChangesOf, pending_ops}
-use Rattle.transactions.specs.declared.record.Record.{Record}
+use Rattle.records.specs.declared.record.Record.{Record}
 use Rattle.tree_blocks.specs.declared.tree.Tree.{Tree}
 use Rattle.group_plans.specs.Prepared.{IsPrepareRefusal}
 use Rattle.group_plans.specs.GroupPlans.{HoldsGroupObjects, IsRefusedShort, IsTreeShort, MakesGroupTree, plan_pointers}

@@ -24,7 +24,7 @@ use Rattle.tree_blocks.specs.ListedObjects.{AreWithin}
 use Rattle.extents.specs.declared.extents.Extents.{Extents}
 use Rattle.extents.specs.Patches.{ArePatchesOf}
 use Rattle.extents.specs.Tables.{patches_of}
-use Rattle.transactions.specs.declared.record.Record.{Record}
+use Rattle.records.specs.declared.record.Record.{Record}
 use Rattle.tree_plans.specs.declared.planner.TreePlan.{TreePlan}
 use Rattle.tree_plans.specs.Marks.{pending_ops}
 use Rattle.tree_plans.specs.Plans.{new_block}

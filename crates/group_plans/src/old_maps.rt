@@ -35,7 +35,7 @@ use tree_blocks::{ObjectMap, ObjectSource, Tree, is_long, strip_number};
 use tree_plans::ObjectChanges;
 
 // An object whose map is read.
-#[derive(Clone, Copy, Debug)]
+#[derive(Clone, Copy)]
 pub(crate) struct OldObject<'a> {
     // Its number.
     pub(crate) id: ObjectId,

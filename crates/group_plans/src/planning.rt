@@ -31,15 +31,15 @@ use checked_blocks::Frame;
 use extents::Extents;
 use labels::Geometry;
 use object_maps::{BlockReader, Contents};
+use records::Record;
 use space::FreeSet;
 use std::alloc::Global;
 use std::collections::BTreeMap;
-use transactions::Record;
 use tree_blocks::Tree;
 use tree_plans::{ObjectChanges, PlanSource, TreePlan, changed_objects, plan};
 
 /// What the plan of a group is made of, beside the group's changes.
-#[derive(Clone, Copy, Debug)]
+#[derive(Clone, Copy)]
 pub struct GroupSource<'a> {
     /// Where the memory of the plan comes from.
     pub alloc: Global,

@@ -16,7 +16,7 @@ use tree_blocks::{ObjectSource, RECORD_COUNT};
 
 // The objects that contents have with the changes of a group laid over them. Some of their records are at hand, and
 // stand in the place of their own.
-#[derive(Debug, Drop)]
+#[derive(Drop)]
 pub(crate) struct PreparedObjects<'a> {
     alloc: Global,
     pub(crate) extents: &'a Extents,

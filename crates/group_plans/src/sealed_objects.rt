@@ -23,7 +23,7 @@ use tree_plans::SealedSource;
 const ALL_RECORDS: u64 = (OBJECT_COUNT as usize * RECORD_COUNT) as u64;
 
 // Objects with their records at hand, and the blocks of some of these for a pool and a group.
-#[derive(Debug, Drop)]
+#[derive(Drop)]
 pub(crate) struct SealedObjects<'a, 'b> {
     guid: u64,
     group: Group,

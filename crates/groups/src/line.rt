@@ -30,7 +30,7 @@ use base::{Group, LAST_NUMBER, MAX_TRANSACTIONS, PoolError};
 use std::marker::Model;
 
 /// The group between the open one and the syncing one.
-#[derive(Clone, Copy, Debug, PartialEq, Eq)]
+#[derive(Clone, Copy)]
 enum Middle {
     /// It is closed, and so many of its transactions are open.
     Quiescing(Group, u64),
@@ -41,7 +41,7 @@ enum Middle {
 /// The groups in the order of their numbers, and how many transactions of the open group and of the middle are open.
 ///
 /// Contracts see it as that line with its counts. No call takes memory, and after a refusal nothing has changed.
-#[derive(Debug, Drop, PartialEq, Eq)]
+#[derive(Drop)]
 pub struct Groups {
     synced: Group,
     syncing: Option<Group>,

@@ -30,7 +30,7 @@ use Rattle.import_replay.specs.Mounts.{KeepsUsedBlocks, WritesNoLogBlock}
 use Rattle.import_replay.specs.NextPools.{IsUnusedBlock}
 use Rattle.import_replay.specs.ReadPools.{HoldsPool, frame_of_size}
 use Rattle.import_replay.proofs.FreeBlocks.{at_planned, planned_at}
-use Rattle.import_replay.proofs.UsedBlocks.{sound_in_area}
+use Rattle.import_replay.proofs.ReadPools.{sound_in_area}
 
 -- what was read of an image, and blocks that are none of it
 module _ (size : ℕ) (u : Uberblock) (name : List ℕ) (tree : Tree) (objects : FinMap nat_cmp (List ℕ)) (chain : List LogPiece) (image now : List ℕ) (blocks : List PlannedBlock)

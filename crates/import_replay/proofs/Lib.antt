@@ -24,7 +24,6 @@ pub mod KeptBlocks
 pub mod ReplayedPools
 pub mod WrittenPlaces
 pub mod NextPools
-pub mod PlacedRecords
 pub mod PlannedPools
 pub mod ReadPools
 pub mod StoppedImports
@@ -34,8 +33,3 @@ pub mod OwnRefusals
 pub mod Refused
 pub mod CachedImports
 pub mod ShownMounts
-pub mod UsedBlocks
-pub mod ChainRecords
-pub mod Inspections
-pub mod PoolDamages
-pub mod Views

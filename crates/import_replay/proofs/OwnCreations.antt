@@ -27,6 +27,7 @@ use Rattle.base.specs.kept.PlacedTrees.{HoldsTree, StandsAt}
 use Rattle.base.specs.tree.Tree.{IsRecord}
 use Rattle.base.proofs.crash.CutViews.{cut_none}
 use Rattle.base.proofs.crash.LeftDisks.{own_left}
+use Rattle.base.proofs.crash.LogRoom.{enough_without_log}
 use Rattle.base.proofs.crash.NewDisks.{created_own}
 use Rattle.base.proofs.formats.Geometry.{IsGeometry-IsSize, blocks-end, slot-on_device}
 use Rattle.labels.specs.Configs.{IsConfigBlock, config_block}
@@ -105,7 +106,7 @@ module _ (size t guid moment : ℕ) (name : List ℕ) (disk : Disk) (g : IsGeome
       (0, omega (arith, (IsGeometry-IsSize size g).least), spare_is address is),
       record { not_in_tree = λ p in_range some. absurd (some refl); not_logged = λ i l at. absurd (let no_way : None ≡ Some l = at in cc) },
     );
-    enough = omega (arith, one_spare);
+    enough = enough_without_log v spare refl (omega (arith, one_spare));
   }
 
   fixed : (place n : ℕ) (content : List ℕ) → length content ≡ n → part image place n ≡ content → IsFixed disk.now place content

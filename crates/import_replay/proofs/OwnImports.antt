@@ -1,14 +1,14 @@
 -- An import, whatever it answers, keeps a disk that its pool alone wrote the pool's own; one that answers Ok gives its
 -- run a disk with the views of the pool that it shows.
-use Rattle.std.proofs.Common.{◌≡◌, inl, inr, ⊎_elim, ℕ, zero, suc, ◌+◌, ◌<◌, true, false, List, [], ◌∷◌, length, None, Some, Ok, refl, sym, ◌∙◌, ap, subst, arith}
-use Rattle.std.specs.Prelude.{filter, nat_lt, slice_get}
+use Rattle.std.proofs.Common.{◌≡◌, inl, inr, ⊎_elim, ℕ, zero, suc, ◌+◌, true, false, List, [], ◌∷◌, length, None, Some, Ok, refl, sym, ◌∙◌, ap, subst, arith}
+use Rattle.std.specs.Prelude.{slice_get}
 use Rattle.std.specs.Ordering.{nat_cmp}
 use Rattle.std.specs.FinSet as set
 use Rattle.std.specs.FinSet.{FinSet, contains-empty, len-empty}
 use Rattle.std.proofs.lemmas.Bool.{false≢true}
 use Rattle.base.specs.kept.CallStages.{FixedLabels}
 use Rattle.base.specs.kept.CrashRule.{AreImportViews, HasSteadyPhases, IsImportMoment, IsOwnOnceFlushed, KeepsOwn}
-use Rattle.base.specs.kept.LogRoom.{HasImportRoom, records_estimate}
+use Rattle.base.specs.kept.LogRoom.{HasImportRoom}
 use Rattle.base.specs.kept.LogRule.{AreChainsUpTo, IsLogHeld}
 use Rattle.base.specs.kept.LogSteps.{IsSpareOf}
 use Rattle.base.specs.tree.Mount.{HasPool, Mounts, apply_above}
@@ -21,14 +21,13 @@ use Rattle.base.specs.disk.Disk.{Disk, EachMoment, Moment, bytes_of, certain, di
 use Rattle.base.specs.disk.Fairness.{HasFairBytes}
 use Rattle.base.specs.formats.Chain.{LogPiece}
 use Rattle.base.specs.formats.Geometry.{IsBlockAddress, block_address, block_count}
-use Rattle.base.specs.formats.Records.{Record}
 use Rattle.base.specs.formats.Uberblocks.{Uberblock}
 use Rattle.base.specs.history.Contents.{Contents}
 use Rattle.base.specs.history.Past.{Past, new_past}
 use Rattle.base.specs.steps.Shown.{Shown}
 use Rattle.base.proofs.common.KeptLists.{All-at, All-each}
 use Rattle.base.proofs.crash.LogImports.{begun_held, chains_of_view}
-use Rattle.base.proofs.crash.LogRoom.{in-with_all, len-with_all, with_all}
+use Rattle.base.proofs.crash.LogRoom.{enough_without_log, in-with_all, len-with_all, with_all}
 use Rattle.base.proofs.crash.OwnDisks.{configs_weaker, import_kept}
 use Rattle.base.proofs.disk.Moments.{latest, starts}
 use Rattle.base.proofs.disk.Regions.{flushed_clean}
@@ -70,7 +69,7 @@ after_unwritten blocks contents v room = record {
   room = record {
     spare = room.spare;
     each = λ address is. let old = room.each address is in (old.0, record { not_in_tree = old.1.not_in_tree; not_logged = λ i l at. absurd (let no_way : None ≡ Some l = at in cc) });
-    enough = omega (arith, room.enough);
+    enough = enough_without_log (unwritten contents v) room.spare refl (let some = room.enough 0 in omega (arith, some));
   };
 }
 
@@ -87,7 +86,7 @@ room_of_one : (blocks address : ℕ) (v : View) → v.logged ≡ [] → IsBlockA
 room_of_one blocks address v none block is = record {
   spare = one;
   each = λ other there. ⊎_elim (λ at. same other (one_at address at.0 other at.1).1) (λ no. absurd (nothing other no)) (in-with_all (address ∷ []) set.empty other there);
-  enough = subst (λ (ls : List Logged). records_estimate (filter (λ (r : Record). nat_lt v.u.group r.group) (ended_in ls)) < set.len one) (sym none) (omega (arith, long, len-empty nat_cmp));
+  enough = enough_without_log v one none (omega (arith, long, len-empty nat_cmp));
 }
   where
     one : FinSet nat_cmp

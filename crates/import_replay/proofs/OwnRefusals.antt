@@ -1,30 +1,30 @@
 -- Of a disk that its pool alone wrote the pool is found, its tree and its chain have no damage, and there is room for
 -- its import.
-use Rattle.std.proofs.Common.{◌≡◌, ◌≢◌, inl, inr, ⊎_elim, ℕ, List, Some, take, refl, sym, ◌∙◌, ap, subst, arith}
+use Rattle.std.proofs.Common.{◌≡◌, ◌≢◌, inl, inr, ⊎_elim, ℕ, List, Some, length, take, refl, sym, ◌∙◌, ap, subst, arith}
 use Rattle.std.specs.Prelude.{Contains, slice_get}
 use Rattle.std.specs.List.{flat_map}
 use Rattle.base.specs.declared.error.PoolError.{PoolError}
-use Rattle.base.specs.kept.LogRoom.{records_estimate, records_to_apply}
-use Rattle.base.specs.tree.Mount.{HasNoPool, IsChainOf, IsTreeDamaged, Mounts, MountsTo, frame_of, header_of, records_above}
+use Rattle.base.specs.tree.Mount.{HasNoPool, IsChainOf, IsTreeDamaged, Mounts, MountsTo, frame_of, header_of}
 use Rattle.base.specs.kept.Own.{IsOwnImage, IsOwnWith}
-use Rattle.base.specs.kept.Views.{IsFoundAs, Logged, ended_in, view_frame}
+use Rattle.base.specs.kept.Views.{IsFoundAs, Logged, view_frame}
 use Rattle.base.specs.declared.pointer.Pointer.{Pointer}
 use Rattle.base.specs.disk.Fairness.{passes_check}
 use Rattle.base.specs.disk.Disk.{Disk, Moment, bytes_of, certain, disk_size, settled}
 use Rattle.base.specs.formats.Chain.{LogPiece, addresses_of}
+use Rattle.base.specs.formats.Geometry.{block_count}
 use Rattle.base.specs.formats.Labels.{HasNoConfig}
 use Rattle.base.specs.formats.Uberblocks.{IsActive, Uberblock}
 use Rattle.base.specs.history.Contents.{Contents}
 use Rattle.base.specs.tree.Damages.{IsFirstDamage}
-use Rattle.base.specs.tree.Places.{IsInTree}
+use Rattle.base.specs.tree.Places.{IsInTree, Place}
 use Rattle.base.specs.tree.Places.Place.{Root}
 use Rattle.base.proofs.crash.CrashRule.{own_mounts}
 use Rattle.base.proofs.crash.CutPlaces.{chain_logged}
-use Rattle.base.proofs.crash.CutViews.{cut_records}
 use Rattle.base.proofs.crash.FoundViews.{rest_found}
 use Rattle.base.proofs.crash.LogChains.{mounted_not_damaged}
 use Rattle.base.proofs.crash.LogFronts.{at-take}
-use Rattle.base.proofs.crash.LogRoom.{subset_len}
+use Rattle.base.proofs.crash.ImportPlaces.{found-places}
+use Rattle.base.proofs.crash.LogRoom.{import_fits}
 use Rattle.base.proofs.crash.OneMount.{one-active, one-chain}
 use Rattle.base.proofs.disk.Fairness.{fair_settled}
 use Rattle.base.proofs.disk.Moments.{bytes_may_be_left}
@@ -32,8 +32,6 @@ use Rattle.base.proofs.disk.Regions.{flushed_clean}
 use Rattle.base.proofs.tree.PlacedTrees.{in-tree}
 use Rattle.base.proofs.tree.SoundTrees.{no_damage}
 use Rattle.import_replay.specs.ImportRefusals.{FindsOwn, LacksImportRoom, IsReason}
-use Rattle.import_replay.specs.PlacedRecords.{placed_estimate}
-use Rattle.import_replay.proofs.PlacedRecords.{placed-estimate}
 
 module _ (image : List ℕ) (u : Uberblock) (chain : List LogPiece) (contents : Contents) (mounts : Mounts image u chain contents) where
   pub has_pool : HasNoPool image → ⊥
@@ -83,27 +81,23 @@ module _ (disk : Disk) (created guid : ℕ) (contents : Contents) (own : IsOwnWi
   not_logged address none there =
       let (i, l, at, same) = chain_logged here.v.u.version front found.cut address there in none i l (at-take found.count here.v.logged i l at).1 same
 
-  -- the records that it has applied are those of the log
-  estimated : placed_estimate (records_above here.v.u.group logged) ≡ records_estimate (records_to_apply here.v)
-  estimated = placed-estimate here.v.u.group logged (ended_in here.v.logged) (cut_records here.v.u.version front found.cut ∙ here.all found.count found.least)
-
+  -- its free blocks suffice for the places that its records write
   has_room : LacksImportRoom image → ⊥
   has_room full =
       let laid = here.rest.laid in
       let same : full.u ≡ here.v.u = uberblock_is full.u full.mounts.found.pool.active in
       let root : full.u.root ≡ here.v.pointers Root = ap (λ (w : Uberblock). w.root) same ∙ sym laid.view.root in
       let chains : full.chain ≡ logged = chain_is full.u full.chain full.mounts.found.pool.active full.mounts.found.chain_is in
-      let few : placed_estimate (records_above full.u.group full.chain) ≡ records_estimate (records_to_apply here.v) =
-      (λ i. placed_estimate (records_above (same i).group (chains i))) ∙ estimated in
-      let within = subset_len here.room.spare full.spare (λ address is.
-      let spare = here.room.each address is in
-      full.all address spare.0 (λ used. ⊎_elim
+      let fits = import_fits (block_count (disk_size disk)) here.v full.spare here.room (λ address in_area spare.
+      full.all address in_area (λ used. ⊎_elim
       (λ in_tree.
       let there : IsInTree image (here.v.pointers Root) address = subst (λ (r : Pointer). IsInTree image r address) root in_tree in
       let (place, in_range, names, some) = in-tree image (view_frame (disk_size disk) here.v) here.v.pointers here.v.synced.objects laid.firm.tree.holds address there in
-      spare.1.not_in_tree place in_range some names)
-      (λ is_logged. not_logged address spare.1.not_logged (subst (λ (bs : List LogPiece). Contains (flat_map addresses_of bs) address) chains is_logged)) used)) in
-      omega (arith, within, few, full.estimated, here.room.enough)
+      spare.not_in_tree place in_range some names)
+      (λ is_logged. not_logged address spare.not_logged (subst (λ (bs : List LogPiece). Contains (flat_map addresses_of bs) address) chains is_logged)) used)) found.count in
+      let places = ap (λ (ps : List Place). length ps)
+      (found-places (disk_size disk) image here.flushed here.v found laid.firm.tree.holds laid.view.root full.u full.synced full.chain full.found) in
+      omega (arith, fits, full.few, places)
 
 pub finds_own : (disk : Disk) (e : PoolError) → IsReason (bytes_of disk.now) e → FindsOwn disk e
 finds_own disk e reason created guid contents own =

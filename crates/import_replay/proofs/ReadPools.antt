@@ -1,24 +1,25 @@
 -- What is read of a device without a write or a flush is of its image: an active pool, the tree under its root and its
 -- chain, or the first damage of that tree. A flush before it leaves that image.
-use Rattle.std.proofs.Common.{◌≡◌, ℕ, List, length, Ok, sym, subst}
-use Rattle.std.specs.Prelude.{All, Bool, IsTrue}
+use Rattle.std.proofs.Common.{◌≡◌, ⊎_elim, ℕ, suc, List, [], ◌∷◌, length, Ok, sym, subst, arith}
+use Rattle.std.specs.Prelude.{All, Contains}
 use Rattle.std.specs.Ordering.{nat_cmp}
 use Rattle.std.specs.FinMap.{FinMap}
+use Rattle.std.proofs.lemmas.List.Elements.{All-contains, Contains-append_cases}
 use Rattle.base.specs.tree.Mount.{HasPool, IsChainOf, IsTreeDamaged, header_of}
 use Rattle.base.specs.disk.Calls.{Flushes}
 use Rattle.base.specs.disk.Disk.{Disk, bytes_of}
 use Rattle.base.specs.formats.Blocks.{Frame}
-use Rattle.base.specs.formats.Chain.{IsChain, LogPiece}
+use Rattle.base.specs.formats.Chain.{IsChain, LogPiece, addresses_of, chain_addresses}
+use Rattle.base.specs.formats.Geometry.{IsBlockAddress}
 use Rattle.base.specs.formats.Uberblocks.{Uberblock}
 use Rattle.base.specs.tree.Damages.{IsFirstDamage}
-use Rattle.base.specs.kept.PlacedTrees.{ArePlaced, HoldsTree}
+use Rattle.base.specs.kept.PlacedTrees.{HoldsTree}
 use Rattle.base.proofs.disk.Regions.{flushed_clean}
 use Rattle.intent_log.specs.Chains.{IsSoundPiece}
 use Rattle.object_maps.specs.declared.contents.Slot.{Slot}
 use Rattle.tree_blocks.specs.declared.tree.Tree.{Tree}
 use Rattle.tree_blocks.specs.Pointers.{pointers_of}
-use Rattle.trees.specs.Surveys.{HasObjects}
-use Rattle.import_replay.specs.ReadPools.{HoldsPool, IsReadPool, IsSurveyedFor, frame_of_size}
+use Rattle.import_replay.specs.ReadPools.{HoldsPool, IsReadPool, frame_of_size}
 
 module _ (image : List ℕ) (found : Disk) (size : ℕ) (frame : Frame) (u : Uberblock) (name : List ℕ) (long : length image ≡ size) (same : bytes_of found.now ≡ image)
     (pool : HasPool image u name) (framed : frame ≡ frame_of_size u size) where
@@ -50,19 +51,6 @@ is_read_chain image size frame u chain long framed is =
     subst (λ (n : ℕ). IsChain image (frame_of_size u n) u.import_number (header_of u) chain) (sym long)
     (subst (λ (f : Frame). IsChain image (record f { version = u.version }) u.import_number (header_of u) chain) framed is)
 
--- what was surveyed in a frame of this uberblock
-pub is_surveyed : (keeps : Bool) (image now : List ℕ) (size : ℕ) (frame : Frame) (u : Uberblock) (name : List ℕ) (tree : Tree) (chain : List LogPiece) → frame ≡ frame_of_size u size
-    → ArePlaced frame.blocks (pointers_of tree) → All (IsSoundPiece (frame_of_size u size).blocks) chain → (has : HasObjects keeps now frame tree)
-    → (IsTrue keeps → HoldsPool image size u name tree has.objects chain) → IsSurveyedFor keeps image size u name tree chain
-is_surveyed keeps image now size frame u name tree chain framed placed sound has read = record {
-  placed = subst (λ (f : Frame). ArePlaced f.blocks (pointers_of tree)) framed placed;
-  objects = has.objects;
-  bounded = has.bounded;
-  lengths = has.lengths;
-  sound = sound;
-  read = read;
-}
-
 -- what is read after a good flush is of the image before it
 pub same_flushed : (old mid : Disk) → Flushes old (Ok tt) mid → bytes_of mid.now ≡ bytes_of old.now
 same_flushed old mid flushes = (flushed_clean old mid flushes).1
@@ -70,3 +58,10 @@ same_flushed old mid flushes = (flushed_clean old mid flushes).1
 pub read_behind_flush : (old mid : Disk) (size : ℕ) (u : Uberblock) (name : List ℕ) (tree : Tree) (slots : List Slot) (chain : List LogPiece) → Flushes old (Ok tt) mid
     → IsReadPool (bytes_of mid.now) size u name tree slots chain → IsReadPool (bytes_of old.now) size u name tree slots chain
 read_behind_flush old mid size u name tree slots chain flushes read = subst (λ (b : List ℕ). IsReadPool b size u name tree slots chain) (same_flushed old mid flushes) read
+
+-- the blocks of a chain that was read lie in the area
+pub sound_in_area : (blocks : ℕ) (chain : List LogPiece) → All (IsSoundPiece blocks) chain → (address : ℕ) → Contains (chain_addresses chain) address → IsBlockAddress blocks address
+sound_in_area blocks [] sound address (i, low, is) = absurd (omega (arith, low))
+sound_in_area blocks (b ∷ bs) sound address there =
+    ⊎_elim (λ here. All-contains (IsBlockAddress blocks) (addresses_of b) address (sound 0 b (omega arith)).in_area here)
+    (λ behind. sound_in_area blocks bs (λ k d h. sound (suc k) d (omega (arith, h))) address behind) (Contains-append_cases (addresses_of b) (chain_addresses bs) address there)

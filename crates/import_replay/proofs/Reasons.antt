@@ -1,8 +1,8 @@
 -- What a refusal says of the image.
-use Rattle.std.proofs.Common.{◌≡◌, inl, inr, ℕ, List, Result, Ok, Err, IfErr, ap, sym, subst, ◌∙◌}
+use Rattle.std.proofs.Common.{◌≡◌, ◌⊎◌, inl, inr, ℕ, List, Result, Ok, Err, IfErr, ap, sym, subst, ◌∙◌}
 use Rattle.std.specs.Prelude.{IsErrAnd}
 use Rattle.base.specs.declared.error.PoolError.{PoolError}
-use Rattle.base.specs.declared.error.PoolError.TheVariants.{Damaged, NoMemory, NoPool, NoSpace, Read, TooMany}
+use Rattle.base.specs.declared.error.PoolError.TheVariants.{BadGeometry, BadRange, Damaged, NoMemory, NoPool, NoSpace, Read, TooMany}
 use Rattle.base.specs.tree.Mount.{HasNoPool, IsChainDamaged, IsTreeDamaged}
 use Rattle.base.specs.formats.Uberblocks.{Uberblock, IsActive}
 use Rattle.group_plans.specs.GroupPlans.{IsHeldRefusal}
@@ -103,6 +103,11 @@ reason-record image e (inr (there, is)) damaged = record {
   too_many = λ f. absurd (let no : Damaged 6 there ≡ TooMany = sym is ∙ f in cc);
   no_space = λ f. absurd (let no : Damaged 6 there ≡ NoSpace = sym is ∙ f in cc);
 }
+
+-- a refusal by size or limits says nothing
+pub no_reason : (image : List ℕ) (e : PoolError) → (e ≡ BadGeometry) ⊎ (e ≡ BadRange) → IsReason image e
+no_reason image e (inl is) = record { no_pool = λ f. let no : BadGeometry ≡ NoPool = sym is ∙ f in cc; damaged = λ k a f. let no : BadGeometry ≡ Damaged k a = sym is ∙ f in cc; too_many = λ f. let no : BadGeometry ≡ TooMany = sym is ∙ f in cc; no_space = λ f. let no : BadGeometry ≡ NoSpace = sym is ∙ f in cc }
+no_reason image e (inr is) = record { no_pool = λ f. let no : BadRange ≡ NoPool = sym is ∙ f in cc; damaged = λ k a f. let no : BadRange ≡ Damaged k a = sym is ∙ f in cc; too_many = λ f. let no : BadRange ≡ TooMany = sym is ∙ f in cc; no_space = λ f. let no : BadRange ≡ NoSpace = sym is ∙ f in cc }
 
 -- a refusal before the first write is none of a write or a flush
 pub not_both : (e : PoolError) → IsReadingRefusal e → IsSyncRefusal e → ⊥

@@ -1,5 +1,5 @@
 -- What each stop of an import says of the image, and leaves of the device.
-use Rattle.std.proofs.Common.{◌≡◌, ◌⊎◌, inl, inr, ℕ, ◌≢◌, Bool, true, List, Ok, IsTrue, refl, sym, ◌∙◌, subst}
+use Rattle.std.proofs.Common.{◌≡◌, ◌⊎◌, inl, inr, ℕ, Bool, true, List, Ok, IsTrue, refl, sym, ◌∙◌, subst}
 use Rattle.base.specs.declared.error.PoolError.{PoolError}
 use Rattle.base.specs.declared.error.PoolError.TheVariants.{BadGeometry, BadRange, Damaged, Flush, NoMemory, NoPool, NoSpace, Read, TooMany, Write}
 use Rattle.base.specs.disk.Calls.{Flushes}
@@ -9,14 +9,14 @@ use Rattle.base.specs.formats.Uberblocks.{Uberblock}
 use Rattle.device_model.specs.declared.device.SectorDevice.{Ghosts}
 use Rattle.group_plans.specs.GroupPlans.{IsHeldRefusal, IsPlanRefusal}
 use Rattle.log_replay.specs.Replays.{IsReplayCause}
-use Rattle.import_replay.specs.ImportRefusals.{HasLastNumbers, LacksImportRoom, IsImportRefusal, IsReason, IsInspectionRefusal, IsMountRefusal, IsReadingRefusal, IsSyncRefusal, IsWalkRefusal}
+use Rattle.import_replay.specs.ImportRefusals.{HasLastNumbers, LacksImportRoom, IsImportRefusal, IsReason, IsMountRefusal, IsReadingRefusal, IsSyncRefusal, IsWalkRefusal}
 use Rattle.import_replay.specs.ImportStops.{IsImportStopped}
 use Rattle.import_replay.specs.NextPools.{IsNextRefused, LacksBlocks, LacksTreeBlocks}
-use Rattle.import_replay.specs.Refused.{IsImportRefused, IsInspectionRefused, IsMountRefused}
+use Rattle.import_replay.specs.Refused.{IsImportRefused, IsMountRefused}
 use Rattle.import_replay.specs.declared.next_pool.ReplayedPool.{ReplayedPool}
 use Rattle.import_replay.proofs.OwnRefusals.{finds_own}
 use Rattle.import_replay.proofs.ReadPools.{same_flushed}
-use Rattle.import_replay.proofs.Reasons.{not_both, reason-many, reason-open, reason-plan}
+use Rattle.import_replay.proofs.Reasons.{no_reason, not_both, reason-many, reason-open, reason-plan}
 
 not_full : (e : PoolError) → IsSyncRefusal e → e ≡ NoSpace → ⊥
 not_full e (inl is) full = let no : Write ≡ NoSpace = sym is ∙ full in cc
@@ -97,7 +97,7 @@ module _ (keeps : Bool) (moment : ℕ) (old mid new : Disk) (e : PoolError) wher
     stopped = λ keep again. stops keep;
   }
 
--- an import and an inspection, on any device
+-- an import, on any device
 module _ {Dev : Type 0} (D : Ghosts Dev) where
   -- the kinds of an import that had begun are none by size or limits
   of_mount : (size : ℕ) (allowed : Bool) (e : PoolError) → IsGeometry size × (allowed ≡ true) → IsMountRefusal e → IsImportRefusal size allowed e
@@ -121,10 +121,6 @@ module _ {Dev : Type 0} (D : Ghosts Dev) where
       }
 
   -- by size or limits
-  no_reason : (image : List ℕ) (e : PoolError) → (e ≡ BadGeometry) ⊎ (e ≡ BadRange) → IsReason image e
-  no_reason image e (inl is) = record { no_pool = λ f. let no : BadGeometry ≡ NoPool = sym is ∙ f in cc; damaged = λ k a f. let no : BadGeometry ≡ Damaged k a = sym is ∙ f in cc; too_many = λ f. let no : BadGeometry ≡ TooMany = sym is ∙ f in cc; no_space = λ f. let no : BadGeometry ≡ NoSpace = sym is ∙ f in cc }
-  no_reason image e (inr is) = record { no_pool = λ f. let no : BadRange ≡ NoPool = sym is ∙ f in cc; damaged = λ k a f. let no : BadRange ≡ Damaged k a = sym is ∙ f in cc; too_many = λ f. let no : BadRange ≡ TooMany = sym is ∙ f in cc; no_space = λ f. let no : BadRange ≡ NoSpace = sym is ∙ f in cc }
-
   not_begun : (e : PoolError) → (e ≡ BadGeometry) ⊎ (e ≡ BadRange) → (IsReadingRefusal e → ⊥) × (IsSyncRefusal e → ⊥)
   not_begun e (inl is) = (λ reading. subst IsReadingRefusal is reading, λ sync. elim sync [ inl of_write ↦ let no : BadGeometry ≡ Write = sym is ∙ of_write in cc | inr of_flush ↦ let no : BadGeometry ≡ Flush = sym is ∙ of_flush in cc ])
   not_begun e (inr is) = (λ reading. subst IsReadingRefusal is reading, λ sync. elim sync [ inl of_write ↦ let no : BadRange ≡ Write = sym is ∙ of_write in cc | inr of_flush ↦ let no : BadRange ≡ Flush = sym is ∙ of_flush in cc ])
@@ -138,29 +134,3 @@ module _ {Dev : Type 0} (D : Ghosts Dev) where
     unchanged = λ keep reading. absurd ((not_begun e bad).0 reading);
     stopped = λ keep sync. absurd ((not_begun e bad).1 sync);
   }
-
-  -- an inspection, by size, for what it reads, or for memory
-  pub size_refused : (old : Dev) (e : PoolError) → e ≡ BadGeometry → (IsGeometry (D.size old) → ⊥) → IsInspectionRefused D old old e
-  size_refused old e is not_sized = record {
-    kind = subst (IsInspectionRefusal (D.size old)) (sym is) not_sized;
-    reason = λ keep. no_reason (bytes_of (D.disk old).now) e (inl is);
-    found = λ keep. finds_own (D.disk old) e ((no_reason (bytes_of (D.disk old).now) e (inl is)));
-    untouched = λ again. refl;
-  }
-
-  of_inspection : (size : ℕ) (e : PoolError) → IsGeometry size → IsWalkRefusal e → IsInspectionRefusal size e × (e ≢ BadGeometry)
-  of_inspection size NoMemory sized walk = ((sized, tt), λ is. let no : NoMemory ≡ BadGeometry = is in cc)
-  of_inspection size Read sized walk = ((sized, tt), λ is. let no : Read ≡ BadGeometry = is in cc)
-  of_inspection size NoPool sized walk = ((sized, tt), λ is. let no : NoPool ≡ BadGeometry = is in cc)
-  of_inspection size (Damaged kind address) sized walk = ((sized, tt), λ is. let no : Damaged kind address ≡ BadGeometry = is in cc)
-  of_inspection size _ sized walk = absurd walk
-
-  pub walk_refused : (old new : Dev) (e : PoolError) → IsGeometry (D.size old) → IsWalkRefusal e → (IsTrue D.keeps_model → IsReason (bytes_of (D.disk old).now) e) → IsInspectionRefused D old new e
-  walk_refused old new e sized walk reason =
-      let kinds = of_inspection (D.size old) e sized walk in
-      record { kind = kinds.0; reason = reason; found = λ keep. finds_own (D.disk old) e ((reason keep)); untouched = λ bad. absurd (kinds.1 bad) }
-
-  pub memory_refused : (old new : Dev) (e : PoolError) → IsGeometry (D.size old) → e ≡ NoMemory → IsInspectionRefused D old new e
-  memory_refused old new e sized is =
-      walk_refused old new e sized (subst IsWalkRefusal (sym is) tt)
-      (λ keep. reason-open (bytes_of (D.disk old).now) e (inl is) (λ full. let no : NoMemory ≡ NoSpace = sym is ∙ full in cc))

@@ -29,8 +29,8 @@ use Rattle.object_maps.specs.ContentsShown.{contents_of}
 use Rattle.object_maps.specs.Ops.{AreOpsAllowed, IsOpAllowed}
 use Rattle.object_maps.specs.declared.contents.Slot.{Slot}
 use Rattle.tree_blocks.specs.declared.tree.Tree.{Tree}
-use Rattle.transactions.specs.declared.record.Record.{Record}
-use Rattle.transactions.specs.Records.{record_fields}
+use Rattle.records.specs.declared.record.Record.{Record}
+use Rattle.records.specs.Records.{record_fields}
 use Rattle.tree_plans.specs.Marks.{pending_ops}
 use Rattle.mounted.proofs.Replays.{flat_replay, sized_object}
 use Rattle.import_replay.specs.PlacedRecords.{ops_of_placed, placed_estimate}

@@ -34,11 +34,6 @@ IsWalkRefusal NoPool = ⊤
 IsWalkRefusal (Damaged kind address) = ⊤
 IsWalkRefusal _ = ⊥
 
--- an inspection of a device of so many bytes is refused: the size comes first, before any device call
-abbrev pub IsInspectionRefusal : ℕ → PoolError → Type 0
-IsInspectionRefusal size BadGeometry = IsGeometry size → ⊥
-IsInspectionRefusal size e = IsGeometry size × IsWalkRefusal e
-
 -- while the labels are written a write or a flush is refused
 abbrev pub IsSyncRefusal : PoolError → Type 0
 IsSyncRefusal e = (e ≡ Write) ⊎ (e ≡ Flush)

@@ -21,6 +21,3 @@ pub mod Refused
 pub mod Mounts
 pub mod ShownMounts
 pub mod RunStarts
-pub mod Inspections
-pub mod PoolDamages
-pub mod Views

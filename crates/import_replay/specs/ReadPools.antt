@@ -1,6 +1,5 @@
--- What an import or an inspection reads of an image: an active pool, the tree under its root, and its chain of log
--- blocks.
-use Rattle.std.specs.Prelude.{ℕ, ◌≡◌, All, Bool, IsTrue, List, length, IfSome}
+-- What an import reads of an image: an active pool, the tree under its root, and its chain of log blocks.
+use Rattle.std.specs.Prelude.{ℕ, ◌≡◌, All, List, length, IfSome}
 use Rattle.std.specs.Ordering.{nat_cmp}
 use Rattle.std.specs.FinMap as finite
 use Rattle.std.specs.FinMap.{FinMap}
@@ -47,14 +46,3 @@ pub record HoldsPool (image : List ℕ) (size : ℕ) (u : Uberblock) (name : Lis
 -- the tree of the objects of these slots
 abbrev pub IsReadPool : List ℕ → ℕ → Uberblock → List ℕ → Tree → List Slot → List LogPiece → Type 0
 IsReadPool image size u name tree slots chain = HoldsPool image size u name tree (objects_of slots) chain
-
--- What was surveyed for this uberblock, on every device: pointers to blocks of the area alone, the lengths of objects
--- within their limits, and log blocks as they are loaded. The image of a device that keeps the model has an active pool
--- with this tree of these objects, and this chain.
-pub record IsSurveyedFor (keeps : Bool) (image : List ℕ) (size : ℕ) (u : Uberblock) (name : List ℕ) (tree : Tree) (chain : List LogPiece) : Type 0 where
-  pub placed : ArePlaced (block_count size) (pointers_of tree)
-  pub objects : FinMap nat_cmp (List ℕ)
-  pub bounded : (n : ℕ) → IfSome (finite.get objects n) (IsLimitedObject n)
-  pub lengths : HasLengthsOf tree objects
-  pub sound : All (IsSoundPiece (block_count size)) chain
-  pub read : IsTrue keeps → HoldsPool image size u name tree objects chain

@@ -1,4 +1,4 @@
--- What a create, an import and an inspection that were refused say of the image, and what they leave of the device.
+-- What a create and an import that were refused say of the image, and what they leave of the device.
 use Rattle.std.specs.Prelude.{ℕ, ◌≡◌, ◌⊎◌, Bool, IsTrue, List}
 use Rattle.base.specs.declared.error.PoolError.{PoolError}
 use Rattle.base.specs.declared.error.PoolError.TheVariants.{BadGeometry, BadRange}
@@ -7,7 +7,7 @@ use Rattle.base.specs.disk.DiskCalls.{IsStoppedIn}
 use Rattle.device_model.specs.declared.device.SectorDevice.{Ghosts}
 use Rattle.import_replay.specs.CreateCalls.{create_calls}
 use Rattle.import_replay.specs.CreateRefusals.{IsCreateRefusal}
-use Rattle.import_replay.specs.ImportRefusals.{FindsOwn, IsImportRefusal, IsReason, IsInspectionRefusal, IsMountRefusal, IsReadingRefusal, IsSyncRefusal}
+use Rattle.import_replay.specs.ImportRefusals.{FindsOwn, IsImportRefusal, IsReason, IsMountRefusal, IsReadingRefusal, IsSyncRefusal}
 use Rattle.import_replay.specs.ImportStops.{IsImportStopped}
 use Rattle.import_replay.specs.LabelSyncs.{ImportWrites, calls_of_import}
 
@@ -39,10 +39,3 @@ pub record IsImportRefused {Dev : Type 0} (D : Ghosts Dev) (allowed : Bool) (mom
   pub untouched : (e ≡ BadGeometry) ⊎ (e ≡ BadRange) → new ≡ old
   pub unchanged : IsTrue D.keeps_model → IsReadingRefusal e → D.disk new ≡ certain (bytes_of (D.disk old).now) (D.disk old)
   pub stopped : IsTrue D.keeps_model → IsSyncRefusal e → IsImportStopped (D.disk old) (D.disk new) moment e
-
--- An inspection was refused: by size the device is as it was.
-pub record IsInspectionRefused {Dev : Type 0} (D : Ghosts Dev) (old new : Dev) (e : PoolError) : Type 0 where
-  pub kind : IsInspectionRefusal (D.size old) e
-  pub reason : IsTrue D.keeps_model → IsReason (bytes_of (D.disk old).now) e
-  pub found : IsTrue D.keeps_model → FindsOwn (D.disk old) e
-  pub untouched : e ≡ BadGeometry → new ≡ old

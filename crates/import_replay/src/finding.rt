@@ -25,7 +25,7 @@ use uberblocks::{ARRAY_SIZE, LABEL_COUNT, Uberblock, active};
 
 /// A pool that was found on a device.
 #[derive(Drop)]
-pub(crate) struct Found {
+pub struct Found {
     /// The active uberblock.
     pub uberblock: Uberblock,
     /// The name in the config that is chosen for it.
@@ -36,8 +36,11 @@ pub(crate) struct Found {
     ghost named: { IsName name },
 }
 
-// The pool of a device: its active uberblock, and the name of the config that is chosen for it.
-pub(crate) fn find_pool<D: SectorDevice>(
+/// Returns the pool of a device: its active uberblock, and the name of the config that is chosen for it.
+///
+/// # Errors
+/// `NoPool` if the device has none. `NoMemory` and `Read` when they happen.
+pub fn find_pool<D: SectorDevice>(
     alloc: Global,
     device: &mut D,
     geometry: Geometry,

@@ -13,8 +13,8 @@ use labels::Geometry;
 use space::FreeSet;
 use tree_plans::PlannedBlock;
 
-// The blocks of a chain are taken.
-pub(crate) fn take_logged(free: &mut FreeSet, geometry: Geometry, logged: &[LoggedPiece])
+/// Takes the blocks of a chain.
+pub fn take_logged(free: &mut FreeSet, geometry: Geometry, logged: &[LoggedPiece])
     requires { free.old.blocks ≡ block_count geometry }
     ensures count { free.new.blocks ≡ block_count geometry }
     ensures taken { BlocksTaken (λ k. list_any (logs_block k) logged.now) free.old free.new }

@@ -7,12 +7,13 @@ ghost use Rattle.import_replay.specs.Mounts.{IsExplainedAnew, StandsOnDevice};
 ghost use Rattle.import_replay.specs.ShownMounts.{LabelsShow};
 
 use base::Group;
+use block_cache::BlockCache;
 use device_model::SectorDevice;
 use mounted::Mounted;
-use object_maps::BlockCache;
+use std::fmt;
 
 /// An imported pool, with the device that it lies on.
-#[derive(Debug, Drop)]
+#[derive(Drop)]
 pub struct Imported<D: SectorDevice> {
     /// The device, whose labels the import has written.
     pub device: D,
@@ -41,5 +42,12 @@ impl<D: SectorDevice> Imported<D> {
         ensures { result ≡ self.now.mounted.records }
     {
         self.mounted.records
+    }
+}
+
+/// The type's name alone.
+impl<D: SectorDevice> fmt::Debug for Imported<D> {
+    fn fmt<W: fmt::Write>(&self, f: &mut fmt::Formatter<W>) -> fmt::Result {
+        f.debug_struct("Imported").finish_non_exhaustive()
     }
 }

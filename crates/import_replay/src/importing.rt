@@ -56,10 +56,11 @@ use base::{
     DEFAULT_CACHE_BLOCKS, GREATEST_CACHE_BLOCKS, GREATEST_DIRTY_MAX, Group, LAST_NUMBER,
     LEAST_DIRTY_MAX, PoolError, WRITTEN_VERSION,
 };
+use block_cache::{BlockCache, CachedDevice};
 use device_model::SectorDevice;
 use labels::Geometry;
 use mounted::Mounted;
-use object_maps::{BlockCache, BlockReader, CachedDevice};
+use object_maps::BlockReader;
 use std::alloc::Global;
 use std::num::NonZeroUsize;
 use uberblocks::Uberblock;

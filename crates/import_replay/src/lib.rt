@@ -1,23 +1,22 @@
 //! How a pool comes onto a device, and how it is opened again (On-Disk Specification, chapter 1).
 //!
-//! `create` makes a new pool, `import` opens the one that is there, and `inspect` reports what `import` would mount.
+//! `create` makes a new pool, and `import` opens the one that is there. The parts of an import that only read are public
+//! for the calls of `inspections`.
 #![tactic(auto)]
 
 mod creation;
-mod damages;
 mod finding;
 mod free_blocks;
 mod imported;
 mod importing;
-mod inspection;
 mod label_sync;
 mod next_pool;
 mod reading;
-mod viewing;
 
 pub use creation::create;
-pub use damages::{Soundness, find_damages};
+pub use finding::{Found, find_pool};
+pub use free_blocks::take_logged;
 pub use imported::Imported;
 pub use importing::{import, import_with};
-pub use inspection::{Inspected, inspect};
-pub use viewing::{View, view_pool};
+pub use next_pool::{ReplayedPool, replay_pool};
+pub use reading::{frame_of, read_chain, read_pool};

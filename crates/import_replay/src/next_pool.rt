@@ -44,7 +44,7 @@ use uberblocks::Uberblock;
 
 /// A pool that was read, with the records of its chain replayed.
 #[derive(Drop)]
-pub(crate) struct ReplayedPool {
+pub struct ReplayedPool {
     /// The tree that was loaded.
     pub tree: Tree,
     /// The pool's name and the lengths of the objects of that tree, whose bytes are told.
@@ -74,8 +74,12 @@ pub(crate) struct NextPool {
     pub records: u64,
 }
 
-// Replays the records of the chain on the objects of the tree and the chosen name.
-pub(crate) fn replay_pool(
+/// Replays the records of the chain on the objects of the tree and the chosen name.
+///
+/// # Errors
+/// `Damaged` with kind 6 and the address of the first block of the first record that can't take place. `NoMemory` when
+/// it happens.
+pub fn replay_pool(
     alloc: Global,
     geometry: Geometry,
     found: &Found,

@@ -1,7 +1,8 @@
-//! What an import and an inspection read: the pool that a device has, the tree under its root, and then the chain of
-//! log blocks. Both keep the lengths of the objects, the tree's pointers down to what its directories name, and a flag
-//! for each block: whether the tree leaves it free. No pointer below these stays in memory. An import is told the bytes
-//! of the objects as well.
+//! What an import reads: the pool that a device has, the tree under its root, and then the chain of log blocks. It keeps
+//! the lengths of the objects, the tree's pointers down to what its directories name, and a flag for each block: whether
+//! the tree leaves it free. No pointer below these stays in memory. The bytes of the objects are told.
+//!
+//! The calls of `inspections` read by these functions.
 
 ghost use Rattle.std.specs.Prelude.{◌≡◌, All, IfErr, IfOk, IsTrue};
 ghost use Rattle.base.specs.disk.Disk.{bytes_of};
@@ -15,7 +16,7 @@ ghost use Rattle.import_replay.specs.Devices.{IsSizedFor};
 ghost use Rattle.import_replay.specs.Found.{HasFirstStage};
 ghost use Rattle.import_replay.specs.ImportRefusals.{IsReason, IsWalkRefusal};
 ghost use Rattle.import_replay.specs.LabelSyncs.{is_even};
-ghost use Rattle.import_replay.specs.ReadPools.{IsLoadedFor, IsReadPool, IsSurveyedFor, frame_with};
+ghost use Rattle.import_replay.specs.ReadPools.{IsLoadedFor, IsReadPool, frame_with};
 
 use crate::finding::{Found, find_pool};
 use base::PoolError;
@@ -23,16 +24,16 @@ use checked_blocks::Frame;
 use device_model::SectorDevice;
 use intent_log::{ChainHeader, LoggedPiece, chain};
 use labels::Geometry;
-use space::FreeSet;
 use std::alloc::Global;
-use tree_blocks::Tree;
-use trees::{Loaded, load, survey};
+use trees::{Loaded, load};
 use uberblocks::Uberblock;
 
-// The pool of a device, with its tree, the lengths of its objects, the blocks that the tree leaves free, and its chain.
-// The bytes of the objects are told.
-// Nothing is written, and nothing is flushed.
-pub(crate) fn read_pool<D: SectorDevice>(
+/// Returns the pool of a device, with its tree, the lengths of its objects, the blocks that the tree leaves free, and
+/// its chain. The bytes of the objects are told. Nothing is written, and nothing is flushed.
+///
+/// # Errors
+/// In this order: `NoPool`; `Damaged` with the first damage of the tree. `NoMemory` and `Read` when they happen.
+pub fn read_pool<D: SectorDevice>(
     alloc: Global,
     device: &mut D,
     geometry: Geometry,
@@ -59,32 +60,11 @@ pub(crate) fn read_pool<D: SectorDevice>(
     Ok((found, loaded, logged))
 }
 
-// The pool of a device, with its tree, the blocks that the tree leaves free, and its chain, by the same reads; no
-// object's bytes are told. Nothing is written, and nothing is flushed.
-pub(crate) fn survey_pool<D: SectorDevice>(
-    alloc: Global,
-    device: &mut D,
-    geometry: Geometry,
-) -> Result<(Found, Tree, FreeSet, Vec<LoggedPiece>), PoolError>
-    requires sized { IsSizedFor D.SectorDevice geometry device.old }
-    ensures reads { OnlyReads D.SectorDevice result device.old device.new }
-    ensures refused { IfErr result IsWalkRefusal }
-    ensures surveyed { IfOk result (λ r. IsSurveyedFor D.keeps_model
-        (bytes_of (D.disk device.old).now) geometry (fields_of r.0.uberblock) r.0.name r.1
-        r.3.items) }
-    ensures free { IfOk result (λ r. AreUnnamed (block_count geometry) r.1 r.2) }
-    ensures reason { IsTrue D.keeps_model
-        → IfErr result (IsReason (bytes_of (D.disk device.old).now)) }
-{
-    let found = find_pool(alloc, device, geometry)?;
-    let frame = frame_of(&found.uberblock, geometry);
-    let (tree, free) = survey(alloc, device, &frame, found.uberblock.root)?;
-    let logged = read_chain(alloc, device, geometry, &found)?;
-    Ok((found, tree, free, logged))
-}
-
-// The chain of log blocks that the active uberblock of a pool begins, by the rules of its version.
-fn read_chain<D: SectorDevice>(
+/// Returns the chain of log blocks that the active uberblock of a pool begins, by the rules of its version.
+///
+/// # Errors
+/// `NoMemory` and `Read` when they happen.
+pub fn read_chain<D: SectorDevice>(
     alloc: Global,
     device: &mut D,
     geometry: Geometry,
@@ -111,8 +91,8 @@ fn read_chain<D: SectorDevice>(
     )
 }
 
-// The frame of the blocks of a pool with this active uberblock.
-pub(crate) fn frame_of(uberblock: &Uberblock, geometry: Geometry) -> Frame
+/// Returns the frame of the blocks of a pool with this active uberblock.
+pub fn frame_of(uberblock: &Uberblock, geometry: Geometry) -> Frame
     ensures { result ≡ frame_with (fields_of uberblock.now) (block_count geometry) }
 {
     Frame::new(

@@ -20,15 +20,16 @@ use Rattle.object_maps.specs.ContentsShown.{contents_of}
 use Rattle.tree_blocks.specs.ListedObjects.{listed}
 use Rattle.import_replay.specs.CreateRefusals.{IsCreateRefusal}
 use Rattle.import_replay.specs.Creations.{IsCreatedOn, IsNewPool, first_uberblock}
-use Rattle.import_replay.specs.ImportRefusals.{CanImport, IsImportRefusal, IsReason, IsInspectionRefusal, IsReadingRefusal}
+use Rattle.import_replay.specs.ImportRefusals.{CanImport, IsImportRefusal, IsReason, IsReadingRefusal}
+use Rattle.inspections.specs.Refused.{IsInspectionRefusal}
 use Rattle.import_replay.specs.ImportSyncs.{IsImportSynced, uberblock_of_import}
-use Rattle.import_replay.specs.Inspections.{IsInspectionOf}
+use Rattle.inspections.specs.Inspections.{IsInspectionOf}
 use Rattle.mounted.specs.ShownMounted.{shown_of_import}
-use Rattle.import_replay.specs.Refused.{IsInspectionRefused}
+use Rattle.inspections.specs.Refused.{IsInspectionRefused}
 use Rattle.import_replay.specs.Outside.{IsPoolByte, KeepsOutside, WritesPoolBytes}
-use Rattle.import_replay.specs.declared.inspection.Inspected.{Inspected}
+use Rattle.inspections.specs.declared.inspection.Inspected.{Inspected}
 use Rattle.mounted.specs.declared.mounted.Mounted.{Mounted}
-use Rattle.import_replay.proofs.PoolDamages.{not_of_tree}
+use Rattle.inspections.proofs.PoolDamages.{not_of_tree}
 
 -- what a refusal, or an answer, has of a clause on both
 pub err_of : {A E : Type 0} (r : Result A E) (P : A → Type 0) (S T : E → Type 0) → ((e : E) → S e → T e) → MatchResult r P S → IfErr r T

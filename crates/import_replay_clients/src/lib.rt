@@ -1,5 +1,5 @@
-//! What callers of `import_replay` rest on: one function for each promise of its calls, proved from the contract of the
-//! call alone. So it is refused as soon as that contract says less.
+//! What callers of `import_replay` and `inspections` rest on: one function for each promise of their calls, proved from
+//! the contract of the call alone. So it is refused as soon as that contract says less.
 #![tactic(auto)]
 
 mod creates;

@@ -14,7 +14,7 @@ ghost use Rattle.trees.specs.declared.damages.BlockDamage.{BlockDamage};
 
 use base::PoolError;
 use device_model::SectorDevice;
-use import_replay::{Inspected, Soundness, find_damages, inspect};
+use inspections::{Inspected, Soundness, find_damages, inspect};
 use std::alloc::Global;
 use trees::BlockDamage;
 

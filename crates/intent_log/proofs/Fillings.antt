@@ -20,8 +20,8 @@ use Rattle.intent_log.specs.Packing.{IsBegunOf, IsPackedFront}
 use Rattle.intent_log.specs.Receipts.{committed}
 use Rattle.intent_log.specs.declared.begun.BegunRecord.{BegunRecord}
 use Rattle.intent_log.specs.declared.filling.Filling.TheVariants.{Whole, First, Part}
-use Rattle.transactions.specs.declared.record.Record as code
-use Rattle.transactions.specs.Records.{record_fields}
+use Rattle.records.specs.declared.record.Record as code
+use Rattle.records.specs.Records.{record_fields}
 use Rattle.intent_log.proofs.KeptBlocks.{begun_named}
 
 -- What the next block takes: whole records,

@@ -16,8 +16,8 @@ use Rattle.base.proofs.formats.FieldsRead.{length-number_bytes}
 use Rattle.base.proofs.formats.RecordSizes.{length-bytes_of_record}
 use Rattle.checked_blocks.specs.Sealing.{padded}
 use Rattle.checked_blocks.proofs.Placed.{number_at-between}
-use Rattle.transactions.specs.Records.{encode_refusal, record_fields}
-use Rattle.transactions.specs.declared.record.Record as code
+use Rattle.records.specs.Records.{encode_refusal, record_fields}
+use Rattle.records.specs.declared.record.Record as code
 use Rattle.intent_log.specs.Packing.{HoldsBytes, HoldsUsed, IsEncodedFront, IsEncodedLong, IsPackedFront, log_bytes, logged}
 use Rattle.intent_log.specs.declared.packing.NewBlock.{NewBlock}
 

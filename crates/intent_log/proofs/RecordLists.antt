@@ -6,7 +6,7 @@ use Rattle.std.proofs.lemmas.List.Concat.{flat_map-append}
 use Rattle.std.proofs.lemmas.List.Elements.{All-head, All-tail}
 use Rattle.base.specs.formats.Records.{Record, IsAllowed, IsDecoded, HasNoRecord, bytes_of_record, bytes_of_records}
 use Rattle.base.proofs.formats.RecordSizes.{length-bytes_of_record}
-use Rattle.transactions.proofs.RecordsRead.{readings_agree}
+use Rattle.records.proofs.RecordsRead.{readings_agree}
 use Rattle.intent_log.specs.Chains.{HasNoRecords}
 
 -- a record has some bytes

@@ -5,8 +5,8 @@ use Rattle.std.proofs.Math.Seq.{drop-append_seam}
 use Rattle.std.proofs.lemmas.List.{length-append, take-append-drop}
 use Rattle.std.proofs.lemmas.List.Elements.{All-filter, filter-append}
 use Rattle.base.specs.formats.Records.{IsAllowed, Record}
-use Rattle.transactions.specs.declared.record.Record as code
-use Rattle.transactions.specs.Records.{record_fields}
+use Rattle.records.specs.declared.record.Record as code
+use Rattle.records.specs.Records.{record_fields}
 use Rattle.base.specs.formats.Chain.{Header}
 use Rattle.base.specs.steps.Logs.{KeptBlock, log_after_sync}
 use Rattle.intent_log.specs.Kept.{RunLog, log_shown}

@@ -7,8 +7,8 @@ use Rattle.std.proofs.lemmas.List.Elements.{All-cons, All-head, All-nil, All-tai
 use Rattle.base.specs.declared.version.Version.{Version}
 use Rattle.base.specs.formats.Records.{Record, IsOneLevelRecord, is_one_level_op}
 use Rattle.base.proofs.formats.RecordSpelling.{one-spelling}
-use Rattle.transactions.specs.Records.{record_fields}
-use Rattle.transactions.specs.declared.record.Record as code
+use Rattle.records.specs.Records.{record_fields}
+use Rattle.records.specs.declared.record.Record as code
 use Rattle.intent_log.specs.Chains.{AreOfVersion, AreRecordsOf, HasNoRecords, HasNoneOfVersion}
 
 -- each record ends within the length of one level if the test says so, and only then

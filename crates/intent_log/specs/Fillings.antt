@@ -6,7 +6,7 @@ use Rattle.base.specs.formats.Chain.{Header}
 use Rattle.base.specs.formats.Limits.{log_block_room}
 use Rattle.base.specs.formats.Records.{IsAllowed, Record, bytes_of_records, size_of}
 use Rattle.base.specs.steps.Logs.{Begun, IsTaken, KeptBlock, Taken, committed_of, next_part}
-use Rattle.transactions.specs.declared.record.Record as code
+use Rattle.records.specs.declared.record.Record as code
 use Rattle.intent_log.specs.Kept.{RunLog, begun_shown}
 use Rattle.intent_log.specs.Packing.{HoldsUsed}
 use Rattle.intent_log.specs.Receipts.{committed}

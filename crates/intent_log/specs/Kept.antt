@@ -8,8 +8,8 @@ use Rattle.base.specs.formats.Chain.{Header}
 use Rattle.base.specs.formats.Records.{IsAllowed, Record}
 use Rattle.base.specs.steps.Logs.{Begun, KeptBlock, Log}
 use Rattle.intent_log.specs.Receipts.{begins_of, committed, ends_of, is_same_receipt}
-use Rattle.transactions.specs.Records.{record_fields}
-use Rattle.transactions.specs.declared.record.Record as code_record
+use Rattle.records.specs.Records.{record_fields}
+use Rattle.records.specs.declared.record.Record as code_record
 use Rattle.intent_log.specs.declared.begun.BegunRecord.{BegunRecord}
 use Rattle.intent_log.specs.declared.kept_block.LogHeader.{LogHeader}
 use Rattle.intent_log.specs.declared.kept_block.KeptBlock as code

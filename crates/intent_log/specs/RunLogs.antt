@@ -5,7 +5,7 @@ use Rattle.base.specs.kept.LogSteps.{IsHeaderIn}
 use Rattle.base.specs.formats.Chain.{Header}
 use Rattle.base.specs.formats.Records.{Record}
 use Rattle.base.specs.steps.Logs.{AreBalanced, Committed, KeptBlock, Log, begun_committed, committed_above, committed_in, committed_of, is_same, reaches_above}
-use Rattle.transactions.specs.declared.record.Record as code
+use Rattle.records.specs.declared.record.Record as code
 
 -- A log while this group is synced. Its records are of later groups. In commit order they are those that begin in the
 -- kept blocks, and then the pending ones. In the kept blocks as much begins as ends, up to the record that is begun.

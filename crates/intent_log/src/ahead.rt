@@ -12,7 +12,7 @@
 ghost use Rattle.std.specs.Prelude.{◌≡◌, ◌<◌, ◌≤◌, ◌+◌, ◌^◌, All, IfOk, IfSome, IsTrue, length, map, take, vec_len};
 ghost use Rattle.base.specs.formats.Limits.{log_block_room};
 ghost use Rattle.base.specs.formats.Records.{IsAllowed};
-ghost use Rattle.transactions.specs.Records.{record_fields};
+ghost use Rattle.records.specs.Records.{record_fields};
 ghost use Rattle.intent_log.specs.Ahead.{place_beside};
 ghost use Rattle.intent_log.specs.Packing.{HoldsBytes, log_bytes};
 
@@ -22,15 +22,15 @@ use crate::packing::{
 };
 use base::PoolError;
 use checked_blocks::{Block, Content, Kind, PAYLOAD_SIZE, seal_four};
+use records::Record;
 use std::alloc::{AllocError, Global};
 use std::marker::Model;
-use transactions::Record;
 
 /// How many blocks are sealed beside one.
 pub const AHEAD: usize = 3;
 
 /// Log blocks that wait for their turn: at most 3, which are 12 KiB of blocks and 12 KiB of their records.
-#[derive(Debug, Drop)]
+#[derive(Drop)]
 pub struct Ahead {
     blocks: Vec<SealedAhead>,
     ghost few: { vec_len blocks ≤ 3 },
@@ -58,7 +58,7 @@ impl Ahead {
 }
 
 /// A log block that waits for its turn: the place that it was sealed for, and its bytes of records.
-#[derive(Debug, Drop)]
+#[derive(Drop)]
 struct SealedAhead {
     place: NewBlock,
     records: Vec<u8>,
@@ -86,7 +86,7 @@ impl SealedAhead {
 }
 
 /// Seals the next log block, with those that follow it.
-#[derive(Debug, Drop)]
+#[derive(Drop)]
 pub(crate) struct Sealer<'a> {
     alloc: Global,
     waiting: Option<&'a Ahead>,
@@ -244,7 +244,7 @@ impl<'a> Sealer<'a> {
 }
 
 // A block that follows: its place in the chain, the address of the block after it, and its bytes of records.
-#[derive(Debug, Drop)]
+#[derive(Drop)]
 struct FollowingBlock {
     header: ChainHeader,
     next: u64,

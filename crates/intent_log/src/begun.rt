@@ -4,15 +4,15 @@ ghost use Rattle.std.specs.Prelude.{◌≡◌, ◌≤◌, length};
 ghost use Rattle.std.proofs.Props.{props};
 ghost use Rattle.base.specs.formats.Limits.{log_block_room};
 ghost use Rattle.base.specs.formats.Records.{bytes_of_record};
-ghost use Rattle.transactions.specs.Records.{record_fields};
+ghost use Rattle.records.specs.Records.{record_fields};
 
 use crate::packing::LOG_BLOCK_ROOM;
 use base::{Receipt, Told};
-use transactions::Record;
+use records::Record;
 
 /// A record of which a part is written. It stays so until it is whole, also when its group is synced. Its operations
 /// don't stand here; contracts see them.
-#[derive(Debug, Drop)]
+#[derive(Drop)]
 pub struct BegunRecord {
     /// The receipt of its transaction.
     pub receipt: Receipt,

@@ -19,25 +19,25 @@ ghost use Rattle.base.specs.formats.Geometry.{block_address};
 ghost use Rattle.base.specs.formats.Limits.{last_number};
 ghost use Rattle.base.specs.formats.Records.{is_one_level_op};
 ghost use Rattle.device_model.specs.Reading.{OnlyReads};
-ghost use Rattle.transactions.specs.Records.{record_fields};
+ghost use Rattle.records.specs.Records.{record_fields};
 ghost use Rattle.intent_log.specs.Chains.{AreOfVersion, HasNoLong, HasNoPieceAt, HasNoneOfVersion, IsBlockAt, IsChainFrom, IsChainRefusal, IsLongAt, IsPieceAt, IsShortOf, IsSoundBlock, IsSoundPiece, MayBegin};
 
+use crate::block_records::{read_record, read_records};
 use crate::log_blocks::{LogBlock, read_block};
 use crate::parts::{Parts, gather, long_size};
-use crate::records::{read_record, read_records};
 use base::{BLOCK_SIZE, PoolError, SECTOR_SIZE, Version};
 use checked_blocks::Frame;
 use device_model::SectorDevice;
+use records::{Record, is_one_level};
 use std::alloc::Global;
 use std::marker::Model;
-use transactions::{Record, is_one_level};
 
 /// How many sectors a block has.
 const SECTORS: u64 = BLOCK_SIZE as u64 / SECTOR_SIZE;
 
 /// The first block of a chain: where it lies, its log number, the import number of the chain's run, and the version by
 /// whose rules it is read.
-#[derive(Clone, Copy, Debug, PartialEq, Eq)]
+#[derive(Clone, Copy, PartialEq, Eq)]
 pub struct ChainHeader {
     /// The block's address in bytes. That of no block begins the empty chain.
     pub address: u64,
@@ -51,7 +51,7 @@ pub struct ChainHeader {
 
 /// A piece of a chain: where it begins, where its other blocks lie, where the next piece begins, and its records.
 /// Contracts see it as these four.
-#[derive(Debug, Drop)]
+#[derive(Drop)]
 pub struct LoggedPiece {
     address: u64,
     behind: Vec<u64>,
@@ -62,7 +62,7 @@ pub struct LoggedPiece {
 impl Model for LoggedPiece {
     ghost use Rattle.std.specs.Prelude.{map};
     ghost use Rattle.base.specs.formats.Chain.{LogPiece};
-    ghost use Rattle.transactions.specs.Records.{record_fields};
+    ghost use Rattle.records.specs.Records.{record_fields};
 
     ghost Value = { LogPiece };
 
@@ -76,7 +76,7 @@ impl Model for LoggedPiece {
 
 impl LoggedPiece {
     ghost use Rattle.std.specs.Prelude.{◌≡◌, map};
-    ghost use Rattle.transactions.specs.Records.{record_fields};
+    ghost use Rattle.records.specs.Records.{record_fields};
 
     /// The address of its first block in bytes.
     pub fn address(&self) -> u64

@@ -7,11 +7,11 @@ use crate::ahead::Ahead;
 use crate::begun::BegunRecord;
 use base::{PoolError, Receipt};
 use checked_blocks::Block;
+use records::Record;
 use std::alloc::Global;
-use transactions::Record;
 
 /// What the next block has of records.
-#[derive(Debug, Drop)]
+#[derive(Drop)]
 pub enum Filling {
     /// Whole records with these receipts, in order.
     Whole(Vec<Receipt>),
@@ -22,7 +22,7 @@ pub enum Filling {
 }
 
 /// The block that is written next.
-#[derive(Debug, Drop)]
+#[derive(Drop)]
 pub struct NextLogBlock {
     /// The block, with its check.
     pub block: Block,

@@ -10,7 +10,7 @@ ghost use Rattle.intent_log.specs.Receipts.{LiesWithin, begins_of, ends_of, is_i
 use base::{Group, Ordinal, Receipt};
 
 /// Where a log block lies, and its number in the chain.
-#[derive(Clone, Copy, Debug, PartialEq, Eq)]
+#[derive(Clone, Copy)]
 pub struct LogHeader {
     /// The address in bytes.
     pub address: u64,
@@ -19,7 +19,7 @@ pub struct LogHeader {
 }
 
 /// What a log block has of records.
-#[derive(Debug, Drop)]
+#[derive(Drop)]
 pub(crate) enum Holds {
     /// Whole records with these receipts, in order.
     Whole(Vec<Receipt>),
@@ -61,7 +61,7 @@ impl Holds {
 }
 
 /// A log block that is kept.
-#[derive(Debug, Drop)]
+#[derive(Drop)]
 pub(crate) struct KeptBlock {
     pub(crate) header: LogHeader,
     // the highest group of a record that begins in it, 0 if none does
@@ -124,7 +124,7 @@ impl KeptBlock {
 }
 
 // What some receipts reach: their highest group, their lowest ordinal, and the highest of theirs and one more.
-#[derive(Clone, Copy, Debug, PartialEq, Eq)]
+#[derive(Clone, Copy)]
 struct Reach {
     highest: Group,
     first: Ordinal,

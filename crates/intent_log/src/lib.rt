@@ -4,6 +4,7 @@
 
 mod ahead;
 mod begun;
+mod block_records;
 mod chains;
 mod filling;
 mod kept_block;
@@ -11,7 +12,6 @@ mod log;
 mod log_blocks;
 mod packing;
 mod parts;
-mod records;
 
 pub use ahead::{AHEAD, Ahead};
 pub use begun::BegunRecord;

@@ -15,7 +15,7 @@ ghost use Rattle.base.specs.formats.Limits.{last_number};
 ghost use Rattle.base.specs.formats.Records.{IsAllowed};
 ghost use Rattle.base.specs.steps.Logs as logs;
 ghost use Rattle.base.specs.steps.Logs.{blocks_before, is_flushed_in, log_after_commit, log_after_flush, log_after_write};
-ghost use Rattle.transactions.specs.Records.{record_fields};
+ghost use Rattle.records.specs.Records.{record_fields};
 ghost use Rattle.intent_log.specs.Fillings.{IsNextBlock, TakesNext, begun_after_part, ended_by_part, part_noted, taken_of};
 ghost use Rattle.intent_log.specs.Kept.{AreNumberedTo, AreRising, HasBlockRoom, HasRecordRoom, IsFrontGiven, ReachBelow, ReachUpTo, begins_begun, block_with, header_fields, is_block_needed, log_shown, receipt_begun};
 ghost use Rattle.intent_log.specs.Receipts.{begins_of, committed, ends_of};
@@ -29,14 +29,14 @@ use crate::packing::{
     Encoded, FirstPart, LOG_BLOCK_ROOM, NewBlock, encode_front, pack_first, pack_front, pack_part,
 };
 use base::{Group, LAST_NUMBER, Ordinal, PoolError, Receipt};
+use records::Record;
 use std::alloc::Global;
 use std::collections::VecDeque;
 use std::marker::Model;
-use transactions::Record;
 
 /// The log of a run. Contracts see the unsynced records, those that are pending, the begun one, the kept blocks with
 /// what begins and ends in each, the next header, and for how many more records and blocks there is room.
-#[derive(Debug, Drop)]
+#[derive(Drop)]
 pub struct Log {
     unsynced: Vec<Record>,
     // so many of them from the front are written, in whole or in part

@@ -17,7 +17,7 @@ use std::alloc::Global;
 use std::marker::Model;
 
 /// A log block: where it lies, where the next one does, and its used bytes. Contracts see it as these three.
-#[derive(Debug, Drop)]
+#[derive(Drop)]
 pub(crate) struct LogBlock {
     pub(crate) address: u64,
     pub(crate) next: u64,

@@ -8,7 +8,7 @@
 ghost use Rattle.std.specs.Prelude.{◌≡◌, ◌<◌, ◌≤◌, ◌+◌, ◌^◌, All, IfErr, IfOk, length, map, take};
 ghost use Rattle.base.specs.formats.Limits.{log_block_room, payload_size};
 ghost use Rattle.base.specs.formats.Records.{IsAllowed, bytes_of_record, size_of};
-ghost use Rattle.transactions.specs.Records.{record_fields};
+ghost use Rattle.records.specs.Records.{record_fields};
 ghost use Rattle.intent_log.specs.Packing.{HoldsBytes, HoldsUsed, IsEncoded, IsEncodedFront, IsEncodedLong, IsFirstPart, IsPackedAs, IsPackedFirst, IsPackedWhole, log_bytes};
 ghost use Rattle.base.specs.steps.Logs.{next_part};
 ghost use Rattle.intent_log.specs.Kept.{begun_shown};
@@ -18,8 +18,8 @@ use crate::begun::{BegunRecord, tell_record};
 use crate::chains::ChainHeader;
 use base::{Group, PoolError, Receipt, write_bytes, write_u64};
 use checked_blocks::{Block, Kind, PAYLOAD_SIZE, seal};
+use records::{Record, encode_into};
 use std::alloc::Global;
-use transactions::{Record, encode_into};
 
 /// Where the records of a log block's payload begin: after the chain's number, the next address and the used length.
 pub(crate) const RECORDS_AT: usize = 24;
@@ -29,7 +29,7 @@ pub const LOG_BLOCK_ROOM: usize = PAYLOAD_SIZE - RECORDS_AT;
 
 /// Where a log block goes: the pool and the open group, its own place in the chain, and the address of the block
 /// after it.
-#[derive(Clone, Copy, Debug, PartialEq, Eq)]
+#[derive(Clone, Copy, PartialEq, Eq)]
 pub struct NewBlock {
     /// The pool's guid.
     pub guid: u64,
@@ -42,7 +42,7 @@ pub struct NewBlock {
 }
 
 /// A log block that is to be written, and how many records from the front of the pending ones it holds.
-#[derive(Debug, Drop)]
+#[derive(Drop)]
 pub struct PackedBlock {
     /// The block, with its check.
     pub block: Block,
@@ -51,7 +51,7 @@ pub struct PackedBlock {
 }
 
 /// A log block that is to be written with the first part of a record, and the record that is begun then.
-#[derive(Debug, Drop)]
+#[derive(Drop)]
 pub struct FirstPart {
     /// The block, with its check.
     pub block: Block,
@@ -60,7 +60,7 @@ pub struct FirstPart {
 }
 
 /// What a log block takes from the front of the pending records.
-#[derive(Debug, Drop)]
+#[derive(Drop)]
 pub enum Packed {
     /// Whole records, one at least.
     Whole(PackedBlock),
@@ -161,7 +161,7 @@ fn begin(
 }
 
 /// What the front of the pending records is as bytes.
-#[derive(Debug, Drop)]
+#[derive(Drop)]
 pub(crate) enum Encoded {
     /// The bytes of as many records as fit, and how many these are.
     Front(Vec<u8>, usize),

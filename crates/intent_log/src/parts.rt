@@ -18,7 +18,7 @@ use std::alloc::Global;
 
 /// All parts of a record: their bytes, where the blocks after the first one lie, and which block the last one names as
 /// the next.
-#[derive(Debug, Drop)]
+#[derive(Drop)]
 pub(crate) struct Parts {
     pub(crate) bytes: Vec<u8>,
     pub(crate) behind: Vec<u64>,

@@ -8,16 +8,16 @@ ghost use Rattle.base.specs.formats.Records as base_record;
 ghost use Rattle.base.specs.formats.Records.{IsAllowed, IsOneLevelRecord};
 ghost use Rattle.base.specs.formats.Versions.{number_of_version};
 ghost use Rattle.base.specs.steps.Logs.{total_size};
-ghost use Rattle.transactions.specs.Records.{record_fields};
-ghost use Rattle.transactions.specs.declared.record.Record.{Record};
+ghost use Rattle.records.specs.Records.{record_fields};
+ghost use Rattle.records.specs.declared.record.Record.{Record};
 ghost use Rattle.intent_log.specs.Chains.{HasOneRecord};
 
 use base::{PoolError, Version};
 use checked_blocks::Frame;
 use device_model::SectorDevice;
 use intent_log::{ChainHeader, LoggedPiece, chain};
+use records::Record;
 use std::alloc::Global;
-use transactions::Record;
 
 // The uberblock of a pool without a log names address 0.
 fn no_chain_begins_at_address_0<D: SectorDevice>(

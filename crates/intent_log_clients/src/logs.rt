@@ -3,14 +3,14 @@
 ghost use Rattle.std.specs.Prelude.{◌≡◌, ◌∷◌, [], IsOk, None, Some, false, map, true};
 ghost use Rattle.base.specs.formats.Records.{IsAllowed, size_of};
 ghost use Rattle.base.specs.steps.Logs.{committed_of, log_after_sync};
-ghost use Rattle.transactions.specs.Records.{record_fields};
+ghost use Rattle.records.specs.Records.{record_fields};
 ghost use Rattle.intent_log.specs.Fillings.{TakesNext, taken_of};
 ghost use Rattle.intent_log.specs.Kept.{HasBlockRoom, HasRecordRoom, header_fields, log_shown};
 
 use base::{Group, Ordinal, PoolError, Receipt};
 use intent_log::{BegunRecord, Filling, Log, LogHeader};
+use records::Record;
 use std::alloc::Global;
-use transactions::Record;
 
 fn a_new_log_has_nothing_to_write_or_flush(alloc: Global) {
     let log = Log::new(alloc, 4_194_304);

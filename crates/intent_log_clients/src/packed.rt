@@ -6,14 +6,14 @@ ghost use Rattle.base.specs.formats.Fields.{number_at, part};
 ghost use Rattle.base.specs.formats.Geometry.{IsBlockAddress};
 ghost use Rattle.base.specs.formats.Records.{IsAllowed, size_of};
 ghost use Rattle.base.specs.steps.Logs.{total_size};
-ghost use Rattle.transactions.specs.Records.{record_fields};
+ghost use Rattle.records.specs.Records.{record_fields};
 ghost use Rattle.intent_log.specs.Chains.{IsBlockAt};
 ghost use Rattle.intent_log.specs.Packing.{IsBegunFirst, IsCount, block_of, logged, used_of};
 
 use base::PoolError;
 use intent_log::{Ahead, Log, NewBlock, NextLogBlock, Packed, pack};
+use records::Record;
 use std::alloc::Global;
-use transactions::Record;
 
 fn a_record_is_packed(
     alloc: Global,

@@ -40,7 +40,7 @@ const MAX_FIELDS: usize = HEAD + MAX_NAME;
 
 /// What the config of a label says (On-Disk Specification, chapter 1). Contracts see it as the record of its four
 /// fields.
-#[derive(Clone, Debug, Drop, PartialEq, Eq)]
+#[derive(Clone, Drop, PartialEq, Eq)]
 pub struct LabelConfig {
     guid: u64,
     group: Group,

@@ -35,7 +35,7 @@ const BLOCK: u64 = BLOCK_SIZE as u64;
 ///
 /// Labels 0 and 1 are the first 512 KiB and labels 2 and 3 the last; blocks lie from 4 MiB up to label 2
 /// (On-Disk Specification, chapter 1).
-#[derive(Clone, Copy, Debug, PartialEq, Eq)]
+#[derive(Clone, Copy)]
 pub struct Geometry {
     size: u64,
 }

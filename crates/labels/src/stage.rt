@@ -2,7 +2,7 @@
 
 /// One of the two stages in which labels are written, so that a failure in one leaves the other pair unchanged
 /// (On-Disk Specification, chapter 1).
-#[derive(Clone, Copy, Debug, PartialEq, Eq)]
+#[derive(Clone, Copy)]
 pub enum Stage {
     /// Labels 0 and 2.
     Even,

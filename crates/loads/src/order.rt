@@ -10,7 +10,7 @@ use command_arguments::{Order, STREAMS};
 pub const WRITES_BETWEEN_WAITS: u32 = 8;
 
 /// What a load has done.
-#[derive(Clone, Copy, Debug, PartialEq, Eq)]
+#[derive(Clone, Copy)]
 pub struct Loaded {
     /// The transactions that it committed.
     pub committed: u64,

@@ -22,7 +22,7 @@ pub(crate) const SHARED: ObjectId = ObjectId(STREAMS);
 pub(crate) const PART: u64 = 1_024;
 
 /// A write of a stream: these bytes get this value.
-#[derive(Clone, Copy, Debug, PartialEq, Eq)]
+#[derive(Clone, Copy)]
 pub(crate) struct Word {
     pub(crate) place: ObjectRange,
     pub(crate) length: usize,

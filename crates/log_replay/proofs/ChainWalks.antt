@@ -17,8 +17,8 @@ use Rattle.object_maps.specs.Judging.{ApplyTo}
 use Rattle.object_maps.specs.Ops.{AreOpsAllowed, IsOpAllowed}
 use Rattle.extents.specs.Patches.{laid_over}
 use Rattle.extents.specs.Tables.{AppliesOps, name_of, patches_of}
-use Rattle.transactions.specs.declared.record.Record.{Record}
-use Rattle.transactions.specs.Records.{record_fields}
+use Rattle.records.specs.declared.record.Record.{Record}
+use Rattle.records.specs.Records.{record_fields}
 use Rattle.log_replay.specs.declared.replaying.Replayed.{Replayed}
 use Rattle.log_replay.specs.Judged.{IsRecordRefusal}
 use Rattle.log_replay.specs.Replays.{IsPieceAllowed, IsChainAllowed, IsReplayOf, IsReplayRefusal, record_in}

@@ -18,8 +18,8 @@ use Rattle.base.specs.history.History.{apply_all, replay, run}
 use Rattle.base.specs.history.Plans.{is_shape_allowed, shape_of}
 use Rattle.base.proofs.common.Sequences.{joined, parted}
 use Rattle.object_maps.proofs.Judged.{apply-append, judged_refused}
-use Rattle.transactions.specs.Records.{is_op_allowed, record_fields}
-use Rattle.transactions.specs.declared.record.Record.{Record}
+use Rattle.records.specs.Records.{is_op_allowed, record_fields}
+use Rattle.records.specs.declared.record.Record.{Record}
 use Rattle.log_replay.specs.Outlines.{IsOutlineOf, LeadsOutline, ReplaysOutline, counted_up_to_last}
 use Rattle.log_replay.specs.Replays.{IsRecordRefused}
 use Rattle.log_replay.specs.Walked.{above_at, placed_at}

@@ -21,7 +21,7 @@ use Rattle.base.proofs.history.KeptContents.{operations_keep}
 use Rattle.base.proofs.history.Objects.{get-stored_other, get-stored_same, reach}
 use Rattle.base.proofs.history.Writes.{length-resize}
 use Rattle.tree_blocks.specs.Lengths.{lengths_of}
-use Rattle.transactions.specs.Records.{is_op_allowed}
+use Rattle.records.specs.Records.{is_op_allowed}
 use Rattle.log_replay.specs.Outlines.{LeadsOutline}
 use Rattle.log_replay.specs.declared.outline.Outline.{Outline}
 

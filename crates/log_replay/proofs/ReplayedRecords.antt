@@ -22,8 +22,8 @@ use Rattle.extents.specs.Tables.{AppliesOps, name_of, patches_of}
 use Rattle.extents.proofs.LaidObjects.{laid_nothing}
 use Rattle.extents.proofs.PatchedObjects.{patched_nothing}
 use Rattle.extents.proofs.SamePatches.{added_changes}
-use Rattle.transactions.specs.declared.record.Record.{Record}
-use Rattle.transactions.specs.Records.{record_fields}
+use Rattle.records.specs.declared.record.Record.{Record}
+use Rattle.records.specs.Records.{record_fields}
 use Rattle.log_replay.specs.declared.replaying.Replayed.{Replayed}
 use Rattle.log_replay.specs.Replays.{IsRecordRefused, IsReplayOf, ops_of_records, record_in}
 use Rattle.log_replay.proofs.AppliedRecords.{reached_contents}

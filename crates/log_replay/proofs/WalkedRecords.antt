@@ -14,8 +14,8 @@ use Rattle.object_maps.specs.Ops.{AreOpsAllowed}
 use Rattle.extents.specs.Patches.{laid_over}
 use Rattle.extents.specs.Synced.{patched_contents}
 use Rattle.extents.specs.Tables.{AppliesOps, name_of, patches_of}
-use Rattle.transactions.specs.declared.record.Record.{Record}
-use Rattle.transactions.specs.Records.{record_fields}
+use Rattle.records.specs.declared.record.Record.{Record}
+use Rattle.records.specs.Records.{record_fields}
 use Rattle.log_replay.specs.declared.replaying.Replayed.{Replayed}
 use Rattle.log_replay.specs.Replays.{IsRecordRefused, IsReplayOf, record_in}
 use Rattle.log_replay.specs.Walked.{HasReplayedTo, above_at, placed_at}

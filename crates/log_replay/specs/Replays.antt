@@ -15,8 +15,8 @@ use Rattle.object_maps.specs.Ops.{AreOpsAllowed}
 use Rattle.extents.specs.Patches.{ArePatchesOf}
 use Rattle.extents.specs.Synced.{patched_contents}
 use Rattle.extents.specs.Tables.{name_of, patches_of}
-use Rattle.transactions.specs.declared.record.Record.{Record}
-use Rattle.transactions.specs.Records.{record_fields}
+use Rattle.records.specs.declared.record.Record.{Record}
+use Rattle.records.specs.Records.{record_fields}
 use Rattle.log_replay.specs.declared.replaying.Replayed.{Replayed}
 
 -- each record of a piece, and of each piece of a chain, is within the limits

@@ -8,7 +8,7 @@ ghost use Rattle.extents.specs.Patches.{laid_over};
 ghost use Rattle.extents.specs.Tables.{name_of, patches_of};
 ghost use Rattle.object_maps.specs.ContentsShown.{contents_of};
 ghost use Rattle.tree_blocks.specs.Lengths.{lengths_of};
-ghost use Rattle.transactions.specs.Records.{record_fields};
+ghost use Rattle.records.specs.Records.{record_fields};
 ghost use Rattle.log_replay.specs.SmallChains.{creation, creation_chain, growing_chain, naming_chain};
 ghost use Rattle.log_replay.specs.Outlines.{IsOutlineOf};
 ghost use Rattle.log_replay.specs.Replays.{IsChainAllowed};

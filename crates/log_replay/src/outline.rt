@@ -6,11 +6,11 @@
 
 use base::{Group, ObjectId, Op, PoolError, PoolName};
 use intent_log::LoggedPiece;
-use transactions::Record;
+use records::Record;
 use tree_blocks::Tree;
 
 /// The name of a pool, and a tree that has the length of each of its objects.
-#[derive(Debug, Drop)]
+#[derive(Drop)]
 pub struct Outline {
     /// The name of the pool.
     pub name: PoolName,
@@ -26,7 +26,7 @@ impl Outline {
     ghost use Rattle.base.specs.history.Contents.{apply};
     ghost use Rattle.base.specs.history.History.{apply_all};
     ghost use Rattle.tree_blocks.specs.Lengths.{lengths_of};
-    ghost use Rattle.transactions.specs.Records.{is_op_allowed, record_fields};
+    ghost use Rattle.records.specs.Records.{is_op_allowed, record_fields};
     ghost use Rattle.log_replay.specs.Outlines.{LeadsOutline, ReplaysOutline};
     ghost use Rattle.log_replay.specs.Replays.{IsPieceAllowed, IsChainAllowed};
     ghost use Rattle.log_replay.specs.Walked.{above_at};

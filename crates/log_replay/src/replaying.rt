@@ -17,11 +17,11 @@ use base::{Group, PoolError};
 use extents::{Extents, Laid};
 use intent_log::LoggedPiece;
 use object_maps::Contents;
+use records::Record;
 use std::alloc::Global;
-use transactions::Record;
 
 /// What the records of a chain make of the contents that a tree holds.
-#[derive(Debug, Drop)]
+#[derive(Drop)]
 pub struct Replayed {
     /// What they change of its objects and of its name.
     pub extents: Extents,

@@ -12,10 +12,11 @@ use labels::Geometry;
 use object_maps::Contents;
 use space::FreeSet;
 use std::alloc::Global;
+use std::fmt;
 use tree_blocks::Tree;
 
 /// What an import mounted and wrote.
-#[derive(Debug, Drop)]
+#[derive(Drop)]
 pub struct Mounted {
     /// The allocator of the pool's tables.
     pub alloc: Global,
@@ -46,4 +47,11 @@ pub struct Mounted {
     ghost import_fits: { import_number ≤ last_number },
     ghost log_placed: { ∥ IsBlockAddress (block_count geometry) log_address ∥₁ },
     ghost tree_placed: { ∥ ArePlaced (block_count geometry) (pointers_of tree) ∥₁ },
+}
+
+/// The type's name alone.
+impl fmt::Debug for Mounted {
+    fn fmt<W: fmt::Write>(&self, f: &mut fmt::Formatter<W>) -> fmt::Result {
+        f.debug_struct("Mounted").finish_non_exhaustive()
+    }
 }

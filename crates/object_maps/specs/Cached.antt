@@ -1,32 +1,22 @@
--- What a cache of blocks has of an image, and what a read of a block says.
-use Rattle.std.specs.Prelude.{ℕ, ◌≡◌, ◌<◌, ◌≤◌, ◌+◌, ◌*◌, ◌%◌, ◌⊎◌, List, Contains, Some, get_or, length}
+-- What a read of a block says, and what it may take from memory.
+use Rattle.std.specs.Prelude.{ℕ, ◌≡◌, ◌<◌, ◌≤◌, ◌+◌, ◌*◌, ◌⊎◌, List, Contains, Some, get_or, length}
 use Rattle.std.specs.Ordering.{nat_cmp}
 use Rattle.std.specs.FinMap as finite
 use Rattle.std.specs.FinMap.{FinMap}
 use Rattle.base.specs.declared.error.PoolError.{PoolError}
 use Rattle.base.specs.declared.error.PoolError.TheVariants.{Read, Damaged}
 use Rattle.base.specs.declared.pointer.Pointer.{Pointer}
-use Rattle.base.specs.disk.Disk.{Apart}
-use Rattle.base.specs.formats.Blocks.{Frame, Opens, payload_at}
+use Rattle.base.specs.formats.Blocks.{Frame, Opens}
 use Rattle.base.specs.formats.Fields.{no_pointer, part}
-use Rattle.base.specs.formats.Geometry.{IsBlockAddress, block_size}
+use Rattle.base.specs.formats.Geometry.{IsBlockAddress}
 use Rattle.base.specs.formats.Limits.{one_level_length, pointer_count, record_size}
 use Rattle.base.specs.tree.Places.{Place, object_of_indirect, record_number}
 use Rattle.base.specs.tree.Places.Place.{Top, Indirect}
 use Rattle.base.specs.kept.PlacedTrees.{HoldsTree}
 
--- each entry is the payload of the image's block at its address, which is that of a whole block
-abbrev pub AgreesWith : List ℕ → List (ℕ × List ℕ) → Type 0
-AgreesWith image entries = (address : ℕ) (payload : List ℕ) → Contains entries (address, payload) → (address % block_size ≡ 0) × (payload ≡ payload_at image address)
-
 -- what is left was there
 abbrev pub OnlyLeft : List (ℕ × List ℕ) → List (ℕ × List ℕ) → Type 0
 OnlyLeft old new = (address : ℕ) (payload : List ℕ) → Contains new (address, payload) → Contains old (address, payload)
-
--- and of what is left no whole block has a byte in this range
-abbrev pub DropsIn : ℕ → ℕ → List (ℕ × List ℕ) → List (ℕ × List ℕ) → Type 0
-DropsIn at count old new = (address : ℕ) (payload : List ℕ) → Contains new (address, payload)
-    → Contains old (address, payload) × (address % block_size ≡ 0 → Apart at count address block_size)
 
 -- no entry is of the block at this address
 abbrev pub HasNoneAt : ℕ → List (ℕ × List ℕ) → Type 0

@@ -12,7 +12,7 @@ use tree_blocks::ObjectSource;
 
 /// The place of one object: whether it is there, its length, and its bytes for proofs. If it is not there, the others
 /// mean nothing.
-#[derive(Debug, Drop)]
+#[derive(Drop)]
 pub struct Slot {
     /// Whether the object is there.
     pub present: bool,
@@ -24,7 +24,7 @@ pub struct Slot {
 }
 
 /// The name of a pool, and a slot for each object number.
-#[derive(Debug, Drop)]
+#[derive(Drop)]
 pub struct Contents {
     /// The name of the pool.
     pub name: PoolName,

@@ -15,7 +15,7 @@ use base::{OBJECT_COUNT, ObjectId, Op, PoolError};
 use tree_blocks::ObjectSource;
 
 /// What operations made of an object.
-#[derive(Debug, Clone, Copy, PartialEq, Eq)]
+#[derive(Clone, Copy)]
 enum Presence {
     /// None of them creates or removes it.
     AsBefore,

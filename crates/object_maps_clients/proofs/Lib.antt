@@ -1,3 +1,4 @@
 mod EntryForms
 mod HeldTrees
 mod JudgedLists
+mod SmallObjects

@@ -13,15 +13,14 @@ ghost use Rattle.base.specs.tree.Places.{IsPlace, Place, kind_of, number_of_plac
 ghost use Rattle.base.specs.tree.Places.Place.{Data};
 ghost use Rattle.base.specs.tree.Tree.{IsRecord};
 ghost use Rattle.object_maps.specs.Cached.{HoldsStrip};
-ghost use Rattle.object_maps.specs.CachedDevices.{cache_of, device_in};
+ghost use Rattle.block_cache.specs.CachedDevices.{cache_of, device_in};
 ghost use Rattle.tree_blocks.specs.BlockPlaces.{place_of};
 
 use base::{Pointer, PoolError, RECORD_SIZE};
+use block_cache::{BlockCache, CachedDevice};
 use checked_blocks::{Block, Frame};
 use device_model::{Fault, MemDevice, SectorDevice};
-use object_maps::{
-    BlockCache, BlockReader, CachedDevice, read_indirect, read_part, record_pointer,
-};
+use object_maps::{BlockReader, read_indirect, read_part, record_pointer};
 use std::alloc::Global;
 use std::num::NonZeroUsize;
 use tree_blocks::BlockPlace;

@@ -20,7 +20,7 @@ use object_maps::{BlockReader, Contents, read_part, record_pointer};
 use tree_blocks::{ObjectSource, Tree, strip_number};
 
 /// What a pool has in memory of the objects that it shows. Reads of their bytes are handed the device.
-#[derive(Clone, Copy, Debug)]
+#[derive(Clone, Copy)]
 pub struct ShownTree<'a> {
     /// The frame of the synced tree's blocks.
     pub frame: Frame,

@@ -17,7 +17,7 @@ use checked_blocks::Frame;
 use extents::Extents;
 use group_plans::{GroupSource, plan_group};
 use object_maps::{BlockReader, Contents};
-use transactions::Record;
+use records::Record;
 use tree_plans::TreePlan;
 
 // Blocks 0, 1 and 4 are free: a plan of two blocks takes blocks 0 and 1.

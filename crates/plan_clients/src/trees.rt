@@ -16,7 +16,7 @@ ghost use Rattle.base.specs.tree.Places.Place.{Data};
 ghost use Rattle.base.specs.tree.Syncs.{is_dirty};
 ghost use Rattle.tree_blocks.specs.declared.object_map.ObjectMap.{ObjectMap};
 ghost use Rattle.tree_blocks.specs.Lengths.{lengths_of, length_in};
-ghost use Rattle.transactions.specs.declared.record.Record.{Record};
+ghost use Rattle.records.specs.declared.record.Record.{Record};
 ghost use Rattle.tree_plans.specs.Changes.{AreBornBefore, AreInRange, is_changed_in, state_at, state_in};
 ghost use Rattle.tree_plans.specs.Parts.{AreMapsRead, AreReady};
 ghost use Rattle.plan_clients.specs.NewBlocks.{HasNewIndirect, HasNewRecord, HasNewTop, ReturnsBlock};
@@ -28,9 +28,9 @@ ghost use Rattle.tree_plans.specs.Walks.{is_any_touched};
 
 use base::{Group, ObjectId, Pointer, PoolError, RecordState};
 use checked_blocks::Block;
+use records::Record;
 use std::alloc::Global;
 use std::collections::BTreeMap;
-use transactions::Record;
 use tree_blocks::{ObjectEntry, RecordPlace};
 use tree_plans::{ObjectChanges, PlanSource, SealedSource, TreePlan, changed_objects, plan};
 

@@ -3,8 +3,8 @@ use Rattle.std.proofs.Common.{Bool, true, false, ap}
 use Rattle.std.specs.Prelude.{Option, Some, None, Result}
 use Rattle.base.specs.declared.error.PoolError.{PoolError}
 use Rattle.device_model.specs.declared.device.SectorDevice.{Ghosts}
-use Rattle.object_maps.specs.CachedDevices.{device_in}
-use Rattle.object_maps.specs.declared.cached_device.CachedDevice.{CachedDevice}
+use Rattle.block_cache.specs.CachedDevices.{device_in}
+use Rattle.block_cache.specs.declared.cached_device.CachedDevice.{CachedDevice}
 use Rattle.pool_tables.specs.NextCalls.{MakesNextIf}
 use Rattle.pool_tables.specs.declared.pool.RunningSync.{RunningSync}
 

@@ -7,7 +7,7 @@ use Rattle.base.specs.disk.Disk.{bytes_of}
 use Rattle.base.specs.steps.Shown.{Shown}
 use Rattle.device_model.specs.Reading.{OnlyReads}
 use Rattle.device_model.specs.declared.device.SectorDevice.{Ghosts}
-use Rattle.object_maps.specs.CachedDevices.{cache_of, device_in}
+use Rattle.block_cache.specs.CachedDevices.{cache_of, device_in}
 use Rattle.pool_core.specs.declared.state.PoolState.{PoolState}
 use Rattle.pool_tables.specs.Told.{ShownPool, told_of}
 use Rattle.pool_tables.specs.declared.pool.PoolTables.{PoolTables}

@@ -43,7 +43,7 @@ pub trait PoolCall<D: SectorDevice> {
 }
 
 /// What a step changed that another thread may wait for.
-#[derive(Clone, Copy, Debug, PartialEq, Eq)]
+#[derive(Clone, Copy)]
 pub enum Change {
     /// A lock was released. A lock that was refused `Busy` may pass.
     Unlocked,
@@ -61,7 +61,7 @@ pub enum Change {
 }
 
 /// `PoolState::lock` as a value.
-#[derive(Clone, Copy, Debug, PartialEq, Eq)]
+#[derive(Clone, Copy)]
 pub struct Lock {
     /// Who gets the lock.
     pub owner: Owner,
@@ -86,7 +86,7 @@ impl<D: SectorDevice> PoolCall<D> for Lock {
 }
 
 /// `PoolState::lock_append` as a value.
-#[derive(Clone, Copy, Debug, PartialEq, Eq)]
+#[derive(Clone, Copy)]
 pub struct LockAppend {
     /// Who gets the lock.
     pub owner: Owner,
@@ -107,7 +107,7 @@ impl<D: SectorDevice> PoolCall<D> for LockAppend {
 }
 
 /// `PoolState::unlock` as a value.
-#[derive(Clone, Copy, Debug, PartialEq, Eq)]
+#[derive(Clone, Copy)]
 pub struct Unlock {
     /// Who has the lock.
     pub owner: Owner,
@@ -132,7 +132,7 @@ impl<D: SectorDevice> PoolCall<D> for Unlock {
 }
 
 /// `PoolState::begin` as a value. The plan stays the caller's, so the call can be made again.
-#[derive(Clone, Copy, Debug)]
+#[derive(Clone, Copy)]
 pub struct Begin<'a> {
     /// Who begins the transaction.
     pub owner: Owner,
@@ -153,7 +153,7 @@ impl<'a, D: SectorDevice> PoolCall<D> for Begin<'a> {
 }
 
 /// `PoolState::commit` as a value.
-#[derive(Debug, Drop, PartialEq, Eq)]
+#[derive(Drop)]
 pub struct Commit {
     /// The transaction.
     pub tx: TxId,
@@ -178,7 +178,7 @@ impl<D: SectorDevice> PoolCall<D> for Commit {
 }
 
 /// `PoolState::abort` as a value.
-#[derive(Clone, Copy, Debug, PartialEq, Eq)]
+#[derive(Clone, Copy)]
 pub struct Abort {
     /// The transaction.
     pub tx: TxId,
@@ -201,7 +201,7 @@ impl<D: SectorDevice> PoolCall<D> for Abort {
 }
 
 /// `PoolState::read` as a value.
-#[derive(Clone, Copy, Debug, PartialEq, Eq)]
+#[derive(Clone, Copy)]
 pub struct Read {
     /// Who has a lock that covers the range.
     pub owner: Owner,
@@ -224,7 +224,7 @@ impl<D: SectorDevice> PoolCall<D> for Read {
 }
 
 /// `PoolState::length` as a value.
-#[derive(Clone, Copy, Debug, PartialEq, Eq)]
+#[derive(Clone, Copy)]
 pub struct Length {
     /// The object.
     pub object: ObjectId,
@@ -243,7 +243,7 @@ impl<D: SectorDevice> PoolCall<D> for Length {
 }
 
 /// `PoolState::digest` as a value.
-#[derive(Clone, Copy, Debug, PartialEq, Eq)]
+#[derive(Clone, Copy)]
 pub struct Digest;
 
 impl<D: SectorDevice> PoolCall<D> for Digest {
@@ -259,7 +259,7 @@ impl<D: SectorDevice> PoolCall<D> for Digest {
 }
 
 /// `PoolState::name` as a value. It is never refused.
-#[derive(Clone, Copy, Debug, PartialEq, Eq)]
+#[derive(Clone, Copy)]
 pub struct Name;
 
 impl<D: SectorDevice> PoolCall<D> for Name {
@@ -275,7 +275,7 @@ impl<D: SectorDevice> PoolCall<D> for Name {
 }
 
 /// `PoolState::status` as a value. It is never refused.
-#[derive(Clone, Copy, Debug, PartialEq, Eq)]
+#[derive(Clone, Copy)]
 pub struct ReadStatus;
 
 impl<D: SectorDevice> PoolCall<D> for ReadStatus {
@@ -291,7 +291,7 @@ impl<D: SectorDevice> PoolCall<D> for ReadStatus {
 }
 
 /// `PoolState::durable` as a value. It is never refused.
-#[derive(Clone, Copy, Debug, PartialEq, Eq)]
+#[derive(Clone, Copy)]
 pub struct Durable {
     /// What the commit returned.
     pub receipt: Receipt,
@@ -310,7 +310,7 @@ impl<D: SectorDevice> PoolCall<D> for Durable {
 }
 
 /// `PoolState::log_write` as a value.
-#[derive(Clone, Copy, Debug, PartialEq, Eq)]
+#[derive(Clone, Copy)]
 pub struct LogWrite;
 
 impl<D: SectorDevice> PoolCall<D> for LogWrite {
@@ -326,7 +326,7 @@ impl<D: SectorDevice> PoolCall<D> for LogWrite {
 }
 
 /// `PoolState::log_flush` as a value.
-#[derive(Clone, Copy, Debug, PartialEq, Eq)]
+#[derive(Clone, Copy)]
 pub struct LogFlush;
 
 impl<D: SectorDevice> PoolCall<D> for LogFlush {
@@ -342,7 +342,7 @@ impl<D: SectorDevice> PoolCall<D> for LogFlush {
 }
 
 /// `PoolState::close_group` as a value.
-#[derive(Clone, Copy, Debug, PartialEq, Eq)]
+#[derive(Clone, Copy)]
 pub struct CloseGroup;
 
 impl<D: SectorDevice> PoolCall<D> for CloseGroup {
@@ -362,7 +362,7 @@ impl<D: SectorDevice> PoolCall<D> for CloseGroup {
 }
 
 /// `PoolState::mark_quiesced` as a value.
-#[derive(Clone, Copy, Debug, PartialEq, Eq)]
+#[derive(Clone, Copy)]
 pub struct MarkQuiesced;
 
 impl<D: SectorDevice> PoolCall<D> for MarkQuiesced {
@@ -382,7 +382,7 @@ impl<D: SectorDevice> PoolCall<D> for MarkQuiesced {
 }
 
 /// `PoolState::start_sync` as a value.
-#[derive(Clone, Copy, Debug, PartialEq, Eq)]
+#[derive(Clone, Copy)]
 pub struct StartSync {
     /// The moment in seconds that the group's uberblocks get.
     pub moment: u64,
@@ -401,7 +401,7 @@ impl<D: SectorDevice> PoolCall<D> for StartSync {
 }
 
 /// `PoolState::sync_step` as a value.
-#[derive(Clone, Copy, Debug, PartialEq, Eq)]
+#[derive(Clone, Copy)]
 pub struct SyncStep;
 
 impl<D: SectorDevice> PoolCall<D> for SyncStep {

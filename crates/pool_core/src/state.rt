@@ -6,26 +6,27 @@ ghost use Rattle.base.specs.declared.range.Mode.TheVariants.{Writer};
 ghost use Rattle.base.specs.history.Plans.{number_range};
 ghost use Rattle.base.specs.steps.Refusals.{append_range, transaction_of};
 ghost use Rattle.base.specs.steps.Shown.{is_durable, status_of};
-ghost use Rattle.object_maps.specs.CachedDevices.{device_in};
+ghost use Rattle.block_cache.specs.CachedDevices.{device_in};
 ghost use Rattle.pool_tables.specs.Shows.{geometry_of};
 
 use base::{
     Bytes, Group, LockId, Mode, ObjectId, ObjectRange, Ops, Owner, Plan, PoolError, PoolName,
     Range, Receipt, Status, Step, TxId,
 };
+use block_cache::CachedDevice;
 use device_model::{Fault, MemDevice, SectorDevice};
 use import_replay::Imported;
-use object_maps::CachedDevice;
 use pool_tables::{Duty, PoolTables, Progress};
 use range_locks::{HeldLock, HeldLocks, HeldPiece};
 use std::alloc::Global;
+use std::fmt;
 
 /// A pool that runs on a device, which it owns. One step at a time changes it.
 ///
 /// After the device refused a write or a flush the pool is suspended. It still returns its name, its status and
 /// whether a commit is durable, and each other later step is refused `Suspended`. A step that is refused for another
 /// reason leaves the pool unchanged.
-#[derive(Debug, Drop)]
+#[derive(Drop)]
 pub struct PoolState<D: SectorDevice> {
     // with the tree blocks that were read last
     device: CachedDevice<D>,
@@ -512,5 +513,12 @@ impl PoolState<MemDevice> {
         ensures disk { on_disk self.new ≡ on_disk self.old }
     {
         self.device.fail(fault, n);
+    }
+}
+
+/// The type's name alone.
+impl<D: SectorDevice> fmt::Debug for PoolState<D> {
+    fn fmt<W: fmt::Write>(&self, f: &mut fmt::Formatter<W>) -> fmt::Result {
+        f.debug_struct("PoolState").finish_non_exhaustive()
     }
 }

@@ -17,7 +17,7 @@ use Rattle.pool_tables.specs.declared.pool.PoolTables.{PoolTables}
 use Rattle.pool_tables.specs.Entries.{shown_after_entry}
 use Rattle.pool_tables.specs.Meets.{MayCommit, MeetsExplained}
 use Rattle.pool_tables.specs.Unsynced.{AreChangesOfUnsynced, AreNamesOfUnsynced}
-use Rattle.transactions.specs.Records.{record_fields}
+use Rattle.records.specs.Records.{record_fields}
 use Rattle.pool_tables.specs.Shows.{pool_objects, pool_shown, shown_contents}
 use Rattle.pool_tables.proofs.ReadContents.{named_as_explained, read_as_explained}
 

@@ -20,7 +20,7 @@ use Rattle.extents.proofs.SamePatches.{changes_added, changes_left}
 use Rattle.extents.proofs.GroupEntries.{sized_at}
 use Rattle.groups.specs.CountedLines.{holds_of}
 use Rattle.groups.proofs.HoldCounts.{has_hold}
-use Rattle.transactions.specs.declared.record.Record.{Record}
+use Rattle.records.specs.declared.record.Record.{Record}
 use Rattle.tree_plans.specs.Marks.{pending_ops}
 use Rattle.pool_tables.specs.declared.pool.PoolTables.{PoolTables}
 use Rattle.pool_tables.specs.declared.pool.RunningSync.{RunningSync}

@@ -12,9 +12,9 @@ use Rattle.base.specs.steps.Tables.{AreTablesExplained}
 use Rattle.base.specs.steps.Logs.{record_of_entry, unsynced_records}
 use Rattle.base.specs.steps.Shown.{Shown}
 use Rattle.base.specs.steps.Steps.{ops_of_group}
-use Rattle.transactions.specs.declared.record.Record as code
+use Rattle.records.specs.declared.record.Record as code
 use Rattle.tree_plans.specs.Marks.{pending_ops}
-use Rattle.transactions.specs.Records.{record_fields}
+use Rattle.records.specs.Records.{record_fields}
 
 -- the operations of a group among unsynced records
 abbrev record_ops : ℕ → List Record → List Op

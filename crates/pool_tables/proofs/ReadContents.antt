@@ -16,9 +16,9 @@ use Rattle.extents.specs.Patches.{ArePatchesOf}
 use Rattle.extents.specs.Unsynced.{changes_at, laid_all, name_over}
 use Rattle.extents.proofs.UnsyncedGroups.{names_are_read, unsynced_are_read}
 use Rattle.throttle.proofs.SumLaws.{open_within}
-use Rattle.transactions.specs.declared.record.Record.{Record}
+use Rattle.records.specs.declared.record.Record.{Record}
 use Rattle.pool_tables.specs.Unsynced.{AreChangesOfUnsynced, AreNamesOfUnsynced}
-use Rattle.transactions.specs.Records.{record_fields}
+use Rattle.records.specs.Records.{record_fields}
 use Rattle.pool_tables.proofs.PendingOps.{unsynced_are}
 
 module _ (s : Shown) (p : Past) (explained : AreTablesExplained s p) (unsynced : List Record) (log : s.log.unsynced ≡ map record_fields unsynced) (changes : UnsyncedExtents)

@@ -27,7 +27,7 @@ use Rattle.object_maps.specs.ContentsShown.{contents_of}
 use Rattle.object_maps.specs.Judging.{with_name}
 use Rattle.tree_blocks.specs.ListedObjects.{AreWithin}
 use Rattle.throttle.proofs.SumLaws.{open_within}
-use Rattle.transactions.specs.declared.record.Record.{Record}
+use Rattle.records.specs.declared.record.Record.{Record}
 use Rattle.tree_plans.specs.Marks.{pending_ops}
 use Rattle.pool_tables.specs.Unsynced.{AreChangesOfUnsynced, AreNamesOfUnsynced, KeepsUnsynced}
 

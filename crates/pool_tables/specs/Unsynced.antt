@@ -8,7 +8,7 @@ use Rattle.extents.specs.Unsynced.{changes_at, name_at}
 use Rattle.object_maps.specs.declared.contents.Contents.{Contents}
 use Rattle.object_maps.specs.ContentsShown.{contents_of}
 use Rattle.tree_blocks.specs.ListedObjects.{AreWithin}
-use Rattle.transactions.specs.declared.record.Record.{Record}
+use Rattle.records.specs.declared.record.Record.{Record}
 use Rattle.tree_plans.specs.Marks.{pending_ops}
 
 -- each group after this synced one has, at its place, the changes of its operations

@@ -95,7 +95,7 @@ pub enum Progress {
 }
 
 // A sync that runs, and what it makes of the tree.
-#[derive(Debug, Drop)]
+#[derive(Drop)]
 struct RunningSync {
     group: Group,
     // what its uberblocks carry: the moment, and where the log goes on that is kept after it
@@ -115,7 +115,6 @@ struct RunningSync {
 }
 
 /// What a running pool keeps in memory: all but its device. Each call changes it, or leaves it as it was.
-#[derive(Debug)]
 pub struct PoolTables {
     alloc: Global,
     geometry: Geometry,

@@ -3,12 +3,12 @@
 ghost use Rattle.std.specs.Prelude.{◌≡◌, ◌<◌, ◌∷◌, [], Err, None, Some, false};
 ghost use Rattle.base.specs.declared.step.Step.TheVariants as step;
 ghost use Rattle.base.specs.disk.Disk.{written};
-ghost use Rattle.transactions.specs.Records.{record_fields};
+ghost use Rattle.records.specs.Records.{record_fields};
 ghost use Rattle.pool_tables.specs.Shows.{pool_shown};
 
 use base::{Group, Ordinal, PoolError, Receipt, Step};
 use pool_tables::{Duty, PoolTables};
-use transactions::Record;
+use records::Record;
 
 // What is pending is written first.
 fn a_pending_record_is_due_for_the_log(pool: &PoolTables, pending: &Record) -> Option<Step>

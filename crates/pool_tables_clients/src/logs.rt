@@ -6,13 +6,13 @@ ghost use Rattle.base.specs.formats.Fields.{number_at};
 ghost use Rattle.base.specs.formats.Records.{size_of};
 ghost use Rattle.base.specs.steps.Refusals.{log_write_refusal};
 ghost use Rattle.base.specs.steps.Shown.{available};
-ghost use Rattle.transactions.specs.Records.{record_fields};
+ghost use Rattle.records.specs.Records.{record_fields};
 ghost use Rattle.pool_tables.specs.Shows.{geometry_of, pool_shown};
 
 use base::{Group, Ordinal, PoolError, Receipt};
 use device_model::SectorDevice;
 use pool_tables::PoolTables;
-use transactions::Record;
+use records::Record;
 
 // One record of at most 4,008 bytes that is pending is written, and pending no more.
 fn a_pending_record_is_written<D: SectorDevice>(

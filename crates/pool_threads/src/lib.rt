@@ -41,14 +41,11 @@
 #![tactic(auto)]
 
 mod answers;
-mod bell;
-mod bells;
 mod calls;
 mod clients;
 mod debug;
 mod fetch;
 mod first;
-mod flushers;
 mod fsync_all;
 mod handle;
 mod laws;

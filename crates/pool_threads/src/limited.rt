@@ -11,10 +11,10 @@ ghost use Rattle.pool_threads.specs.Answers.{IsRefusal, MakesAtLast, Sees, Waits
 ghost use Rattle.pool_threads.specs.Handles.{TakesAtMost, TakesSoMany, tries_within};
 ghost use Rattle.pool_threads.specs.Vain.{IsInOwnWay};
 
-use crate::bell::Bell;
 use crate::handle::Handle;
 use crate::retries::RetriedCall;
 use base::{LockId, Mode, ObjectId, Owner, PoolError, Range};
+use bells::Bell;
 use device_model::SectorDevice;
 use pool_core::calls::Lock;
 use std::sync::Wait;

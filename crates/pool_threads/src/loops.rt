@@ -5,7 +5,7 @@
 //!    later; each other refusal ends the loop.
 //! 2. Each tests before a turn whether the pool was told to stop, and never after one whose reply it has not looked at.
 //! 3. A loop waits for the pool while another thread has it, since it looks only if something may be due.
-//! 4. When a loop looks is a matter of speed alone (`bells.rt`).
+//! 4. When a loop looks is a matter of speed alone (`Bells`).
 
 ghost use Rattle.std.specs.Prelude.{◌≡◌, ◌≢◌, IfErr, IfNone, IfSome, MatchResult, Some};
 ghost use Rattle.base.specs.declared.step.Reply.TheVariants as replied;
@@ -17,6 +17,7 @@ ghost use Rattle.pool_threads.specs.Serves.{GoesOnAfter, IsRefusedDuty};
 
 use crate::handle::Handle;
 use base::{PoolError, Reply};
+use bells::Loop;
 use device_model::SectorDevice;
 use pool_core::Duty;
 use std::sync::Wait;
@@ -36,7 +37,7 @@ impl<'p, D: SectorDevice> Handle<'p, D> {
             self.old self.new) }
         ensures not_unready { IfErr result (λ e. e ≢ PoolError.NotReady) }
     {
-        self.work(rt, Duty::Quiesce)
+        self.work(rt, Loop::Quiescer, Duty::Quiesce)
     }
 
     /// Syncs groups until the pool is told to stop (`Pool::stop`). It starts the sync of the group that is quiesced,
@@ -57,19 +58,24 @@ impl<'p, D: SectorDevice> Handle<'p, D> {
         ensures not_unready { IfErr result (λ e. e ≢ PoolError.NotReady) }
     {
         let moment = self.shared.moment;
-        self.work(rt, Duty::Sync(moment))
+        self.work(rt, Loop::Syncer, Duty::Sync(moment))
     }
 
     // Does what is due until the pool is told to stop, as one of the loops that are at work.
-    fn work<'a, 'b, W: Wait>(&'a mut self, rt: &'b W, duty: Duty) -> Result<(), PoolError>
+    fn work<'a, 'b, W: Wait>(
+        &'a mut self,
+        rt: &'b W,
+        which: Loop,
+        duty: Duty,
+    ) -> Result<(), PoolError>
         ensures worked { MatchResult result (λ _. Works duty self.old self.new)
             (λ e. WorksUntil duty e self.old self.new) }
         ensures refused { IfErr result (λ e. Sees (IsRefusedDuty duty e) self.old self.new) }
         ensures not_unready { IfErr result (λ e. e ≢ PoolError.NotReady) }
     {
-        self.shared.bells.loop_begins(duty);
-        let ended = self.work_until_stopped(rt, duty);
-        self.shared.loop_ends(duty);
+        self.shared.bells.loop_begins(which);
+        let ended = self.work_until_stopped(rt, which, duty);
+        self.shared.loop_ends(which);
         ended
     }
 
@@ -77,6 +83,7 @@ impl<'p, D: SectorDevice> Handle<'p, D> {
     fn work_until_stopped<'a, 'b, W: Wait>(
         &'a mut self,
         rt: &'b W,
+        which: Loop,
         duty: Duty,
     ) -> Result<(), PoolError>
         ensures worked { MatchResult result (λ _. Works duty self.old self.new)
@@ -85,14 +92,14 @@ impl<'p, D: SectorDevice> Handle<'p, D> {
         ensures not_unready { IfErr result (λ e. e ≢ PoolError.NotReady) }
     {
         for _ in rt.forever() {
-            let heard = self.shared.bells.listen(duty);
+            let heard = self.shared.bells.listen(which);
             if self.shared.bells.is_stopped() {
                 return Ok(());
             }
             let (reply, _) = self.serve(rt, duty);
             match ending(&reply) {
                 Some(error) => return Err(error),
-                None => self.shared.bells.rest(rt, duty, &reply, heard),
+                None => self.shared.bells.rest(rt, which, &reply, heard),
             }
         }
         unreachable!()

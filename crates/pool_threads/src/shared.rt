@@ -1,6 +1,6 @@
 //! What the handles of one pool share.
 //!
-//! Threads that wait sleep by bells (`bell.rt`), and a call whose step changed something rings once it has freed the
+//! Threads that wait sleep by bells (`bells`), and a call whose step changed something rings once it has freed the
 //! pool. Each sleep has an end, so a table that left out a ring would cost time alone:
 //!
 //! | who sleeps | by which bell | who rings |
@@ -11,22 +11,20 @@
 //! | a `transact` without loops, while such transactions are open | `bells.ended` | the same |
 //! | the quiescer else | its own | a `begin` that is throttled |
 //! | the syncer | its own | the turn that quiesced a group |
-//! | a handle that waits until a commit is durable | that of the rounds (`flushers.rt`) | the leader of a round |
-//! | a leader that waits for other handles | none (`flushers.rt`) | the last handle that it expects |
+//! | a handle that waits until a commit is durable | that of the rounds (`Flushers`) | the leader of a round |
+//! | a leader that waits for other handles | none (`Flushers`) | the last handle that it expects |
 //!
 //! A `transact` rings for nobody: no other thread has seen its locks or its transaction (`one_turn.rt`).
 //!
 //! A write or a flush that is refused suspends the pool, and rings for all that wait for others' steps.
 ghost use Rattle.std.specs.Prelude.{◌≡◌, IfErr, IfOk, IfSome, IsSome};
 
-use crate::bell::Bell;
-use crate::bells::Bells;
-use crate::flushers::Flushers;
 use crate::handle::{Handle, LastSeen};
 use crate::rule::PoolRule;
 use base::{PoolError, Reply, Step};
+use bells::{Bell, Bells, Flushers, Loop};
 use device_model::SectorDevice;
-use pool_core::{Change, Duty, PoolCall, PoolState};
+use pool_core::{Change, PoolCall, PoolState};
 use std::alloc::Global;
 use std::sync::Wait;
 use word_lock::WordLock;
@@ -125,8 +123,8 @@ impl<D: SectorDevice> Shared<D> {
     }
 
     /// A loop ends. Who waits for room may have to make room.
-    pub(crate) fn loop_ends(&self, duty: Duty) {
-        self.bells.loop_ends(duty);
+    pub(crate) fn loop_ends(&self, which: Loop) {
+        self.bells.loop_ends(which);
         self.room.ring();
     }
 

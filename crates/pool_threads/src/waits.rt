@@ -3,7 +3,7 @@
 //! 1. A transaction is durable once its log block is flushed, or once its group is synced. So `fsync` writes the log
 //!    and flushes it; if the log finds no block, it syncs groups instead (`zil_commit` of `zil.c`, which then waits for
 //!    `txg_wait_synced`).
-//! 2. Handles that wait at once share one flush: one of them leads (`flushers.rt`).
+//! 2. Handles that wait at once share one flush: one of them leads (`Flushers` of `bells`).
 //! 3. In each turn only steps are made that are due then, so no step is refused `NotReady`, except a close at the last
 //!    group. While transactions of the closed group are open nothing is due, and the call rests.
 

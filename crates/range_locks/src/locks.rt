@@ -19,7 +19,7 @@ use std::alloc::Global;
 use std::marker::Model;
 
 /// The held range locks in order of grant, and the number of grants so far. Contracts see these two.
-#[derive(Debug, Drop)]
+#[derive(Drop)]
 pub struct RangeLocks {
     held: HeldTable,
     numbers: Numbers,

@@ -15,7 +15,7 @@ use indexmap::IndexMap;
 use std::alloc::Global;
 
 /// The parts by number. A number that no held lock is of has none.
-#[derive(Debug, Drop)]
+#[derive(Drop)]
 pub(crate) struct Numbers {
     parts: IndexMap<u32, Parts>,
     ghost none_empty: { (n : ℕ) (p : Parts) → parts_of parts n ≡ Some p → HasNoParts p.table → ⊥ },

@@ -12,7 +12,7 @@ use std::alloc::{AllocError, Global};
 use std::marker::Model;
 
 /// Parts by offset. Contracts see them as a map.
-#[derive(Debug, Drop)]
+#[derive(Drop)]
 pub(crate) struct PartTable {
     rows: Vec<(u64, Part)>,
 }

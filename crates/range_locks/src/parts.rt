@@ -16,7 +16,7 @@ use base::{LockId, MAX_LENGTH, Mode, PoolError, Range};
 use std::alloc::Global;
 
 /// What begins at an end of a lock, up to the next end of the same number.
-#[derive(Clone, Copy, Debug, PartialEq, Eq)]
+#[derive(Clone, Copy)]
 pub(crate) struct Part {
     /// How many locks begin or end where it begins.
     pub ends: usize,
@@ -27,7 +27,7 @@ pub(crate) struct Part {
 }
 
 /// What a lock that comes or goes changes of the parts that it covers.
-#[derive(Clone, Copy, Debug, PartialEq, Eq)]
+#[derive(Clone, Copy)]
 pub(crate) enum Change {
     ReaderCame,
     ReaderLeft,
@@ -109,7 +109,7 @@ impl Part {
 }
 
 /// The parts of a number by offset, rising.
-#[derive(Debug, Drop)]
+#[derive(Drop)]
 pub(crate) struct Parts {
     table: PartTable,
 }

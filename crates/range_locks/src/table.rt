@@ -19,7 +19,7 @@ use std::alloc::{AllocError, Global};
 use std::marker::Model;
 
 /// The held locks, and the name of the next one.
-#[derive(Debug, Drop)]
+#[derive(Drop)]
 pub(crate) struct HeldTable {
     /// By name, rising: `None` is where a lock was released.
     places: IndexMap<LockId, Option<HeldLock>>,

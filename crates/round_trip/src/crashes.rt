@@ -28,7 +28,7 @@ use std::alloc::Global;
 pub type Answer = Result<Vec<Reply>, PoolError>;
 
 /// How a round ends.
-#[derive(Debug, Drop, PartialEq, Eq)]
+#[derive(Drop)]
 pub enum End {
     /// A crash, which leaves these pieces of the unflushed writes.
     Crash(Vec<Piece>),
@@ -37,7 +37,7 @@ pub enum End {
 }
 
 /// One round of a pool.
-#[derive(Debug, Drop, PartialEq, Eq)]
+#[derive(Drop)]
 pub struct Round {
     /// The n-th such call of the device in this round fails, if there is a fault.
     pub fault: Option<(Fault, u64)>,

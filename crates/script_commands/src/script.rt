@@ -6,9 +6,10 @@ ghost use Rattle.std.specs.Prelude.{◌≡◌, ◌≢◌, ◌≤◌, ◌⊎◌, 
 use crate::noted_session::NotedSession;
 use base::PoolError;
 use command_arguments::{Options, ScriptArguments, ScriptDevice, Verbosity};
-use commands::{Failure, open_within, report_failure};
 use device_model::{Access, FileDevice, FileRefusal, HeldFile, SectorFile};
-use scripts::{AfterRefusal, FileSession, SharedSession, run_script_with};
+use read_commands::{Failure, open_within, report_failure};
+use scripts::{AfterRefusal, FileSession, run_script_with};
+use shared_scripts::SharedSession;
 use std::alloc::Global;
 use std::fs::File;
 use std::io::{self, Read, Write};
@@ -17,7 +18,7 @@ use std::rt::Files;
 use std::sync::Wait;
 
 /// Runs a script that is named by its path, or read from standard input, and returns the exit status.
-pub(crate) fn run_named_script<R: Files + Input + Print + AllocGlobal + Wait, E: Write>(
+pub fn run_named_script<R: Files + Input + Print + AllocGlobal + Wait, E: Write>(
     rt: &R,
     arguments: ScriptArguments<'_>,
     options: Options,

@@ -71,14 +71,24 @@ abbrev pub IsLineForm : Words → Type 0
 IsLineForm words = HasForm words (codes "create") 3 ⊎ (HasForm words (codes "import") 2 ⊎ (HasForm words (codes "import") 3 ⊎ (HasForm words (codes "crash") 1
     ⊎ (HasForm words (codes "crash") 2 ⊎ IsDeviceForm words))))
 
+module _ {A : Type 0} (of : Step → A) where
+  -- a lock of these words: owner, object, r or w, low and high
+  abbrev pub ReadsLockOf : List ℕ → List ℕ → List ℕ → List ℕ → List ℕ → Result A LineError → Type 0
+  ReadsLockOf owner object mode low high r = OkIff r
+      (IsNumberBelow (2 ^ 32) owner × IsNumberBelow (2 ^ 32) object × IsSome (mode_of mode) × IsNumberBelow (2 ^ 64) low × IsNumberBelow (2 ^ 64) high)
+      (of (step.Lock (record { 0 = spelled_number owner }) (record { 0 = spelled_number object }) (record { low = spelled_number low; high = spelled_number high })
+      (unwrap_or (mode_of mode) Reader)))
+
+  -- a read of these words: owner, object, low and high
+  abbrev pub ReadsReadOf : List ℕ → List ℕ → List ℕ → List ℕ → Result A LineError → Type 0
+  ReadsReadOf owner object low high r = OkIff r
+      (IsNumberBelow (2 ^ 32) owner × IsNumberBelow (2 ^ 32) object × IsNumberBelow (2 ^ 64) low × IsNumberBelow (2 ^ 64) high)
+      (of (step.Read (record { 0 = spelled_number owner }) (record { 0 = spelled_number object }) (record { low = spelled_number low; high = spelled_number high })))
+
 module _ {A : Type 0} (of : Step → A) (words : Words) (r : Result A LineError) where
-  -- a `lock` line: owner, object, r or w, low and high
+  -- a `lock` line
   abbrev pub ReadsLock : Type 0
-  ReadsLock = HasForm words (codes "lock") 6 → OkIff r
-      (IsNumberBelow (2 ^ 32) (word words 1) × IsNumberBelow (2 ^ 32) (word words 2) × IsSome (mode_of (word words 3))
-      × IsNumberBelow (2 ^ 64) (word words 4) × IsNumberBelow (2 ^ 64) (word words 5))
-      (of (step.Lock (record { 0 = spelled_number (word words 1) }) (record { 0 = spelled_number (word words 2) })
-      (record { low = spelled_number (word words 4); high = spelled_number (word words 5) }) (unwrap_or (mode_of (word words 3)) Reader)))
+  ReadsLock = HasForm words (codes "lock") 6 → ReadsLockOf of (word words 1) (word words 2) (word words 3) (word words 4) (word words 5) r
 
   -- an `append` line: owner and object
   abbrev pub ReadsAppend : Type 0
@@ -106,13 +116,9 @@ module _ {A : Type 0} (of : Step → A) (words : Words) (r : Result A LineError)
   ReadsAbort = HasForm words (codes "abort") 2 → OkIff r
       (IsNumberBelow (2 ^ 64) (word words 1)) (of (step.Abort (record { 0 = spelled_number (word words 1) })))
 
-  -- a `read` line: owner, object, low and high
+  -- a `read` line
   abbrev pub ReadsRead : Type 0
-  ReadsRead = HasForm words (codes "read") 5 → OkIff r
-      (IsNumberBelow (2 ^ 32) (word words 1) × IsNumberBelow (2 ^ 32) (word words 2)
-      × IsNumberBelow (2 ^ 64) (word words 3) × IsNumberBelow (2 ^ 64) (word words 4))
-      (of (step.Read (record { 0 = spelled_number (word words 1) }) (record { 0 = spelled_number (word words 2) })
-      (record { low = spelled_number (word words 3); high = spelled_number (word words 4) })))
+  ReadsRead = HasForm words (codes "read") 5 → ReadsReadOf of (word words 1) (word words 2) (word words 3) (word words 4) r
 
   -- a `durable` line: ordinal and group
   abbrev pub ReadsDurable : Type 0

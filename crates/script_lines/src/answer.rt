@@ -7,7 +7,7 @@ use base::{Bytes, Group, PoolError, Reply, Status};
 use std::fmt;
 
 /// The answer to a command, one line of text.
-#[derive(Debug, PartialEq, Eq, Drop)]
+#[derive(Drop)]
 pub enum Answer {
     /// The pool that an import mounted.
     Imported {
@@ -72,29 +72,40 @@ fn write_reply<W: fmt::Write>(reply: &Reply, f: &mut fmt::Formatter<W>) -> fmt::
     match reply {
         Reply::Refused(error) => write_refusal(*error, f),
         Reply::Done => write!(f, "ok"),
-        Reply::Locked(id) => write!(f, "lock {}", id.0),
+        Reply::Locked(id) => write_number("lock", id.0, f),
         Reply::Appended(id, range) => write!(f, "lock {} {} {}", id.0, range.low, range.high),
-        Reply::Began(tx, group) => write!(f, "tx {} group {}", tx.0, group.0),
-        Reply::Committed(receipt) => write!(
-            f,
-            "entry {} group {}",
-            receipt.ordinal.0, receipt.group.0
-        ),
+        Reply::Began(tx, group) => write_in_group("tx", tx.0, *group, f),
+        Reply::Committed(receipt) => write_in_group("entry", receipt.ordinal.0, receipt.group, f),
         Reply::Bytes(bytes) => write_bytes(bytes, f),
-        Reply::Length(length) => write!(f, "length {length}"),
+        Reply::Length(length) => write_number("length", *length, f),
         Reply::Digest(digest) => write_digest(digest, f),
         Reply::Name(name) => write!(f, "name {name}"),
         Reply::Status(status) => write_status(status, f),
-        Reply::Opened(group) => write!(f, "open {}", group.0),
-        Reply::Quiesced(group) => write!(f, "quiesced {}", group.0),
-        Reply::Syncing(group) => write!(f, "syncing {}", group.0),
+        Reply::Opened(group) => write_number("open", group.0, f),
+        Reply::Quiesced(group) => write_number("quiesced", group.0, f),
+        Reply::Syncing(group) => write_number("syncing", group.0, f),
         Reply::More => write!(f, "more"),
-        Reply::Synced(group) => write!(f, "synced {}", group.0),
-        Reply::Logged(records) => write!(f, "logged {records}"),
+        Reply::Synced(group) => write_number("synced", group.0, f),
+        Reply::Logged(records) => write_number("logged", *records, f),
         Reply::Flushed => write!(f, "flushed"),
         Reply::Durable(true) => write!(f, "durable yes"),
         Reply::Durable(false) => write!(f, "durable no"),
     }
+}
+
+// A word and a number.
+fn write_number<W: fmt::Write>(word: &str, number: u64, f: &mut fmt::Formatter<W>) -> fmt::Result {
+    write!(f, "{word} {number}")
+}
+
+// A word and the number of what is in a group.
+fn write_in_group<W: fmt::Write>(
+    word: &str,
+    number: u64,
+    group: Group,
+    f: &mut fmt::Formatter<W>,
+) -> fmt::Result {
+    write!(f, "{word} {number} group {}", group.0)
 }
 
 // The refusal's number and name, and what is damaged.

@@ -5,7 +5,7 @@
 ghost use Rattle.std.specs.Prelude.{ℕ, List, ◌≡◌, ◌↔◌, ◌^◌, ◌+◌, ◌<◌, ◌≤◌, IsOk, IfOk, IfErr, map, Some, vec_len, length, replicate, slice_index, ◌≢◌, All, IsSome};
 ghost use Rattle.std.specs.Result.{OkIff, result_ok};
 ghost use Rattle.script_lines.specs.Numbers.{IsNumberBelow, spelled_number};
-ghost use Rattle.script_lines.specs.Commands.{IsBeginOf, IsCommitOf, IsCrashOf, IsDeviceForm, IsEndingForm, IsFailOf, IsLineForm, IsLoggingForm, IsPoolForm, IsStepForm, IsTellingForm, ReadsDeviceLine, ReadsEnding, ReadsLine, ReadsLogging, ReadsPool, ReadsStep, ReadsTelling, ReadsWords};
+ghost use Rattle.script_lines.specs.Commands.{IsBeginOf, IsCommitOf, IsCrashOf, IsDeviceForm, IsEndingForm, IsFailOf, IsLineForm, IsLoggingForm, IsPoolForm, IsStepForm, IsTellingForm, ReadsDeviceLine, ReadsEnding, ReadsLine, ReadsLockOf, ReadsLogging, ReadsPool, ReadsReadOf, ReadsStep, ReadsTelling, ReadsWords};
 ghost use Rattle.script_lines.specs.Copies.{AreContents, AreContentsOf, AreCopies, IsContent, IsContentOf, is_printable, max_copies};
 ghost use Rattle.script_lines.specs.Letters.{call_name, mode_of, piece_of};
 ghost use Rattle.device_model.specs.declared.fault.Fault.{Fault};
@@ -27,7 +27,7 @@ const MAX_COPIES: u64 = 338_688;
 const TORN: u8 = 0xaa;
 
 /// What a line of a script asks for.
-#[derive(Debug, PartialEq, Eq, Drop)]
+#[derive(Drop)]
 pub enum Command {
     /// Makes a pool of this name and guid on the device, or on a new one.
     Create { name: Bytes, guid: u64 },
@@ -43,7 +43,7 @@ pub enum Command {
 }
 
 /// What a line asks a pool for.
-#[derive(Debug, PartialEq, Eq, Drop)]
+#[derive(Drop)]
 pub enum PoolCommand {
     /// Commits a transaction, with the bytes of its writes and names in order.
     Commit(TxId, Vec<Bytes>),
@@ -58,7 +58,7 @@ pub enum PoolCommand {
 }
 
 /// Why a line gives no command.
-#[derive(Clone, Copy, Debug, PartialEq, Eq)]
+#[derive(Clone, Copy)]
 pub enum LineError {
     /// It is no command.
     BadCommand,
@@ -152,23 +152,41 @@ fn parse_step(alloc: Global, words: &[&str]) -> Result<Step, LineError>
     ensures form { IsOk result → IsStepForm words.now }
 {
     match words {
-        ["lock", owner, object, mode, low, high] => Ok(Step::Lock(
-            parse_owner(owner)?,
-            parse_object(object)?,
-            parse_range(low, high)?,
-            parse_mode(mode)?,
-        )),
+        ["lock", owner, object, mode, low, high] => parse_lock(owner, object, mode, low, high),
         ["begin", owner, shapes @ ..] => parse_begin(alloc, owner, shapes),
-        ["read", owner, object, low, high] => Ok(Step::Read(
-            parse_owner(owner)?,
-            parse_object(object)?,
-            parse_range(low, high)?,
-        )),
+        ["read", owner, object, low, high] => parse_read(owner, object, low, high),
         ["close"] => Ok(Step::CloseGroup),
         ["quiesce"] => Ok(Step::MarkQuiesced),
         ["step"] => Ok(Step::SyncStep),
         words => parse_ending(words),
     }
+}
+
+fn parse_lock(
+    owner: &str,
+    object: &str,
+    mode: &str,
+    low: &str,
+    high: &str,
+) -> Result<Step, LineError>
+    ensures { ReadsLockOf (λ s. s) owner.now object.now mode.now low.now high.now result }
+{
+    Ok(Step::Lock(
+        parse_owner(owner)?,
+        parse_object(object)?,
+        parse_range(low, high)?,
+        parse_mode(mode)?,
+    ))
+}
+
+fn parse_read(owner: &str, object: &str, low: &str, high: &str) -> Result<Step, LineError>
+    ensures { ReadsReadOf (λ s. s) owner.now object.now low.now high.now result }
+{
+    Ok(Step::Read(
+        parse_owner(owner)?,
+        parse_object(object)?,
+        parse_range(low, high)?,
+    ))
 }
 
 // A step that lets a lock go, gives a transaction up, or tells something.

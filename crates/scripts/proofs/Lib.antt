@@ -1,20 +1,9 @@
-mod Asked
 mod BadLines
 mod CloseLines
-mod CommandPlans
-mod CommandSteps
-mod InPools
-mod JoinedRuns
+pub mod CommandSteps
+pub mod JoinedRuns
 mod KeptRuns
-mod LastLeft
-mod Named
-mod OnDevice
-mod OneTurn
-mod OpenPlans
-mod Opened
 pub mod OwnRuns
 mod PoolSteps
 mod Refusals
 mod Relations
-mod SharedRuns
-mod Taken

@@ -15,7 +15,6 @@ use Rattle.pool_core.specs.KeptSafe.{BeginsSafe, IsKeptSafe, IsSafeStep, on_disk
 use Rattle.pool_core.specs.NewStates.{IsHeldAtFirst}
 use Rattle.pool_core.specs.States.{device_of, told}
 use Rattle.pool_core.specs.declared.state.PoolState.{PoolState}
-use Rattle.pool_threads.specs.Handles.{StartsBehind}
 use Rattle.pool_core.proofs.crash.LeftDisks.{found, run_start, safe_found}
 use Rattle.base.specs.kept.LeftDisks.{IsLeft}
 use Rattle.script_lines.specs.declared.command.PoolCommand.{PoolCommand}
@@ -53,13 +52,14 @@ module _ {Dev : Type 0} {V : Ghosts Dev} (keep : IsTrue V.keeps_model) where
   goes_safely = by_command IsStepOf Goes goes_nowhere goes_onward (λ s. Unit {0}) goes_by_one (λ s. tt) open_plan
 
   -- what an import gave begins a run after each that left its disk
-  pub begins_run : (past : Past) (old : Disk) (m : Mounted) (cache_blocks : ℕ) (device : Dev) (pool : PoolState Dev V) → IsLeft past old → StartsBehind old m (V.disk device) → disk_size (V.disk device) ≡ m.geometry
+  pub begins_run : (past : Past) (old : Disk) (m : Mounted) (cache_blocks : ℕ) (device : Dev) (pool : PoolState Dev V) → IsLeft past old
+      → StartsRun old (shown_of_import m).dirty_max (V.disk device) m → KeepsOwn old (V.disk device) → disk_size (V.disk device) ≡ m.geometry
       → IsImportedPool device m cache_blocks pool → ∥ IsHeldAtFirst (told pool) ∥₁ → BeginsSafe pool → ∥ BeginsRun past (shown_of_import m).dirty_max pool ∥₁
-  begins_run past old m cache_blocks device pool was starts sized imported held begins =
+  begins_run past old m cache_blocks device pool was starts own sized imported held begins =
       let same : device ≡ device_of pool = sym imported.device_is in
       let limit : ℕ = (shown_of_import m).dirty_max in
-      let keeps_it : KeepsOwn old (V.disk (device_of pool)) = subst (λ (d : Dev). KeepsOwn old (V.disk d)) same starts.own in
-      let starts_it : StartsRun old limit (V.disk (device_of pool)) m = subst (λ (d : Dev). StartsRun old limit (V.disk d) m) same starts.starts in
+      let keeps_it : KeepsOwn old (V.disk (device_of pool)) = subst (λ (d : Dev). KeepsOwn old (V.disk d)) same own in
+      let starts_it : StartsRun old limit (V.disk (device_of pool)) m = subst (λ (d : Dev). StartsRun old limit (V.disk d) m) same starts in
       let sized_it : disk_size (V.disk (device_of pool)) ≡ m.geometry = subst (λ (d : Dev). disk_size (V.disk d) ≡ m.geometry) same sized in
       ∥∥₁_map held (λ held.
       let of = found keep limit past old m pool was keeps_it starts_it imported.shown_is refl sized_it held begins in

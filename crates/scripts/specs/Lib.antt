@@ -1,4 +1,3 @@
-pub mod Callers
 pub mod Devices
 pub mod Endings
 pub mod Fillings
@@ -6,8 +5,5 @@ pub mod Kept
 pub mod Lines
 pub mod OwnPools
 pub mod Places
-pub mod Plans
 pub mod PoolSteps
 pub mod Sessions
-pub mod SharedPools
-pub mod SharedRuns

@@ -3,11 +3,12 @@ use Rattle.std.specs.Prelude.{ℕ, ◌≡◌, ◌⊎◌, ◌/◌, false, IsErr, 
 use Rattle.base.specs.declared.error.PoolError.{PoolError}
 use Rattle.base.specs.declared.piece.Piece.{Piece}
 use Rattle.base.specs.declared.step.Reply.TheVariants.{Refused}
+use Rattle.base.specs.history.Past.{Past}
+use Rattle.base.specs.kept.LeftDisks.{IsLeft}
 use Rattle.device_model.specs.MemState.{MemState, new_state}
 use Rattle.device_model.specs.contracts.memory.MemDeviceSectorDevice.TheImpl.{ghosts}
 use Rattle.device_model.specs.declared.device.SectorDevice as sector
 use Rattle.device_model.specs.declared.fault.Fault.{Fault}
-use Rattle.pool_threads.specs.Handles.{LeavesSame}
 use Rattle.script_lines.specs.declared.answer.Answer.{Answer}
 use Rattle.script_lines.specs.declared.answer.Answer.TheVariants as answer
 use Rattle.script_lines.specs.declared.command.Command.{Command}
@@ -22,6 +23,14 @@ use Rattle.scripts.specs.declared.session.BadCommand.{BadCommand}
 use Rattle.scripts.specs.declared.session.Session.{Session}
 
 module _ {R Dev P : Type 0} where
+  -- what the session has: nothing, a device or a pool
+  abbrev pub place_in : Session R Dev P → Place Dev P
+  place_in s = s.place
+
+  -- the moment of its uberblocks
+  abbrev pub session_moment : Session R Dev P → ℕ
+  session_moment s = s.moment
+
   -- a session with no device yet, whose new devices have this size, and whose uberblocks this moment
   pub record IsNewSession (size moment : ℕ) (s : Session R Dev P) : Type 0 where
     pub place : s.place ≡ Nothing
@@ -46,7 +55,7 @@ module _ {R Dev P : Type 0} (V : sector.Ghosts Dev) (G : mounted.Ghosts P Dev R)
   pub record IsImportRefused (dirty_max cache_blocks moment : ℕ) (old : Dev) (told : Answer) (new : Dev) : Type 0 where
     pub error : PoolError
     pub told_is : told ≡ answer.Reply (Refused error)
-    pub still : IsTrue V.keeps_model → LeavesSame (V.disk old) (V.disk new)
+    pub still : IsTrue V.keeps_model → (past : Past) → IsLeft past (V.disk old) → IsLeft past (V.disk new)
     pub left : IsLeftByMount V G.refuses dirty_max cache_blocks moment old error new
 
   -- an import of a device mounts its pool, or it is refused

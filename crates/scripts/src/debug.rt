@@ -1,8 +1,7 @@
-//! `Debug` of sessions and their pool under a lock: the type's name alone. Neither the device nor a view is shown.
+//! `Debug` of sessions: the type's name alone. Neither the device nor the pool is shown.
 
 use crate::device_session::DeviceSession;
 use crate::session::Session;
-use crate::shared_pool::SharedPool;
 use std::fmt;
 
 impl<'r, R, D, P> fmt::Debug for Session<'r, R, D, P> {
@@ -14,11 +13,5 @@ impl<'r, R, D, P> fmt::Debug for Session<'r, R, D, P> {
 impl<'r, R, D, P> fmt::Debug for DeviceSession<'r, R, D, P> {
     fn fmt<W: fmt::Write>(&self, f: &mut fmt::Formatter<W>) -> fmt::Result {
         f.debug_struct("DeviceSession").finish_non_exhaustive()
-    }
-}
-
-impl fmt::Debug for SharedPool {
-    fn fmt<W: fmt::Write>(&self, f: &mut fmt::Formatter<W>) -> fmt::Result {
-        f.debug_struct("SharedPool").finish_non_exhaustive()
     }
 }

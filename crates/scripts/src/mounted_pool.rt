@@ -1,6 +1,6 @@
 //! A pool as a session has it: mounted by an import, asked by commands, and given up for its device.
 //!
-//! A session stands on any pool that does this: one that it steps itself, or one under a lock. What a pool is to its
+//! A session stands on any pool that does this: one that it steps itself, or one under a lock (`shared_scripts`). What a pool is to its
 //! session, and what its session keeps of a run over crashes and imports, are the relations of the trait.
 
 ghost use Rattle.std.specs.Prelude.{IfErr, IfOk, IsTrue, ℕ};
@@ -10,7 +10,6 @@ ghost use Rattle.base.specs.disk.Disk.{Disk};
 ghost use Rattle.base.specs.history.Past.{Past};
 ghost use Rattle.device_model.specs.declared.fault.Fault.{Fault};
 ghost use Rattle.mounted.specs.declared.mounted.Mounted.{Mounted};
-ghost use Rattle.pool_threads.specs.Handles.{LeavesSame};
 ghost use Rattle.base.specs.kept.LeftDisks.{IsLeft};
 ghost use Rattle.script_lines.specs.declared.command.PoolCommand.{PoolCommand};
 ghost use Rattle.scripts.specs.Devices.{IsLeftByMount, IsMountedBy};
@@ -66,8 +65,8 @@ pub trait MountedPool<D: SectorDevice, R>: Drop {
             → left past (D.disk device) → ∥ begins past dirty_max p.0 ∥₁) }
         ensures refused { IfErr result (λ e.
             IsLeftByMount D.SectorDevice refuses dirty_max cache_blocks moment device e.0 e.1) }
-        ensures still { IsTrue D.keeps_model
-            → IfErr result (λ e. LeavesSame (D.disk device) (D.disk e.1)) };
+        ensures still { IsTrue D.keeps_model → IfErr result (λ e. (past : Past)
+            → IsLeft past (D.disk device) → IsLeft past (D.disk e.1)) };
 
     /// Gives the pool up for its device, as the last command left it.
     fn unmount(self) -> D

@@ -11,7 +11,7 @@ use import_replay::create;
 use script_lines::Answer;
 
 /// What a session has so far.
-#[derive(Debug, Drop)]
+#[derive(Drop)]
 pub enum Place<D, P> {
     /// No device yet.
     Nothing,

@@ -13,7 +13,7 @@ use std::alloc::Global;
 use std::io::{self, BufRead, BufReader, BufWriter, Read, Write};
 
 /// What follows if the pool refuses a command of a script.
-#[derive(Clone, Copy, Debug, PartialEq, Eq)]
+#[derive(Clone, Copy)]
 pub enum AfterRefusal {
     /// The script continues.
     GoOn,
@@ -22,7 +22,7 @@ pub enum AfterRefusal {
 }
 
 /// How a script ended.
-#[derive(Clone, Copy, Debug, PartialEq, Eq)]
+#[derive(Clone, Copy)]
 enum Ending {
     Done,
     Refused,

@@ -12,7 +12,6 @@ ghost use Rattle.scripts.specs.Devices.{IsNewDeviceRefusal};
 use crate::command_runner::CommandRunner;
 use crate::mounted_pool::{FaultyPool, MountedPool};
 use crate::place::Place;
-use crate::shared_pool::SharedPool;
 use base::{Bytes, Piece, PoolError, Reply};
 use device_model::{Fault, MemDevice, SectorDevice};
 use labels::{Geometry, SECTOR_SIZE};
@@ -22,7 +21,7 @@ use std::alloc::Global;
 use std::mem;
 
 /// A command that needs a device or a pool and there is none, or has more letters than there are writes.
-#[derive(Clone, Copy, Debug, PartialEq, Eq)]
+#[derive(Clone, Copy)]
 pub struct BadCommand;
 
 /// A run of a script: its device, and the pool that is imported from it. Its pool's calls wait by an `R`, if they wait.
@@ -37,10 +36,6 @@ pub struct Session<'r, R, D, P> {
 
 /// A session on a device in memory, which steps its pool itself. It never waits.
 pub type OwnSession<'r> = Session<'r, (), MemDevice, PoolState<MemDevice>>;
-
-/// A session on a device in memory, whose pool is under a lock. Each step is made by the pool's only handle, which may
-/// wait.
-pub type SharedSession<'r, W> = Session<'r, W, MemDevice, SharedPool>;
 
 impl<'r, R, D: SectorDevice + Drop, P: MountedPool<D, R>> Session<'r, R, D, P> {
     ghost use Rattle.scripts.specs.Kept.{GoesOnInPool, IsRunIn};

@@ -20,7 +20,7 @@ use std::marker::Model;
 
 /// Which blocks are free, by their index in the block area, how many are reserved, and how many the syncing group has
 /// taken.
-#[derive(Debug, Drop)]
+#[derive(Drop)]
 pub struct FreeSet {
     // whether the block of each index is free
     flags: Vec<bool>,

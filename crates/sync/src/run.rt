@@ -41,7 +41,7 @@ use tree_plans::PlannedBlock;
 use uberblocks::{Uberblock, slot};
 
 /// The configs of a sync that changes the labels: their block, and which pair of labels comes first.
-#[derive(Debug, Drop, PartialEq, Eq)]
+#[derive(Drop)]
 pub struct LabelStages {
     /// The sealed block of the config, the same for each label.
     pub config: Block,
@@ -74,7 +74,7 @@ impl LabelStages {
 }
 
 /// Which call of a sync was made.
-#[derive(Clone, Copy, Debug, PartialEq, Eq)]
+#[derive(Clone, Copy)]
 pub enum SyncCall {
     /// One that others follow.
     More,
@@ -83,7 +83,7 @@ pub enum SyncCall {
 }
 
 /// A sync that runs.
-#[derive(Debug, Drop)]
+#[derive(Drop)]
 pub struct SyncRun {
     /// The size of the device.
     pub geometry: Geometry,

@@ -24,7 +24,7 @@ use std::marker::Model;
 /// The bytes that are charged to each unsynced group, and their limit.
 ///
 /// Contracts see them as a map from a group's number to its sum, with the limit and the synced group.
-#[derive(Debug, Drop)]
+#[derive(Drop)]
 pub struct Dirty {
     limit: u64,
     synced: Group,

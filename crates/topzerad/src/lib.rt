@@ -98,16 +98,15 @@ pub use device_model::{
     Access, CallCause, Fault, FileCall, FileDevice, FileRefusal, HeldFile, MemDevice, RefusedCall,
     SectorDevice, SectorFile,
 };
-pub use import_replay::{
-    Imported, Inspected, Soundness, View, create, find_damages, import, import_with, inspect,
-    view_pool,
-};
+pub use import_replay::{Imported, create, import, import_with};
+pub use inspections::{Inspected, Soundness, View, find_damages, inspect, view_pool};
 pub use mounted::Mounted;
 pub use pool_core::{Duty, PoolState, Progress, run};
 pub use pool_loops::{Halt, run_beside_loops};
 pub use pool_threads::{Handle, Opened, PIECE_SIZE, Pool};
 pub use range_locks::{HeldLock, HeldLocks, HeldPiece};
-pub use transactions::{charge, is_plan_allowed, record_size};
+pub use records::record_size;
+pub use transactions::{charge, is_plan_allowed};
 pub use trees::BlockDamage;
 
 // For proofs alone: pools and handles with what was seen of them, and the rule of the pool under its lock.

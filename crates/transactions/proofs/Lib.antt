@@ -3,12 +3,6 @@ pub mod Estimates
 pub mod SamePlans
 pub mod OpenOrder
 pub mod OpenChanges
-pub mod Fields
-pub mod AllowedOps
-pub mod OpsRead
-pub mod WrittenOps
-pub mod Loop
-pub mod RecordsRead
 pub mod LockPlans
 pub mod RisingRanges
 pub mod RangeIndexes

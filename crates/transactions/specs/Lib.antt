@@ -1,10 +1,5 @@
-pub mod Refusals
-pub mod Records
-pub mod Reading
-pub mod Writing
 pub mod Ranges
 pub mod Lengths
 pub mod Open
-pub mod Laws
 pub mod LockRanges
 pub mod RangeIndexes

@@ -19,7 +19,7 @@ use std::marker::Model;
 const INDEXED_FROM: usize = 16;
 
 /// An open transaction, with the index of its plan's ranges if it has one. Contracts see the transaction.
-#[derive(Debug, Drop)]
+#[derive(Drop)]
 pub(crate) struct IndexedTransaction {
     transaction: OpenTransaction,
     index: Option<RangeIndex>,

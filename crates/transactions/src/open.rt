@@ -15,7 +15,7 @@ ghost use Rattle.base.specs.steps.Refusals.{is_plan_blocked};
 ghost use Rattle.base.specs.steps.Steps.{transactions_without};
 ghost use Rattle.transactions.specs.Open as words;
 ghost use Rattle.transactions.specs.Open.{admission_of, admit_refusal, has_one_open, has_plan_in, are_too_many, is_kept_blocked, is_of_group, is_of_name, is_of_owner, is_range_in_use, keys_without, next_to_open, overlaps_plan_of, passes_at, admission_of_name, with_admission};
-ghost use Rattle.transactions.specs.Refusals.{Refuses};
+ghost use Rattle.records.specs.Refusals.{Refuses};
 
 use crate::indexed::IndexedTransaction;
 use base::{
@@ -26,7 +26,7 @@ use std::alloc::Global;
 use std::marker::Model;
 
 /// A transaction that was admitted and has not ended.
-#[derive(Debug, PartialEq, Eq, Drop)]
+#[derive(Drop)]
 pub struct OpenTransaction {
     /// Its name.
     pub tx: TxId,
@@ -39,7 +39,7 @@ pub struct OpenTransaction {
 }
 
 /// The open transactions of a pool, at most 64. Contracts see their admissions, in order, and the next name.
-#[derive(Debug, Drop)]
+#[derive(Drop)]
 pub struct OpenTransactions {
     slots: Slab<IndexedTransaction>,
     /// The keys of the slots, in order of admission.

@@ -20,7 +20,7 @@ use std::alloc::{AllocError, Global};
 use std::marker::Model;
 
 /// The ranges of a plan, for searches by halves. Contracts see the ranges, in some order.
-#[derive(Debug, Drop)]
+#[derive(Drop)]
 pub(crate) struct RangeIndex {
     /// In order of object, and then of low end.
     ranges: Vec<ObjectRange>,

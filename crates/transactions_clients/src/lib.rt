@@ -1,7 +1,7 @@
-//! What callers of `transactions` rest on: one function for each promise of its calls, proved from the contract of the
-//! call alone. So it is refused as soon as that contract says less.
+//! What callers of `transactions` and `records` rest on: one function for each promise of their calls, proved from the
+//! contract of the call alone. So it is refused as soon as that contract says less.
 #![tactic(auto)]
 
 mod admitted;
+mod log_records;
 mod plans;
-mod records;

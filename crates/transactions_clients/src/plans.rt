@@ -5,10 +5,11 @@ ghost use Rattle.base.specs.history.Contents.{Contents, length_of};
 ghost use Rattle.transactions.specs.Lengths.{TellsLengths};
 
 use base::{ObjectId, ObjectRange, Op, Shape};
+use records::{is_shape_allowed, is_too_large, record_size};
 use std::alloc::{AllocError, Global};
 use transactions::{
-    charge, estimate, is_in_plan, is_plan_allowed, is_shrinking, is_too_large, lock_ranges,
-    plans_overlap, range_of, record_size,
+    charge, estimate, is_in_plan, is_plan_allowed, is_shrinking, lock_ranges, plans_overlap,
+    range_of,
 };
 
 // A plan has a shape, and its writes end at the greatest length at most.
@@ -16,6 +17,13 @@ fn a_write_ends_at_the_greatest_length() {
     prove!(!is_plan_allowed(&[]));
     prove!(is_plan_allowed(&[Shape::Write(ObjectId(0), 28_449_784, 8)]));
     prove!(!is_plan_allowed(&[Shape::Write(ObjectId(0), 28_449_785, 8)]));
+}
+
+// A write of no byte is outside its limits, as an object is whose number is that of the name.
+fn a_write_has_a_byte_of_an_object() {
+    prove!(is_shape_allowed(&Shape::Write(ObjectId(5_291), 0, 1)));
+    prove!(!is_shape_allowed(&Shape::Write(ObjectId(5_291), 0, 0)));
+    prove!(!is_shape_allowed(&Shape::Write(ObjectId(5_292), 0, 1)));
 }
 
 // A record of 64 KiB is not too large, and one byte more is.

@@ -10,7 +10,7 @@ use base::{POINTER_COUNT, Pointer};
 use std::collections::BTreeMap;
 
 /// The pointers of an object before a group, as far as they were read.
-#[derive(Debug, Drop)]
+#[derive(Drop)]
 pub struct ObjectMap {
     /// The pointer to its top.
     pub top: Pointer,

@@ -10,7 +10,7 @@ use base::{ObjectId, POINTER_COUNT};
 use checked_blocks::Kind;
 
 /// A record of an object.
-#[derive(Clone, Copy, Debug, PartialEq, Eq)]
+#[derive(Clone, Copy)]
 pub struct RecordPlace {
     /// The number of the object.
     pub id: ObjectId,
@@ -42,7 +42,7 @@ impl RecordPlace {
 }
 
 /// A place of the tree, which may have a block.
-#[derive(Clone, Copy, Debug, PartialEq, Eq)]
+#[derive(Clone, Copy)]
 pub enum BlockPlace {
     /// The root of the tree.
     Root,

@@ -26,7 +26,7 @@ pub fn is_long(length: Option<u64>) -> bool
 }
 
 /// What is kept in memory of one object of a tree: what its directory has of it.
-#[derive(Debug, Drop)]
+#[derive(Drop)]
 pub struct ObjectEntry {
     /// The length of the object in bytes, `None` if the tree has no such object.
     pub length: Option<u64>,
@@ -61,7 +61,7 @@ impl ObjectEntry {
 }
 
 /// The pointers of a tree down to what its directories name, and the lengths of its objects.
-#[derive(Debug, Drop)]
+#[derive(Drop)]
 pub struct Tree {
     /// The pointer to the root. It is `Pointer::NONE` if there is none: then no object is there.
     pub root: Pointer,

@@ -16,7 +16,7 @@ use Rattle.base.specs.tree.Syncs.{is_change_of, is_on, is_record_touched, record
 use Rattle.tree_blocks.specs.declared.tree.ObjectEntry.{ObjectEntry}
 use Rattle.tree_blocks.specs.Lengths.{length_in}
 use Rattle.tree_plans.specs.declared.changes.ObjectChanges.{ObjectChanges}
-use Rattle.transactions.specs.declared.record.Record.{Record}
+use Rattle.records.specs.declared.record.Record.{Record}
 use Rattle.tree_plans.specs.Pointers.{entry_of}
 use Rattle.tree_plans.specs.Changes.{is_changed_in, state_in}
 

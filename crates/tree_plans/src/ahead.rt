@@ -28,7 +28,7 @@ use tree_blocks::{
 const COUNT: usize = 4;
 
 /// Indirect blocks that were sealed ahead, at most four.
-#[derive(Debug, Drop)]
+#[derive(Drop)]
 pub(crate) struct IndirectsAhead {
     blocks: Vec<IndirectAhead>,
     // those of the objects below this one were sealed ahead, as far as they were known
@@ -37,7 +37,7 @@ pub(crate) struct IndirectsAhead {
 }
 
 // An indirect block, with all that it was sealed of.
-#[derive(Debug, Drop)]
+#[derive(Drop)]
 struct IndirectAhead {
     guid: u64,
     group: Group,
@@ -139,7 +139,7 @@ impl IndirectsAhead {
 }
 
 // An indirect block that a walk will make.
-#[derive(Debug, Drop)]
+#[derive(Drop)]
 struct NextIndirect {
     number: u64,
     payload: [u8; PAYLOAD_SIZE],

@@ -12,7 +12,7 @@ use base::{ObjectId, POINTER_COUNT, Pointer, RecordState};
 use tree_blocks::ObjectMap;
 
 /// An object that operations are on.
-#[derive(Clone, Copy, Debug)]
+#[derive(Clone, Copy)]
 pub struct ChangedObject<'a> {
     /// Its number.
     pub id: ObjectId,

@@ -18,13 +18,13 @@ ghost use Rattle.tree_plans.specs.Marks.{AreChangesOf, AreToldSoFar, NotesOp, le
 ghost use Rattle.tree_plans.specs.Pointers.{IsPut, entry_of};
 
 use base::{Group, ObjectId, Op, POINTER_COUNT, PoolError, RECORD_SIZE, RecordState};
+use records::Record;
 use std::alloc::Global;
 use std::collections::{BTreeMap, BTreeSet};
-use transactions::Record;
 use tree_blocks::{ObjectEntry, RECORD_COUNT};
 
 /// What the operations of a group do to an object.
-#[derive(Debug, PartialEq, Eq, Drop)]
+#[derive(Drop)]
 pub struct ObjectChanges {
     // The records that the sync writes, by their numbers.
     dirty: BTreeSet<usize>,

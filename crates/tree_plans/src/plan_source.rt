@@ -8,7 +8,7 @@ use std::collections::BTreeMap;
 use tree_blocks::{ObjectMap, Tree};
 
 /// What a plan is made of, beside the objects.
-#[derive(Clone, Copy, Debug)]
+#[derive(Clone, Copy)]
 pub struct PlanSource<'a> {
     /// Where the memory of the plan comes from.
     pub alloc: Global,

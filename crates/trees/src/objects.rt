@@ -42,7 +42,7 @@ pub trait ObjectSink {
 }
 
 /// Objects without their bytes: the entry of each object number.
-#[derive(Debug, Drop)]
+#[derive(Drop)]
 pub struct Entries {
     entries: Vec<ObjectEntry>,
     ghost all_entries: { vec_len entries ≡ object_count },
@@ -100,7 +100,7 @@ impl ObjectSink for Entries {
 }
 
 /// Objects with their bytes told: a slot and the entry of each object number.
-#[derive(Debug, Drop)]
+#[derive(Drop)]
 pub struct Objects {
     /// The slot of each object, by the object's number.
     pub slots: Vec<Slot>,

@@ -51,7 +51,7 @@ use tree_blocks::{
 };
 
 /// What a load of a tree gives: a slot for each object number, the pointers, and the blocks that the tree leaves free.
-#[derive(Debug, Drop)]
+#[derive(Drop)]
 pub struct Loaded {
     /// The slot of each object, by the object's number.
     pub slots: Vec<Slot>,

@@ -29,7 +29,7 @@ const ZEROS_PLACE: usize = 112;
 const CHECK_PLACE: usize = 992;
 
 /// The state of a pool as a transaction group leaves it (ZFS On-Disk Specification, chapter 1).
-#[derive(Clone, Copy, Debug, PartialEq, Eq)]
+#[derive(Clone, Copy, PartialEq, Eq)]
 pub struct Uberblock {
     /// The version of the format, by whose rules the tree is read.
     pub version: Version,

@@ -31,7 +31,6 @@ pub trait LockRule<T> {
 
 /// One turn of a seat with the lock: the view that explained the value as the seat took it, and the view that it put
 /// back. No value of it is made.
-#[derive(Debug)]
 pub struct Turn<V> {
     /// The view as the seat took the lock.
     pub took: V,

@@ -4,9 +4,11 @@
 //! memory.
 #![tactic(auto)]
 
+mod dispatch;
+
 use command_arguments::Terminals;
 use command_line::{parse_arguments, read_arguments, read_options};
-use script_commands::run;
+use dispatch::run;
 use std::fs::File;
 use std::io::{self, IsTerminal};
 use std::process::ExitCode;

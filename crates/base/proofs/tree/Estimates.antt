@@ -1,7 +1,7 @@
--- A sync writes at most as many blocks as its operations are estimated at: each block is one that some operation may
--- change.
+-- A sync writes at most as many blocks as its operations are estimated at, and if no object has two levels, as they are
+-- estimated at in one: each block is one that some operation may change.
 use Rattle.std.proofs.Common.{◌≡◌, ℕ, ◌≢◌, ◌+◌, ◌*◌, ◌/◌, ◌<◌, ◌≤◌, Bool, true, false, not, ◌&&◌, List, [], ◌∷◌, ◌++◌, length, map, filter, refl, sym, ◌∙◌, ap, arith, length-append}
-use Rattle.std.specs.Prelude.{◌==◌, nat_lt, nat_le, sum_by, Option, if◌then◌else◌}
+use Rattle.std.specs.Prelude.{◌==◌, nat_lt, nat_le, sum_by, Option, Some, None, if◌then◌else◌}
 use Rattle.std.specs.Option.{option_map_or}
 use Rattle.std.specs.FinMap as finite
 use Rattle.std.specs.List.{list_any, flat_map, range_with_len, count_by}
@@ -12,18 +12,19 @@ use Rattle.std.proofs.lemmas.List.Folds.{fold-map}
 use Rattle.std.proofs.lemmas.List.Concat.{length-flat_map}
 use Rattle.base.specs.declared.operation.Op.{Op}
 use Rattle.base.specs.declared.operation.Op.TheVariants.{Create, Remove, Write, SetLength, SetName}
-use Rattle.base.specs.formats.Limits.{object_count, record_size, pointer_count, entry_count}
+use Rattle.base.specs.formats.Limits.{object_count, max_length, one_level_length, record_size, pointer_count, entry_count}
 use Rattle.base.specs.history.Contents.{Contents, length_of}
-use Rattle.base.specs.history.Plans.{shape_of, records_touched, strips_touched, estimate_of_shape, estimate_of}
+use Rattle.base.specs.history.Plans.{shape_of, records_touched, estimate_of_shape, estimate_of, one_level_estimate_of_shape, one_level_estimate_of}
 use Rattle.base.specs.tree.Places.{Place, record_of_strip, strip_number}
 use Rattle.base.specs.tree.Places.Place.{Root, Directory, Top, Indirect, Data}
 use Rattle.base.specs.declared.record_state.RecordState.{RecordState}
 use Rattle.base.specs.declared.record_state.RecordState.TheVariants.{Unchanged, Dirty, Hole}
 use Rattle.base.specs.tree.Syncs.{is_record_touched, state_after_op, contents_after, contents_after_all, record_state, is_on, is_change_of, is_rename, is_dirty, pointer_numbers, object_numbers}
 use Rattle.base.specs.tree.Syncs as syncs
+use Rattle.base.specs.kept.PlacedTrees.{IsShort}
 use Rattle.base.specs.steps.Space.{SyncsFit}
 use Rattle.base.proofs.common.KeptLists.{any_at, any_found}
-use Rattle.base.proofs.tree.StripCounts.{strips_of, strips_fit}
+use Rattle.base.proofs.tree.StripCounts.{strips_for, strips_fit}
 use Rattle.base.proofs.tree.Sums.{as_one, sum_by-plus, sum_by-none, sum_by-sum_by, any_within_count, one_within, count_within, rows_within}
 
 -- whether a cut to a new length goes through a record
@@ -113,10 +114,18 @@ module _ {X O : Type 0} (places : ℕ → List X) (directory : ℕ → X) (is_wr
 abbrev records_part : List ℕ → Op → ℕ → ℕ
 records_part strips op n = sum_by (λ j. count_by (λ k. may_dirty n (record_of_strip j k) op) pointer_numbers) strips
 
--- how many blocks of an object an operation may change: records, the top or the one indirect block, and the indirect
--- blocks of two levels
-abbrev object_part : List ℕ → Op → ℕ → ℕ
-object_part strips op n = records_part strips op n + as_one (is_change_of n op) + strips_of n op
+-- how many blocks of an object an operation may change: records, the top or the one indirect block, and so many
+-- indirect blocks of two levels
+abbrev part_on : (Op → ℕ) → ℕ → Op → ℕ
+part_on count_for n op = if is_change_of n op then count_for op else 0
+
+abbrev object_part : (Op → ℕ) → List ℕ → Op → ℕ → ℕ
+object_part count_for strips op n = records_part strips op n + as_one (is_change_of n op) + part_on count_for n op
+
+-- in objects of two levels the sync of operations writes no more than so many of these
+abbrev AreIndirectsWithin : (Op → ℕ) → List Op → Contents → (Place → Bool) → Type 0
+AreIndirectsWithin count_for ops synced had = (n : ℕ) → syncs.is_long_object (finite.get (contents_after_all ops synced).objects n) ≡ true
+    → count_by (λ j. syncs.is_strip_changed (syncs.group_changes ops synced had) n j && syncs.has_strip_after (syncs.group_changes ops synced had) n j) pointer_numbers ≤ sum_by (part_on count_for n) ops
 
 -- The indirect blocks and the top of an object, by whether it has two levels: in one level there is one at most.
 upper_within : (long changed any : Bool) (is_strip has_after : ℕ → Bool) (c s : ℕ) → as_one changed ≤ c → (long ≡ true → count_by (λ j. is_strip j && has_after j) pointer_numbers ≤ s)
@@ -173,40 +182,41 @@ module _ (ops : List Op) (synced : Contents) (had : Place → Bool) where
       sum_by-sum_by (λ j op. count_by (λ k. may_dirty n (record_of_strip j k) op) pointer_numbers) strips ops in
       omega (arith, as_many, each, turned)
 
-  upper_blocks : (n : ℕ) → count_by (syncs.is_indirect_written (syncs.group_changes ops synced had) n) pointer_numbers + as_one (syncs.is_top_written (syncs.group_changes ops synced had) n)
-      ≤ count_by (is_change_of n) ops + sum_by (strips_of n) ops
-  upper_blocks n =
-      upper_within (syncs.is_long_object object) (list_any (is_change_of n) ops) (list_any (syncs.is_strip_kept (syncs.group_changes ops synced had) n) pointer_numbers)
-      (syncs.is_strip_changed (syncs.group_changes ops synced had) n) (syncs.has_strip_after (syncs.group_changes ops synced had) n)
-      (count_by (is_change_of n) ops) (sum_by (strips_of n) ops) (any_within_count (is_change_of n) ops)
-      (λ long. strips_fit n ops synced (λ j k. had (Data (strip_number n j) k)) pointer_count)
-    where
-      object : Option (List ℕ)
-      object = finite.get (contents_after_all ops synced).objects n
+  module _ (count_for : Op → ℕ) (within : AreIndirectsWithin count_for ops synced had) where
+    upper_blocks : (n : ℕ) → count_by (syncs.is_indirect_written (syncs.group_changes ops synced had) n) pointer_numbers + as_one (syncs.is_top_written (syncs.group_changes ops synced had) n)
+        ≤ count_by (is_change_of n) ops + sum_by (part_on count_for n) ops
+    upper_blocks n =
+        upper_within (syncs.is_long_object object) (list_any (is_change_of n) ops) (list_any (syncs.is_strip_kept (syncs.group_changes ops synced had) n) pointer_numbers)
+        (syncs.is_strip_changed (syncs.group_changes ops synced had) n) (syncs.has_strip_after (syncs.group_changes ops synced had) n)
+        (count_by (is_change_of n) ops) (sum_by (part_on count_for n) ops) (any_within_count (is_change_of n) ops)
+        (within n)
+      where
+        object : Option (List ℕ)
+        object = finite.get (contents_after_all ops synced).objects n
 
-  object_within : (n : ℕ) → length (syncs.places_of_object (syncs.group_changes ops synced had) n) ≤ sum_by (λ op. object_part pointer_numbers op n) ops
-  object_within n =
-      let records : List Place = flat_map (syncs.places_of_strip (syncs.group_changes ops synced had) n) pointer_numbers in
-      let indirects : List Place = map (λ j. Indirect (strip_number n j)) (filter (syncs.is_indirect_written (syncs.group_changes ops synced had) n) pointer_numbers) in
-      let top : List Place = if syncs.is_top_written (syncs.group_changes ops synced had) n then Top n ∷ [] else [] in
-      let both = length-append (records ++ indirects) top in
-      let first = length-append records indirects in
-      let few = records_within n pointer_numbers in
-      let of_indirects : length indirects ≡ count_by (syncs.is_indirect_written (syncs.group_changes ops synced had) n) pointer_numbers =
-      length-map (filter (syncs.is_indirect_written (syncs.group_changes ops synced had) n) pointer_numbers) (λ j. Indirect (strip_number n j)) ∙ length-filter (syncs.is_indirect_written (syncs.group_changes ops synced had) n) pointer_numbers in
-      let of_top : length top ≡ as_one (syncs.is_top_written (syncs.group_changes ops synced had) n) = length-one (syncs.is_top_written (syncs.group_changes ops synced had) n) (Top n) in
-      let upper = upper_blocks n in
-      let outer = sum_by-plus (λ op. records_part pointer_numbers op n + as_one (is_change_of n op)) (strips_of n) ops in
-      let inner = sum_by-plus (λ op. records_part pointer_numbers op n) (λ op. as_one (is_change_of n op)) ops in
-      omega (arith, both, first, few, of_indirects, of_top, upper, outer, inner)
+    object_within : (n : ℕ) → length (syncs.places_of_object (syncs.group_changes ops synced had) n) ≤ sum_by (λ op. object_part count_for pointer_numbers op n) ops
+    object_within n =
+        let records : List Place = flat_map (syncs.places_of_strip (syncs.group_changes ops synced had) n) pointer_numbers in
+        let indirects : List Place = map (λ j. Indirect (strip_number n j)) (filter (syncs.is_indirect_written (syncs.group_changes ops synced had) n) pointer_numbers) in
+        let top : List Place = if syncs.is_top_written (syncs.group_changes ops synced had) n then Top n ∷ [] else [] in
+        let both = length-append (records ++ indirects) top in
+        let first = length-append records indirects in
+        let few = records_within n pointer_numbers in
+        let of_indirects : length indirects ≡ count_by (syncs.is_indirect_written (syncs.group_changes ops synced had) n) pointer_numbers =
+        length-map (filter (syncs.is_indirect_written (syncs.group_changes ops synced had) n) pointer_numbers) (λ j. Indirect (strip_number n j)) ∙ length-filter (syncs.is_indirect_written (syncs.group_changes ops synced had) n) pointer_numbers in
+        let of_top : length top ≡ as_one (syncs.is_top_written (syncs.group_changes ops synced had) n) = length-one (syncs.is_top_written (syncs.group_changes ops synced had) n) (Top n) in
+        let upper = upper_blocks n in
+        let outer = sum_by-plus (λ op. records_part pointer_numbers op n + as_one (is_change_of n op)) (part_on count_for n) ops in
+        let inner = sum_by-plus (λ op. records_part pointer_numbers op n) (λ op. as_one (is_change_of n op)) ops in
+        omega (arith, both, first, few, of_indirects, of_top, upper, outer, inner)
 
-  objects_within : (objects : List ℕ) → sum_by (λ n. length (syncs.places_of_object (syncs.group_changes ops synced had) n)) objects ≤ sum_by (λ op. sum_by (object_part pointer_numbers op) objects) ops
-  objects_within objects =
-      let each : sum_by (λ n. length (syncs.places_of_object (syncs.group_changes ops synced had) n)) objects ≤ sum_by (λ n. sum_by (λ op. object_part pointer_numbers op n) ops) objects =
-      sum_by-le-sum_by (λ n. length (syncs.places_of_object (syncs.group_changes ops synced had) n)) (λ n. sum_by (λ op. object_part pointer_numbers op n) ops) objects object_within in
-      let turned : sum_by (λ n. sum_by (λ op. object_part pointer_numbers op n) ops) objects ≡ sum_by (λ op. sum_by (object_part pointer_numbers op) objects) ops =
-      sum_by-sum_by (λ n op. object_part pointer_numbers op n) objects ops in
-      omega (arith, each, turned)
+    objects_within : (objects : List ℕ) → sum_by (λ n. length (syncs.places_of_object (syncs.group_changes ops synced had) n)) objects ≤ sum_by (λ op. sum_by (object_part count_for pointer_numbers op) objects) ops
+    objects_within objects =
+        let each : sum_by (λ n. length (syncs.places_of_object (syncs.group_changes ops synced had) n)) objects ≤ sum_by (λ n. sum_by (λ op. object_part count_for pointer_numbers op n) ops) objects =
+        sum_by-le-sum_by (λ n. length (syncs.places_of_object (syncs.group_changes ops synced had) n)) (λ n. sum_by (λ op. object_part count_for pointer_numbers op n) ops) objects object_within in
+        let turned : sum_by (λ n. sum_by (λ op. object_part count_for pointer_numbers op n) ops) objects ≡ sum_by (λ op. sum_by (object_part count_for pointer_numbers op) objects) ops =
+        sum_by-sum_by (λ n op. object_part count_for pointer_numbers op n) objects ops in
+        omega (arith, each, turned)
 
   directories_within : (directories : List ℕ) → count_by (syncs.is_directory_written (syncs.group_changes ops synced had)) directories ≤ sum_by (directory_part object_numbers directories) ops
   directories_within directories =
@@ -317,11 +327,11 @@ module _ (start : ℕ → ℕ) (size : ℕ) (own : (m d : ℕ) → start d ≤ m
   no-directory : (directories : List ℕ) → sum_by (λ d. count_by (λ (n : ℕ). false) (range_with_len (start d) size)) directories ≡ 0
   no-directory directories = sum_by-none (λ d. count_by (λ (n : ℕ). false) (range_with_len (start d) size)) directories (λ d. sum_by-none (λ (n : ℕ). 0) (range_with_len (start d) size) (λ n. refl))
 
-  module _ (a strips b objects c directories : ℕ) where
+  module _ (count_for : Op → ℕ) (a strips b objects c directories : ℕ) where
     abbrev part_of : Op → ℕ
-    part_of op = sum_by (object_part (range_with_len a strips) op) (range_with_len b objects) + directory_part (λ d. range_with_len (start d) size) (range_with_len c directories) op + root_part op
+    part_of op = sum_by (object_part count_for (range_with_len a strips) op) (range_with_len b objects) + directory_part (λ d. range_with_len (start d) size) (range_with_len c directories) op + root_part op
 
-    one_operation : (op : Op) → part_of op ≤ estimate_of_shape (shape_of op)
+    one_operation : (op : Op) → part_of op ≤ one_level_estimate_of_shape (shape_of op) + count_for op
     one_operation (Create m) =
         let none = no-object (range_with_len a strips) (range_with_len b objects) in
         let one = one_directory m.0 c directories in
@@ -331,12 +341,12 @@ module _ (start : ℕ → ℕ) (size : ℕ) (own : (m d : ℕ) → start d ≤ m
         let one = one_directory m.0 c directories in
         omega (arith, none, one)
     one_operation (Write m offset bytes) =
-        let below = one_object m.0 (λ j k. is_record_touched (record_of_strip j k) offset (length bytes)) (range_with_len a strips) (strips_touched offset (length bytes)) (records_touched offset (length bytes)) b objects
+        let below = one_object m.0 (λ j k. is_record_touched (record_of_strip j k) offset (length bytes)) (range_with_len a strips) (count_for (Write m offset bytes)) (records_touched offset (length bytes)) b objects
         (write_records offset (length bytes) a strips) in
         let one = one_directory m.0 c directories in
         omega (arith, below, one)
     one_operation (SetLength m new) =
-        let below = one_object m.0 (λ j k. is_record_cut (record_of_strip j k) new) (range_with_len a strips) 1 1 b objects (cut_records new a strips) in
+        let below = one_object m.0 (λ j k. is_record_cut (record_of_strip j k) new) (range_with_len a strips) (count_for (SetLength m new)) 1 b objects (cut_records new a strips) in
         let one = one_directory m.0 c directories in
         omega (arith, below, one)
     one_operation (SetName bytes) =
@@ -351,14 +361,49 @@ own_directory m d from to = omega arith
 within_both : (a b c d : ℕ) → a ≤ b → b ≤ c → d ≡ c → a ≤ d
 within_both a b c d h k e = omega arith
 
-pub syncs_fit : SyncsFit
-syncs_fit ops synced had =
-    let part : Op → ℕ = part_of (λ d. entry_count * d) entry_count own_directory 0 pointer_count 0 object_count 0 pointer_count in
+-- what a sync writes, where no more than so many indirect blocks are written of objects of two levels
+fits_with : (count_for : Op → ℕ) (ops : List Op) (synced : Contents) (had : Place → Bool) → AreIndirectsWithin count_for ops synced had
+    → length (syncs.written_places ops synced had) ≤ sum_by (λ op. one_level_estimate_of_shape (shape_of op) + count_for op) ops
+fits_with count_for ops synced had within =
+    let part : Op → ℕ = part_of (λ d. entry_count * d) entry_count own_directory count_for 0 pointer_count 0 object_count 0 pointer_count in
     let written = three_parts (syncs.places_of_object (syncs.group_changes ops synced had)) (λ d. Directory d) (syncs.is_directory_written (syncs.group_changes ops synced had)) (if syncs.is_root_written (syncs.group_changes ops synced had) then Root ∷ [] else [])
     (range_with_len 0 object_count) (range_with_len 0 pointer_count)
-    (λ op. sum_by (object_part pointer_numbers op) (range_with_len 0 object_count)) (directory_part object_numbers (range_with_len 0 pointer_count)) root_part ops
-    (objects_within ops synced had (range_with_len 0 object_count)) (directories_within ops synced had (range_with_len 0 pointer_count))
+    (λ op. sum_by (object_part count_for pointer_numbers op) (range_with_len 0 object_count)) (directory_part object_numbers (range_with_len 0 pointer_count)) root_part ops
+    (objects_within ops synced had count_for within (range_with_len 0 object_count)) (directories_within ops synced had (range_with_len 0 pointer_count))
     (last_within ops synced had) in
-    let each : sum_by part ops ≤ sum_by (λ op. estimate_of_shape (shape_of op)) ops = sum_by-le-sum_by part (λ op. estimate_of_shape (shape_of op)) ops (one_operation (λ d. entry_count * d) entry_count own_directory 0 pointer_count 0 object_count 0 pointer_count) in
+    let each : sum_by part ops ≤ sum_by (λ op. one_level_estimate_of_shape (shape_of op) + count_for op) ops =
+    sum_by-le-sum_by part (λ op. one_level_estimate_of_shape (shape_of op) + count_for op) ops (one_operation (λ d. entry_count * d) entry_count own_directory count_for 0 pointer_count 0 object_count 0 pointer_count) in
+    within_both (length (syncs.written_places ops synced had)) (sum_by part ops) (sum_by (λ op. one_level_estimate_of_shape (shape_of op) + count_for op) ops) (sum_by (λ op. one_level_estimate_of_shape (shape_of op) + count_for op) ops)
+    written each refl
+
+-- an operation is estimated at what it is in one level, and at the indirect blocks of two
+of_two_levels : (op : Op) → one_level_estimate_of_shape (shape_of op) + strips_for op ≤ estimate_of_shape (shape_of op)
+of_two_levels (Create m) = omega arith
+of_two_levels (Remove m) = omega arith
+of_two_levels (Write m offset bytes) = omega arith
+of_two_levels (SetLength m new) = omega arith
+of_two_levels (SetName bytes) = omega arith
+
+pub syncs_fit : SyncsFit
+syncs_fit ops synced had =
+    let written = fits_with strips_for ops synced had (λ n long. strips_fit n ops synced (λ j k. had (Data (strip_number n j) k)) pointer_count) in
+    let each : sum_by (λ op. one_level_estimate_of_shape (shape_of op) + strips_for op) ops ≤ sum_by (λ op. estimate_of_shape (shape_of op)) ops =
+    sum_by-le-sum_by (λ op. one_level_estimate_of_shape (shape_of op) + strips_for op) (λ op. estimate_of_shape (shape_of op)) ops of_two_levels in
     let shapes : estimate_of (map shape_of ops) ≡ sum_by (λ op. estimate_of_shape (shape_of op)) ops = fold-map (λ n x. n + estimate_of_shape x) shape_of 0 ops in
-    within_both (length (syncs.written_places ops synced had)) (sum_by part ops) (sum_by (λ op. estimate_of_shape (shape_of op)) ops) (estimate_of (map shape_of ops)) written each shapes
+    within_both (length (syncs.written_places ops synced had)) (sum_by (λ op. one_level_estimate_of_shape (shape_of op) + strips_for op) ops) (sum_by (λ op. estimate_of_shape (shape_of op)) ops) (estimate_of (map shape_of ops)) written each shapes
+
+-- and if no object has two levels after them, at what operations are in one level
+pub one_level_syncs_fit : (ops : List Op) (synced : Contents) (had : Place → Bool) → ((n : ℕ) → IsShort (finite.get (contents_after_all ops synced).objects n))
+    → length (syncs.written_places ops synced had) ≤ one_level_estimate_of (map shape_of ops)
+one_level_syncs_fit ops synced had short =
+    let written = fits_with (λ op. 0) ops synced had (λ n long. absurd (not_long (finite.get (contents_after_all ops synced).objects n) (short n) long)) in
+    let each : sum_by (λ op. one_level_estimate_of_shape (shape_of op) + 0) ops ≤ sum_by (λ op. one_level_estimate_of_shape (shape_of op)) ops =
+    sum_by-le-sum_by (λ op. one_level_estimate_of_shape (shape_of op) + 0) (λ op. one_level_estimate_of_shape (shape_of op)) ops (λ op. omega arith) in
+    let shapes : one_level_estimate_of (map shape_of ops) ≡ sum_by (λ op. one_level_estimate_of_shape (shape_of op)) ops = fold-map (λ n x. n + one_level_estimate_of_shape x) shape_of 0 ops in
+    within_both (length (syncs.written_places ops synced had)) (sum_by (λ op. one_level_estimate_of_shape (shape_of op) + 0) ops) (sum_by (λ op. one_level_estimate_of_shape (shape_of op)) ops) (one_level_estimate_of (map shape_of ops)) written each shapes
+  where
+    not_long : (o : Option (List ℕ)) → IsShort o → syncs.is_long_object o ≡ true → ⊥
+    not_long None is long = true≢false (sym long)
+    not_long (Some bytes) is long =
+        let above : one_level_length < length bytes = ltb-true one_level_length (length bytes) (and_parts (nat_lt one_level_length (length bytes)) (nat_le (length bytes) max_length) long).0 in
+        omega (arith, is, above)

@@ -13,7 +13,7 @@ use Rattle.base.specs.formats.Limits.{pointer_count, record_size, one_level_leng
 use Rattle.base.specs.history.Contents.{Contents, length_of}
 use Rattle.base.specs.history.Plans.{strips_touched}
 use Rattle.base.specs.tree.Places.{record_of_strip, strip_start}
-use Rattle.base.specs.tree.Syncs.{has_block_after, is_unchanged, is_record_touched, state_after_cut, state_after_op, contents_after, record_state, pointer_numbers}
+use Rattle.base.specs.tree.Syncs.{has_block_after, is_change_of, is_unchanged, is_record_touched, state_after_cut, state_after_op, contents_after, record_state, pointer_numbers}
 use Rattle.base.proofs.tree.Sums.{as_one, sum_by-none, sum_by-sum_by, count_within}
 use Rattle.base.proofs.common.KeptLists.{none_between}
 
@@ -28,13 +28,16 @@ has_after_by state had j = list_any (λ k. has_block_after (state (record_of_str
 abbrev pub is_written_by : (ℕ → RecordState) → (ℕ → ℕ → Bool) → ℕ → Bool
 is_written_by state had j = is_changed_by state j && has_after_by state had j
 
--- the indirect blocks of an object that an operation is estimated at
+-- the indirect blocks of two levels that an operation is estimated at, and those of an object
+abbrev pub strips_for : Op → ℕ
+strips_for (Create m) = 0
+strips_for (Remove m) = 0
+strips_for (Write m offset bytes) = strips_touched offset (length bytes)
+strips_for (SetLength m new) = 1
+strips_for (SetName bytes) = 0
+
 abbrev pub strips_of : ℕ → Op → ℕ
-strips_of n (Create m) = 0
-strips_of n (Remove m) = 0
-strips_of n (Write m offset bytes) = if m.0 == n then strips_touched offset (length bytes) else 0
-strips_of n (SetLength m new) = if m.0 == n then 1 else 0
-strips_of n (SetName bytes) = 0
+strips_of n op = if is_change_of n op then strips_for op else 0
 
 -- tests that agree on numbers in a row
 any_range : (p q : ℕ → Bool) (a count : ℕ) → ((i : ℕ) → a ≤ i → i < a + count → p i ≡ q i) → list_any p (range_with_len a count) ≡ list_any q (range_with_len a count)

@@ -123,6 +123,17 @@ estimate_of_shape (shape.SetName count) = 1
 abbrev pub estimate_of : List Shape → ℕ
 estimate_of plan = sum_by estimate_of_shape plan
 
+-- and if no object has two levels, as in version 1
+abbrev pub one_level_estimate_of_shape : Shape → ℕ
+one_level_estimate_of_shape (shape.Create n) = 2
+one_level_estimate_of_shape (shape.Remove n) = 2
+one_level_estimate_of_shape (shape.Write n offset count) = records_touched offset count + 3
+one_level_estimate_of_shape (shape.SetLength n new) = 4
+one_level_estimate_of_shape (shape.SetName count) = 1
+
+abbrev pub one_level_estimate_of : List Shape → ℕ
+one_level_estimate_of plan = sum_by one_level_estimate_of_shape plan
+
 -- the bytes that a plan is charged
 abbrev pub charge_of : List Shape → ℕ
 charge_of plan = 4096 * estimate_of plan

@@ -1,10 +1,8 @@
-//! What callers rely on of the commands on objects and on labels.
+//! What callers rely on of the commands that change objects.
 
-ghost use Rattle.std.specs.Prelude.{ℕ, ◌≡◌, ◌≢◌, ◌≤◌, ◌⊎◌, [], ◌∷◌, IfOk, IsOk, IsTrue, List, None, Ok, Some, codes, length, slice_get};
+ghost use Rattle.std.specs.Prelude.{ℕ, ◌≡◌, ◌≤◌, ◌⊎◌, [], ◌∷◌, List, None, Ok, Some, codes, length, slice_get};
 ghost use Rattle.std.specs.FinMap as finite;
-ghost use Rattle.base.specs.tree.Mount.{MountsTo};
 ghost use Rattle.base.specs.declared.operation.Op.TheVariants.{Create, Remove, SetLength, Write};
-ghost use Rattle.base.specs.disk.Disk.{bytes_of};
 ghost use Rattle.base.specs.history.Contents.{Contents};
 ghost use Rattle.base.specs.history.History.{Entry, apply_all};
 ghost use Rattle.base.specs.history.Sequences.{in_turn};
@@ -15,24 +13,12 @@ ghost use Rattle.commands.specs.declared.changes.Start.TheVariants.{Empties};
 
 use super::BRIEF;
 use crate::changes::{run_put, run_remove};
-use crate::failure::NotesRefusals;
-use crate::label_lines::run_labels;
 use crate::laws::puts_leave_bytes;
-use crate::pool_files::run_list;
-use crate::reads::run_get;
-use command_arguments::{GetArguments, PutArguments, RemoveArguments};
+use command_arguments::{PutArguments, RemoveArguments};
 use device_model::{FileRefusal, SectorDevice};
-use std::alloc::Global;
+use read_commands::NotesRefusals;
 use std::io::{self, ErrorKind, Write};
 use std::sync::Wait;
-
-// Two bytes of object 7, from byte 1 on.
-const TWO_BYTES: GetArguments<'static> = GetArguments {
-    file: "tank.pool",
-    object: 7,
-    offset: 1,
-    length: Some(2),
-};
 
 // All bytes of object 7.
 pub(super) const ALL_OF_7: PutArguments<'static> = PutArguments {
@@ -47,101 +33,6 @@ pub(super) const OBJECT_7: RemoveArguments<'static> = RemoveArguments {
     object: 7,
     moment: 0,
 };
-
-// The output had no bytes before.
-fn a_get_writes_the_bytes_that_the_image_mounts<
-    D: SectorDevice + NotesRefusals + Drop,
-    W: Write,
-    E: Write,
->(alloc: Global, device: D, out: &mut W, errors: &mut E) -> u8
-    ensures { result ≡ 0 → IsTrue D.keeps_model → (contents : Contents)
-        → MountsTo (bytes_of (D.disk device).now) contents
-        → finite.get contents.objects 7 ≡ Some (10 ∷ 11 ∷ 12 ∷ 13 ∷ [])
-        → W.contents out.old ≡ Some [] → W.contents out.new ≡ Some (11 ∷ 12 ∷ []) }
-{
-    let (status, _) = run_get(alloc, TWO_BYTES, BRIEF, Ok(device), out, errors);
-    status
-}
-
-// If object 7 isn't in the contents that the image mounts, the status is not 0.
-fn a_get_finds_its_object<D: SectorDevice + NotesRefusals + Drop, W: Write, E: Write>(
-    alloc: Global,
-    device: D,
-    out: &mut W,
-    errors: &mut E,
-) -> u8
-    ensures { IsTrue D.keeps_model → (contents : Contents)
-        → MountsTo (bytes_of (D.disk device).now) contents
-        → finite.get contents.objects 7 ≡ None → result ≢ 0 }
-{
-    let (status, _) = run_get(alloc, TWO_BYTES, BRIEF, Ok(device), out, errors);
-    status
-}
-
-// Whatever a get finds, it leaves the disk as it was, and the device refused no write and no flush.
-fn a_get_writes_nothing_to_the_device<D: SectorDevice + NotesRefusals, W: Write, E: Write>(
-    alloc: Global,
-    device: D,
-    out: &mut W,
-    errors: &mut E,
-) -> Result<D, FileRefusal>
-    ensures there { IsOk result }
-    ensures disk { IsTrue D.keeps_model → IfOk result (λ after. D.disk after ≡ D.disk device) }
-    ensures writes { IfOk result (λ after. (D.refused after).writes ≡ (D.refused device).writes) }
-    ensures flushes { IfOk result
-        (λ after. (D.refused after).flushes ≡ (D.refused device).flushes) }
-{
-    let (_, opened) = run_get(alloc, TWO_BYTES, BRIEF, Ok(device), out, errors);
-    opened
-}
-
-// Object 7 is the only one, and the output had no bytes before.
-fn a_list_has_the_number_and_the_length<D: SectorDevice + NotesRefusals + Drop, W: Write, E: Write>(
-    alloc: Global,
-    device: D,
-    out: &mut W,
-    errors: &mut E,
-) -> u8
-    ensures { result ≡ 0 → IsTrue D.keeps_model → (contents : Contents)
-        → MountsTo (bytes_of (D.disk device).now) contents
-        → finite.entries contents.objects ≡ (7, 10 ∷ 11 ∷ []) ∷ []
-        → W.contents out.old ≡ Some [] → W.contents out.new ≡ Some (codes "7 2\n") }
-{
-    run_list(alloc, "tank.pool", BRIEF, &mut Ok(device), out, errors)
-}
-
-fn a_list_writes_nothing_to_the_device<D: SectorDevice + NotesRefusals, W: Write, E: Write>(
-    alloc: Global,
-    device: D,
-    out: &mut W,
-    errors: &mut E,
-) -> Result<D, FileRefusal>
-    ensures there { IsOk result }
-    ensures disk { IsTrue D.keeps_model → IfOk result (λ after. D.disk after ≡ D.disk device) }
-    ensures writes { IfOk result (λ after. (D.refused after).writes ≡ (D.refused device).writes) }
-    ensures flushes { IfOk result
-        (λ after. (D.refused after).flushes ≡ (D.refused device).flushes) }
-{
-    let mut opened = Ok(device);
-    run_list(alloc, "tank.pool", BRIEF, &mut opened, out, errors);
-    opened
-}
-
-fn a_look_at_the_labels_writes_nothing_to_the_device<
-    D: SectorDevice + NotesRefusals,
-    W: Write,
-    E: Write,
->(alloc: Global, device: D, out: &mut W, errors: &mut E) -> Result<D, FileRefusal>
-    ensures there { IsOk result }
-    ensures disk { IsTrue D.keeps_model → IfOk result (λ after. D.disk after ≡ D.disk device) }
-    ensures writes { IfOk result (λ after. (D.refused after).writes ≡ (D.refused device).writes) }
-    ensures flushes { IfOk result
-        (λ after. (D.refused after).flushes ≡ (D.refused device).flushes) }
-{
-    let mut opened = Ok(device);
-    run_labels(alloc, "tank.pool", BRIEF, &mut opened, out, errors);
-    opened
-}
 
 // Whatever object 7 had, it has the bytes of the put and no others then, and object 8 stays as it was.
 fn a_put_without_an_offset_leaves_only_its_bytes()

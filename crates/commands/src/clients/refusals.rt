@@ -23,8 +23,8 @@ ghost use Rattle.pool_threads.specs.declared.handle.Handle as handles;
 use super::BRIEF;
 use super::objects::{ALL_OF_7, OBJECT_7};
 use crate::changes::{run_put, run_remove};
-use crate::failure::NotesRefusals;
 use device_model::SectorDevice;
+use read_commands::NotesRefusals;
 use std::io::Write;
 use std::sync::Wait;
 

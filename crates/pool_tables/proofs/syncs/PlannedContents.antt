@@ -17,9 +17,9 @@ use Rattle.base.proofs.steps.WaitingGroups.{group-follows, next-group}
 use Rattle.extents.specs.Patches.{ArePatchesOf, Patches, laid_over}
 use Rattle.extents.specs.Synced.{patched_contents}
 use Rattle.extents.proofs.LaidObjects.{group_is_read}
-use Rattle.transactions.specs.declared.record.Record.{Record}
+use Rattle.records.specs.declared.record.Record.{Record}
 use Rattle.tree_plans.specs.Marks.{pending_ops}
-use Rattle.transactions.specs.Records.{record_fields}
+use Rattle.records.specs.Records.{record_fields}
 use Rattle.pool_tables.proofs.PendingOps.{unsynced_are}
 use Rattle.mounted.proofs.Replays.{flat_replay}
 

@@ -19,7 +19,7 @@ use Rattle.base.specs.tree.Syncs.{written_places}
 use Rattle.base.proofs.steps.Reservations.{syncs_have_room}
 use Rattle.base.proofs.tree.PlacedTrees.{pointers-told}
 use Rattle.tree_blocks.specs.declared.tree.ObjectEntry.{ObjectEntry}
-use Rattle.transactions.specs.declared.record.Record.{Record}
+use Rattle.records.specs.declared.record.Record.{Record}
 use Rattle.tree_plans.specs.Marks.{pending_ops}
 use Rattle.group_plans.specs.GroupPlans.{IsShortOfBlocks, TakesGroupPlaces}
 use Rattle.group_plans.specs.Operations.{AreSized, TakesPlace}

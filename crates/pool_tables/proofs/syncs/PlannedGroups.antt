@@ -25,8 +25,8 @@ use Rattle.base.proofs.stored.StoredTrees.{stored-births}
 use Rattle.base.proofs.tree.WrittenPlaces.{group-numbers, group-ranges}
 use Rattle.tree_blocks.specs.declared.tree.ObjectEntry.{ObjectEntry}
 use Rattle.tree_blocks.specs.Lengths.{length_in}
-use Rattle.transactions.specs.declared.record.Record.{Record}
-use Rattle.transactions.specs.Records.{record_fields}
+use Rattle.records.specs.declared.record.Record.{Record}
+use Rattle.records.specs.Records.{record_fields}
 use Rattle.tree_plans.specs.Changes.{AreBornBefore, IsEntryPointer}
 use Rattle.tree_plans.specs.Marks.{pending_ops}
 use Rattle.tree_plans.specs.Pointers.{entry_pointer_of}

@@ -11,7 +11,7 @@ ghost use Rattle.base.specs.steps.Refusals as refusals;
 ghost use Rattle.base.specs.steps.Refusals.{blocks_wanted, transaction_of};
 ghost use Rattle.base.specs.steps.Shown as show;
 ghost use Rattle.object_maps.specs.Ops.{AreOpsAllowed};
-ghost use Rattle.transactions.specs.declared.record.Record.{Record};
+ghost use Rattle.records.specs.declared.record.Record.{Record};
 ghost use Rattle.pool_tables.specs.BeginTests.{plan_tests};
 ghost use Rattle.pool_tables.specs.Meets.{Passes};
 
@@ -21,12 +21,11 @@ use base::{
     Shape, TxId, is_name,
 };
 use object_maps::judge;
-use transactions::{
-    Record, charge, estimate, is_in_plan, is_plan_allowed, is_shrinking, is_too_large, range_of,
-};
+use records::{Record, is_too_large};
+use transactions::{charge, estimate, is_in_plan, is_plan_allowed, is_shrinking, range_of};
 
 /// What an open transaction costs, by its plan.
-#[derive(Clone, Copy, Debug, PartialEq, Eq)]
+#[derive(Clone, Copy)]
 struct Cost {
     /// The blocks that its plan is estimated at.
     blocks: u64,

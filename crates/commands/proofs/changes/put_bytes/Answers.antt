@@ -18,12 +18,12 @@ pub returns-in-Err-end-clause-put : goal.returns-in-Err-end-clause-put
 returns-in-Err-end-clause-put g c =
     let end = c.put_and_sync-end in
     let pool = shared_of c.in-Ok-open.pool in
-    subst (λ o. IfOk o (λ device. PutsOrFails g.D.SectorDevice device c.args.arguments.moment (record { 0 = c.args.arguments.object }) c.args.arguments.offset c.args.bytes.now end.result.0 (Err c.of_running.result))) (sym c.in-Ok.is) (inr (
+    subst (λ o. IfOk o (λ device. PutsOrFails g.D.SectorDevice device c.args.arguments.moment (record { 0 = c.args.arguments.object }) c.args.arguments.offset c.args.bytes.now end.result.0 (Err c.of_closed.result))) (sym c.in-Ok.is) (inr (
       c.in-Err-end.refusal,
       record {
         pool = pool;
         opens = c.in-Ok-open.ensures.opened;
         does = subst (λ r. PutsInto pool (record { 0 = c.args.arguments.object }) c.args.arguments.offset c.args.bytes.now end.result.0 r) c.in-Err-end.is end.ensures;
       },
-      c.of_running.ensures.cause,
+      c.of_closed.ensures.cause,
     ))

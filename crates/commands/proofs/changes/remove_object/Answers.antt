@@ -12,4 +12,4 @@ returns-in-Ok-remove_and_sync-clause-removed g c =
 pub returns-in-Err-remove_and_sync-clause-removed : goal.returns-in-Err-remove_and_sync-clause-removed
 returns-in-Err-remove_and_sync-clause-removed g c =
     subst (λ o. IfOk o (λ device. RemovesOrFails g.D.SectorDevice device c.args.arguments.moment (record { 0 = c.args.arguments.object }) (Err c.for_number.result))) (sym c.in-Ok.is)
-    (inr (c.in-Err-remove_and_sync.refusal, record { pool = shared_of c.in-Ok-open.pool; opens = c.in-Ok-open.ensures.opened; does = c.in-Err-remove_and_sync.ensures }, c.for_number.ensures.cause c.in-Err-remove_and_sync.refusal c.of_running.ensures.cause))
+    (inr (c.in-Err-remove_and_sync.refusal, record { pool = shared_of c.in-Ok-open.pool; opens = c.in-Ok-open.ensures.opened; does = c.in-Err-remove_and_sync.ensures }, c.for_number.ensures.cause c.in-Err-remove_and_sync.refusal c.of_closed.ensures.cause))

@@ -1,4 +1,4 @@
-use Rattle.commands.proofs.PoolLines.{tank_created}
+use Rattle.read_commands.proofs.PoolLines.{tank_created}
 use Rattle.commands.proofs.clients.a_create_prints_the_name_and_the_blocks.Goals as goal
 
 pub returns : goal.returns

@@ -1,6 +1,6 @@
 use Rattle.std.proofs.Common.{ℕ, List, [], ◌∷◌, ◌++◌, ap, ◌∙◌, append_assoc}
 use Rattle.base.specs.formats.Records.{bytes_of_record}
-use Rattle.transactions.specs.Records.{record_fields}
+use Rattle.records.specs.Records.{record_fields}
 use Rattle.frames.proofs.encode.append_record.Goals as goal
 
 pub returns-in-Ok-clause-bytes : goal.returns-in-Ok-clause-bytes

@@ -2,7 +2,7 @@ use Rattle.std.proofs.Common.{◌≡◌, ◌+◌, ◌++◌, ℕ, List, arith, le
 use Rattle.std.specs.Int.{to_le_bytes, w16, w32}
 use Rattle.frames.specs.Limits.{frame_head, frame_version, unopened_kind}
 use Rattle.frames.specs.Openings.{items_of_unopened, number_of_unopened}
-use Rattle.transactions.specs.Writing.{AppendsBytes}
+use Rattle.records.specs.Writing.{AppendsBytes}
 use Rattle.frames.proofs.Appended.{appends_both}
 use Rattle.frames.proofs.opening.write_unopened.Goals as goal
 

@@ -1,7 +1,7 @@
 use Rattle.std.proofs.Common.{take}
 use Rattle.std.specs.List.{flat_map}
 use Rattle.frames.specs.Answers.{bytes_of_answer}
-use Rattle.transactions.specs.Writing.{AppendsBytes}
+use Rattle.records.specs.Writing.{AppendsBytes}
 use Rattle.frames.proofs.writing.write_all.Given as goal
 
 -- those so far are appended

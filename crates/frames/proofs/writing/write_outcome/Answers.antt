@@ -1,6 +1,6 @@
 use Rattle.std.proofs.Common.{[], ◌∷◌}
 use Rattle.frames.specs.Answers.{bytes_of_receipt, bytes_of_refusal, bytes_of_status}
-use Rattle.transactions.proofs.WrittenOps.{Appends-then}
+use Rattle.records.proofs.WrittenOps.{Appends-then}
 use Rattle.frames.proofs.writing.write_outcome.Goals as goal
 
 pub returns-in-Transacted : goal.returns-in-Transacted

@@ -5,7 +5,7 @@ use Rattle.base.specs.disk.Disk.{bytes_of}
 use Rattle.base.specs.formats.Geometry.{IsGeometry}
 use Rattle.base.specs.history.Past.{new_past}
 use Rattle.base.specs.steps.Tables.{AreTablesExplained}
-use Rattle.object_maps.specs.CachedDevices.{device_in}
+use Rattle.block_cache.specs.CachedDevices.{device_in}
 use Rattle.object_maps.specs.ContentsShown.{contents_of}
 use Rattle.import_replay.specs.ImportRefusals.{IsImportRefusal}
 use Rattle.import_replay.specs.Mounts.{IsImport, StandsOnDevice}

@@ -10,7 +10,7 @@ use Rattle.group_plans.specs.GroupPlans.{HoldsGroupObjects, IsShortOfBlocks}
 use Rattle.group_plans.specs.OldMaps.{HoldsTreeOf}
 use Rattle.object_maps.specs.ContentsShown.{contents_of}
 use Rattle.tree_blocks.specs.Pointers.{pointers_of}
-use Rattle.transactions.specs.declared.record.Record.{Record}
+use Rattle.records.specs.declared.record.Record.{Record}
 use Rattle.uberblocks.specs.Slots.{fields_of}
 use Rattle.import_replay.specs.NextPools.{next_frame, objects_replayed}
 use Rattle.import_replay.specs.declared.next_pool.ReplayedPool.{ReplayedPool}

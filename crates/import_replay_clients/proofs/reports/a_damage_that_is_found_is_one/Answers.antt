@@ -1,8 +1,8 @@
 use Rattle.std.proofs.Common.{ℕ, List, subst}
 use Rattle.base.specs.disk.Disk.{bytes_of}
-use Rattle.import_replay.specs.declared.damages.Soundness.{Soundness}
-use Rattle.import_replay.specs.PoolDamages.{IsSoundnessOf}
-use Rattle.import_replay.proofs.PoolDamages.{listed_in_tree, listed_log}
+use Rattle.inspections.specs.declared.damages.Soundness.{Soundness}
+use Rattle.inspections.specs.PoolDamages.{IsSoundnessOf}
+use Rattle.inspections.proofs.PoolDamages.{listed_in_tree, listed_log}
 use Rattle.import_replay_clients.proofs.reports.a_damage_that_is_found_is_one.Goals as goal
 
 pub returns-in-Damaged-clause-log : goal.returns-in-Damaged-clause-log

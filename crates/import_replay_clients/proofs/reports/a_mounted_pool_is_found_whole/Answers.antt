@@ -1,8 +1,8 @@
 use Rattle.std.proofs.Common.{ℕ, List, subst}
 use Rattle.base.specs.disk.Disk.{bytes_of}
-use Rattle.import_replay.specs.declared.damages.Soundness.{Soundness}
-use Rattle.import_replay.specs.PoolDamages.{IsSoundnessOf}
-use Rattle.import_replay.proofs.PoolDamages.{mounted_whole}
+use Rattle.inspections.specs.declared.damages.Soundness.{Soundness}
+use Rattle.inspections.specs.PoolDamages.{IsSoundnessOf}
+use Rattle.inspections.proofs.PoolDamages.{mounted_whole}
 use Rattle.import_replay_clients.proofs.reports.a_mounted_pool_is_found_whole.Goals as goal
 
 pub returns : goal.returns

@@ -1,7 +1,7 @@
 use Rattle.std.proofs.Common.{ℕ, List, subst}
 use Rattle.base.specs.disk.Disk.{bytes_of}
-use Rattle.import_replay.specs.declared.damages.Soundness.{Soundness}
-use Rattle.import_replay.specs.PoolDamages.{IsSoundnessOf}
+use Rattle.inspections.specs.declared.damages.Soundness.{Soundness}
+use Rattle.inspections.specs.PoolDamages.{IsSoundnessOf}
 use Rattle.import_replay_clients.proofs.reports.a_pool_that_is_found_whole_is_mounted.Goals as goal
 
 pub returns-in-Whole : goal.returns-in-Whole

@@ -1,7 +1,7 @@
 use Rattle.std.proofs.Common.{◌≡◌, ℕ, true, false, subst}
 use Rattle.std.proofs.lemmas.Result.{IfErr-weaker}
 use Rattle.base.specs.formats.Geometry.{IsGeometry}
-use Rattle.import_replay.specs.ImportRefusals.{IsInspectionRefusal}
+use Rattle.inspections.specs.Refused.{IsInspectionRefusal}
 use Rattle.import_replay_clients.proofs.Promises.{by_size, inspection_untouched, is_refused}
 use Rattle.import_replay_clients.proofs.reports.an_inspection_needs_a_size.Goals as goal
 

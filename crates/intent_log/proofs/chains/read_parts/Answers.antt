@@ -4,8 +4,8 @@ use Rattle.std.proofs.lemmas.List.Elements.{All-cons, All-nil}
 use Rattle.base.specs.disk.Disk.{bytes_of}
 use Rattle.base.specs.formats.Geometry.{IsBlockAddress}
 use Rattle.base.specs.formats.Records.{Record, IsAllowed}
-use Rattle.transactions.specs.Records.{record_fields}
-use Rattle.transactions.specs.declared.record.Record as code
+use Rattle.records.specs.Records.{record_fields}
+use Rattle.records.specs.declared.record.Record as code
 use Rattle.intent_log.specs.Chains.{AreSoundParts, IsNoRecord, IsRecordOf}
 use Rattle.intent_log.proofs.LongRecords.{gathered_long, gathered_none, missing_none}
 use Rattle.intent_log.proofs.chains.read_parts.Goals as goal

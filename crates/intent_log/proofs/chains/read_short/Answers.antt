@@ -1,8 +1,8 @@
 use Rattle.std.proofs.Common.{◌∙◌, ◌≡◌, true, false, sym, subst, ap, List, ℕ, map}
 use Rattle.base.specs.formats.Chain.{LogBlock}
 use Rattle.base.specs.formats.Records.{Record}
-use Rattle.transactions.specs.Records.{record_fields}
-use Rattle.transactions.specs.declared.record.Record as code
+use Rattle.records.specs.Records.{record_fields}
+use Rattle.records.specs.declared.record.Record as code
 use Rattle.intent_log.specs.Chains.{AreOfVersion, AreRecordsOf}
 use Rattle.intent_log.proofs.VersionRecords.{none_of_others}
 use Rattle.intent_log.proofs.chains.read_short.Goals as goal

@@ -1,7 +1,7 @@
 use Rattle.std.proofs.Common.{◌≡◌, ◌≤◌, ◌∙◌, refl, ap, List, ℕ, length, take, subst, arith}
 use Rattle.base.specs.formats.Records.{bytes_of_record}
 use Rattle.base.proofs.formats.RecordSizes.{length-bytes_of_record}
-use Rattle.transactions.specs.Records.{record_fields}
+use Rattle.records.specs.Records.{record_fields}
 use Rattle.intent_log.specs.Packing.{HoldsUsed}
 use Rattle.intent_log.proofs.PackedRecords.{holds_used}
 use Rattle.intent_log.proofs.packing.begin.Goals as goal

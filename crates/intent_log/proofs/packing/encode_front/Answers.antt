@@ -3,7 +3,7 @@ use Rattle.std.proofs.lemmas.List.{length-map}
 use Rattle.std.proofs.lemmas.Result.{err_from_is_err_and}
 use Rattle.base.specs.formats.Records.{Record, IsAllowed, bytes_of_record, bytes_of_records}
 use Rattle.std.proofs.lemmas.List.Elements.{All-get_or}
-use Rattle.transactions.specs.Records.{record_fields}
+use Rattle.records.specs.Records.{record_fields}
 use Rattle.intent_log.specs.Packing.{IsEncodedFront}
 use Rattle.intent_log.proofs.PackedRecords.{bytes_next, cut_back, front_all, front_at, front_long, passes, record_at}
 use Rattle.intent_log.proofs.packing.encode_front.Goals as goal

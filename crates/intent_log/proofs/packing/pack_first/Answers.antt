@@ -1,7 +1,7 @@
 use Rattle.std.proofs.Common.{All, List, map, subst, sym}
 use Rattle.base.specs.formats.Records.{IsAllowed}
-use Rattle.transactions.specs.Records.{record_fields}
-use Rattle.transactions.specs.declared.record.Record as code
+use Rattle.records.specs.Records.{record_fields}
+use Rattle.records.specs.declared.record.Record as code
 use Rattle.intent_log.proofs.Fillings.{allowed_rest}
 use Rattle.intent_log.proofs.packing.pack_first.Goals as goal
 

@@ -1,7 +1,7 @@
 use Rattle.std.proofs.Common.{ap, map, sym, ◌∙◌}
 use Rattle.base.specs.formats.Records.{Record}
 use Rattle.base.specs.steps.Logs.{Log}
-use Rattle.transactions.specs.Records.{record_fields}
+use Rattle.records.specs.Records.{record_fields}
 use Rattle.std.specs.Prelude.{nat_lt}
 use Rattle.intent_log.specs.Kept.{RunLog, header_fields, log_shown}
 use Rattle.intent_log.specs.RunLogs.{pending_after, records_after}

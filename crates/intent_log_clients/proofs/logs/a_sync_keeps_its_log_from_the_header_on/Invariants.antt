@@ -1,5 +1,5 @@
 use Rattle.std.proofs.Common.{◌≡◌, length, map}
-use Rattle.transactions.specs.Records.{record_fields}
+use Rattle.records.specs.Records.{record_fields}
 use Rattle.intent_log.specs.Kept.{header_fields, log_shown}
 use Rattle.intent_log.specs.RunLogs.{pending_after, records_after}
 use Rattle.intent_log.proofs.Callers.{blocks_from}

@@ -1,5 +1,5 @@
 use Rattle.std.proofs.lemmas.Result.{IfOk-weaker}
-use Rattle.transactions.specs.Records.{record_fields}
+use Rattle.records.specs.Records.{record_fields}
 use Rattle.intent_log_clients.proofs.PackedBlocks.{rest_used}
 use Rattle.intent_log_clients.proofs.packed.a_last_part_has_a_block_of_its_own.Goals as goal
 

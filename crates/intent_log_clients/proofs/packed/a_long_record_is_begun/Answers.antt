@@ -1,6 +1,6 @@
 use Rattle.std.proofs.Common.{map}
 use Rattle.std.proofs.lemmas.Result.{IfOk-weaker}
-use Rattle.transactions.specs.Records.{record_fields}
+use Rattle.records.specs.Records.{record_fields}
 use Rattle.intent_log_clients.proofs.PackedBlocks.{begun_is}
 use Rattle.intent_log_clients.proofs.packed.a_long_record_is_begun.Goals as goal
 

@@ -1,6 +1,6 @@
 use Rattle.std.proofs.Common.{map}
 use Rattle.std.proofs.lemmas.Result.{IfOk-weaker}
-use Rattle.transactions.specs.Records.{record_fields}
+use Rattle.records.specs.Records.{record_fields}
 use Rattle.intent_log.specs.Packing.{block_of, used_of}
 use Rattle.intent_log_clients.proofs.PackedBlocks.{packed_holds, stands_packed}
 use Rattle.intent_log_clients.proofs.packed.a_packed_block_is_read_back.Goals as goal

@@ -1,6 +1,6 @@
 use Rattle.std.proofs.Common.{map, ◌∙◌}
 use Rattle.std.proofs.lemmas.Result.{IfOk-weaker}
-use Rattle.transactions.specs.Records.{record_fields}
+use Rattle.records.specs.Records.{record_fields}
 use Rattle.intent_log.specs.Packing.{block_of}
 use Rattle.intent_log_clients.proofs.PackedBlocks.{number_behind, packed_holds}
 use Rattle.intent_log_clients.proofs.packed.a_packed_block_names_its_group_its_chain_and_the_next.Goals as goal

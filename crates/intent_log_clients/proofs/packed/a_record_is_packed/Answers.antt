@@ -1,7 +1,7 @@
 use Rattle.std.proofs.Common.{map, ◌∙◌}
 use Rattle.std.proofs.lemmas.List.{length-map}
 use Rattle.std.proofs.lemmas.Result.{IfOk-weaker}
-use Rattle.transactions.specs.Records.{record_fields}
+use Rattle.records.specs.Records.{record_fields}
 use Rattle.intent_log_clients.proofs.PackedBlocks.{count_is, one_packed, short_of_total}
 use Rattle.intent_log_clients.proofs.packed.a_record_is_packed.Goals as goal
 

@@ -1,7 +1,7 @@
 use Rattle.std.proofs.Common.{map, ◌∙◌, arith}
 use Rattle.std.proofs.lemmas.List.{length-map}
 use Rattle.std.proofs.lemmas.Result.{IfOk-weaker}
-use Rattle.transactions.specs.Records.{record_fields}
+use Rattle.records.specs.Records.{record_fields}
 use Rattle.intent_log_clients.proofs.PackedBlocks.{both_packed, count_is, short_of_total}
 use Rattle.intent_log_clients.proofs.packed.two_records_of_4008_bytes_fill_a_block.Goals as goal
 

@@ -1,4 +1,4 @@
-use Rattle.object_maps.proofs.CachedBlocks.{found-put}
+use Rattle.block_cache.proofs.CachedBlocks.{found-put}
 use Rattle.object_maps_clients.proofs.cached.a_block_has_the_payload_that_was_put.Goals as goal
 
 pub returns : goal.returns

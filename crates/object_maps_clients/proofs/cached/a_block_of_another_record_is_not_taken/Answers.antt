@@ -1,6 +1,6 @@
 use Rattle.std.proofs.Common.{inl, inr, arith}
 use Rattle.std.proofs.lemmas.Result.{on_ok_weaker}
-use Rattle.object_maps.proofs.CachedBlocks.{none-in-empty}
+use Rattle.block_cache.proofs.CachedBlocks.{none-in-empty}
 use Rattle.base.proofs.tree.Strips.{first-low}
 use Rattle.object_maps_clients.proofs.cached.a_block_of_another_record_is_not_taken.Goals as goal
 

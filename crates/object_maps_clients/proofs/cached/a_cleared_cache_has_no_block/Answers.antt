@@ -1,6 +1,6 @@
 use Rattle.std.proofs.Common.{ℕ, List, ap}
 use Rattle.lru.specs.LruCache.{LruCache}
-use Rattle.object_maps.proofs.CachedBlocks.{none-found, none-in-empty}
+use Rattle.block_cache.proofs.CachedBlocks.{none-found, none-in-empty}
 use Rattle.object_maps_clients.proofs.cached.a_cleared_cache_has_no_block.Goals as goal
 
 pub returns : goal.returns

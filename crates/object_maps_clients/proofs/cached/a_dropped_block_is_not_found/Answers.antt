@@ -1,7 +1,7 @@
 use Rattle.std.proofs.Common.{ℕ, List, ap, subst}
 use Rattle.std.specs.Prelude.{Contains}
 use Rattle.lru.specs.LruCache.{LruCache}
-use Rattle.object_maps.proofs.CachedBlocks.{none-found, removed-gone}
+use Rattle.block_cache.proofs.CachedBlocks.{none-found, removed-gone}
 use Rattle.object_maps_clients.proofs.cached.a_dropped_block_is_not_found.Goals as goal
 
 pub returns : goal.returns

@@ -1,7 +1,7 @@
 use Rattle.std.proofs.Common.{◌≡◌, ap, get_or, inl, inr, arith}
 use Rattle.std.proofs.lemmas.Result.{on_ok_weaker}
 use Rattle.std.specs.Prelude.{List, ℕ}
-use Rattle.object_maps.proofs.CachedBlocks.{none-in-empty}
+use Rattle.block_cache.proofs.CachedBlocks.{none-in-empty}
 use Rattle.base.proofs.tree.Strips.{first-low}
 use Rattle.object_maps_clients.proofs.cached.a_record_that_goes_on_past_the_end_is_not_taken.Goals as goal
 

@@ -1,4 +1,4 @@
-use Rattle.transactions.specs.Records.{record_fields}
+use Rattle.records.specs.Records.{record_fields}
 use Rattle.pool_tables.specs.Shows.{pool_shown}
 use Rattle.pool_tables_clients.proofs.Callers.{begun_one}
 use Rattle.pool_tables_clients.proofs.logs.a_long_record_is_begun.Goals as goal

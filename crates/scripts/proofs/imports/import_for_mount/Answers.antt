@@ -11,7 +11,7 @@ returns-in-Ok-clause-starts g c = λ keep.
     let m = c.in-Ok.imported.mounted in
     let old = g.D.SectorDevice.disk c.args.device in
     let new = g.D.SectorDevice.disk c.in-Ok.imported.device in
-    record { starts = subst (λ n. StartsRun old n new m) (sym c.in-Ok.ensures.mounted.limit) (c.in-Ok.ensures.starts keep); own = c.in-Ok.ensures.own keep }
+    subst (λ n. StartsRun old n new m) (sym c.in-Ok.ensures.mounted.limit) (c.in-Ok.ensures.starts keep)
 
 pub returns-in-Ok-clause-still : goal.returns-in-Ok-clause-still
 returns-in-Ok-clause-still g c = λ keep past was.

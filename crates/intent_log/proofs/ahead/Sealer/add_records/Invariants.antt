@@ -1,6 +1,6 @@
 use Rattle.std.proofs.Common.{All, map}
 use Rattle.base.specs.formats.Records.{IsAllowed}
-use Rattle.transactions.specs.Records.{record_fields}
+use Rattle.records.specs.Records.{record_fields}
 use Rattle.intent_log.proofs.ahead.Sealer.add_records.Given as goal
 
 -- the records that are left are within their limits

@@ -1,7 +1,7 @@
 use Rattle.std.proofs.Common.{◌≡◌, ◌∙◌, ℕ, drop, length, map, subst, take, rules}
 use Rattle.std.specs.Prelude.{vec_capacity, vec_len, ◌-◌}
 use Rattle.std.proofs.lemmas.Fn.{filter_same}
-use Rattle.transactions.specs.Records.{record_fields}
+use Rattle.records.specs.Records.{record_fields}
 use Rattle.intent_log.specs.Kept.{RunLog, run_log}
 use Rattle.intent_log.specs.RunLogs.{pending_after, records_after}
 use Rattle.intent_log.proofs.SyncedRecords.{allowed-after, front_within, pending-after}

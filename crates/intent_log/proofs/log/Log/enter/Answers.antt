@@ -4,8 +4,8 @@ use Rattle.std.proofs.lemmas.List.{length_push, map-append}
 use Rattle.std.proofs.lemmas.List.Elements.{All-push}
 use Rattle.base.specs.formats.Records.{IsAllowed}
 use Rattle.base.specs.formats.Records as formats
-use Rattle.transactions.specs.Records.{record_fields}
-use Rattle.transactions.specs.declared.record.Record.{Record}
+use Rattle.records.specs.Records.{record_fields}
+use Rattle.records.specs.declared.record.Record.{Record}
 use Rattle.intent_log.proofs.log.Log.enter.Goals as goal
 
 pub invariant_of-self : goal.invariant_of-self

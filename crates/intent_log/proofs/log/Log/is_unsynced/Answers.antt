@@ -9,8 +9,8 @@ use Rattle.std.specs.Slice.Iter.{iter_rest}
 use Rattle.base.specs.formats.Records as formats
 use Rattle.base.specs.steps.Logs.{committed_of, is_same}
 use Rattle.base.proofs.common.KeptLists.{any_map}
-use Rattle.transactions.specs.Records.{record_fields}
-use Rattle.transactions.specs.declared.record.Record.{Record}
+use Rattle.records.specs.Records.{record_fields}
+use Rattle.records.specs.declared.record.Record.{Record}
 use Rattle.intent_log.specs.Kept.{RunLog, log_shown}
 use Rattle.intent_log.specs.Receipts.{committed}
 use Rattle.intent_log.specs.RunLogs.{is_unsynced_in}

@@ -1,7 +1,7 @@
 use Rattle.std.proofs.Common.{◌≡◌, ◌∙◌, ◌+◌, ◌++◌, ◌∷◌, [], ap, arith, drop, false, length, map, subst, sym}
 use Rattle.std.specs.Prelude.{Some}
 use Rattle.base.specs.steps.Logs.{Log, log_after_write}
-use Rattle.transactions.specs.Records.{record_fields}
+use Rattle.records.specs.Records.{record_fields}
 use Rattle.intent_log.specs.Fillings.{TakesNext, taken_of}
 use Rattle.intent_log.specs.Kept.{RunLog, begun_shown, log_shown, run_log}
 use Rattle.intent_log.specs.RunLogs.{KeepsHeader}

@@ -1,7 +1,7 @@
 use Rattle.std.proofs.Common.{◌≡◌, true, Ok, refl, subst, sym, ◌∙◌}
 use Rattle.base.specs.declared.operation.Op.{Op}
 use Rattle.base.specs.history.Contents.{apply}
-use Rattle.transactions.specs.Records.{is_op_allowed}
+use Rattle.records.specs.Records.{is_op_allowed}
 use Rattle.log_replay.specs.Outlines.{LeadsOutline}
 use Rattle.log_replay.specs.declared.outline.Outline.{Outline}
 use Rattle.log_replay.proofs.OutlineSteps.{Keeps, creates, is_absent, is_there, names, removes, sets_length, writes}

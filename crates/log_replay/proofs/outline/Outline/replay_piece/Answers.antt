@@ -1,6 +1,6 @@
 use Rattle.std.proofs.Common.{[], ◌∷◌}
 use Rattle.std.proofs.lemmas.Result.{err_from_is_err_and}
-use Rattle.transactions.specs.declared.record.Record.{Record}
+use Rattle.records.specs.declared.record.Record.{Record}
 use Rattle.log_replay.specs.Walked.{above_at}
 use Rattle.log_replay.proofs.OutlineRecords.{replays_piece, replays_piece_stop, replays_next, slice_allowed}
 use Rattle.log_replay.proofs.outline.Outline.replay_piece.Goals as goal

@@ -1,6 +1,6 @@
 use Rattle.std.proofs.Common.{[], ◌∷◌, take, Ok}
 use Rattle.std.specs.List.{flat_map}
-use Rattle.transactions.specs.declared.record.Record.{Record}
+use Rattle.records.specs.declared.record.Record.{Record}
 use Rattle.log_replay.specs.Outlines.{ReplaysOutline}
 use Rattle.log_replay.specs.Walked.{above_at}
 use Rattle.log_replay.proofs.outline.Outline.replay_piece.Given as goal

@@ -1,5 +1,5 @@
 use Rattle.std.proofs.lemmas.Bool.{le-ltb, lt-ltb}
-use Rattle.transactions.specs.Records.{record_fields}
+use Rattle.records.specs.Records.{record_fields}
 use Rattle.log_replay.proofs.OutlineRecords.{one_damaged, one_passed, one_replayed, record_ops_allowed}
 use Rattle.log_replay.proofs.outline.Outline.replay_record.Goals as goal
 

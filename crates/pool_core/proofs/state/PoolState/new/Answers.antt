@@ -2,7 +2,7 @@ use Rattle.std.proofs.Common.{◌≡◌, ◌∙◌, ℕ, List, ap, refl, subst, 
 use Rattle.std.proofs.Math.Logic.{∥∥₁_elim, ∥∥₁_map, ∥∥₁_prop}
 use Rattle.base.specs.disk.Disk.{bytes_of}
 use Rattle.base.specs.formats.Geometry.{block_count}
-use Rattle.object_maps.specs.CachedDevices.{device_in}
+use Rattle.block_cache.specs.CachedDevices.{device_in}
 use Rattle.pool_tables.specs.Shows.{pool_shown}
 use Rattle.pool_tables.specs.Told.{pool_told}
 use Rattle.pool_core.proofs.NewStates.{explained_as, held_as, mounted_within}

@@ -14,7 +14,7 @@ use Rattle.intent_log.specs.RunLogs.{IsLogOf, KeepsHeader}
 use Rattle.base.specs.steps.Shown.{Shown}
 use Rattle.base.specs.steps.Steps.{Commit}
 use Rattle.pool_tables.specs.Meets.{MayCommit, MeetsExplained}
-use Rattle.transactions.specs.declared.record.Record.{Record}
+use Rattle.records.specs.declared.record.Record.{Record}
 use Rattle.pool_tables.specs.Entries.{shown_after_entry}
 use Rattle.pool_tables.specs.Unsynced.{KeepsUnsynced}
 use Rattle.labels.specs.declared.stage.Stage.TheVariants.{Even}

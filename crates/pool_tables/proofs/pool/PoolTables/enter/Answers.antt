@@ -15,7 +15,7 @@ use Rattle.groups.specs.CountedLines.{CountedLine, after_release}
 use Rattle.groups.specs.Laws.{AreHoldsExact}
 use Rattle.throttle.proofs.OpenCharges.{stay_charged}
 use Rattle.throttle.specs.Blocks.{AreSumsOn}
-use Rattle.transactions.specs.declared.record.Record.{Record}
+use Rattle.records.specs.declared.record.Record.{Record}
 use Rattle.pool_tables.specs.Entries.{shown_after_entry}
 use Rattle.labels.specs.declared.stage.Stage.TheVariants.{Even}
 use Rattle.sync.specs.GroupLabels.{stages_for}

@@ -6,7 +6,7 @@ use Rattle.base.specs.formats.Geometry.{block_count}
 use Rattle.base.specs.steps.Exact.{log_addresses}
 use Rattle.base.specs.steps.Logs.{Log}
 use Rattle.groups.specs.CountedLines.{counted_behind}
-use Rattle.transactions.specs.declared.record.Record.{Record}
+use Rattle.records.specs.declared.record.Record.{Record}
 use Rattle.intent_log.proofs.RunLogs.{first_log}
 use Rattle.throttle.specs.Blocks.{blocks_in}
 use Rattle.throttle.proofs.BlockSums.{blocks_of-empty}

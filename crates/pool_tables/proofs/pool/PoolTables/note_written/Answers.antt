@@ -8,7 +8,7 @@ use Rattle.intent_log.specs.Fillings.{taken_of}
 use Rattle.intent_log.specs.Kept.{header_fields, log_shown}
 use Rattle.intent_log.specs.RunLogs.{IsLogOf}
 use Rattle.intent_log.proofs.RunLogs.{written_log}
-use Rattle.transactions.specs.declared.record.Record.{Record}
+use Rattle.records.specs.declared.record.Record.{Record}
 use Rattle.pool_tables.specs.Shows.{pool_shown}
 use Rattle.pool_tables.specs.Unsynced.{KeepsUnsynced}
 use Rattle.pool_tables.proofs.LogSteps.{placed_logged}

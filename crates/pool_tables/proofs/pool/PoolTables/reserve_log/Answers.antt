@@ -5,7 +5,7 @@ use Rattle.base.specs.steps.Logs.{Log}
 use Rattle.group_plans.specs.Areas.{AreBlocksOf}
 use Rattle.intent_log.specs.Kept.{RunLog, header_fields, log_shown}
 use Rattle.intent_log.specs.RunLogs.{IsLogOf, KeepsHeader}
-use Rattle.transactions.specs.declared.record.Record.{Record}
+use Rattle.records.specs.declared.record.Record.{Record}
 use Rattle.pool_tables.specs.Unsynced.{KeepsUnsynced}
 use Rattle.pool_tables.proofs.pool.PoolTables.reserve_log.Goals as goal
 

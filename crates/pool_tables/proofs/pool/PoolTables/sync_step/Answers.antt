@@ -18,7 +18,7 @@ use Rattle.space.specs.FreeSets.{FreeSpace}
 use Rattle.pool_tables.proofs.FreeBlocks.{union_both}
 use Rattle.pool_tables.proofs.UnsyncedChanges.{open_three, same_contents, synced_changes, synced_names, synced_within, syncing_follows}
 use Rattle.base.specs.steps.Logs.{log_after_sync}
-use Rattle.transactions.specs.declared.record.Record as code
+use Rattle.records.specs.declared.record.Record as code
 use Rattle.std.proofs.lemmas.List.Elements.{All-filter}
 use Rattle.pool_tables.proofs.syncs.SameSyncs.{RunsIn, as_many, counted_still, kept_sync, left_as_before, more_left, one_left, one_less, refused_as, runs_on}
 use Rattle.base.specs.disk.Disk.{bytes_of}

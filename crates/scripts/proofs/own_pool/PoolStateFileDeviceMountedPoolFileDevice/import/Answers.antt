@@ -18,5 +18,5 @@ pub returns-in-Ok-clause-begun : goal.returns-in-Ok-clause-begun
 returns-in-Ok-clause-begun g c = λ keep past was.
     let i = c.in-Ok.imported in
     subst (λ n. ∥ BeginsRun past n c.new.result ∥₁) c.in-Ok.ensures.run.limit
-    (begins_run keep past c.args.device.disk i.mounted i.cache.cap i.device c.new.result was (c.in-Ok.ensures.starts keep) (ap (λ (b : Bool). size_of b i.device) (sym keep) ∙ i.sized)
+    (begins_run keep past c.args.device.disk i.mounted i.cache.cap i.device c.new.result was (c.in-Ok.ensures.starts keep) (c.in-Ok.ensures.own keep) (ap (λ (b : Bool). size_of b i.device) (sym keep) ∙ i.sized)
     (record { device_is = c.new.ensures.device; cache_is = c.new.ensures.cache; shown_is = c.new.ensures.shown }) (∥∥₁_map c.new.ensures.held (λ held. held keep)) c.new.ensures.safe)

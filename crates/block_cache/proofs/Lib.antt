@@ -1,0 +1,2 @@
+pub mod CachedBlocks
+pub mod CachedDisks

@@ -1,0 +1,2 @@
+pub mod CachedEntries
+pub mod CachedDevices

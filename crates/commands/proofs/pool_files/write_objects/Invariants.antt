@@ -1,9 +1,0 @@
-use Rattle.std.proofs.Common.{◌≡◌, ◌++◌, ℕ, List, drop}
-use Rattle.std.specs.Io.KnownBytes.{Appends}
-use Rattle.commands.specs.PoolLines.{object_lines}
-use Rattle.commands.proofs.pool_files.write_objects.Given as goal
-
--- the lines so far are written, and those of the objects that are left follow
-abbrev pub invariant-loop-object : goal.invariant-loop-object
-invariant-loop-object g l = (front : List ℕ) × Appends (g.W.Write.contents l.fn.out) (g.W.Write.contents l.out) front
-    × (object_lines l.fn.objects ≡ front ++ object_lines (drop l.object-index l.fn.objects))

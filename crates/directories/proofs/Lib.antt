@@ -1,6 +1,0 @@
-pub mod DirectoryClients
-pub mod NameLengths
-pub mod NamesFound
-pub mod Renamed
-pub mod SlotBytes
-pub mod WrittenSlots

@@ -1,5 +1,0 @@
-use Rattle.directories.proofs.DirectoryClients.{found_some}
-use Rattle.directories.proofs.clients.a_name_has_one_number.Goals as goal
-
-pub returns : goal.returns
-returns c = found_some c.args.directory.now c.args.name.now 5 c.find.result c.find.ensures.only c.find.ensures.none c.requires

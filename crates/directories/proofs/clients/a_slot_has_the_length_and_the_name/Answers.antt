@@ -1,7 +1,0 @@
-use Rattle.std.proofs.Common.{ℕ, List, ap, take}
-use Rattle.directories.specs.Slots.{slot_bytes}
-use Rattle.directories.proofs.clients.a_slot_has_the_length_and_the_name.Goals as goal
-
-pub returns : goal.returns
-unfolding slot_bytes
-returns c = ap (λ (l : List ℕ). take 5 l) c.slot_of.ensures

@@ -1,5 +1,0 @@
-use Rattle.directories.proofs.Renamed.{slots-change_one_name}
-use Rattle.directories.proofs.laws.slots_change_one_name.Goals as goal
-
-pub returns : goal.returns
-returns c = slots-change_one_name

@@ -1,6 +1,0 @@
-use Rattle.directories.proofs.SlotBytes.{header-put}
-use Rattle.std.proofs.Common.{◌∙◌}
-use Rattle.directories.proofs.slot.header_slot.Goals as goal
-
-pub returns : goal.returns
-returns c = c.write_bytes.ensures ∙ header-put

@@ -1,4 +1,0 @@
-pub mod Names
-pub mod Slots
-pub mod Directories
-pub mod Laws

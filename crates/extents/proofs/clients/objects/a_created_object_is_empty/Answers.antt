@@ -1,4 +1,0 @@
-use Rattle.extents.proofs.clients.objects.a_created_object_is_empty.Goals as goal
-
-pub returns : goal.returns
-returns c = c.create.ensures.written 0

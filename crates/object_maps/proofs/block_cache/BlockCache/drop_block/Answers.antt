@@ -1,6 +1,0 @@
-use Rattle.std.specs.List.{IsDistinct}
-use Rattle.object_maps.proofs.block_cache.BlockCache.drop_block.Goals as goal
-
-pub returns-in_default-clause-distinct : goal.returns-in_default-clause-distinct
-unfolding IsDistinct
-returns-in_default-clause-distinct c = rw (← c.self.view_is, c.in_default.is) tt

@@ -1,0 +1,5 @@
+//! What callers of `extents` rest on: what unsynced groups change of objects, and reads over it.
+
+mod groups;
+mod objects;
+mod reads;

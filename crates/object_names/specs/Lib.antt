@@ -1,0 +1,4 @@
+pub mod Names
+pub mod Slots
+pub mod NameTables
+pub mod Laws

@@ -1,0 +1,80 @@
+-- What `create`, `show` and `ls` write is of the pool that was made, or of what was found.
+use Rattle.std.proofs.Common.{◌≡◌, ◌++◌, ◌+◌, ◌<◌, ap, append_assoc, drop, get_or, length, map, ℕ, List, [], ◌∷◌, Result, Ok, Err, IsTrue, refl, subst, sym, ◌∙◌}
+use Rattle.std.specs.FinMap as finite
+use Rattle.std.specs.Fmt.{digits}
+use Rattle.std.specs.Io.KnownBytes.{Appends}
+use Rattle.std.specs.Prelude.{IfOk, Option, Some, codes}
+use Rattle.std.proofs.KnownBytes.{Appends-trans}
+use Rattle.std.proofs.lemmas.List.{drop_more}
+use Rattle.base.specs.tree.Mount.{MountsTo}
+use Rattle.base.specs.declared.names.ObjectId.{ObjectId}
+use Rattle.base.specs.disk.Disk.{bytes_of}
+use Rattle.base.specs.formats.Geometry.{block_count}
+use Rattle.base.specs.history.Contents.{Contents}
+use Rattle.base.proofs.crash.OneMount.{mounts_agree}
+use Rattle.device_model.specs.declared.device.SectorDevice.{Ghosts}
+use Rattle.device_model.specs.declared.held_file.FileRefusal.{FileRefusal}
+use Rattle.inspections.specs.Inspections.{AgreesWithImports, IsInspectionOf, IsToldOf}
+use Rattle.inspections.specs.declared.inspection.Inspected.{Inspected}
+use Rattle.read_commands.specs.Failures.{sector_bytes}
+use Rattle.read_commands.specs.PoolLines.{WritesInspected, created_line, listed_lines, object_line, object_lines, shown_lines}
+use Rattle.read_commands.proofs.MountedBytes.{appended}
+
+-- one line more is written
+pub next_object : (all : List (ObjectId × ℕ)) (i : ℕ) (d : ObjectId × ℕ) (before now after : Option (List ℕ)) (front : List ℕ) → i < length all → Appends before now front
+    → object_lines all ≡ front ++ object_lines (drop i all) → Appends now after (object_line (get_or all i d))
+    → (lines : List ℕ) × Appends before after lines × (object_lines all ≡ lines ++ object_lines (drop (i + 1) all))
+next_object all i d before now after front within written left line =
+    let object = get_or all i d in (
+      front ++ object_line object,
+      Appends-trans before now after front (object_line object) written line,
+      left ∙ ap (λ (l : List (ObjectId × ℕ)). front ++ object_lines l) (drop_more all i d within) ∙ sym (append_assoc front (object_line object) (object_lines (drop (i + 1) all))),
+    )
+
+-- the lines of what was found on a device that was opened are written
+pub inspected_written : {Dev : Type 0} (D : Ghosts Dev) (lines : Inspected → List ℕ) (i : Inspected) (before after : Option (List ℕ)) → Appends before after (lines i)
+    → (opened : Result Dev FileRefusal) → IfOk opened (λ device. IsTrue D.keeps_model → IsInspectionOf (bytes_of (D.disk device).now) i)
+    → IfOk opened (λ device. IsTrue D.keeps_model → AgreesWithImports (bytes_of (D.disk device).now) i)
+    → IfOk opened (λ device. WritesInspected (IsTrue D.keeps_model) (bytes_of (D.disk device).now) lines before after)
+inspected_written D lines i before after writes (Ok device) mounted agrees = record { inspected = i; mounted = mounted; agrees = agrees; writes = writes }
+inspected_written D lines i before after writes (Err e) mounted agrees = tt
+
+-- an image mounts one contents, so an inspection of it is told of any that it mounts
+told_of : (image : List ℕ) (i : Inspected) → IsInspectionOf image i → (contents : Contents) → MountsTo image contents → IsToldOf i contents
+told_of image i (other, told, is) contents (u, chain, mounts) =
+    let (same_u, same_chain, same) = mounts_agree image is.u u is.chain chain other contents is.mounts mounts in
+    subst (IsToldOf i) same told
+
+seven_line : object_lines ((record { 0 = 7 }, 2) ∷ []) ≡ codes "7 2\n"
+unfolding digits
+seven_line = refl
+
+-- what is listed of an image with one object of two bytes, where there were no bytes before
+pub two_listed : (keeps : Type 0) (image : List ℕ) (before after : Option (List ℕ)) → keeps → (contents : Contents) → MountsTo image contents
+    → finite.entries contents.objects ≡ (7, 10 ∷ 11 ∷ []) ∷ [] → before ≡ Some [] → WritesInspected keeps image listed_lines before after → after ≡ Some (codes "7 2\n")
+two_listed keeps image before after kept contents mounts alone empty w =
+    let told = told_of image w.inspected (w.mounted kept) contents mounts in
+    let row : ℕ × List ℕ → ObjectId × ℕ = λ e. (record { 0 = e.0 }, length e.1) in
+    appended after (listed_lines w.inspected) (subst (λ (b : Option (List ℕ)). Appends b after (listed_lines w.inspected)) empty w.writes)
+    ∙ ap (λ (l : List (ObjectId × ℕ)). Some (object_lines l)) (told.objects_are ∙ ap (map row) alone) ∙ ap Some seven_line
+
+-- lines with this name begin with it
+begins : (name rest more : List ℕ) → name ≡ codes "tank" → (codes "name " ++ (name ++ (codes "\nguid " ++ rest))) ++ more ≡ codes "name tank\nguid " ++ (rest ++ more)
+begins name rest more tank = ap (λ (n : List ℕ). (codes "name " ++ (n ++ (codes "\nguid " ++ rest))) ++ more) tank
+
+-- what is shown of an image with a pool of this name begins with it
+pub tank_shown : (keeps : Type 0) (image : List ℕ) (before after : Option (List ℕ)) → keeps → (contents : Contents) → MountsTo image contents
+    → contents.name ≡ codes "tank" → before ≡ Some [] → WritesInspected keeps image shown_lines before after → (rest : List ℕ) × (after ≡ Some (codes "name tank\nguid " ++ rest))
+tank_shown keeps image before after kept contents mounts tank empty w =
+    let told = told_of image w.inspected (w.mounted kept) contents mounts in
+    let is = appended after (shown_lines w.inspected) (subst (λ (b : Option (List ℕ)). Appends b after (shown_lines w.inspected)) empty w.writes) in
+    (_, is ∙ ap Some (begins w.inspected.name _ (listed_lines w.inspected) (told.name_is ∙ tank)))
+
+-- the line of a new pool of 8 MiB
+tank_line : created_line (codes "tank") (block_count (sector_bytes 8388608)) ≡ codes "created tank 896 blocks\n"
+unfolding digits
+tank_line = refl
+
+pub tank_created : (before after : Option (List ℕ)) → before ≡ Some [] → Appends before after (created_line (codes "tank") (block_count (sector_bytes 8388608)))
+    → after ≡ Some (codes "created tank 896 blocks\n")
+tank_created before after empty writes = appended after _ (subst (λ (b : Option (List ℕ)). Appends b after (created_line (codes "tank") (block_count (sector_bytes 8388608)))) empty writes) ∙ ap Some tank_line

@@ -1,0 +1,13 @@
+use Rattle.std.specs.Io.KnownBytes.{Appends}
+use Rattle.std.specs.Prelude.{IsTrue}
+use Rattle.base.specs.disk.Disk.{bytes_of}
+use Rattle.read_commands.specs.Reads.{IsMountedRange, asked_range}
+use Rattle.read_commands.proofs.MountedBytes.{read_and_written}
+use Rattle.read_commands.proofs.reads.run_get.Goals as goal
+
+pub returns-in-Ok-clause-written : goal.returns-in-Ok-clause-written
+returns-in-Ok-clause-written g c = λ zero.
+    read_and_written (IsTrue g.D.SectorDevice.keeps_model)
+    (λ device. IsMountedRange (bytes_of (g.D.SectorDevice.disk device).now) c.args.arguments.object (asked_range c.args.arguments))
+    (Appends (g.W.Write.contents c.args.out.now) (g.W.Write.contents c.write_read.new.out))
+    c.args.opened c.get_bytes-read.result.0 c.get_bytes-read.ensures.bytes c.in-Ok.ensures.written

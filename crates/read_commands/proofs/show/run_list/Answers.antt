@@ -1,0 +1,13 @@
+use Rattle.std.proofs.Common.{subst}
+use Rattle.std.specs.Io.KnownBytes.{Appends}
+use Rattle.read_commands.specs.PoolLines.{listed_lines, object_lines}
+use Rattle.read_commands.proofs.PoolLines.{inspected_written}
+use Rattle.read_commands.proofs.show.run_list.Goals as goal
+
+pub returns-in-Ok-write_objects-clause-listed : goal.returns-in-Ok-write_objects-clause-listed
+returns-in-Ok-write_objects-clause-listed g c = λ zero.
+    let before = g.W.Write.contents c.args.out.now in
+    let after = g.W.Write.contents c.write_objects.new.out in
+    inspected_written g.D.SectorDevice listed_lines c.in-Ok.inspected before after
+    (subst (λ l. Appends before after (object_lines l)) c.deref.ensures.value c.in-Ok-write_objects.ensures.written)
+    c.args.opened.now c.in-Ok.ensures.mounted c.in-Ok.ensures.agrees

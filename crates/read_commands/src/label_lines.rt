@@ -1,0 +1,292 @@
+//! The command `labels`: what each of the four labels of a device holds, and which uberblock is active. It only reads.
+//!
+//! So it says something of a file that holds no pool too: a config is there but for a file of another size, or none is.
+
+ghost use Rattle.std.specs.Prelude.{◌≡◌, ◌≢◌, ◌≤◌, ◌<◌, ◌*◌, ◌⊎◌, Err, IfErr, IfOk, IsErr, IsTrue, OnOk, length, vec_len};
+ghost use Rattle.base.specs.disk.Disk.{bytes_of};
+ghost use Rattle.base.specs.formats.Geometry.{IsGeometry};
+ghost use Rattle.device_model.specs.Reading.{OnlyReads};
+ghost use Rattle.read_commands.specs.Checks.{IsCheckRefusal, StaysOpened};
+ghost use Rattle.read_commands.specs.FoundLabels.{IsReasonOf, IsStateOf, config_bytes_at, state_of};
+ghost use Rattle.uberblocks.specs.Rings.{ring_size};
+
+use crate::failure::{Failure, NotesRefusals, report_failure};
+use base::{BLOCK_SIZE, Group, PoolError, are_zeros, read_u64};
+use command_arguments::Verbosity;
+use device_model::{FileRefusal, SectorDevice};
+use labels::{ARRAY_AT, Geometry, LabelConfig};
+use std::alloc::Global;
+use std::io::{self, Write};
+use uberblocks::{ARRAY_SIZE, LABEL_COUNT, SLOT_COUNT, SLOT_SIZE, Uberblock, active, slot};
+
+/// Where the block of a config has the size of its device.
+const SIZE_AT: usize = 72;
+
+/// Writes to `out` what the labels of a device hold, and returns the exit status. It only reads the file: it makes no
+/// write and no flush, whatever it returns.
+///
+/// The status is 0 if it was written, whatever the labels hold. It is 1 if the engine refused it: `NoMemory`, `Read`,
+/// or `BadGeometry` if no pool may have the file's size. It is 3 if the file was not opened as a device or `out` can't
+/// be written. A failure is reported on `errors`.
+pub fn run_labels<D: SectorDevice + NotesRefusals, W: Write, E: Write>(
+    alloc: Global,
+    file: &str,
+    verbosity: Verbosity,
+    opened: &mut Result<D, FileRefusal>,
+    out: &mut W,
+    errors: &mut E,
+) -> u8
+    ensures only_read { StaysOpened D.SectorDevice opened.old opened.new }
+    ensures unusable { IsErr opened.old → result ≡ 3 }
+    ensures size { IfOk opened.old (λ device. (IsGeometry (D.size device) → ⊥) → result ≡ 1) }
+    ensures range { result ≤ 3 }
+    ensures no_usage { result ≢ 2 }
+{
+    match show_labels(alloc, opened, out) {
+        Ok(()) => 0,
+        Err(failure) => report_failure(failure, file, verbosity, errors),
+    }
+}
+
+fn show_labels<D: SectorDevice + NotesRefusals, W: Write>(
+    alloc: Global,
+    opened: &mut Result<D, FileRefusal>,
+    out: &mut W,
+) -> Result<(), Failure>
+    ensures only_read { StaysOpened D.SectorDevice opened.old opened.new }
+    ensures unusable { IfErr opened.old (λ cause. result ≡ Err (Failure.Unusable cause)) }
+    ensures size { IfOk opened.old (λ device. (IsGeometry (D.size device) → ⊥)
+        → result ≡ Err (Failure.Refused PoolError.BadGeometry)) }
+{
+    let device = match opened {
+        Ok(device) => device,
+        Err(cause) => return Err(Failure::Unusable(*cause)),
+    };
+    let labels = match read_labels(alloc, device) {
+        Ok(labels) => labels,
+        Err(refusal) => return Err(Failure::of_pool(refusal, device)),
+    };
+    match write_labels(&labels, out) {
+        Ok(()) => Ok(()),
+        Err(_) => Err(Failure::Unwritten),
+    }
+}
+
+// The four configs, and the uberblock arrays of the four labels, which follow one another.
+#[derive(Drop)]
+struct Labels {
+    configs: [ConfigFound; 4],
+    ring: Vec<u8>,
+    ghost size: { vec_len ring ≡ ring_size },
+}
+
+/// What stands in the place of a config.
+#[derive(Drop)]
+pub(crate) enum ConfigFound {
+    /// A valid config.
+    Config(LabelConfig),
+    /// A config of a device of another size.
+    OfSize(u64),
+    /// Zeros.
+    Zeros,
+    /// Anything else.
+    Unchecked,
+}
+
+fn read_labels<D: SectorDevice>(alloc: Global, device: &mut D) -> Result<Labels, PoolError>
+    ensures reads { OnlyReads D.SectorDevice result device.old device.new }
+    ensures sized { OnOk result (IsGeometry (D.size device.old)) }
+    ensures refused { IfErr result (IsCheckRefusal (D.size device.old)) }
+{
+    let geometry = Geometry::of(device.sectors())?;
+    let ring = read_ring(alloc, device, geometry)?;
+    let configs = read_configs(device, geometry)?;
+    Ok(Labels { configs, ring })
+}
+
+// The uberblock arrays of the four labels.
+fn read_ring<D: SectorDevice>(
+    alloc: Global,
+    device: &mut D,
+    geometry: Geometry,
+) -> Result<Vec<u8>, PoolError>
+    requires { D.size device.old ≡ geometry }
+    ensures reads { OnlyReads D.SectorDevice result device.old device.new }
+    ensures length { IfOk result (λ ring. vec_len ring ≡ ring_size) }
+    ensures refused { IfErr result (λ e. (e ≡ PoolError.NoMemory) ⊎ (e ≡ PoolError.Read)) }
+{
+    let mut ring = blank(alloc, LABEL_COUNT * ARRAY_SIZE)?;
+    for label in 0..LABEL_COUNT {
+        read_array(device, geometry, label, ring.as_mut_slice())?;
+    }
+    Ok(ring)
+}
+
+fn blank(alloc: Global, size: usize) -> Result<Vec<u8>, PoolError>
+    ensures size { IfOk result (λ bytes. vec_len bytes ≡ size) }
+    ensures refused { IfErr result (λ e. e ≡ PoolError.NoMemory) }
+{
+    Ok(vec![in alloc; 0u8; size]?)
+}
+
+fn read_array<D: SectorDevice>(
+    device: &mut D,
+    geometry: Geometry,
+    label: usize,
+    ring: &mut [u8],
+) -> Result<(), PoolError>
+    requires sized { D.size device.old ≡ geometry }
+    requires label { label < 4 }
+    requires ring { length ring.old ≡ ring_size }
+    ensures reads { OnlyReads D.SectorDevice result device.old device.new }
+    ensures refused { IfErr result (λ e. e ≡ PoolError.Read) }
+    ensures length { length ring.new ≡ ring_size }
+{
+    let at = geometry.label_place(label) + ARRAY_AT;
+    device.read(at, &mut ring[ARRAY_SIZE * label..ARRAY_SIZE * (label + 1)])
+}
+
+// What stands in the places of the four configs.
+fn read_configs<D: SectorDevice>(
+    device: &mut D,
+    geometry: Geometry,
+) -> Result<[ConfigFound; 4], PoolError>
+    requires { D.size device.old ≡ geometry }
+    ensures reads { OnlyReads D.SectorDevice result device.old device.new }
+    ensures refused { IfErr result (λ e. e ≡ PoolError.Read) }
+{
+    Ok([
+        read_config(device, geometry, 0)?,
+        read_config(device, geometry, 1)?,
+        read_config(device, geometry, 2)?,
+        read_config(device, geometry, 3)?,
+    ])
+}
+
+/// What stands in the place of a label's config. It makes no write and no flush.
+///
+/// # Errors
+/// `Read` if the device refuses one.
+pub(crate) fn read_config<D: SectorDevice>(
+    device: &mut D,
+    geometry: Geometry,
+    label: usize,
+) -> Result<ConfigFound, PoolError>
+    requires sized { D.size device.old ≡ geometry }
+    requires label { label < 4 }
+    ensures reads { OnlyReads D.SectorDevice result device.old device.new }
+    ensures refused { IfErr result (λ e. e ≡ PoolError.Read) }
+    ensures found { IsTrue D.keeps_model → IfOk result (λ f. IsStateOf
+        (config_bytes_at (bytes_of (D.disk device.old).now) label)
+        (length (bytes_of (D.disk device.old).now)) (state_of f)) }
+{
+    let mut block = [0; BLOCK_SIZE];
+    device.read(geometry.config_place(label), &mut block[..])?;
+    Ok(find_config(&block, geometry.size()))
+}
+
+// What a block is as the config of a device of this size.
+fn find_config(block: &[u8; BLOCK_SIZE], size: u64) -> ConfigFound
+    ensures { IsStateOf block.now size (state_of result) }
+{
+    match LabelConfig::decode(block, size) {
+        Some(config) => ConfigFound::Config(config),
+        None => find_reason(block),
+    }
+}
+
+// Why a block is no valid config.
+fn find_reason(block: &[u8; BLOCK_SIZE]) -> ConfigFound
+    ensures { IsReasonOf block.now (state_of result) }
+{
+    let other = read_u64(block, SIZE_AT);
+    match LabelConfig::decode(block, other) {
+        Some(_) => ConfigFound::OfSize(other),
+        None => find_contents(block),
+    }
+}
+
+// Whether a block is zeros.
+fn find_contents(block: &[u8; BLOCK_SIZE]) -> ConfigFound
+    ensures { IsReasonOf block.now (state_of result) }
+{
+    if are_zeros(block) {
+        ConfigFound::Zeros
+    } else {
+        ConfigFound::Unchecked
+    }
+}
+
+fn write_labels<W: Write>(labels: &Labels, out: &mut W) -> io::Result<()> {
+    for label in 0..LABEL_COUNT {
+        write!(out, "label {label} config ")?;
+        write_config(&labels.configs[label], out)?;
+        write_ring(label, &labels.ring, out)?;
+    }
+    write_active(&labels.ring, out)
+}
+
+fn write_config<W: Write>(config: &ConfigFound, out: &mut W) -> io::Result<()> {
+    match config {
+        ConfigFound::Config(config) => {
+            let (name, group) = (config.name(), config.group());
+            writeln!(out, "{name} {} {group} {}", config.guid(), config.size())
+        }
+        ConfigFound::OfSize(size) => writeln!(out, "none size {size}"),
+        ConfigFound::Zeros => writeln!(out, "none zeros"),
+        ConfigFound::Unchecked => writeln!(out, "none check"),
+    }
+}
+
+// How many uberblocks a label has, and the highest group of these.
+fn write_ring<W: Write>(label: usize, ring: &[u8], out: &mut W) -> io::Result<()>
+    requires label { label < 4 }
+    requires ring { length ring.now ≡ ring_size }
+{
+    let mut count: usize = 0;
+    let mut highest = Group(0);
+    for position in 0..SLOT_COUNT {
+        if let Some(found) = uberblock_at(ring, label, position) {
+            count = count.saturating_add(1);
+            highest = highest.max(found.group);
+        }
+    }
+    if count == 0 {
+        return writeln!(out, "label {label} uberblocks 0");
+    }
+    writeln!(
+        out,
+        "label {label} uberblocks {count} highest {}",
+        highest.0
+    )
+}
+
+// The active uberblock, and the lowest label that has it.
+fn write_active<W: Write>(ring: &[u8], out: &mut W) -> io::Result<()>
+    requires { length ring.now ≡ ring_size }
+{
+    let Some(uberblock) = active(ring) else {
+        return writeln!(out, "active none");
+    };
+    let group = uberblock.group;
+    for label in 0..LABEL_COUNT {
+        if let Some(found) = uberblock_at(ring, label, slot(group)) {
+            if found.group == group {
+                return writeln!(out, "active {} of label {label}", group.0);
+            }
+        }
+    }
+    writeln!(out, "active {}", group.0)
+}
+
+// The uberblock in a slot of a label.
+fn uberblock_at(ring: &[u8], label: usize, position: usize) -> Option<Uberblock>
+    requires label { label < 4 }
+    requires position { position < 128 }
+    requires ring { length ring.now ≡ ring_size }
+{
+    let at = ARRAY_SIZE * label + SLOT_SIZE * position;
+    let mut bytes = [0; SLOT_SIZE];
+    bytes.copy_from_slice(&ring[at..at + SLOT_SIZE]);
+    Uberblock::decode(&bytes)
+}

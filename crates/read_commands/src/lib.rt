@@ -1,0 +1,27 @@
+//! The commands of the program `ztxg` that only read the pool in a file: it is shown, checked, or its objects and labels
+//! are listed, or the bytes of an object read. And why a command was not done, as each command reports it.
+//!
+//! The crate knows no command line: each command is given its arguments by a type of `command_arguments`.
+#![tactic(auto)]
+
+mod bad_number;
+mod check_all;
+mod checks;
+mod clients;
+mod failure;
+mod label_lines;
+mod label_states;
+mod names;
+mod reads;
+mod show;
+mod waiting;
+
+pub use bad_number::BadNumber;
+pub use check_all::{check_to_end, run_check_all};
+pub use checks::{Finding, check_pool, run_check};
+pub use failure::{Failure, NotesRefusals, report_failure, report_refusal};
+pub use label_lines::run_labels;
+pub use names::Quoted;
+pub use reads::run_get;
+pub use show::{run_list, run_show};
+pub use waiting::{NewFile, open_within};

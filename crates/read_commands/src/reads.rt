@@ -1,0 +1,149 @@
+//! The command `get`: the bytes of an object of the pool in a file, as an import would mount them. It only reads.
+
+ghost use Rattle.std.specs.Io.KnownBytes.{Appends};
+ghost use Rattle.std.specs.Prelude.{◌≡◌, ◌≢◌, ◌≤◌, Err, IfErr, IfOk, IsErr, IsOk, IsOkAnd, IsTrue, OnOk};
+ghost use Rattle.base.specs.disk.Disk.{bytes_of};
+ghost use Rattle.device_model.specs.Reading.{OnlyReads};
+ghost use Rattle.read_commands.specs.Checks.{StaysOpened};
+ghost use Rattle.read_commands.specs.Reads.{IsMountedRange, IsReadersRefusal, WritesMounted, asked_range};
+
+use crate::bad_number::BadNumber;
+use crate::failure::{Failure, NotesRefusals, report_failure};
+use base::{Bytes, MAX_LENGTH, ObjectId, PoolError, Range};
+use block_cache::{BlockCache, CachedDevice};
+use command_arguments::{GetArguments, Verbosity};
+use device_model::{FileRefusal, SectorDevice};
+use inspections::view_pool;
+use object_maps::BlockReader;
+use std::alloc::Global;
+use std::io::Write;
+use std::num::NonZeroUsize;
+
+/// Writes to `out` the bytes of an object of the pool in a file, and nothing else. Returns the exit status, and what
+/// was opened. It only reads the file: it makes no write and no flush, whatever it returns.
+///
+/// The status is 0 if all was written. It is 1 if the engine refused it, as it does if there is no such object, and 3
+/// if the file was not opened as a device or `out` can't be written. A failure is reported on `errors`. Nothing is
+/// written to `out` if a block can't be read.
+pub fn run_get<D: SectorDevice + NotesRefusals, W: Write, E: Write>(
+    alloc: Global,
+    arguments: GetArguments<'_>,
+    verbosity: Verbosity,
+    opened: Result<D, FileRefusal>,
+    out: &mut W,
+    errors: &mut E,
+) -> (u8, Result<D, FileRefusal>)
+    ensures only_read { StaysOpened D.SectorDevice opened result.1 }
+    ensures unusable { IsErr opened → result.0 ≡ 3 }
+    ensures written { result.0 ≡ 0 → IfOk opened (λ device. IsTrue D.keeps_model
+        → WritesMounted (bytes_of (D.disk device).now) arguments.entry.object
+        (asked_range arguments.entry) (W.contents out.old) (W.contents out.new)) }
+    ensures unprinted { result.0 ≡ 1 → W.contents out.new ≡ W.contents out.old }
+    ensures range { result.0 ≤ 3 }
+    ensures no_usage { result.0 ≢ 2 }
+{
+    let (read, opened) = get_bytes(alloc, arguments, opened);
+    match write_read(read, out) {
+        Ok(()) => (0, opened),
+        Err(failure) => (
+            report_failure(failure, arguments.file, verbosity, errors),
+            opened,
+        ),
+    }
+}
+
+// Writes the bytes that were read, if they were.
+fn write_read<W: Write>(read: Result<Bytes, Failure>, out: &mut W) -> Result<(), Failure>
+    ensures written { OnOk result
+        (IsOkAnd read (Appends (W.contents out.old) (W.contents out.new))) }
+    ensures failed { IfErr read (λ failure. result ≡ Err failure) }
+    ensures unwritten { IsOk read → IfErr result (λ failure. failure ≡ Failure.Unwritten) }
+    ensures unprinted { IsErr read → W.contents out.new ≡ W.contents out.old }
+{
+    let bytes = match read {
+        Ok(bytes) => bytes,
+        Err(failure) => return Err(failure),
+    };
+    match out.write_all(bytes.as_slice()) {
+        Ok(()) => Ok(()),
+        Err(_) => Err(Failure::Unwritten),
+    }
+}
+
+fn get_bytes<D: SectorDevice + NotesRefusals>(
+    alloc: Global,
+    arguments: GetArguments<'_>,
+    opened: Result<D, FileRefusal>,
+) -> (Result<Bytes, Failure>, Result<D, FileRefusal>)
+    ensures only_read { StaysOpened D.SectorDevice opened result.1 }
+    ensures unusable { IfErr opened (λ cause. result.0 ≡ Err (Failure.Unusable cause)) }
+    ensures bytes { IfOk opened (λ device. IsTrue D.keeps_model → IfOk result.0
+        (IsMountedRange (bytes_of (D.disk device).now) arguments.entry.object
+        (asked_range arguments.entry))) }
+{
+    let device = match opened {
+        Ok(device) => device,
+        Err(cause) => return (Err(Failure::Unusable(cause)), Err(cause)),
+    };
+    let cache = BlockCache::new(alloc, NonZeroUsize::MIN);
+    let mut reader = CachedDevice::new(device, cache);
+    let read = read_range(
+        alloc,
+        &mut reader,
+        ObjectId(arguments.object),
+        range_of(&arguments),
+    );
+    let (device, _) = reader.into_parts();
+    match read {
+        Ok(bytes) => (Ok(bytes), Ok(device)),
+        Err(refusal) => {
+            let failure = Failure::of_pool(refusal, &device).for_number(bad_number(&arguments));
+            (Err(failure), Ok(device))
+        }
+    }
+}
+
+// The first number of a read that is outside its limits.
+fn bad_number(arguments: &GetArguments<'_>) -> Option<BadNumber> {
+    let object = BadNumber::of_object(arguments.object);
+    if object.is_some() {
+        object
+    } else if arguments.offset >= MAX_LENGTH {
+        Some(BadNumber::Offset(arguments.offset))
+    } else if arguments.length == Some(0) {
+        Some(BadNumber::NoLength)
+    } else {
+        None
+    }
+}
+
+// The bytes of a range of an object in what an import would mount.
+fn read_range<B: BlockReader>(
+    alloc: Global,
+    reader: &mut B,
+    object: ObjectId,
+    range: Range,
+) -> Result<Bytes, PoolError>
+    ensures reads { OnlyReads B.SectorDevice result reader.old reader.new }
+    ensures bytes { IsTrue B.keeps_model → IfOk result
+        (IsMountedRange (bytes_of (B.disk reader.old).now) object.0 range) }
+    ensures refused { IfErr result IsReadersRefusal }
+{
+    let view = view_pool(alloc, reader)?;
+    view.read(reader, alloc, object, range)
+}
+
+// The range that is asked for, up to the last byte that an object may have. It has no byte if the offset is there or
+// above it.
+fn range_of(arguments: &GetArguments<'_>) -> Range
+    ensures { result ≡ asked_range arguments.now }
+{
+    let high = match arguments.length {
+        Some(length) => arguments.offset.saturating_add(length).min(MAX_LENGTH),
+        None => MAX_LENGTH,
+    };
+    Range {
+        low: arguments.offset,
+        high,
+    }
+}

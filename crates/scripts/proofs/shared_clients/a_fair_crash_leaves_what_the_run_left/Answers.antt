@@ -1,6 +1,0 @@
-use Rattle.scripts.proofs.LastLeft.{crash_leaves}
-use Rattle.scripts.proofs.Relations.{of_shared}
-use Rattle.scripts.proofs.shared_clients.a_fair_crash_leaves_what_the_run_left.Goals as goal
-
-pub returns : goal.returns
-returns g c = λ old past was run ok fair. crash_leaves (of_shared _) (λ shared device it. it) c.args.session.now old was c.args.pieces.items c.run.result c.run.new.self.place past ok run fair c.run.ensures.done

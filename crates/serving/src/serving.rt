@@ -1,0 +1,240 @@
+//! The command `serve`: it answers frames of requests to the pool in a file, so that programs in other languages use
+//! the engine. The loops that sync the pool run beside it, each in a thread of its own.
+
+ghost use Rattle.std.specs.Prelude.{◌≡◌, ◌≢◌, ◌≤◌, Err, IfErr, IfOk, IfSome, IsErr, IsOk, IsSome, Ok};
+ghost use Rattle.serving.specs.Serving.{IsUnopened, OpensOn, ServesOrRefuses, ServesPool, opening_of};
+ghost use Rattle.frames.specs.Openings.{bytes_of_opening};
+ghost use Rattle.pool_threads.specs.Handles.{opened_in, shared_of};
+
+use crate::unopened::{write_opening, write_unopened};
+use base::PoolError;
+use command_arguments::{ServeArguments, Verbosity};
+use device_model::{FileRefusal, SectorDevice};
+use frame_answers::{AnswerWriter, Ending, serve};
+use pool_loops::{Halt, work_beside_loops};
+use pool_threads::Pool;
+use read_commands::{BadNumber, Failure, NotesRefusals, report_failure};
+use script_lines::FAILED;
+use std::alloc::Global;
+use std::io::{Read, Write};
+use std::sync::Wait;
+use std::thread::Threads;
+
+/// Opens the pool on a device, says so by a frame, answers the frames of the input until it ends, syncs the pool, and
+/// returns the exit status, and the input and the output as they are then.
+///
+/// The first frame on the output says that the pool is open, or why it isn't. The status is 0 if the input ended after a
+/// whole frame, or after none, and the pool was synced. It is 1 if the engine refused to open or to sync the pool, and 3
+/// if the file was not opened as a device, if the input can't be read or ends within a frame, or if the output can't be
+/// written. A failure is reported on `errors`. What was answered is made, whatever the status. Only frames that stand
+/// whole in the input are made, from its beginning and in order, and the output has a front of the answers. If no
+/// threads can be made for the loops, the input and the output are dropped.
+pub fn run_serve<
+    R: Threads + Wait + Sync + AllocGlobal,
+    D: SectorDevice + NotesRefusals + Send + Drop,
+    I: Read + Drop,
+    O: Write + Drop,
+    E: Write,
+>(
+    rt: &R,
+    arguments: ServeArguments<'_>,
+    verbosity: Verbosity,
+    opened: Result<D, FileRefusal>,
+    input: I,
+    output: O,
+    errors: &mut E,
+) -> (u8, Option<(I, O)>)
+    ensures unusable { IsErr opened → result.0 ≡ 3 }
+    ensures served { IfSome result.1 (λ kept.
+        ServesOrRefuses D.SectorDevice opened arguments.entry result.0
+        (record { input = I.remaining input; output = O.contents output })
+        (record { input = I.remaining kept.0; output = O.contents kept.1 })) }
+    ensures kept { result.0 ≡ 0 → IsSome result.1 }
+    ensures range { result.0 ≤ 3 }
+    ensures no_usage { result.0 ≢ 2 }
+{
+    let alloc = rt.alloc();
+    let mut output = output;
+    let pool = match open_pool(alloc, arguments, opened) {
+        Ok(pool) => pool,
+        Err(failure) => {
+            write_unopened(alloc, &failure, &mut output);
+            let status = report_failure(failure, arguments.file, verbosity, errors);
+            return (status, Some((input, output)));
+        }
+    };
+    let (served, kept) = serve_pool(rt, alloc, pool, input, output);
+    let status = report_served(served, arguments.file, verbosity, errors);
+    (status, kept)
+}
+
+// Opens the pool on a device.
+fn open_pool<D: SectorDevice + NotesRefusals + Drop>(
+    alloc: Global,
+    arguments: ServeArguments<'_>,
+    opened: Result<D, FileRefusal>,
+) -> Result<Pool<D>, Failure>
+    ensures unusable { IfErr opened (λ cause. result ≡ Err (Failure.Unusable cause)) }
+    ensures opened { IfOk result (λ pool. IfOk opened (λ device.
+        OpensOn D.SectorDevice device arguments.entry pool)) }
+    ensures refused { IfErr result (λ failure. IfOk opened (λ device.
+        IsUnopened D.SectorDevice device arguments.entry failure)) }
+{
+    let device = match opened {
+        Ok(device) => device,
+        Err(cause) => return Err(Failure::Unusable(cause)),
+    };
+    let (dirty_max, cache_blocks) = (arguments.dirty_max, arguments.cache_blocks);
+    match Pool::open_with(alloc, device, dirty_max, cache_blocks, arguments.moment) {
+        Ok(pool) => Ok(pool),
+        Err((refusal, device)) => {
+            let number = BadNumber::of_limits(dirty_max, cache_blocks);
+            Err(Failure::of_pool(refusal, &device).for_number(number))
+        }
+    }
+}
+
+// Reports how a serve ended, unless it ended well, and returns the exit status.
+fn report_served<E: Write>(
+    served: Result<Ending, Failure>,
+    file: &str,
+    verbosity: Verbosity,
+    errors: &mut E,
+) -> u8
+    ensures done { result ≡ 0 → served ≡ Ok Ending.Done }
+    ensures range { result ≤ 3 }
+    ensures no_usage { result ≢ 2 }
+{
+    match served {
+        Ok(ending) => report_ending(ending, file, verbosity, errors),
+        Err(failure) => report_failure(failure, file, verbosity, errors),
+    }
+}
+
+// Reports how the frames ended, unless it was after a whole one, and returns the exit status.
+fn report_ending<E: Write>(ending: Ending, file: &str, verbosity: Verbosity, errors: &mut E) -> u8
+    ensures done { result ≡ 0 → ending ≡ Ending.Done }
+    ensures range { result ≤ 3 }
+    ensures no_usage { result ≢ 2 }
+{
+    match ending {
+        Ending::Done => 0,
+        Ending::CutOff => {
+            let _ = writeln!(errors, "ztxg: the input ended within a frame");
+            FAILED
+        }
+        Ending::ReadFailed | Ending::WriteFailed => FAILED,
+        Ending::NoMemory => {
+            let failure = Failure::Refused(PoolError::NoMemory);
+            report_failure(failure, file, verbosity, errors)
+        }
+    }
+}
+
+// Serves a pool, and closes it if that was refused, for the cause. `None` if no threads can be made.
+fn serve_pool<
+    R: Threads + Wait + Sync,
+    D: SectorDevice + NotesRefusals + Send + Drop,
+    I: Read + Drop,
+    O: Write + Drop,
+>(
+    rt: &R,
+    alloc: Global,
+    pool: Pool<D>,
+    input: I,
+    output: O,
+) -> (Result<Ending, Failure>, Option<(I, O)>)
+    ensures served { IfSome result.1 (λ kept. ServesPool (shared_of pool)
+        (bytes_of_opening (opening_of (opened_in pool))) result.0
+        (record { input = I.remaining input; output = O.contents output })
+        (record { input = I.remaining kept.0; output = O.contents kept.1 })) }
+    ensures kept { IsOk result.0 → IsSome result.1 }
+{
+    let (served, kept) = serve_beside_loops(rt, alloc, &pool, input, output);
+    match served {
+        Ok(ending) => (Ok(ending), kept),
+        Err(refusal) => (
+            Err(Failure::of_closed(refusal, &pool.close().map(|state| state.into_device()))),
+            kept,
+        ),
+    }
+}
+
+// Answers the frames beside the loops of the pool, and syncs it. `None` if no threads can be made.
+fn serve_beside_loops<
+    R: Threads + Wait + Sync,
+    D: SectorDevice + Send,
+    I: Read + Drop,
+    O: Write + Drop,
+>(
+    rt: &R,
+    alloc: Global,
+    pool: &Pool<D>,
+    input: I,
+    output: O,
+) -> (Result<Ending, PoolError>, Option<(I, O)>)
+    ensures served { IfSome result.1 (λ kept. ServesPool (shared_of pool.entry.now)
+        (bytes_of_opening (opening_of (opened_in pool.entry.now))) result.0
+        (record { input = I.remaining input; output = O.contents output })
+        (record { input = I.remaining kept.0; output = O.contents kept.1 })) }
+    ensures kept { IsOk result.0 → IsSome result.1 }
+{
+    let halt = Halt::new();
+    let (worked, looped) = work_beside_loops(rt, pool, &halt, move || {
+        serve_kept(rt, alloc, pool, input, output)
+    });
+    match worked {
+        Ok((served, input, output)) => (first_refusal(looped, served), Some((input, output))),
+        Err(refusal) => (Err(refusal), None),
+    }
+}
+
+// How it ended: the refusal of a loop comes first, unless it only follows from another.
+fn first_refusal(
+    looped: Result<(), PoolError>,
+    served: Result<Ending, PoolError>,
+) -> Result<Ending, PoolError>
+    ensures { IfOk result (λ ending. served ≡ Ok ending) }
+{
+    match (looped, served) {
+        (Ok(()), served) => served,
+        (Err(PoolError::Suspended), Err(refusal)) => Err(refusal),
+        (Err(refusal), _) => Err(refusal),
+    }
+}
+
+// Says that the pool is open. Then it makes a handle, answers the frames of the input by it, and syncs the pool. It
+// hands the input and the output back, whatever came of the serve.
+fn serve_kept<W: Wait, D: SectorDevice, I: Read + Drop, O: Write + Drop>(
+    rt: &W,
+    alloc: Global,
+    pool: &Pool<D>,
+    input: I,
+    output: O,
+) -> Result<(Result<Ending, PoolError>, I, O), PoolError>
+    ensures served { IfOk result (λ kept. ServesPool (shared_of pool.entry.now)
+        (bytes_of_opening (opening_of (opened_in pool.entry.now))) kept.0
+        (record { input = I.remaining input; output = O.contents output })
+        (record { input = I.remaining kept.1; output = O.contents kept.2 })) }
+{
+    let (mut input, mut output) = (input, output);
+    match write_opening(alloc, pool, &mut output) {
+        Ok(()) => {}
+        Err(ending) => return Ok((Ok(ending), input, output)),
+    }
+    let mut writer = AnswerWriter { output };
+    let mut handle = pool.handle();
+    let served = serve(&mut handle, rt, alloc, &mut input, &mut writer);
+    Ok((served, input, writer.output))
+}
+
+/// Reports on `errors` that frames are not written to a terminal, and returns the exit status.
+pub fn report_terminal<E: Write>(errors: &mut E) -> u8
+    ensures { result ≡ 3 }
+{
+    let _ = writeln!(
+        errors,
+        "ztxg: standard output is a terminal, and frames are not text"
+    );
+    FAILED
+}

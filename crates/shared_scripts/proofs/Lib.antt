@@ -1,0 +1,13 @@
+mod Asked
+mod CommandPlans
+mod InPools
+mod LastLeft
+mod Named
+mod OnDevice
+mod OneTurn
+mod OpenPlans
+mod Opened
+mod Relations
+mod SeenCommands
+mod SharedRuns
+mod Taken

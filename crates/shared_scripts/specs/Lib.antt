@@ -1,0 +1,4 @@
+pub mod Callers
+pub mod Plans
+pub mod SharedPools
+pub mod SharedRuns
