@@ -3,7 +3,6 @@
 #![tactic(auto)]
 
 mod block;
-mod clients;
 mod expected;
 mod frame;
 mod kind;

@@ -11,7 +11,7 @@ use Rattle.base.specs.declared.error.PoolError.TheVariants.{NoSpace, Read}
 use Rattle.base.specs.declared.names.ObjectId.{ObjectId}
 use Rattle.base.specs.declared.pointer.Pointer.{Pointer}
 use Rattle.base.specs.formats.Blocks.{Frame}
-use Rattle.base.specs.formats.Geometry.{block_count, block_size}
+use Rattle.base.specs.formats.Geometry.{AreBlocksOf, block_count, block_size}
 use Rattle.base.specs.formats.Limits.{object_count}
 use Rattle.base.specs.kept.Stored.{AreUsed}
 use Rattle.base.specs.kept.PlacedTrees.{ArePlaced}
@@ -40,7 +40,6 @@ use Rattle.tree_plans.specs.Marks.{AreChangesOf, pending_ops}
 use Rattle.tree_plans.specs.Plans.{AreApart, IsWant, address_of, new_block}
 use Rattle.tree_plans.specs.Pointers.{entry_of, entry_pointer_of}
 use Rattle.tree_plans.specs.Walks.{is_any_touched}
-use Rattle.group_plans.specs.Areas.{AreBlocksOf}
 use Rattle.tree_blocks.specs.SyncedTrees.{lengths_after, pointers_after}
 
 -- Some changes are those of the group's operations among records, on a tree with these entries. By them these blocks

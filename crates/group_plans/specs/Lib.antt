@@ -1,4 +1,3 @@
-pub mod Areas
 pub mod GroupPlans
 pub mod ReadPlans
 pub mod Prepared

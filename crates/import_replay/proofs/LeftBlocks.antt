@@ -8,13 +8,12 @@ use Rattle.std.specs.FinSet.{FinSet, contains-union}
 use Rattle.std.proofs.lemmas.Bool.{eq-eqb, eqb-true, false≢true, or_cases, or_parts}
 use Rattle.std.proofs.lemmas.Cmp.{nat_cmp_total}
 use Rattle.base.specs.declared.pointer.Pointer.{Pointer}
-use Rattle.base.specs.formats.Geometry.{IsBlockAddress, block_address}
+use Rattle.base.specs.formats.Geometry.{AreBlocksOf, IsBlockAddress, block_address, is_block_of}
 use Rattle.base.specs.tree.Places.{Place}
 use Rattle.base.proofs.common.KeptLists.{All-at}
 use Rattle.base.proofs.common.Choices.{and_not_parts, not_and_parts}
 use Rattle.base.proofs.stored.StoredSets.{IsAt, at-set, set-at}
-use Rattle.group_plans.specs.Areas.{AreBlocksOf, is_block_of}
-use Rattle.group_plans.proofs.PlannedBlocks.{block_of}
+use Rattle.base.proofs.formats.BlockTests.{block_of}
 use Rattle.trees.specs.FreeBlocks.{AreUnnamed}
 use Rattle.tree_blocks.specs.Pointers.{pointers_of}
 use Rattle.tree_blocks.specs.declared.tree.Tree.{Tree}

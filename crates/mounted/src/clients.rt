@@ -2,8 +2,7 @@
 //! alone. So it is refused as soon as that contract says less.
 
 ghost use Rattle.std.specs.Prelude.{◌≡◌, ◌∷◌, [], true};
-ghost use Rattle.base.specs.formats.Geometry.{block_count};
-ghost use Rattle.group_plans.specs.Areas.{AreBlocksOf};
+ghost use Rattle.base.specs.formats.Geometry.{AreBlocksOf, block_count};
 ghost use Rattle.space.specs.FreeSets.{is_free};
 
 use crate::given_blocks::give_all;

@@ -1,8 +1,7 @@
 //! Blocks that come back to the free ones.
 
 ghost use Rattle.std.specs.Prelude.{◌≡◌};
-ghost use Rattle.base.specs.formats.Geometry.{block_count};
-ghost use Rattle.group_plans.specs.Areas.{AreBlocksOf};
+ghost use Rattle.base.specs.formats.Geometry.{AreBlocksOf, block_count};
 ghost use Rattle.mounted.specs.GivenBlocks.{after_gives};
 
 use labels::Geometry;

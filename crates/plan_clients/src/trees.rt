@@ -93,7 +93,7 @@ fn a_written_strip_comes_before_the_end(changes: &ObjectChanges) {
 // A record that no operation came to stays as it is.
 fn a_record_without_operations_is_unchanged(alloc: Global) {
     let changes = ObjectChanges::none(alloc, 5_000);
-    prove!(changes.state(1) == RecordState::Unchanged);
+    prove!(matches!(changes.state(1), RecordState::Unchanged));
 }
 
 // Operations of group 5 change nothing in group 6.

@@ -38,7 +38,6 @@
 #![tactic(auto)]
 
 pub mod calls;
-mod clients;
 mod group_sync;
 mod laws;
 mod runs;

@@ -6,7 +6,6 @@
 #![tactic(auto)]
 
 mod beside;
-mod clients;
 mod halt;
 mod loops;
 

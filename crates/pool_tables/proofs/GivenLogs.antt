@@ -5,7 +5,7 @@ use Rattle.std.proofs.lemmas.List.Elements.{All-head, All-tail}
 use Rattle.base.specs.formats.Chain.{Header}
 use Rattle.base.specs.steps.Logs.{KeptBlock}
 use Rattle.intent_log.specs.Kept.{IsFrontGiven}
-use Rattle.group_plans.specs.Areas.{AreBlocksOf, is_block_of}
+use Rattle.base.specs.formats.Geometry.{AreBlocksOf, is_block_of}
 use Rattle.pool_tables.specs.Areas.{addresses_before, blocks_from}
 
 module _ (header : Header) (old new : List KeptBlock) (address : ℕ) (given : IsFrontGiven header old new address) where

@@ -13,7 +13,7 @@ use Rattle.base.specs.kept.LogSteps.{IsPackedBlock}
 use Rattle.base.specs.kept.Views.{Logged}
 use Rattle.base.specs.disk.Calls.{IsOnDevice, Writes}
 use Rattle.base.specs.disk.Disk.{Disk}
-use Rattle.base.specs.formats.Geometry.{IsBlockAddress, block_address, block_count, block_size}
+use Rattle.base.specs.formats.Geometry.{AreBlocksOf, IsBlockAddress, block_address, block_count, block_size, is_block_of}
 use Rattle.base.specs.formats.Limits.{kept_back, last_number}
 use Rattle.base.specs.history.Past.{Past}
 use Rattle.base.specs.steps.Exact.{log_addresses}
@@ -22,8 +22,7 @@ use Rattle.base.specs.steps.Refusals.{log_flush_refusal, log_write_refusal, log_
 use Rattle.base.specs.steps.Shown.{Shown, available}
 use Rattle.base.specs.steps.Steps.{LogFlush, LogWrite, State, TakesForLog, lowest_free, ordinals_awaiting}
 use Rattle.base.proofs.common.KeptLists.{All-at, at_last}
-use Rattle.group_plans.specs.Areas.{AreBlocksOf, is_block_of}
-use Rattle.group_plans.proofs.PlannedBlocks.{block_of}
+use Rattle.base.proofs.formats.BlockTests.{block_of}
 use Rattle.intent_log.specs.Fillings.{IsNextBlock, taken_of}
 use Rattle.intent_log.specs.Kept.{log_shown}
 use Rattle.intent_log.specs.Packing.{logged}

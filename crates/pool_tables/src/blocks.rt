@@ -2,14 +2,13 @@
 //! the device, and its charges end.
 
 ghost use Rattle.std.specs.Prelude.{◌≡◌, ◌+◌, map};
-ghost use Rattle.base.specs.formats.Geometry.{block_count};
+ghost use Rattle.base.specs.formats.Geometry.{AreBlocksOf, block_count};
 ghost use Rattle.base.specs.steps.Exact.{log_addresses};
 ghost use Rattle.intent_log.specs.Kept.{header_fields, log_shown};
 ghost use Rattle.space.specs.FreeSets.{after_sync_end};
 ghost use Rattle.throttle.specs.Blocks.{AreWholeBlocks, blocks_in};
 ghost use Rattle.throttle.specs.DirtyBytes.{after_synced, sum_of, total_of};
 ghost use Rattle.tree_plans.specs.Plans.{address_of};
-ghost use Rattle.group_plans.specs.Areas.{AreBlocksOf};
 ghost use Rattle.mounted.specs.GivenBlocks.{after_gives};
 ghost use Rattle.pool_tables.specs.Areas.{addresses_before, after_sync_takes, blocks_from};
 ghost use Rattle.pool_tables.specs.Forgotten.{HasNoneOf};

@@ -2,11 +2,10 @@
 
 ghost use Rattle.std.specs.Prelude.{◌≡◌, ◌<◌, ◌∷◌, [], false, map, true};
 ghost use Rattle.std.specs.FinSet as set;
-ghost use Rattle.base.specs.formats.Geometry.{block_count};
+ghost use Rattle.base.specs.formats.Geometry.{AreBlocksOf, block_count};
 ghost use Rattle.base.specs.steps.Exact.{log_addresses};
 ghost use Rattle.intent_log.specs.Kept.{log_shown};
 ghost use Rattle.tree_plans.specs.Plans.{address_of};
-ghost use Rattle.group_plans.specs.Areas.{AreBlocksOf};
 
 use crate::blocks::{give_log, take_all};
 use intent_log::{Log, LogHeader};

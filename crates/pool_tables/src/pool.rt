@@ -35,7 +35,7 @@
 ghost use Rattle.std.specs.Prelude.{◌≡◌, ◌≢◌, ◌+◌, ◌≤◌, All, IfErr, IfOk, IsTrue, None, false, length, map, option_map, true, vec_len};
 ghost use Rattle.std.proofs.Props.{props};
 ghost use Rattle.std.specs.Option.{ForSome, option_map_or};
-ghost use Rattle.base.specs.formats.Geometry.{IsGeometry, block_count};
+ghost use Rattle.base.specs.formats.Geometry.{AreBlocksOf, IsGeometry, block_count, is_block_of};
 ghost use Rattle.base.specs.formats.Limits.{last_number, max_length, pointer_count};
 ghost use Rattle.base.specs.history.Contents.{length_of};
 ghost use Rattle.base.specs.kept.PlacedTrees.{ArePlaced};
@@ -51,7 +51,6 @@ ghost use Rattle.tree_blocks.specs.Pointers.{pointers_of};
 ghost use Rattle.intent_log.specs.Kept.{header_fields, log_shown};
 ghost use Rattle.intent_log.specs.RunLogs.{IsLogOf, KeepsHeader};
 ghost use Rattle.throttle.specs.DirtyBytes.{total_of};
-ghost use Rattle.group_plans.specs.Areas.{AreBlocksOf, is_block_of};
 ghost use Rattle.tree_blocks.specs.SyncedTrees.{pointers_after};
 ghost use Rattle.mounted.specs.Ranges.{is_readable};
 ghost use Rattle.pool_tables.specs.Accounts.{AreAccounted, IsFreeSetOf};

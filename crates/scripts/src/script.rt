@@ -122,7 +122,7 @@ fn run_lines<S: CommandRunner, R: BufRead, W: Write>(
             Ok(None) => {}
             Ok(Some(answer)) => {
                 writeln!(out, "{answer}")?;
-                if after_refusal == AfterRefusal::Stop && answer.is_refusal() {
+                if matches!(after_refusal, AfterRefusal::Stop) && answer.is_refusal() {
                     out.flush()?;
                     return Ok(Ending::Refused);
                 }

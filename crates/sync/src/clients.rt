@@ -129,10 +129,10 @@ fn the_sixth_call_of_six_is_the_last<D: SectorDevice>(
     ensures { OnOk result (run.new.done ≡ 6) }
 {
     let fifth = run.next(device)?;
-    let was_last = fifth == SyncCall::Last;
+    let was_last = matches!(fifth, SyncCall::Last);
     prove!(!was_last);
     let sixth = run.next(device)?;
-    let is_last = sixth == SyncCall::Last;
+    let is_last = matches!(sixth, SyncCall::Last);
     prove!(is_last);
     Ok(())
 }

@@ -1,7 +1,6 @@
 //! The blocks of a tree: their places, what they hold, and the form that a tree has in memory.
 #![tactic(auto)]
 
-mod clients;
 mod forms;
 mod object_map;
 mod payload;

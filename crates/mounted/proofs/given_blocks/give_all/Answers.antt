@@ -1,7 +1,7 @@
 use Rattle.std.proofs.Common.{◌<◌, ap, arith}
 use Rattle.base.specs.formats.Geometry.{block_count}
 use Rattle.space.specs.FreeSets.{FreeSpace}
-use Rattle.group_plans.proofs.PlannedBlocks.{block_of}
+use Rattle.base.proofs.formats.BlockTests.{block_of}
 use Rattle.mounted.proofs.GivenBlocks.{given_more, none_given}
 use Rattle.mounted.proofs.given_blocks.give_all.Goals as goal
 

@@ -1,13 +1,12 @@
 use Rattle.std.proofs.Common.{◌∙◌, ◌<◌, ◌++◌, ◌∷◌, [], ℕ, List, map, ap, sym, subst, arith}
 use Rattle.std.specs.Prelude.{Option, is_some}
 use Rattle.base.specs.formats.Chain.{Header}
-use Rattle.base.specs.formats.Geometry.{block_count}
+use Rattle.base.specs.formats.Geometry.{AreBlocksOf, block_count}
 use Rattle.base.specs.steps.Logs.{KeptBlock}
 use Rattle.intent_log.specs.Kept.{RunLog, header_fields, log_shown}
 use Rattle.intent_log.proofs.Callers.{none_is_before}
 use Rattle.space.specs.FreeSets.{FreeSpace}
-use Rattle.group_plans.specs.Areas.{AreBlocksOf}
-use Rattle.group_plans.proofs.PlannedBlocks.{block_of}
+use Rattle.base.proofs.formats.BlockTests.{block_of}
 use Rattle.mounted.specs.GivenBlocks.{after_gives}
 use Rattle.pool_tables.specs.Areas.{addresses_before}
 use Rattle.mounted.proofs.GivenBlocks.{none_given}

@@ -1,8 +1,7 @@
 use Rattle.std.proofs.Common.{◌≡◌, length}
-use Rattle.base.specs.formats.Geometry.{block_count}
+use Rattle.base.specs.formats.Geometry.{AreBlocksOf, block_count}
 use Rattle.base.specs.steps.Exact.{log_addresses}
 use Rattle.intent_log.specs.Kept.{header_fields, log_shown}
-use Rattle.group_plans.specs.Areas.{AreBlocksOf}
 use Rattle.mounted.specs.GivenBlocks.{after_gives}
 use Rattle.pool_tables.specs.Areas.{addresses_before, blocks_from}
 use Rattle.pool_tables.proofs.blocks.give_log.Given as goal

@@ -4,11 +4,10 @@ use Rattle.std.proofs.lemmas.Result.{err_from_is_err_and}
 use Rattle.base.specs.declared.error.PoolError.TheVariants as error
 use Rattle.base.specs.declared.operation.Op.{Op}
 use Rattle.base.specs.formats.Records.{is_content_allowed}
-use Rattle.base.specs.formats.Geometry.{block_count}
+use Rattle.base.specs.formats.Geometry.{AreBlocksOf, block_count}
 use Rattle.base.specs.steps.Exact.{log_addresses}
 use Rattle.base.specs.steps.Logs.{Log}
 use Rattle.base.specs.steps.Refusals.{commit_refusal}
-use Rattle.group_plans.specs.Areas.{AreBlocksOf}
 use Rattle.intent_log.specs.Kept.{RunLog, header_fields, log_shown}
 use Rattle.intent_log.specs.RunLogs.{IsLogOf, KeepsHeader}
 use Rattle.base.specs.steps.Shown.{Shown}

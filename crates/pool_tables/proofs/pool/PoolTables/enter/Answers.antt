@@ -2,11 +2,10 @@ use Rattle.std.proofs.Common.{◌≡◌, ◌∙◌, ◌==◌, ℕ, Bool, not, Li
 use Rattle.std.specs.Prelude.{◌≤◌}
 use Rattle.std.proofs.lemmas.Bool.{false≢true}
 use Rattle.std.proofs.lemmas.List.Elements.{All-filter, All-push}
-use Rattle.base.specs.formats.Geometry.{block_count}
+use Rattle.base.specs.formats.Geometry.{AreBlocksOf, block_count}
 use Rattle.base.specs.steps.Exact.{log_addresses}
 use Rattle.base.specs.steps.Groups.{Admission, Line}
 use Rattle.base.specs.steps.Logs.{Log}
-use Rattle.group_plans.specs.Areas.{AreBlocksOf}
 use Rattle.intent_log.specs.Kept.{header_fields, log_shown}
 use Rattle.intent_log.specs.RunLogs.{IsLogOf, KeepsHeader}
 use Rattle.intent_log.proofs.RunLogs.{entered_log, header_entered}

@@ -2,7 +2,7 @@ use Rattle.std.proofs.Common.{◌≡◌, ◌∙◌, ◌≤◌, ℕ, [], ap, arit
 use Rattle.std.proofs.Math.Logic.{∥∥₁_elim}
 use mathlib.Core.Bool.{Bool-set}
 use Rattle.std.proofs.lemmas.List.Elements.{All-cons, All-nil}
-use Rattle.base.specs.formats.Geometry.{block_count}
+use Rattle.base.specs.formats.Geometry.{AreBlocksOf, block_count, is_block_of}
 use Rattle.base.specs.steps.Exact.{log_addresses}
 use Rattle.base.specs.steps.Logs.{Log}
 use Rattle.groups.specs.CountedLines.{counted_behind}
@@ -12,8 +12,7 @@ use Rattle.throttle.specs.Blocks.{blocks_in}
 use Rattle.throttle.proofs.BlockSums.{blocks_of-empty}
 use Rattle.throttle.proofs.ShownSums.{new_sums_are_on_lines}
 use Rattle.object_maps.specs.ContentsShown.{contents_of}
-use Rattle.group_plans.specs.Areas.{AreBlocksOf, is_block_of}
-use Rattle.group_plans.proofs.PlannedBlocks.{block_passes}
+use Rattle.base.proofs.formats.BlockTests.{block_passes}
 use Rattle.pool_tables.proofs.Charges.{total-behind}
 use Rattle.pool_tables.proofs.HeldGroups.{counted_new, exact_new}
 use Rattle.pool_tables.proofs.Opens.{HasAllowedPlan, IsSmall}

@@ -1,9 +1,8 @@
 use Rattle.std.proofs.Common.{◌∙◌, ℕ, List, ap, sym, subst, arith}
-use Rattle.base.specs.formats.Geometry.{block_address, block_count}
+use Rattle.base.specs.formats.Geometry.{AreBlocksOf, block_address, block_count}
 use Rattle.base.specs.steps.Exact.{log_addresses}
 use Rattle.base.specs.steps.Logs.{Log, log_after_write}
-use Rattle.group_plans.specs.Areas.{AreBlocksOf}
-use Rattle.group_plans.proofs.PlannedBlocks.{block_passes}
+use Rattle.base.proofs.formats.BlockTests.{block_passes}
 use Rattle.intent_log.specs.Fillings.{taken_of}
 use Rattle.intent_log.specs.Kept.{header_fields, log_shown}
 use Rattle.intent_log.specs.RunLogs.{IsLogOf}

@@ -1,8 +1,7 @@
 use Rattle.std.proofs.Common.{List, ap, subst, sym}
-use Rattle.base.specs.formats.Geometry.{block_count}
+use Rattle.base.specs.formats.Geometry.{AreBlocksOf, block_count}
 use Rattle.base.specs.steps.Exact.{log_addresses}
 use Rattle.base.specs.steps.Logs.{Log}
-use Rattle.group_plans.specs.Areas.{AreBlocksOf}
 use Rattle.intent_log.specs.Kept.{RunLog, header_fields, log_shown}
 use Rattle.intent_log.specs.RunLogs.{IsLogOf, KeepsHeader}
 use Rattle.records.specs.declared.record.Record.{Record}

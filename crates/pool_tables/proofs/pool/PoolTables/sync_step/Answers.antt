@@ -1,12 +1,11 @@
 use Rattle.std.proofs.Common.{ℕ, ◌≡◌, ◌∙◌, ◌≤◌, List, arith, ap, inl, inr, nat_lt, sym, subst, refl, true, Some, None}
 use Rattle.std.specs.Prelude.{Bool, Option, Result, option_map}
 use Rattle.std.proofs.lemmas.Result.{err_from_is_err_and}
-use Rattle.base.specs.formats.Geometry.{block_count}
+use Rattle.base.specs.formats.Geometry.{AreBlocksOf, block_count}
 use Rattle.base.specs.kept.PlacedTrees.{ArePlaced}
 use Rattle.base.specs.steps.Shown.{SyncPlan}
 use Rattle.tree_blocks.specs.Pointers.{pointers_of}
 use Rattle.pool_tables.specs.declared.pool.RunningSync.{RunningSync}
-use Rattle.group_plans.specs.Areas.{AreBlocksOf}
 use Rattle.base.specs.steps.Exact.{log_addresses}
 use Rattle.pool_tables.specs.Areas.{addresses_before}
 use Rattle.pool_tables.specs.Shows.{contents_after_oldest, plan_of, pool_shown, shown_after_tree}
