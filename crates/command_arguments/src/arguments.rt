@@ -1,6 +1,8 @@
 //! The arguments of the program: which command, and what it works on.
 
+use crate::bench::BenchOrder;
 use crate::order::Order;
+use crate::reports::{ListArguments, ReportArguments, ReportForm, SpaceArguments};
 
 /// How much is reported of a command that was not done.
 #[derive(Clone, Copy)]
@@ -34,28 +36,54 @@ pub struct Terminals {
 /// A command of the program, with its arguments.
 #[derive(Clone, Copy)]
 pub enum Arguments<'a> {
+    /// One that only reads the pool's file.
+    Read(ReadCommand<'a>),
+    /// One that makes or changes a pool by one transaction after the other.
+    Change(ChangeCommand<'a>),
     /// `ztxg load`.
     Load(LoadArguments<'a>),
     /// `ztxg script`.
     Script(ScriptArguments<'a>),
-    /// `ztxg create`.
-    Create(CreateArguments<'a>),
-    /// `ztxg show`, with the path of the pool's file.
-    Show(&'a str),
-    /// `ztxg check`.
-    Check(CheckArguments<'a>),
-    /// `ztxg ls`, with the path of the pool's file.
-    List(&'a str),
-    /// `ztxg labels`, with the path of the pool's file.
-    Labels(&'a str),
-    /// `ztxg get`.
-    Get(GetArguments<'a>),
-    /// `ztxg put`.
-    Put(PutArguments<'a>),
-    /// `ztxg rm`.
-    Remove(RemoveArguments<'a>),
     /// `ztxg serve`.
     Serve(ServeArguments<'a>),
+    /// `ztxg bench`.
+    Bench(BenchArguments<'a>),
+}
+
+/// A command that only reads the pool's file.
+#[derive(Clone, Copy)]
+pub enum ReadCommand<'a> {
+    /// `ztxg show`.
+    Show(ReportArguments<'a>),
+    /// `ztxg check`.
+    Check(CheckArguments<'a>),
+    /// `ztxg ls`.
+    List(ListArguments<'a>),
+    /// `ztxg df`.
+    Space(SpaceArguments<'a>),
+    /// `ztxg labels`.
+    Labels(ReportArguments<'a>),
+    /// `ztxg get` of an object by its number.
+    Get(GetArguments<'a>),
+    /// `ztxg get` of an object by its name.
+    GetNamed(GetNamedArguments<'a>),
+}
+
+/// A command that makes or changes a pool by one transaction after the other.
+#[derive(Clone, Copy)]
+pub enum ChangeCommand<'a> {
+    /// `ztxg create` with a name, a guid and a size.
+    Create(CreateArguments<'a>),
+    /// `ztxg create` with `--size`.
+    CreateSized(SizedArguments<'a>),
+    /// `ztxg put` of an object by its number.
+    Put(PutArguments<'a>),
+    /// `ztxg put` of an object by its name.
+    PutNamed(PutNamedArguments<'a>),
+    /// `ztxg rm` of an object by its number.
+    Remove(RemoveArguments<'a>),
+    /// `ztxg rm` of an object by its name.
+    RemoveNamed(RemoveNamedArguments<'a>),
 }
 
 /// The device that a script works on.
@@ -99,6 +127,25 @@ pub struct CreateArguments<'a> {
     pub moment: u64,
 }
 
+/// The arguments of `ztxg create` with `--size`.
+#[derive(Clone, Copy)]
+pub struct SizedArguments<'a> {
+    /// The path of the pool's file.
+    pub file: &'a str,
+    /// The pool's name, if it isn't the file's.
+    pub name: Option<&'a str>,
+    /// The pool's guid.
+    pub guid: u64,
+    /// The bytes of the file.
+    pub size: u64,
+    /// Whether a file that exists already is refused.
+    pub only_new: bool,
+    /// Whether a pool that the file has is replaced.
+    pub force: bool,
+    /// The moment, in seconds, of the new pool's uberblocks.
+    pub moment: u64,
+}
+
 /// The arguments of `ztxg check`.
 #[derive(Clone, Copy)]
 pub struct CheckArguments<'a> {
@@ -106,6 +153,8 @@ pub struct CheckArguments<'a> {
     pub file: &'a str,
     /// Whether it goes on after a damage.
     pub all: bool,
+    /// How the report is printed.
+    pub form: ReportForm,
 }
 
 /// The arguments of `ztxg load`.
@@ -160,6 +209,43 @@ pub struct RemoveArguments<'a> {
     pub moment: u64,
 }
 
+/// The arguments of `ztxg get FILE @NAME`.
+#[derive(Clone, Copy)]
+pub struct GetNamedArguments<'a> {
+    /// The path of the pool's file.
+    pub file: &'a str,
+    /// The object's name.
+    pub name: &'a str,
+    /// The first byte that is read.
+    pub offset: u64,
+    /// The most bytes that are read, if it isn't all of them.
+    pub length: Option<u64>,
+}
+
+/// The arguments of `ztxg put FILE @NAME`.
+#[derive(Clone, Copy)]
+pub struct PutNamedArguments<'a> {
+    /// The path of the pool's file.
+    pub file: &'a str,
+    /// The object's name.
+    pub name: &'a str,
+    /// Where the bytes go in the object, if they don't replace all of it.
+    pub offset: Option<u64>,
+    /// The moment, in seconds, of each uberblock that the run writes.
+    pub moment: u64,
+}
+
+/// The arguments of `ztxg rm FILE @NAME`.
+#[derive(Clone, Copy)]
+pub struct RemoveNamedArguments<'a> {
+    /// The path of the pool's file.
+    pub file: &'a str,
+    /// The object's name.
+    pub name: &'a str,
+    /// The moment, in seconds, of each uberblock that the run writes.
+    pub moment: u64,
+}
+
 /// The arguments of `ztxg serve`.
 #[derive(Clone, Copy)]
 pub struct ServeArguments<'a> {
@@ -171,4 +257,17 @@ pub struct ServeArguments<'a> {
     pub cache_blocks: u64,
     /// The moment, in seconds, of each uberblock that it writes.
     pub moment: u64,
+}
+
+/// The arguments of `ztxg bench`.
+#[derive(Clone, Copy)]
+pub struct BenchArguments<'a> {
+    /// The path of the file, which is made new, and removed at the end.
+    pub file: &'a str,
+    /// The bytes of the file.
+    pub size: u64,
+    /// What is timed.
+    pub order: BenchOrder,
+    /// The most bytes that unsynced transactions may be charged.
+    pub dirty_max: u64,
 }

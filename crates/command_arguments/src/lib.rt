@@ -2,11 +2,21 @@
 #![tactic(auto)]
 
 mod arguments;
+mod bench;
 mod clients;
 mod order;
+mod reports;
+mod sizes;
 
 pub use arguments::{
-    Arguments, CheckArguments, CreateArguments, GetArguments, LoadArguments, Options, PutArguments,
-    RemoveArguments, ScriptArguments, ScriptDevice, ServeArguments, Terminals, Verbosity,
+    Arguments, BenchArguments, ChangeCommand, CheckArguments, CreateArguments, GetArguments,
+    GetNamedArguments, LoadArguments, Options, PutArguments, PutNamedArguments, ReadCommand,
+    RemoveArguments, RemoveNamedArguments, ScriptArguments, ScriptDevice, ServeArguments,
+    SizedArguments, Terminals, Verbosity,
 };
+pub use bench::{BenchOrder, MAX_BENCH_BYTES, MAX_BENCH_SECONDS, MAX_BENCH_WORKERS};
 pub use order::{MAX_WORKERS, MAX_WRITES, Order, STREAMS};
+pub use reports::{
+    ListArguments, ListForm, ReportArguments, ReportForm, SpaceArguments, SpaceUnit,
+};
+pub use sizes::size_of;
