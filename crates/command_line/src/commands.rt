@@ -1,263 +1,185 @@
 //! The commands, each with its words and its help.
-//!
-//! A command's words are listed before it is made. Nothing else is at hand where that may fail: a return drops what is,
-//! and each drop of a command or of a word is dear to prove.
 
 use crate::help;
-use crate::words::{
-    LOADED_DIRTY_LIMIT, SERVED_DIRTY_LIMIT, SIZE_HELP, cache_blocks, dirty_limit, flag, moment,
-    number, number_option, object, option, read_file, word, written_file,
+use crate::options::{
+    ALL, BENCH_FILE, BENCH_SECONDS, BENCH_SIZE, BENCH_WORKERS, BYTES, CACHE, CLOCK_MOMENT,
+    CREATE_MOMENT, CREATED_FILE, DIRTY, DURABLE, FORCE, GET_OFFSET, GIVEN_GUID, GIVEN_NAME,
+    GIVEN_SIZE, HELP, HUMAN_READABLE, JSON, LENGTH, LOAD_WORKERS, LOADED_DIRTY, LONG, MEMORY_SIZE,
+    MOMENT, NEW, OBJECT, OPS, POOL_GUID, POOL_NAME, POOL_SIZE, PUT_OFFSET, READ_FILE, SCRIPT,
+    SCRIPT_FILE, SEED, STOP, SYNC, WRITTEN_FILE,
 };
-use clap::{Arg, Command, value_parser};
-use command_arguments::{MAX_WORKERS, MAX_WRITES};
+use crate::words::{Word, with_words};
+use clap::Command;
 use std::alloc::{AllocError, Global};
 
-/// Which command.
+/// A command with its words and its help.
 #[derive(Clone, Copy)]
-pub(crate) enum CommandName {
-    Create,
-    Show,
-    Check,
-    List,
-    Get,
-    Put,
-    Remove,
-    Labels,
-    Load,
-    Serve,
-    Script,
+pub(crate) struct CommandWords {
+    /// Its name.
+    pub name: &'static str,
+    /// What it does.
+    pub about: &'static str,
+    /// What stands after its help.
+    pub after_help: &'static str,
+    /// How its words are read.
+    pub shape: Shape,
+    /// Its words, in the order of its help.
+    pub words: &'static [Word],
+}
+
+/// How the words of a command are read.
+#[derive(Clone, Copy)]
+pub(crate) enum Shape {
+    /// As `clap` reads them.
+    Plain,
+    /// The first word in its place may be left out, though the last one may not.
+    LastNeeded,
+    /// The help is one of its words.
+    OwnHelp,
 }
 
 /// The commands, in the order of the program's help.
-pub(crate) const COMMANDS: [CommandName; 11] = [
-    CommandName::Create,
-    CommandName::Show,
-    CommandName::Check,
-    CommandName::List,
-    CommandName::Get,
-    CommandName::Put,
-    CommandName::Remove,
-    CommandName::Labels,
-    CommandName::Load,
-    CommandName::Serve,
-    CommandName::Script,
+pub(crate) const COMMANDS: [CommandWords; 13] = [
+    CommandWords {
+        name: "create",
+        about: "Makes a new pool in a file, over what the file held, and prints its blocks",
+        after_help: help::CREATE,
+        shape: Shape::Plain,
+        words: &[
+            CREATED_FILE,
+            POOL_NAME,
+            POOL_GUID,
+            POOL_SIZE,
+            GIVEN_SIZE,
+            GIVEN_NAME,
+            GIVEN_GUID,
+            NEW,
+            FORCE,
+            CREATE_MOMENT,
+        ],
+    },
+    CommandWords {
+        name: "show",
+        about: "Reports what an import of the pool in a file would mount; it only reads the file",
+        after_help: help::SHOW,
+        shape: Shape::Plain,
+        words: &[READ_FILE, JSON],
+    },
+    CommandWords {
+        name: "check",
+        about: "Checks whether the pool in a file is whole; it only reads the file",
+        after_help: help::CHECK,
+        shape: Shape::Plain,
+        words: &[READ_FILE, ALL, JSON],
+    },
+    CommandWords {
+        name: "ls",
+        about: "Lists the objects of the pool in a file; it only reads the file",
+        after_help: help::LIST,
+        shape: Shape::Plain,
+        words: &[READ_FILE, LONG, JSON],
+    },
+    CommandWords {
+        name: "df",
+        about: "Reports the space of the pool in a file in bytes; it only reads the file",
+        after_help: help::SPACE,
+        shape: Shape::OwnHelp,
+        words: &[READ_FILE, HUMAN_READABLE, HELP],
+    },
+    CommandWords {
+        name: "get",
+        about: "Writes the bytes of an object to standard output; it only reads the file",
+        after_help: help::GET,
+        shape: Shape::Plain,
+        words: &[READ_FILE, OBJECT, GET_OFFSET, LENGTH],
+    },
+    CommandWords {
+        name: "put",
+        about: "Writes standard input into an object, which is made if it isn't there",
+        after_help: help::PUT,
+        shape: Shape::Plain,
+        words: &[WRITTEN_FILE, OBJECT, PUT_OFFSET, CLOCK_MOMENT],
+    },
+    CommandWords {
+        name: "rm",
+        about: "Removes an object",
+        after_help: help::REMOVE,
+        shape: Shape::Plain,
+        words: &[WRITTEN_FILE, OBJECT, CLOCK_MOMENT],
+    },
+    CommandWords {
+        name: "labels",
+        about: "Reports what the four labels of a file hold; it only reads the file",
+        after_help: help::LABELS,
+        shape: Shape::Plain,
+        words: &[READ_FILE, JSON],
+    },
+    CommandWords {
+        name: "load",
+        about: "Empties the objects 0 to 16 of the pool in a file, makes many small writes, and syncs",
+        after_help: help::LOAD,
+        shape: Shape::Plain,
+        words: &[
+            WRITTEN_FILE,
+            LOAD_WORKERS,
+            OPS,
+            SEED,
+            LOADED_DIRTY,
+            CACHE,
+            MOMENT,
+        ],
+    },
+    CommandWords {
+        name: "serve",
+        about: "Answers frames of requests to the pool in a file, for programs in other languages",
+        after_help: help::SERVE,
+        shape: Shape::Plain,
+        words: &[WRITTEN_FILE, DIRTY, CACHE, CLOCK_MOMENT],
+    },
+    CommandWords {
+        name: "bench",
+        about: "Times commits on a pool of its own in a new file, which it removes at its end",
+        after_help: help::BENCH,
+        shape: Shape::Plain,
+        words: &[
+            BENCH_FILE,
+            BENCH_SIZE,
+            BENCH_WORKERS,
+            BYTES,
+            BENCH_SECONDS,
+            DIRTY,
+            DURABLE,
+        ],
+    },
+    CommandWords {
+        name: "script",
+        about: "Runs a script on a pool, and prints a line for each of its commands",
+        after_help: help::SCRIPT,
+        shape: Shape::LastNeeded,
+        words: &[MEMORY_SIZE, SCRIPT, SCRIPT_FILE, STOP, SYNC, MOMENT],
+    },
 ];
 
-impl CommandName {
-    /// The command with its words and its help.
-    pub fn command<'a>(self, alloc: Global) -> Result<Command<'a>, AllocError> {
-        match self {
-            CommandName::Create => create_command(alloc),
-            CommandName::Show => show_command(alloc),
-            CommandName::Check => check_command(alloc),
-            CommandName::List => list_command(alloc),
-            CommandName::Get => get_command(alloc),
-            CommandName::Put => put_command(alloc),
-            CommandName::Remove => remove_command(alloc),
-            CommandName::Labels => labels_command(alloc),
-            CommandName::Load => load_command(alloc),
-            CommandName::Serve => serve_command(alloc),
-            CommandName::Script => script_command(alloc),
-        }
-    }
-}
-
-// A command with what it does, and what stands after its help.
-fn described<'a>(alloc: Global, name: &'a str, about: &'a str, after_help: &'a str) -> Command<'a> {
-    Command::new(alloc, name)
-        .about(about)
-        .after_help(after_help)
-}
-
-// A command whose one word is a file that it only reads.
-fn reading_command<'a>(
+/// The command as `clap` has it.
+pub(crate) fn subcommand<'a>(
     alloc: Global,
-    name: &'a str,
-    about: &'a str,
-    after_help: &'a str,
+    command: &CommandWords,
 ) -> Result<Command<'a>, AllocError> {
-    described(alloc, name, about, after_help).arg(read_file(alloc))
-}
-
-fn create_command<'a>(alloc: Global) -> Result<Command<'a>, AllocError> {
-    let words = vec![in alloc;
-        word(
-            alloc,
-            "FILE",
-            "The path of the file, which is made, or resized to SIZE bytes",
-        ),
-        word(
-            alloc,
-            "NAME",
-            "The pool's name: 1 to 64 bytes, first a letter, then letters, digits, '-', '_', '.'",
-        ),
-        number(alloc, "GUID", "The pool's guid: a number below 2^64"),
-        number(alloc, "SIZE", SIZE_HELP),
-        flag(
-            alloc,
-            "new",
-            "Refuses a FILE that exists already, which is left as it is",
-        ),
-        moment(alloc),
-    ]?;
-    let about = "Makes a new pool in a file, over what the file held, and prints its blocks";
-    described(alloc, "create", about, help::CREATE).args(words)
-}
-
-fn show_command<'a>(alloc: Global) -> Result<Command<'a>, AllocError> {
-    let about = "Reports what an import of the pool in a file would mount; it only reads the file";
-    reading_command(alloc, "show", about, help::SHOW)
-}
-
-fn check_command<'a>(alloc: Global) -> Result<Command<'a>, AllocError> {
-    let all = flag(
+    let described = Command::new(alloc, command.name)
+        .about(command.about)
+        .after_help(command.after_help);
+    with_words(
         alloc,
-        "all",
-        "Goes on after a damage, and prints each, and each damaged label",
-    );
-    let words = vec![in alloc; read_file(alloc), all]?;
-    let about = "Checks whether the pool in a file is whole; it only reads the file";
-    described(alloc, "check", about, help::CHECK).args(words)
+        shaped(described, command.shape),
+        command.words,
+        false,
+    )
 }
 
-fn list_command<'a>(alloc: Global) -> Result<Command<'a>, AllocError> {
-    let about = "Lists the objects of the pool in a file; it only reads the file";
-    reading_command(alloc, "ls", about, help::LIST)
-}
-
-fn get_command<'a>(alloc: Global) -> Result<Command<'a>, AllocError> {
-    let words = vec![in alloc;
-        read_file(alloc),
-        object(alloc),
-        number_option(alloc, "offset", "O", "The first byte").default_value("0"),
-        number_option(
-            alloc,
-            "length",
-            "L",
-            "The most bytes, if not all up to the object's end",
-        ),
-    ]?;
-    let about = "Writes the bytes of an object to standard output; it only reads the file";
-    described(alloc, "get", about, help::GET).args(words)
-}
-
-fn put_command<'a>(alloc: Global) -> Result<Command<'a>, AllocError> {
-    let words = vec![in alloc;
-        written_file(alloc),
-        object(alloc),
-        number_option(
-            alloc,
-            "offset",
-            "O",
-            "Where the bytes go; without it they replace all that the object has",
-        ),
-        moment(alloc),
-    ]?;
-    let about = "Writes standard input into an object, which is made if it isn't there";
-    described(alloc, "put", about, help::PUT).args(words)
-}
-
-fn remove_command<'a>(alloc: Global) -> Result<Command<'a>, AllocError> {
-    let words = vec![in alloc; written_file(alloc), object(alloc), moment(alloc)]?;
-    described(alloc, "rm", "Removes an object", help::REMOVE).args(words)
-}
-
-fn labels_command<'a>(alloc: Global) -> Result<Command<'a>, AllocError> {
-    let about = "Reports what the four labels of a file hold; it only reads the file";
-    reading_command(alloc, "labels", about, help::LABELS)
-}
-
-fn load_command<'a>(alloc: Global) -> Result<Command<'a>, AllocError> {
-    let words = vec![in alloc;
-        written_file(alloc),
-        workers(alloc),
-        writes(alloc),
-        seed(alloc),
-        dirty_limit(alloc, LOADED_DIRTY_LIMIT),
-        cache_blocks(alloc),
-        moment(alloc),
-    ]?;
-    let about =
-        "Empties the objects 0 to 16 of the pool in a file, makes many small writes, and syncs";
-    described(alloc, "load", about, help::LOAD).args(words)
-}
-
-fn workers<'a>(alloc: Global) -> Arg<'a> {
-    let help = "The threads that make the writes: 1 to 16";
-    option(alloc, "workers", "W", help)
-        .required(true)
-        .value_parser(value_parser!(u32).range(1..=i64::from(MAX_WORKERS)))
-}
-
-fn writes<'a>(alloc: Global) -> Arg<'a> {
-    let help = "The writes of each of the 16 streams: 0 to 1000000";
-    option(alloc, "ops", "N", help)
-        .required(true)
-        .value_parser(value_parser!(u32).range(0..=i64::from(MAX_WRITES)))
-}
-
-fn seed<'a>(alloc: Global) -> Arg<'a> {
-    let help = "The number from which the writes are drawn: below 2^64";
-    number_option(alloc, "seed", "S", help).required(true)
-}
-
-fn serve_command<'a>(alloc: Global) -> Result<Command<'a>, AllocError> {
-    let words = vec![in alloc;
-        written_file(alloc),
-        dirty_limit(alloc, SERVED_DIRTY_LIMIT),
-        cache_blocks(alloc),
-        moment(alloc),
-    ]?;
-    let about = "Answers frames of requests to the pool in a file, for programs in other languages";
-    described(alloc, "serve", about, help::SERVE).args(words)
-}
-
-fn script_command<'a>(alloc: Global) -> Result<Command<'a>, AllocError> {
-    let words = script_words(alloc)?;
-    let about = "Runs a script on a pool, and prints a line for each of its commands";
-    described(alloc, "script", about, help::SCRIPT)
-        .allow_missing_positional(true)
-        .args(words)
-}
-
-fn script_words<'a>(alloc: Global) -> Result<Vec<Arg<'a>>, AllocError> {
-    let size = size_without_file(alloc)?;
-    let sync = sync_of_file(alloc)?;
-    let words = vec![in alloc;
-        size,
-        word(
-            alloc,
-            "SCRIPT",
-            "The path of the script, or - for standard input",
-        ),
-        option(
-            alloc,
-            "file",
-            "FILE",
-            "The path of a file to work on, in place of a device in memory of SIZE bytes",
-        ),
-        flag(
-            alloc,
-            "stop",
-            "Ends the script after the first line that is refused, with status 1",
-        ),
-        sync,
-        moment(alloc),
-    ]?;
-    Ok(words)
-}
-
-// The size of a device in memory.
-fn size_without_file<'a>(alloc: Global) -> Result<Arg<'a>, AllocError> {
-    Arg::new(alloc, "SIZE")
-        .help(SIZE_HELP)
-        .value_parser(value_parser!(u64))
-        .required_unless_present("file")?
-        .conflicts_with("file")
-}
-
-// Whether the pool in a file is synced at the end.
-fn sync_of_file<'a>(alloc: Global) -> Result<Arg<'a>, AllocError> {
-    let help = "Syncs the pool in FILE at the end; refused with SIZE";
-    flag(alloc, "sync", help).conflicts_with("SIZE")
+fn shaped<'a>(command: Command<'a>, shape: Shape) -> Command<'a> {
+    match shape {
+        Shape::Plain => command,
+        Shape::LastNeeded => command.allow_missing_positional(true),
+        Shape::OwnHelp => command.disable_help_flag(true),
+    }
 }

@@ -1,10 +1,14 @@
 //! The program's words, matched against its command line.
 
-use crate::commands::COMMANDS;
+use crate::commands::{COMMANDS, subcommand};
 use crate::help;
-use crate::words::{flag, option};
-use clap::{Arg, ArgMatches, Command, Error, value_parser};
+use crate::options::{QUIET, VERBOSE, WAIT};
+use crate::words::{Word, with_words};
+use clap::{ArgMatches, Command, Error};
 use std::alloc::{AllocError, Global};
+
+/// The options of each command, which may stand before its name or after it.
+const OPTIONS: [Word; 3] = [QUIET, VERBOSE, WAIT];
 
 /// Matches the program's words, its name first, against the command line.
 ///
@@ -15,9 +19,9 @@ pub fn parse_arguments<'a>(alloc: Global, words: &'a [String]) -> Result<ArgMatc
 }
 
 fn program<'a>(alloc: Global) -> Result<Command<'a>, AllocError> {
-    let mut program = with_options(alloc, described_program(alloc))?;
-    for name in COMMANDS {
-        program = program.subcommand(name.command(alloc)?)?;
+    let mut program = with_words(alloc, described_program(alloc), &OPTIONS, true)?;
+    for command in &COMMANDS {
+        program = program.subcommand(subcommand(alloc, command)?)?;
     }
     Ok(program)
 }
@@ -28,30 +32,4 @@ fn described_program<'a>(alloc: Global) -> Command<'a> {
         .version(help::VERSION)
         .after_help(help::PROGRAM)
         .subcommand_required(true)
-}
-
-// The options of each command, which may stand before its name or after it.
-fn with_options<'a>(alloc: Global, program: Command<'a>) -> Result<Command<'a>, AllocError> {
-    program
-        .arg(quiet(alloc))?
-        .arg(verbose(alloc))?
-        .arg(wait(alloc))
-}
-
-fn quiet<'a>(alloc: Global) -> Arg<'a> {
-    let help = "If the command is not done, leaves out the cause";
-    flag(alloc, "quiet", help).short('q').global(true)
-}
-
-// Programs give it since the cause was not reported without it.
-fn verbose<'a>(alloc: Global) -> Arg<'a> {
-    let help = "Changes nothing: the cause is reported without it";
-    flag(alloc, "verbose", help).short('v').global(true)
-}
-
-fn wait<'a>(alloc: Global) -> Arg<'a> {
-    let help = "Waits up to S seconds for a FILE that another process has: 0 to 86400";
-    option(alloc, "wait", "S", help)
-        .value_parser(value_parser!(u32).range(0..=86_400))
-        .global(true)
 }

@@ -1,26 +1,77 @@
 //! What the words matched, read as the arguments of a command.
 
+use crate::bad_words::{BadWord, Named, find_bad_word, object, size};
 use clap::ArgMatches;
 use command_arguments::{
-    Arguments, CheckArguments, CreateArguments, GetArguments, LoadArguments, Options, Order,
-    PutArguments, RemoveArguments, ScriptArguments, ScriptDevice, ServeArguments, Verbosity,
+    Arguments, BenchArguments, BenchOrder, ChangeCommand, CheckArguments, CreateArguments,
+    GetArguments, GetNamedArguments, ListArguments, ListForm, LoadArguments, Options, Order,
+    PutArguments, PutNamedArguments, ReadCommand, RemoveArguments, RemoveNamedArguments,
+    ReportArguments, ReportForm, ScriptArguments, ScriptDevice, ServeArguments, SizedArguments,
+    SpaceArguments, SpaceUnit, Verbosity,
 };
+use std::fmt;
+
+/// What stands for words that were not given.
+#[derive(Clone, Copy)]
+pub struct Defaults {
+    /// The moment of a command that people type, in seconds.
+    pub moment: u64,
+    /// The guid of a pool, if one could be drawn.
+    pub guid: Option<u64>,
+}
+
+/// Why words that matched ask for nothing. As text it is what a fault of the command line prints.
+#[derive(Clone, Copy)]
+pub enum Fault<'a> {
+    /// A word has another form than its command takes.
+    BadWord(BadWord<'a>),
+    /// The pool's guid wasn't given, and none could be drawn.
+    NoGuid,
+}
+
+impl fmt::Display for Fault<'_> {
+    fn fmt<W: fmt::Write>(&self, f: &mut fmt::Formatter<W>) -> fmt::Result {
+        match self {
+            Fault::BadWord(bad_word) => write!(f, "{bad_word}"),
+            Fault::NoGuid => f.write_str("error: no guid can be drawn: give one by --guid\n"),
+        }
+    }
+}
 
 /// The arguments of the command that was named.
-pub fn read_arguments<'a>(matches: &ArgMatches<'a>) -> Option<Arguments<'a>> {
+///
+/// # Errors
+/// The first word that has to be a number of bytes or an object, and isn't one. And that a new pool lacks a guid.
+pub fn read_arguments<'a>(
+    matches: &ArgMatches<'a>,
+    defaults: &Defaults,
+) -> Result<Arguments<'a>, Fault<'a>> {
+    if let Some(bad_word) = find_bad_word(matches) {
+        return Err(Fault::BadWord(bad_word));
+    }
+    match read_command(matches, defaults) {
+        Some(arguments) => Ok(arguments),
+        None => Err(Fault::NoGuid),
+    }
+}
+
+// `None` if a pool's guid is lacking: the words are there that each command needs.
+fn read_command<'a>(matches: &ArgMatches<'a>, defaults: &Defaults) -> Option<Arguments<'a>> {
     let (name, given) = matches.subcommand()?;
     match name {
-        "script" => Some(Arguments::Script(read_script(given)?)),
-        "create" => Some(Arguments::Create(read_create(given)?)),
-        "show" => Some(Arguments::Show(text(given, "FILE")?)),
-        "check" => Some(Arguments::Check(read_check(given)?)),
-        "ls" => Some(Arguments::List(text(given, "FILE")?)),
-        "labels" => Some(Arguments::Labels(text(given, "FILE")?)),
-        "get" => Some(Arguments::Get(read_get(given)?)),
-        "put" => Some(Arguments::Put(read_put(given)?)),
-        "rm" => Some(Arguments::Remove(read_remove(given)?)),
-        "load" => Some(Arguments::Load(read_load(given)?)),
-        "serve" => Some(Arguments::Serve(read_serve(given)?)),
+        "create" => read_create(given, defaults),
+        "show" => read_show(given),
+        "check" => read_check(given),
+        "ls" => read_list(given),
+        "df" => read_space(given),
+        "get" => read_get(given),
+        "put" => read_put(given, defaults),
+        "rm" => read_remove(given, defaults),
+        "labels" => read_labels(given),
+        "load" => read_load(given),
+        "serve" => read_serve(given, defaults),
+        "bench" => read_bench(given),
+        "script" => read_script(given),
         _ => None,
     }
 }
@@ -38,88 +89,224 @@ pub fn read_options(matches: &ArgMatches<'_>) -> Options {
     }
 }
 
-fn read_script<'a>(given: &ArgMatches<'a>) -> Option<ScriptArguments<'a>> {
-    Some(ScriptArguments {
+fn read_create<'a>(given: &ArgMatches<'a>, defaults: &Defaults) -> Option<Arguments<'a>> {
+    let command = if given.contains_id("size") {
+        ChangeCommand::CreateSized(read_sized(given, defaults)?)
+    } else {
+        ChangeCommand::Create(read_four_words(given)?)
+    };
+    Some(Arguments::Change(command))
+}
+
+fn read_four_words<'a>(given: &ArgMatches<'a>) -> Option<CreateArguments<'a>> {
+    Some(CreateArguments {
+        file: text(given, "FILE")?,
+        name: text(given, "NAME")?,
+        guid: number(given, "GUID")?,
+        size: size(given, "SIZE")?,
+        only_new: given.get_flag("new"),
+        moment: number(given, "moment").unwrap_or(0),
+    })
+}
+
+fn read_sized<'a>(given: &ArgMatches<'a>, defaults: &Defaults) -> Option<SizedArguments<'a>> {
+    Some(SizedArguments {
+        file: text(given, "FILE")?,
+        name: text(given, "name"),
+        guid: number(given, "guid").or(defaults.guid)?,
+        size: size(given, "size")?,
+        only_new: given.get_flag("new"),
+        force: given.get_flag("force"),
+        moment: moment_or_now(given, defaults),
+    })
+}
+
+fn read_show<'a>(given: &ArgMatches<'a>) -> Option<Arguments<'a>> {
+    let command = ReadCommand::Show(read_report(given)?);
+    Some(Arguments::Read(command))
+}
+
+fn read_labels<'a>(given: &ArgMatches<'a>) -> Option<Arguments<'a>> {
+    let command = ReadCommand::Labels(read_report(given)?);
+    Some(Arguments::Read(command))
+}
+
+fn read_report<'a>(given: &ArgMatches<'a>) -> Option<ReportArguments<'a>> {
+    Some(ReportArguments {
+        file: text(given, "FILE")?,
+        form: report_form(given),
+    })
+}
+
+fn read_check<'a>(given: &ArgMatches<'a>) -> Option<Arguments<'a>> {
+    let command = ReadCommand::Check(CheckArguments {
+        file: text(given, "FILE")?,
+        all: given.get_flag("all"),
+        form: report_form(given),
+    });
+    Some(Arguments::Read(command))
+}
+
+fn report_form(given: &ArgMatches<'_>) -> ReportForm {
+    if given.get_flag("json") {
+        ReportForm::Json
+    } else {
+        ReportForm::Lines
+    }
+}
+
+fn read_list<'a>(given: &ArgMatches<'a>) -> Option<Arguments<'a>> {
+    let command = ReadCommand::List(ListArguments {
+        file: text(given, "FILE")?,
+        form: list_form(given),
+    });
+    Some(Arguments::Read(command))
+}
+
+// JSON has the blocks in any case.
+fn list_form(given: &ArgMatches<'_>) -> ListForm {
+    if given.get_flag("json") {
+        ListForm::Json
+    } else if given.get_flag("long") {
+        ListForm::Long
+    } else {
+        ListForm::Short
+    }
+}
+
+fn read_space<'a>(given: &ArgMatches<'a>) -> Option<Arguments<'a>> {
+    let unit = if given.get_flag("human-readable") {
+        SpaceUnit::Powers
+    } else {
+        SpaceUnit::Bytes
+    };
+    let command = ReadCommand::Space(SpaceArguments {
+        file: text(given, "FILE")?,
+        unit,
+    });
+    Some(Arguments::Read(command))
+}
+
+fn read_get<'a>(given: &ArgMatches<'a>) -> Option<Arguments<'a>> {
+    let file = text(given, "FILE")?;
+    let offset = size(given, "offset")?;
+    let length = size(given, "length");
+    let command = match object(given)? {
+        Named::Number(object) => ReadCommand::Get(GetArguments {
+            file,
+            object,
+            offset,
+            length,
+        }),
+        Named::Name(name) => ReadCommand::GetNamed(GetNamedArguments {
+            file,
+            name,
+            offset,
+            length,
+        }),
+    };
+    Some(Arguments::Read(command))
+}
+
+fn read_put<'a>(given: &ArgMatches<'a>, defaults: &Defaults) -> Option<Arguments<'a>> {
+    let file = text(given, "FILE")?;
+    let offset = size(given, "offset");
+    let moment = moment_or_now(given, defaults);
+    let command = match object(given)? {
+        Named::Number(object) => ChangeCommand::Put(PutArguments {
+            file,
+            object,
+            offset,
+            moment,
+        }),
+        Named::Name(name) => ChangeCommand::PutNamed(PutNamedArguments {
+            file,
+            name,
+            offset,
+            moment,
+        }),
+    };
+    Some(Arguments::Change(command))
+}
+
+fn read_remove<'a>(given: &ArgMatches<'a>, defaults: &Defaults) -> Option<Arguments<'a>> {
+    let file = text(given, "FILE")?;
+    let moment = moment_or_now(given, defaults);
+    let command = match object(given)? {
+        Named::Number(object) => ChangeCommand::Remove(RemoveArguments {
+            file,
+            object,
+            moment,
+        }),
+        Named::Name(name) => ChangeCommand::RemoveNamed(RemoveNamedArguments {
+            file,
+            name,
+            moment,
+        }),
+    };
+    Some(Arguments::Change(command))
+}
+
+fn read_load<'a>(given: &ArgMatches<'a>) -> Option<Arguments<'a>> {
+    Some(Arguments::Load(LoadArguments {
+        file: text(given, "FILE")?,
+        order: read_order(given)?,
+        dirty_max: size(given, "dirty")?,
+        cache_blocks: number(given, "cache")?,
+        moment: number(given, "moment")?,
+    }))
+}
+
+fn read_order(given: &ArgMatches<'_>) -> Option<Order> {
+    Some(Order {
+        workers: small_number(given, "workers")?,
+        writes: small_number(given, "ops")?,
+        seed: number(given, "seed")?,
+    })
+}
+
+fn read_serve<'a>(given: &ArgMatches<'a>, defaults: &Defaults) -> Option<Arguments<'a>> {
+    Some(Arguments::Serve(ServeArguments {
+        file: text(given, "FILE")?,
+        dirty_max: size(given, "dirty")?,
+        cache_blocks: number(given, "cache")?,
+        moment: moment_or_now(given, defaults),
+    }))
+}
+
+fn read_bench<'a>(given: &ArgMatches<'a>) -> Option<Arguments<'a>> {
+    Some(Arguments::Bench(BenchArguments {
+        file: text(given, "FILE")?,
+        size: size(given, "size")?,
+        order: read_bench_order(given)?,
+        dirty_max: size(given, "dirty")?,
+    }))
+}
+
+fn read_bench_order(given: &ArgMatches<'_>) -> Option<BenchOrder> {
+    Some(BenchOrder {
+        workers: number(given, "workers")?,
+        bytes: size(given, "bytes")?,
+        seconds: number(given, "seconds")?,
+        is_durable: given.get_flag("durable"),
+    })
+}
+
+fn read_script<'a>(given: &ArgMatches<'a>) -> Option<Arguments<'a>> {
+    Some(Arguments::Script(ScriptArguments {
         device: read_device(given)?,
         script: text(given, "SCRIPT")?,
         moment: number(given, "moment")?,
         stops: given.get_flag("stop"),
         syncs: given.get_flag("sync"),
-    })
+    }))
 }
 
 fn read_device<'a>(given: &ArgMatches<'a>) -> Option<ScriptDevice<'a>> {
     match text(given, "file") {
         Some(file) => Some(ScriptDevice::File(file)),
-        None => Some(ScriptDevice::Memory(number(given, "SIZE")?)),
+        None => Some(ScriptDevice::Memory(size(given, "SIZE")?)),
     }
-}
-
-fn read_create<'a>(given: &ArgMatches<'a>) -> Option<CreateArguments<'a>> {
-    Some(CreateArguments {
-        file: text(given, "FILE")?,
-        name: text(given, "NAME")?,
-        guid: number(given, "GUID")?,
-        size: number(given, "SIZE")?,
-        only_new: given.get_flag("new"),
-        moment: number(given, "moment")?,
-    })
-}
-
-fn read_load<'a>(given: &ArgMatches<'a>) -> Option<LoadArguments<'a>> {
-    Some(LoadArguments {
-        file: text(given, "FILE")?,
-        order: Order {
-            workers: small_number(given, "workers")?,
-            writes: small_number(given, "ops")?,
-            seed: number(given, "seed")?,
-        },
-        dirty_max: number(given, "dirty")?,
-        cache_blocks: number(given, "cache")?,
-        moment: number(given, "moment")?,
-    })
-}
-
-fn read_get<'a>(given: &ArgMatches<'a>) -> Option<GetArguments<'a>> {
-    Some(GetArguments {
-        file: text(given, "FILE")?,
-        object: small_number(given, "OBJECT")?,
-        offset: number(given, "offset")?,
-        length: number(given, "length"),
-    })
-}
-
-fn read_put<'a>(given: &ArgMatches<'a>) -> Option<PutArguments<'a>> {
-    Some(PutArguments {
-        file: text(given, "FILE")?,
-        object: small_number(given, "OBJECT")?,
-        offset: number(given, "offset"),
-        moment: number(given, "moment")?,
-    })
-}
-
-fn read_remove<'a>(given: &ArgMatches<'a>) -> Option<RemoveArguments<'a>> {
-    Some(RemoveArguments {
-        file: text(given, "FILE")?,
-        object: small_number(given, "OBJECT")?,
-        moment: number(given, "moment")?,
-    })
-}
-
-fn read_check<'a>(given: &ArgMatches<'a>) -> Option<CheckArguments<'a>> {
-    Some(CheckArguments {
-        file: text(given, "FILE")?,
-        all: given.get_flag("all"),
-    })
-}
-
-fn read_serve<'a>(given: &ArgMatches<'a>) -> Option<ServeArguments<'a>> {
-    Some(ServeArguments {
-        file: text(given, "FILE")?,
-        dirty_max: number(given, "dirty")?,
-        cache_blocks: number(given, "cache")?,
-        moment: number(given, "moment")?,
-    })
 }
 
 fn text<'a>(given: &ArgMatches<'a>, name: &str) -> Option<&'a str> {
@@ -133,4 +320,8 @@ fn number(given: &ArgMatches<'_>, name: &str) -> Option<u64> {
 // A number below 2^32.
 fn small_number(given: &ArgMatches<'_>, name: &str) -> Option<u32> {
     given.get_one::<u32>(name)
+}
+
+fn moment_or_now(given: &ArgMatches<'_>, defaults: &Defaults) -> u64 {
+    number(given, "moment").unwrap_or(defaults.moment)
 }

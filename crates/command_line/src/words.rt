@@ -1,92 +1,117 @@
-//! The words of the commands, each with its help. `{n}` ends a line of a help, which has at most 100 columns.
+//! A word of a command as a constant, and what `clap` makes of it.
+//!
+//! A command has its words as a table, and one loop hands them to `clap`: a function that lists the words itself drops
+//! them if there is no memory, and each such drop is dear to prove.
 
-use clap::{Arg, ArgAction, value_parser};
-use std::alloc::Global;
+use clap::builder::ValueParser;
+use clap::{Arg, ArgAction, Command};
+use std::alloc::{AllocError, Global};
 
-/// What the help says of a size.
-pub(crate) const SIZE_HELP: &str =
-    "The bytes of the device, in whole sectors of 512 bytes (a rest is ignored):{n}\
-    6291456 to 1073741824, a multiple of 262144";
-
-/// A word that has to be there.
-pub(crate) fn word<'a>(alloc: Global, name: &'a str, help: &'a str) -> Arg<'a> {
-    Arg::new(alloc, name).required(true).help(help)
+/// A word of a command, or an option.
+#[derive(Clone, Copy)]
+pub(crate) struct Word {
+    /// Its name, by which it is read. That of an option is its long form.
+    pub name: &'static str,
+    /// How it is given.
+    pub form: Form,
+    /// Whether it has to be given, and beside which others.
+    pub rule: Rule,
+    /// What the help says of it. `{n}` ends a line, which has at most 100 columns.
+    pub help: &'static str,
 }
 
-/// A number below 2^64 that has to be there.
-pub(crate) fn number<'a>(alloc: Global, name: &'a str, help: &'a str) -> Arg<'a> {
-    word(alloc, name, help).value_parser(value_parser!(u64))
+/// How a word is given.
+#[derive(Clone, Copy)]
+pub(crate) enum Form {
+    /// In its place after the command's name.
+    Place(Value),
+    /// As an option with a value, which the help gives this name.
+    Option(&'static str, Value),
+    /// As an option without a value.
+    Flag,
+    /// As an option without a value, which also has this letter.
+    Letter(char),
+    /// As an option that asks for the help.
+    Help,
 }
 
-/// An option with a value, which the help gives this name.
-pub(crate) fn option<'a>(alloc: Global, name: &'a str, value: &'a str, help: &'a str) -> Arg<'a> {
-    Arg::new(alloc, name)
-        .long(name)
-        .value_name(value)
-        .help(help)
+/// Which texts a word may have.
+#[derive(Clone, Copy)]
+pub(crate) enum Value {
+    /// Any.
+    Text,
+    /// The digits of a number from the first one to the second.
+    Number(u64, u64),
 }
 
-/// An option whose value is a number below 2^64.
-pub(crate) fn number_option<'a>(
+/// Whether a word has to be given, and beside which others.
+#[derive(Clone, Copy)]
+pub(crate) enum Rule {
+    /// It may be left out.
+    Free,
+    /// It has to be given.
+    Needed,
+    /// This stands for it if it is left out.
+    Default(&'static str),
+    /// It has to be given if this other one is not.
+    Unless(&'static str),
+    /// It has to be given if this other one is not, and only then.
+    InPlaceOf(&'static str),
+    /// It may not be given beside this other one.
+    Without(&'static str),
+    /// It may be given only beside this other one.
+    With(&'static str),
+}
+
+/// The command with these words, too. If they are global, each subcommand has them.
+pub(crate) fn with_words<'a>(
     alloc: Global,
-    name: &'a str,
-    value: &'a str,
-    help: &'a str,
-) -> Arg<'a> {
-    option(alloc, name, value, help).value_parser(value_parser!(u64))
+    command: Command<'a>,
+    words: &[Word],
+    are_global: bool,
+) -> Result<Command<'a>, AllocError> {
+    let mut command = command;
+    for word in words {
+        command = command.arg(argument(alloc, word)?.global(are_global))?;
+    }
+    Ok(command)
 }
 
-/// An option without a value.
-pub(crate) fn flag<'a>(alloc: Global, name: &'a str, help: &'a str) -> Arg<'a> {
-    Arg::new(alloc, name)
-        .long(name)
-        .help(help)
-        .action(ArgAction::SetTrue)
+// The word as `clap` has it.
+fn argument<'a>(alloc: Global, word: &Word) -> Result<Arg<'a>, AllocError> {
+    let named = Arg::new(alloc, word.name).help(word.help);
+    ruled(formed(named, word.name, word.form), word.rule)
 }
 
-/// The file of a pool that the command only reads.
-pub(crate) fn read_file<'a>(alloc: Global) -> Arg<'a> {
-    word(
-        alloc,
-        "FILE",
-        "The path of the file, a regular file that no process has open as a pool to write",
-    )
+fn formed<'a>(arg: Arg<'a>, name: &'static str, form: Form) -> Arg<'a> {
+    match form {
+        Form::Place(value) => valued(arg, value),
+        Form::Option(value_name, value) => valued(arg.long(name).value_name(value_name), value),
+        Form::Flag => arg.long(name).action(ArgAction::SetTrue),
+        Form::Letter(letter) => arg.long(name).short(letter).action(ArgAction::SetTrue),
+        Form::Help => arg.long(name).action(ArgAction::Help),
+    }
 }
 
-/// The file of a pool that the command changes.
-pub(crate) fn written_file<'a>(alloc: Global) -> Arg<'a> {
-    word(
-        alloc,
-        "FILE",
-        "The path of the file, a regular file that no process has open as a pool",
-    )
+fn valued<'a>(arg: Arg<'a>, value: Value) -> Arg<'a> {
+    match value {
+        Value::Text => arg,
+        Value::Number(least, most) => arg.value_parser(ValueParser::unsigned(least, most)),
+    }
 }
 
-/// The object that the command is about.
-pub(crate) fn object<'a>(alloc: Global) -> Arg<'a> {
-    word(alloc, "OBJECT", "The object's number: 0 to 5291").value_parser(value_parser!(u32))
+fn ruled<'a>(arg: Arg<'a>, rule: Rule) -> Result<Arg<'a>, AllocError> {
+    match rule {
+        Rule::Free => Ok(arg),
+        Rule::Needed => Ok(arg.required(true)),
+        Rule::Default(value) => Ok(arg.default_value(value)),
+        Rule::Unless(other) => arg.required_unless_present(other),
+        Rule::InPlaceOf(other) => in_place_of(arg, other),
+        Rule::Without(other) => arg.conflicts_with(other),
+        Rule::With(other) => arg.requires_arg(other),
+    }
 }
 
-/// The moment of a command that writes uberblocks.
-pub(crate) fn moment<'a>(alloc: Global) -> Arg<'a> {
-    let help = "The moment in seconds that each written uberblock gets: below 2^64";
-    number_option(alloc, "moment", "M", help).default_value("0")
-}
-
-/// The dirty limit of `serve`, that of the library: `DEFAULT_DIRTY_MAX` of `base`.
-pub(crate) const SERVED_DIRTY_LIMIT: &str = "4194304";
-
-/// The dirty limit of `load`, at which loads were always made.
-pub(crate) const LOADED_DIRTY_LIMIT: &str = "1048576";
-
-/// The limit of what is dirty in a pool that runs, which is this one if none is given.
-pub(crate) fn dirty_limit<'a>(alloc: Global, default: &'a str) -> Arg<'a> {
-    let help = "The most bytes that unsynced transactions may be charged:{n}4096 to 2^40";
-    number_option(alloc, "dirty", "D", help).default_value(default)
-}
-
-/// How many tree blocks of a pool that runs stay in memory.
-pub(crate) fn cache_blocks<'a>(alloc: Global) -> Arg<'a> {
-    let help = "The most tree blocks of 4096 bytes kept in memory: 1 to 4096";
-    number_option(alloc, "cache", "C", help).default_value("256")
+fn in_place_of<'a>(arg: Arg<'a>, other: &'static str) -> Result<Arg<'a>, AllocError> {
+    arg.required_unless_present(other)?.conflicts_with(other)
 }
