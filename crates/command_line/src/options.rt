@@ -1,10 +1,10 @@
 //! The words of the commands, each with its help.
 
-use crate::words::{Form, Rule, Value, Word};
+use crate::words::{Form, Rule, Takes, Word};
 use command_arguments::{MAX_WORKERS, MAX_WRITES};
 
 /// A number below 2^64.
-const NUMBER: Value = Value::Number(0, u64::MAX);
+const NUMBER: Takes = Takes::Number(0, u64::MAX);
 
 /// What the help says of the file of a pool that a command changes.
 const WRITTEN_HELP: &str =
@@ -27,7 +27,7 @@ const DIRTY_HELP: &str =
 /// The file of a pool that the command only reads.
 pub(crate) const READ_FILE: Word = Word {
     name: "FILE",
-    form: Form::Place(Value::Text),
+    form: Form::Place(Takes::Text),
     rule: Rule::Needed,
     help: "The path of the file, a regular file that no process has open as a pool to write",
 };
@@ -35,7 +35,7 @@ pub(crate) const READ_FILE: Word = Word {
 /// The file of a pool that the command changes.
 pub(crate) const WRITTEN_FILE: Word = Word {
     name: "FILE",
-    form: Form::Place(Value::Text),
+    form: Form::Place(Takes::Text),
     rule: Rule::Needed,
     help: WRITTEN_HELP,
 };
@@ -43,7 +43,7 @@ pub(crate) const WRITTEN_FILE: Word = Word {
 /// The file of a new pool.
 pub(crate) const CREATED_FILE: Word = Word {
     name: "FILE",
-    form: Form::Place(Value::Text),
+    form: Form::Place(Takes::Text),
     rule: Rule::Needed,
     help: "The path of the file, which is made, or resized to SIZE bytes",
 };
@@ -51,7 +51,7 @@ pub(crate) const CREATED_FILE: Word = Word {
 /// The file of a bench.
 pub(crate) const BENCH_FILE: Word = Word {
     name: "FILE",
-    form: Form::Place(Value::Text),
+    form: Form::Place(Takes::Text),
     rule: Rule::Default("ztxg-bench.pool"),
     help: "The path of the file, which must not exist",
 };
@@ -61,7 +61,7 @@ pub(crate) const BENCH_FILE: Word = Word {
 /// The object that the command is about.
 pub(crate) const OBJECT: Word = Word {
     name: "OBJECT",
-    form: Form::Place(Value::Text),
+    form: Form::Place(Takes::Text),
     rule: Rule::Needed,
     help: "The object's number, 0 to 5291; or its name, after an @",
 };
@@ -77,7 +77,7 @@ pub(crate) const JSON: Word = Word {
 /// The moment of a command that programs give.
 pub(crate) const MOMENT: Word = Word {
     name: "moment",
-    form: Form::Option("M", NUMBER),
+    form: Form::Valued("M", NUMBER),
     rule: Rule::Default("0"),
     help: MOMENT_HELP,
 };
@@ -85,7 +85,7 @@ pub(crate) const MOMENT: Word = Word {
 /// The moment of a command that people type, which is the clock's if none is given.
 pub(crate) const CLOCK_MOMENT: Word = Word {
     name: "moment",
-    form: Form::Option("M", NUMBER),
+    form: Form::Valued("M", NUMBER),
     rule: Rule::Free,
     help: "The moment in seconds that each written uberblock gets: below 2^64;{n}now if not given",
 };
@@ -93,7 +93,7 @@ pub(crate) const CLOCK_MOMENT: Word = Word {
 /// How many tree blocks of a pool that runs stay in memory.
 pub(crate) const CACHE: Word = Word {
     name: "cache",
-    form: Form::Option("C", NUMBER),
+    form: Form::Valued("C", NUMBER),
     rule: Rule::Default("256"),
     help: "The most tree blocks of 4096 bytes kept in memory: 1 to 4096",
 };
@@ -101,7 +101,7 @@ pub(crate) const CACHE: Word = Word {
 /// The dirty limit of `serve` and `bench`, that of the library: `DEFAULT_DIRTY_MAX` of `base`.
 pub(crate) const DIRTY: Word = Word {
     name: "dirty",
-    form: Form::Option("D", Value::Text),
+    form: Form::Valued("D", Takes::Text),
     rule: Rule::Default("4194304"),
     help: DIRTY_HELP,
 };
@@ -109,7 +109,7 @@ pub(crate) const DIRTY: Word = Word {
 /// The dirty limit of `load`, at which loads were always made.
 pub(crate) const LOADED_DIRTY: Word = Word {
     name: "dirty",
-    form: Form::Option("D", Value::Text),
+    form: Form::Valued("D", Takes::Text),
     rule: Rule::Default("1048576"),
     help: DIRTY_HELP,
 };
@@ -118,7 +118,7 @@ pub(crate) const LOADED_DIRTY: Word = Word {
 
 pub(crate) const POOL_NAME: Word = Word {
     name: "NAME",
-    form: Form::Place(Value::Text),
+    form: Form::Place(Takes::Text),
     rule: Rule::Unless("size"),
     help: "The pool's name: 1 to 64 bytes, first a letter, then letters, digits, '-', '_', '.'",
 };
@@ -132,28 +132,28 @@ pub(crate) const POOL_GUID: Word = Word {
 
 pub(crate) const POOL_SIZE: Word = Word {
     name: "SIZE",
-    form: Form::Place(Value::Text),
+    form: Form::Place(Takes::Text),
     rule: Rule::Unless("size"),
     help: SIZE_HELP,
 };
 
 pub(crate) const GIVEN_SIZE: Word = Word {
     name: "size",
-    form: Form::Option("SIZE", Value::Text),
+    form: Form::Valued("SIZE", Takes::Text),
     rule: Rule::Without("NAME"),
     help: "The bytes of the file, as 64M",
 };
 
 pub(crate) const GIVEN_NAME: Word = Word {
     name: "name",
-    form: Form::Option("NAME", Value::Text),
+    form: Form::Valued("NAME", Takes::Text),
     rule: Rule::With("size"),
     help: "The pool's name, if it isn't FILE's",
 };
 
 pub(crate) const GIVEN_GUID: Word = Word {
     name: "guid",
-    form: Form::Option("GUID", NUMBER),
+    form: Form::Valued("GUID", NUMBER),
     rule: Rule::Without("NAME"),
     help: "The pool's guid, if none is to be drawn",
 };
@@ -174,7 +174,7 @@ pub(crate) const FORCE: Word = Word {
 
 pub(crate) const CREATE_MOMENT: Word = Word {
     name: "moment",
-    form: Form::Option("M", NUMBER),
+    form: Form::Valued("M", NUMBER),
     rule: Rule::Free,
     help: "The moment in seconds that each written uberblock gets: below 2^64; if not{n}\
         given, now with --size, and else 0",
@@ -215,21 +215,21 @@ pub(crate) const HELP: Word = Word {
 
 pub(crate) const GET_OFFSET: Word = Word {
     name: "offset",
-    form: Form::Option("O", Value::Text),
+    form: Form::Valued("O", Takes::Text),
     rule: Rule::Default("0"),
     help: "The first byte, as 4096 or 4K",
 };
 
 pub(crate) const LENGTH: Word = Word {
     name: "length",
-    form: Form::Option("L", Value::Text),
+    form: Form::Valued("L", Takes::Text),
     rule: Rule::Free,
     help: "The most bytes, if not all up to the object's end",
 };
 
 pub(crate) const PUT_OFFSET: Word = Word {
     name: "offset",
-    form: Form::Option("O", Value::Text),
+    form: Form::Valued("O", Takes::Text),
     rule: Rule::Free,
     help: "Where the bytes go; without it they replace all that the object has",
 };
@@ -238,21 +238,21 @@ pub(crate) const PUT_OFFSET: Word = Word {
 
 pub(crate) const LOAD_WORKERS: Word = Word {
     name: "workers",
-    form: Form::Option("W", Value::Number(1, MAX_WORKERS as u64)),
+    form: Form::Valued("W", Takes::Number(1, MAX_WORKERS as u64)),
     rule: Rule::Needed,
     help: "The threads that make the writes: 1 to 16",
 };
 
 pub(crate) const OPS: Word = Word {
     name: "ops",
-    form: Form::Option("N", Value::Number(0, MAX_WRITES as u64)),
+    form: Form::Valued("N", Takes::Number(0, MAX_WRITES as u64)),
     rule: Rule::Needed,
     help: "The writes of each of the 16 streams: 0 to 1000000",
 };
 
 pub(crate) const SEED: Word = Word {
     name: "seed",
-    form: Form::Option("S", NUMBER),
+    form: Form::Valued("S", NUMBER),
     rule: Rule::Needed,
     help: "The number from which the writes are drawn: below 2^64",
 };
@@ -261,28 +261,28 @@ pub(crate) const SEED: Word = Word {
 
 pub(crate) const BENCH_SIZE: Word = Word {
     name: "size",
-    form: Form::Option("SIZE", Value::Text),
+    form: Form::Valued("SIZE", Takes::Text),
     rule: Rule::Default("64M"),
     help: "The bytes of FILE, as 64M: 6M to 1G, a multiple of 256K",
 };
 
 pub(crate) const BENCH_WORKERS: Word = Word {
     name: "workers",
-    form: Form::Option("W", NUMBER),
+    form: Form::Valued("W", NUMBER),
     rule: Rule::Default("4"),
     help: "The threads that commit: 1 to 64",
 };
 
 pub(crate) const BYTES: Word = Word {
     name: "bytes",
-    form: Form::Option("B", Value::Text),
+    form: Form::Valued("B", Takes::Text),
     rule: Rule::Default("4096"),
     help: "The bytes of each write: 1 to 64512",
 };
 
 pub(crate) const BENCH_SECONDS: Word = Word {
     name: "seconds",
-    form: Form::Option("T", NUMBER),
+    form: Form::Valued("T", NUMBER),
     rule: Rule::Default("5"),
     help: "How long it takes: 1 to 86400",
 };
@@ -299,21 +299,21 @@ pub(crate) const DURABLE: Word = Word {
 /// The size of a device in memory.
 pub(crate) const MEMORY_SIZE: Word = Word {
     name: "SIZE",
-    form: Form::Place(Value::Text),
+    form: Form::Place(Takes::Text),
     rule: Rule::InPlaceOf("file"),
     help: SIZE_HELP,
 };
 
 pub(crate) const SCRIPT: Word = Word {
     name: "SCRIPT",
-    form: Form::Place(Value::Text),
+    form: Form::Place(Takes::Text),
     rule: Rule::Needed,
     help: "The path of the script, or - for standard input",
 };
 
 pub(crate) const SCRIPT_FILE: Word = Word {
     name: "file",
-    form: Form::Option("FILE", Value::Text),
+    form: Form::Valued("FILE", Takes::Text),
     rule: Rule::Free,
     help: "The path of a file to work on, in place of a device in memory of SIZE bytes",
 };
@@ -351,7 +351,7 @@ pub(crate) const VERBOSE: Word = Word {
 
 pub(crate) const WAIT: Word = Word {
     name: "wait",
-    form: Form::Option("S", Value::Number(0, 86_400)),
+    form: Form::Valued("S", Takes::Number(0, 86_400)),
     rule: Rule::Free,
     help: "Waits up to S seconds for a FILE that another process has: 0 to 86400",
 };

@@ -24,9 +24,9 @@ pub(crate) struct Word {
 #[derive(Clone, Copy)]
 pub(crate) enum Form {
     /// In its place after the command's name.
-    Place(Value),
+    Place(Takes),
     /// As an option with a value, which the help gives this name.
-    Option(&'static str, Value),
+    Valued(&'static str, Takes),
     /// As an option without a value.
     Flag,
     /// As an option without a value, which also has this letter.
@@ -37,7 +37,7 @@ pub(crate) enum Form {
 
 /// Which texts a word may have.
 #[derive(Clone, Copy)]
-pub(crate) enum Value {
+pub(crate) enum Takes {
     /// Any.
     Text,
     /// The digits of a number from the first one to the second.
@@ -86,17 +86,17 @@ fn argument<'a>(alloc: Global, word: &Word) -> Result<Arg<'a>, AllocError> {
 fn formed<'a>(arg: Arg<'a>, name: &'static str, form: Form) -> Arg<'a> {
     match form {
         Form::Place(value) => valued(arg, value),
-        Form::Option(value_name, value) => valued(arg.long(name).value_name(value_name), value),
+        Form::Valued(value_name, value) => valued(arg.long(name).value_name(value_name), value),
         Form::Flag => arg.long(name).action(ArgAction::SetTrue),
         Form::Letter(letter) => arg.long(name).short(letter).action(ArgAction::SetTrue),
         Form::Help => arg.long(name).action(ArgAction::Help),
     }
 }
 
-fn valued<'a>(arg: Arg<'a>, value: Value) -> Arg<'a> {
+fn valued<'a>(arg: Arg<'a>, value: Takes) -> Arg<'a> {
     match value {
-        Value::Text => arg,
-        Value::Number(least, most) => arg.value_parser(ValueParser::unsigned(least, most)),
+        Takes::Text => arg,
+        Takes::Number(least, most) => arg.value_parser(ValueParser::unsigned(least, most)),
     }
 }
 
