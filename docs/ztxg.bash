@@ -3,22 +3,26 @@ _ztxg() {
     local word=${COMP_WORDS[COMP_CWORD]} command= index
     for ((index = 1; index < COMP_CWORD; index++)); do
         case ${COMP_WORDS[index]} in
-            create|put|get|ls|rm|show|check|labels|load|serve|script) command=${COMP_WORDS[index]}; break ;;
+            create|put|get|ls|df|rm|show|check|labels|load|serve|bench|script) command=${COMP_WORDS[index]}; break ;;
         esac
     done
     if [[ -z $command ]]; then
-        COMPREPLY=($(compgen -W "create put get ls rm show check labels load serve script help -q --quiet -v --verbose --wait -h --help -V --version" -- "$word"))
+        COMPREPLY=($(compgen -W "create put get ls df rm show check labels load serve bench script help -q --quiet -v --verbose --wait -h --help -V --version" -- "$word"))
         return
     fi
     local options="-q --quiet -v --verbose --wait -h --help"
     case $command in
-        create) options+=" --new --moment" ;;
+        create) options+=" --size --name --guid --new --force --moment" ;;
         put) options+=" --offset --moment" ;;
         get) options+=" --offset --length" ;;
-        check) options+=" --all" ;;
+        ls) options+=" -l --long --json" ;;
+        df) options="-q --quiet -v --verbose --wait --help -h --human-readable" ;;
+        check) options+=" --all --json" ;;
+        show|labels) options+=" --json" ;;
         rm) options+=" --moment" ;;
         load) options+=" --workers --ops --seed --dirty --cache --moment" ;;
         serve) options+=" --dirty --cache --moment" ;;
+        bench) options+=" --size --workers --bytes --seconds --dirty --durable" ;;
         script) options+=" --file --moment --stop --sync" ;;
     esac
     if [[ $word == -* ]]; then

@@ -2,8 +2,7 @@
 
 A command or an option that one of them lacks is a fault. Read are:
 
-- `crates/command_line/src`: the commands by `described`, `reading_command` and `reporting_command`, their options by
-  `flag`, `option`, `number_option` and `size_option` with a name, also in functions that are called there;
+- `crates/command_line/src`: the constants of `Word`, and which of them each `CommandWords` and `OPTIONS` list;
 - docs/COMMANDS.md: `ztxg NAME ..` in code, and the table of the options that each command takes;
 - docs/ztxg.1: the entries of "COMMANDS" and "OPTIONS";
 - docs/ztxg.bash: the words of each command.
@@ -21,33 +20,29 @@ PAGE, MAN, COMPLETION = "docs/COMMANDS.md", "docs/ztxg.1", "docs/ztxg.bash"
 # The parser's own.
 OWN = {"-h", "--help", "-V", "--version"}
 
-FUNCTION = re.compile(r"^(?:pub(?:\(crate\))? )?fn (\w+)[^\n]*?(?:\n[^\n]*?)*?\{\n(.*?)^\}", re.M | re.S)
-OPTION = re.compile(r'\b(?:flag|option|number_option|size_option)\(\s*alloc,\s*"([\w-]+)"')
-COMMAND = re.compile(r'\b(?:described|reading_command|reporting_command)\(\s*alloc,\s*"(\w+)"')
-SHORT = re.compile(r"\.short\('(\w)'\)")
+WORD = re.compile(r'^(?:pub(?:\(crate\))? )?const (\w+): Word = Word \{\n\s*name: "([\w-]+)",\n\s*form: Form::(.*),$', re.M)
+COMMAND = re.compile(r'\bCommandWords \{\n\s*name: "(\w+)",.*?\bwords: &\[(.*?)\]', re.S)
+SHARED = re.compile(r"\bconst OPTIONS: \[Word; \d+\] = \[(.*?)\];", re.S)
+LETTER = re.compile(r"Letter\('(\w)'\)")
 WORDS = re.compile(r"(?<![\w-])--?[a-zA-Z][\w-]*")
 
 
-def functions(text):
-    """The bodies of functions by their names."""
-    return dict(FUNCTION.findall(text))
-
-
-def options_of(name, bodies):
-    """The options that a function names, and those that the functions name which it calls."""
-    body = bodies[name]
-    found = {f"--{option}" for option in OPTION.findall(body)} | {f"-{letter}" for letter in SHORT.findall(body)}
-    for called in set(re.findall(r"\b(\w+)\(", body)) & bodies.keys() - {name}:
-        found |= options_of(called, bodies)
-    return found
+def options_of(constant, words):
+    """The option that a constant of a word is, with its letter. A word in its place is none."""
+    name, form = words[constant]
+    return set() if form.startswith("Place") else {f"--{name}", *(f"-{letter}" for letter in LETTER.findall(form))}
 
 
 def of_source(text):
     """The options of each command, and those of all commands."""
-    bodies = functions(text)
-    named = ((name, COMMAND.search(body)) for name, body in bodies.items())
-    commands = {command[1]: options_of(name, bodies) - OWN for name, command in named if command}
-    return commands, options_of("with_options", bodies) if "with_options" in bodies else set()
+    words = {constant: (name, form) for constant, name, form in WORD.findall(text)}
+
+    def options(listed):
+        return {option for constant in re.findall(r"\w+", listed) for option in options_of(constant, words)}
+
+    shared = SHARED.search(text)
+    commands = {name: options(listed) - OWN for name, listed in COMMAND.findall(text)}
+    return commands, options(shared[1]) if shared else set()
 
 
 def of_page(text):

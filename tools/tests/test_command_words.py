@@ -4,28 +4,52 @@ from tools.repository import command_words
 from tools.repository.command_words import COMPLETION, MAN, PAGE, SOURCES
 
 SOURCE = '''
-fn put_command<'a>(alloc: Global) -> Result<Command<'a>, AllocError> {
-    let words = vec![in alloc; number_option(
-        alloc,
-        "offset", "O", ""), moment(alloc)]?;
-    described(alloc, "put", about, help::PUT).args(words)
-}
+pub(crate) const FILE: Word = Word {
+    name: "FILE",
+    form: Form::Place(Takes::Text),
+    rule: Rule::Needed,
+    help: "",
+};
 
-fn show_command<'a>(alloc: Global) -> Result<Command<'a>, AllocError> {
-    reading_command(alloc, "show", about, help::SHOW)
-}
+pub(crate) const OFFSET: Word = Word {
+    name: "offset",
+    form: Form::Valued("O", Takes::Text),
+    rule: Rule::Free,
+    help: "",
+};
 
-pub(crate) fn moment<'a>(alloc: Global) -> Arg<'a> {
-    number_option(alloc, "moment", "M", help)
-}
+const MOMENT: Word = Word {
+    name: "moment",
+    form: Form::Valued("M", Takes::Number(0, 9)),
+    rule: Rule::Default("0"),
+    help: "",
+};
 
-fn with_options<'a>(alloc: Global, program: Command<'a>) -> Result<Command<'a>, AllocError> {
-    program.arg(quiet(alloc))
-}
+const QUIET: Word = Word {
+    name: "quiet",
+    form: Form::Letter('q'),
+    rule: Rule::Free,
+    help: "",
+};
 
-fn quiet<'a>(alloc: Global) -> Arg<'a> {
-    flag(alloc, "quiet", help).short('q').global(true)
-}
+const COMMANDS: [CommandWords; 2] = [
+    CommandWords {
+        name: "put",
+        about: "Puts",
+        words: &[
+            FILE,
+            OFFSET,
+            MOMENT,
+        ],
+    },
+    CommandWords {
+        name: "show",
+        about: "Shows",
+        words: &[FILE],
+    },
+];
+
+const OPTIONS: [Word; 1] = [QUIET];
 '''
 COMMANDS = "**`ztxg put FILE [--offset O] [--moment M]`** and `ztxg show FILE`.\n\n| option | what it does |\n|---|---|\n| `-q`, `--quiet` | no cause |\n\n"
 MANUAL = r'''.SH COMMANDS
