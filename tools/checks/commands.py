@@ -7,10 +7,11 @@ files hold.
 - New files, byte for byte; a file that is there keeps what a create doesn't write.
 - What `show`, `check` and `ls` print of a pool that is new, synced, logged, damaged or missing. The moments that are
   stored. Bytes that are put and got. What labels hold. What a script may do at its end.
+- Sizes with a letter, `create --size`, long lists, the space of a pool, reports as JSON (`tools/rows/report_rows.py`).
 - Faults of the command line, files that can't be used and why, values outside their limits, locks of other processes,
   output that can't be written, standard streams that are closed or terminals.
 - A script answers each line before the next one comes. A load shows its progress on a terminal alone, and names the
-  objects that it empties.
+  objects that it empties. A bench prints numbers that agree, leaves no file, and takes none that is there.
 - The help and the version.
 
 Each difference is printed, and then the status is 1. The end prints how many runs were compared.
@@ -40,6 +41,7 @@ from tools.model.layout import AREA, BLOCK, CONFIG_AT, LABEL, MIB, block_count, 
 from tools.model.pool_bytes import number_at
 from tools.model.serial_pool import LEAST
 from tools.rows.many_groups import many_groups
+from tools.rows.report_rows import json_rows, size_rows, sized_rows, space_rows
 
 SIZE = 8 * MIB
 SECONDS = 20
@@ -100,14 +102,23 @@ def commands(file):
         "script": ["script", "--file", file, "-"],
         "put": ["put", file, "1"],
         "ls": ["ls", file],
+        "df": ["df", file],
         "get": ["get", file, "1"],
         "rm": ["rm", file, "1"],
         "labels": ["labels", file],
     }
 
 
+# What stands for options that are not given, in the order of the help, as COMMANDS.md has it.
+DEFAULTS = {
+    "get": ["0"],
+    "load": ["1048576", "256", "0"],
+    "serve": ["4194304", "256"],
+    "bench": ["ztxg-bench.pool", "64M", "4", "4096", "5", "4194304"],
+    "script": ["0"],
+}
 # These only read their file.
-READERS = ("show", "check", "ls", "get", "labels")
+READERS = ("show", "check", "ls", "df", "get", "labels")
 
 
 class Commands(Judge):
@@ -443,6 +454,9 @@ class Commands(Judge):
             [*load, *LOAD, "--dirty", past],
             [*load, *LOAD, "--cache", past],
             ["show", b"\xff"],
+            ["bench", "--seconds", past],
+            ["bench", "one", "two"],
+            *([word, "fault.pool", text] for word in ("get", "put", "rm") for text in ("", "1x", "-", str(2**32))),
         ]:
             status, out, errors = self.run(words, quiet=False)
             if (status, out) != (2, "") or not errors:
@@ -492,6 +506,11 @@ class Commands(Judge):
             ([*put, "--offset", str(most - 2)], "11 BadRange", end.replace(" E:", f" {most + 1}:")),
             (["load", name, *LOAD, "--dirty", "1"], "11 BadRange", causes["D"].replace(" D:", " 1:")),
             (["load", name, *LOAD, "--cache", "4097"], "11 BadRange", causes["C"].replace(" C:", " 4097:")),
+            (["bench", "--size", "1"], "8 BadGeometry", causes["SIZE"].replace(" S:", " 1:")),
+            (["bench", "--workers", "0"], "11 BadRange", causes["W of a bench"].replace(" W:", " 0:")),
+            (["bench", "--bytes", "64513"], "11 BadRange", causes["B"].replace(" B:", " 64513:")),
+            (["bench", "--seconds", "86401"], "11 BadRange", causes["T"].replace(" T:", " 86401:")),
+            (["bench", "--dirty", "1"], "11 BadRange", causes["D"].replace(" D:", " 1:")),
         ]:
             self.ends(words, 1, errors=f"ztxg: refused {refusal}\nztxg: cause: {cause}\n", script="xy", quiet=False)
         cause = causes["an input of more bytes"]
@@ -670,6 +689,37 @@ class Commands(Judge):
         if running.returncode or not out.startswith(b"committed 145\n") or not percents or max(percents) != 100:
             self.differ("a load on a terminal shows", shown)
 
+    def benches(self):
+        """A bench prints a line for each of its numbers and leaves no file. One that is there is left as it is."""
+        names = [name.strip("`") for cell, _ in table("| NAME | VALUE |") for name in cell.split(", ")]
+        short = ["bench", "--seconds", "1", "--size", str(SIZE)]
+        few = ["new.bench", "--durable", "--workers", "2", "--bytes", "100", "--dirty", "1048576"]
+        for words, size in [(short, 4_096), ([*short, *few], 100)]:
+            status, out, errors = self.run(words)
+            found = {name: int(value) for name, value in (line.split(" ") for line in out.splitlines())}
+            if (status, errors, list(found)) != (0, "", names):
+                self.differ(words, "ends with", (status, out, errors))
+                continue
+            seconds, times = found["time"] / 1_000_000, [found[name] for name in names[-3:]]
+            times[2] += times[2] // 16
+            rates = all(abs(found[f"{name}_per_second"] - found[name] / seconds) <= 1 for name in names[:3])
+            whole = found["bytes"] == size * found["commits"] > 0 and found["flushes"] > 0 and 1 <= seconds < SECONDS
+            if not rates or not whole or times != sorted(times) or found["longest"] > found["time"]:
+                self.differ(words, "has numbers that disagree", found)
+        many = ["bench", "--seconds", "1", "--size", str(LEAST), "--workers", "64", "--bytes", "64512"]
+        for words, refusal in [([*short, "--dirty", "4096"], "17 Throttled"), (many, "16 NoSpace")]:
+            self.ends(words, 1, errors=f"ztxg: refused {refusal}\n")
+        with open("/dev/full", "wb") as full:
+            if (ended := self.run(short, out=full)) != (3, "", ""):
+                self.differ("a bench into a full output ends with", ended)
+        made = pathlib.Path(self.make("bench.pool")).read_bytes()
+        os.symlink("nowhere", "link.bench")
+        for file, cause in [("bench.pool", errno.EEXIST), ("link.bench", errno.EEXIST), ("no/file", errno.ENOENT)]:
+            self.unusable([*short, file], file, system(cause))
+        left = [name for name in ("ztxg-bench.pool", "new.bench", "nowhere") if os.path.lexists(name)]
+        if left or pathlib.Path("bench.pool").read_bytes() != made:
+            self.differ("benches leave", left, "or change a file that was there")
+
     def terminals(self):
         """A put says that it reads from a terminal, and a serve doesn't write to one."""
         name = self.make("terminal.pool")
@@ -701,17 +751,14 @@ class Commands(Judge):
         self.ends(["--version"], 0, f"ztxg {version} ({kit})\n", quiet=False)
         names = {(number, name) for number, name, _ in table("| n | name | when |")}
         names |= {("7", "Damaged KIND ADDRESS")}
-        for words in [["--help"], *([name, "--help"] for name in [*commands(""), "serve"])]:
+        for words in [["--help"], *([name, "--help"] for name in [*commands(""), "serve", "bench"])]:
             status, out, errors = self.run(words, quiet=False)
             if (status, errors) != (0, "") or not out:
                 self.differ(words, "ends with", (status, errors))
             wide = [line for line in out.splitlines() if len(line) > 100]
             if wide:
                 self.differ(words, "has lines of more than 100 columns", wide)
-            defaults = {"load": ["1048576", "256", "0"], "serve": ["4194304", "256", "0"]}.get(words[0], [])
-            if words[0] in ("create", "script", "get", "put", "rm"):
-                defaults = ["0"]
-            if re.findall(r"\[default: (\w+)\]", out) != defaults:
+            if re.findall(r"\[default: (.*?)\]", out) != (defaults := DEFAULTS.get(words[0], [])):
                 self.differ(words, "names other defaults than", defaults)
             if words != ["--help"]:
                 refusals = out.split("Refusals, with status 1")[1:]
@@ -752,8 +799,13 @@ def main(ztxg):
         judge.closed_streams()
         judge.scripts()
         judge.loads()
+        judge.benches()
         judge.terminals()
         judge.texts()
+        size_rows(judge)
+        sized_rows(judge, SYNC, flawed)
+        space_rows(judge)
+        json_rows(judge, SYNC, LOG, flawed)
         os.chdir(TOP)
     print(f"{judge.runs} runs of the program, {judge.differences} differences")
     return int(judge.differences > 0)

@@ -81,6 +81,7 @@ def all_checks():
         Check("hostile_rows"),
         Check("power_failures", needs=cc),
         Check("commands"),
+        Check("named_objects"),
         Check("installs", needs=[*cc, "make", "pkg-config"]),
         Check("two_creates", ["20"]),
         Check("frame_rows"),

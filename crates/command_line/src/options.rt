@@ -193,7 +193,7 @@ pub(crate) const LONG: Word = Word {
     name: "long",
     form: Form::Letter('l'),
     rule: Rule::Free,
-    help: "Prints the most blocks of each object, too",
+    help: "Prints the most blocks of each object, and no names",
 };
 
 pub(crate) const HUMAN_READABLE: Word = Word {
