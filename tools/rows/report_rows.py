@@ -164,13 +164,21 @@ def sized_rows(judge, sync, flawed):
     judge.put(["put", path, "1", "--moment", str(2**40)], "abcd")
 
 
-def shown(judge, words, status, expected):
-    """One line of JSON with these keys in this order, and nothing else."""
-    judge.ends([*words, "--json"], status, json.dumps(expected, separators=(",", ":")) + "\n")
+def keys_of(text):
+    """The keys of objects of JSON in a text."""
+    return set(re.findall(r'"(\w+)":', text))
 
 
 def json_rows(judge, sync, log, flawed):
-    """Reports as JSON, of pools that are new, synced, logged, damaged or missing."""
+    """Reports as JSON, of pools that are new, synced, logged, damaged or missing. They have the keys of the page."""
+    keys = set()
+
+    def shown(judge, words, status, expected):
+        """One line of JSON with these keys in this order, and nothing else."""
+        text = json.dumps(expected, separators=(",", ":"))
+        keys.update(keys_of(text))
+        judge.ends([*words, "--json"], status, text + "\n")
+
     name = judge.make("json.pool", sync)
     objects = [{"object": 1, "length": 4, "blocks": 2}]
     numbers = {"name": "tank", "guid": "77", "group": 9, "import": 1, "blocks": 896, "used": 4, "records": 0}
@@ -219,3 +227,5 @@ def json_rows(judge, sync, log, flawed):
                 judge.differ(words, "into a full output ends well")
         os.truncate("json.pool", 6 * MIB - 1)
         judge.ends([*words, "json.pool"], 1, errors="ztxg: refused 8 BadGeometry\n")
+    if listed := keys ^ keys_of(TEXT.partition("### JSON\n")[2].partition("\n## ")[0]):
+        judge.differ("the page and these rows have other keys of JSON:", sorted(listed))
