@@ -6,13 +6,6 @@ use command_arguments::{MAX_WORKERS, MAX_WRITES};
 /// A number below 2^64.
 const NUMBER: Takes = Takes::Number(0, u64::MAX);
 
-/// What the help says of the file of a pool that a command changes.
-const WRITTEN_HELP: &str =
-    "The path of the file, a regular file that no process has open as a pool";
-
-/// What the help says of a moment.
-const MOMENT_HELP: &str = "The moment in seconds that each written uberblock gets: below 2^64";
-
 /// What the help says of a size.
 const SIZE_HELP: &str =
     "The bytes of the device, in whole sectors of 512 bytes (a rest is ignored):{n}\
@@ -37,7 +30,7 @@ pub(crate) const WRITTEN_FILE: Word = Word {
     name: "FILE",
     form: Form::Place(Takes::Text),
     rule: Rule::Needed,
-    help: WRITTEN_HELP,
+    help: "The path of the file, a regular file that no process has open as a pool",
 };
 
 /// The file of a new pool.
@@ -79,7 +72,7 @@ pub(crate) const MOMENT: Word = Word {
     name: "moment",
     form: Form::Valued("M", NUMBER),
     rule: Rule::Default("0"),
-    help: MOMENT_HELP,
+    help: "The moment in seconds that each written uberblock gets: below 2^64",
 };
 
 /// The moment of a command that people type, which is the clock's if none is given.
