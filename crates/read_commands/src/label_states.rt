@@ -18,7 +18,7 @@ use std::io::{self, Write};
 
 /// What stands in the place of a label's config.
 #[derive(Clone, Copy)]
-pub(crate) enum ConfigState {
+pub enum ConfigState {
     /// A valid config.
     Whole,
     /// A config of a device of this size.
@@ -31,16 +31,18 @@ pub(crate) enum ConfigState {
 
 /// A label, and what stands in the place of its config.
 #[derive(Clone, Copy)]
-pub(crate) struct LabelState {
-    label: usize,
-    config: ConfigState,
+pub struct LabelState {
+    /// Which of the four it is, from 0 on.
+    pub label: usize,
+    /// What stands in the place of its config.
+    pub config: ConfigState,
 }
 
 /// What stands in the places of the four configs of a device. It makes no write and no flush.
 ///
 /// # Errors
 /// `BadGeometry`, before any device call. `Read` if the device refuses one.
-pub(crate) fn read_states<D: SectorDevice>(device: &mut D) -> Result<[LabelState; 4], PoolError>
+pub fn read_states<D: SectorDevice>(device: &mut D) -> Result<[LabelState; 4], PoolError>
     ensures reads { OnlyReads D.SectorDevice result device.old device.new }
     ensures states { IsTrue D.keeps_model
         → IfOk result (AreLabelStates (bytes_of (D.disk device.old).now)) }

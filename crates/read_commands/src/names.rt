@@ -4,7 +4,7 @@ use std::fmt;
 
 /// The name of a file. As text it is itself, or between quotes if it has control characters.
 #[derive(Clone, Copy)]
-pub(crate) struct FileName<'a>(pub &'a str);
+pub struct FileName<'a>(pub &'a str);
 
 impl fmt::Display for FileName<'_> {
     fn fmt<W: fmt::Write>(&self, f: &mut fmt::Formatter<W>) -> fmt::Result {
