@@ -40,7 +40,7 @@ inspected_written D lines i before after writes (Ok device) mounted agrees = rec
 inspected_written D lines i before after writes (Err e) mounted agrees = tt
 
 -- an image mounts one contents, so an inspection of it is told of any that it mounts
-told_of : (image : List ℕ) (i : Inspected) → IsInspectionOf image i → (contents : Contents) → MountsTo image contents → IsToldOf i contents
+pub told_of : (image : List ℕ) (i : Inspected) → IsInspectionOf image i → (contents : Contents) → MountsTo image contents → IsToldOf i contents
 told_of image i (other, told, is) contents (u, chain, mounts) =
     let (same_u, same_chain, same) = mounts_agree image is.u u is.chain chain other contents is.mounts mounts in
     subst (IsToldOf i) same told

@@ -109,19 +109,34 @@ pub fn run_check_all<D: SectorDevice + NotesRefusals, W: Write, E: Write>(
         Err(failure) => return report_failure(failure, file, verbosity, errors),
     };
     match write_found(&found, out) {
-        Ok(()) => status_of(&found.findings),
+        Ok(()) => found.status(),
         Err(failure) => report_failure(failure, file, verbosity, errors),
     }
 }
 
-// All that a check finds on a device: of its pool, and in its labels.
+/// All that a check finds on a device: of its pool, and in its labels.
 #[derive(Drop)]
-struct Found {
-    findings: Vec<Finding>,
-    labels: [LabelState; 4],
+pub struct Found {
+    /// That the pool is whole, that there is none, or each damage.
+    pub findings: Vec<Finding>,
+    /// What stands in the places of the four configs.
+    pub labels: [LabelState; 4],
 }
 
-fn find_opened<D: SectorDevice + NotesRefusals>(
+impl Found {
+    /// The exit status of a check that found this: that of its first finding. No finding of labels changes it.
+    pub fn status(&self) -> u8
+        ensures { result ≡ all_status self.now.findings.items }
+    {
+        status_of(&self.findings)
+    }
+}
+
+/// All that a check finds on what was opened. It makes no write and no flush.
+///
+/// # Errors
+/// Why the file was not opened, or what `check_to_end` is refused for.
+pub fn find_opened<D: SectorDevice + NotesRefusals>(
     alloc: Global,
     opened: &mut Result<D, FileRefusal>,
 ) -> Result<Found, Failure>

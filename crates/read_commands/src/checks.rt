@@ -136,7 +136,11 @@ pub fn run_check<D: SectorDevice + NotesRefusals, W: Write, E: Write>(
     }
 }
 
-fn check_opened<D: SectorDevice + NotesRefusals>(
+/// What a check finds on what was opened. It makes no write and no flush.
+///
+/// # Errors
+/// Why the file was not opened, or what `check_pool` is refused for.
+pub fn check_opened<D: SectorDevice + NotesRefusals>(
     alloc: Global,
     opened: &mut Result<D, FileRefusal>,
 ) -> Result<Finding, Failure>

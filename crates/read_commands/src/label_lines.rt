@@ -2,7 +2,7 @@
 //!
 //! So it says something of a file that holds no pool too: a config is there but for a file of another size, or none is.
 
-ghost use Rattle.std.specs.Prelude.{◌≡◌, ◌≢◌, ◌≤◌, ◌<◌, ◌*◌, ◌⊎◌, Err, IfErr, IfOk, IsErr, IsTrue, OnOk, length, vec_len};
+ghost use Rattle.std.specs.Prelude.{◌≡◌, ◌≢◌, ◌≤◌, ◌<◌, ◌*◌, ◌⊎◌, Err, IfErr, IfOk, IfSome, IsErr, IsTrue, OnOk, length, vec_len};
 ghost use Rattle.base.specs.disk.Disk.{bytes_of};
 ghost use Rattle.base.specs.formats.Geometry.{IsGeometry};
 ghost use Rattle.device_model.specs.Reading.{OnlyReads};
@@ -72,17 +72,58 @@ fn show_labels<D: SectorDevice + NotesRefusals, W: Write>(
     }
 }
 
-// The four configs, and the uberblock arrays of the four labels, which follow one another.
+/// What the four labels of a device hold.
 #[derive(Drop)]
-struct Labels {
-    configs: [ConfigFound; 4],
+pub struct Labels {
+    /// What stands in the places of the four configs.
+    pub configs: [ConfigFound; 4],
+    // The uberblock arrays, which follow one another.
     ring: Vec<u8>,
     ghost size: { vec_len ring ≡ ring_size },
 }
 
+impl Labels {
+    /// How many uberblocks a label has, and the highest group of these, or 0.
+    pub fn count_uberblocks(&self, label: usize) -> (usize, Group)
+        requires { label < 4 }
+    {
+        let mut count: usize = 0;
+        let mut highest = Group(0);
+        for position in 0..SLOT_COUNT {
+            if let Some(found) = uberblock_at(&self.ring, label, position) {
+                count = count.saturating_add(1);
+                highest = highest.max(found.group);
+            }
+        }
+        (count, highest)
+    }
+
+    /// The group of the active uberblock, if there is one.
+    pub fn active_group(&self) -> Option<Group> {
+        match active(&self.ring) {
+            Some(uberblock) => Some(uberblock.group),
+            None => None,
+        }
+    }
+
+    /// The lowest label that has the uberblock of a group.
+    pub fn label_of(&self, group: Group) -> Option<usize>
+        ensures { IfSome result (λ label. label < 4) }
+    {
+        for label in 0..LABEL_COUNT {
+            if let Some(found) = uberblock_at(&self.ring, label, slot(group)) {
+                if found.group == group {
+                    return Some(label);
+                }
+            }
+        }
+        None
+    }
+}
+
 /// What stands in the place of a config.
 #[derive(Drop)]
-pub(crate) enum ConfigFound {
+pub enum ConfigFound {
     /// A valid config.
     Config(LabelConfig),
     /// A config of a device of another size.
@@ -93,7 +134,11 @@ pub(crate) enum ConfigFound {
     Unchecked,
 }
 
-fn read_labels<D: SectorDevice>(alloc: Global, device: &mut D) -> Result<Labels, PoolError>
+/// What the labels of a device hold. It makes no write and no flush.
+///
+/// # Errors
+/// `BadGeometry`, before any device call. `NoMemory` and `Read` when they happen.
+pub fn read_labels<D: SectorDevice>(alloc: Global, device: &mut D) -> Result<Labels, PoolError>
     ensures reads { OnlyReads D.SectorDevice result device.old device.new }
     ensures sized { OnOk result (IsGeometry (D.size device.old)) }
     ensures refused { IfErr result (IsCheckRefusal (D.size device.old)) }
@@ -221,9 +266,9 @@ fn write_labels<W: Write>(labels: &Labels, out: &mut W) -> io::Result<()> {
     for label in 0..LABEL_COUNT {
         write!(out, "label {label} config ")?;
         write_config(&labels.configs[label], out)?;
-        write_ring(label, &labels.ring, out)?;
+        write_uberblocks(labels, label, out)?;
     }
-    write_active(&labels.ring, out)
+    write_active(labels, out)
 }
 
 fn write_config<W: Write>(config: &ConfigFound, out: &mut W) -> io::Result<()> {
@@ -239,18 +284,10 @@ fn write_config<W: Write>(config: &ConfigFound, out: &mut W) -> io::Result<()> {
 }
 
 // How many uberblocks a label has, and the highest group of these.
-fn write_ring<W: Write>(label: usize, ring: &[u8], out: &mut W) -> io::Result<()>
-    requires label { label < 4 }
-    requires ring { length ring.now ≡ ring_size }
+fn write_uberblocks<W: Write>(labels: &Labels, label: usize, out: &mut W) -> io::Result<()>
+    requires { label < 4 }
 {
-    let mut count: usize = 0;
-    let mut highest = Group(0);
-    for position in 0..SLOT_COUNT {
-        if let Some(found) = uberblock_at(ring, label, position) {
-            count = count.saturating_add(1);
-            highest = highest.max(found.group);
-        }
-    }
+    let (count, highest) = labels.count_uberblocks(label);
     if count == 0 {
         return writeln!(out, "label {label} uberblocks 0");
     }
@@ -262,21 +299,14 @@ fn write_ring<W: Write>(label: usize, ring: &[u8], out: &mut W) -> io::Result<()
 }
 
 // The active uberblock, and the lowest label that has it.
-fn write_active<W: Write>(ring: &[u8], out: &mut W) -> io::Result<()>
-    requires { length ring.now ≡ ring_size }
-{
-    let Some(uberblock) = active(ring) else {
+fn write_active<W: Write>(labels: &Labels, out: &mut W) -> io::Result<()> {
+    let Some(group) = labels.active_group() else {
         return writeln!(out, "active none");
     };
-    let group = uberblock.group;
-    for label in 0..LABEL_COUNT {
-        if let Some(found) = uberblock_at(ring, label, slot(group)) {
-            if found.group == group {
-                return writeln!(out, "active {} of label {label}", group.0);
-            }
-        }
+    match labels.label_of(group) {
+        Some(label) => writeln!(out, "active {} of label {label}", group.0),
+        None => writeln!(out, "active {}", group.0),
     }
-    writeln!(out, "active {}", group.0)
 }
 
 // The uberblock in a slot of a label.

@@ -130,7 +130,8 @@ fn write_all<W: Write>(states: &[LabelState; 4], out: &mut W) -> Result<(), Fail
     Ok(())
 }
 
-fn is_some_whole(states: &[LabelState; 4]) -> bool
+/// Whether some label has a valid config.
+pub fn is_some_whole(states: &[LabelState; 4]) -> bool
     ensures { result ≡ some_whole states.now }
 {
     states.iter().any(|state| is_whole(state))

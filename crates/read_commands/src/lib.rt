@@ -17,12 +17,12 @@ mod show;
 mod waiting;
 
 pub use bad_number::BadNumber;
-pub use check_all::{check_to_end, run_check_all};
-pub use checks::{Finding, check_pool, run_check};
+pub use check_all::{Found, check_to_end, find_opened, run_check_all};
+pub use checks::{Finding, check_opened, check_pool, run_check};
 pub use failure::{Failure, NotesRefusals, report_failure, report_refusal};
-pub use label_lines::run_labels;
-pub use label_states::{ConfigState, LabelState, read_states};
+pub use label_lines::{ConfigFound, Labels, read_labels, run_labels};
+pub use label_states::{ConfigState, LabelState, is_some_whole, read_states};
 pub use names::{FileName, Quoted};
 pub use reads::run_get;
-pub use show::{run_list, run_show};
+pub use show::{inspect_opened, run_list, run_show, write_objects};
 pub use waiting::{NewFile, open_within};

@@ -78,8 +78,11 @@ pub fn run_list<D: SectorDevice + NotesRefusals, W: Write, E: Write>(
     }
 }
 
-// What an import of the pool would mount.
-fn inspect_opened<D: SectorDevice + NotesRefusals>(
+/// What an import of the pool on what was opened would mount. It makes no write and no flush.
+///
+/// # Errors
+/// Why the file was not opened, or what `inspect` is refused for.
+pub fn inspect_opened<D: SectorDevice + NotesRefusals>(
     alloc: Global,
     opened: &mut Result<D, FileRefusal>,
 ) -> Result<Inspected, Failure>
@@ -130,8 +133,11 @@ fn write_numbers<W: Write>(inspected: &Inspected, out: &mut W) -> io::Result<()>
     )
 }
 
-// Writes a line for each object.
-fn write_objects<W: Write>(objects: &[(ObjectId, u64)], out: &mut W) -> Result<(), Failure>
+/// Writes a line for each object, with its number and its length.
+///
+/// # Errors
+/// `Unwritten`. Some of the lines may be written then.
+pub fn write_objects<W: Write>(objects: &[(ObjectId, u64)], out: &mut W) -> Result<(), Failure>
     ensures written { OnOk result (Appends (W.contents out.old) (W.contents out.new)
         (object_lines objects.now)) }
     ensures failed { IfErr result (λ failure. failure ≡ Failure.Unwritten) }

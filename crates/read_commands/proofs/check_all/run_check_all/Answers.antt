@@ -1,14 +1,12 @@
-use Rattle.std.proofs.Common.{ap, ◌∙◌}
-use Rattle.read_commands.specs.FoundDamages.{all_status}
 use Rattle.read_commands.proofs.CheckedAll.{all_written, written_or_same}
 use Rattle.read_commands.proofs.check_all.run_check_all.Goals as goal
 
 pub returns-in-Ok-write_found-clause-clean : goal.returns-in-Ok-write_found-clause-clean
 returns-in-Ok-write_found-clause-clean g c = λ zero.
-    all_written g.D.SectorDevice c.in-Ok.found.findings.items c.in-Ok.found.labels c.status_of.result (g.W.Write.contents c.args.out.now) (g.W.Write.contents c.write_found.new.out)
-    c.in-Ok-write_found.ensures.written (c.status_of.ensures ∙ ap all_status c.deref.ensures.value) c.args.opened.now c.in-Ok.ensures.found c.in-Ok.ensures.labels 0 zero
+    all_written g.D.SectorDevice c.in-Ok.found.findings.items c.in-Ok.found.labels c.status.result (g.W.Write.contents c.args.out.now) (g.W.Write.contents c.write_found.new.out)
+    c.in-Ok-write_found.ensures.written c.status.ensures c.args.opened.now c.in-Ok.ensures.found c.in-Ok.ensures.labels 0 zero
 
 pub returns-in-Ok-write_found-clause-damaged : goal.returns-in-Ok-write_found-clause-damaged
 returns-in-Ok-write_found-clause-damaged g c = λ one.
-    written_or_same g.D.SectorDevice c.in-Ok.found.findings.items c.in-Ok.found.labels c.status_of.result (g.W.Write.contents c.args.out.now) (g.W.Write.contents c.write_found.new.out)
-    c.in-Ok-write_found.ensures.written (c.status_of.ensures ∙ ap all_status c.deref.ensures.value) c.args.opened.now c.in-Ok.ensures.found c.in-Ok.ensures.labels 1 one
+    written_or_same g.D.SectorDevice c.in-Ok.found.findings.items c.in-Ok.found.labels c.status.result (g.W.Write.contents c.args.out.now) (g.W.Write.contents c.write_found.new.out)
+    c.in-Ok-write_found.ensures.written c.status.ensures c.args.opened.now c.in-Ok.ensures.found c.in-Ok.ensures.labels 1 one
