@@ -50,7 +50,7 @@ pub lines_of_none : (states : List LabelState) → some_whole states ≡ false �
 lines_of_none states none = rw none refl
 
 -- nothing is printed of a label that has a config
-whole_state : (block : List ℕ) (size label : ℕ) (config : ConfigState) → IsStateOf block size config → (c : Config) → IsConfigBlock block size c → config ≡ Whole
+pub whole_state : (block : List ℕ) (size label : ℕ) (config : ConfigState) → IsStateOf block size config → (c : Config) → IsConfigBlock block size c → config ≡ Whole
 whole_state block size label Whole state c is = refl
 whole_state block size label (OtherSize other) state c is = absurd (state.0 c is)
 whole_state block size label Zeroed state c is = absurd (state.0 c is)

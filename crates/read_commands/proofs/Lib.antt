@@ -1,6 +1,6 @@
-mod CheckedAll
+pub mod CheckedAll
 mod Findings
-mod FoundLabels
+pub mod FoundLabels
 pub mod MountedBytes
 mod OnlyRead
 pub mod PoolLines

@@ -39,20 +39,28 @@ pub fn run_labels<D: SectorDevice + NotesRefusals, W: Write, E: Write>(
     ensures only_read { StaysOpened D.SectorDevice opened.old opened.new }
     ensures unusable { IsErr opened.old → result ≡ 3 }
     ensures size { IfOk opened.old (λ device. (IsGeometry (D.size device) → ⊥) → result ≡ 1) }
+    ensures unprinted { result ≡ 1 → W.contents out.new ≡ W.contents out.old }
     ensures range { result ≤ 3 }
     ensures no_usage { result ≢ 2 }
 {
-    match show_labels(alloc, opened, out) {
+    let labels = match read_opened_labels(alloc, opened) {
+        Ok(labels) => labels,
+        Err(failure) => return report_failure(failure, file, verbosity, errors),
+    };
+    match write_labels(&labels, out) {
         Ok(()) => 0,
-        Err(failure) => report_failure(failure, file, verbosity, errors),
+        Err(_) => report_failure(Failure::Unwritten, file, verbosity, errors),
     }
 }
 
-fn show_labels<D: SectorDevice + NotesRefusals, W: Write>(
+/// What the labels of what was opened hold. It makes no write and no flush.
+///
+/// # Errors
+/// Why the file was not opened, or what `read_labels` is refused for.
+pub fn read_opened_labels<D: SectorDevice + NotesRefusals>(
     alloc: Global,
     opened: &mut Result<D, FileRefusal>,
-    out: &mut W,
-) -> Result<(), Failure>
+) -> Result<Labels, Failure>
     ensures only_read { StaysOpened D.SectorDevice opened.old opened.new }
     ensures unusable { IfErr opened.old (λ cause. result ≡ Err (Failure.Unusable cause)) }
     ensures size { IfOk opened.old (λ device. (IsGeometry (D.size device) → ⊥)
@@ -62,13 +70,9 @@ fn show_labels<D: SectorDevice + NotesRefusals, W: Write>(
         Ok(device) => device,
         Err(cause) => return Err(Failure::Unusable(*cause)),
     };
-    let labels = match read_labels(alloc, device) {
-        Ok(labels) => labels,
-        Err(refusal) => return Err(Failure::of_pool(refusal, device)),
-    };
-    match write_labels(&labels, out) {
-        Ok(()) => Ok(()),
-        Err(_) => Err(Failure::Unwritten),
+    match read_labels(alloc, device) {
+        Ok(labels) => Ok(labels),
+        Err(refusal) => Err(Failure::of_pool(refusal, device)),
     }
 }
 

@@ -137,8 +137,8 @@ pub fn is_some_whole(states: &[LabelState; 4]) -> bool
     states.iter().any(|state| is_whole(state))
 }
 
-// Whether a label has a valid config.
-fn is_whole(state: &LabelState) -> bool
+/// Whether a label has a valid config.
+pub fn is_whole(state: &LabelState) -> bool
     ensures { result ≡ is_whole state.now.config }
 {
     matches!(state.config, ConfigState::Whole)

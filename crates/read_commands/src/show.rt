@@ -133,11 +133,8 @@ fn write_numbers<W: Write>(inspected: &Inspected, out: &mut W) -> io::Result<()>
     )
 }
 
-/// Writes a line for each object, with its number and its length.
-///
-/// # Errors
-/// `Unwritten`. Some of the lines may be written then.
-pub fn write_objects<W: Write>(objects: &[(ObjectId, u64)], out: &mut W) -> Result<(), Failure>
+// Writes a line for each object.
+fn write_objects<W: Write>(objects: &[(ObjectId, u64)], out: &mut W) -> Result<(), Failure>
     ensures written { OnOk result (Appends (W.contents out.old) (W.contents out.new)
         (object_lines objects.now)) }
     ensures failed { IfErr result (λ failure. failure ≡ Failure.Unwritten) }

@@ -1,0 +1,4 @@
+mod PrintedFindings
+mod PrintedLabels
+mod ReportClients
+mod WrittenLists

@@ -1,0 +1,204 @@
+//! Whichever command was asked for that only reads the pool's file.
+
+ghost use Rattle.std.specs.Prelude.{◌≡◌, ◌≢◌, ◌≤◌, IsErr};
+
+use crate::json_checks::{run_json_check, run_json_check_all};
+use crate::json_labels::run_json_labels;
+use crate::json_reports::{run_json_list, run_json_show};
+use crate::long_list::run_long_list;
+use crate::pool_space::run_space;
+use command_arguments::{
+    CheckArguments, ListArguments, ListForm, Options, ReadCommand, ReportArguments, ReportForm,
+    SpaceArguments, Verbosity,
+};
+use device_model::{Access, FileRefusal, HeldFile, SectorDevice};
+use named_reads::{run_get_named, run_list_named};
+use read_commands::{
+    NotesRefusals, open_within, run_check, run_check_all, run_get, run_labels, run_show,
+};
+use std::alloc::Global;
+use std::io::{self, Write};
+use std::os::unix::fs::FileExt;
+use std::rt::Files;
+use std::sync::Wait;
+
+/// Does a command that only reads the pool's file, and returns the exit status. A file that another process has is
+/// waited for as long as the options say. Failures are reported on `errors`, which is standard error.
+pub fn run_read<R: Files + Print + AllocGlobal + Wait, E: Write>(
+    rt: &R,
+    command: ReadCommand<'_>,
+    options: Options,
+    errors: &mut E,
+) -> u8
+where
+    R::File: FileExt + HeldFile,
+    ensures range { result ≤ 3 }
+    ensures no_usage { result ≢ 2 }
+{
+    let opened = open_within(rt, file_of(command), Access::Read, options.wait);
+    let mut out = io::writer(rt);
+    run_opened(
+        rt.alloc(),
+        command,
+        options.verbosity,
+        opened,
+        &mut out,
+        errors,
+    )
+}
+
+// The path of the pool's file.
+fn file_of(command: ReadCommand<'_>) -> &str {
+    match command {
+        ReadCommand::Show(arguments) | ReadCommand::Labels(arguments) => arguments.file,
+        ReadCommand::Check(arguments) => arguments.file,
+        ReadCommand::List(arguments) => arguments.file,
+        ReadCommand::Space(arguments) => arguments.file,
+        ReadCommand::Get(arguments) => arguments.file,
+        ReadCommand::GetNamed(arguments) => arguments.file,
+    }
+}
+
+/// Does a command that only reads on what was opened for it, and returns the exit status. Writes to `out` what the
+/// command prints, and reports a failure on `errors`. The status is 3 if the file was not opened as a device.
+pub fn run_opened<D: SectorDevice + NotesRefusals + Drop, W: Write, E: Write>(
+    alloc: Global,
+    command: ReadCommand<'_>,
+    verbosity: Verbosity,
+    opened: Result<D, FileRefusal>,
+    out: &mut W,
+    errors: &mut E,
+) -> u8
+    ensures unusable { IsErr opened → result ≡ 3 }
+    ensures range { result ≤ 3 }
+    ensures no_usage { result ≢ 2 }
+{
+    match command {
+        ReadCommand::Show(arguments) => show(alloc, arguments, verbosity, opened, out, errors),
+        ReadCommand::Check(arguments) => check(alloc, arguments, verbosity, opened, out, errors),
+        ReadCommand::List(arguments) => list(alloc, arguments, verbosity, opened, out, errors),
+        ReadCommand::Space(arguments) => measure(alloc, arguments, verbosity, opened, out, errors),
+        ReadCommand::Labels(arguments) => {
+            show_labels(alloc, arguments, verbosity, opened, out, errors)
+        }
+        ReadCommand::Get(arguments) => run_get(alloc, arguments, verbosity, opened, out, errors).0,
+        ReadCommand::GetNamed(arguments) => {
+            run_get_named(alloc, arguments, verbosity, opened, out, errors).0
+        }
+    }
+}
+
+// Shows a pool, in lines or as JSON.
+fn show<D: SectorDevice + NotesRefusals + Drop, W: Write, E: Write>(
+    alloc: Global,
+    arguments: ReportArguments<'_>,
+    verbosity: Verbosity,
+    opened: Result<D, FileRefusal>,
+    out: &mut W,
+    errors: &mut E,
+) -> u8
+    ensures unusable { IsErr opened → result ≡ 3 }
+    ensures range { result ≤ 3 }
+    ensures no_usage { result ≢ 2 }
+{
+    let file = arguments.file;
+    let mut opened = opened;
+    match arguments.form {
+        ReportForm::Lines => run_show(alloc, file, verbosity, &mut opened, out, errors),
+        ReportForm::Json => run_json_show(alloc, file, verbosity, &mut opened, out, errors),
+    }
+}
+
+// Checks a pool, to its first damage or to the end, and reports it in lines or as JSON.
+fn check<D: SectorDevice + NotesRefusals + Drop, W: Write, E: Write>(
+    alloc: Global,
+    arguments: CheckArguments<'_>,
+    verbosity: Verbosity,
+    opened: Result<D, FileRefusal>,
+    out: &mut W,
+    errors: &mut E,
+) -> u8
+    ensures unusable { IsErr opened → result ≡ 3 }
+    ensures range { result ≤ 3 }
+    ensures no_usage { result ≢ 2 }
+{
+    let file = arguments.file;
+    let mut opened = opened;
+    match (arguments.all, arguments.form) {
+        (false, ReportForm::Lines) => run_check(alloc, file, verbosity, &mut opened, out, errors),
+        (true, ReportForm::Lines) => {
+            run_check_all(alloc, file, verbosity, &mut opened, out, errors)
+        }
+        (false, ReportForm::Json) => {
+            run_json_check(alloc, file, verbosity, &mut opened, out, errors)
+        }
+        (true, ReportForm::Json) => {
+            run_json_check_all(alloc, file, verbosity, &mut opened, out, errors)
+        }
+    }
+}
+
+// Lists the objects of a pool, in short lines with names, in long lines or as JSON.
+fn list<D: SectorDevice + NotesRefusals + Drop, W: Write, E: Write>(
+    alloc: Global,
+    arguments: ListArguments<'_>,
+    verbosity: Verbosity,
+    opened: Result<D, FileRefusal>,
+    out: &mut W,
+    errors: &mut E,
+) -> u8
+    ensures unusable { IsErr opened → result ≡ 3 }
+    ensures range { result ≤ 3 }
+    ensures no_usage { result ≢ 2 }
+{
+    let file = arguments.file;
+    match arguments.form {
+        ListForm::Short => run_list_named(alloc, file, verbosity, opened, out, errors),
+        ListForm::Long => {
+            let mut opened = opened;
+            run_long_list(alloc, file, verbosity, &mut opened, out, errors)
+        }
+        ListForm::Json => {
+            let mut opened = opened;
+            run_json_list(alloc, file, verbosity, &mut opened, out, errors)
+        }
+    }
+}
+
+// Measures the space of a pool.
+fn measure<D: SectorDevice + NotesRefusals + Drop, W: Write, E: Write>(
+    alloc: Global,
+    arguments: SpaceArguments<'_>,
+    verbosity: Verbosity,
+    opened: Result<D, FileRefusal>,
+    out: &mut W,
+    errors: &mut E,
+) -> u8
+    ensures unusable { IsErr opened → result ≡ 3 }
+    ensures range { result ≤ 3 }
+    ensures no_usage { result ≢ 2 }
+{
+    let mut opened = opened;
+    run_space(alloc, arguments, verbosity, &mut opened, out, errors)
+}
+
+// Shows what the labels of a file hold, in lines or as JSON.
+fn show_labels<D: SectorDevice + NotesRefusals + Drop, W: Write, E: Write>(
+    alloc: Global,
+    arguments: ReportArguments<'_>,
+    verbosity: Verbosity,
+    opened: Result<D, FileRefusal>,
+    out: &mut W,
+    errors: &mut E,
+) -> u8
+    ensures unusable { IsErr opened → result ≡ 3 }
+    ensures range { result ≤ 3 }
+    ensures no_usage { result ≢ 2 }
+{
+    let file = arguments.file;
+    let mut opened = opened;
+    match arguments.form {
+        ReportForm::Lines => run_labels(alloc, file, verbosity, &mut opened, out, errors),
+        ReportForm::Json => run_json_labels(alloc, file, verbosity, &mut opened, out, errors),
+    }
+}
