@@ -37,9 +37,12 @@ abbrev pub power_text : ℕ → List ℕ
 power_text count =
     decimal (count / power_of count) ++ (codes "." ++ (decimal (count % power_of count * 10 / power_of count) ++ letter_of count))
 
+abbrev pub powers_text : ℕ → List ℕ
+powers_text count = if nat_lt count 1024 then decimal count else power_text count
+
 abbrev pub amount_text : SpaceUnit → ℕ → List ℕ
 amount_text unit.Bytes count = decimal count
-amount_text unit.Powers count = if nat_lt count 1024 then decimal count else power_text count
+amount_text unit.Powers count = powers_text count
 
 -- the lines of the space of a pool
 abbrev pub space_lines : SpaceUnit → Space → List ℕ

@@ -50,10 +50,11 @@ where
 // The path of the pool's file.
 fn file_of(command: ReadCommand<'_>) -> &str {
     match command {
-        ReadCommand::Show(arguments) | ReadCommand::Labels(arguments) => arguments.file,
+        ReadCommand::Show(arguments) => arguments.file,
         ReadCommand::Check(arguments) => arguments.file,
         ReadCommand::List(arguments) => arguments.file,
         ReadCommand::Space(arguments) => arguments.file,
+        ReadCommand::Labels(arguments) => arguments.file,
         ReadCommand::Get(arguments) => arguments.file,
         ReadCommand::GetNamed(arguments) => arguments.file,
     }
@@ -81,9 +82,13 @@ pub fn run_opened<D: SectorDevice + NotesRefusals + Drop, W: Write, E: Write>(
         ReadCommand::Labels(arguments) => {
             show_labels(alloc, arguments, verbosity, opened, out, errors)
         }
-        ReadCommand::Get(arguments) => run_get(alloc, arguments, verbosity, opened, out, errors).0,
+        ReadCommand::Get(arguments) => {
+            let (status, _) = run_get(alloc, arguments, verbosity, opened, out, errors);
+            status
+        }
         ReadCommand::GetNamed(arguments) => {
-            run_get_named(alloc, arguments, verbosity, opened, out, errors).0
+            let (status, _) = run_get_named(alloc, arguments, verbosity, opened, out, errors);
+            status
         }
     }
 }

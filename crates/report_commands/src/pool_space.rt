@@ -124,8 +124,26 @@ impl fmt::Display for Amount {
     ghost output = { λ a. Some (amount_text a.unit a.count) };
 
     fn fmt<W: fmt::Write>(&self, f: &mut fmt::Formatter<W>) -> fmt::Result {
-        let count = self.count;
-        if matches!(self.unit, SpaceUnit::Bytes) || count < 1 << 10 {
+        match self.unit {
+            SpaceUnit::Bytes => write!(f, "{}", self.count),
+            SpaceUnit::Powers => write!(f, "{}", InPowers(self.count)),
+        }
+    }
+}
+
+/// A number of bytes in the greatest power of 1,024 that isn't above it, with one decimal. What lies below it is cut.
+#[derive(Clone, Copy)]
+struct InPowers(u64);
+
+impl fmt::Display for InPowers {
+    ghost use Rattle.std.specs.Prelude.{Some};
+    ghost use Rattle.report_commands.specs.Space.{powers_text};
+
+    ghost output = { λ p. Some (powers_text p.0) };
+
+    fn fmt<W: fmt::Write>(&self, f: &mut fmt::Formatter<W>) -> fmt::Result {
+        let count = self.0;
+        if count < 1 << 10 {
             return write!(f, "{count}");
         }
         let power = power_of(count);
