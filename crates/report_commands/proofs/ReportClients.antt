@@ -1,7 +1,7 @@
--- What reports print of an image, where there were no bytes before: of one object of two bytes, of a pool's name, and of its space.
+-- What reports print of an image, where there were no bytes before: of one object of two bytes, of a pool's name, of its space, and of its labels.
 use Rattle.std.proofs.Common.{◌≡◌, ◌++◌, ap, length, map, ℕ, List, [], ◌∷◌, refl, subst, sym, ◌∙◌}
 use Rattle.std.specs.FinMap as finite
-use Rattle.std.specs.Fmt.{digits}
+use Rattle.std.specs.Fmt.{decimal, digits}
 use Rattle.std.specs.Io.KnownBytes.{Appends}
 use Rattle.std.specs.List.{flat_map}
 use Rattle.std.specs.Prelude.{Option, Some, codes}
@@ -13,6 +13,7 @@ use Rattle.base.specs.history.Contents.{Contents}
 use Rattle.inspections.specs.declared.inspection.Inspected.{Inspected}
 use Rattle.command_arguments.specs.declared.reports.SpaceUnit.TheVariants as unit
 use Rattle.report_commands.specs.Json.{json_listed, json_objects, json_shown}
+use Rattle.report_commands.specs.JsonLabels.{PrintsLabels}
 use Rattle.report_commands.specs.ObjectBlocks.{long_line, long_lines}
 use Rattle.read_commands.specs.PoolLines.{WritesInspected}
 use Rattle.report_commands.specs.Space.{amount_text, block_bytes, pool_space_lines, space_lines}
@@ -84,3 +85,14 @@ total_told keeps image before after kept long empty w =
     let blocks : i.blocks ≡ 896 = sym mounted.blocks ∙ ap block_count long in
     let is = appended after (pool_space_lines unit.Powers i) (subst (λ (b : Option (List ℕ)). Appends b after (pool_space_lines unit.Powers i)) empty w.writes) in
     (_, is ∙ ap Some (begins_with_total (block_bytes i.blocks) _ (ap block_bytes blocks)))
+
+-- the labels begin with that of number 0
+zeroth_label : (config rest : List ℕ) → codes "{\"labels\":[" ++ ((codes "{\"label\":" ++ (decimal 0 ++ (codes ",\"config\":" ++ config))) ++ rest)
+    ≡ codes "{\"labels\":[{\"label\":0,\"config\":" ++ (config ++ rest)
+unfolding digits
+zeroth_label config rest = refl
+
+pub labels_told : (before after : Option (List ℕ)) → before ≡ Some [] → PrintsLabels before after → (rest : List ℕ) × (after ≡ Some (codes "{\"labels\":[{\"label\":0,\"config\":" ++ rest))
+labels_told before after empty p =
+    let is = appended after _ (subst (λ (b : Option (List ℕ)). Appends b after _) empty p.writes) in
+    (_, is ∙ ap Some (zeroth_label _ _))

@@ -1,4 +1,4 @@
--- What `show`, `ls`, `check` and `labels` print as JSON.
+-- What `show`, `ls` and `check` print as JSON.
 use Rattle.std.specs.Prelude.{ℕ, ◌++◌, if◌then◌else◌, codes, List, [], ◌∷◌, Option}
 use Rattle.std.specs.Fmt.{decimal}
 use Rattle.std.specs.Io.KnownBytes.{Appends}

@@ -1,3 +1,4 @@
 pub mod Json
+pub mod JsonLabels
 pub mod ObjectBlocks
 pub mod Space

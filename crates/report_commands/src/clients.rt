@@ -116,6 +116,18 @@ fn a_look_at_the_labels_writes_nothing_to_the_device<
     opened
 }
 
+// The output had no bytes before.
+fn a_look_at_the_labels_begins_with_label_0<
+    D: SectorDevice + NotesRefusals + Drop,
+    W: Write,
+    E: Write,
+>(alloc: Global, device: D, out: &mut W, errors: &mut E) -> u8
+    ensures { result ≡ 0 → W.contents out.old ≡ Some [] → (rest : List ℕ)
+        × (W.contents out.new ≡ Some (codes "{\"labels\":[{\"label\":0,\"config\":" ++ rest)) }
+{
+    run_json_labels(alloc, "tank.pool", BRIEF, &mut Ok(device), out, errors)
+}
+
 // A file of 512 bytes can hold no label. Nothing is written then.
 fn a_look_at_the_labels_of_a_small_file_prints_nothing<
     D: SectorDevice + NotesRefusals + Drop,
