@@ -1,0 +1,5 @@
+pub mod CallTimes
+pub mod Devices
+pub mod Measured
+pub mod Slots
+pub mod Sums
