@@ -1,8 +1,8 @@
 //! The pool of a bench, in a new file that is there only as long as the bench runs.
 //!
 //! 1. The file is made new: one that exists is refused by the system's call itself, so nothing of anybody's is written.
-//! 2. Once it is made it is removed, whatever comes then. It keeps its name until the end: of a file without a name some
-//!    file systems don't write what a flush asks for, which would be timed as if they did.
+//! 2. Once it is made it is removed, whatever comes then. It keeps its name until the end: of a file without a name
+//!    some file systems don't write what a flush asks for, which would be timed as if they did.
 
 ghost use Rattle.std.specs.Prelude.{IfOk};
 ghost use Rattle.benchmarks.specs.Measured.{HasTimes};

@@ -15,7 +15,7 @@ use std::marker::Model;
 
 /// How long calls took, in microseconds.
 ///
-/// Contracts see the list of the times, the latest first. The memory that it takes doesn't depend on how many there are.
+/// Contracts see the list of the times, the latest first. Its memory doesn't depend on how many there are.
 #[derive(Drop)]
 pub struct CallTimes {
     counts: Vec<u64>,

@@ -34,10 +34,10 @@ const MAX_OBJECT: u64 = 1 << 24;
 ///
 /// # Errors
 /// `BadRange` if the order is outside its limits; then no step was made. Else the first refusal of these that is not
-/// `Suspended`, or else `Suspended`: that of the loop that syncs, that of the loop that closes groups, that of the first
-/// worker by number. A worker hands on what a call of its handle refused: `Throttled` only if the dirty limit is below
-/// the charge of one write, `NoSpace` if a write found none after 8 syncs. `NoMemory` is returned too if no threads can
-/// be made for the loops. `NoClock` if the clock can't be read.
+/// `Suspended`, or else `Suspended`: that of the loop that syncs, that of the loop that closes groups, that of the
+/// first worker by number. A worker hands on what a call of its handle refused: `Throttled` only if the dirty limit is
+/// below the charge of one write, `NoSpace` if a write found none after 8 syncs. `NoMemory` is returned too if no
+/// threads can be made for the loops. `NoClock` if the clock can't be read.
 pub fn measure<D: SectorDevice + Send, R: Threads + Wait + Clock + Sync>(
     rt: &R,
     alloc: Global,
