@@ -172,7 +172,7 @@ module _ {Dev : Type 0} {G : Ghosts Dev} where
       by (inr (synced, some, syncs, is_synced, is)) = entered_if (put_transactions start n offset bytes) put.transactions p.made old p.done new some p.makes put.is_synced synced is_synced syncs
 
   -- none of them was there when the handle had seen less
-  entered_since : (durable : Type 0) (all : List (List Op)) (first old : Handle Dev G) (s : State) → GoesAlong first old → ∥ AreEntered durable all (length (state_seen old).past.entries) s ∥₁ → ∥ AreEntered durable all (length (state_seen first).past.entries) s ∥₁
+  pub entered_since : (durable : Type 0) (all : List (List Op)) (first old : Handle Dev G) (s : State) → GoesAlong first old → ∥ AreEntered durable all (length (state_seen old).past.entries) s ∥₁ → ∥ AreEntered durable all (length (state_seen first).past.entries) s ∥₁
   entered_since durable all first old s along there =
       ∥∥₁_elim along.onward.goes_on ∥∥₁_prop (λ onward.
       ∥∥₁_map {B = AreEntered durable all (length (state_seen first).past.entries) s} there (λ h.
@@ -190,29 +190,27 @@ module _ {Dev : Type 0} {G : Ghosts Dev} where
   all_counted (ops ∷ rest) zero old new (e, is, refused) = absurd (let no_way : Ok tt ≡ Err e = is in cc)
   all_counted (ops ∷ rest) (suc count) old new (r, next, made, more) = let others : count ≡ length rest = all_counted rest count next new more in omega (arith, others)
 
-  -- A put that ends well is in the history as a whole, and no crash loses it.
-  module _ (start : Start) (n : ObjectId) (offset : Option ℕ) (bytes : List ℕ) (put : Put) (old new : Handle Dev G) (p : PutsFrom start n offset bytes put (Ok tt) old new) where
-    abbrev all : List (List Op)
-    all = put_transactions start n offset bytes
-
+  -- Transactions of a put that ends well are in the history as a whole, and no crash loses them.
+  module _ (all : List (List Op)) (put : Put) (old done new : Handle Dev G) where
     abbrev Stands : Type 0
     Stands = (put.transactions ≡ length all) × ∥ AreNewEntries (Unit {0}) (take put.transactions all) (state_seen old) (state_seen new) ∥₁
 
-    both_well : (made : Result (Unit {0}) PoolError) (synced : Result Group PoolError) → Ok tt ≡ result_after made synced → MakesFirst all put.transactions made old p.done → put.transactions ≢ 0 → SyncsPool synced p.done new → Stands
-    both_well (Ok tt) (Ok group) is makes some syncs = (all_counted all put.transactions old p.done makes, entered_and_synced all put.transactions (Ok tt) old p.done new some makes group syncs)
+    both_well : (made : Result (Unit {0}) PoolError) (synced : Result Group PoolError) → Ok tt ≡ result_after made synced → MakesFirst all put.transactions made old done → put.transactions ≢ 0 → SyncsPool synced done new → Stands
+    both_well (Ok tt) (Ok group) is makes some syncs = (all_counted all put.transactions old done makes, entered_and_synced all put.transactions (Ok tt) old done new some makes group syncs)
     both_well (Ok tt) (Err e) is makes some syncs = absurd (let no_way : Ok tt ≡ Err e = is in cc)
     both_well (Err e) synced is makes some syncs = absurd (let no_way : Ok tt ≡ Err e = is in cc)
 
-    put_well : SyncsAfter put p.made (Ok tt) p.done new → Stands
-    put_well (inl (none, is, same)) = (
-      all_counted all put.transactions old p.done (subst (λ (r : Result (Unit {0}) PoolError). MakesFirst all put.transactions r old p.done) (sym is) p.makes),
+    ends_well : (made : Result (Unit {0}) PoolError) → MakesFirst all put.transactions made old done → SyncsAfter put made (Ok tt) done new → Stands
+    ends_well made makes (inl (none, is, same)) = (
+      all_counted all put.transactions old done (subst (λ (r : Result (Unit {0}) PoolError). MakesFirst all put.transactions r old done) (sym is) makes),
       subst (λ (k : ℕ). ∥ AreNewEntries (Unit {0}) (take k all) (state_seen old) (state_seen new) ∥₁) (sym none) ∣ tt ∣₁,
     )
-    put_well (inr (synced, some, syncs, is_synced, is)) = both_well p.made synced is p.makes some syncs
+    ends_well made makes (inr (synced, some, syncs, is_synced, is)) = both_well made synced is makes some syncs
 
-    pub whole_put_stands : (put.transactions ≡ length all) × ∥ AreNewEntries (Unit {0}) all (state_seen old) (state_seen new) ∥₁
-    whole_put_stands =
-        let s = put_well p.syncs in
+    pub all_stand : (made : Result (Unit {0}) PoolError) → MakesFirst all put.transactions made old done → SyncsAfter put made (Ok tt) done new
+        → (put.transactions ≡ length all) × ∥ AreNewEntries (Unit {0}) all (state_seen old) (state_seen new) ∥₁
+    all_stand made makes syncs =
+        let s = ends_well made makes syncs in
         (s.0, subst (λ (l : List (List Op)). ∥ AreNewEntries (Unit {0}) l (state_seen old) (state_seen new) ∥₁) (ap (λ (k : ℕ). take k all) s.0 ∙ take-length all) s.1)
 
 -- how a put starts that has found an object, or none
@@ -259,8 +257,8 @@ module _ {Dev : Type 0} (G : Ghosts Dev) (device : Dev) (n : ObjectId) (offset :
       by (Err e) is p = absurd (let no_way : Ok tt ≡ Err e = p.2 in cc)
       by (Ok start) is r =
           let p = with_room (lacks_room start offset bytes o.does.found r.status.available) start r.asked r.puts in
-          let w = whole_put_stands start n offset bytes put r.asked o.does.last p in
-          let all : List (List Op) = put_transactions start n offset bytes in (
+          let all : List (List Op) = put_transactions start n offset bytes in
+          let w = all_stand all put r.asked p.done o.does.last p.made p.makes p.syncs in (
             start,
             (
               may_start offset o.does.found start is,

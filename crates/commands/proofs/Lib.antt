@@ -1,6 +1,6 @@
-mod Committed
-mod Pieces
-mod PutBytes
+pub mod Committed
+pub mod Pieces
+pub mod PutBytes
 mod PutClients
 mod PutRoom
 mod RefusedClients

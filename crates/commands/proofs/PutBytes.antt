@@ -58,21 +58,21 @@ overwritten_none [] = refl
 overwritten_none (b ∷ bytes) = ap (λ (l : List ℕ). (b ∷ bytes) ++ l) (drop-nil (0 + length (b ∷ bytes))) ∙ append-nil (b ∷ bytes)
 
 -- the object of a number
-abbrev object : Contents → ℕ → Option (List ℕ)
+abbrev pub object : Contents → ℕ → Option (List ℕ)
 object c n = map.get c.objects n
 
 -- each other object is as it was
-abbrev LeavesOthers : ℕ → Contents → Contents → Type 0
+abbrev pub LeavesOthers : ℕ → Contents → Contents → Type 0
 LeavesOthers n c d = (other : ℕ) → other ≢ n → object d other ≡ object c other
 
-others_on : (n : ℕ) (a b c : Contents) → LeavesOthers n a b → LeavesOthers n b c → LeavesOthers n a c
+pub others_on : (n : ℕ) (a b c : Contents) → LeavesOthers n a b → LeavesOthers n b c → LeavesOthers n a c
 others_on n a b c first later = λ other ne. later other ne ∙ first other ne
 
-others_same : (n : ℕ) (c d : Contents) → c ≡ d → LeavesOthers n c d
+pub others_same : (n : ℕ) (c d : Contents) → c ≡ d → LeavesOthers n c d
 others_same n c d same = λ other ne. ap (λ (x : Contents). object x other) (sym same)
 
 -- what an operation on the object makes of it
-one : (n : ℕ) (f : Option (List ℕ) → Result (Option (List ℕ)) PoolError) (c d : Contents) → at_object n f c ≡ Ok d
+pub one : (n : ℕ) (f : Option (List ℕ) → Result (Option (List ℕ)) PoolError) (c d : Contents) → at_object n f c ≡ Ok d
     → (o : Option (List ℕ)) × (f (object c n) ≡ Ok o) × (object d n ≡ o) × LeavesOthers n c d
 one n f c d h =
     let r = reached n f c d h in (
@@ -82,16 +82,16 @@ one n f c d h =
       λ other ne. ap (λ (x : Contents). object x other) (sym r.2) ∙ get-stored_other c.objects n r.0 other ne,
     )
 
-changed_there : (f : List ℕ → List ℕ) (before o : Option (List ℕ)) (old : List ℕ) → before ≡ Some old → changed f before ≡ Ok o → o ≡ Some (f old)
+pub changed_there : (f : List ℕ → List ℕ) (before o : Option (List ℕ)) (old : List ℕ) → before ≡ Some old → changed f before ≡ Ok o → o ≡ Some (f old)
 changed_there f before o old is h = let given : changed f (Some old) ≡ Ok o = subst (λ (b : Option (List ℕ)). changed f b ≡ Ok o) is h in cc
 
-none_left : (c d : Contents) → in_turn apply [] c ≡ Ok d → c ≡ d
+pub none_left : (c d : Contents) → in_turn apply [] c ≡ Ok d → c ≡ d
 none_left c d h = cc
 
 no_more : (c d : Contents) → in_turn apply_all [] c ≡ Ok d → c ≡ d
 no_more c d h = cc
 
-write_leaves : (n : ObjectId) (at : ℕ) (piece old : List ℕ) (c d : Contents) → apply_all (write_ops n at piece) c ≡ Ok d → object c n.0 ≡ Some old
+pub write_leaves : (n : ObjectId) (at : ℕ) (piece old : List ℕ) (c d : Contents) → apply_all (write_ops n at piece) c ≡ Ok d → object c n.0 ≡ Some old
     → (object d n.0 ≡ Some (overwritten at piece old)) × LeavesOthers n.0 c d
 write_leaves n at [] old c d h there = let same = none_left c d h in (ap (λ (x : Contents). object x n.0) (sym same) ∙ there, others_same n.0 c d same)
 write_leaves n at (b ∷ piece) old c d h there =
@@ -137,7 +137,7 @@ found : (o : Option (List ℕ)) → IsSome o → (old : List ℕ) × (o ≡ Some
 found None some = absurd (false≢true some)
 found (Some old) some = (old, refl)
 
-made : (before o : Option (List ℕ)) → created before ≡ Ok o → (before ≡ None) × (o ≡ Some [])
+pub made : (before o : Option (List ℕ)) → created before ≡ Ok o → (before ≡ None) × (o ≡ Some [])
 made None o h = (refl, cc)
 made (Some old) o h = cc
 

@@ -30,11 +30,11 @@ use std::fmt;
 use std::io::{self, Read, Write};
 use std::sync::Wait;
 
-/// The command has one owner.
-const OWNER: Owner = Owner(0);
+/// The owner of a command's transactions.
+pub const OWNER: Owner = Owner(0);
 
 /// What is printed of standard input as a file.
-const STANDARD_INPUT: &str = "-";
+pub const STANDARD_INPUT: &str = "-";
 
 /// The bytes of an input up to its end, or one more than an object may have.
 ///
@@ -49,13 +49,15 @@ pub fn read_input<R: Read + Drop>(alloc: Global, input: R) -> io::Result<Vec<u8>
     Ok(bytes)
 }
 
-/// What a put has committed.
+/// What a put has committed. As text it is how many bytes in how many transactions.
 #[derive(Clone, Copy)]
-struct Put {
-    bytes: u64,
-    transactions: u64,
-    // whether the pool was synced after the last of them
-    is_synced: bool,
+pub struct Put {
+    /// The bytes.
+    pub bytes: u64,
+    /// The transactions.
+    pub transactions: u64,
+    /// Whether the pool was synced after the last of them.
+    pub is_synced: bool,
 }
 
 impl fmt::Display for Put {
@@ -74,7 +76,8 @@ impl fmt::Display for Put {
 }
 
 impl Put {
-    const NOTHING: Put = Put {
+    /// No byte, in no transaction.
+    pub const NOTHING: Put = Put {
         bytes: 0,
         transactions: 0,
         is_synced: true,
@@ -92,8 +95,8 @@ impl Put {
         }
     }
 
-    // One transaction more, of so many bytes.
-    fn add(&mut self, bytes: usize)
+    /// Counts one transaction more, of so many bytes, after which the pool isn't synced.
+    pub fn add(&mut self, bytes: usize)
         requires bytes { self.old.bytes + bytes < 2 ^ 64 }
         requires transactions { self.old.transactions + 1 < 2 ^ 64 }
         ensures bytes { self.new.bytes ≡ self.old.bytes + bytes }
@@ -160,8 +163,8 @@ pub fn run_put<R: Wait + AllocGlobal, D: SectorDevice + NotesRefusals + Drop, W:
     }
 }
 
-// Reports what was committed before a refusal.
-fn report_committed<E: Write>(put: &Put, errors: &mut E) {
+/// Reports on `errors` what a put has committed before it was refused, if that is anything.
+pub fn report_committed<E: Write>(put: &Put, errors: &mut E) {
     if put.transactions == 0 {
         return;
     }
@@ -214,16 +217,16 @@ fn put_bytes<R: Wait + AllocGlobal, D: SectorDevice + NotesRefusals + Drop>(
     }
 }
 
-// Whether these bytes of an object are within the limits.
-fn is_target(object: u32, offset: Option<u64>, bytes: &[u8]) -> bool
+/// Whether an object of this number may have these bytes at this offset, or at its start if none is given.
+pub fn is_target(object: u32, offset: Option<u64>, bytes: &[u8]) -> bool
     ensures { result ≡ is_target object offset bytes.now }
 {
     let at = first_byte(offset);
     object < OBJECT_COUNT && at <= MAX_LENGTH && bytes.len() as u64 <= MAX_LENGTH - at
 }
 
-// What is outside its limits, if these bytes of an object aren't within them.
-fn bad_number_of(object: u32, offset: Option<u64>, bytes: &[u8]) -> BadNumber
+/// What is outside its limits, if an object of this number may not have these bytes there.
+pub fn bad_number_of(object: u32, offset: Option<u64>, bytes: &[u8]) -> BadNumber
     ensures { result ≡ bad_number_of object offset bytes.now }
 {
     let (at, size) = (first_byte(offset), bytes.len() as u64);
@@ -239,8 +242,8 @@ fn bad_number_of(object: u32, offset: Option<u64>, bytes: &[u8]) -> BadNumber
     }
 }
 
-/// The first byte that a put writes.
-pub(crate) fn first_byte(offset: Option<u64>) -> u64
+/// The first byte that a put writes: its offset, or byte 0 if none is given.
+pub fn first_byte(offset: Option<u64>) -> u64
     ensures { result ≡ first_byte offset }
 {
     match offset {
@@ -249,18 +252,23 @@ pub(crate) fn first_byte(offset: Option<u64>) -> u64
     }
 }
 
-// Where bytes go: to a place of an object, or in place of all that it has.
+/// Where bytes go: to a place of an object, or in place of all that it has.
 #[derive(Clone, Copy)]
-struct Target {
-    object: ObjectId,
-    offset: Option<u64>,
+pub struct Target {
+    /// The object.
+    pub object: ObjectId,
+    /// The first byte, if they don't replace all.
+    pub offset: Option<u64>,
 }
 
 /// What the first transaction does to the object before it writes.
 #[derive(Clone, Copy)]
-pub(crate) enum Start {
+pub enum Start {
+    /// It makes the object.
     Creates,
+    /// It sets its length to 0.
     Empties,
+    /// Nothing.
     Keeps,
 }
 
@@ -274,9 +282,9 @@ impl Start {
     }
 }
 
-// Puts bytes into an object, and syncs the pool, also after a refusal. It returns the first refusal. Without room for
-// all bytes it puts none.
-fn put_and_sync<R: Wait, D: SectorDevice>(
+/// Puts bytes into an object by a new handle of the pool, and syncs the pool, also after a refusal. It returns what was
+/// committed, and the first refusal. The object is made if it isn't there. Without room for all bytes it puts none.
+pub fn put_and_sync<R: Wait, D: SectorDevice>(
     rt: &R,
     alloc: Global,
     pool: &Pool<D>,
@@ -306,8 +314,8 @@ fn put_and_sync<R: Wait, D: SectorDevice>(
     (put, first_refusal(made, synced))
 }
 
-// The first refusal of a put's pieces and of the sync after them.
-fn first_refusal(
+/// The first refusal of transactions and of the sync after them.
+pub fn first_refusal(
     made: Result<(), PoolError>,
     synced: Result<Group, PoolError>,
 ) -> Result<(), PoolError>
@@ -360,8 +368,9 @@ fn put_pieces<R: Wait, D: SectorDevice>(
     (put, made)
 }
 
-// Writes bytes in pieces, if there are any.
-fn write_rest<R: Wait, D: SectorDevice>(
+/// Writes bytes to an object from this place on, each piece of them in a transaction of its own, if there are any. Returns
+/// what was committed, not synced, and the first refusal.
+pub fn write_rest<R: Wait, D: SectorDevice>(
     rt: &R,
     handle: &mut Handle<'_, D>,
     object: ObjectId,

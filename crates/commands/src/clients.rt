@@ -2,6 +2,7 @@
 //! alone. So it is refused as soon as that contract promises less.
 
 mod objects;
+mod parts;
 mod refusals;
 
 ghost use Rattle.std.specs.Prelude.{◌≡◌, [], Some, codes};

@@ -13,3 +13,10 @@ mod put_room;
 pub use changes::{read_input, run_put, run_remove};
 pub use laws::puts_leave_bytes;
 pub use pool_files::run_create;
+
+// For puts by name.
+pub use changes::{
+    OWNER, Put, STANDARD_INPUT, Start, Target, bad_number_of, first_byte, first_refusal, is_target,
+    put_and_sync, report_committed, write_rest,
+};
+pub use put_room::lacks_room;

@@ -2,5 +2,5 @@ pub mod CheckedAll
 mod Findings
 pub mod FoundLabels
 pub mod MountedBytes
-mod OnlyRead
+pub mod OnlyRead
 pub mod PoolLines
