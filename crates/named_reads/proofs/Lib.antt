@@ -1,0 +1,4 @@
+mod Clients
+mod LinesWritten
+mod OpenedReads
+mod TableReads

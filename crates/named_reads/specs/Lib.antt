@@ -1,0 +1,4 @@
+pub mod NameFailures
+pub mod NamedLines
+pub mod NamedObjects
+pub mod Tables

@@ -1,0 +1,150 @@
+//! The command `ls`: the objects of a pool with their names. It only reads.
+
+ghost use Rattle.std.specs.Io.KnownBytes.{Appends};
+ghost use Rattle.std.specs.Prelude.{◌≡◌, ◌≢◌, ◌≤◌, IfErr, IfNone, IfOk, IfSome, IsErr, IsTrue, None, OnOk, Some};
+ghost use Rattle.base.specs.disk.Disk.{bytes_of};
+ghost use Rattle.device_model.specs.Reading.{OnlyReads};
+ghost use Rattle.named_reads.specs.NamedLines.{IsListedIn, WritesNames, list_lines, name_shown, named_line};
+ghost use Rattle.object_names.specs.NameTables.{has_object};
+ghost use Rattle.read_commands.specs.Reads.{IsReadersRefusal};
+
+use crate::tables::read_table;
+use base::{ObjectId, PoolError};
+use command_arguments::Verbosity;
+use device_model::{FileRefusal, SectorDevice};
+use inspections::{Inspected, inspect};
+use object_names::NameTable;
+use read_commands::{Failure, NotesRefusals, report_failure};
+use std::alloc::Global;
+use std::io::{self, Write};
+
+/// The objects of a pool, and the table that names them.
+#[derive(Drop)]
+pub struct NamedList {
+    /// What an import would mount, with its objects by rising number.
+    pub inspected: Inspected,
+    /// The table of names. `None` if there is no object 0, or if it is of another use.
+    pub table: Option<NameTable>,
+}
+
+impl NamedList {
+    /// The name of an object, if it has one.
+    pub fn name_of(&self, object: ObjectId) -> Option<&str>
+        ensures name { IfSome result
+            (λ name. name_shown self.now.table object.0 ≡ Some name.now) }
+        ensures none { IfNone result (name_shown self.now.table object.0 ≡ None) }
+    {
+        let name = self.table.as_ref()?.named(object)?;
+        str::from_utf8(name).ok()
+    }
+}
+
+/// Writes to `out` the objects of the pool in a file, a line each with number, length and name, and returns the exit
+/// status. It only reads the file: it makes no write and no flush (`list_names`).
+///
+/// An object without a name has the line of `run_list`. So has each if object 0 is no table of names. The status is 0 if
+/// all lines were written. It is 1 if the engine refused it; then nothing is written. It is 3 if the file was not opened
+/// as a device or `out` can't be written. A failure is reported on `errors`.
+pub fn run_list_named<D: SectorDevice + NotesRefusals + Drop, W: Write, E: Write>(
+    alloc: Global,
+    file: &str,
+    verbosity: Verbosity,
+    opened: Result<D, FileRefusal>,
+    out: &mut W,
+    errors: &mut E,
+) -> u8
+    ensures unusable { IsErr opened → result ≡ 3 }
+    ensures listed { result ≡ 0 → IfOk opened (λ device.
+        WritesNames (IsTrue D.keeps_model) (bytes_of (D.disk device).now)
+        (W.contents out.old) (W.contents out.new)) }
+    ensures unprinted { result ≡ 1 → W.contents out.new ≡ W.contents out.old }
+    ensures range { result ≤ 3 }
+    ensures no_usage { result ≢ 2 }
+{
+    let device = match opened {
+        Ok(device) => device,
+        Err(cause) => return report_failure(Failure::Unusable(cause), file, verbosity, errors),
+    };
+    let (listed, device) = list_names(alloc, device);
+    let list = match listed {
+        Ok(list) => list,
+        Err(refusal) => {
+            let failure = Failure::of_pool(refusal, &device);
+            return report_failure(failure, file, verbosity, errors);
+        }
+    };
+    match write_names(&list, out) {
+        Ok(()) => 0,
+        Err(failure) => report_failure(failure, file, verbosity, errors),
+    }
+}
+
+/// The objects of what an import of the pool on a device would mount, with their names, and the device. It makes no
+/// write and no flush, also if it is refused.
+///
+/// # Errors
+/// Those of `inspect`, and those of `read_table` if there is an object 0.
+pub fn list_names<D: SectorDevice>(alloc: Global, device: D) -> (Result<NamedList, PoolError>, D)
+    ensures reads { OnlyReads D.SectorDevice result.0 device result.1 }
+    ensures listed { IsTrue D.keeps_model
+        → IfOk result.0 (IsListedIn (bytes_of (D.disk device).now)) }
+    ensures refused { IfErr result.0 IsReadersRefusal }
+{
+    let mut device = device;
+    let inspected = match inspect(alloc, &mut device) {
+        Ok(inspected) => inspected,
+        Err(refusal) => return (Err(refusal), device),
+    };
+    if !has_first(&inspected.objects) {
+        let list = NamedList {
+            inspected,
+            table: None,
+        };
+        return (Ok(list), device);
+    }
+    let (table, device) = read_table(alloc, device);
+    match table {
+        Ok(table) => (Ok(NamedList { inspected, table }), device),
+        Err(refusal) => (Err(refusal), device),
+    }
+}
+
+// Whether object 0 is one of these.
+fn has_first(objects: &[(ObjectId, u64)]) -> bool
+    ensures { result ≡ has_object objects.now 0 }
+{
+    objects.iter().any(|object| object.0.0 == 0)
+}
+
+// Writes a line for each object.
+fn write_names<W: Write>(list: &NamedList, out: &mut W) -> Result<(), Failure>
+    ensures written { OnOk result (Appends (W.contents out.old) (W.contents out.new)
+        (list_lines list.now)) }
+    ensures failed { IfErr result (λ failure. failure ≡ Failure.Unwritten) }
+{
+    for object in &list.inspected.objects {
+        let name = list.name_of(object.0);
+        let Ok(()) = write_object(object.0, object.1, name, out) else {
+            return Err(Failure::Unwritten);
+        };
+    }
+    Ok(())
+}
+
+// Writes the line of an object.
+fn write_object<W: Write>(
+    object: ObjectId,
+    length: u64,
+    name: Option<&str>,
+    out: &mut W,
+) -> io::Result<()>
+    ensures named { OnOk result (IfSome name.entry (λ name. Appends (W.contents out.old)
+        (W.contents out.new) (named_line object length (Some name.now)))) }
+    ensures unnamed { OnOk result (IfNone name.entry (Appends (W.contents out.old)
+        (W.contents out.new) (named_line object length None))) }
+{
+    match name {
+        Some(name) => writeln!(out, "{} {} {}", object.0, length, name),
+        None => writeln!(out, "{} {}", object.0, length),
+    }
+}
