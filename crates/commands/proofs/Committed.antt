@@ -275,21 +275,20 @@ module _ {Dev : Type 0} (G : Ghosts Dev) (device : Dev) (n : ObjectId) (offset :
             ),
           )
 
--- and so it is of an object that was removed
+-- So it is of one transaction that was committed, and synced after.
+module _ {Dev : Type 0} {G : Ghosts Dev} (ops : List Op) where
+  pub one_and_synced : (count : ℕ) (made : Result (Unit {0}) PoolError) (first done last : Handle Dev G) → MakesFirst (ops ∷ []) count made first done → SyncsIfMade made (Ok tt) done last
+      → ∥ AreNewEntries (Unit {0}) (ops ∷ []) (state_seen first) (state_seen last) ∥₁
+  one_and_synced count (Err e) first done last makes (is, same) = absurd (let no_way : Ok tt ≡ Err e = is in cc)
+  one_and_synced zero (Ok ok) first done last (e, is, refused) syncs = absurd (let no_way : Ok tt ≡ Err e = is in cc)
+  one_and_synced (suc zero) (Ok ok) first done last makes (Ok group, syncs, is) =
+      entered_and_synced (ops ∷ []) 1 (Ok ok) first done last (λ none. absurd (omega (arith, none))) makes group syncs
+  one_and_synced (suc zero) (Ok ok) first done last makes (Err e, syncs, is) = absurd (let no_way : Ok tt ≡ Err e = is in cc)
+  one_and_synced (suc (suc count)) (Ok ok) first done last (r, next, made, (none, is, same)) syncs = absurd (let no_way : suc count ≡ 0 = none in omega (arith, no_way))
+
+-- and of an object that was removed
 module _ {Dev : Type 0} (G : Ghosts Dev) (device : Dev) (n : ObjectId) where
-  abbrev removal : List (List Op)
-  removal = (Remove n ∷ []) ∷ []
-
-  removed_and_synced : (count : ℕ) (made : Result (Unit {0}) PoolError) (first done last : Handle Dev G) → MakesFirst removal count made first done → SyncsIfMade made (Ok tt) done last
-      → ∥ AreNewEntries (Unit {0}) removal (state_seen first) (state_seen last) ∥₁
-  removed_and_synced count (Err e) first done last makes (is, same) = absurd (let no_way : Ok tt ≡ Err e = is in cc)
-  removed_and_synced zero (Ok ok) first done last (e, is, refused) syncs = absurd (let no_way : Ok tt ≡ Err e = is in cc)
-  removed_and_synced (suc zero) (Ok ok) first done last makes (Ok group, syncs, is) =
-      entered_and_synced removal 1 (Ok ok) first done last (λ none. absurd (omega (arith, none))) makes group syncs
-  removed_and_synced (suc zero) (Ok ok) first done last makes (Err e, syncs, is) = absurd (let no_way : Ok tt ≡ Err e = is in cc)
-  removed_and_synced (suc (suc count)) (Ok ok) first done last (r, next, made, (none, is, same)) syncs = absurd (let no_way : suc count ≡ 0 = none in omega (arith, no_way))
-
-  pub removal_happens : RemovesOn G device n → HappensOn G device (AreNewEntries (Unit {0}) removal)
+  pub removal_happens : RemovesOn G device n → HappensOn G device (AreNewEntries (Unit {0}) ((Remove n ∷ []) ∷ []))
   removal_happens o =
       let r = o.does in
       record {
@@ -298,5 +297,5 @@ module _ {Dev : Type 0} (G : Ghosts Dev) (device : Dev) (n : ObjectId) where
         first = r.first;
         is_new = r.is_new;
         last = r.last;
-        sees = removed_and_synced r.count r.made r.first r.done r.last r.makes r.syncs;
+        sees = one_and_synced (Remove n ∷ []) r.count r.made r.first r.done r.last r.makes r.syncs;
       }

@@ -1,0 +1,5 @@
+mod Clients
+mod Endings
+mod NamedContents
+mod NewPieces
+mod TableFound
