@@ -4,3 +4,4 @@ pub mod PutBytes
 mod PutClients
 mod PutRoom
 mod RefusedClients
+mod Replaced

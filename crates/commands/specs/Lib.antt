@@ -1,3 +1,4 @@
 pub mod Committed
 pub mod PutRoom
 pub mod Puts
+pub mod Replaced

@@ -4,6 +4,7 @@
 mod objects;
 mod parts;
 mod refusals;
+mod replaced;
 
 ghost use Rattle.std.specs.Prelude.{◌≡◌, [], Some, codes};
 

@@ -9,10 +9,12 @@ mod clients;
 mod laws;
 mod pool_files;
 mod put_room;
+mod replacing;
 
 pub use changes::{read_input, run_put, run_remove};
 pub use laws::puts_leave_bytes;
 pub use pool_files::run_create;
+pub use replacing::{run_create_over, run_create_sized};
 
 // For puts by name.
 pub use changes::{

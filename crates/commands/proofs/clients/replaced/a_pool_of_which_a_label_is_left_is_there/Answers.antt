@@ -1,0 +1,10 @@
+use Rattle.std.proofs.Common.{arith}
+use Rattle.base.specs.disk.Disk.{bytes_of}
+use Rattle.commands.specs.Replaced.{IsFree}
+use Rattle.commands.proofs.Replaced.{found_if_there}
+use Rattle.commands.proofs.clients.replaced.a_pool_of_which_a_label_is_left_is_there.Goals as goal
+
+pub returns : goal.returns
+returns g c = λ keeps has.
+    let image = bytes_of (g.D.SectorDevice.disk c.args.device.now).now in
+    found_if_there c.has_pool.result (Unit {0}) (IsFree image) (λ none. c.has_pool.ensures.free none keeps c.requires) (λ there free. free.1 2 (omega arith) has) tt

@@ -1,0 +1,273 @@
+//! The command `create` on a file that may have a pool already.
+//!
+//! 1. With `--size` a pool that is there is replaced with `--force` alone. With a name, a guid and a size it is
+//!    replaced, and standard error says so before.
+//! 2. A file has a pool if a check finds one, finds a damage, or can't end, or if a label has a config. A file of a size
+//!    that no pool may have has none.
+//! 3. The file's lock is released between this test and the making. A file that wasn't there is made as a new one, so
+//!    none is replaced that came meanwhile.
+
+ghost use Rattle.std.specs.Io.KnownBytes.{Appends};
+ghost use Rattle.std.specs.Option.{option_copied};
+ghost use Rattle.std.specs.Prelude.{◌≡◌, ◌≢◌, ◌≤◌, IfErr, IfOk, IsTrue, false, true};
+ghost use Rattle.base.specs.disk.Disk.{bytes_of};
+ghost use Rattle.base.specs.formats.Geometry.{IsGeometry, block_count, is_geometry};
+ghost use Rattle.base.specs.formats.Names.{is_name};
+ghost use Rattle.commands.specs.Replaced.{HasNoConfigs, IsFree, is_config, name_of_file, new_name, some_config};
+ghost use Rattle.read_commands.specs.Failures.{sector_bytes};
+ghost use Rattle.read_commands.specs.PoolLines.{created_line};
+
+use crate::pool_files::run_create;
+use base::{PoolError, PoolName};
+use command_arguments::{CreateArguments, Options, SizedArguments, Verbosity};
+use device_model::{Access, FileRefusal, HeldFile, SectorDevice};
+use labels::{Geometry, SECTOR_SIZE};
+use read_commands::{
+    ConfigState, Failure, FileName, Finding, LabelState, check_pool, open_within, read_states,
+    report_failure,
+};
+use std::alloc::Global;
+use std::io::{ErrorKind, Write};
+use std::os::unix::fs::FileExt;
+use std::path::Path;
+use std::rt::Files;
+use std::sync::Wait;
+
+/// The name of a pool whose file has a name that no pool may have.
+const OTHER_NAME: &str = "pool";
+
+/// Makes a pool in a file as `run_create` does. If the file has a pool, `errors` has a line that says so before, unless
+/// it is to be quiet. Returns the exit status.
+pub fn run_create_over<R: Files + Wait + AllocGlobal, W: Write, E: Write>(
+    rt: &R,
+    arguments: CreateArguments<'_>,
+    options: Options,
+    out: &mut W,
+    errors: &mut E,
+) -> u8
+where
+    R::File: FileExt + HeldFile,
+    ensures size { is_geometry (sector_bytes arguments.entry.size) ≡ false → result ≡ 1 }
+    ensures name { is_name arguments.entry.name.now ≡ false → result ≡ 1 }
+    ensures created { result ≡ 0 → Appends (W.contents out.old) (W.contents out.new)
+        (created_line arguments.entry.name.now (block_count (sector_bytes arguments.entry.size))) }
+    ensures unprinted { result ≡ 1 → W.contents out.new ≡ W.contents out.old }
+    ensures range { result ≤ 3 }
+    ensures no_usage { result ≢ 2 }
+{
+    let options = if may_warn(&arguments, options.verbosity) {
+        warn_of_pool(rt, arguments.file, options, errors)
+    } else {
+        options
+    };
+    run_create(rt, arguments, options, out, errors)
+}
+
+// Whether a pool may be replaced that standard error is to tell of.
+fn may_warn(arguments: &CreateArguments<'_>, verbosity: Verbosity) -> bool {
+    matches!(verbosity, Verbosity::WithCause)
+        && !arguments.only_new
+        && is_possible(arguments.size, arguments.name)
+}
+
+// Says on `errors` if a file has a pool. Returns what is left of the options: it isn't waited for a file twice.
+fn warn_of_pool<R: Files + Wait + AllocGlobal, E: Write>(
+    rt: &R,
+    file: &str,
+    options: Options,
+    errors: &mut E,
+) -> Options
+where
+    R::File: FileExt + HeldFile,
+{
+    match find_held(rt, file, options.wait) {
+        Ok(Held::Pool) => {
+            let file = FileName(file);
+            let _ = writeln!(errors, "ztxg: {file} has a pool, which is replaced");
+            options
+        }
+        Err(FileRefusal::InUse) => Options {
+            verbosity: options.verbosity,
+            wait: 0,
+        },
+        _ => options,
+    }
+}
+
+/// Makes a pool in a file as `run_create` does, unless the file has a pool: that is replaced with `force` alone. If no
+/// name is given, the pool's is the file's own, without what follows its last point, or `pool` if that is none. Returns
+/// the exit status.
+///
+/// Beside those of `run_create` the status is 3 if the file has a pool, be it damaged, and `force` isn't given; the
+/// cause says so, and the file is unchanged. A file that isn't there is made as a new one.
+pub fn run_create_sized<R: Files + Wait + AllocGlobal, W: Write, E: Write>(
+    rt: &R,
+    arguments: SizedArguments<'_>,
+    options: Options,
+    out: &mut W,
+    errors: &mut E,
+) -> u8
+where
+    R::File: FileExt + HeldFile,
+    ensures size { is_geometry (sector_bytes arguments.entry.size) ≡ false → result ≡ 1 }
+    ensures name { is_name (new_name (option_copied arguments.entry.name)
+        arguments.entry.file.now) ≡ false → result ≡ 1 }
+    ensures created { result ≡ 0 → Appends (W.contents out.old) (W.contents out.new)
+        (created_line (new_name (option_copied arguments.entry.name) arguments.entry.file.now)
+        (block_count (sector_bytes arguments.entry.size))) }
+    ensures unprinted { result ≡ 1 → W.contents out.new ≡ W.contents out.old }
+    ensures range { result ≤ 3 }
+    ensures no_usage { result ≢ 2 }
+{
+    let name = new_name(arguments.name, arguments.file);
+    let create = CreateArguments {
+        file: arguments.file,
+        name,
+        guid: arguments.guid,
+        size: arguments.size,
+        only_new: arguments.only_new,
+        moment: arguments.moment,
+    };
+    if arguments.force || arguments.only_new || !is_possible(arguments.size, name) {
+        return run_create(rt, create, options, out, errors);
+    }
+    match find_held(rt, arguments.file, options.wait) {
+        Ok(Held::Pool) => report_pool(arguments.file, options.verbosity, errors),
+        Ok(Held::NoPool) => run_create(rt, create, options, out, errors),
+        Ok(Held::NoFile) => run_create(rt, only_as_new(create), options, out, errors),
+        Err(cause) => {
+            let failure = Failure::Unusable(cause);
+            report_failure(failure, arguments.file, options.verbosity, errors)
+        }
+    }
+}
+
+// The same, but a file that exists by then is refused.
+fn only_as_new(arguments: CreateArguments<'_>) -> CreateArguments<'_>
+    ensures name { result.name ≡ arguments.name }
+    ensures size { result.size ≡ arguments.size }
+    ensures only_new { result.only_new ≡ true }
+{
+    CreateArguments {
+        only_new: true,
+        ..arguments
+    }
+}
+
+/// Reports that a file has a pool, and how that is replaced. Returns the exit status.
+pub(crate) fn report_pool<E: Write>(file: &str, verbosity: Verbosity, errors: &mut E) -> u8
+    ensures { result ≡ 3 }
+{
+    let file = FileName(file);
+    let _ = writeln!(errors, "ztxg: cannot use {file}");
+    if matches!(verbosity, Verbosity::WithCause) {
+        let _ = writeln!(
+            errors,
+            "ztxg: cause: it has a pool, which is replaced with --force alone"
+        );
+    }
+    3
+}
+
+// Whether a pool may have this size and this name.
+fn is_possible(size: u64, name: &str) -> bool
+    ensures size { is_geometry (sector_bytes size) ≡ false → result ≡ false }
+    ensures name { is_name name.now ≡ false → result ≡ false }
+{
+    Geometry::of(size / SECTOR_SIZE).is_ok() && is_name(name)
+}
+
+// Whether a pool may have this name.
+fn is_name(name: &str) -> bool
+    ensures { result ≡ is_name name.now }
+{
+    PoolName::new(name.as_bytes()).is_some()
+}
+
+// The name of a new pool: the one that is given, or that of its file.
+fn new_name<'a>(name: Option<&'a str>, file: &'a str) -> &'a str
+    ensures { result.now ≡ new_name (option_copied name) file.now }
+{
+    match name {
+        Some(name) => name,
+        None => name_of_file(file),
+    }
+}
+
+// The file's own name, without what follows its last point, if a pool may have it.
+fn name_of_file(path: &str) -> &str
+    ensures { result.now ≡ name_of_file path.now }
+{
+    match Path::new(path).file_stem() {
+        Some(stem) if is_name(stem) => stem,
+        _ => OTHER_NAME,
+    }
+}
+
+// What is where a new pool is to be made.
+#[derive(Clone, Copy)]
+enum Held {
+    NoFile,
+    NoPool,
+    Pool,
+}
+
+// What is at a path. The file is opened as for a new pool, so none is found that can't be replaced. Its lock is released
+// before it returns.
+fn find_held<R: Files + Wait + AllocGlobal>(
+    rt: &R,
+    path: &str,
+    wait: u32,
+) -> Result<Held, FileRefusal>
+where
+    R::File: FileExt + HeldFile,
+{
+    match open_within(rt, path, Access::Write, wait) {
+        Ok(mut device) => {
+            if has_pool(rt.alloc(), &mut device) {
+                Ok(Held::Pool)
+            } else {
+                Ok(Held::NoPool)
+            }
+        }
+        Err(FileRefusal::System(error)) if error.kind() == ErrorKind::NotFound => Ok(Held::NoFile),
+        Err(refusal) => Err(refusal),
+    }
+}
+
+/// Whether a device has a pool, be it damaged. It makes no write and no flush.
+pub(crate) fn has_pool<D: SectorDevice>(alloc: Global, device: &mut D) -> bool
+    ensures unchanged { IsTrue D.keeps_model → D.disk device.new ≡ D.disk device.old }
+    ensures free { result ≡ false → IsTrue D.keeps_model → IsGeometry (D.size device.old)
+        → IsFree (bytes_of (D.disk device.old).now) }
+{
+    match check_pool(alloc, device) {
+        Ok(Finding::NoPool) => has_config(device),
+        Err(PoolError::BadGeometry) => false,
+        _ => true,
+    }
+}
+
+// Whether a label of a device has a config, be it for a device of another size, or can't be read.
+fn has_config<D: SectorDevice>(device: &mut D) -> bool
+    ensures unchanged { IsTrue D.keeps_model → D.disk device.new ≡ D.disk device.old }
+    ensures none { result ≡ false → IsTrue D.keeps_model
+        → HasNoConfigs (bytes_of (D.disk device.old).now) }
+{
+    match read_states(device) {
+        Ok(states) => is_some_config(&states),
+        Err(_) => true,
+    }
+}
+
+fn is_some_config(states: &[LabelState; 4]) -> bool
+    ensures { result ≡ some_config states.now }
+{
+    states.iter().any(|state| is_config(state))
+}
+
+fn is_config(state: &LabelState) -> bool
+    ensures { result ≡ is_config state.now.config }
+{
+    matches!(state.config, ConfigState::Whole | ConfigState::OtherSize(_))
+}
