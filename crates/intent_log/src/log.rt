@@ -153,6 +153,14 @@ impl Log {
         self.flushed < self.blocks.len()
     }
 
+    /// Whether a block is kept, and no record is begun and not yet whole. Then a sync of all unsynced records gives
+    /// every kept block back. It costs a constant.
+    pub fn keeps_whole(&self) -> bool
+        ensures { result ≡ is_none self.now.begun && not (length self.now.kept == 0) }
+    {
+        self.begun.is_none() && !self.blocks.is_empty()
+    }
+
     /// Takes the room for a block more.
     ///
     /// # Errors

@@ -1,6 +1,6 @@
 //! What callers rest on of the log of a run.
 
-ghost use Rattle.std.specs.Prelude.{◌≡◌, ◌∷◌, [], IsOk, None, Some, false, map, true};
+ghost use Rattle.std.specs.Prelude.{◌≡◌, ◌∷◌, [], IsOk, None, Some, false, length, map, true};
 ghost use Rattle.base.specs.formats.Records.{IsAllowed, size_of};
 ghost use Rattle.base.specs.steps.Logs.{committed_of, log_after_sync};
 ghost use Rattle.records.specs.Records.{record_fields};
@@ -18,6 +18,7 @@ fn a_new_log_has_nothing_to_write_or_flush(alloc: Global) {
     prove!(next.address == 4_194_304 && next.number == 0);
     prove!(!log.is_pending());
     prove!(!log.awaits_flush());
+    prove!(!log.keeps_whole());
     prove!(!log.is_at_last());
     let receipt = Receipt {
         ordinal: Ordinal(0),
@@ -25,6 +26,13 @@ fn a_new_log_has_nothing_to_write_or_flush(alloc: Global) {
     };
     prove!(!log.is_unsynced(receipt));
     prove!(!log.has_flushed(receipt));
+}
+
+fn a_block_is_kept_beside_whole_records(log: &Log)
+    requires one { length log.now.kept ≡ 1 }
+    requires whole { log.now.begun ≡ None }
+{
+    prove!(log.keeps_whole());
 }
 
 fn the_last_number_is_2_to_the_60(log: &Log)

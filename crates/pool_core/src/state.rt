@@ -43,7 +43,7 @@ impl<D: SectorDevice> PoolState<D> {
     ghost use Rattle.mounted.specs.ShownMounted.{shown_of_import};
     ghost use Rattle.sync.specs.Calls.{plain_answer};
     ghost use Rattle.pool_tables.specs.BeginTests.{is_above_limit};
-    ghost use Rattle.pool_tables.specs.Duties.{due_step};
+    ghost use Rattle.pool_tables.specs.Duties.{due_step, keeps_whole_log};
     ghost use Rattle.transactions.specs.Open.{has_one_open};
     ghost use Rattle.pool_tables.specs.Receipts.{ChecksReceipt};
     ghost use Rattle.pool_core.specs.Calls.{CallsNext};
@@ -218,6 +218,14 @@ impl<D: SectorDevice> PoolState<D> {
         ensures { result ≡ has_one_open owner.0 (shown self.now).transactions }
     {
         self.pool.has_one_open(owner)
+    }
+
+    /// Whether a log block is kept, and no record is begun. Then a sync of all unsynced groups gives every kept block
+    /// back. It takes no memory, and is no step.
+    pub fn keeps_whole_log(&self) -> bool
+        ensures { result ≡ keeps_whole_log (shown self.now) }
+    {
+        self.pool.keeps_whole_log()
     }
 
     /// Whether a lock that the owner holds itself overlaps a range, and not both are of readers. Then only the owner

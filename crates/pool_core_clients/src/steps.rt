@@ -182,6 +182,23 @@ fn a_receipt_is_not_checked_in_a_suspended_pool<D: SectorDevice>(
     })
 }
 
+// One block is kept and no record is begun: a sync gives the block back.
+fn a_kept_block_would_come_back<D: SectorDevice>(pool: &PoolState<D>) -> bool
+    requires kept { length (shown pool.now).log.kept ≡ 1 }
+    requires none { (shown pool.now).log.begun ≡ None }
+    ensures { result ≡ true }
+{
+    pool.keeps_whole_log()
+}
+
+// Without a kept block none does.
+fn no_block_would_come_back<D: SectorDevice>(pool: &PoolState<D>) -> bool
+    requires { (shown pool.now).log.kept ≡ [] }
+    ensures { result ≡ false }
+{
+    pool.keeps_whole_log()
+}
+
 // An unflushed write is unflushed still in the device that a pool gives back.
 fn an_unflushed_write_comes_back<D: SectorDevice>(pool: PoolState<D>) -> D
     requires { length (disk_of pool).now.unflushed ≡ 1 }

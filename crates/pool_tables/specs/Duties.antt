@@ -22,6 +22,10 @@ wants_close s = is_none s.line.middle && nat_lt 0 (dirty_of s s.line.open_group)
 abbrev pub is_log_pending : Shown → Bool
 is_log_pending s = not ((length s.log.pending == 0) && is_none s.log.begun)
 
+-- a log block is kept, and no record is begun: a sync of all unsynced groups gives every kept block back
+abbrev pub keeps_whole_log : Shown → Bool
+keeps_whole_log s = is_none s.log.begun && not (length s.log.kept == 0)
+
 -- Pending records are written to the log, and once none is pending or begun, what was written is flushed. A suspended
 -- pool refuses the write.
 abbrev pub log_step : Shown → Option declared_step.Step

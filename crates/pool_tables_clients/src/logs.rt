@@ -186,3 +186,12 @@ fn a_log_flush_leaves_nothing_unflushed<D: SectorDevice>(
 {
     pool.log_flush(device)
 }
+
+// A kept block comes back by a sync, if no record is begun.
+fn a_kept_block_would_come_back(pool: &PoolTables) -> bool
+    requires kept { length (pool_shown pool.now).log.kept ≡ 1 }
+    requires none { (pool_shown pool.now).log.begun ≡ None }
+    ensures { result ≡ true }
+{
+    pool.keeps_whole_log()
+}

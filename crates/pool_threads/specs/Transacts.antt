@@ -1,6 +1,6 @@
 -- What a handle does for one transaction: in one turn it locks ranges, begins, commits or aborts, and unlocks. Before
 -- that it may have had turns in which it tried so, and turns in which it made steps of a sync.
-use Rattle.std.specs.Prelude.{ℕ, ◌≡◌, ◌==◌, ◌||◌, ◌⊎◌, ◌++◌, All, Bool, false, IsTrue, List, [], ◌∷◌, map, None, Ok, Err, Option, Result, Some, true}
+use Rattle.std.specs.Prelude.{ℕ, ◌≡◌, ◌==◌, ◌&&◌, ◌||◌, ◌⊎◌, ◌++◌, All, Bool, false, IsTrue, List, [], ◌∷◌, map, None, not, Ok, Err, Option, Result, Some, true}
 use Rattle.std.specs.List.{list_any}
 use Rattle.base.specs.declared.error.PoolError.{PoolError}
 use Rattle.base.specs.declared.error.PoolError.TheVariants as error
@@ -24,6 +24,7 @@ use Rattle.base.specs.steps.Shown.{Shown, dirty_total}
 use Rattle.base.specs.steps.Steps.{State}
 use Rattle.device_model.specs.declared.device.SectorDevice.{Ghosts}
 use Rattle.pool_tables.specs.BeginTests.{is_above_limit}
+use Rattle.pool_tables.specs.Duties.{keeps_whole_log}
 use Rattle.pool_tables.specs.declared.duty.Duty.TheVariants as duty
 use Rattle.pool_threads.specs.declared.handle.Handle.{Handle}
 use Rattle.range_locks.specs.Locks.{is_blocked_by_own}
@@ -123,11 +124,11 @@ is_in_own_way owner ranges s =
 
 -- Whether a transaction that was refused so waits in vain. Its owner holds a lock on a range of it, or has a
 -- transaction open, which only the owner itself ends. Or no sync makes room: the plan's charge alone is above the dirty
--- limit, or there is no space and no transaction is unsynced.
+-- limit, or there is no space, no transaction is unsynced, and no log block comes back.
 abbrev pub is_in_vain : Owner → List ObjectRange → List Shape → PoolError → Shown → Bool
 is_in_vain owner ranges plan error.Busy s = is_in_own_way owner ranges s
 is_in_vain owner ranges plan error.Throttled s = is_above_limit plan s || has_one_open owner.0 s.transactions
-is_in_vain owner ranges plan error.NoSpace s = (dirty_total s == 0) || has_one_open owner.0 s.transactions
+is_in_vain owner ranges plan error.NoSpace s = ((dirty_total s == 0) && not (keeps_whole_log s)) || has_one_open owner.0 s.transactions
 is_in_vain owner ranges plan _ s = false
 
 -- a refusal after which it is tried again, by what the pool shows after that turn

@@ -4,7 +4,9 @@
 //!    locks or of this transaction, and nobody has to be woken after such a turn.
 //! 2. After the first refusal it aborts what it has begun and unlocks what it has locked, in the same turn. So nothing
 //!    is held while it waits.
-ghost use Rattle.std.specs.Prelude.{◌≡◌, ◌≤◌, IfErr, IfNone, IfSome, IsErrAnd, IsTrue, [], false, length, true, vec_capacity};
+ghost use Rattle.std.specs.Prelude.{◌≡◌, ◌≤◌, ◌==◌, ◌&&◌, IfErr, IfNone, IfSome, IsErrAnd, IsTrue, [], false, length, not, true, vec_capacity};
+ghost use Rattle.base.specs.steps.Shown.{dirty_total};
+ghost use Rattle.pool_tables.specs.Duties.{keeps_whole_log};
 ghost use Rattle.pool_core.specs.States.{shown};
 ghost use Rattle.pool_threads.specs.Transacts as words;
 ghost use Rattle.pool_threads.specs.Transacts.{Ends, IsForGood, IsRetried, LocksAll, LocksAndBegins, LocksAndEnds, MakesTransaction, MayPass, Unlocks};
@@ -104,9 +106,16 @@ fn is_in_vain<D: SectorDevice>(
     match error {
         PoolError::Busy => is_in_own_way(owner, ranges, state),
         PoolError::Throttled => state.is_above_limit(plan) || state.has_one_open(owner),
-        PoolError::NoSpace => state.status().dirty == 0 || state.has_one_open(owner),
+        PoolError::NoSpace => is_all_synced(state) || state.has_one_open(owner),
         _ => false,
     }
+}
+
+// Whether no transaction is unsynced, and a sync gives no log block back.
+fn is_all_synced<D: SectorDevice>(state: &PoolState<D>) -> bool
+    ensures { result ≡ (dirty_total (shown state.now) == 0) && not (keeps_whole_log (shown state.now)) }
+{
+    state.status().dirty == 0 && !state.keeps_whole_log()
 }
 
 // Whether a lock that the owner holds itself overlaps one of these ranges.

@@ -2,12 +2,13 @@
 //!
 //! 1. A transaction is made in one turn of the pool's lock (`one_turn.rt`). If it is refused `Busy`, `Throttled` or
 //!    `NoSpace` it releases in that turn what it has got, waits, and is made again. So it holds nothing while it waits.
-//! 2. At the dirty limit, or without space, it waits for the loops of the pool. Without loops it makes the steps of a
+//! 2. At the dirty limit it waits for the loops of the pool. Without loops, and without space, it makes the steps of a
 //!    sync itself, as `txg_wait_synced` of `txg.c` would have them made, and as `sync_pool` does. It gives up when a
 //!    sync can't make room (`dsl_dir_tempreserve_impl` of `dsl_dir.c` answers ERESTART, and ENOSPC at last, so too).
-ghost use Rattle.std.specs.Prelude.{◌≡◌, ◌≤◌, ◌⊎◌, IfErr, IfNone, IfOk, IfSome, IsErrAnd, IsTrue, None, Some, length, true, vec_capacity};
+ghost use Rattle.std.specs.Prelude.{◌≡◌, ◌≤◌, ◌⊎◌, IfErr, IfNone, IfOk, IfSome, IsErrAnd, IsTrue, None, Some, false, length, true, vec_capacity};
 ghost use Rattle.base.specs.declared.step.Reply.TheVariants as replied;
 ghost use Rattle.base.specs.steps.Shown.{dirty_total};
+ghost use Rattle.pool_tables.specs.Duties.{keeps_whole_log};
 ghost use Rattle.pool_core.specs.States.{shown};
 ghost use Rattle.pool_threads.specs.Answers.{Sees, TakesOne, state_seen};
 ghost use Rattle.pool_threads.specs.Handles.{StaysInPool, moment_of};
@@ -44,8 +45,9 @@ impl<'p, D: SectorDevice> Handle<'p, D> {
     /// [`DEFAULT_DIRTY_MAX`](base::DEFAULT_DIRTY_MAX) the 147th object makes the first sync, if each transaction
     /// creates one and writes a few bytes to it.
     ///
-    /// **Without space** it does the same: a sync ends reservations, and frees what its transactions have replaced. It
-    /// is refused `NoSpace` when the charges of no transaction are left for a sync to end.
+    /// **Without space** it makes the steps of a sync itself, also beside loops, which leave a group alone that has no
+    /// charges. A sync ends reservations, frees what its transactions have replaced, and gives log blocks back. It is
+    /// refused `NoSpace` when neither charges nor such blocks are left.
     ///
     /// **If the owner has a transaction open**, by `begin`, it doesn't wait for room: that transaction keeps its group
     /// from being synced. It is refused `Throttled` or `NoSpace` at once.
@@ -57,10 +59,10 @@ impl<'p, D: SectorDevice> Handle<'p, D> {
     /// `NoMemory` if there is none for the plan, its ranges and the names of the locks; then no step was made. Else the
     /// first refusal of `lock`, `begin` or `commit`, in this order. `Busy` only if the owner holds a lock itself on one
     /// of the ranges. `Throttled` only if the plan's charge alone is above the dirty limit, `NoSpace` only if no
-    /// transaction is unsynced, or either if the owner has a transaction open (`made`, `short`). If it makes steps
-    /// of a sync, also those of such a step, as `sync_pool` lists them: `Write` or `Flush`, after which the pool is
-    /// suspended, `NoMemory`, `Read` or `Damaged` if a block that the sync needs can't be read, and `NotReady` only if
-    /// the open group is 2^60. None of the operations takes place then.
+    /// transaction is unsynced and a sync gives no log block back, or either if the owner has a transaction open
+    /// (`made`, `short`). If it makes steps of a sync, also those of such a step, as `sync_pool` lists them: `Write` or
+    /// `Flush`, after which the pool is suspended, `NoMemory`, `Read` or `Damaged` if a block that the sync needs can't
+    /// be read, and `NotReady` only if the open group is 2^60. None of the operations takes place then.
     pub fn transact<'a, 'b, W: Wait>(
         &'a mut self,
         rt: &'b W,
@@ -72,7 +74,8 @@ impl<'p, D: SectorDevice> Handle<'p, D> {
         ensures refused { IfErr result (λ e. (e ≡ PoolError.NoMemory)
             ⊎ Sees (IsTransactRefusal (moment_of self.old) owner ops e) self.old self.new) }
         ensures short { IfErr result (λ e. e ≡ PoolError.NoSpace
-            → (dirty_total (state_seen self.new).shown ≡ 0)
+            → ((dirty_total (state_seen self.new).shown ≡ 0)
+            × (keeps_whole_log (state_seen self.new).shown ≡ false))
             ⊎ (has_one_open owner.0 (state_seen self.new).shown.transactions ≡ true)) }
         ensures same_pool { StaysInPool self.old self.new }
         ensures met_none { HasMetNone self.old.seat self.new.seat }
@@ -95,9 +98,9 @@ impl<'p, D: SectorDevice> Handle<'p, D> {
     /// # Errors
     /// `NoMemory` if there is none for the plan; then no step was made. Else the first refusal of `begin` or `commit`,
     /// in this order: `NotLocked` if the owner's locks don't cover the plan; `Throttled` only if the plan's charge
-    /// alone is above the dirty limit; `NoSpace` only if no transaction is unsynced; or either if the owner has a
-    /// transaction open (`short`). If it makes steps of a sync, also those of such a step, as for `transact`. None of
-    /// the operations takes place then.
+    /// alone is above the dirty limit; `NoSpace` only if no transaction is unsynced and a sync gives no log block
+    /// back; or either if the owner has a transaction open (`short`). If it makes steps of a sync, also those of such a
+    /// step, as for `transact`. None of the operations takes place then.
     pub fn transact_locked<'a, 'b, W: Wait>(
         &'a mut self,
         rt: &'b W,
@@ -109,7 +112,8 @@ impl<'p, D: SectorDevice> Handle<'p, D> {
         ensures refused { IfErr result (λ e. (e ≡ PoolError.NoMemory)
             ⊎ Sees (IsCommitRefusal (moment_of self.old) owner ops e) self.old self.new) }
         ensures short { IfErr result (λ e. e ≡ PoolError.NoSpace
-            → (dirty_total (state_seen self.new).shown ≡ 0)
+            → ((dirty_total (state_seen self.new).shown ≡ 0)
+            × (keeps_whole_log (state_seen self.new).shown ≡ false))
             ⊎ (has_one_open owner.0 (state_seen self.new).shown.transactions ≡ true)) }
         ensures same_pool { StaysInPool self.old self.new }
         ensures met_none { HasMetNone self.old.seat self.new.seat }
@@ -177,7 +181,8 @@ impl<'p, D: SectorDevice> Handle<'p, D> {
             if matches!(result, Err(PoolError::Busy)) {
                 self.shared.ranges.rest(rt, &backoff, unlocks);
             } else {
-                self.make_room(rt, moment, frees)?;
+                let lacks_space = matches!(result, Err(PoolError::NoSpace));
+                self.make_room(rt, moment, frees, lacks_space)?;
             }
         }
         unreachable!()
@@ -207,16 +212,18 @@ impl<'p, D: SectorDevice> Handle<'p, D> {
         transact_turn(guard, owner, ranges, locks, plan, ops)
     }
 
-    // Waits for room while loops sync, or else has one turn of a sync. `room` had this number before the try.
+    // Waits for room while loops sync, or else has one turn of a sync. `room` had this number before the try. The loops
+    // make no space if nothing is charged.
     fn make_room<'a, 'b, W: Wait>(
         &'a mut self,
         rt: &'b W,
         moment: u64,
         frees: u64,
+        lacks_space: bool,
     ) -> Result<(), PoolError>
         ensures { MakesRoom moment result self.old self.new }
     {
-        if self.shared.bells.has_loops() {
+        if !lacks_space && self.shared.bells.has_loops() {
             self.shared.rest_for_room(rt, frees);
             return Ok(());
         }

@@ -1,6 +1,6 @@
 -- What callers take from waits that are not in vain: which locks and transactions of their owner there are then.
 use Rattle.std.proofs.Common.{◌≡◌, ◌≢◌, ◌∷◌, [], ◌&&◌, ◌||◌, Bool, true, false, not, ℕ, List, append_assoc, inl, inr, length, ap, refl, sym, ◌++◌, ◌∙◌}
-use Rattle.std.specs.Prelude.{◌==◌, ◌⊎◌, All, Err, IfErr, IfOk, IsTrue, Ok, Result, Some, slice_get}
+use Rattle.std.specs.Prelude.{◌==◌, ◌⊎◌, All, Err, IfErr, IfOk, IsTrue, None, Ok, Option, Result, Some, is_none, slice_get}
 use Rattle.std.specs.List.{list_any}
 use Rattle.std.proofs.lemmas.Bool.{and_parts, eq-eqb, eqb-true, false≢true, or_parts, false_from_ne_true}
 use Rattle.std.proofs.lemmas.List.Elements.{All-cons, All-nil, All-weaker}
@@ -18,11 +18,13 @@ use Rattle.base.specs.declared.range.Range.{Range}
 use Rattle.base.specs.history.Plans.{NumberRange, number_range, overlaps}
 use Rattle.base.specs.steps.Groups.{Admission}
 use Rattle.base.specs.steps.Locks.{Grant, is_reader}
+use Rattle.base.specs.steps.Logs.{Begun, KeptBlock}
 use Rattle.base.specs.steps.Refusals.{object_range}
 use Rattle.base.specs.steps.Shown.{Shown, dirty_total}
 use Rattle.base.proofs.common.KeptLists.{any_found, none_any}
 use Rattle.device_model.specs.declared.device.SectorDevice.{Ghosts}
 use Rattle.pool_tables.specs.BeginTests.{is_above_limit}
+use Rattle.pool_tables.specs.Duties.{keeps_whole_log}
 use Rattle.pool_threads.specs.declared.handle.Handle.{Handle}
 use Rattle.pool_threads.specs.Answers.{WaitsWhileNot}
 use Rattle.pool_threads.specs.Fetches.{Fetches, ReadsUnderLock, WaitsToRead}
@@ -182,7 +184,7 @@ module _ {Dev : Type 0} {G : Ghosts Dev} (owner : Owner) (old new : Handle Dev G
             → ((i : ℕ) (g : Grant) → slice_get (viewed_state t.left).shown.locks i ≡ Some g → g.owner ≡ owner.0 → All (λ (r : ObjectRange). overlaps g.range (number_range r) ≡ false) (lock_ranges (plan_of_ops ops))) ⊎ LeavesNoneOpen t
         by (inl busy) = inl (none_in_way (viewed_state t.left).shown (lock_ranges (plan_of_ops ops)) (is_so error.Busy busy))
         by (inr (inl throttled)) = inr (none_open owner.0 (viewed_state t.left).shown.transactions (or_parts (is_above_limit (plan_of_ops ops) (viewed_state t.left).shown) (has_one_open owner.0 (viewed_state t.left).shown.transactions) (is_so error.Throttled throttled)).1)
-        by (inr (inr short)) = inr (none_open owner.0 (viewed_state t.left).shown.transactions (or_parts (dirty_total (viewed_state t.left).shown == 0) (has_one_open owner.0 (viewed_state t.left).shown.transactions) (is_so error.NoSpace short)).1)
+        by (inr (inr short)) = inr (none_open owner.0 (viewed_state t.left).shown.transactions (or_parts ((dirty_total (viewed_state t.left).shown == 0) && not (keeps_whole_log (viewed_state t.left).shown)) (has_one_open owner.0 (viewed_state t.left).shown.transactions) (is_so error.NoSpace short)).1)
 
     pub transact_waits : (result : Result Receipt PoolError) → TransactsOrLacks owner ops result old new
         → IfOk result (λ r. (tries : List (Turn SeenPool)) × (took : SeenPool) × (turns_of new ≡ (turns_of old ++ tries) ++ turn took (view_seen new) ∷ []) × All EndsNoOwnWait tries)
@@ -204,3 +206,21 @@ pub refused_or_open : {A : Type 0} (owner : Owner) (s : Shown) (f : PoolError) (
     → IfErr result (λ e. e ≡ f → Other ⊎ ((i : ℕ) × (a : Admission) × (slice_get s.transactions i ≡ Some a) × (a.owner ≡ owner.0)))
 refused_or_open owner s f Other (Ok a) by = tt
 refused_or_open owner s f Other (Err e) by = λ is. open_or owner s Other (by is)
+
+-- if no block is kept beside whole records, none is kept while no record is begun
+no_block : (begun : Option Begun) (kept : List KeptBlock) → is_none begun && not (length kept == 0) ≡ false → begun ≡ None → kept ≡ []
+no_block None [] none is = refl
+no_block None (b ∷ bs) none is = absurd cc
+no_block (Some g) kept none is = absurd cc
+
+-- a refusal without space: a sync would make no room, or the owner has a transaction open
+pub short_or_open : {A : Type 0} (owner : Owner) (s : Shown) (f : PoolError) (result : Result A PoolError)
+    → IfErr result (λ e. e ≡ f → ((dirty_total s ≡ 0) × (keeps_whole_log s ≡ false)) ⊎ (has_one_open owner.0 s.transactions ≡ true))
+    → IfErr result (λ e. e ≡ f → ((dirty_total s ≡ 0) × (s.log.begun ≡ None → s.log.kept ≡ [])) ⊎ ((i : ℕ) × (a : Admission) × (slice_get s.transactions i ≡ Some a) × (a.owner ≡ owner.0)))
+short_or_open owner s f (Ok a) by = tt
+short_or_open owner s f (Err e) by = λ is. as_blocks (open_or owner s ((dirty_total s ≡ 0) × (keeps_whole_log s ≡ false)) (by is))
+  where
+    as_blocks : ((dirty_total s ≡ 0) × (keeps_whole_log s ≡ false)) ⊎ ((i : ℕ) × (a : Admission) × (slice_get s.transactions i ≡ Some a) × (a.owner ≡ owner.0))
+        → ((dirty_total s ≡ 0) × (s.log.begun ≡ None → s.log.kept ≡ [])) ⊎ ((i : ℕ) × (a : Admission) × (slice_get s.transactions i ≡ Some a) × (a.owner ≡ owner.0))
+    as_blocks (inl (clean, none)) = inl (clean, no_block s.log.begun s.log.kept none)
+    as_blocks (inr one) = inr one

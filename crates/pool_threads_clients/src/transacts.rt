@@ -1,6 +1,6 @@
 //! What callers rest on of `transact` and `transact_locked`.
 
-ghost use Rattle.std.specs.Prelude.{ℕ, ◌≡◌, ◌⊎◌, ◌++◌, [], ◌∷◌, All, IfErr, IfOk, IsTrue, List, Some, slice_get, IfSome};
+ghost use Rattle.std.specs.Prelude.{ℕ, ◌≡◌, ◌⊎◌, ◌++◌, [], ◌∷◌, All, IfErr, IfOk, IfSome, IsTrue, List, None, Some, slice_get};
 ghost use Rattle.base.specs.declared.names.Group.{Group};
 ghost use Rattle.base.specs.declared.names.LockId.{LockId};
 ghost use Rattle.base.specs.declared.names.TxId.{TxId};
@@ -96,14 +96,17 @@ fn a_transact_of_the_only_handle_leaves_nothing_of_its_own<D: SectorDevice, W: W
     handle.transact(rt, Owner(3), ops)
 }
 
-// No transaction is left whose sync could make room; or its own owner keeps the sync from being made.
+// No transaction is left whose sync could make room, and no log block, unless a record is begun; or its own owner keeps
+// the sync from being made.
 fn a_transact_without_space_has_nothing_left_to_sync<D: SectorDevice, W: Wait>(
     rt: &W,
     handle: &mut Handle<'_, D>,
     ops: Ops,
 ) -> Result<Receipt, PoolError>
     ensures { IfErr result (λ e. e ≡ PoolError.NoSpace
-        → (dirty_total (state_seen handle.new).shown ≡ 0) ⊎ ((i : ℕ) × (a : Admission)
+        → ((dirty_total (state_seen handle.new).shown ≡ 0)
+        × ((state_seen handle.new).shown.log.begun ≡ None
+        → (state_seen handle.new).shown.log.kept ≡ [])) ⊎ ((i : ℕ) × (a : Admission)
         × (slice_get (state_seen handle.new).shown.transactions i ≡ Some a) × (a.owner ≡ 3))) }
 {
     handle.transact(rt, Owner(3), ops)
@@ -115,7 +118,9 @@ fn nor_has_one_under_the_callers_locks<D: SectorDevice, W: Wait>(
     ops: Ops,
 ) -> Result<Receipt, PoolError>
     ensures { IfErr result (λ e. e ≡ PoolError.NoSpace
-        → (dirty_total (state_seen handle.new).shown ≡ 0) ⊎ ((i : ℕ) × (a : Admission)
+        → ((dirty_total (state_seen handle.new).shown ≡ 0)
+        × ((state_seen handle.new).shown.log.begun ≡ None
+        → (state_seen handle.new).shown.log.kept ≡ [])) ⊎ ((i : ℕ) × (a : Admission)
         × (slice_get (state_seen handle.new).shown.transactions i ≡ Some a) × (a.owner ≡ 3))) }
 {
     handle.transact_locked(rt, Owner(3), ops)

@@ -16,11 +16,20 @@ use intent_log::{AHEAD, Ahead, ChainHeader, Filling, NewBlock, NextLogBlock};
 
 impl PoolTables {
     ghost use Rattle.base.specs.disk.Calls.{Flushes, counted};
+    ghost use Rattle.pool_tables.specs.Duties.{keeps_whole_log};
     ghost use Rattle.pool_tables.specs.KeptTrees.{KeepsTree};
     ghost use Rattle.pool_tables.specs.LogBlocks.{WritesLogBlock, next_place, shown_after_block};
     ghost use Rattle.pool_tables.specs.Meets.{Passes};
     ghost use Rattle.pool_tables.specs.Shows.{geometry_of, pool_shown};
     ghost use Rattle.pool_tables.specs.StepAnswers.{FlushesLog, WritesLog};
+
+    /// Whether a log block is kept, and no record is begun. Then a sync of all unsynced groups gives every kept block
+    /// back.
+    pub fn keeps_whole_log(&self) -> bool
+        ensures { result ≡ keeps_whole_log (pool_shown self.now) }
+    {
+        self.log.keeps_whole()
+    }
 
     /// Writes the next part of the record that is begun, or else a log block with as many whole pending records from
     /// the front as fit, or else the first part of the first one. It returns how many records end in the block: 0 if
