@@ -11,3 +11,4 @@ pub mod WalkDamages
 pub mod ReadAheads
 pub mod WalkParts
 pub mod DamageLists
+pub mod NotedWalks

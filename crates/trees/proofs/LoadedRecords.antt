@@ -1,5 +1,5 @@
 -- Records of an object as they are loaded, strip by strip.
-use Rattle.std.proofs.Common.{◌≡◌, ℕ, zero, suc, ◌+◌, ◌-◌, ◌*◌, ◌<◌, ◌≤◌, ◌≢◌, min, Bool, List, [], ◌∷◌, ◌++◌, length, take, drop, replicate, get_or, refl, ap, sym, subst, ◌∙◌, arith, ◌⊎◌, inl, inr}
+use Rattle.std.proofs.Common.{◌≡◌, ℕ, zero, suc, ◌+◌, ◌-◌, ◌*◌, ◌<◌, ◌≤◌, ◌≢◌, min, Bool, List, [], ◌++◌, length, take, drop, replicate, get_or, refl, ap, sym, subst, ◌∙◌, arith, ◌⊎◌, inl, inr}
 use Rattle.std.specs.Prelude.{IsTrue}
 use Rattle.std.proofs.lemmas.List.{ext_get_or, get_or-take, get_or-drop, get_or-replicate, get_or_past, length-replicate, length-take, length-take-le, length-drop, take_all, take-append-drop, drop_all}
 use Rattle.std.proofs.lemmas.Bool.{cases_lt, cases_eq}
@@ -117,12 +117,6 @@ record_taken keeps image frame m k size count pointer payload bytes new long as_
                 (subst (λ (l : List ℕ). OpensAt image frame (Data m k) pointer l) (sym whole) (opens keep)),
           );
         }
-
-pub length-taken : (at size count : ℕ) (payload bytes new : List ℕ) → length payload ≡ 4032 → length bytes ≡ size → at < size → count ≡ min (size - at) 4032
-    → new ≡ put at (take count payload) bytes → length new ≡ size
-length-taken at size count payload bytes new long as_long within is put_is =
-    let fits : at + length (take count payload) ≤ length bytes = omega (arith, is, within, as_long, length-take count payload) in
-    ap length put_is ∙ length-put at (take count payload) bytes fits ∙ as_long
 
 pub records_apart : (r size count : ℕ) (payload bytes new : List ℕ) → length bytes ≡ size → record_size * r < size → count ≡ min (size - record_size * r) 4032
     → new ≡ put (record_size * r) (take count payload) bytes → (q : ℕ) → q ≢ r → record_bytes q new ≡ record_bytes q bytes

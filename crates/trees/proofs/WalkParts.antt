@@ -1,6 +1,5 @@
 -- Parts of the walk, one after another.
-use Rattle.std.proofs.Common.{◌≡◌, ◌≢◌, ℕ, zero, suc, ◌+◌, ◌*◌, ◌/◌, ◌%◌, ◌<◌, ◌≤◌, List, length, replicate, get_or, refl, ap, sym, subst, ◌∙◌, arith, inl, Result, Ok, Err, IfErr}
-use Rattle.std.proofs.lemmas.List.{get_or_default}
+use Rattle.std.proofs.Common.{◌≡◌, ◌≢◌, ℕ, zero, suc, ◌+◌, ◌*◌, ◌/◌, ◌%◌, ◌<◌, ◌≤◌, List, replicate, refl, ap, sym, subst, ◌∙◌, arith, inl}
 use Rattle.base.specs.declared.error.PoolError.{PoolError}
 use Rattle.base.specs.declared.error.PoolError.TheVariants.{Damaged}
 use Rattle.base.specs.declared.pointer.Pointer.{Pointer}
@@ -16,10 +15,9 @@ use Rattle.base.proofs.tree.Strips.{first-object, first-which, first-low, strip-
 use Rattle.tree_blocks.specs.declared.forms.Entry.{Entry}
 use Rattle.tree_blocks.specs.Forms.{AreRecordForms, AreStripForms}
 use Rattle.tree_blocks.specs.Pointers.{pointer_of_list}
-use Rattle.trees.specs.Walking.{AreSound, IsDamageFrom, Walks, TellsDamage, IsDataOf, AreDataOf, AreStripsOf, IsIndirectOf, IsObjectAt, IsTopOf, IsPayloadOf, AreDirectoriesOf, directory_index, objects_index}
+use Rattle.trees.specs.Walking.{AreSound, IsDamageFrom, TellsDamage, IsDataOf, AreDataOf, AreStripsOf, IsIndirectOf, IsObjectAt, IsTopOf, IsPayloadOf, AreDirectoriesOf, directory_index, objects_index}
 use Rattle.trees.proofs.WalkOrder.{object-stride, index_within, index_of_strip, index-directory, index-objects, sound_none, sound_more, sound_one, damage_behind}
-use Rattle.object_maps.proofs.BlockReads.{same-kind, same-address}
-use Rattle.trees.proofs.WalkDamages.{below_block, sound_at, formless_damage, damage_at, there}
+use Rattle.trees.proofs.WalkDamages.{below_block, sound_at, formless_damage, there}
 
 -- one part after another, by equal indexes
 pub sound_then : (image : List ℕ) (frame : Frame) (root : Pointer) (start middle begin last end : ℕ) → middle ≡ begin → last ≡ end → AreSound image frame root start middle → AreSound image frame root begin last
@@ -33,25 +31,10 @@ pub tells_behind : (image : List ℕ) (frame : Frame) (root : Pointer) (start mi
 tells_behind image frame root start middle begin e low here sound tells = λ kind address d.
     damage_behind image frame root start middle kind address low sound (subst (λ (k : ℕ). IsDamageFrom image frame root k kind address) (sym here) (tells kind address d))
 
--- a refusal of a walk tells its first damage
-pub told_by : {T : Type 0} (image : List ℕ) (frame : Frame) (root : Pointer) (start end : ℕ) (r : Result T PoolError) → Walks image frame root start end r → IfErr r (TellsDamage image frame root start)
-told_by image frame root start end (Ok x) walks = tt
-told_by image frame root start end (Err e) walks = walks
-
 -- the pointer to a record, from the payload of its indirect block
 pub data_in : (image : List ℕ) (root : Pointer) (m k size : ℕ) (payload : List ℕ) (pointer : Pointer) → k < pointer_count → AreDataOf image root m payload size → pointer ≡ pointer_in payload k
     → (pointer ≡ no_pointer → ⊥) → IsDataOf image root m k pointer size
 data_in image root m k size payload pointer low all read there = record { at = all.at k low ∙ sym read; there = there; size_is = all.size_is }
-
-next_record : (w k : ℕ) → w + 1 + (k + 1) ≡ w + 1 + k + 1
-next_record w k = omega arith
-
--- a record that is not there
-pub record_none : (image : List ℕ) (frame : Frame) (root : Pointer) (m k size : ℕ) (payload : List ℕ) (pointer : Pointer) → m < indirect_count → k < pointer_count → AreDataOf image root m payload size
-    → pointer ≡ pointer_in payload k → pointer ≡ no_pointer → AreSound image frame root (walk_index_of_indirect m + 1 + k) (walk_index_of_indirect m + 1 + (k + 1))
-record_none image frame root m k size payload pointer hm hk all read none =
-    sound_one image frame root (Data m k) (walk_index_of_indirect m + 1 + k) (walk_index_of_indirect m + 1 + (k + 1)) (hm, hk) refl (next_record (walk_index_of_indirect m) k)
-    (inl (all.at k hk ∙ sym read ∙ none))
 
 -- the pointers to the records, from the indirect block
 pub records_linked : (image : List ℕ) (frame : Frame) (root : Pointer) (m size : ℕ) (indirect : Pointer) (payload : List ℕ) → IsIndirectOf image root m indirect size
@@ -105,16 +88,6 @@ indirect_damage image frame root m size indirect payload e low i there opens not
 
 next_strip : (w j : ℕ) → w + 1 + 85 * (j + 1) ≡ w + 1 + 85 * j + 85
 next_strip w j = omega arith
-
--- one strip more of an object
-pub strip_more : (image : List ℕ) (frame : Frame) (root : Pointer) (n j : ℕ) → n < object_count → AreSound image frame root (walk_index_of_object n + 1) (walk_index_of_object n + 1 + 85 * j)
-    → AreSound image frame root (walk_index_of_indirect (strip_number n j)) (walk_index_of_indirect (strip_number n j) + 85)
-    → AreSound image frame root (walk_index_of_object n + 1) (walk_index_of_object n + 1 + 85 * (j + 1))
-strip_more image frame root n j low first second =
-    let w : ℕ = walk_index_of_object n in
-    let at = index_of_strip n j low in
-    sound_then image frame root (w + 1) (w + 1 + 85 * j) (walk_index_of_indirect (strip_number n j)) (walk_index_of_indirect (strip_number n j) + 85) (w + 1 + 85 * (j + 1)) (sym at)
-    (ap (λ (v : ℕ). v + 85) at ∙ sym (next_strip w j)) first second
 
 -- so many strips of an object from one on, none of which has an indirect block
 pub strips_none : (image : List ℕ) (frame : Frame) (root : Pointer) (n first : ℕ) → n < object_count
@@ -340,19 +313,9 @@ entry_none image frame root d k payload hd hk p absent =
     (ap (λ (s : ℕ). walk_index_of_object (entry_count * d + k) + s) object-stride ∙ ap (λ (v : ℕ). v + 7141) here ∙ next_object (objects_index d) k)
     (subst (λ (v : ℕ). AreSound image frame root v (walk_index_of_object (entry_count * d + k) + object_stride)) here none)
 
-pub entry_skip : (image : List ℕ) (frame : Frame) (root : Pointer) (d k : ℕ) (payload : List ℕ) → d < pointer_count → k < entry_count → IsPayloadOf image frame root d payload
-    → entry_in payload k ≡ replicate 64 0 → AreSound image frame root (objects_index d) (objects_index d + 7141 * k) → AreSound image frame root (objects_index d) (objects_index d + 7141 * (k + 1))
-entry_skip image frame root d k payload hd hk p absent sound =
-    sound_more image frame root (objects_index d) (objects_index d + 7141 * k) (objects_index d + 7141 * (k + 1)) sound (entry_none image frame root d k payload hd hk p absent)
-
 -- a damage of the object that comes next is told from the directory's objects on
 behind : (s k : ℕ) → s ≤ s + 7141 * k
 behind s k = omega arith
-
-pub entry_tells : (image : List ℕ) (frame : Frame) (root : Pointer) (d k : ℕ) (e : PoolError) → k < entry_count → AreSound image frame root (objects_index d) (objects_index d + 7141 * k)
-    → TellsDamage image frame root (walk_index_of_object (entry_count * d + k)) e → TellsDamage image frame root (objects_index d) e
-entry_tells image frame root d k e low sound tells =
-    tells_behind image frame root (objects_index d) (objects_index d + 7141 * k) (walk_index_of_object (entry_count * d + k)) e (behind (objects_index d) k) (sym (index_within d k low)) sound tells
 
 -- so many objects of a directory that is not there
 pub objects_none : (image : List ℕ) (frame : Frame) (root : Pointer) (d : ℕ) → d < pointer_count → pointer_of image root (Directory d) ≡ no_pointer → (count : ℕ) → count ≤ entry_count
@@ -391,27 +354,11 @@ pub directory_sound : (image : List ℕ) (frame : Frame) (root : Pointer) (d : �
 directory_sound image frame root d low here below =
     sound_more image frame root (directory_index d) (objects_index d) (directory_index (d + 1)) (sound_one image frame root (Directory d) (directory_index d) (objects_index d) low refl (objects_begin d) here) below
 
--- a damage among its objects
-pub directory_tells : (image : List ℕ) (frame : Frame) (root : Pointer) (d : ℕ) (e : PoolError) → d < pointer_count → IsSoundAt image frame root (Directory d)
-    → TellsDamage image frame root (objects_index d) e → TellsDamage image frame root (directory_index d) e
-directory_tells image frame root d e low here tells =
-    tells_behind image frame root (directory_index d) (objects_index d) (objects_index d) e (subst (λ (i : ℕ). directory_index d ≤ i) (sym (objects_begin d)) (le_next (directory_index d))) refl
-    (sound_one image frame root (Directory d) (directory_index d) (objects_index d) low refl (objects_begin d) here) tells
-  where
-    le_next : (w : ℕ) → w ≤ w + 1
-    le_next w = omega arith
-
 -- one directory more, which is not there
 pub directory_absent : (image : List ℕ) (frame : Frame) (root : Pointer) (d : ℕ) → d < pointer_count → pointer_of image root (Directory d) ≡ no_pointer
     → AreSound image frame root (directory_index d) (directory_index (d + 1))
 directory_absent image frame root d low none =
     directory_sound image frame root d low (inl none) (subst (λ (i : ℕ). AreSound image frame root (objects_index d) i) (directory_end d) (objects_none image frame root d low none 63 (omega arith)))
-
-pub directory_skip : (image : List ℕ) (frame : Frame) (root : Pointer) (d : ℕ) (directories : List Pointer) (p : Pointer) → d < pointer_count → AreDirectoriesOf image root directories → d < length directories
-    → get_or directories d p ≡ no_pointer → AreSound image frame root 1 (directory_index d) → AreSound image frame root 1 (directory_index (d + 1))
-directory_skip image frame root d directories p low all within is_none sound =
-    sound_more image frame root 1 (directory_index d) (directory_index (d + 1)) sound
-    (directory_absent image frame root d low (all.at d low ∙ get_or_default directories d no_pointer p within ∙ is_none))
 
 -- the root, well formed
 pub root_sound : (image : List ℕ) (frame : Frame) (root : Pointer) (payload : List ℕ) → OpensAt image frame Root root payload → ((d : ℕ) → d < pointer_count → IsPointerForm (pointer_in payload d))
@@ -423,13 +370,6 @@ pub directories_linked : (image : List ℕ) (frame : Frame) (root : Pointer) (pa
 directories_linked image frame root payload directories opens read = record {
   at = λ d low. below_block image frame 2 0 root payload (λ (l : List ℕ). pointer_in l d) opens ∙ sym (read d low);
 }
-
--- a root with no address that is not all zeros is a damage
-pub root_damage : (image : List ℕ) (frame : Frame) (root : Pointer) (e : PoolError) → root.address ≡ 0 → (root ≡ no_pointer → ⊥) → e ≡ Damaged 2 root.address → TellsDamage image frame root 0 e
-root_damage image frame root e nowhere named is = λ kind address d.
-    let told : Damaged 2 root.address ≡ Damaged kind address = sym is ∙ d in
-    damage_at image frame root Root 0 kind address root (tt {0}) refl refl named (same-kind 2 root.address kind address told) (same-address 2 root.address kind address told)
-    (λ payload opens formed. there image frame 2 0 root payload opens nowhere)
 
 -- a damage of the whole walk is the first one
 pub first_damage : (image : List ℕ) (frame : Frame) (root : Pointer) (e : PoolError) → TellsDamage image frame root 0 e → (kind address : ℕ) → e ≡ Damaged kind address

@@ -4,7 +4,6 @@ use Rattle.base.specs.declared.error.PoolError.{PoolError}
 use Rattle.base.specs.declared.error.PoolError.TheVariants.{Damaged, NoMemory, Read}
 use Rattle.base.specs.declared.pointer.Pointer.{Pointer}
 use Rattle.base.specs.formats.Blocks.{Frame}
-use Rattle.base.specs.formats.Fields.{pointer_in}
 use Rattle.base.specs.formats.Limits.{entry_count, object_stride, pointer_count, strip_stride}
 use Rattle.base.specs.tree.Damages.{IsSoundAt}
 use Rattle.base.specs.tree.Places.{Place, IsPlace, kind_of, object_of_indirect, walk_index_of, walk_index_of_indirect, walk_index_of_object, pointer_of}
@@ -87,7 +86,3 @@ pub record AddsDamages (image : List ℕ) (frame : Frame) (root : Pointer) (star
 -- the damage that a refusal tells is added to a list
 abbrev pub AddsTold : PoolError → List BlockDamage → List BlockDamage → Type 0
 AddsTold e old new = (kind : ℕ) × (address : ℕ) × (e ≡ Damaged kind address) × (new ≡ old ++ record { kind = kind; address = address } ∷ [])
-
--- this payload has the pointers to the directories
-pub record HasDirectories (image : List ℕ) (root : Pointer) (payload : List ℕ) : Type 0 where
-  pub at : (d : ℕ) → d < pointer_count → pointer_of image root (Directory d) ≡ pointer_in payload d

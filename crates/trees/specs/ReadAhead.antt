@@ -1,5 +1,5 @@
 -- What was read ahead of a walk.
-use Rattle.std.specs.Prelude.{ℕ, ◌≡◌, ◌≤◌, Bool, IsTrue, List, Option, Some, None, drop, get_or}
+use Rattle.std.specs.Prelude.{ℕ, ◌≡◌, Bool, IsTrue, List, Option, Some, None, drop, get_or}
 use Rattle.base.specs.formats.Blocks.{Frame, Opens}
 use Rattle.base.specs.formats.Fields.{part}
 use Rattle.base.specs.formats.Geometry.{IsBlockAddress, block_size}

@@ -1,5 +1,5 @@
 -- The soundness of parts of a tree, by the order of its walk.
-use Rattle.std.specs.Prelude.{ℕ, ◌≡◌, ◌≢◌, ◌≤◌, ◌<◌, ◌+◌, ◌*◌, List, Result, MatchResult}
+use Rattle.std.specs.Prelude.{ℕ, ◌≡◌, ◌≢◌, ◌≤◌, ◌<◌, ◌+◌, ◌*◌, List}
 use Rattle.base.specs.declared.error.PoolError.{PoolError}
 use Rattle.base.specs.declared.error.PoolError.TheVariants.{Damaged}
 use Rattle.base.specs.declared.pointer.Pointer.{Pointer}
@@ -30,11 +30,6 @@ pub record IsDamageFrom (image : List ℕ) (frame : Frame) (root : Pointer) (sta
 -- a Damaged tells the first damage of the walk from an index on
 abbrev pub TellsDamage : List ℕ → Frame → Pointer → ℕ → PoolError → Type 0
 TellsDamage image frame root start e = (kind address : ℕ) → e ≡ Damaged kind address → IsDamageFrom image frame root start kind address
-
--- an answer of a walk over the places from one index up to another: they are sound, or a Damaged tells their first
--- damage
-abbrev pub Walks : {T : Type 0} → List ℕ → Frame → Pointer → ℕ → ℕ → Result T PoolError → Type 0
-Walks image frame root start end result = MatchResult result (λ x. AreSound image frame root start end) (λ e. TellsDamage image frame root start e)
 
 -- where the walk comes to directory d, and to its objects
 abbrev pub directory_index : ℕ → ℕ

@@ -4,6 +4,7 @@
 mod damages;
 mod marks;
 mod objects;
+mod one_walk;
 mod read_ahead;
 mod walk;
 
