@@ -1,4 +1,5 @@
 mod EntryForms
+mod FoundEntries
 mod HeldTrees
 mod JudgedLists
 mod SmallObjects

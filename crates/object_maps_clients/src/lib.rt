@@ -11,5 +11,6 @@ mod forms;
 mod judged;
 mod loads;
 mod maps;
+mod paths;
 mod reads;
 mod strips;

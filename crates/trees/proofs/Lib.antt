@@ -12,3 +12,4 @@ pub mod ReadAheads
 pub mod WalkParts
 pub mod DamageLists
 pub mod NotedWalks
+pub mod ObjectPaths

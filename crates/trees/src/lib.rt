@@ -2,11 +2,15 @@
 #![tactic(auto)]
 
 mod damages;
+mod laws;
 mod marks;
 mod objects;
 mod one_walk;
+mod paths;
 mod read_ahead;
 mod walk;
 
 pub use damages::{BlockDamage, list_damages};
+pub use laws::trees_are_by_paths;
+pub use paths::find_entry;
 pub use walk::{Loaded, load, survey};
