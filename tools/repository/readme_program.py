@@ -1,4 +1,4 @@
-"""Runs the whole program of README.md, letter by letter, and those of `examples`, each in a copy of the repository.
+"""Runs the whole program of README.md, letter by letter, and that of `examples`, each in a copy of the repository.
 
 Fails unless each prints what it has to: README's program `hello`, an example its `stdout`.
 """
@@ -16,7 +16,6 @@ EXAMPLES = TOP / "examples"
 README = "hello"
 LINES = {
     README: "hello: anyhow topzerad",
-    "first_pool": "first_pool may_wait=4: anyhow topzerad",
     "served_pool": "served_pool may_wait=5: anyhow topzerad",
 }
 # `try` also runs a program on an interpreter, which has no files and no threads. So this gets few steps.
