@@ -63,6 +63,9 @@ pub(crate) enum Rule {
     With(&'static str),
 }
 
+/// The place of the options of each command in the help: behind those of one command.
+const BEHIND: usize = 100;
+
 /// The command with these words, too. If they are global, each subcommand has them.
 pub(crate) fn with_words<'a>(
     alloc: Global,
@@ -72,9 +75,17 @@ pub(crate) fn with_words<'a>(
 ) -> Result<Command<'a>, AllocError> {
     let mut command = command;
     for word in words {
-        command = command.arg(argument(alloc, word)?.global(are_global))?;
+        command = command.arg(shared(argument(alloc, word)?, are_global))?;
     }
     Ok(command)
+}
+
+fn shared<'a>(arg: Arg<'a>, is_global: bool) -> Arg<'a> {
+    if is_global {
+        arg.global(true).display_order(BEHIND)
+    } else {
+        arg
+    }
 }
 
 // The word as `clap` has it.
