@@ -1,6 +1,6 @@
 -- Calls that are noted or added stay counted by their slots.
 use Rattle.std.proofs.Common.{◌≡◌, ◌∙◌, ◌≤◌, ◌<◌, ◌+◌, ◌-◌, ◌*◌, ◌^◌, ◌⊎◌, ℕ, zero, suc, cond, List, [], ◌∷◌, ◌++◌, arith, drop, le_refl, le_trans, ap, inl, inr, length, refl, sym, take, get_or}
-use Rattle.std.specs.Prelude.{max, nat_lt, replicate, slice_set, sum}
+use Rattle.std.specs.Prelude.{max, min, nat_lt, replicate, slice_set, sum}
 use Rattle.std.proofs.lemmas.Bool.{lt-ltb, le-ltb}
 use Rattle.std.proofs.lemmas.List.{append-nil, drop-set-lt, drop_all, length-append, length-replicate, length-set, take-replicate, take-set-le, take_all}
 use Rattle.std.proofs.lemmas.List.Folds.{sum_by-replicate}
@@ -171,6 +171,27 @@ time_of_slot times counts calls longest slot rank time counted at is near =
       above = omega (arith, at.above, counted.below slot (omega (arith, low)));
       within = rw next at up_to;
     }
+
+all_below : (times : List ℕ) (time : ℕ) → longest_in times < time → calls_below time times ≡ length times
+all_below [] time h = refl
+all_below (t ∷ times) time h = omega (arith, call_below t time times (omega (arith, h)), all_below times time (omega (arith, h)))
+
+either_within : (m n : ℕ) → (m ≤ n) ⊎ (n ≤ m)
+either_within m n = grind arith
+
+least_within_rank : (times : List ℕ) (rank time least : ℕ) → least ≡ min time (longest_in times) → rank ≤ length times → rank ≤ calls_below (time + 1) times
+    → (time ≤ longest_in times) ⊎ (longest_in times ≤ time) → rank ≤ calls_below (least + 1) times
+least_within_rank times rank time least is few within (inl short) = let e : least ≡ time = omega (arith, is, short) in rw e within
+least_within_rank times rank time least is few within (inr long) = omega (arith, few, all_below times (least + 1) (omega (arith, is, long)))
+
+-- so is the longest of all times, if it is shorter
+pub time_within : (times : List ℕ) (rank time : ℕ) → rank ≤ length times → IsTimeAt rank times time → IsTimeAt rank times (min time (longest_in times))
+time_within times rank time few at = record {
+  least = at.least;
+  near = omega (arith, at.near);
+  above = at.above;
+  within = least_within_rank times rank time (min time (longest_in times)) refl few at.within (either_within time (longest_in times));
+}
 
 -- a list that was written over another one of its length is all that is there
 pub written_whole : (xs items : List ℕ) (n : ℕ) → length xs ≡ length items → n ≡ length items → take n (xs ++ drop (length xs) items) ≡ xs

@@ -1,5 +1,5 @@
 -- What a bench measured, by the times of its calls.
-use Rattle.std.specs.Prelude.{ℕ, ◌≡◌, ◌*◌, ◌-◌, ◌/◌, ◌<◌, ◌^◌, List, length, max, min}
+use Rattle.std.specs.Prelude.{ℕ, ◌≡◌, ◌*◌, ◌-◌, ◌/◌, ◌<◌, ◌≤◌, ◌^◌, List, length, max, min}
 use Rattle.benchmarks.specs.CallTimes.{IsTimeAt, longest_in}
 use Rattle.benchmarks.specs.declared.measured.Measured.{Measured}
 
@@ -14,6 +14,7 @@ pub record IsMeasured (bytes : ℕ) (times : List ℕ) (m : Measured) : Type 0 w
   pub half : 0 < m.commits → IsTimeAt (m.commits - m.commits / 2) times m.middle
   pub most : 0 < m.commits → IsTimeAt (m.commits - m.commits / 100) times m.percentile_99
   pub longest : m.longest ≡ longest_in times
+  pub within : (m.middle ≤ m.longest) × (m.percentile_99 ≤ m.longest)
 
 -- it was measured of calls of some times
 pub record HasTimes (bytes : ℕ) (m : Measured) : Type 0 where

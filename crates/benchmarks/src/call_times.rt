@@ -1,7 +1,7 @@
 //! How long calls took, counted by slots (`slots.rt`): their middle and their percentiles.
 //!
-//! A percentile is the longest time of the slot that has the call of its rank. So it is above that call's time by at
-//! most a sixteenth. The longest time is exact.
+//! A percentile is the longest time of the slot that has the call of its rank, or the longest of all times if that is
+//! shorter. So it is above that call's time by at most a sixteenth. The longest time is exact.
 
 ghost use Rattle.std.specs.Prelude.{◌≡◌, ◌+◌, ◌-◌, ◌/◌, ◌<◌, ◌≤◌, ◌^◌, [], ◌∷◌, ◌++◌, IfNone, IfOk, IfSome, length, sum};
 ghost use Rattle.benchmarks.specs.CallTimes.{IsSlotAt, IsTimeAt, longest_in};
@@ -97,29 +97,32 @@ impl CallTimes {
 
     /// The time that half of the calls did not exceed. 0 if there is no call.
     pub fn middle(&self) -> u64
-        ensures { 0 < length self.now
+        ensures half { 0 < length self.now
             → IsTimeAt (length self.now - length self.now / 2) self.now result }
+        ensures within { result ≤ longest_in self.now }
     {
         self.time_at(self.calls - self.calls / 2)
     }
 
     /// The time that 99 of 100 calls did not exceed. 0 if there is no call.
     pub fn percentile_99(&self) -> u64
-        ensures { 0 < length self.now
+        ensures most { 0 < length self.now
             → IsTimeAt (length self.now - length self.now / 100) self.now result }
+        ensures within { result ≤ longest_in self.now }
     {
         self.time_at(self.calls - self.calls / 100)
     }
 
     // The time of the call of this rank, counted from 1 in the order of the times. 0 if there is none.
     fn time_at(&self, rank: u64) -> u64
-        ensures { 0 < rank → rank ≤ length self.now → IsTimeAt rank self.now result }
+        ensures ranked { 0 < rank → rank ≤ length self.now → IsTimeAt rank self.now result }
+        ensures within { result ≤ longest_in self.now }
     {
         if rank == 0 {
             return 0;
         }
         match slot_at(self.counts.as_slice(), rank) {
-            Some(slot) => longest_of(slot),
+            Some(slot) => longest_of(slot).min(self.longest),
             None => 0,
         }
     }

@@ -37,6 +37,14 @@ fn one_call_of_100_takes_longer_than_the_99th_percentile(times: &CallTimes) -> u
     times.percentile_99()
 }
 
+// So no percentile that is printed is above the longest call.
+fn no_percentile_is_above_the_longest_call(times: &CallTimes) -> u64 {
+    let (middle, most, longest) = (times.middle(), times.percentile_99(), times.longest());
+    prove!(middle <= longest);
+    prove!(most <= longest);
+    longest
+}
+
 // The middle of three short calls is the time of the second, whatever their order.
 fn the_middle_of_5_9_and_7_is_7(times: &mut CallTimes) -> u64
     requires { times.old ≡ [] }

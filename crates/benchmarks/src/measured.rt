@@ -19,9 +19,9 @@ pub struct Measured {
     pub flushes: u64,
     /// The time from the begin of the first call to the end of the last one.
     pub time: u64,
-    /// The time that half of the calls did not exceed, at most a sixteenth too long.
+    /// The time that half of the calls did not exceed, at most a sixteenth too long. At most `longest`.
     pub middle: u64,
-    /// The time that 99 of 100 calls did not exceed, at most a sixteenth too long.
+    /// The time that 99 of 100 calls did not exceed, at most a sixteenth too long. At most `longest`.
     pub percentile_99: u64,
     /// The time of the longest call.
     pub longest: u64,
