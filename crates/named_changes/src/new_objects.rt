@@ -57,8 +57,8 @@ pub(crate) fn put_new<R: Wait, D: SectorDevice>(
     table: &NameTable,
     given: NamedBytes<'_>,
 ) -> (Put, Result<(), NameRefusal>)
-    requires name { names.IsName given.entry.name.now }
-    requires target { is_target 0 given.entry.offset given.entry.bytes.now ≡ true }
+    requires name { names.IsName given.name.now }
+    requires target { is_target 0 given.offset given.bytes.now ≡ true }
     ensures { PutsNew table.now given.entry.name.now given.entry.offset given.entry.bytes.now
         result.0 result.1 handle.old handle.new }
 {
@@ -82,7 +82,7 @@ fn find_new<R: Wait, D: SectorDevice>(
     table: &NameTable,
     given: NamedBytes<'_>,
 ) -> Result<NewObject, NameRefusal>
-    requires { is_target 0 given.entry.offset given.entry.bytes.now ≡ true }
+    requires { is_target 0 given.offset given.bytes.now ≡ true }
     ensures { FindsNew table.now given.entry.offset given.entry.bytes.now result
         handle.old handle.new }
 {
@@ -103,7 +103,7 @@ fn find_new<R: Wait, D: SectorDevice>(
 
 // Whether a new object lacks room for these bytes beside the blocks of its name, if so many are available.
 fn lacks_room_beside(given: NamedBytes<'_>, available: u64) -> bool
-    requires { is_target 0 given.entry.offset given.entry.bytes.now ≡ true }
+    requires { is_target 0 given.offset given.bytes.now ≡ true }
     ensures { result ≡ lacks_room_beside given.entry.offset given.entry.bytes.now available }
 {
     let left = available.saturating_sub(TABLE_BLOCKS);
@@ -128,8 +128,8 @@ fn put_pieces<R: Wait, D: SectorDevice>(
     new: NewObject,
     given: NamedBytes<'_>,
 ) -> (Put, Result<(), PoolError>)
-    requires name { names.IsName given.entry.name.now }
-    requires target { is_target 0 given.entry.offset given.entry.bytes.now ≡ true }
+    requires name { names.IsName given.name.now }
+    requires target { is_target 0 given.offset given.bytes.now ≡ true }
     ensures made { MakesFirst (naming_transactions new.has_table table.now new.object
         given.entry.name.now given.entry.offset given.entry.bytes.now)
         result.0.transactions result.1 handle.old handle.new }

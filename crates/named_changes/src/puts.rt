@@ -166,8 +166,8 @@ fn put_by_name<R: Wait, D: SectorDevice>(
     pool: &Pool<D>,
     given: NamedBytes<'_>,
 ) -> (Put, Result<(), NameRefusal>)
-    requires name { names.IsName given.entry.name.now }
-    requires target { is_target 0 given.entry.offset given.entry.bytes.now ≡ true }
+    requires name { names.IsName given.name.now }
+    requires target { is_target 0 given.offset given.bytes.now ≡ true }
     ensures { PutsNamed (shared_of pool.entry.now) given.entry.name.now given.entry.offset
         given.entry.bytes.now result.0 result.1 }
 {
@@ -191,7 +191,7 @@ fn put_known<R: Wait, D: SectorDevice>(
     object: ObjectId,
     given: NamedBytes<'_>,
 ) -> (Put, Result<(), NameRefusal>)
-    requires { is_target object.0 given.entry.offset given.entry.bytes.now ≡ true }
+    requires { is_target object.0 given.offset given.bytes.now ≡ true }
     ensures { PutsKnown (shared_of pool.entry.now) object given.entry.offset
         given.entry.bytes.now result.0 result.1 }
 {
