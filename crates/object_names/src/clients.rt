@@ -93,6 +93,13 @@ fn a_name_has_one_number(table: &NameTable, name: &[u8]) -> Option<ObjectId>
     table.find(name)
 }
 
+// It is text without control characters, so it can be printed.
+fn a_name_in_a_table_is_one_that_an_object_may_have(table: &NameTable) -> Option<&[u8]>
+    ensures { IfSome result (λ name. IsName name.now) }
+{
+    table.named(ObjectId(5))
+}
+
 fn an_object_without_bytes_is_an_empty_table(bytes: Bytes) -> Result<NameTable, NoNameTable>
     requires { bytes ≡ [] }
     ensures table { IsOk result }

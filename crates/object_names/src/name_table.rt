@@ -48,6 +48,7 @@ impl NameTable {
     ghost use Rattle.std.specs.Prelude.{◌≡◌, ◌≤◌, ◌<◌, ◌≢◌, ℕ, List, [], IfErr, IfNone, IfOk, IfSome, IsTrue, false, length, true};
     ghost use Rattle.base.specs.formats.Limits.{object_count};
     ghost use Rattle.object_names.specs.NameTables.{IsFree, IsNameTable, IsNamed, name_at};
+    ghost use Rattle.object_names.specs.Names.{IsName};
 
     /// The table that the bytes of object 0 are. No bytes are one without names. It takes no memory.
     ///
@@ -87,9 +88,10 @@ impl NameTable {
         Some(ObjectId(number as u32))
     }
 
-    /// The name of an object, if it has one.
+    /// The name of an object, if it has one: 1 to 254 bytes of UTF-8 without control characters.
     pub fn named(&self, object: ObjectId) -> Option<&[u8]>
         ensures name { IfSome result (λ name. IsNamed self.now object.0 name.now) }
+        ensures text { IfSome result (λ name. IsName name.now) }
         ensures none { IfNone result ((name : List ℕ) → IsNamed self.now object.0 name → ⊥) }
     {
         let bytes = self.bytes.as_slice();
