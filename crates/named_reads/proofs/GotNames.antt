@@ -1,20 +1,19 @@
 -- What callers take from a get by name, from a list of names, and from a table.
-use Rattle.std.proofs.Common.{◌≡◌, ◌≢◌, ◌++◌, ◌%◌, [], ◌∷◌, ℕ, List, Bool, true, false, Option, None, Some, ap, arith, codes, inl, length, map, refl, subst, sym, ◌∙◌}
+use Rattle.std.proofs.Common.{◌≡◌, [], ◌∷◌, ℕ, List, Option, None, Some, ap, arith, codes, inl, length, map, refl, subst, sym, ◌∙◌}
 use Rattle.std.specs.FinMap as finite
-use Rattle.std.specs.Fmt.{decimal, digits}
+use Rattle.std.specs.Fmt.{digits}
 use Rattle.std.specs.Io.KnownBytes.{Appends}
 use Rattle.base.specs.declared.names.ObjectId.{ObjectId}
 use Rattle.base.specs.history.Contents.{Contents}
 use Rattle.base.specs.tree.Mount.{MountsTo}
 use Rattle.base.proofs.crash.OneMount.{mounts_agree}
-use Rattle.inspections.specs.Inspections.{IsToldOf}
-use Rattle.object_names.specs.NameTables.{IsNameTable, IsNamed, has_object, name_at}
+use Rattle.object_names.specs.NameTables.{IsNameTable, IsNamed, has_object}
 use Rattle.object_names.proofs.NamesFound.{one_number}
 use Rattle.read_commands.specs.Reads.{WritesMounted}
 use Rattle.read_commands.proofs.MountedBytes.{appended, two_bytes_written}
 use Rattle.read_commands.proofs.PoolLines.{told_of}
 use Rattle.tree_blocks.specs.Sources.{object_bytes}
-use Rattle.named_reads.specs.NamedLines.{IsListedIn, WritesNames, line_by, lines_by, list_lines, name_shown}
+use Rattle.named_reads.specs.NamedLines.{WritesNames, lines_by, list_lines, name_shown}
 use Rattle.named_reads.specs.NamedObjects.{HasName, IsMountedName, WritesNamed}
 use Rattle.named_reads.specs.Tables.{IsTableIn, IsTableOf}
 use Rattle.named_reads.proofs.LinesWritten.{shown_named}
@@ -24,7 +23,7 @@ same_contents : (image : List ℕ) (one other : Contents) → MountsTo image one
 same_contents image one other (w, pieces, found) (u, chain, mounts) = (mounts_agree image w u pieces chain one other found mounts).2
 
 -- so a name that it mounts is one in any contents that it mounts
-name_there : (image name : List ℕ) (n : ℕ) (contents : Contents) → MountsTo image contents → IsMountedName image name n → HasName contents name n
+pub name_there : (image name : List ℕ) (n : ℕ) (contents : Contents) → MountsTo image contents → IsMountedName image name n → HasName contents name n
 name_there image name n contents mounts (other, found, is) = subst (λ (c : Contents). HasName c name n) (same_contents image other contents found mounts) is
 
 -- two bytes of the object with a name, where there were no bytes before

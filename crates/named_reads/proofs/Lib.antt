@@ -1,4 +1,4 @@
-mod Clients
+mod GotNames
 mod LinesWritten
 mod OpenedReads
 mod TableReads

@@ -1,17 +1,17 @@
 -- The lines of objects with names, written one after another, and which name a line has.
-use Rattle.std.proofs.Common.{◌≡◌, ◌≢◌, ◌++◌, ◌+◌, ◌<◌, [], ◌∷◌, ℕ, List, Bool, true, false, Option, None, Some, ap, append_assoc, drop, get_or, inl, inr, length, refl, subst, sym, ◌∙◌}
+use Rattle.std.proofs.Common.{◌≡◌, ◌≢◌, ◌++◌, ◌+◌, ◌<◌, [], ◌∷◌, ℕ, List, Bool, true, false, Option, None, Some, ap, append_assoc, drop, get_or, length, refl, subst, sym, ◌∙◌}
 use Rattle.std.specs.Io.KnownBytes.{Appends}
 use Rattle.std.specs.List.{flat_map, list_all}
-use Rattle.std.specs.Prelude.{◌&&◌, nat_lt}
+use Rattle.std.specs.Prelude.{◌&&◌, IfNone, IfSome, nat_lt}
 use Rattle.std.specs.Str.{IsUtf8, chars, is_utf8}
 use Rattle.std.proofs.KnownBytes.{Appends-trans}
 use Rattle.std.proofs.lemmas.Bool.{and_parts, lt-ltb, ltb-true}
 use Rattle.std.proofs.lemmas.List.{drop_more}
 use Rattle.std.proofs.lemmas.Str.{IsUtf8-from_is_utf8}
-use Rattle.object_names.specs.NameTables.{IsNameTable, IsNamed, name_at}
+use Rattle.base.specs.declared.names.ObjectId.{ObjectId}
+use Rattle.object_names.specs.NameTables.{IsNamed, name_at}
 use Rattle.object_names.specs.Names.{IsName, is_name_char, is_name_length, is_name_text}
-use Rattle.object_names.proofs.NamesFound.{named_there}
-use Rattle.named_reads.specs.NamedLines.{may_have_name, name_if, name_shown}
+use Rattle.named_reads.specs.NamedLines.{line_by, may_have_name, name_if, name_shown, named_line}
 
 -- one line more is written
 pub next_line : {A : Type 0} (line : A → List ℕ) (all : List A) (i : ℕ) (d : A) (before now after : Option (List ℕ)) (front : List ℕ) → i < length all → Appends before now front
@@ -28,8 +28,8 @@ both : (a b : Bool) → a ≡ true → b ≡ true → (a && b) ≡ true
 both a b first second = rw (first, second) refl
 
 shown_if : (may : Bool) (at name : List ℕ) → may ≡ true → at ≡ name → name ≢ [] → name_if may at ≡ Some name
-shown_if may at [] yes same some = absurd (some refl)
-shown_if may at (byte ∷ bytes) yes same some = rw (yes, same) refl
+shown_if may at [] so same some = absurd (some refl)
+shown_if may at (byte ∷ bytes) so same some = rw (so, same) refl
 
 not_nil : (byte : ℕ) (bytes : List ℕ) → byte ∷ bytes ≢ []
 not_nil byte bytes same = cc
@@ -50,14 +50,14 @@ shown_unnamed table n none = by (may_have_name n) (name_at table n) refl refl
         let parts = and_parts (nat_lt 0 n) (nat_lt n 5292) is in
         absurd (none (byte ∷ bytes) (record { number = ltb-true 0 n parts.0; few = ltb-true n 5292 parts.1; name_is = same; some = not_nil byte bytes }))
 
--- a name in a table is text
-pub named_text : (table name : List ℕ) (n : ℕ) → IsNameTable table → IsNamed table n name → IsUtf8 name
-named_text table name n is named = elim (is.slots n named.number (named_there table n name named)).name [
-  | inl none ↦ absurd (named.some (sym named.name_is ∙ none))
-  | inr it ↦ text name (subst IsName named.name_is it)
-]
-  where
-    text : (bytes : List ℕ) → IsName bytes → IsUtf8 bytes
-    text bytes it =
-        let inner = and_parts (is_name_length (length bytes)) (is_name_text bytes) it in
-        IsUtf8-from_is_utf8 bytes (and_parts (is_utf8 bytes) (list_all is_name_char (chars bytes)) inner.1).0
+-- a name is text
+pub name_text : (name : List ℕ) → IsName name → IsUtf8 name
+name_text name is =
+    let inner = and_parts (is_name_length (length name)) (is_name_text name) is in
+    IsUtf8-from_is_utf8 name (and_parts (is_utf8 name) (list_all is_name_char (chars name)) inner.1).0
+
+-- the line of an object is written with the name that it has, or without one
+pub line_written : {Str : Type 0} (of : Str → List ℕ) (table : Option (List ℕ)) (object : ObjectId) (size : ℕ) (name : Option Str) (now after : Option (List ℕ)) → IfSome name (λ n. name_shown table object.0 ≡ Some (of n)) → IfNone name (name_shown table object.0 ≡ None)
+    → IfSome name (λ n. Appends now after (named_line object size (Some (of n)))) → IfNone name (Appends now after (named_line object size None)) → Appends now after (line_by table (object, size))
+line_written of table object size (Some n) now after is none named unnamed = subst (λ (o : Option (List ℕ)). Appends now after (named_line object size o)) (sym is) named
+line_written of table object size None now after is none named unnamed = subst (λ (o : Option (List ℕ)). Appends now after (named_line object size o)) (sym none) unnamed

@@ -2,7 +2,7 @@
 use Rattle.std.proofs.Common.{◌≡◌, [], List, ℕ, Option, None, Result, Ok, Err, Some, ap, arith, length, refl, subst, sym, take, ◌∙◌, ◌≤◌}
 use Rattle.std.specs.FinMap.{FinMap}
 use Rattle.std.specs.Ordering.{nat_cmp}
-use Rattle.std.specs.Prelude.{IfErr, IfOk, IsTrue, option_map, unwrap_or}
+use Rattle.std.specs.Prelude.{IfErr, IfOk, option_map, unwrap_or}
 use Rattle.std.proofs.lemmas.List.{length-take, take_all}
 use Rattle.base.specs.declared.error.PoolError.{PoolError}
 use Rattle.base.specs.declared.error.PoolError.TheVariants.{NoObject}
@@ -61,16 +61,13 @@ table_refused (Err NoObject) (Ok table) is readers = tt
 table_refused (Err NoObject) (Err e) is readers = absurd is
 table_refused (Err e) result is readers = subst (λ (r : Result (Option (List ℕ)) PoolError). IfErr r IsReadersRefusal) (sym is) readers
 
--- reads after others that were not refused
+-- the read of object 0 after others that were not refused
 module _ {Dev : Type 0} (D : Ghosts Dev) where
-  pub reads_on : {S T : Type 0} (s : S) (result : Result T PoolError) (old mid new : Dev) → OnlyReads D (Ok s) old mid → OnlyReads D result mid new → OnlyReads D result old new
-  reads_on s result old mid new first later = record {
+  pub table_reads : {S : Type 0} (earlier : Result S PoolError) (s : S) (read : Result (List ℕ) PoolError) (result : Result (Option (List ℕ)) PoolError) (old mid new : Dev) → earlier ≡ Ok s → IsTableRead read result
+      → OnlyReads D earlier old mid → OnlyReads D read mid new → OnlyReads D result old new
+  table_reads earlier s read result old mid new is table first later = record {
     size = later.size ∙ first.size;
     disk = λ keeps. later.disk keeps ∙ first.disk keeps;
-    count = later.count ∙ ap (λ (calls : RefusedCalls). counted result calls) first.count;
+    count = later.count ∙ sym (counted_table read result table (D.refused mid))
+        ∙ ap (λ (calls : RefusedCalls). counted result calls) (first.count ∙ ap (λ e. counted e (D.refused old)) is);
   }
-
-  pub table_reads : {S : Type 0} (s : S) (read : Result (List ℕ) PoolError) (result : Result (Option (List ℕ)) PoolError) (old mid new : Dev) → IsTableRead read result
-      → OnlyReads D (Ok s) old mid → OnlyReads D read mid new → OnlyReads D result old new
-  table_reads s read result old mid new is first later = reads_on s result old mid new first
-      (record { size = later.size; disk = later.disk; count = later.count ∙ sym (counted_table read result is (D.refused mid)) })

@@ -34,8 +34,24 @@ impl NamedList {
             (λ name. name_shown self.now.table object.0 ≡ Some name.now) }
         ensures none { IfNone result (name_shown self.now.table object.0 ≡ None) }
     {
-        let name = self.table.as_ref()?.named(object)?;
-        str::from_utf8(name).ok()
+        match &self.table {
+            Some(table) => text_of(table, object),
+            None => None,
+        }
+    }
+}
+
+// The name of an object in a table, as text.
+fn text_of(table: &NameTable, object: ObjectId) -> Option<&str>
+    ensures name { IfSome result (λ name. name_shown (Some table.now) object.0 ≡ Some name.now) }
+    ensures none { IfNone result (name_shown (Some table.now) object.0 ≡ None) }
+{
+    match table.named(object) {
+        Some(name) => match str::from_utf8(name) {
+            Ok(text) => Some(text),
+            Err(_) => None,
+        },
+        None => None,
     }
 }
 

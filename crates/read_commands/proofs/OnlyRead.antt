@@ -27,7 +27,7 @@ by_view object range e (inr (inr (inl memory))) = (λ is. cc, λ is. cc)
 by_view object range e (inr (inr (inr (inl read)))) = (λ is. cc, λ is. cc)
 by_view object range e (inr (inr (inr (inr (kind, address, damaged))))) = (λ is. cc, λ is. cc)
 
-pub counted_reading : (e : PoolError) → IsReadersRefusal e → (old new : RefusedCalls) → new ≡ with_refusal e old → (new ≡ old) ⊎ (new ≡ with_refusal Read old)
+counted_reading : (e : PoolError) → IsReadersRefusal e → (old new : RefusedCalls) → new ≡ with_refusal e old → (new ≡ old) ⊎ (new ≡ with_refusal Read old)
 counted_reading Read reads old new is = inr is
 counted_reading Write reads old new is = absurd (reads.0 refl)
 counted_reading Flush reads old new is = absurd (reads.1 refl)

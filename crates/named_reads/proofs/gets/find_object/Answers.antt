@@ -1,0 +1,6 @@
+use Rattle.named_reads.proofs.OpenedReads.{name_found}
+use Rattle.named_reads.proofs.gets.find_object.Goals as goal
+
+pub returns-in-Ok-Some-clause-found : goal.returns-in-Ok-Some-clause-found
+returns-in-Ok-Some-clause-found g c = λ keeps.
+    name_found _ c.in-Ok-Some.table c.args.name.now c.read_table-table.result.0 c.in-Ok-Some.field-0 c.find.result c.in-Ok-Some.is c.in-Ok-Some.field-0-is (c.read_table-table.ensures.table keeps) c.find.ensures
