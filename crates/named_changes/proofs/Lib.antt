@@ -1,4 +1,4 @@
-mod Clients
+mod OneEntries
 mod Endings
 mod NamedContents
 mod NewPieces

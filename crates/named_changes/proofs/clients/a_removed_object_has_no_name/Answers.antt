@@ -1,4 +1,4 @@
-use Rattle.named_changes.proofs.Clients.{seven_unnamed}
+use Rattle.named_changes.proofs.OneEntries.{seven_unnamed}
 use Rattle.named_changes.proofs.clients.a_removed_object_has_no_name.Goals as goal
 
 pub returns : goal.returns

@@ -1,5 +1,5 @@
 use Rattle.std.specs.Prelude.{codes}
-use Rattle.named_changes.proofs.Clients.{one_removed}
+use Rattle.named_changes.proofs.OneEntries.{one_removed}
 use Rattle.named_changes.proofs.clients.objects.a_removal_of_a_name_is_one_durable_entry.Goals as goal
 
 pub returns : goal.returns
