@@ -1,6 +1,6 @@
 -- What callers take from a put of two bytes, and from a removal, that the engine refused.
 use Rattle.std.proofs.Common.{◌≡◌, ◌≢◌, ◌⊎◌, ◌-◌, ◌<◌, ◌∷◌, [], ℕ, zero, suc, List, Ok, Err, ap, arith, false, inl, inr, refl, subst, sym, true, ◌∙◌}
-use Rattle.std.specs.Prelude.{Bool, IsTrue, None, Result, min, nat_lt}
+use Rattle.std.specs.Prelude.{Bool, IsTrue, None, Result, nat_lt}
 use Rattle.std.proofs.lemmas.Bool.{ltb-true, true≢false}
 use Rattle.base.specs.declared.error.PoolError.{PoolError}
 use Rattle.base.specs.declared.error.PoolError.TheVariants.{NoObject, NoSpace}
@@ -13,7 +13,7 @@ use Rattle.base.specs.declared.operation.Op.TheVariants.{Create, Remove, SetLeng
 use Rattle.base.specs.declared.step.Reply.TheVariants as reply
 use Rattle.base.specs.declared.step.Step.TheVariants as step
 use Rattle.base.specs.disk.Calls.{with_refusal}
-use Rattle.base.specs.formats.Limits.{max_length, one_level_length}
+use Rattle.base.specs.formats.Limits.{one_level_length}
 use Rattle.base.specs.steps.Runs.{reply_of}
 use Rattle.device_model.specs.declared.device.SectorDevice.{Ghosts}
 use Rattle.import_replay.specs.ImportRefusals.{IsImportRefusal}

@@ -1,9 +1,10 @@
 -- A device on which no pool is found has none, no label of it has a config, and a pool is named after its file.
-use Rattle.std.proofs.Common.{◌≡◌, ◌<◌, ◌∷◌, [], ℕ, zero, suc, List, Ok, ap, arith, false, inl, inr, length, map, refl, subst, sym, true, ◌||◌, ◌∙◌}
-use Rattle.std.specs.Prelude.{Bool, Option, Some, codes, slice_get}
+use Rattle.std.proofs.Common.{◌≡◌, ◌∷◌, [], ℕ, zero, suc, List, Ok, ap, arith, false, inl, inr, length, map, refl, subst, sym, true}
+use Rattle.std.specs.Prelude.{Bool, IfOk, Option, Result, Some, codes}
 use Rattle.std.specs.Path.{path_file_name, path_file_stem, rsplit_once, split_last_component, trim_trailing}
 use Rattle.std.specs.Io.KnownBytes.{Appends}
 use Rattle.std.proofs.lemmas.Bool.{or_parts, true≢false}
+use Rattle.base.specs.declared.error.PoolError.{PoolError}
 use Rattle.base.specs.formats.Geometry.{block_count}
 use Rattle.base.specs.formats.Labels.{Config, HasNoConfig}
 use Rattle.base.specs.formats.Uberblocks.{Uberblock}
@@ -11,9 +12,12 @@ use Rattle.base.specs.history.Contents.{Contents}
 use Rattle.base.specs.tree.Mount.{HasNoPool, HasPool, IsTreeDamaged, MountsTo}
 use Rattle.base.proofs.crash.OneMount.{one-active}
 use Rattle.labels.specs.Configs.{IsConfigBlock}
+use Rattle.read_commands.specs.Checks.{IsFoundIn}
 use Rattle.read_commands.specs.Failures.{sector_bytes}
 use Rattle.read_commands.specs.FoundLabels.{AreLabelStates, HasConfig, IsStateAt, IsStateOf, config_bytes_at}
 use Rattle.read_commands.specs.PoolLines.{created_line}
+use Rattle.read_commands.specs.declared.checks.Finding.{Finding}
+use Rattle.read_commands.specs.declared.checks.Finding.TheVariants.{NoPool}
 use Rattle.read_commands.specs.declared.label_states.ConfigState.{ConfigState}
 use Rattle.read_commands.specs.declared.label_states.ConfigState.TheVariants.{OtherSize, Unchecked, Whole, Zeroed}
 use Rattle.read_commands.specs.declared.label_states.LabelState.{LabelState}
@@ -32,6 +36,10 @@ whole_there image contents (u, chain, mounts) = no_pool_there image u mounts.syn
 
 pub damaged_there : (image : List ℕ) (kind address : ℕ) → IsTreeDamaged image kind address → HasNoPool image → ⊥
 damaged_there image kind address damaged = no_pool_there image damaged.u damaged.name damaged.pool
+
+-- if a check finds none, the image has none
+pub no_pool_found : (image : List ℕ) (r : Result Finding PoolError) → r ≡ Ok NoPool → IfOk r (IsFoundIn image) → HasNoPool image
+no_pool_found image r is found = subst (λ (x : Result Finding PoolError). IfOk x (IsFoundIn image)) is found
 
 -- a label whose state is none of a config has none
 without_config : (block : List ℕ) (size : ℕ) (config : ConfigState) → is_config config ≡ false → IsStateOf block size config → (c : Config) → IsConfigBlock block size c → ⊥

@@ -144,8 +144,8 @@ where
 
 // The same, but a file that exists by then is refused.
 fn only_as_new(arguments: CreateArguments<'_>) -> CreateArguments<'_>
-    ensures name { result.name ≡ arguments.name }
-    ensures size { result.size ≡ arguments.size }
+    ensures name { result.name ≡ arguments.entry.name }
+    ensures size { result.size ≡ arguments.entry.size }
     ensures only_new { result.only_new ≡ true }
 {
     CreateArguments {
@@ -186,7 +186,7 @@ fn is_name(name: &str) -> bool
 
 // The name of a new pool: the one that is given, or that of its file.
 fn new_name<'a>(name: Option<&'a str>, file: &'a str) -> &'a str
-    ensures { result.now ≡ new_name (option_copied name) file.now }
+    ensures { result.now ≡ new_name (option_copied name.entry) file.now }
 {
     match name {
         Some(name) => name,

@@ -1,4 +1,4 @@
-use Rattle.std.proofs.Common.{◌≡◌, ◌+◌, ap, drop, length, min, refl, subst, sym, take, ◌∙◌, ℕ, Err, List}
+use Rattle.std.proofs.Common.{◌+◌, ap, drop, length, refl, subst, sym, take, ◌∙◌, ℕ, Err, List}
 use Rattle.base.specs.declared.operation.Op.{Op}
 use Rattle.commands.specs.Committed.{MakesFirst}
 use Rattle.commands.specs.Puts.{piece_ops, put_transactions, rest_transactions}
