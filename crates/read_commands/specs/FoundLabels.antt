@@ -1,5 +1,5 @@
 -- What a check of all finds in the labels of a device, and what it prints of it.
-use Rattle.std.specs.Prelude.{ℕ, ◌≡◌, ◌<◌, ◌++◌, if◌then◌else◌, Bool, true, false, codes, List, [], ◌∷◌, Some, length, map, replicate, slice_get}
+use Rattle.std.specs.Prelude.{ℕ, ◌≡◌, ◌++◌, if◌then◌else◌, Bool, true, false, codes, List, [], ◌∷◌, Some, length, map, replicate, slice_get}
 use Rattle.std.specs.Fmt.{decimal}
 use Rattle.std.specs.List.{flat_map, list_any}
 use Rattle.base.specs.formats.Fields.{part}
