@@ -1,5 +1,5 @@
 -- What a check prints as JSON is what it found.
-use Rattle.std.proofs.Common.{◌≡◌, ◌⊎◌, ◌++◌, ap, append_assoc, arith, inl, inr, ℕ, List, [], ◌∷◌, Result, Ok, Err, IsTrue, refl, subst, sym, ◌∙◌}
+use Rattle.std.proofs.Common.{◌≡◌, ◌⊎◌, ◌++◌, ◌<◌, ap, append_assoc, inl, inr, ℕ, List, [], ◌∷◌, Result, Ok, Err, IsTrue, refl, subst, sym, ◌∙◌}
 use Rattle.std.specs.Fmt.{decimal, digits}
 use Rattle.std.specs.Io.KnownBytes.{Appends}
 use Rattle.std.specs.Prelude.{IfOk, Option, Some, codes}

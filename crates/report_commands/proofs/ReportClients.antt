@@ -13,7 +13,7 @@ use Rattle.base.specs.history.Contents.{Contents}
 use Rattle.inspections.specs.declared.inspection.Inspected.{Inspected}
 use Rattle.command_arguments.specs.declared.reports.SpaceUnit.TheVariants as unit
 use Rattle.report_commands.specs.Json.{json_listed, json_objects, json_shown}
-use Rattle.report_commands.specs.JsonLabels.{PrintsLabels}
+use Rattle.report_commands.specs.JsonLabels.{PrintsLabels, json_active, json_config, json_found_label, json_four, json_ring}
 use Rattle.report_commands.specs.ObjectBlocks.{long_line, long_lines}
 use Rattle.read_commands.specs.PoolLines.{WritesInspected}
 use Rattle.report_commands.specs.Space.{amount_text, block_bytes, pool_space_lines, space_lines}
@@ -94,5 +94,8 @@ zeroth_label config rest = refl
 
 pub labels_told : (before after : Option (List ℕ)) → before ≡ Some [] → PrintsLabels before after → (rest : List ℕ) × (after ≡ Some (codes "{\"labels\":[{\"label\":0,\"config\":" ++ rest))
 labels_told before after empty p =
-    let is = appended after _ (subst (λ (b : Option (List ℕ)). Appends b after _) empty p.writes) in
-    (_, is ∙ ap Some (zeroth_label _ _))
+    let text : List ℕ = json_four p.zeroth p.first p.second p.third p.active in
+    let config : List ℕ = json_config p.zeroth.config ++ (codes "," ++ (json_ring p.zeroth.count p.zeroth.highest ++ codes "}")) in
+    let rest : List ℕ = codes "," ++ (json_found_label 1 p.first ++ (codes "," ++ (json_found_label 2 p.second
+    ++ (codes "," ++ (json_found_label 3 p.third ++ (codes "],\"active\":" ++ (json_active p.active ++ codes "}\n"))))))) in
+    (config ++ rest, appended after text (subst (λ (b : Option (List ℕ)). Appends b after text) empty p.writes) ∙ ap Some (zeroth_label config rest))

@@ -1,4 +1,4 @@
--- What is written of a list: by a loop, and as JSON.
+-- What is written of a list: by a loop, between two texts, and as JSON.
 use Rattle.std.proofs.Common.{◌≡◌, ◌++◌, ◌+◌, ◌<◌, ◌∷◌, ap, append_assoc, drop, get_or, length, ℕ, List, subst, sym, ◌∙◌}
 use Rattle.std.specs.Io.KnownBytes.{Appends}
 use Rattle.std.specs.List.{flat_map}
@@ -18,6 +18,10 @@ next_text {A} text all i d before now after front within written left line =
       Appends-trans before now after front (text one) written line,
       left ∙ ap (λ (l : List A). front ++ flat_map text l) (drop_more all i d within) ∙ sym (append_assoc front (text one) (flat_map text (drop (i + 1) all))),
     )
+
+-- three texts are written, one after the other
+pub three_written : (a b c d : Option (List ℕ)) (x y z : List ℕ) → Appends a b x → Appends b c y → Appends c d z → Appends a d (x ++ (y ++ z))
+three_written a b c d x y z one two three = Appends-trans a b d x (y ++ z) one (Appends-trans b c d y z two three)
 
 -- the first object, the others and the end are a list of them
 pub objects_written : (all rest : List (ObjectId × ℕ)) (first : ObjectId × ℕ) (a b c d : Option (List ℕ)) → all ≡ first ∷ rest

@@ -1,5 +1,5 @@
 -- What `show`, `ls` and `check` print as JSON.
-use Rattle.std.specs.Prelude.{ℕ, ◌++◌, if◌then◌else◌, codes, List, [], ◌∷◌, Option}
+use Rattle.std.specs.Prelude.{ℕ, ◌++◌, if◌then◌else◌, Bool, true, false, codes, List, [], ◌∷◌, Option}
 use Rattle.std.specs.Fmt.{decimal}
 use Rattle.std.specs.Io.KnownBytes.{Appends}
 use Rattle.std.specs.List.{flat_map}
@@ -88,14 +88,20 @@ json_reason_of label Unchecked = codes "{\"label\":" ++ (decimal label ++ codes 
 abbrev pub json_reason : LabelState → List ℕ
 json_reason s = json_reason_of s.label s.config
 
--- the labels without a valid config, with commas between them and with this before the first one
-abbrev pub json_reasons : List ℕ → List LabelState → List ℕ
-json_reasons comma [] = []
-json_reasons comma (s ∷ rest) = if is_whole s.config then json_reasons comma rest else comma ++ (json_reason s ++ json_reasons (codes ",") rest)
+-- what stands before a label, the first one or another
+abbrev pub json_comma : Bool → List ℕ
+json_comma true = []
+json_comma false = codes ","
+
+-- the labels without a valid config, with commas between them
+abbrev pub json_reasons : Bool → List LabelState → List ℕ
+json_reasons is_first [] = []
+json_reasons is_first (s ∷ rest) =
+    if is_whole s.config then json_reasons is_first rest else json_comma is_first ++ (json_reason s ++ json_reasons false rest)
 
 -- what is printed of four labels: none, if no label has a valid config
 abbrev pub json_lost : List LabelState → List ℕ
-json_lost states = if some_whole states then json_reasons [] states else []
+json_lost states = if some_whole states then json_reasons true states else []
 
 abbrev pub json_labels : List LabelState → List ℕ
 json_labels states = codes ",\"labels\":[" ++ (json_lost states ++ codes "]}\n")

@@ -2,7 +2,6 @@
 use Rattle.std.specs.Prelude.{ℕ, ◌++◌, ◌==◌, if◌then◌else◌, codes, List, Option}
 use Rattle.std.specs.Fmt.{decimal}
 use Rattle.std.specs.Io.KnownBytes.{Appends}
-use Rattle.base.specs.declared.names.Group.{Group}
 use Rattle.read_commands.specs.declared.label_lines.ConfigFound.{ConfigFound}
 use Rattle.read_commands.specs.declared.label_lines.ConfigFound.TheVariants as found
 use Rattle.report_commands.specs.declared.json_labels.Active.{Active}
@@ -42,11 +41,17 @@ pub record LabelFound : Type 0 where
 abbrev pub json_found_label : ℕ → LabelFound → List ℕ
 json_found_label number l = json_label number l.config l.count l.highest
 
--- Four labels were printed, with their numbers, and the active uberblock after them.
+-- four labels with their numbers, and the active uberblock
+abbrev pub json_four : LabelFound → LabelFound → LabelFound → LabelFound → Active → List ℕ
+json_four zeroth first second third last =
+    codes "{\"labels\":[" ++ (json_found_label 0 zeroth ++ (codes "," ++ (json_found_label 1 first ++ (codes "," ++ (json_found_label 2 second
+    ++ (codes "," ++ (json_found_label 3 third ++ (codes "],\"active\":" ++ (json_active last ++ codes "}\n")))))))))
+
+-- So it was printed.
 pub record PrintsLabels (old new : Option (List ℕ)) : Type 0 where
   pub zeroth : LabelFound
   pub first : LabelFound
   pub second : LabelFound
   pub third : LabelFound
   pub active : Active
-  pub writes : Appends old new (codes "{\"labels\":[" ++ (json_found_label 0 zeroth ++ (codes "," ++ (json_found_label 1 first ++ (codes "," ++ (json_found_label 2 second ++ (codes "," ++ (json_found_label 3 third ++ (codes "],\"active\":" ++ (json_active active ++ codes "}\n"))))))))))
+  pub writes : Appends old new (json_four zeroth first second third active)

@@ -1,5 +1,5 @@
 -- The space of a pool, and how it is printed.
-use Rattle.std.specs.Prelude.{ℕ, ◌+◌, ◌-◌, ◌*◌, ◌/◌, ◌%◌, ◌^◌, ◌++◌, if◌then◌else◌, codes, List, min, nat_lt}
+use Rattle.std.specs.Prelude.{ℕ, ◌-◌, ◌*◌, ◌/◌, ◌%◌, ◌^◌, ◌++◌, if◌then◌else◌, codes, List, min, nat_lt}
 use Rattle.std.specs.Fmt.{decimal}
 use Rattle.command_arguments.specs.declared.reports.SpaceUnit.{SpaceUnit}
 use Rattle.command_arguments.specs.declared.reports.SpaceUnit.TheVariants as unit

@@ -3,13 +3,13 @@
 
 ghost use Rattle.std.specs.Io.KnownBytes.{Appends};
 ghost use Rattle.std.specs.List.{flat_map};
-ghost use Rattle.std.specs.Prelude.{◌≡◌, ◌≢◌, ◌≤◌, ◌⊎◌, [], IfOk, IsErr, IsTrue, List, OnOk};
+ghost use Rattle.std.specs.Prelude.{◌≡◌, ◌≢◌, ◌≤◌, ◌⊎◌, IfOk, IsErr, IsTrue, List, OnOk, true};
 ghost use Rattle.base.specs.disk.Disk.{bytes_of};
 ghost use Rattle.base.specs.formats.Geometry.{IsGeometry};
 ghost use Rattle.read_commands.specs.Checks.{StaysOpened, finding_status};
 ghost use Rattle.read_commands.specs.FoundDamages.{all_status};
 ghost use Rattle.read_commands.specs.declared.checks.Finding.{Finding as ShownFinding};
-ghost use Rattle.report_commands.specs.Json.{PrintsFinding, PrintsFindings, json_damages, json_findings, json_found, json_labels, json_lost, json_more, json_reasons, json_state};
+ghost use Rattle.report_commands.specs.Json.{PrintsFinding, PrintsFindings, json_damages, json_findings, json_comma, json_found, json_labels, json_lost, json_more, json_reasons, json_state};
 
 use command_arguments::Verbosity;
 use device_model::{FileRefusal, SectorDevice};
@@ -171,17 +171,24 @@ fn write_lost<W: Write>(labels: &[LabelState; 4], out: &mut W) -> io::Result<()>
 // Writes the labels that have no valid config, with commas between them.
 fn write_reasons<W: Write>(labels: &[LabelState; 4], out: &mut W) -> io::Result<()>
     ensures { OnOk result (Appends (W.contents out.old) (W.contents out.new)
-        (json_reasons [] labels.now)) }
+        (json_reasons true labels.now)) }
 {
-    let mut comma = "";
+    let mut is_first = true;
     for state in labels {
         if is_whole(state) {
             continue;
         }
-        write!(out, "{comma}{}", Reason(*state))?;
-        comma = ",";
+        write!(out, "{}{}", comma_before(is_first), Reason(*state))?;
+        is_first = false;
     }
     Ok(())
+}
+
+// What stands before a label.
+fn comma_before(is_first: bool) -> &'static str
+    ensures { result.now ≡ json_comma is_first }
+{
+    if is_first { "" } else { "," }
 }
 
 /// The kind and the byte address of a damaged block, as JSON.
