@@ -3,7 +3,7 @@
 
 mod checks;
 
-ghost use Rattle.std.specs.Prelude.{ℕ, ◌≡◌, ◌++◌, [], ◌∷◌, IfOk, IsOk, IsTrue, List, OnOk, Some, codes, length};
+ghost use Rattle.std.specs.Prelude.{ℕ, ◌≡◌, ◌<◌, ◌++◌, [], ◌∷◌, IfOk, IfSome, IsOk, IsTrue, List, OnOk, Some, codes, length};
 ghost use Rattle.std.specs.FinMap as finite;
 ghost use Rattle.base.specs.tree.Mount.{MountsTo};
 ghost use Rattle.base.specs.disk.Disk.{bytes_of};
@@ -14,9 +14,10 @@ use crate::json_labels::run_json_labels;
 use crate::json_reports::{run_json_list, run_json_show};
 use crate::long_list::run_long_list;
 use crate::pool_space::{Space, run_space, write_space};
+use base::Group;
 use command_arguments::{ReadCommand, SpaceArguments, SpaceUnit, Verbosity};
 use device_model::{FileRefusal, SectorDevice};
-use read_commands::NotesRefusals;
+use read_commands::{Labels, NotesRefusals};
 use std::alloc::Global;
 use std::io::{self, Write};
 
@@ -138,6 +139,12 @@ fn a_look_at_the_labels_of_a_small_file_prints_nothing<
     ensures { W.contents out.new ≡ W.contents out.old }
 {
     run_json_labels(alloc, "tank.pool", BRIEF, &mut Ok(device), out, errors);
+}
+
+fn a_label_that_has_an_uberblock_is_one_of_four(labels: &Labels, group: Group) -> Option<usize>
+    ensures { IfSome result (λ label. label < 4) }
+{
+    labels.label_of(group)
 }
 
 fn whatever_is_asked_of_a_file_that_is_not_opened_has_status_3<

@@ -1,4 +1,4 @@
-//! The command `check` with `--json`: one object of JSON in one line, with the keys of `docs/FORMATS.md`. It only
+//! The command `check` with `--json`: one object of JSON in one line, with the keys of `docs/COMMANDS.md`. It only
 //! reads.
 
 ghost use Rattle.std.specs.Io.KnownBytes.{Appends};
@@ -105,7 +105,7 @@ fn write_findings<W: Write>(findings: &[Finding], out: &mut W) -> io::Result<()>
         (json_findings findings.now)) }
 {
     let Some((first, rest)) = findings.split_first() else {
-        return write!(out, "{{\"state\":\"damaged\",\"damages\":[]");
+        return write!(out, r#"{{"state":"damaged","damages":[]"#);
     };
     write_state(*first, rest, out)
 }
@@ -118,11 +118,11 @@ fn write_state<W: Write>(first: Finding, rest: &[Finding], out: &mut W) -> io::R
     match first {
         Finding::Clean { group, records } => write!(
             out,
-            "{{\"state\":\"clean\",\"group\":{},\"records\":{records}",
+            r#"{{"state":"clean","group":{},"records":{records}"#,
             group.0
         ),
         Finding::Damaged { kind, address } => write_damages(Damage { kind, address }, rest, out),
-        Finding::NoPool => write!(out, "{{\"state\":\"no pool\""),
+        Finding::NoPool => write!(out, r#"{{"state":"no pool""#),
     }
 }
 
@@ -131,7 +131,7 @@ fn write_damages<W: Write>(first: Damage, rest: &[Finding], out: &mut W) -> io::
     ensures { OnOk result (Appends (W.contents out.old) (W.contents out.new)
         (json_damages first.kind first.address rest.now)) }
 {
-    write!(out, "{{\"state\":\"damaged\",\"damages\":[{first}")?;
+    write!(out, r#"{{"state":"damaged","damages":[{first}"#)?;
     write_more(rest, out)?;
     write!(out, "]")
 }
@@ -152,7 +152,7 @@ fn write_labels<W: Write>(labels: &[LabelState; 4], out: &mut W) -> io::Result<(
     ensures { OnOk result (Appends (W.contents out.old) (W.contents out.new)
         (json_labels labels.now)) }
 {
-    write!(out, ",\"labels\":[")?;
+    write!(out, r#","labels":["#)?;
     write_lost(labels, out)?;
     writeln!(out, "]}}")
 }
@@ -206,7 +206,7 @@ impl fmt::Display for Damage {
 
     fn fmt<W: fmt::Write>(&self, f: &mut fmt::Formatter<W>) -> fmt::Result {
         let (kind, address) = (self.kind, self.address);
-        write!(f, "{{\"kind\":{kind},\"address\":{address}}}")
+        write!(f, r#"{{"kind":{kind},"address":{address}}}"#)
     }
 }
 
@@ -224,15 +224,15 @@ impl fmt::Display for JsonFinding {
         match self.0 {
             Finding::Clean { group, records } => write!(
                 f,
-                "{{\"state\":\"clean\",\"group\":{},\"records\":{records}}}",
+                r#"{{"state":"clean","group":{},"records":{records}}}"#,
                 group.0
             ),
             Finding::Damaged { kind, address } => write!(
                 f,
-                "{{\"state\":\"damaged\",\"damages\":[{}]}}",
+                r#"{{"state":"damaged","damages":[{}]}}"#,
                 Damage { kind, address }
             ),
-            Finding::NoPool => write!(f, "{{\"state\":\"no pool\"}}"),
+            Finding::NoPool => write!(f, r#"{{"state":"no pool"}}"#),
         }
     }
 }
@@ -271,10 +271,10 @@ impl fmt::Display for Reason {
             ConfigState::Whole => f.write_str(""),
             ConfigState::OtherSize(size) => write!(
                 f,
-                "{{\"label\":{label},\"reason\":\"size\",\"size\":{size}}}"
+                r#"{{"label":{label},"reason":"size","size":{size}}}"#
             ),
-            ConfigState::Zeroed => write!(f, "{{\"label\":{label},\"reason\":\"zeros\"}}"),
-            ConfigState::Unchecked => write!(f, "{{\"label\":{label},\"reason\":\"check\"}}"),
+            ConfigState::Zeroed => write!(f, r#"{{"label":{label},"reason":"zeros"}}"#),
+            ConfigState::Unchecked => write!(f, r#"{{"label":{label},"reason":"check"}}"#),
         }
     }
 }

@@ -1,4 +1,4 @@
-//! The command `labels` with `--json`: one object of JSON in one line, with the keys of `docs/FORMATS.md`. It only
+//! The command `labels` with `--json`: one object of JSON in one line, with the keys of `docs/COMMANDS.md`. It only
 //! reads.
 
 ghost use Rattle.std.specs.Prelude.{◌≡◌, ◌≢◌, ◌≤◌, ◌<◌, IfOk, IsErr, OnOk};
@@ -51,7 +51,7 @@ fn write_labels<W: Write>(labels: &Labels, out: &mut W) -> io::Result<()>
 {
     writeln!(
         out,
-        "{{\"labels\":[{},{},{},{}],\"active\":{}}}",
+        r#"{{"labels":[{},{},{},{}],"active":{}}}"#,
         Label {
             number: 0,
             config: &labels.configs[0],
@@ -110,7 +110,7 @@ impl fmt::Display for Label<'_> {
     fn fmt<W: fmt::Write>(&self, f: &mut fmt::Formatter<W>) -> fmt::Result {
         write!(
             f,
-            "{{\"label\":{},\"config\":{},{}}}",
+            r#"{{"label":{},"config":{},{}}}"#,
             self.number,
             Config(self.config),
             self.ring
@@ -132,15 +132,15 @@ impl fmt::Display for Config<'_> {
         match self.0 {
             ConfigFound::Config(config) => write!(
                 f,
-                "{{\"name\":\"{}\",\"guid\":\"{}\",\"group\":{},\"size\":{}}}",
+                r#"{{"name":"{}","guid":"{}","group":{},"size":{}}}"#,
                 config.name().as_str(),
                 config.guid(),
                 config.group().0,
                 config.size()
             ),
-            ConfigFound::OfSize(size) => write!(f, "null,\"reason\":\"size\",\"size\":{size}"),
-            ConfigFound::Zeros => write!(f, "null,\"reason\":\"zeros\""),
-            ConfigFound::Unchecked => write!(f, "null,\"reason\":\"check\""),
+            ConfigFound::OfSize(size) => write!(f, r#"null,"reason":"size","size":{size}"#),
+            ConfigFound::Zeros => write!(f, r#"null,"reason":"zeros""#),
+            ConfigFound::Unchecked => write!(f, r#"null,"reason":"check""#),
         }
     }
 }
@@ -161,9 +161,9 @@ impl fmt::Display for Ring {
     fn fmt<W: fmt::Write>(&self, f: &mut fmt::Formatter<W>) -> fmt::Result {
         let count = self.count;
         if count == 0 {
-            return write!(f, "\"uberblocks\":0");
+            return write!(f, r#""uberblocks":0"#);
         }
-        write!(f, "\"uberblocks\":{count},\"highest\":{}", self.highest.0)
+        write!(f, r#""uberblocks":{count},"highest":{}"#, self.highest.0)
     }
 }
 
@@ -187,9 +187,9 @@ impl fmt::Display for Active {
     fn fmt<W: fmt::Write>(&self, f: &mut fmt::Formatter<W>) -> fmt::Result {
         match self {
             Active::Missing => write!(f, "null"),
-            Active::Unplaced(group) => write!(f, "{{\"group\":{}}}", group.0),
+            Active::Unplaced(group) => write!(f, r#"{{"group":{}}}"#, group.0),
             Active::Found(group, label) => {
-                write!(f, "{{\"group\":{},\"label\":{label}}}", group.0)
+                write!(f, r#"{{"group":{},"label":{label}}}"#, group.0)
             }
         }
     }

@@ -1,4 +1,4 @@
-//! The commands `show` and `ls` with `--json`: one object of JSON in one line, with the keys of `docs/FORMATS.md`.
+//! The commands `show` and `ls` with `--json`: one object of JSON in one line, with the keys of `docs/COMMANDS.md`.
 //!
 //! No text in it needs an escape: a pool's name has letters, digits, `-`, `_` and `.` alone.
 
@@ -97,7 +97,7 @@ fn write_numbers<W: Write>(inspected: &Inspected, out: &mut W) -> io::Result<()>
 {
     write!(
         out,
-        "{{\"name\":\"{}\",\"guid\":\"{}\",\"group\":{},\"import\":{},\"blocks\":{},\"used\":{},\"records\":{},\"objects\":",
+        r#"{{"name":"{}","guid":"{}","group":{},"import":{},"blocks":{},"used":{},"records":{},"objects":"#,
         inspected.name.as_str(),
         inspected.guid,
         inspected.group.0,
@@ -112,7 +112,7 @@ fn write_listed<W: Write>(inspected: &Inspected, out: &mut W) -> io::Result<()>
     ensures { OnOk result (Appends (W.contents out.old) (W.contents out.new)
         (json_listed inspected.now)) }
 {
-    write!(out, "{{\"objects\":")?;
+    write!(out, r#"{{"objects":"#)?;
     write_objects(&inspected.objects, out)
 }
 
@@ -154,7 +154,7 @@ impl fmt::Display for Object {
         let (number, length) = (self.0.0.0, self.0.1);
         write!(
             f,
-            "{{\"object\":{number},\"length\":{length},\"blocks\":{}}}",
+            r#"{{"object":{number},"length":{length},"blocks":{}}}"#,
             most_blocks(length)
         )
     }
