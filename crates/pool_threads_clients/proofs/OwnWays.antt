@@ -3,6 +3,7 @@ use Rattle.std.proofs.Common.{◌≡◌, ◌≢◌, ◌∷◌, [], ◌&&◌, ◌
 use Rattle.std.specs.Prelude.{◌==◌, ◌⊎◌, All, Err, IfErr, IfOk, IsTrue, None, Ok, Option, Result, Some, is_none, slice_get}
 use Rattle.std.specs.List.{list_any}
 use Rattle.std.proofs.lemmas.Bool.{and_parts, eq-eqb, eqb-true, false≢true, or_parts, false_from_ne_true}
+use Rattle.std.proofs.lemmas.List.{nil_from_length}
 use Rattle.std.proofs.lemmas.List.Elements.{All-cons, All-nil, All-weaker}
 use Rattle.base.specs.declared.error.PoolError.{PoolError}
 use Rattle.base.specs.declared.error.PoolError.TheVariants as error
@@ -209,8 +210,11 @@ refused_or_open owner s f Other (Err e) by = λ is. open_or owner s Other (by is
 
 -- if no block is kept beside whole records, none is kept while no record is begun
 no_block : (begun : Option Begun) (kept : List KeptBlock) → is_none begun && not (length kept == 0) ≡ false → begun ≡ None → kept ≡ []
-no_block None [] none is = refl
-no_block None (b ∷ bs) none is = absurd cc
+no_block None kept none is = nil_from_length kept (eqb-true (length kept) 0 (unless (length kept == 0) none))
+  where
+    unless : (b : Bool) → not b ≡ false → b ≡ true
+    unless true is = refl
+    unless false is = absurd (false≢true (sym is))
 no_block (Some g) kept none is = absurd cc
 
 -- a refusal without space: a sync would make no room, or the owner has a transaction open
