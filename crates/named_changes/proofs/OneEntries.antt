@@ -145,7 +145,7 @@ module _ {Dev : Type 0} (G : Ghosts Dev) (device : Dev) where
     removed_by : (table : Result (Option (List ℕ)) PoolError) (name : List ℕ) (n : ObjectId) (last : Handle Dev G) → RemovesByTable table name (Ok n) looked last → HappensOn G device (IsOneEntry RemovesOne)
     removed_by (Ok (Some table)) name n last (inl (m, Ok done, named, r, is)) = removed_both (is_there r.found) m r.looked last (along_made r.looks) r.removes
     removed_by (Ok (Some table)) name n last (inl (m, Err e, named, r, is)) = absurd (let no_way : Ok n ≡ Err (Engine e) = is in cc)
-    removed_by (Ok (Some table)) name n last (inr (unknown, is, same)) = absurd (let no_way : Ok n ≡ Err _ = is in cc)
+    removed_by (Ok (Some table)) name n last (inr (unknown, (is, same))) = absurd (let no_way : Ok n ≡ Err _ = is in cc)
     removed_by (Ok None) name n last (is, same) = absurd (let no_way : Ok n ≡ Err _ = is in cc)
     removed_by (Err e) name n last (is, same) = absurd (let no_way : Ok n ≡ Err (Engine e) = is in cc)
 

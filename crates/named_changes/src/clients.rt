@@ -4,7 +4,7 @@
 mod objects;
 mod refusals;
 
-ghost use Rattle.std.specs.Prelude.{◌≡◌, ◌≢◌, ◌≤◌, ◌<◌, ℕ, [], ◌∷◌, None, Ok, Some, codes, is_some};
+ghost use Rattle.std.specs.Prelude.{◌≡◌, ◌≢◌, ◌≤◌, ◌<◌, ℕ, List, [], ◌∷◌, None, Ok, Some, codes, is_some};
 ghost use Rattle.std.specs.FinMap as finite;
 ghost use Rattle.base.specs.history.Contents.{Contents};
 ghost use Rattle.base.specs.history.History.{apply_all};

@@ -4,11 +4,11 @@
 //!    one without the other.
 //! 2. The first name of a pool makes object 0 as well, if it isn't there, and writes the header.
 
-ghost use Rattle.std.specs.Prelude.{◌≡◌, ◌≤◌, IfOk, length, min, true};
+ghost use Rattle.std.specs.Prelude.{◌≡◌, ◌≤◌, ◌*◌, IfOk, length, min, true};
 ghost use Rattle.commands.specs.Committed.{MakesFirst};
 ghost use Rattle.commands.specs.Puts.{is_target};
 ghost use Rattle.named_changes.specs.NamedOps.{naming_ops, naming_transactions, table_ops};
-ghost use Rattle.named_changes.specs.NewObjects.{FindsNew, PutsNew};
+ghost use Rattle.named_changes.specs.NewObjects.{FindsNew, PutsNew, lacks_room_beside};
 ghost use Rattle.object_names.specs.NameTables.{has_object};
 ghost use Rattle.object_names.specs.Names as names;
 ghost use Rattle.pool_threads.specs.LongWrites.{piece_size};
@@ -90,8 +90,9 @@ fn find_new<R: Wait, D: SectorDevice>(
         Ok(objects) => objects,
         Err(refusal) => return Err(NameRefusal::Engine(refusal)),
     };
-    let Some(object) = table.free_number(&objects) else {
-        return Err(NameRefusal::Name(NameCause::NoNumber));
+    let object = match table.free_number(&objects) {
+        Some(object) => object,
+        None => return Err(NameRefusal::Name(NameCause::NoNumber)),
     };
     let status = handle.status(rt);
     if lacks_room_beside(given, status.available) {

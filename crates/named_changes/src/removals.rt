@@ -113,8 +113,9 @@ fn remove_by_name<R: Wait, D: SectorDevice>(
         Ok(None) => return Err(NameRefusal::Name(NameCause::NoTable)),
         Err(refusal) => return Err(NameRefusal::Engine(refusal)),
     };
-    let Some(object) = table.find(name.as_bytes()) else {
-        return Err(NameRefusal::Name(NameCause::Unknown));
+    let object = match table.find(name.as_bytes()) {
+        Some(object) => object,
+        None => return Err(NameRefusal::Name(NameCause::Unknown)),
     };
     match remove_with_name(rt, alloc, &mut handle, object) {
         Ok(()) => Ok(object),
