@@ -1,5 +1,4 @@
 mod OneEntries
-mod Endings
 mod NamedContents
 mod NewPieces
 mod TableFound

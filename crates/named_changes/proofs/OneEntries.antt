@@ -22,7 +22,7 @@ use Rattle.commands.proofs.Committed.{all_stand, entered_since, one_and_synced, 
 use Rattle.device_model.specs.declared.device.SectorDevice.{Ghosts}
 use Rattle.durable_answers.proofs.Along.{along_looked}
 use Rattle.object_names.specs.Laws.{IsUnused}
-use Rattle.object_names.specs.NameTables.{IsNameTable, IsNamed, name_at}
+use Rattle.object_names.specs.NameTables.{IsNameTable, name_at}
 use Rattle.object_names.specs.Names.{IsName}
 use Rattle.object_names.specs.Slots.{slot_bytes}
 use Rattle.object_names.proofs.NameClients.{named_7}
@@ -35,11 +35,11 @@ use Rattle.pool_threads.proofs.Along.{GoesAlong, along_made, along_on}
 use Rattle.pool_threads.proofs.FetchesSeen.{fetches_along}
 use Rattle.tree_blocks.specs.Sources.{object_bytes}
 use Rattle.named_changes.specs.Laws.{NewNamesAreWritten, RemovedNamesAreGone}
-use Rattle.named_changes.specs.NamedCommands.{PutsNamedAll, PutsNamedOn, RemovesNamedAll, RemovesNamedOn}
+use Rattle.named_changes.specs.NamedCommands.{PutsNamedAll, RemovesNamedAll}
 use Rattle.named_changes.specs.NamedOps.{naming_ops, naming_transactions, removal_ops, table_object, table_ops}
 use Rattle.named_changes.specs.NamedPuts.{PutsByTable, PutsNamed}
-use Rattle.named_changes.specs.NamedRemovals.{RemovesAsFound, RemovesByTable, RemovesNamed, is_there, removed_as}
-use Rattle.named_changes.specs.NewObjects.{FindsAmong, FindsNew, MakesNamed, PutsAsNew, PutsNew}
+use Rattle.named_changes.specs.NamedRemovals.{RemovesAsFound, RemovesByTable, is_there}
+use Rattle.named_changes.specs.NewObjects.{FindsNew, MakesNamed, PutsAsNew}
 use Rattle.named_changes.specs.Refusals.{by_engine}
 use Rattle.named_changes.specs.TableReads.{ReadsTable}
 use Rattle.named_changes.specs.declared.new_objects.NewObject.{NewObject}

@@ -1,5 +1,5 @@
 -- What is done by a table of names that was read, or without one, and the transactions for which there was memory.
-use Rattle.std.proofs.Common.{◌≡◌, ℕ, List, Option, Ok, Err, inr, refl, subst, sym}
+use Rattle.std.proofs.Common.{◌≡◌, ℕ, List, Option, Ok, Err, inr, subst, sym}
 use Rattle.std.specs.Prelude.{Bool, IfErr, IfOk, Result}
 use Rattle.base.specs.declared.error.PoolError.{PoolError}
 use Rattle.base.specs.declared.error.PoolError.TheVariants.{NoMemory}

@@ -1,5 +1,5 @@
 -- What the transactions of puts and removals by name leave, whatever contents they are applied to.
-use Rattle.std.specs.Prelude.{ℕ, ◌≡◌, ◌≢◌, ◌<◌, [], Bool, List, None, Ok, Some, is_some}
+use Rattle.std.specs.Prelude.{ℕ, ◌≡◌, ◌≢◌, ◌<◌, [], List, None, Ok, Some, is_some}
 use Rattle.std.specs.FinMap as finite
 use Rattle.base.specs.declared.names.ObjectId.{ObjectId}
 use Rattle.base.specs.formats.Limits.{object_count}
